@@ -26,7 +26,7 @@ EXAMPLES = {
     "fork_bytes.proofs.Vectors",
     "reply_text.proofs.Rows",
     "res_calls.proofs.Worked",
-    "script_vars.proofs.Rows",
+    "script_lang.proofs.Rows",
 }
 
 NAMES, AS = r"(?:\.\{(.*?)\})?", r"(?:\s+as\s+(\S+?))?"

@@ -48,7 +48,7 @@ class Case:
     """Bytes, what is read of them, what an update writes, and the script that makes them."""
 
     def __init__(self, name, fork=b"", answer=None):
-        self.name, self.fork, self.answer, self.written, self.script = name, fork, answer, None, None
+        self.name, self.fork, self.answer, self.refused, self.written, self.script = name, fork, answer, None, None, None
 
 
 def changed(forks, name, line):
@@ -79,6 +79,8 @@ def read_table(table):
             cases.append(case)
         elif mark in ("=", "!"):
             case.answer = answer_of(rest)
+        elif mark == "?":
+            case.refused = rest
         elif mark == "w":
             case.written = rest
         elif mark == "m":
@@ -115,8 +117,9 @@ def try_list(program, path, case):
 def try_open(program, path, case, forks):
     """Compares what macheap reads of a fork, writes of it, and makes by the case's script."""
     fork = case.fork
-    if isinstance(case.answer, str) and fork:
-        opening_is_refused(program, path, fork, open_code(case.answer))
+    refused = case.refused or case.answer
+    if isinstance(refused, str) and fork:
+        opening_is_refused(program, path, fork, open_code(refused))
         return
     # a file without bytes isn't refused, since a new one has none
     expect(program, path, fork, *questions(case.answer if fork else []), fork)

@@ -14,7 +14,7 @@ import subprocess
 import tempfile
 
 from checks.fork_questions import Difference, expect, opening_is_refused, questions
-from model.fork import MESSAGES, MOST_BYTES, NoFork, Row, column, listing, open_code, quoted, read_fork, types
+from model.fork import FORMAT, MESSAGES, MOST_BYTES, NoFork, Row, column, listing, open_code, quoted, read_fork, types
 
 # the forks
 
@@ -159,6 +159,21 @@ def one_map(kinds, references, names=b""):
     return struct.pack(">4I", 16 + len(the_map), 16, 4, len(the_map)) + the_map + bytes(4)
 
 
+def one_list(types, count, reference):
+    """A fork of so many types, which share one list of so many references."""
+    entries = b"".join(struct.pack(">I2H", it, count - 1, 2 + 8 * types) for it in range(types))
+    the_map = bytes(24) + struct.pack(">3H", 28, 65535, types - 1) + entries + reference * count
+    return struct.pack(">4I", 16 + len(the_map), 16, 4, len(the_map)) + the_map + bytes(4)
+
+
+def one_datum(length, count):
+    """A fork of so many resources that are one of so many bytes."""
+    references = b"".join(struct.pack(">hHBBHI", it, 0xFFFF, 0, 0, 0, 0) for it in range(count))
+    the_map = bytes(24) + struct.pack(">HHH4s2H", 28, 40 + 12 * count, 0, b"DATA", count - 1, 10) + references
+    data = struct.pack(">I", length) + bytes(length)
+    return struct.pack(">4I", 256, 256 + len(data), len(data), len(the_map)) + bytes(240) + data + the_map
+
+
 def limits():
     """Forks at the limits, each with a word for it."""
     reference = struct.pack(">hHBBHI", 5, 0xFFFF, 0, 0, 0, 0)
@@ -172,15 +187,12 @@ def limits():
     # 8,192 references, and one more: two bytes say how many there are, and none says where they end
     for count in (8192, 8193):
         yield f"{count} rows", one_map([(b"TEXT", count)], reference * count)
-    long = struct.pack(">4I", 256, 256 + 1048576, 1048576, 90)
-    entries = struct.pack(">HHH4s2H", 28, 88, 0, b"DATA", 3, 10) + b"".join(
-        struct.pack(">hHBBHI", it, 0xFFFF, 0, 0, 0, 0) for it in range(4)
-    )
-    whole = long + bytes(240) + struct.pack(">I", 1048572) + bytes(1048572) + bytes(24) + entries
-    yield "four rows of 1 MB that are one", whole.ljust(256 + 1048576 + 90, b"\0")
-    # one byte of length more than the limit allows
-    more = bytearray(struct.pack(">4I", 256, 256 + 1048577, 1048577, 90) + bytes(240) + struct.pack(">I", 1048573) + bytes(1048573) + bytes(24) + entries)
-    yield "four rows of 1 MB and a byte", bytes(more.ljust(256 + 1048577 + 90, b"\0"))
+    # one list of references for each of 65 types, which is too many for the format as well
+    yield "4,259,775 rows", one_list(65, 65535, reference)
+    # 1 MB, and a byte more, so often that macheap's limit is reached, and the format's
+    for length in (1048572, 1048573):
+        for count in (4, 16):
+            yield f"{count} rows of {length} bytes", one_datum(length, count)
     small = one_map([(b"TEXT", 1)], reference)
     yield "4,194,304 bytes", small.ljust(MOST_BYTES, b"\0")
     yield "4,194,305 bytes", small.ljust(MOST_BYTES + 1, b"\0")
@@ -231,6 +243,20 @@ LINES = [
     (["get", "FILE", "-abc", "5"], 2, "Usage"),
     (["get", "FILE", "TEX", "5"], 1, "no such resource"),
     (["get", "FILE", "TEX ", "5"], 1, "no such resource"),
+    (["ls", "--json", "FILE"], 0, ""),
+    (["ls", "--json", "--data", "base64", "FILE"], 0, ""),
+    (["ls", "--data", "base64", "FILE"], 2, "--json"),
+    (["ls", "--json", "--data", "hex", "FILE"], 2, "base64"),
+    (["ls", "--json", "--types", "FILE"], 2, "--types"),
+    (["info", "--json", "FILE", "FILE"], 0, ""),
+    (["check", "FILE", "FILE"], 0, ""),
+    (["check"], 2, "Usage"),
+    (["check", "NO_SUCH_FILE"], 4, "NO_SUCH_FILE"),
+    (["salvage", "FILE"], 0, ""),
+    (["salvage", "--list", "FILE"], 0, ""),
+    (["salvage", "--list", "FILE", "-o", "OUT"], 2, "--list"),
+    (["salvage", "FILE", "FILE"], 2, "Usage"),
+    (["salvage", "FILE", "-o", "NO_SUCH_FOLDER/out"], 4, "-o"),
     (["ls", "NO_SUCH_FILE"], 4, "NO_SUCH_FILE"),
     (["ls", "NO_SUCH_FILE", "FILE"], 4, "NO_SUCH_FILE"),
     (["get", "FILE", "TEXT", "5", "-o", "NO_SUCH_FOLDER/out"], 4, "-o"),
@@ -291,7 +317,7 @@ def try_fork(program, path, fork, choices):
     with open(path, "wb") as file:
         file.write(fork)
     try:
-        rows = read_fork(fork) if fork else []
+        rows = read_fork(fork, FORMAT) if fork else []
     except NoFork as fault:
         told = MESSAGES[fault.args[0]]
         compare("ls", run(program, ["ls", path]), 3, b"", told)

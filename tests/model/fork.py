@@ -7,6 +7,9 @@ import struct
 
 MOST_BYTES = 4194304
 MOST_ROWS = 8192
+# the most bytes of a fork, the most rows, and the most bytes of all rows: for macheap, and for resfork, which reads what the format can say
+MACHEAP = (MOST_BYTES, MOST_ROWS, MOST_BYTES)
+FORMAT = (4294967295, 4194304, 16777216)
 WORDS = [(128, "bit7"), (64, "sysHeap"), (32, "purgeable"), (16, "locked"), (8, "protected"), (4, "preload"), (2, "changed"), (1, "bit0")]
 
 # the conditions in the order in which they are looked at, in words
@@ -15,10 +18,10 @@ TOLD = {
     "parts": "the data or the map lies outside the fork, or the fork is too long",
     "types": "the type list ends outside the map, or a type stands twice",
     "references": "a list of references ends outside the map",
-    "rows": "more than 8192 resources",
+    "rows": "too many resources",
     "names": "a name ends outside the map",
     "places": "the bytes of a resource end outside the data",
-    "bytes": "more than 4194304 bytes together",
+    "bytes": "too many bytes together",
 }
 
 # what is told of a fork of which a condition doesn't hold
@@ -26,13 +29,13 @@ PART = r"the (?:{}) has \d+ bytes, and \d+ bytes are left in the {}\n  at \$[0-9
 ROW = r"'.*' -?\d+: {} \d+, and \d+ bytes are left in the {}\n  at \$[0-9A-F]{{6,}}, reached from the reference at \$[0-9A-F]{{6,}}"
 MESSAGES = {
     "end": PART.format("header", "fork"),
-    "parts": PART.format("data|map", "fork") + "|" + PART.format("header of the map", "map") + r"|the fork has \d+ bytes, and at most 4194304 are read",
+    "parts": PART.format("data|map", "fork") + "|" + PART.format("header of the map", "map") + r"|the fork has \d+ bytes, and at most 4294967295 are read",
     "types": PART.format("count of types|type list", "map") + r"|'.*' stands twice in the type list\n  at \$[0-9A-F]{6,}, first at \$[0-9A-F]{6,}",
     "references": r"'.*': the list of its references has \d+ bytes, and \d+ bytes are left in the map\n  at \$[0-9A-F]{6,}",
-    "rows": r"there are \d+ resources, and at most 8192 are read",
+    "rows": r"there are \d+ resources, and at most 4194304 are read",
     "names": ROW.format("its name with its byte of length has", "map"),
     "places": ROW.format("(?:the bytes of its length are|its length is)", "data"),
-    "bytes": ROW.format("the bytes of the resources up to it are", "4194304 that are read"),
+    "bytes": ROW.format("the bytes of the resources up to it are", "16777216 that are read"),
 }
 MESSAGES = {condition: re.compile(told) for condition, told in MESSAGES.items()}
 
@@ -56,11 +59,12 @@ def must(holds, condition):
         raise NoFork(condition)
 
 
-def read_fork(fork):
-    """The rows that the bytes stand for."""
+def read_fork(fork, limits=MACHEAP):
+    """The rows that the bytes stand for, within these limits."""
+    most_bytes, most_rows, most_together = limits
     must(len(fork) >= 16, "end")
     data_at, map_at, data_length, map_length = struct.unpack(">4I", fork[:16])
-    must(len(fork) <= MOST_BYTES and data_at + data_length <= len(fork) and map_at + map_length <= len(fork) and map_length >= 28, "parts")
+    must(len(fork) <= most_bytes and data_at + data_length <= len(fork) and map_at + map_length <= len(fork) and map_length >= 28, "parts")
     data, the_map = fork[data_at : data_at + data_length], fork[map_at : map_at + map_length]
     types_at, names_at = struct.unpack(">2H", the_map[24:28])
     must(types_at + 2 <= map_length, "types")
@@ -68,12 +72,10 @@ def read_fork(fork):
     must(types_at + 2 + 8 * types <= map_length, "types")
     entries = [struct.unpack(">4s2H", the_map[at : at + 8]) for at in range(types_at + 2, types_at + 2 + 8 * types, 8)]
     must(len({kind for kind, _, _ in entries}) == types, "types")
-    references = []
-    for kind, less_one, offset in entries:
-        count = (less_one + 1) % 65536
-        must(count == 0 or types_at + offset + 12 * count <= map_length, "references")
-        references += [(kind, types_at + offset + 12 * it) for it in range(count)]
-    must(len(references) <= MOST_ROWS, "rows")
+    lists = [(kind, (less_one + 1) % 65536, types_at + offset) for kind, less_one, offset in entries]
+    must(all(count == 0 or start + 12 * count <= map_length for _, count, start in lists), "references")
+    must(sum(count for _, count, _ in lists) <= most_rows, "rows")
+    references = [(kind, start + 12 * it) for kind, count, start in lists for it in range(count)]
     rows = []
     for kind, at in references:
         ident, offset, attributes = struct.unpack(">hHB", the_map[at : at + 5])
@@ -88,7 +90,7 @@ def read_fork(fork):
         length = int.from_bytes(data[row.data : row.data + 4], "big")
         must(row.data + 4 + length <= data_length, "places")
         row.data = data[row.data + 4 : row.data + 4 + length]
-    must(sum(4 + len(row.data) for row in rows) <= MOST_BYTES, "bytes")
+    must(sum(4 + len(row.data) for row in rows) <= most_together, "bytes")
     return rows
 
 

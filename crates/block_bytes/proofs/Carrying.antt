@@ -3,13 +3,14 @@ use Rattle.std.proofs.Common.{◌≡◌, ℕ, ◌+◌, ◌-◌, ◌*◌, ◌/◌
 use Rattle.std.specs.List.{list_all}
 use Rattle.std.proofs.Math.ListN.{set}
 use Rattle.std.proofs.lemmas.List.Folds.{list_all-append}
+use Rattle.std.proofs.lemmas.Bool.{not-true}
+use Rattle.std.proofs.lemmas.List.{nil_from_length}
 use Rattle.mac_base.specs.HeadKind.{head_size, zone_header}
 use Rattle.mac_base.specs.ZoneSizes.{ArePossible}
 use Rattle.raw_region.specs.Bytes.{part, written}
 use Rattle.raw_region.specs.Span.{IsFree}
 use Rattle.raw_region.specs.State.{State, with_bytes}
 use Rattle.place_numbers.specs.Shifted.{shifted_down, shifted_up}
-use Rattle.zone_laws.proofs.Maps.{true_not}
 use Rattle.block_bytes.specs.declared.header.Header.{Header}
 use Rattle.block_bytes.specs.declared.blocks.Blocks.TheInside.{Inside}
 use Rattle.block_bytes.specs.Head.{most_over, head_bytes}
@@ -24,13 +25,13 @@ use Rattle.block_bytes.proofs.Spans.{AllUnlent}
 use Rattle.block_bytes.proofs.Parts.{IsRead, front, rear, head, stale_image, image-parts, length-front, possible-with, possible-more, total-ends, length-starts}
 use Rattle.block_bytes.proofs.Settled.{counted, free-append, unlent-free, replaced}
 use Rattle.block_bytes.proofs.Counting.{IsKept, kept-first, kept-written}
-use Rattle.block_bytes.proofs.MovedBlocks.{moved-itself, moved-free, moved-size, moved-header, moved-mark, moved-possible, moved-free_bytes, slack-free, none-left}
+use Rattle.block_bytes.proofs.MovedBlocks.{moved-itself, moved-free, moved-size, moved-header, moved-mark, moved-possible, moved-free_bytes, slack-free}
 use Rattle.block_bytes.proofs.Rotated.{parts-turned, slid-down, slid-up, numbers-down, numbers-up}
 
 -- none of these is lent
 all-unlent : (bs : List RawBlock) → IsTrue (none_lent bs) → AllUnlent bs
 all-unlent [] none = tt
-all-unlent (b ∷ bs) none = let both = and-true (not b.lent) (none_lent bs) none in (true_not b.lent both.0, all-unlent bs both.1)
+all-unlent (b ∷ bs) none = let both = and-true (not b.lent) (none_lent bs) none in (not-true b.lent both.0, all-unlent bs both.1)
 
 -- nor with one more
 pub more-unlent : (xs : List RawBlock) (b : RawBlock) → AllUnlent xs → b.lent ≡ false → AllUnlent (xs ++ b ∷ [])
@@ -94,7 +95,7 @@ module _ (l : Layout) (here : RawBlock) (free : IsTrue (is_free here.role)) (non
       let k = head_size l.heads in let cut = length-take-le k stale (omega arith) in let headed = length-head_bytes l.heads l.base (header_of l.heads here) in
       let left = drop k stale in
       let same : head l here ≡ head l anew = ap (head_bytes l.heads l.base) (sym (moved-header l.heads here anew anew-moved)) in
-      let whole : left ≡ left ++ here.slack = sym (append-nil left) ∙ ap (λ (xs : List ℕ). left ++ xs) (sym (none-left here.slack none)) in
+      let whole : left ≡ left ++ here.slack = sym (append-nil left) ∙ ap (λ (xs : List ℕ). left ++ xs) (sym (nil_from_length here.slack none)) in
       ap (λ (xs : List ℕ). written (low ++ xs) at (head l here)) (ap (λ (xs : List ℕ). xs ++ high) (sym (take-append-drop k stale)) ∙ append_assoc (take k stale) left high)
       ∙ written-middle low (take k stale) (left ++ high) (head l here) at there (omega arith)
       ∙ ap (λ (xs : List ℕ). low ++ xs) (sym (append_assoc (head l here) left high)) ∙ (λ i. low ++ ((same i ++ whole i) ++ high))

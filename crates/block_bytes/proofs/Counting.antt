@@ -1,5 +1,5 @@
 -- What counting the free bytes asks for, after bytes behind the zone's header have changed.
-use Rattle.std.proofs.Common.{◌≡◌, ℕ, zero, suc, ◌∷◌, ◌+◌, ◌-◌, ◌*◌, ◌/◌, ◌<◌, ◌≤◌, ◌^◌, Bool, true, false, List, [], ◌++◌, length, refl, sym, ap, subst, ◌∙◌, inl, arith, slice_index, length-append, length-drop, ⊎_elim}
+use Rattle.std.proofs.Common.{◌≡◌, ℕ, zero, suc, ◌∷◌, ◌+◌, ◌-◌, ◌*◌, ◌/◌, ◌<◌, ◌≤◌, Bool, true, false, List, [], ◌++◌, length, refl, sym, ap, subst, ◌∙◌, inl, arith, slice_index, length-append, length-drop, ⊎_elim}
 use Rattle.std.specs.Prelude.{if◌then◌else◌}
 use Rattle.std.proofs.Math.ListN.{set}
 use Rattle.std.proofs.lemmas.Bool.{cases_lt}
@@ -14,7 +14,7 @@ use Rattle.raw_region.specs.State.{State, with_bytes}
 use Rattle.raw_region.proofs.Numbers.{number-apart}
 use Rattle.block_bytes.specs.declared.header.Header.{Header}
 use Rattle.block_bytes.specs.declared.blocks.Blocks.TheInside.{Inside}
-use Rattle.block_bytes.specs.ZoneHead.{free_field, lowest_field}
+use Rattle.block_bytes.specs.ZoneHead.{free_field, lowest_field, CanCount}
 use Rattle.block_bytes.specs.Layout.{RawBlock, is_free, free_total, first_free, rendered, address_behind}
 use Rattle.block_bytes.specs.Starts.{free_in, starts_of, marks_of, first_marked, NoneLower}
 use Rattle.block_bytes.specs.Reading.{layout_of, IsLayout}
@@ -82,15 +82,7 @@ free_in-small h = either (is_free h.role)
 pub free-among : (z : Inside) (before mid behind : List RawBlock) → (layout_of z).blocks ≡ before ++ (mid ++ behind) → free_total z.spec.heads mid ≤ free_total z.spec.heads (layout_of z).blocks
 free-among z before mid behind is = let a = free-append z.spec.heads before (mid ++ behind) in let b = free-append z.spec.heads mid behind in let c = ap (free_total z.spec.heads) is in omega arith
 
--- what `count_free` asks for
-pub record CanCount (m : State) (index : List ℕ) (base gained lost : ℕ) : Type 0 where
-  pub inside : zone_header ≤ length m.bytes
-  pub unlent : IsFree m.lent 0 zone_header
-  pub few : big_number 4 (part m.bytes free_field 4) + gained < 2 ^ 32
-  pub counted : lost ≤ big_number 4 (part m.bytes free_field 4) + gained
-  pub small : base + 4 * length index < 2 ^ 32
-
--- it is so, where no more bytes come to the free ones than the zone may have
+-- free bytes may be counted, where no more come to the free ones than the zone may have
 pub can-count_more : (z : Inside) → IsLayout z → ArePossible z.spec → (m : State) (index : List ℕ) (base gained lost : ℕ) → IsKept z m → length index ≡ length z.index → base ≡ z.spec.base
     → gained ≤ z.spec.limit → lost ≤ free_total z.spec.heads (layout_of z).blocks → CanCount m index base gained lost
 can-count_more z whole small m index base gained lost kept same base_is gained_few lost_few =

@@ -15,7 +15,7 @@ use Rattle.raw_region.specs.State.{State, with_bytes}
 use Rattle.block_bytes.specs.declared.header.Role.TheVariants.{Free}
 use Rattle.block_bytes.specs.declared.blocks.Blocks.TheInside.{Inside}
 use Rattle.block_bytes.specs.Head.{head_bytes}
-use Rattle.block_bytes.specs.ZoneHead.{end_field, free_field, lowest_field, zone_head}
+use Rattle.block_bytes.specs.ZoneHead.{end_field, free_field, lowest_field, zone_head, CanCount}
 use Rattle.block_bytes.specs.Layout.{RawBlock, Layout, free_raw_block, free_block_of, extended, size_of, total_of, free_total, first_free, is_possible, rendered, header_bytes, image_of, address_behind}
 use Rattle.block_bytes.specs.Starts.{marks_of, starts_of, first_marked, NoneLower}
 use Rattle.block_bytes.specs.Reading.{layout_of, IsLayout, lent_spans, times}
@@ -26,7 +26,7 @@ use Rattle.block_bytes.proofs.Starts.{unmarked, length-unmarked, length-marks_of
 use Rattle.block_bytes.proofs.Spans.{apart-above, apart-below, free-same, spans-append, count-append}
 use Rattle.block_bytes.proofs.Parts.{IsRead, image-read, length-header, total-ends, possible-with}
 use Rattle.block_bytes.proofs.Settled.{counted, free-append, front-fits}
-use Rattle.block_bytes.proofs.Counting.{CanCount, kept-first, kept-written, can-count_more, none-lower, set-behind}
+use Rattle.block_bytes.proofs.Counting.{kept-first, kept-written, can-count_more, none-lower, set-behind}
 use Rattle.block_bytes.proofs.Walking.{is_possible-from}
 
 -- no header has more than 12 bytes, and no smallest block more than 16

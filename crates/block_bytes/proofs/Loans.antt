@@ -1,14 +1,14 @@
 -- A block that is lent, and one that comes back.
-use Rattle.std.proofs.Common.{◌≡◌, ℕ, zero, suc, ◌+◌, ◌-◌, ◌/◌, ◌<◌, ◌≤◌, Bool, true, false, List, [], ◌∷◌, ◌++◌, length, refl, sym, ap, ◌∙◌, ⊎_elim, subst, arith, IsTrue}
+use Rattle.std.proofs.Common.{◌≡◌, ℕ, suc, ◌+◌, ◌-◌, ◌/◌, ◌<◌, ◌≤◌, Bool, true, false, List, [], ◌∷◌, ◌++◌, length, refl, sym, ap, ◌∙◌, ⊎_elim, subst, arith, IsTrue}
 use Rattle.std.specs.Prelude.{◌&&◌, ◌||◌, ◌==◌, not, if◌then◌else◌}
 use Rattle.std.proofs.Math.ListN.{set}
 use Rattle.mac_base.specs.HeadKind.{head_size, zone_header}
 use Rattle.mac_base.specs.ZoneSizes.{ArePossible}
-use Rattle.raw_region.specs.Bytes.{written}
 use Rattle.raw_region.specs.Span.{Span, IsListed, without}
 use Rattle.raw_region.specs.State.{State, with_bytes}
 use Rattle.raw_region.proofs.Places.{head_case, is_other}
 use Rattle.raw_region.proofs.Loans.{listed_first}
+use Rattle.raw_region.proofs.Pieces.{written-nothing}
 use Rattle.block_bytes.specs.declared.blocks.Blocks.TheInside.{Inside}
 use Rattle.block_bytes.specs.declared.header.Role.{Role}
 use Rattle.block_bytes.specs.declared.header.Role.TheVariants.{Free, Fixed, Master, Relocatable}
@@ -21,12 +21,6 @@ use Rattle.block_bytes.proofs.Spans.{spans-append, spans-unlent, spans-lent, cou
 use Rattle.block_bytes.proofs.Parts.{IsRead, IsIn-from, marked-parts}
 use Rattle.block_bytes.proofs.Walking.{is_possible-from}
 use Rattle.block_bytes.proofs.Changes.{contents-changed}
-
--- nothing is written
-written-nothing : (xs : List ℕ) (at : ℕ) → written xs at [] ≡ xs
-written-nothing [] at = refl
-written-nothing (x ∷ xs) zero = refl
-written-nothing (x ∷ xs) (suc at) = ap (λ (l : List ℕ). x ∷ l) (written-nothing xs at)
 
 -- 1 for the same range, and 0 for another
 abbrev weight : Span → Span → ℕ

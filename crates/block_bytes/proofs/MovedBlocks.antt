@@ -1,5 +1,5 @@
 -- Blocks that have moved, and free ones that have other bytes: what stays of them.
-use Rattle.std.proofs.Common.{◌≡◌, ℕ, ◌+◌, Bool, true, false, List, [], ◌∷◌, length, refl, sym, ◌∙◌, arith, IsTrue}
+use Rattle.std.proofs.Common.{◌≡◌, ℕ, ◌+◌, Bool, true, false, List, length, refl, sym, ◌∙◌, arith, IsTrue}
 use Rattle.std.specs.Prelude.{◌&&◌, ◌||◌, ◌==◌, ◌%◌, not, nat_le, if◌then◌else◌}
 use Rattle.std.proofs.lemmas.Bool.Decides.{nat_tests}
 use Rattle.mac_base.specs.declared.block.HeadKind.{HeadKind}
@@ -49,8 +49,3 @@ slack-free heads Free n free told = grind (arith, nat_tests)
 slack-free heads Fixed n free told = let f : false ≡ true = free in cc
 slack-free heads Master n free told = let f : false ≡ true = free in cc
 slack-free heads (Relocatable slot flags) n free told = let f : false ≡ true = free in cc
-
--- a list of no bytes is empty
-pub none-left : (xs : List ℕ) → length xs ≡ 0 → xs ≡ []
-none-left [] none = refl
-none-left (x ∷ xs) none = absurd (omega arith)

@@ -5,6 +5,7 @@ use Rattle.mac_base.specs.declared.block.HeadKind.{HeadKind}
 use Rattle.mac_base.specs.HeadKind.{head_size}
 use Rattle.raw_region.specs.Span.{Span, IsApart, AllApart, IsFree, IsListed}
 use Rattle.std.proofs.lemmas.Bool.Decides.{nat_tests}
+use Rattle.std.proofs.lemmas.Bool.{eqb-true, and_parts}
 use Rattle.raw_region.proofs.Places.{by_case}
 use Rattle.block_bytes.specs.Layout.{RawBlock, size_of, total_of, lent_count}
 use Rattle.block_bytes.specs.Reading.{lent_spans, times, SameSpans}
@@ -79,21 +80,12 @@ apart-middle heads at p n before mid behind unlent low high =
     (apart-above heads (at + total_of heads before + total_of heads mid) p n behind high))
 
 -- a number is itself
-same_number : (n : ℕ) → (n == n) ≡ true
+pub same_number : (n : ℕ) → (n == n) ≡ true
 same_number n = grind (arith, nat_tests)
-
--- what passes a test on a number is that number
-test_same : (m n : ℕ) → (m == n) ≡ true → m ≡ n
-test_same m n test = grind (arith, nat_tests)
-
--- both of two tests hold
-both_hold : (a b : Bool) → (a && b) ≡ true → (a ≡ true) × (b ≡ true)
-both_hold true b both = (refl, both)
-both_hold false b both = let no : false ≡ true = both in cc
 
 -- a range with the same numbers is the same
 is_same : (s t : Span) → ((t.0 == s.0) && (t.1 == s.1)) ≡ true → t ≡ s
-is_same s t is = let both = both_hold (t.0 == s.0) (t.1 == s.1) is in λ i. (test_same t.0 s.0 both.0 i, test_same t.1 s.1 both.1 i)
+is_same s t is = let both = and_parts (t.0 == s.0) (t.1 == s.1) is in λ i. (eqb-true t.0 s.0 both.0 i, eqb-true t.1 s.1 both.1 i)
 
 -- a range that is counted is listed
 pub listed-counted : (s : Span) (ss : List Span) → 0 < times s ss → IsListed ss s

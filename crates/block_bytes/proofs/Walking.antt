@@ -13,16 +13,12 @@ use Rattle.block_bytes.specs.declared.header.Header.{Header}
 use Rattle.block_bytes.specs.declared.header.Role.TheVariants.{Free}
 use Rattle.block_bytes.specs.Layout.{RawBlock, Layout, BlockAt, body, raw_block, free_raw_block, size_of, header_of, total_of, has_owner, can_be_told, is_possible, address_behind}
 use Rattle.block_bytes.proofs.ReadBlocks.{IsPossible, IsPossible-from}
+use Rattle.block_bytes.proofs.Rendered.{total_of-append}
 
 -- no block is empty
 pub size_of-pos : (heads : HeadKind) (b : RawBlock) → 0 < size_of heads b
 size_of-pos Bits24 b = omega arith
 size_of-pos Bits32 b = omega arith
-
--- the sizes of two runs of blocks
-pub total_of-append : (heads : HeadKind) (bs cs : List RawBlock) → total_of heads (bs ++ cs) ≡ total_of heads bs + total_of heads cs
-total_of-append heads [] cs = omega arith
-total_of-append heads (b ∷ bs) cs = let e = total_of-append heads bs cs in omega arith
 
 -- a walk has come to this address: the blocks before it, which all pass a test, and the others
 pub record Reached (l : Layout) (at : ℕ) (p : RawBlock → Bool) : Type 0 where

@@ -2,11 +2,11 @@
 use Rattle.std.proofs.Common.{◌≡◌, ℕ, ◌+◌, ◌%◌, ◌<◌, ◌^◌, List, [], ◌∷◌, ◌++◌, length, map, drop, drop-drop, ap, sym, ◌∙◌, subst, arith, append_assoc, append-nil, length-append, true}
 use Rattle.std.specs.List.{list_all}
 use Rattle.std.proofs.lemmas.List.{drop_at}
+use Rattle.std.proofs.lemmas.Bool.{and_parts}
 use Rattle.byteorder.specs.Numbers.{big_from-take}
 use Rattle.mac_base.specs.declared.block.HeadKind.{HeadKind}
 use Rattle.mac_base.specs.declared.block.HeadKind.TheVariants.{Bits24, Bits32}
 use Rattle.mac_base.specs.HeadKind.{head_size}
-use Rattle.zone_laws.proofs.Maps.{both_true}
 use Rattle.byteorder.specs.Endian.{big_number}
 use Rattle.block_bytes.specs.declared.header.Header.{Header}
 use Rattle.block_bytes.proofs.ReadBlocks.{IsPossible-from}
@@ -34,7 +34,7 @@ pub follows-rendered : (heads : HeadKind) (base : ℕ) (pre : List ℕ) (bs : Li
     → Follows heads (pre ++ rendered heads base bs) at (map (size_of heads) bs)
 follows-rendered heads base pre [] at is small low possible = is ∙ ap length (sym (append-nil pre))
 follows-rendered heads base pre (b ∷ bs) at is small low possible =
-    let all = both_true (is_possible heads b) (list_all (is_possible heads) bs) possible in
+    let all = and_parts (is_possible heads b) (list_all (is_possible heads) bs) possible in
     let head = head_bytes heads base (header_of heads b) in
     let rest = rendered heads base bs in
     let fits : size_of heads b + total_of heads bs < 2 ^ 24 = small in

@@ -1,8 +1,9 @@
 -- What is left behind a slice of a block's contents.
-use Rattle.std.proofs.Common.{◌≡◌, ℕ, ◌+◌, ◌-◌, ◌<◌, ◌≤◌, Bool, true, false, List, [], ◌∷◌, ◌++◌, length, take, drop, replicate, refl, sym, ap, ◌∙◌, arith, length-take, length-drop, append-nil}
+use Rattle.std.proofs.Common.{◌≡◌, ℕ, ◌+◌, ◌-◌, ◌<◌, ◌≤◌, Bool, false, List, [], ◌∷◌, ◌++◌, length, take, drop, replicate, refl, sym, ap, ◌∙◌, arith, length-take, length-drop, append-nil}
 use Rattle.std.specs.Prelude.{◌==◌, if◌then◌else◌}
 use Rattle.std.proofs.lemmas.List.{length-replicate, nil_from_length}
 use Rattle.std.proofs.lemmas.Bool.Decides.{nat_tests}
+use Rattle.std.proofs.lemmas.Bool.{eq-eqb}
 use Rattle.mac_base.specs.declared.block.HeadKind.{HeadKind}
 use Rattle.mac_base.specs.HeadKind.{head_size}
 use Rattle.mac_base.specs.ZoneSizes.{ArePossible}
@@ -31,19 +32,15 @@ written-overwritten [] (w ∷ ws) = refl
 written-overwritten (x ∷ old) [] = refl
 written-overwritten (x ∷ old) (w ∷ ws) = ap (λ (l : List ℕ). w ∷ l) (written-overwritten old ws)
 
--- equal numbers test as equal
-at_once : (x y : ℕ) → x ≡ y → (x == y) ≡ true
-at_once x y same = grind (arith, nat_tests)
-
 -- numbers that differ by one above 0 don't
-further : (x y k : ℕ) → 0 < k → y ≡ x + k → (x == y) ≡ false
+pub further : (x y k : ℕ) → 0 < k → y ≡ x + k → (x == y) ≡ false
 further x y k some is = grind (arith, nat_tests)
 
 -- of the blocks, the one at this address is written
 pub overwritten-there : (heads : HeadKind) (at x : ℕ) (bytes : List ℕ) (before : List RawBlock) (here : RawBlock) (behind : List RawBlock) → x ≡ at + total_of heads before
     → overwritten_at heads at x bytes (before ++ here ∷ behind) ≡ before ++ with_contents here (overwritten here.contents bytes) ∷ behind
 overwritten-there heads at x bytes [] here behind is =
-    ap (λ (t : Bool). if t then with_contents here (overwritten here.contents bytes) ∷ behind else here ∷ overwritten_at heads (at + size_of heads here) x bytes behind) (at_once at x (omega arith))
+    ap (λ (t : Bool). if t then with_contents here (overwritten here.contents bytes) ∷ behind else here ∷ overwritten_at heads (at + size_of heads here) x bytes behind) (eq-eqb at x (omega arith))
 overwritten-there heads at x bytes (b ∷ before) here behind is = let positive = head_size-positive heads in
     ap (λ (t : Bool). if t then with_contents b (overwritten b.contents bytes) ∷ (before ++ here ∷ behind) else b ∷ overwritten_at heads (at + size_of heads b) x bytes (before ++ here ∷ behind))
     (further at x (size_of heads b + total_of heads before) (omega arith) (omega arith))

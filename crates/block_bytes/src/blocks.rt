@@ -11,7 +11,7 @@ ghost use Rattle.raw_region.specs.State.{with_bytes};
 ghost use Rattle.block_bytes.specs.declared.header.Role.TheVariants.{Free};
 ghost use Rattle.block_bytes.specs.Starts.{first_marked, NoneLower};
 ghost use Rattle.place_numbers.specs.Numbers.{FirstAtLeast};
-ghost use Rattle.block_bytes.specs.ZoneHead.{free_field, lowest_field};
+ghost use Rattle.block_bytes.specs.ZoneHead.{free_field, lowest_field, CanCount};
 
 use crate::header::{Header, Role};
 use crate::memory::Memory;
@@ -124,11 +124,7 @@ fn count_free(
     gained: u32,
     lost: u32,
 )
-    requires inside { zone_header ≤ length memory.old.bytes }
-    requires unlent { IsFree memory.old.lent 0 zone_header }
-    requires few { big_number 4 (part memory.old.bytes free_field 4) + gained < 2 ^ 32 }
-    requires counted { lost ≤ big_number 4 (part memory.old.bytes free_field 4) + gained }
-    requires small { base + 4 * length index.now < 2 ^ 32 }
+    requires count { CanCount memory.old index.now base gained lost }
     requires low { NoneLower base (big_number 4 (part memory.old.bytes lowest_field 4)) changed index.now }
     ensures { memory.new ≡ with_bytes (with_bytes memory.old free_field (big_bytes 4 (big_number 4 (part memory.old.bytes free_field 4) + gained - lost)))
         lowest_field (big_bytes 4 (first_marked base index.now)) }

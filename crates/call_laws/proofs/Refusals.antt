@@ -1,7 +1,7 @@
 -- What a call knows that isn't refused.
 use Rattle.std.proofs.Common.{◌≡◌, ◌≢◌, ℕ, ◌+◌, ◌≤◌, Bool, true, false, not, ◌||◌, nat_le, eqb, cond, List, [], ◌∷◌, length, Some, None, Option, refl, arith}
 use Rattle.std.specs.Option.{option_or}
-use Rattle.std.proofs.lemmas.Bool.{or_right}
+use Rattle.std.proofs.lemmas.Bool.{or_right, not-true, leb-true}
 use Rattle.std.proofs.lemmas.Bool.Decides.{nat_tests}
 use Rattle.mac_base.specs.declared.error.OsErr.{OsErr}
 use Rattle.mac_base.specs.declared.error.OsErr.TheVariants.{ParamErr, NilHandleErr, MemWzErr, MemLockedErr}
@@ -39,17 +39,13 @@ module _ (s : Shape) (heap : Heap) where
   pub test_6 : (a b c d e f : Test) (rest : List Test) → first_refusal s heap (a ∷ b ∷ c ∷ d ∷ e ∷ f ∷ rest) ≡ None → refused_by s heap f ≡ None
   test_6 a b c d e f rest is = test_5 b c d e f rest (first_passed s heap a (b ∷ c ∷ d ∷ e ∷ f ∷ rest) is).1
 
-passed : (code : OsErr) (b : Bool) → unless_passed code b ≡ None → b ≡ true
+pub passed : (code : OsErr) (b : Bool) → unless_passed code b ≡ None → b ≡ true
 passed code true h = refl
 passed code false h = absurd (cc h)
 
 not_nil : (b : Bool) (o : Option OsErr) → cond b (Some NilHandleErr) o ≡ None → (b ≡ false) × (o ≡ None)
 not_nil true o h = absurd (cc h)
 not_nil false o h = (refl, h)
-
-not_passed : (b : Bool) → not b ≡ true → b ≡ false
-not_passed true h = absurd (cc h)
-not_passed false h = refl
 
 apart_from_nil : (x : ℕ) → eqb x 0 ≡ false → x ≢ 0
 apart_from_nil x h = grind (arith, nat_tests)
@@ -78,14 +74,11 @@ passed-NotEmpty s heap x is = passed NilHandleErr (is_full heap.table x || is_po
 
 -- nor is it lent
 pub passed-NotLent : (s : Shape) (heap : Heap) (x : ℕ) → refused_by s heap (NotLent x) ≡ None → is_lent heap.table x ≡ false
-passed-NotLent s heap x is = not_passed (is_lent heap.table x) (passed MemLockedErr (not (is_lent heap.table x)) is)
-
-le_of : (a b : ℕ) → nat_le a b ≡ true → a ≤ b
-le_of a b h = grind (arith, nat_tests)
+passed-NotLent s heap x is = not-true (is_lent heap.table x) (passed MemLockedErr (not (is_lent heap.table x)) is)
 
 -- bytes lie within a block
 pub passed-IsWithin : (s : Shape) (heap : Heap) (x at n : ℕ) → refused_by s heap (IsWithin x at n) ≡ None → at + n ≤ length (bytes_of heap.table x)
-passed-IsWithin s heap x at n is = le_of (at + n) (length (bytes_of heap.table x)) (passed ParamErr (nat_le (at + n) (length (bytes_of heap.table x))) is)
+passed-IsWithin s heap x at n is = leb-true (at + n) (length (bytes_of heap.table x)) (passed ParamErr (nat_le (at + n) (length (bytes_of heap.table x))) is)
 
 -- a disposed handle is live, and not lent
 pub record DisposesLive (heap : Heap) (h : ℕ) : Type 0 where

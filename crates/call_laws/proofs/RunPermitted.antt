@@ -1,7 +1,7 @@
 -- The exact run of a request is one of the runs that it may have, and leaves a sound heap.
 use Rattle.std.proofs.Common.{◌≡◌, ℕ, suc, ◌-◌, ◌<◌, Bool, true, false, cond, eqb, List, [], ◌∷◌, ◌++◌, length, Some, None, Option, MatchOption, refl, ap, sym, ◌∙◌, subst, arith}
 use Rattle.std.specs.Prelude.{◌||◌, ◌==◌, ⊤, MatchBool}
-use Rattle.std.proofs.lemmas.Bool.{true≢false}
+use Rattle.std.proofs.lemmas.Bool.{true≢false, eqb-true}
 use Rattle.std.proofs.lemmas.Bool.Decides.{nat_tests}
 use Rattle.std.proofs.lemmas.List.{length-replicate}
 use Rattle.mac_base.specs.HeadKind.{Shape}
@@ -25,7 +25,7 @@ use Rattle.mac_calls.specs.ExactRequest.{Ending, prepared, unserved, served_or, 
 use Rattle.mac_calls.specs.RequestRun.{EndsUnserved, RequestRun}
 use Rattle.zone_laws.proofs.SoundResized.{length-resized}
 use Rattle.zone_laws.proofs.SoundWritten.{refilled_block}
-use Rattle.zone_laws.proofs.Tables.{eqb-true-is, live_at-with_live_same, with_live_agrees, without_agrees}
+use Rattle.zone_laws.proofs.Tables.{live_at-with_live_same, with_live_agrees, without_agrees}
 use Rattle.gap_laws.proofs.ServedRequests.{MayAsk, front_slot-not_live, serve-NumberGiven, serve-Served, serve-no_room}
 use Rattle.gap_laws.proofs.SoundServed.{MayServe, sound-serve}
 use Rattle.call_laws.proofs.Prepared.{IsPrepared, prepared-is}
@@ -72,7 +72,7 @@ running-released protected call heap other = record { free = by_call call; prote
 
     apart : (x y : ℕ) → is_among protected x ≡ false → is_among protected y ≡ true → eqb y x ≡ false
     apart x y other guarded = elim (eqb y x) as (λ b. eqb y x ≡ b → b ≡ false) [
-      | true ↦ λ same. absurd (true≢false (sym guarded ∙ ap (is_among protected) (eqb-true-is y x same) ∙ other))
+      | true ↦ λ same. absurd (true≢false (sym guarded ∙ ap (is_among protected) (eqb-true y x same) ∙ other))
       | false ↦ λ _. refl
     ] refl
 

@@ -2,6 +2,7 @@
 use Rattle.std.proofs.Common.{◌≡◌, ℕ, ◌-◌, ◌<◌, Bool, true, false, List, [], ◌∷◌, ◌++◌, ◌∙◌, length, Some, None, Option, MatchOption, Contains, refl, ap, sym, subst, inl, inr, arith}
 use Rattle.std.specs.Prelude.{◌&&◌, ⊤}
 use Rattle.std.specs.List.{list_all}
+use Rattle.std.proofs.lemmas.Bool.{true_from_ne_false, and_parts, false_from_ne_true, and_from}
 use Rattle.mac_base.specs.declared.error.OsErr.{OsErr}
 use Rattle.mac_base.specs.HeadKind.{Shape}
 use Rattle.mac_base.specs.declared.request.Request.{Request}
@@ -19,8 +20,6 @@ use Rattle.mac_calls.specs.ExactRequest.{Ending, request_run}
 use Rattle.mac_calls.specs.ExactStep.{StepEnd, request_end, behind_master, request_step, step_asking, step_unless, exact_step}
 use Rattle.mac_calls.specs.RequestRun.{RequestRun}
 use Rattle.mac_calls.specs.MemoryStep.{MemoryStep, OwnRequest, BehindMaster, RequestStep, StepAsking, StepUnless}
-use Rattle.zone_laws.proofs.Maps.{both_true, true_both}
-use Rattle.zone_laws.proofs.SlotOwners.{false_from}
 use Rattle.zone_laws.proofs.SlotPlaces.{Contains-cons_cases, Contains-none, Contains-here, Contains-later}
 use Rattle.zone_laws.proofs.SoundPlaced.{front_slot-free}
 use Rattle.gap_laws.proofs.SoundServed.{MayServe}
@@ -32,17 +31,13 @@ use Rattle.call_laws.proofs.Steps.{same_heap}
 -- what holds of each element
 list_all-from_contains : (p : ℕ → Bool) (xs : List ℕ) → ((x : ℕ) → Contains xs x → p x ≡ true) → list_all p xs ≡ true
 list_all-from_contains p [] h = refl
-list_all-from_contains p (x ∷ xs) h = true_both (p x) _ (h x (Contains-here x xs)) (list_all-from_contains p xs (λ y c. h y (Contains-later x xs y c)))
+list_all-from_contains p (x ∷ xs) h = and_from (p x) _ (h x (Contains-here x xs)) (list_all-from_contains p xs (λ y c. h y (Contains-later x xs y c)))
 
 contains-from_list_all : (p : ℕ → Bool) (xs : List ℕ) → list_all p xs ≡ true → (x : ℕ) → Contains xs x → p x ≡ true
 contains-from_list_all p [] h x c = absurd (Contains-none x c)
 contains-from_list_all p (y ∷ ys) h x c =
-    let hs = both_true (p y) (list_all p ys) h in
+    let hs = and_parts (p y) (list_all p ys) h in
     elim (Contains-cons_cases y ys x c) [ inl same ↦ ap p (sym same) ∙ hs.0 | inr later ↦ contains-from_list_all p ys hs.1 x later ]
-
-true_from : (b : Bool) → (b ≡ false → ⊥) → b ≡ true
-true_from true h = refl
-true_from false h = absurd (h refl)
 
 -- every slot is live just where no slot is free
 pub every_slot_live-is : (s : Shape) (heap : Heap) → Sound s heap → every_slot_live s heap ≡ has_none heap.free_slots
@@ -50,10 +45,10 @@ every_slot_live-is s heap sound = by_slots heap.free_slots refl
   where
     by_slots : (xs : List ℕ) → heap.free_slots ≡ xs → every_slot_live s heap ≡ has_none xs
     by_slots [] is = list_all-from_contains (is_handle heap.table) (slots s heap.map) (λ x slot.
-        true_from (is_handle heap.table x) (λ dead. Contains-none x (subst (λ xs. Contains xs x) is ((sound.slots.free x).1 (slot, dead)))))
+        true_from_ne_false (is_handle heap.table x) (λ dead. Contains-none x (subst (λ xs. Contains xs x) is ((sound.slots.free x).1 (slot, dead)))))
     by_slots (x ∷ xs) is =
         let slot = front_slot-free s heap x xs sound is in
-        false_from (every_slot_live s heap) (λ all. cc (contains-from_list_all (is_handle heap.table) (slots s heap.map) all x slot.slot, slot.no_handle))
+        false_from_ne_true (every_slot_live s heap) (λ all. cc (contains-from_list_all (is_handle heap.table) (slots s heap.map) all x slot.slot, slot.no_handle))
 
 -- a call that makes a handle, or has its operand, may be served where a slot is free
 pub may_serve-from : (heap : Heap) (r : Request) → HasOperand heap r → (makes_handle r ≡ true → 0 < length heap.free_slots) → MayServe heap r

@@ -38,7 +38,3 @@ module _ (Run : RunRelation) where
   -- Peek gives the bytes, and changes nothing
   pub step-Peek : (s : Shape) (heap : Heap) (x at n : ℕ) → refusal s heap (Peek x at n) ≡ None → StepBy Run s heap (Peek x at n) [] (Ok (Bytes (take n (drop at (bytes_of heap.table x))))) heap
   step-Peek s heap x at n is = step-quiet s heap (Peek x at n) (Ok (Bytes (take n (drop at (bytes_of heap.table x))))) heap is refl (same_heap heap, refl)
-
-  -- the walk over the zone reports each block
-  pub step-ZoneMap : (s : Shape) (heap : Heap) → StepBy Run s heap WalkZone [] (Ok (Blocks (reports_from heap.table (address_behind s []) heap.map))) heap
-  step-ZoneMap s heap = step-quiet s heap WalkZone (Ok (Blocks (reports_from heap.table (address_behind s []) heap.map))) heap refl refl (same_heap heap, refl)

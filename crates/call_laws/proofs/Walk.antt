@@ -5,6 +5,7 @@ use Rattle.std.proofs.Common.{◌≡◌, ℕ, ◌+◌, ◌%◌, ◌<◌, ◌≤�
 use Rattle.std.proofs.lemmas.Bool.{and_parts, leb-true, ne_eqb}
 use Rattle.std.proofs.lemmas.List.{append-nil}
 use Rattle.zone_laws.proofs.Tables.{eqb_same}
+use Rattle.zone_laws.proofs.Maps.{total_size-append}
 use Rattle.mac_base.specs.declared.block.Block.{Block}
 use Rattle.mac_base.specs.declared.block.Entry.{Entry}
 use Rattle.mac_base.specs.declared.block.HeadKind.{HeadKind}
@@ -77,10 +78,6 @@ reports_from-push t start [] e = ap (λ n. report t n e ∷ []) (omega arith)
 reports_from-push t start (f ∷ before) e =
     ap (λ (rest : List Block). report t start f ∷ rest)
     (reports_from-push t (start + f.size) before e ∙ ap (λ n. reports_from t (start + f.size) before ++ report t n e ∷ []) (add_assoc start f.size (total_size before)))
-
-total_size-append : (a b : ZoneMap) → total_size (a ++ b) ≡ total_size a + total_size b
-total_size-append [] b = omega arith
-total_size-append (e ∷ es) b = ap (λ n. e.size + n) (total_size-append es b) ∙ sym (add_assoc e.size (total_size es) (total_size b))
 
 AllPositive-front : (a b : ZoneMap) → AllPositive (a ++ b) → AllPositive a
 unfolding AllPositive

@@ -1,7 +1,7 @@
 -- Changes in which other blocks stand in place of some, and none of them passes a test that didn't before, keep marks right.
 use Rattle.std.proofs.Common.{◌≡◌, ℕ, ◌+◌, ◌-◌, Bool, true, false, not, List, [], ◌∷◌, ◌++◌, refl, ap, sym, ◌∙◌, subst, append_assoc, inl, inr, arith}
 use Rattle.std.specs.Prelude.{◌==◌, if◌then◌else◌}
-use Rattle.std.proofs.lemmas.Bool.{and_from, and_parts, false≢true}
+use Rattle.std.proofs.lemmas.Bool.{and_from, and_parts, false≢true, not-true}
 use Rattle.mac_base.specs.declared.block.Kind.{Kind}
 use Rattle.mac_base.specs.declared.block.Kind.TheVariants.{Free, Ptr, Master, Rel}
 use Rattle.mac_base.specs.Gap.{is_fixed}
@@ -10,9 +10,8 @@ use Rattle.mac_base.specs.HeadKind.{head_size}
 use Rattle.mac_base.specs.ZoneMap.{ZoneMap, block, free_block, total_size}
 use Rattle.mac_base.specs.ZoneState.{ZoneState}
 use Rattle.zone_laws.proofs.Arranging.{total_size-free_block}
-use Rattle.zone_laws.proofs.GapAppend.{total_size-append}
-use Rattle.zone_laws.proofs.Maps.{true_not}
 use Rattle.zone_laws.proofs.Tables.{live_at-with_live_same}
+use Rattle.zone_laws.proofs.Maps.{total_size-append}
 use Rattle.linked_zone.specs.Changes.{carried_up, cut_in_two, enlarged, extended, fixed, held_there, joined_pair, pointed, sunk, with_master}
 use Rattle.linked_zone.specs.Places.{CanCut, CanGrow, CanHold, FreeAt, FreePair, ParcelAt, ParcelUpTo}
 use Rattle.fixed_index.specs.Index.{AreMarked}
@@ -130,7 +129,7 @@ module _ (z : ZoneState) (marks : List ℕ) (are : AreMarked is_fixed z marks) w
       exchanged-marked fixes z marks are (carried_up z parcel) refl (lives-same fixes t) parcel.before (parcel.here ∷ parcel.blocks) (parcel.blocks ++ parcel.here ∷ []) parcel.behind parcel.map
       (ap (λ m. parcel.before ++ m) (sym (append_assoc parcel.blocks (parcel.here ∷ []) parcel.behind)))
       (let all = total_size-append parcel.blocks (parcel.here ∷ []) in omega arith)
-      (λ k h. absurd (last-loose (is_fixed t) parcel.blocks (parcel.here).kind (parcel.here).size k parts.1 (true_not _ parts.0) h))
+      (λ k h. absurd (last-loose (is_fixed t) parcel.blocks (parcel.here).kind (parcel.here).size k parts.1 (not-true _ parts.0) h))
 
   -- and before it
   pub sunk-marked : (start at : ℕ) (parcel : ParcelUpTo z start at) → none_fixed z.heap.table (parcel.blocks ++ parcel.here ∷ []) ≡ true → AreMarked is_fixed (sunk z parcel) marks

@@ -1,5 +1,5 @@
 -- Where a block becomes free, marks stay right, and its own is cleared.
-use Rattle.std.proofs.Common.{◌≡◌, ℕ, ◌+◌, ◌/◌, ◌≤◌, Bool, true, false, List, set, slice_index, [], ◌∷◌, ◌++◌, refl, ap, sym, ◌∙◌, subst, inl, inr, arith}
+use Rattle.std.proofs.Common.{◌≡◌, ℕ, ◌+◌, ◌/◌, ◌≤◌, Bool, false, List, set, slice_index, [], ◌∷◌, ◌++◌, refl, ap, sym, ◌∙◌, subst, inl, inr, arith}
 use Rattle.std.specs.Prelude.{if◌then◌else◌}
 use Rattle.std.proofs.lemmas.Bool.{false≢true}
 use Rattle.std.proofs.lemmas.List.{length-set}
@@ -11,6 +11,7 @@ use Rattle.mac_base.specs.ZoneMap.{ZoneMap, address_behind, block, is_named, tot
 use Rattle.mac_base.specs.ZoneState.{ZoneState}
 use Rattle.zone_laws.proofs.GapApart.{sizes_possible}
 use Rattle.zone_laws.proofs.Tables.{eqb_same}
+use Rattle.zone_laws.proofs.SuitsReleased.{total_size-freed}
 use Rattle.linked_zone.specs.Changes.{freed, relocated, unfixed, without_block}
 use Rattle.linked_zone.specs.Fit.{HasSizes}
 use Rattle.linked_zone.specs.Places.{BlockOf, EntryAt, FreeAt, NamedAt}
@@ -25,13 +26,6 @@ use Rattle.fixed_index.proofs.Rules.{Lives, Rule, fixes, goes, kinds-within, liv
 pub freed-append : (x : ℕ) (a b : ZoneMap) → freed x (a ++ b) ≡ freed x a ++ freed x b
 freed-append x [] b = refl
 freed-append x (e ∷ a) b = ap (λ (m : ZoneMap). (if is_named x e.kind then block Free e.size else e) ∷ m) (freed-append x a b)
-
-total_size-freed : (x : ℕ) (m : ZoneMap) → total_size (freed x m) ≡ total_size m
-total_size-freed x [] = refl
-total_size-freed x (e ∷ es) = let rest = total_size-freed x es in elim (is_named x e.kind) as (λ c. total_size ((if c then block Free e.size else e) ∷ freed x es) ≡ e.size + total_size es) [
-  | true ↦ omega arith
-  | false ↦ omega arith
-]
 
 module _ (r : Rule) (z : ZoneState) (marks : List ℕ) (are : AreMarked r.test z marks) where
   -- the block of x is free, and no more handles pass

@@ -1,7 +1,7 @@
 -- Where a block becomes one that passes a test, its mark is set.
 use Rattle.std.proofs.Common.{◌≡◌, ℕ, ◌+◌, ◌/◌, ◌≤◌, Bool, true, false, not, eqb, List, set, [], ◌∷◌, ◌++◌, Some, refl, ap, sym, ◌∙◌, subst, inl, inr, arith}
 use Rattle.std.specs.Prelude.{◌⊎◌}
-use Rattle.std.proofs.lemmas.Bool.{and_parts, false≢true}
+use Rattle.std.proofs.lemmas.Bool.{and_parts, false≢true, not-true}
 use Rattle.mac_base.specs.declared.block.Flags.{Flags}
 use Rattle.mac_base.specs.declared.block.Kind.{Kind}
 use Rattle.mac_base.specs.declared.block.Kind.TheVariants.{Free, Master, Ptr, Rel}
@@ -11,7 +11,6 @@ use Rattle.mac_base.specs.HeadKind.{head_size}
 use Rattle.mac_base.specs.ZoneMap.{ZoneMap, block, is_named, total_size}
 use Rattle.mac_base.specs.ZoneState.{ZoneState}
 use Rattle.zone_laws.proofs.GapApart.{sizes_possible}
-use Rattle.zone_laws.proofs.Maps.{true_not}
 use Rattle.zone_laws.proofs.Owners.{none_named}
 use Rattle.zone_laws.proofs.Tables.{AgreeBut, live_at-with_live_same, with_live_agrees}
 use Rattle.linked_zone.specs.Changes.{fixed, flagged, with_master}
@@ -30,7 +29,7 @@ others-within r new old h others [] n none f = f
 others-within r new old h others (e ∷ es) n none f =
     let parts = and_parts (not (is_named h e.kind)) (none_named h es) none in
     elim f [
-      | inl here ↦ inl (here.0, by_kind e.kind (true_not _ parts.0) here.1)
+      | inl here ↦ inl (here.0, by_kind e.kind (not-true _ parts.0) here.1)
       | inr later ↦ inr (later.0, later.1, others-within r new old h others es later.0 parts.1 later.2)
     ]
   where

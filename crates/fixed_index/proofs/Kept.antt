@@ -1,7 +1,7 @@
 -- When marks stay right.
 use Rattle.std.proofs.Common.{◌≡◌, ℕ, Bool, true, false, eqb, ◌+◌, ◌/◌, ◌<◌, ◌≤◌, List, length, set, slice_index, [], ◌∷◌, refl, ap, sym, ◌∙◌, subst, inl, inr, arith}
 use Rattle.std.specs.Prelude.{◌⊎◌}
-use Rattle.std.proofs.lemmas.Bool.{false≢true}
+use Rattle.std.proofs.lemmas.Bool.{false≢true, eqb-true}
 use Rattle.std.proofs.lemmas.List.{length-set, get_or-set_same, get_or-set_other}
 use Rattle.mac_base.specs.declared.block.Kind.{Kind}
 use Rattle.mac_base.specs.HandleTable.{HandleTable}
@@ -11,7 +11,7 @@ use Rattle.mac_base.specs.ZoneState.{ZoneState}
 use Rattle.linked_zone.specs.Fit.{HasSizes}
 use Rattle.linked_zone.specs.Places.{EntryAt}
 use Rattle.zone_laws.proofs.GapApart.{sizes_possible}
-use Rattle.zone_laws.proofs.Tables.{eqb-true-is, eqb_same}
+use Rattle.zone_laws.proofs.Tables.{eqb_same}
 use Rattle.fixed_index.specs.Index.{place, AreMarked}
 use Rattle.fixed_index.proofs.Passing.{HasPassing, of-passing, to-passing}
 use Rattle.fixed_index.proofs.Sizes.{all_parts, even_bytes}
@@ -19,7 +19,7 @@ use Rattle.fixed_index.proofs.Sizes.{all_parts, even_bytes}
 -- what is read once a number is written
 pub written-read : (marks : List ℕ) (i j : ℕ) (v : ℕ) → i < length marks → ((i ≡ j → 1 ≤ v)) → ((j ≡ i → ⊥) → 1 ≤ slice_index marks j) → 1 ≤ slice_index (set marks i v) j
 written-read marks i j v inside here other = elim (eqb j i) as (λ b. eqb j i ≡ b → 1 ≤ slice_index (set marks i v) j) [
-  | true ↦ λ same. let at : j ≡ i = eqb-true-is j i same in subst (λ j. 1 ≤ slice_index (set marks i v) j) (sym at) (subst (λ n. 1 ≤ n) (sym (get_or-set_same marks i v 0 inside)) (here (sym at)))
+  | true ↦ λ same. let at : j ≡ i = eqb-true j i same in subst (λ j. 1 ≤ slice_index (set marks i v) j) (sym at) (subst (λ n. 1 ≤ n) (sym (get_or-set_same marks i v 0 inside)) (here (sym at)))
   | false ↦ λ apart. let differ : j ≡ i → ⊥ = λ same. false≢true (sym apart ∙ (ap (λ k. eqb k i) same ∙ eqb_same i)) in subst (λ n. 1 ≤ n) (sym (get_or-set_other marks i j v 0 differ)) (other differ)
 ] refl
 

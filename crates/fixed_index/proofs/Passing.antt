@@ -2,7 +2,7 @@
 use Rattle.std.proofs.Common.{◌≡◌, ℕ, ◌+◌, ◌<◌, Bool, true, not, [], ◌∷◌, ◌++◌, refl, ap, sym, ◌∙◌, subst, inl, inr, arith}
 use Rattle.std.specs.Prelude.{◌⊎◌, IsTrue}
 use Rattle.std.specs.List.{list_all}
-use Rattle.std.proofs.lemmas.Bool.{and_parts, false≢true}
+use Rattle.std.proofs.lemmas.Bool.{and_parts, false≢true, not-true}
 use Rattle.mac_base.specs.declared.block.Entry.{Entry}
 use Rattle.mac_base.specs.declared.block.Kind.{Kind}
 use Rattle.mac_base.specs.HandleTable.{HandleTable}
@@ -11,7 +11,6 @@ use Rattle.mac_base.specs.Suits.{is_block_size}
 use Rattle.mac_base.specs.ZoneMap.{ZoneMap, total_size, address_behind}
 use Rattle.mac_base.specs.ZoneState.{ZoneState}
 use Rattle.zone_laws.proofs.GapApart.{sizes_possible}
-use Rattle.zone_laws.proofs.Maps.{true_not}
 use Rattle.linked_zone.specs.Places.{EntryAt}
 use Rattle.fixed_index.specs.Index.{PassesAt}
 use Rattle.fixed_index.proofs.Sizes.{first_bytes}
@@ -53,7 +52,7 @@ passing-none p [] n none h = h
 passing-none p (e ∷ es) n none h =
     let parts = and_parts (not (p e.kind)) (none_passing p es) none in
     elim h [
-      | inl here ↦ false≢true (sym (true_not (p e.kind) parts.0) ∙ here.1)
+      | inl here ↦ false≢true (sym (not-true (p e.kind) parts.0) ∙ here.1)
       | inr later ↦ passing-none p es later.0 parts.1 later.2
     ]
 

@@ -5,7 +5,6 @@ use Rattle.std.proofs.lemmas.List.{length-replicate}
 use Rattle.mac_base.specs.ZoneMap.{total_size}
 use Rattle.mac_base.specs.ZoneSizes.{ArePossible, ZoneSizes}
 use Rattle.mac_base.specs.ZoneState.{Memory, ZoneState}
-use Rattle.zone_laws.proofs.GapAppend.{total_size-append}
 use Rattle.linked_zone.specs.Changes.{bare_zone}
 use Rattle.linked_zone.specs.Fit.{HasSizes}
 use Rattle.linked_zone.specs.Places.{EntryAt, SplitAt}
@@ -13,6 +12,7 @@ use Rattle.linked_zone.specs.Sizes.{sizes_of}
 use Rattle.fixed_index.specs.Index.{AreMarked, place}
 use Rattle.fixed_index.proofs.Passing.{of-passing}
 use Rattle.fixed_index.proofs.Rules.{Rule}
+use Rattle.zone_laws.proofs.Maps.{total_size-append}
 
 -- an address between blocks is none behind the zone's limit
 pub split-within : (z : ZoneState) (at : ℕ) → ArePossible (sizes_of z) → SplitAt z at → (z.shape.base ≤ at) × (at ≤ z.shape.base + z.shape.limit)

@@ -1,13 +1,13 @@
 -- Which blocks pass a test once a table is changed.
 use Rattle.std.proofs.Common.{◌≡◌, ℕ, Bool, true, false, List, Option, Some, None, cond, eqb, refl, ap, sym, ◌∙◌}
 use Rattle.std.specs.Prelude.{not, ◌&&◌}
-use Rattle.std.proofs.lemmas.Bool.{false≢true}
+use Rattle.std.proofs.lemmas.Bool.{false≢true, eqb-true}
 use Rattle.mac_base.specs.BlockReport.{block_flags}
 use Rattle.mac_base.specs.declared.block.Kind.{Kind}
 use Rattle.mac_base.specs.declared.block.Kind.TheVariants.{Free, Master, Ptr, Rel}
 use Rattle.mac_base.specs.Gap.{is_fixed}
 use Rattle.mac_base.specs.HandleTable.{HandleTable, Live, EmptyHandle, FullHandle, Pointer, live_at, live_flags, live_full, no_flags, refilled, with_live, with_bytes, without}
-use Rattle.zone_laws.proofs.Tables.{live_at-with_live, live_at-without, eqb-true-is}
+use Rattle.zone_laws.proofs.Tables.{live_at-with_live, live_at-without}
 use Rattle.fixed_index.specs.Purging.{may_go, may_purge}
 use Rattle.fixed_index.proofs.Passing.{Within}
 
@@ -116,7 +116,7 @@ module _ (r : Rule) where
   lives-with_bytes x bytes t y h = by_number (eqb y x) refl (sym (ap r.live (live_at-with_live x (refilled bytes (live_at t x)) t y)) ∙ h)
     where
       by_number : (c : Bool) → eqb y x ≡ c → r.live (cond c (Some (refilled bytes (live_at t x))) (live_at t y)) ≡ true → r.live (live_at t y) ≡ true
-      by_number true same h = ap (λ y. r.live (live_at t y)) (eqb-true-is y x same) ∙ (sym (r.rewritten bytes (live_at t x)) ∙ h)
+      by_number true same h = ap (λ y. r.live (live_at t y)) (eqb-true y x same) ∙ (sym (r.rewritten bytes (live_at t x)) ∙ h)
       by_number false other h = h
 
   -- the same table but for its loans

@@ -8,7 +8,7 @@ use Rattle.mac_base.specs.Gap.{is_fixed}
 use Rattle.mac_base.specs.HandleTable.{HandleTable}
 use Rattle.mac_base.specs.ZoneState.{ZoneState}
 use Rattle.zone_laws.proofs.GapApart.{sizes_possible}
-use Rattle.place_marks.specs.Marks.{FirstAtLeast, LastAtLeast}
+use Rattle.place_numbers.specs.Numbers.{FirstAtLeast, LastAtLeast}
 use Rattle.linked_zone.specs.Fit.{HasSizes}
 use Rattle.linked_zone.specs.Places.{SplitAt}
 use Rattle.fixed_index.specs.Index.{AreMarked, FixedAt, PassesAt, place}

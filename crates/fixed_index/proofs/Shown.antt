@@ -2,6 +2,7 @@
 use Rattle.std.proofs.Common.{◌≡◌, ℕ, ◌+◌, Bool, true, false, cond, [], ◌∷◌, ◌++◌, Option, Some, None, refl, ap, sym, ◌∙◌, subst, arith}
 use Rattle.std.specs.Prelude.{find, ◌==◌, ◌↔◌, IsTrue}
 use Rattle.std.proofs.lemmas.Bool.Decides.{nat_tests}
+use Rattle.std.proofs.lemmas.Bool.{eqb-true}
 use Rattle.mac_base.specs.declared.block.Block.{Block}
 use Rattle.mac_base.specs.declared.block.Entry.{Entry}
 use Rattle.mac_base.specs.declared.block.Kind.{Kind}
@@ -10,7 +11,6 @@ use Rattle.mac_base.specs.HandleTable.{HandleTable}
 use Rattle.mac_base.specs.Suits.{wanted_length}
 use Rattle.mac_base.specs.ZoneMap.{ZoneMap, address_behind, total_size}
 use Rattle.mac_base.specs.ZoneState.{ZoneState}
-use Rattle.zone_laws.proofs.Tables.{eqb-true-is}
 use Rattle.linked_zone.specs.Fit.{HasSizes}
 use Rattle.fixed_index.specs.Index.{PassesAt}
 use Rattle.fixed_index.proofs.Passing.{passes-only}
@@ -36,7 +36,7 @@ shown t x at [] b h = absurd (cc h)
 shown t x at (e ∷ es) b h = elim (at == x) as (λ c. (at == x) ≡ c → cond c (Some (report t at e)) (reported t x (at + e.size) es) ≡ Some b → Shown t x at (e ∷ es) b) [
   | true ↦ λ is h.
       let same : report t at e ≡ b = cc h in
-      let here = eqb-true-is at x is in
+      let here = eqb-true at x is in
       subst (Shown t x at (e ∷ es)) same (record { before = []; behind = es; map = refl; place = omega arith; flags = refl })
   | false ↦ λ _ h.
       let rest = shown t x (at + e.size) es b h in

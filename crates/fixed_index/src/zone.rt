@@ -3,7 +3,7 @@
 use linked_zone::LinkedZone;
 use mac_base::error::HostFull;
 use mac_base::zone_spec::ZoneSpec;
-use place_marks::Marks;
+use place_numbers::marks::Marks;
 use std::alloc::Global;
 use std::marker::Model;
 

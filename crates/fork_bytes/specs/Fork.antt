@@ -8,6 +8,7 @@ use Rattle.fork_bytes.specs.declared.fault.Condition.TheVariants.{Parts, Types, 
 use Rattle.fork_bytes.specs.declared.fault.ForkFault.{ForkFault}
 use Rattle.fork_bytes.specs.declared.fault.ForkFault.TheVariants.{EndOfFile, BadMap, HostFull}
 use Rattle.fork_bytes.specs.declared.layout.Header.{Header}
+use Rattle.fork_bytes.specs.declared.layout.Limits.{Limits}
 use Rattle.fork_bytes.specs.Rows.{Row, MapRow}
 use Rattle.fork_bytes.specs.declared.table.Table.{Table}
 
@@ -139,16 +140,24 @@ table_of fork = record {
   map_attributes = attributes_of (map_of fork);
 }
 
--- the most bytes of a fork, and the most rows
+-- the most bytes of a fork, and the most rows, for macheap
 abbrev pub max_fork : ℕ
 max_fork = 4194304
 
 abbrev pub max_rows : ℕ
 max_rows = 8192
 
+-- how much is read of a fork, by macheap
+abbrev pub macheap_limits : Limits
+macheap_limits = record { fork = max_fork; rows = max_rows; bytes = max_fork }
+
+-- how much the format can say: a place in the fork has 4 bytes, and one in the data 3; so many bytes are the lengths of so many rows
+abbrev pub format_limits : Limits
+format_limits = record { fork = 4294967295; rows = 4194304; bytes = 16777216 }
+
 -- The parts lie within a fork of so many bytes.
-pub record HasParts (fork_length : ℕ) (header : Header) : Type 0 where
-  pub small : fork_length ≤ max_fork
+pub record HasPartsWithin (limits : Limits) (fork_length : ℕ) (header : Header) : Type 0 where
+  pub small : fork_length ≤ limits.fork
   pub whole_data : header.data_offset + header.data_length ≤ fork_length
   pub whole_map : header.map_offset + header.map_length ≤ fork_length
   pub map_header : 28 ≤ header.map_length
@@ -164,8 +173,8 @@ abbrev pub HasReferences : List ℕ → Type 0
 HasReferences resource_map = AllByRecursion (λ (r : Reference). r.place + 12 ≤ length resource_map) (references_of resource_map)
 
 -- There are not too many rows.
-abbrev pub HasFewRows : List ℕ → Type 0
-HasFewRows resource_map = length (references_of resource_map) ≤ max_rows
+abbrev pub HasFewRowsWithin : Limits → List ℕ → Type 0
+HasFewRowsWithin limits resource_map = length (references_of resource_map) ≤ limits.rows
 
 -- Each name lies within the map.
 abbrev pub HasNames : List ℕ → Type 0
@@ -178,27 +187,27 @@ HasData resource_data rows = AllByRecursion (λ (r : MapRow).
     (r.datum + 4 ≤ length resource_data) × (r.datum + 4 + datum_length resource_data r.datum ≤ length resource_data)) rows
 
 -- All rows together have not too many bytes, those of the lengths among them.
-abbrev pub HasFewBytes : List ℕ → List MapRow → Type 0
-HasFewBytes resource_data rows = sum_by (λ (r : MapRow). 4 + datum_length resource_data r.datum) rows ≤ max_fork
+abbrev pub HasFewBytesWithin : Limits → List ℕ → List MapRow → Type 0
+HasFewBytesWithin limits resource_data rows = sum_by (λ (r : MapRow). 4 + datum_length resource_data r.datum) rows ≤ limits.bytes
 
 -- what each condition says of a fork
-abbrev pub Holds : Condition → List ℕ → Type 0
-Holds Parts fork = HasParts (length fork) (header_of fork)
-Holds Types fork = HasTypes (map_of fork)
-Holds References fork = HasReferences (map_of fork)
-Holds RowCount fork = HasFewRows (map_of fork)
-Holds Names fork = HasNames (map_of fork)
-Holds Places fork = HasData (data_of fork) (map_rows (map_of fork))
-Holds ByteCount fork = HasFewBytes (data_of fork) (map_rows (map_of fork))
+abbrev pub HoldsWithin : Limits → Condition → List ℕ → Type 0
+HoldsWithin limits Parts fork = HasPartsWithin limits (length fork) (header_of fork)
+HoldsWithin limits Types fork = HasTypes (map_of fork)
+HoldsWithin limits References fork = HasReferences (map_of fork)
+HoldsWithin limits RowCount fork = HasFewRowsWithin limits (map_of fork)
+HoldsWithin limits Names fork = HasNames (map_of fork)
+HoldsWithin limits Places fork = HasData (data_of fork) (map_rows (map_of fork))
+HoldsWithin limits ByteCount fork = HasFewBytesWithin limits (data_of fork) (map_rows (map_of fork))
 
 -- the bytes are a fork: they have a header, and all conditions hold
-pub record IsFork (fork : List ℕ) : Type 0 where
+pub record IsForkWithin (limits : Limits) (fork : List ℕ) : Type 0 where
   pub header : 16 ≤ length fork
-  pub holds : (condition : Condition) → Holds condition fork
+  pub holds : (condition : Condition) → HoldsWithin limits condition fork
 
 -- the bytes stand for the table
-abbrev pub StandsFor : List ℕ → Table → Type 0
-StandsFor fork table = IsFork fork × (table ≡ table_of fork)
+abbrev pub StandsForWithin : Limits → List ℕ → Table → Type 0
+StandsForWithin limits fork table = IsForkWithin limits fork × (table ≡ table_of fork)
 
 -- how many conditions are looked at before this one
 abbrev pub rank : Condition → ℕ
@@ -211,12 +220,34 @@ rank Places = 5
 rank ByteCount = 6
 
 -- the condition doesn't hold, and those before it do
-pub record FailsFirst (fork : List ℕ) (condition : Condition) : Type 0 where
-  pub fails : Holds condition fork → ⊥
-  pub before : (other : Condition) → rank other < rank condition → Holds other fork
+pub record FailsFirstWithin (limits : Limits) (fork : List ℕ) (condition : Condition) : Type 0 where
+  pub fails : HoldsWithin limits condition fork → ⊥
+  pub before : (other : Condition) → rank other < rank condition → HoldsWithin limits other fork
 
 -- what a fault says of the bytes
+abbrev pub RefusesWithin : Limits → List ℕ → ForkFault → Type 0
+RefusesWithin limits fork EndOfFile = length fork < 16
+RefusesWithin limits fork (BadMap condition) = (16 ≤ length fork) × FailsFirstWithin limits fork condition
+RefusesWithin limits fork HostFull = ⊤
+
+-- the same, as macheap reads forks
+abbrev pub HasParts : ℕ → Header → Type 0
+HasParts = HasPartsWithin macheap_limits
+
+abbrev pub HasFewRows : List ℕ → Type 0
+HasFewRows = HasFewRowsWithin macheap_limits
+
+abbrev pub HasFewBytes : List ℕ → List MapRow → Type 0
+HasFewBytes = HasFewBytesWithin macheap_limits
+
+abbrev pub Holds : Condition → List ℕ → Type 0
+Holds = HoldsWithin macheap_limits
+
+abbrev pub IsFork : List ℕ → Type 0
+IsFork = IsForkWithin macheap_limits
+
+abbrev pub StandsFor : List ℕ → Table → Type 0
+StandsFor = StandsForWithin macheap_limits
+
 abbrev pub Refuses : List ℕ → ForkFault → Type 0
-Refuses fork EndOfFile = length fork < 16
-Refuses fork (BadMap condition) = (16 ≤ length fork) × FailsFirst fork condition
-Refuses fork HostFull = ⊤
+Refuses = RefusesWithin macheap_limits

@@ -1,6 +1,6 @@
 //! What a row has for its bytes.
 
-use mac_base::bytes::Bytes;
+use crate::table::Contents;
 use mac_base::error::HostFull;
 
 /// What stands for the bytes of a resource where they are written.
@@ -20,7 +20,7 @@ pub trait Datum {
 }
 
 /// The bytes themselves.
-impl Datum for Bytes {
+impl Datum for Contents<'_> {
     ghost text = { λ bytes. bytes };
 
     fn count(&self) -> usize {

@@ -2,10 +2,10 @@
 
 use thiserror::Error;
 
-/// What must hold of the bytes of a fork, in the order in which it is looked at.
+/// What must hold of the bytes of a fork, in the order in which it is looked at. `Limits` say how many are too many.
 #[derive(Clone, Copy, Debug, PartialEq, Eq, Error)]
 pub enum Condition {
-    /// There are at most 4,194,304 bytes, the data and the map lie within them, and the map has 28 bytes at least.
+    /// There are not too many bytes, the data and the map lie within them, and the map has 28 bytes at least.
     #[error("the data or the map lies outside the fork, or the fork is too long")]
     Parts,
     /// The type list lies within the map, and no type stands twice in it.
@@ -14,8 +14,8 @@ pub enum Condition {
     /// Each reference lies within the map.
     #[error("a list of references ends outside the map")]
     References,
-    /// There are at most 8,192 references.
-    #[error("there are more than 8192 resources")]
+    /// There are not too many references.
+    #[error("there are too many resources")]
     RowCount,
     /// Each name lies within the map.
     #[error("a name ends outside the map")]
@@ -23,8 +23,8 @@ pub enum Condition {
     /// The bytes of each resource lie within the data.
     #[error("the bytes of a resource end outside the data")]
     Places,
-    /// The bytes of all resources, each with its four bytes of length, are at most 4,194,304.
-    #[error("the resources have more than 4194304 bytes together")]
+    /// The bytes of all resources, each with its four bytes of length, are not too many.
+    #[error("the resources have too many bytes together")]
     ByteCount,
 }
 

@@ -2,20 +2,50 @@
 
 ghost use Rattle.std.specs.Prelude.{◌≡◌};
 
-use mac_base::bytes::Bytes;
 use mac_base::resource::Resource;
 use std::marker::Model;
 
-/// A resource with its bytes, as they stand in a fork.
-pub type Row = Resource<Bytes>;
+/// The bytes of a resource where they stand: in a fork that was read, or in what a fork is to be written of. A contract sees the
+/// list.
+#[derive(Drop)]
+pub struct Contents<'a> {
+    bytes: &'a [u8],
+}
+
+impl<'a> Model for Contents<'a> {
+    ghost use Rattle.std.specs.Prelude.{List, ℕ};
+
+    ghost Value = { List ℕ };
+
+    ghost view = { λ c. c.bytes.now };
+}
+
+impl<'a> Contents<'a> {
+    /// These bytes.
+    pub fn new(bytes: &'a [u8]) -> Contents<'a>
+        ensures { result ≡ bytes.now }
+    {
+        Contents { bytes }
+    }
+
+    /// The bytes, first to last.
+    pub fn as_slice(&self) -> &'a [u8]
+        ensures { result.now ≡ self.now }
+    {
+        self.bytes
+    }
+}
+
+/// A resource with its bytes.
+pub type Row<'a> = Resource<Contents<'a>>;
 
 /// The resources of a fork, in the order of its map. A contract sees the list.
 #[derive(Drop)]
-pub struct Rows {
-    rows: Vec<Row>,
+pub struct Rows<'a> {
+    rows: Vec<Row<'a>>,
 }
 
-impl Model for Rows {
+impl<'a> Model for Rows<'a> {
     ghost use Rattle.std.specs.Prelude.{List};
     ghost use Rattle.fork_bytes.specs.Rows.{Row};
 
@@ -24,16 +54,16 @@ impl Model for Rows {
     ghost view = { λ r. r.rows.items };
 }
 
-impl Rows {
+impl<'a> Rows<'a> {
     /// The rows of a vector.
-    pub fn new(rows: Vec<Row>) -> Rows
-        ensures { result ≡ rows.items }
+    pub fn new(rows: Vec<Row<'a>>) -> Rows<'a>
+        ensures { result ≡ rows.entry.items }
     {
         Rows { rows }
     }
 
     /// The rows, first to last.
-    pub fn as_slice(&self) -> &[Row]
+    pub fn as_slice(&self) -> &[Row<'a>]
         ensures { result.now ≡ self.now }
     {
         &self.rows
@@ -42,9 +72,9 @@ impl Rows {
 
 /// What a resource fork holds (Inside Macintosh: More Macintosh Toolbox, chapter 1).
 #[derive(Drop)]
-pub struct Table {
+pub struct Table<'a> {
     /// The resources. Those of one type stand together.
-    pub rows: Rows,
+    pub rows: Rows<'a>,
     /// The 112 bytes for the system and the 128 for the application.
     pub extra: [u8; 240],
     /// The attributes of the map.

@@ -1,3 +1,3 @@
 mod Grouped
 mod Parts
-mod Whole
+mod Pieces

@@ -1,8 +1,8 @@
 -- The rows that C gives, one after the other.
 use Rattle.std.proofs.Common.{◌≡◌, ℕ, ◌≤◌, ◌==◌, ◌&&◌, ◌∷◌, ◌++◌, Bool, true, false, List, [], length, take, drop, arith, refl, sym, ap, ◌∙◌}
 use Rattle.std.specs.Prelude.{nat_le, Option, Some, None, option_map, if◌then◌else◌}
-use Rattle.std.proofs.lemmas.Bool.Decides.{nat_tests}
 use Rattle.std.proofs.lemmas.List.{append_assoc, append-nil, drop_all}
+use Rattle.std.proofs.lemmas.Bool.{leb-true}
 use Rattle.fork_bytes.specs.declared.table.Table.{Table}
 use Rattle.fork_bytes.specs.Rows.{Row}
 use Rattle.fork_c.specs.declared.given.MfExtra.{MfExtra}
@@ -79,9 +79,6 @@ three true true false is = absurd (cc is)
 three true false c is = absurd (cc is)
 three false b c is = absurd (cc is)
 
-le_from : (a b : ℕ) → nat_le a b ≡ true → a ≤ b
-le_from a b is = grind (arith, nat_tests)
-
 at_most : (b : Bool) → (if b then 255 else 0) ≤ 255
 at_most true = omega arith
 at_most false = omega arith
@@ -90,8 +87,8 @@ at_most false = omega arith
 pub parts_fit : (left : List MfRow) (row : MfRow) (rows : List MfRow) (names contents : List ℕ) → left ≡ row ∷ rows → has_parts row names contents ≡ true → (row.name_length ≤ 255) × (row.name_length ≤ length names) × (row.data_length ≤ length contents)
 parts_fit left row rows names contents is has =
     let tests = three (nat_le row.name_length (if row.has_name then 255 else 0)) (nat_le row.name_length (length names)) (nat_le row.data_length (length contents)) has in
-    let short = le_from row.name_length (if row.has_name then 255 else 0) tests.0 in let most = at_most row.has_name in
-    (omega arith, le_from row.name_length (length names) tests.1, le_from row.data_length (length contents) tests.2)
+    let short = leb-true row.name_length (if row.has_name then 255 else 0) tests.0 in let most = at_most row.has_name in
+    (omega arith, leb-true row.name_length (length names) tests.1, leb-true row.data_length (length contents) tests.2)
 
 -- the rows of a table that is given stand together
 pub given_together : (extra : MfExtra) (rows : Option (List Row)) (table : Table) → table_given extra rows ≡ Some table → are_grouped table.rows ≡ true

@@ -1,16 +1,16 @@
 //! All resources of a fork at once, in the form in which C gives them.
 
-ghost use Rattle.std.specs.Prelude.{◌≡◌, ◌==◌, ◌&&◌, length, map, IfOk, IfErr};
+ghost use Rattle.std.specs.Prelude.{◌≡◌, ◌+◌, ◌≤◌, ◌==◌, ◌&&◌, ◌++◌, length, map, take, drop};
 ghost use Rattle.std.specs.List.{flat_map};
-ghost use Rattle.fork_bytes.specs.Fork.{IsFork, table_of};
+ghost use Rattle.fork_bytes.specs.Fork.{max_fork, max_rows};
 ghost use Rattle.fork_bytes.specs.Rows.{Row};
 ghost use Rattle.fork_c.specs.All.{parts_of, parts_in, sizes_in, sizes_of};
-ghost use Rattle.fork_c.specs.Told.{IsRefused, IsShown, name_of, shown_row};
+ghost use Rattle.fork_c.specs.Told.{IsShown, name_of, shown_row};
 
 use crate::rows::{MfRow, name_of, shown_row};
 use crate::told::{read, shown};
 use fork_bytes::table::Row;
-use mac_base::error::{HostFull, NO_ERR, OsErr};
+use mac_base::error::{NO_ERR, OsErr};
 use std::alloc::Global;
 
 /// How many resources a fork has, and how many bytes their names and their data have, all together.
@@ -22,21 +22,13 @@ pub struct MfSizes {
     pub contents: usize,
 }
 
-/// The rows of a fork, the bytes of all names, one after the other, and those of all data.
-#[derive(Drop)]
-struct Parts {
-    rows: Vec<MfRow>,
-    names: Vec<u8>,
-    contents: Vec<u8>,
-}
-
 /// How much room `mf_rows` needs.
 #[unsafe(no_mangle)]
 pub extern "C" fn mf_sizes(alloc: Global, fork: &[u8], sizes: &mut MfSizes) -> i16
     ensures { IsShown sizes_in fork.now result sizes.old sizes.new }
 {
-    match read_parts(alloc, fork) {
-        Ok(parts) => shown(Ok(sizes_of(&parts)), sizes),
+    match read(alloc, fork) {
+        Ok(table) => shown(Ok(sizes_of(table.rows.as_slice())), sizes),
         Err(code) => code,
     }
 }
@@ -55,65 +47,85 @@ pub extern "C" fn mf_rows(
     ensures { IsShown (parts_in (sizes_of (rows.old, names.old, contents.old))) fork.now result
         (rows.old, names.old, contents.old) (rows.new, names.new, contents.new) }
 {
-    let parts = match read_parts(alloc, fork) {
-        Ok(parts) => parts,
+    let table = match read(alloc, fork) {
+        Ok(table) => table,
         Err(code) => return code,
     };
-    if !fits(&parts, rows.len(), names.len(), contents.len()) {
+    let found = table.rows.as_slice();
+    if !fits(sizes_of(found), rows.len(), names.len(), contents.len()) {
         return OsErr::ParamErr.code();
     }
-    rows.copy_from_slice(&parts.rows);
-    names.copy_from_slice(&parts.names);
-    contents.copy_from_slice(&parts.contents);
+    put_rows(found, rows);
+    put_names(found, names);
+    put_contents(found, contents);
     NO_ERR
 }
 
-/// All resources of a fork, or the code that C is told.
-fn read_parts(alloc: Global, fork: &[u8]) -> Result<Parts, i16>
-    ensures is_fork { IfOk result (λ _. IsFork fork.now) }
-    ensures parts { IfOk result (λ parts. (parts.rows.items, parts.names.items, parts.contents.items) ≡ parts_of (table_of fork.now).rows) }
-    ensures refused { IfErr result (λ code. IsRefused fork.now code) }
+/// How many rows there are, and how many bytes their names and their data have.
+fn sizes_of(rows: &[Row]) -> MfSizes
+    requires few { length rows.now ≤ max_rows }
+    requires small { length (flat_map (λ (row : Row). row.datum) rows.now) ≤ max_fork }
+    ensures { result ≡ sizes_of (parts_of rows.now) }
 {
-    let table = read(alloc, fork)?;
-    match parts_of(alloc, table.rows.as_slice()) {
-        Ok(parts) => Ok(parts),
-        Err(HostFull) => Err(OsErr::MemFullErr.code()),
-    }
-}
-
-/// The parts of these rows.
-fn parts_of(alloc: Global, table: &[Row]) -> Result<Parts, HostFull>
-    ensures rows { IfOk result (λ parts. parts.rows.items ≡ map shown_row table.now) }
-    ensures names { IfOk result (λ parts. parts.names.items ≡ flat_map name_of table.now) }
-    ensures contents { IfOk result (λ parts. parts.contents.items ≡ flat_map (λ (row : Row). row.datum) table.now) }
-{
-    let mut parts = Parts {
-        rows: Vec::new(alloc),
-        names: Vec::new(alloc),
-        contents: Vec::new(alloc),
+    let mut sizes = MfSizes {
+        rows: rows.len(),
+        names: 0,
+        contents: 0,
     };
-    for row in table {
-        parts.rows.push(shown_row(row))?;
-        parts.names.extend_from_slice(name_of(row))?;
-        parts.contents.extend_from_slice(row.datum.as_slice())?;
+    for row in rows {
+        sizes.names += name_of(row).len();
+        sizes.contents += row.datum.as_slice().len();
     }
-    Ok(parts)
+    sizes
 }
 
-/// How many rows and bytes there are.
-fn sizes_of(parts: &Parts) -> MfSizes
-    ensures { result ≡ sizes_of (parts.now.rows.items, parts.now.names.items, parts.now.contents.items) }
+/// Whether there is room for just so many rows and bytes.
+fn fits(sizes: MfSizes, rows: usize, names: usize, contents: usize) -> bool
+    ensures { result ≡ ((sizes.rows == rows) && (sizes.names == names) && (sizes.contents == contents)) }
 {
-    MfSizes {
-        rows: parts.rows.len(),
-        names: parts.names.len(),
-        contents: parts.contents.len(),
+    sizes.rows == rows && sizes.names == names && sizes.contents == contents
+}
+
+/// Puts the rows as C is shown them.
+fn put_rows(found: &[Row], rows: &mut [MfRow])
+    requires { length rows.old ≡ length found.now }
+    ensures { rows.new ≡ map shown_row found.now }
+{
+    for i in 0..found.len() {
+        rows[i] = shown_row(&found[i]);
     }
 }
 
-/// Whether there are just so many rows and bytes.
-fn fits(parts: &Parts, rows: usize, names: usize, contents: usize) -> bool
-    ensures { result ≡ ((length parts.now.rows.items == rows) && (length parts.now.names.items == names) && (length parts.now.contents.items == contents)) }
+/// Puts the bytes of all names, one after the other.
+fn put_names(found: &[Row], names: &mut [u8])
+    requires { length names.old ≡ length (flat_map name_of found.now) }
+    ensures { names.new ≡ flat_map name_of found.now }
 {
-    parts.rows.len() == rows && parts.names.len() == names && parts.contents.len() == contents
+    let mut at = 0;
+    for row in found {
+        let name = name_of(row);
+        put(name, names, at);
+        at += name.len();
+    }
+}
+
+/// Puts the bytes of all data, one after the other.
+fn put_contents(found: &[Row], contents: &mut [u8])
+    requires { length contents.old ≡ length (flat_map (λ (row : Row). row.datum) found.now) }
+    ensures { contents.new ≡ flat_map (λ (row : Row). row.datum) found.now }
+{
+    let mut at = 0;
+    for row in found {
+        let datum = row.datum.as_slice();
+        put(datum, contents, at);
+        at += datum.len();
+    }
+}
+
+/// Puts bytes over others, from a place on.
+fn put(bytes: &[u8], others: &mut [u8], at: usize)
+    requires { at + length bytes.now ≤ length others.old }
+    ensures { others.new ≡ take at others.old ++ (bytes.now ++ drop (at + length bytes.now) others.old) }
+{
+    others[at..at + bytes.len()].copy_from_slice(bytes);
 }

@@ -9,8 +9,7 @@ ghost use Rattle.fork_c.specs.Told.{extra_of};
 
 use crate::rows::{MfRow, MfType};
 use bitflags::Flags;
-use fork_bytes::table::{Row, Rows, Table};
-use mac_base::bytes::Bytes;
+use fork_bytes::table::{Contents, Row, Rows, Table};
 use mac_base::error::HostFull;
 use mac_base::name::{MAX_NAME, Name};
 use mac_base::resource::{ResAttrs, ResType, Resource};
@@ -36,13 +35,13 @@ pub(crate) fn extra_of(table: &Table) -> MfExtra
 
 /// The table that C gives, or None where it gives none: a name or a datum isn't there, bytes are left over, or rows of one type
 /// stand apart.
-pub(crate) fn table_given(
+pub(crate) fn table_given<'a>(
     alloc: Global,
     rows: &[MfRow],
     names: &[u8],
-    contents: &[u8],
+    contents: &'a [u8],
     extra: &MfExtra,
-) -> Result<Option<Table>, HostFull>
+) -> Result<Option<Table<'a>>, HostFull>
     ensures { IfOk result (λ table. table ≡ table_given extra.now (rows_given rows.now names.now contents.now)) }
 {
     let Some(rows) = rows_given(alloc, rows, names, contents)? else {
@@ -59,12 +58,12 @@ pub(crate) fn table_given(
 }
 
 /// The rows that C gives, or None where a name or a datum isn't there, or bytes are left over.
-fn rows_given(
+fn rows_given<'a>(
     alloc: Global,
     rows: &[MfRow],
     names: &[u8],
-    contents: &[u8],
-) -> Result<Option<Rows>, HostFull>
+    contents: &'a [u8],
+) -> Result<Option<Rows<'a>>, HostFull>
     ensures { IfOk result (λ given. given ≡ rows_given rows.now names.now contents.now) }
 {
     let mut given = Vec::new(alloc);
@@ -80,11 +79,13 @@ fn rows_given(
         names_left = other_names;
         data_left = other_data;
     }
-    if names_left.is_empty() && data_left.is_empty() {
-        Ok(Some(Rows::new(given)))
-    } else {
-        Ok(None)
+    if !names_left.is_empty() {
+        return Ok(None);
     }
+    if !data_left.is_empty() {
+        return Ok(None);
+    }
+    Ok(Some(Rows::new(given)))
 }
 
 /// Whether the bytes of a row's name and of its data begin these. A name has 255 bytes at most, and none where the row has no name.
@@ -96,28 +97,23 @@ fn has_parts(row: &MfRow, names: &[u8], contents: &[u8]) -> bool
 }
 
 /// The row with this name and these data.
-fn row_given(alloc: Global, row: &MfRow, name: &[u8], datum: &[u8]) -> Result<Row, HostFull>
+fn row_given<'a>(
+    alloc: Global,
+    row: &MfRow,
+    name: &[u8],
+    datum: &'a [u8],
+) -> Result<Row<'a>, HostFull>
     requires { length name.now ≤ 255 }
     ensures { IfOk result (λ given. given ≡ row_given row.now name.now datum.now) }
 {
     let name = Name::new(alloc, name)?;
-    let datum = Bytes::new(copied(alloc, datum)?);
     Ok(Resource {
         kind: type_given(row.kind),
         id: row.id,
         name: if row.has_name { name } else { None },
         attributes: ResAttrs::from_bits_retain(row.attributes),
-        datum,
+        datum: Contents::new(datum),
     })
-}
-
-/// A copy of bytes.
-fn copied(alloc: Global, bytes: &[u8]) -> Result<Vec<u8>, HostFull>
-    ensures { IfOk result (λ copy. copy.items ≡ bytes.now) }
-{
-    let mut copy = Vec::new(alloc);
-    copy.extend_from_slice(bytes)?;
-    Ok(copy)
 }
 
 /// The type of four bytes.

@@ -1,6 +1,6 @@
 //! A resource as C is shown it.
 
-ghost use Rattle.std.specs.Prelude.{◌≡◌, length};
+ghost use Rattle.std.specs.Prelude.{◌≡◌, ◌≤◌, length};
 ghost use Rattle.fork_c.specs.Told.{Shows, data_in, name_in, name_of, shown_in, shown_row, shown_type};
 
 use crate::told::copied;
@@ -92,8 +92,9 @@ pub(crate) fn data_at(rows: &[Row], index: usize, bytes: &mut [u8]) -> i16
 }
 
 /// The bytes of a resource's name: none where it has no name.
-pub(crate) fn name_of(row: &Row) -> &[u8]
-    ensures { result.now ≡ name_of row.now }
+pub(crate) fn name_of<'r>(row: &'r Row) -> &'r [u8]
+    ensures bytes { result.now ≡ name_of row.now }
+    ensures short { length (name_of row.now) ≤ 255 }
 {
     match &row.name {
         Some(name) => name.as_slice(),

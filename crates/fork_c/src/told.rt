@@ -1,7 +1,9 @@
 //! What C is told.
 
-ghost use Rattle.std.specs.Prelude.{◌≡◌, length, IfOk, IfErr};
-ghost use Rattle.fork_bytes.specs.Fork.{StandsFor};
+ghost use Rattle.std.specs.Prelude.{◌≡◌, ◌≤◌, length, IfOk, IfErr};
+ghost use Rattle.std.specs.List.{flat_map};
+ghost use Rattle.fork_bytes.specs.Fork.{max_fork, max_rows, StandsFor};
+ghost use Rattle.fork_bytes.specs.Rows.{Row};
 ghost use Rattle.fork_c.specs.Told.{IsRefused, Shows, code_of_fault, sized};
 
 use fork_bytes::fault::ForkFault;
@@ -11,8 +13,10 @@ use mac_base::error::{NO_ERR, OsErr};
 use std::alloc::Global;
 
 /// The table that bytes stand for, or the code that C is told.
-pub(crate) fn read(alloc: Global, fork: &[u8]) -> Result<Table, i16>
+pub(crate) fn read<'a>(alloc: Global, fork: &'a [u8]) -> Result<Table<'a>, i16>
     ensures table { IfOk result (λ table. StandsFor fork.now table) }
+    ensures few { IfOk result (λ table. length table.rows ≤ max_rows) }
+    ensures small { IfOk result (λ table. length (flat_map (λ (row : Row). row.datum) table.rows) ≤ max_fork) }
     ensures refused { IfErr result (λ code. IsRefused fork.now code) }
 {
     match read_fork(alloc, fork) {

@@ -1,8 +1,8 @@
 -- The calls on a file with their answers, and which answers an honest file gives.
-use Rattle.std.specs.Prelude.{◌≡◌, ⊤, ℕ, zero, suc, ◌==◌, Bool, true, false, List, [], ◌∷◌, length, take, slice_index, IsTrue}
+use Rattle.std.specs.Prelude.{◌≡◌, ⊤, ℕ, zero, suc, ◌==◌, Bool, true, false, List, [], ◌∷◌, length, take, slice_index, IsTrue, Result, Ok, Err}
 use Rattle.fork_disk.specs.Disk.{bytes_at, put_at, Torn, CutShort}
 
--- A call with its answer, as it is noted: which call, an offset or a length, 1 for success, and what else the file's owner notes; and bytes.
+-- A call with its answer, as it is noted: which call, an offset or a length, 1 for success, and which file it was; and bytes.
 abbrev pub Event : Type 0
 Event = List ℕ × List ℕ
 
@@ -15,6 +15,29 @@ number_of e = slice_index e.0 1
 
 abbrev pub is_done : Event → Bool
 is_done e = slice_index e.0 2 == 1
+
+-- whether a call succeeded, as it is noted
+abbrev pub done : {T E : Type 0} → Result T E → ℕ
+done (Ok value) = 1
+done (Err fault) = 0
+
+-- the calls as they are noted, each with its answer, and of which file it was
+abbrev pub len_event : {E : Type 0} → ℕ → Result ℕ E → Event
+len_event which (Ok len) = (0 ∷ len ∷ 1 ∷ which ∷ [], [])
+len_event which (Err fault) = (0 ∷ 0 ∷ 0 ∷ which ∷ [], [])
+
+abbrev pub read_event : {T E : Type 0} → ℕ → ℕ → List ℕ → Result T E → Event
+read_event which at buffer (Ok value) = (1 ∷ at ∷ 1 ∷ which ∷ [], buffer)
+read_event which at buffer (Err fault) = (1 ∷ at ∷ 0 ∷ which ∷ [], [])
+
+abbrev pub write_event : {T E : Type 0} → ℕ → ℕ → List ℕ → Result T E → Event
+write_event which at bytes result = (2 ∷ at ∷ done result ∷ which ∷ [], bytes)
+
+abbrev pub cut_event : {T E : Type 0} → ℕ → ℕ → Result T E → Event
+cut_event which len result = (3 ∷ len ∷ done result ∷ which ∷ [], [])
+
+abbrev pub sync_event : {T E : Type 0} → ℕ → Result T E → Event
+sync_event which result = (4 ∷ 0 ∷ done result ∷ which ∷ [], [])
 
 -- The answer of a call fits a file that held the old bytes before it and holds the new ones after it. A call that failed tells nothing
 -- of the bytes; a write or a cut that failed may have been done in part.

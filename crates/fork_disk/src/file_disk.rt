@@ -9,16 +9,6 @@ use crate::record::FileCalls;
 use crate::world::World;
 use std::marker::PhantomData;
 
-const MEASURED: u64 = 0;
-
-const READ: u64 = 1;
-
-const WRITTEN: u64 = 2;
-
-const CUT: u64 = 3;
-
-const SYNCED: u64 = 4;
-
 /// A disk that is a file. Each call of the system is noted with its answer, in a record that only clauses read. The disk is honest
 /// where these answers are those of the file that its world tells of, so that nobody else wrote it. Each fault of the system is
 /// counted, and so is a read that ends past the end.
@@ -57,39 +47,22 @@ impl<W: World> ForkDisk for FileDisk<W> {
     ghost failures = { λ disk. disk.file.failures };
 
     fn len(&mut self) -> Result<u64, DiskFault> {
-        let answer = self.file.len();
-        match answer {
-            Ok(len) => self.log.note(&[MEASURED, len, 1], &[]),
-            Err(_) => self.log.note(&[MEASURED, 0, 0], &[]),
-        }
-        answer
+        self.file.len(&mut self.log)
     }
 
     fn read_at(&mut self, at: u64, buffer: &mut [u8]) -> Result<(), DiskFault> {
-        let answer = self.file.read_at(at, buffer);
-        match answer {
-            Ok(()) => self.log.note(&[READ, at, 1], buffer),
-            Err(_) => self.log.note(&[READ, at, 0], &[]),
-        }
-        answer
+        self.file.read_at(at, buffer, &mut self.log)
     }
 
     fn write_at(&mut self, at: u64, bytes: &[u8]) -> Result<(), DiskFault> {
-        let answer = self.file.write_at(at, bytes);
-        self.log
-            .note(&[WRITTEN, at, u64::from(answer.is_ok())], bytes);
-        answer
+        self.file.write_at(at, bytes, &mut self.log)
     }
 
     fn cut(&mut self, len: u64) -> Result<(), DiskFault> {
-        let answer = self.file.cut(len);
-        self.log.note(&[CUT, len, u64::from(answer.is_ok())], &[]);
-        answer
+        self.file.cut(len, &mut self.log)
     }
 
     fn sync(&mut self) -> Result<(), DiskFault> {
-        let answer = self.file.sync();
-        self.log.note(&[SYNCED, 0, u64::from(answer.is_ok())], &[]);
-        answer
+        self.file.sync(&mut self.log)
     }
 }

@@ -47,7 +47,7 @@ pub type FileCalls = Record<(LinkedList<u64>, LinkedList<u8>)>;
 
 impl FileCalls {
     /// Notes a call with its answer.
-    pub fn note(&mut self, numbers: &[u64], bytes: &[u8])
+    pub(crate) fn note(&mut self, numbers: &[u64], bytes: &[u8])
         ensures { self.new.events ≡ (numbers.now, bytes.now) ∷ self.old.events }
     {
         *self = Record::of_events_beside(self, &numbers, &bytes);

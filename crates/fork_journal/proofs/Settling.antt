@@ -2,6 +2,8 @@
 use Rattle.std.proofs.Common.{◌≡◌, ◌⊎◌, inl, inr, ℕ, ◌+◌, ◌<◌, ◌^◌, ◌==◌, ◌&&◌, ◌||◌, Bool, true, false, nat_le, if◌then◌else◌, List, [], ◌∷◌, length, take, drop, get_or, refl, sym, ◌∙◌, ap, arith, length-append}
 use Rattle.std.proofs.lemmas.List.{get_or-take, take_all}
 use Rattle.std.proofs.lemmas.Bool.Decides.{nat_tests}
+use Rattle.std.proofs.lemmas.Bool.{and_left}
+use Rattle.std.proofs.Math.Bool.{and-false}
 use Rattle.fork_journal.specs.Crash.{Contents}
 use Rattle.byteorder.specs.Endian.{big_bytes, big_number}
 use Rattle.byteorder.specs.Numbers.{big_number-reads_back}
@@ -37,19 +39,11 @@ pub settled_at : (c : Contents) (journal : Bytes) → c.journal ≡ journal → 
 settled_at c journal is usable =
     settled_usable c (ap is_usable is ∙ usable) ∙ ap (λ (j : Bytes). fork_in (drop 1 j)) is
 
--- a shut gate
-shut_and : (gate whole : Bool) → gate ≡ false → (gate && whole) ≡ false
-shut_and gate whole shut = ap (λ (g : Bool). g && whole) shut
-
 pub unusable_shut : (journal : Bytes) → is_open journal ≡ false → is_usable journal ≡ false
-unusable_shut journal shut = shut_and (is_open journal) (is_whole (drop 1 journal)) shut
-
-and_false : (gate : Bool) → (gate && false) ≡ false
-and_false true = refl
-and_false false = refl
+unusable_shut journal shut = and_left (is_open journal) (is_whole (drop 1 journal)) shut
 
 pub unusable_short : (journal : Bytes) → is_whole (drop 1 journal) ≡ false → is_usable journal ≡ false
-unusable_short journal short = ap (λ (w : Bool). is_open journal && w) short ∙ and_false (is_open journal)
+unusable_short journal short = ap (λ (w : Bool). is_open journal && w) short ∙ and-false (is_open journal)
 
 -- an unusable journal whose gate has to be shut has no whole text
 nothing_whole : is_whole [] ≡ false

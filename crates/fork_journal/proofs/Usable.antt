@@ -1,7 +1,8 @@
 -- Whether a journal is usable, read off its first bytes and its length.
-use Rattle.std.proofs.Common.{◌≡◌, ◌≢◌, ℕ, ◌+◌, ◌≤◌, ◌<◌, ◌==◌, ◌&&◌, ◌||◌, Bool, true, false, if◌then◌else◌, List, [], ◌∷◌, length, take, drop, get_or, refl, sym, ◌∙◌, ap, arith}
+use Rattle.std.proofs.Common.{◌≡◌, ◌≢◌, ℕ, ◌+◌, ◌≤◌, ◌<◌, ◌==◌, ◌||◌, Bool, true, false, if◌then◌else◌, List, [], ◌∷◌, length, take, drop, get_or, refl, sym, ◌∙◌, ap, arith}
 use Rattle.std.proofs.lemmas.Bool.Decides.{nat_tests}
 use Rattle.std.proofs.lemmas.List.{drop-drop, length-drop, length-take-le}
+use Rattle.std.proofs.lemmas.Bool.{and_from}
 use Rattle.fork_disk.specs.Disk.{bytes_at}
 use Rattle.byteorder.specs.Endian.{big_number}
 use Rattle.fork_journal.specs.Form.{is_whole, fork_in, is_open, is_usable, must_shut}
@@ -40,10 +41,6 @@ unfolding fork_in
 taken journal told is =
     ap (λ (n : ℕ). take n (drop 5 journal)) is ∙ ap (λ (l : Bytes). take (big_number 4 (drop 1 journal)) l) (sym (drop-drop 4 1 journal))
 
-both : (a b : Bool) → a ≡ true → b ≡ true → (a && b) ≡ true
-both true b first second = second
-both false b first second = absurd (cc)
-
 gate_open : (gate : ℕ) → gate ≡ 1 → (gate == 1) ≡ true
 gate_open gate is = grind (arith, nat_tests)
 
@@ -72,7 +69,7 @@ module _ (journal head : Bytes) (n told : ℕ) (is : n ≡ length journal) (enou
   pub usable_whole : 5 + told ≤ n → get_or head 0 0 ≡ 1 → is_usable journal ≡ true
   usable_whole long gate =
       let gate_is : get_or journal 0 0 ≡ 1 = sym (same_gate journal (omega arith)) ∙ ap (λ (h : Bytes). get_or h 0 0) (sym reads) ∙ gate in
-      both (is_open journal) (is_whole (drop 1 journal)) (gate_open (get_or journal 0 0) gate_is)
+      and_from (is_open journal) (is_whole (drop 1 journal)) (gate_open (get_or journal 0 0) gate_is)
       (whole_text (drop 1 journal) told tells_so (omega (arith, length-drop 1 journal)))
 
   pub fork_read : bytes_at told 5 journal ≡ fork_in (drop 1 journal)

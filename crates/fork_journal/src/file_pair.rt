@@ -11,16 +11,6 @@ use fork_disk::disk::DiskFault;
 use fork_disk::{FileCalls, HostFile};
 use std::marker::PhantomData;
 
-const MEASURED: u64 = 0;
-
-const READ: u64 = 1;
-
-const WRITTEN: u64 = 2;
-
-const CUT: u64 = 3;
-
-const SYNCED: u64 = 4;
-
 /// A fork and its journal that are two files. Each call of the system is noted with its answer, in one record for both, that only
 /// clauses read. The pair is honest where these answers are those of the files that its world tells of, so that nobody else wrote them.
 /// The two are one device: their faults are one count, and a machine that stops, stops both. After a sync that failed, each sync of that
@@ -33,6 +23,7 @@ pub struct FilePair<W: PairWorld> {
     number: u64,
     log: FileCalls,
     world: PhantomData<W>,
+    ghost sides: { (side_at fork.which ≡ Fork) × (side_at journal.which ≡ Journal) },
     ghost fork_trusted: { fork.is_spent ≡ false → has_failed Fork (history_of (W.held number) log.events) ≡ false },
     ghost journal_trusted: { journal.is_spent ≡ false → has_failed Journal (history_of (W.held number) log.events) ≡ false },
 }
@@ -41,28 +32,18 @@ impl<W: PairWorld> FilePair<W> {
     /// The pair of two files, which must not be the same one, and of which nothing was asked so far. No other pair of this world may
     /// have its number.
     pub fn new(fork: HostFile, journal: HostFile, number: u64) -> FilePair<W>
-        ensures fork { result.fork ≡ fork }
-        ensures journal { result.journal ≡ journal }
+        ensures fork { result.fork ≡ record fork { which = 0 } }
+        ensures journal { result.journal ≡ record journal { which = 1 } }
         ensures number { result.number ≡ number }
         ensures start { result.log.events ≡ [] }
     {
         FilePair {
-            fork,
-            journal,
+            fork: fork.numbered(0),
+            journal: journal.numbered(1),
             number,
             log: FileCalls::new(),
             world: PhantomData,
         }
-    }
-}
-
-/// The number of a side, as it is noted.
-fn noted(side: Side) -> u64
-    ensures { side_at result ≡ side }
-{
-    match side {
-        Side::Fork => 0,
-        Side::Journal => 1,
     }
 }
 
@@ -78,58 +59,37 @@ impl<W: PairWorld> PairDisk for FilePair<W> {
     ghost reads_is_outcome = { λ pair honest. reads_outcome (W.held pair.number) pair.log.events honest };
 
     fn len(&mut self, side: Side) -> Result<u64, DiskFault> {
-        let answer = match side {
-            Side::Fork => self.fork.len(),
-            Side::Journal => self.journal.len(),
-        };
-        match answer {
-            Ok(len) => self.log.note(&[MEASURED, len, 1, noted(side)], &[]),
-            Err(_) => self.log.note(&[MEASURED, 0, 0, noted(side)], &[]),
+        match side {
+            Side::Fork => self.fork.len(&mut self.log),
+            Side::Journal => self.journal.len(&mut self.log),
         }
-        answer
     }
 
     fn read_at(&mut self, side: Side, at: u64, buffer: &mut [u8]) -> Result<(), DiskFault> {
-        let answer = match side {
-            Side::Fork => self.fork.read_at(at, buffer),
-            Side::Journal => self.journal.read_at(at, buffer),
-        };
-        match answer {
-            Ok(()) => self.log.note(&[READ, at, 1, noted(side)], buffer),
-            Err(_) => self.log.note(&[READ, at, 0, noted(side)], &[]),
+        match side {
+            Side::Fork => self.fork.read_at(at, buffer, &mut self.log),
+            Side::Journal => self.journal.read_at(at, buffer, &mut self.log),
         }
-        answer
     }
 
     fn write_at(&mut self, side: Side, at: u64, bytes: &[u8]) -> Result<(), DiskFault> {
-        let answer = match side {
-            Side::Fork => self.fork.write_at(at, bytes),
-            Side::Journal => self.journal.write_at(at, bytes),
-        };
-        self.log.note(
-            &[WRITTEN, at, u64::from(answer.is_ok()), noted(side)],
-            bytes,
-        );
-        answer
+        match side {
+            Side::Fork => self.fork.write_at(at, bytes, &mut self.log),
+            Side::Journal => self.journal.write_at(at, bytes, &mut self.log),
+        }
     }
 
     fn cut(&mut self, side: Side, len: u64) -> Result<(), DiskFault> {
-        let answer = match side {
-            Side::Fork => self.fork.cut(len),
-            Side::Journal => self.journal.cut(len),
-        };
-        self.log
-            .note(&[CUT, len, u64::from(answer.is_ok()), noted(side)], &[]);
-        answer
+        match side {
+            Side::Fork => self.fork.cut(len, &mut self.log),
+            Side::Journal => self.journal.cut(len, &mut self.log),
+        }
     }
 
     fn sync(&mut self, side: Side) -> Result<(), DiskFault> {
-        let answer = match side {
-            Side::Fork => self.fork.settle(),
-            Side::Journal => self.journal.settle(),
-        };
-        self.log
-            .note(&[SYNCED, 0, u64::from(answer.is_ok()), noted(side)], &[]);
-        answer
+        match side {
+            Side::Fork => self.fork.settle(&mut self.log),
+            Side::Journal => self.journal.settle(&mut self.log),
+        }
     }
 }

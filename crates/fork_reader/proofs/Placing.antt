@@ -8,9 +8,10 @@ use Rattle.std.proofs.Math.Seq.{take-append-add}
 use Rattle.std.proofs.lemmas.List.Sums.{sum_by-cons}
 use Rattle.byteorder.specs.Numbers.{big_from-take}
 use Rattle.fork_bytes.specs.declared.layout.Header.{Header}
+use Rattle.fork_bytes.specs.declared.layout.Limits.{Limits}
 use Rattle.fork_bytes.specs.Rows.{Row, MapRow}
-use Rattle.fork_bytes.specs.Fork.{number_at, bytes_at, header_of, data_of, datum_length, row_with, HasParts, HasData, HasFewBytes, max_fork}
-use Rattle.fork_reader.specs.Reading.{PlacedRow, placed, placed_row, row_at, HasDatum, IsWithin, AreFewBytes}
+use Rattle.fork_bytes.specs.Fork.{number_at, bytes_at, header_of, data_of, datum_length, row_with, HasData, HasFewBytesWithin}
+use Rattle.fork_reader.specs.Reading.{PlacedRow, placed, placed_row, row_at, HasDatum, IsWithin, AreFewBytesWithin}
 
 -- the bytes from an offset in a part on are those of the whole from behind both offsets
 part_from : (n m at start : ℕ) (bytes : List ℕ) → at ≤ m → drop at (bytes_at m start bytes) ≡ take (m - at) (drop (start + at) bytes)
@@ -28,12 +29,16 @@ pub bytes_in_part : (n m at start : ℕ) (bytes : List ℕ) → at + n ≤ m →
 bytes_in_part n m at start bytes within =
     ap (take n) (part_from n m at start bytes (omega arith)) ∙ take-take n (m - at) (drop (start + at) bytes) (omega arith)
 
+-- the data lie within the fork, where the header says
+abbrev pub HasWholeData : List ℕ → Header → Type 0
+HasWholeData fork header = header.data_offset + header.data_length ≤ length fork
+
 -- a part has as many bytes as it says
 pub length-part : (n start : ℕ) (bytes : List ℕ) → start + n ≤ length bytes → length (bytes_at n start bytes) ≡ n
 length-part n start bytes within = let rest = length-drop start bytes in length-take-le n (drop start bytes) (omega arith)
 
-pub length-data : (fork : List ℕ) → HasParts (length fork) (header_of fork) → length (data_of fork) ≡ (header_of fork).data_length
-length-data fork parts = length-part (header_of fork).data_length (header_of fork).data_offset fork parts.whole_data
+pub length-data : (fork : List ℕ) → HasWholeData fork (header_of fork) → length (data_of fork) ≡ (header_of fork).data_length
+length-data fork parts = length-part (header_of fork).data_length (header_of fork).data_offset fork parts
 
 -- the length of a datum, where the fork has it
 pub datum_in_fork : (fork : List ℕ) (at : ℕ) → at + 4 ≤ (header_of fork).data_length →
@@ -51,13 +56,13 @@ with_bytes : (row : MapRow) (a b : List ℕ) → a ≡ b →
     ≡ record { kind = row.kind; id = row.id; name = row.name; attributes = row.attributes; datum = b }
 with_bytes row a b is = ap (λ (bytes : List ℕ). record { kind = row.kind; id = row.id; name = row.name; attributes = row.attributes; datum = bytes }) is
 
-pub row_is_at : (fork : List ℕ) → HasParts (length fork) (header_of fork) → (row : MapRow) → HasDatum (data_of fork) row → row_with (data_of fork) row ≡ row_at fork (placed_row fork row)
+pub row_is_at : (fork : List ℕ) → HasWholeData fork (header_of fork) → (row : MapRow) → HasDatum (data_of fork) row → row_with (data_of fork) row ≡ row_at fork (placed_row fork row)
 row_is_at fork parts row has =
     let long = length-data fork parts in
     let within : row.datum + 4 + datum_length (data_of fork) row.datum ≤ (header_of fork).data_length = omega (arith, has.1, long) in
     with_bytes row _ _ (bytes_of_datum (datum_length (data_of fork) row.datum) row.datum (header_of fork).data_length (header_of fork).data_offset fork within)
 
-pub rows_are_at : (fork : List ℕ) → HasParts (length fork) (header_of fork) → (rows : List MapRow) → HasData (data_of fork) rows →
+pub rows_are_at : (fork : List ℕ) → HasWholeData fork (header_of fork) → (rows : List MapRow) → HasData (data_of fork) rows →
     map (row_with (data_of fork)) rows ≡ map (row_at fork) (map (placed_row fork) rows)
 rows_are_at fork parts [] has = refl
 rows_are_at fork parts (row ∷ rows) has =
@@ -65,11 +70,11 @@ rows_are_at fork parts (row ∷ rows) has =
     ∙ ap (λ (rest : List Row). row_at fork (placed_row fork row) ∷ rest) (rows_are_at fork parts rows has.1)
 
 -- those places lie within the fork
-pub row_is_within : (fork : List ℕ) → HasParts (length fork) (header_of fork) → (row : MapRow) → HasDatum (data_of fork) row → IsWithin fork (placed_row fork row)
+pub row_is_within : (fork : List ℕ) → HasWholeData fork (header_of fork) → (row : MapRow) → HasDatum (data_of fork) row → IsWithin fork (placed_row fork row)
 row_is_within fork parts row has =
-    let long = length-data fork parts in let whole = parts.whole_data in let last = has.1 in omega arith
+    let long = length-data fork parts in let whole = parts in let last = has.1 in omega arith
 
-pub rows_are_within : (fork : List ℕ) → HasParts (length fork) (header_of fork) → (rows : List MapRow) → HasData (data_of fork) rows →
+pub rows_are_within : (fork : List ℕ) → HasWholeData fork (header_of fork) → (rows : List MapRow) → HasData (data_of fork) rows →
     AllByRecursion (IsWithin fork) (map (placed_row fork) rows)
 rows_are_within fork parts [] has = tt
 rows_are_within fork parts (row ∷ rows) has = (row_is_within fork parts row has.0, rows_are_within fork parts rows has.1)
@@ -83,11 +88,11 @@ sum_of_places fork (row ∷ rows) =
     ∙ ap (λ (n : ℕ). 4 + datum_length (data_of fork) row.datum + n) (sum_of_places fork rows)
     ∙ sym (sum_by-cons (λ (r : MapRow). 4 + datum_length (data_of fork) r.datum) row rows)
 
-pub few_from_placed : (fork : List ℕ) (rows : List MapRow) → AreFewBytes (map (placed_row fork) rows) → HasFewBytes (data_of fork) rows
-few_from_placed fork rows few = let P : ℕ → Type 0 = λ n. n ≤ max_fork in subst P (sum_of_places fork rows) few
+pub few_from_placed : (limits : Limits) (fork : List ℕ) (rows : List MapRow) → AreFewBytesWithin limits (map (placed_row fork) rows) → HasFewBytesWithin limits (data_of fork) rows
+few_from_placed limits fork rows few = let P : ℕ → Type 0 = λ n. n ≤ limits.bytes in subst P (sum_of_places fork rows) few
 
-pub few_to_placed : (fork : List ℕ) (rows : List MapRow) → HasFewBytes (data_of fork) rows → AreFewBytes (map (placed_row fork) rows)
-few_to_placed fork rows few = let P : ℕ → Type 0 = λ n. n ≤ max_fork in subst P (sym (sum_of_places fork rows)) few
+pub few_to_placed : (limits : Limits) (fork : List ℕ) (rows : List MapRow) → HasFewBytesWithin limits (data_of fork) rows → AreFewBytesWithin limits (map (placed_row fork) rows)
+few_to_placed limits fork rows few = let P : ℕ → Type 0 = λ n. n ≤ limits.bytes in subst P (sym (sum_of_places fork rows)) few
 
 -- bytes with zeros behind them, up to 240
 pub extra_is : (behind front : List ℕ) (count : ℕ) → count ≡ min (length behind) 240 → front ≡ take count behind →
@@ -109,10 +114,10 @@ extra_is behind front count is same =
         ∙ sym (take-append-add behind (replicate 240 0) (240 - length behind)) ∙ ap (λ (k : ℕ). take k (behind ++ replicate 240 0)) split
 
 -- a row has no datum where the length of its bytes ends outside the data
-pub length_outside : (fork : List ℕ) (header : Header) (row : MapRow) → header ≡ header_of fork → HasParts (length fork) header → (row.datum + 4 ≤ header.data_length → ⊥) →
+pub length_outside : (fork : List ℕ) (header : Header) (row : MapRow) → header ≡ header_of fork → HasWholeData fork header → (row.datum + 4 ≤ header.data_length → ⊥) →
     HasDatum (data_of fork) row → ⊥
 length_outside fork header row is parts outside has =
-    let P : Header → Type 0 = HasParts (length fork) in
+    let P : Header → Type 0 = HasWholeData fork in
     let long = length-data fork (subst P is parts) in let same = ap (λ (h : Header). h.data_length) is in
     let first = has.0 in outside (omega arith)
 
@@ -127,10 +132,10 @@ placed_in_fork fork header row count at is place inside read =
     ∙ ap (λ (n : ℕ). placed (header_of fork) n row) (read ∙ ap (λ (k : ℕ). number_at 4 k fork) (place ∙ start) ∙ sym known)
 
 -- a row has its datum exactly where its bytes end within the data
-pub datum_within : (fork : List ℕ) (header : Header) (row : MapRow) (count at : ℕ) → header ≡ header_of fork → HasParts (length fork) header → at ≡ header.data_offset + row.datum →
+pub datum_within : (fork : List ℕ) (header : Header) (row : MapRow) (count at : ℕ) → header ≡ header_of fork → HasWholeData fork header → at ≡ header.data_offset + row.datum →
     row.datum + 4 ≤ header.data_length → count ≡ number_at 4 at fork → (row.datum + 4 + count ≤ header.data_length) ↔ HasDatum (data_of fork) row
 datum_within fork header row count at is parts place inside read =
-    let P : Header → Type 0 = HasParts (length fork) in
+    let P : Header → Type 0 = HasWholeData fork in
     let long = length-data fork (subst P is parts) in let same = ap (λ (h : Header). h.data_length) is in
     let known = ap (λ (r : PlacedRow). r.datum.length) (placed_in_fork fork header row count at is place inside read) in
     (λ within. (omega arith, omega arith), λ has. (let last = has.1 in omega arith))

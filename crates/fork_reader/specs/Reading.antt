@@ -5,8 +5,9 @@ use Rattle.fork_bytes.specs.declared.fault.Condition.TheVariants.{Parts, Types, 
 use Rattle.fork_bytes.specs.declared.fault.ForkFault.{ForkFault}
 use Rattle.fork_bytes.specs.declared.fault.ForkFault.TheVariants.{EndOfFile, BadMap, HostFull}
 use Rattle.fork_bytes.specs.declared.layout.Header.{Header}
+use Rattle.fork_bytes.specs.declared.layout.Limits.{Limits}
 use Rattle.fork_bytes.specs.Rows.{Row, MapRow}
-use Rattle.fork_bytes.specs.Fork.{bytes_at, header_of, data_of, map_of, type_list, type_count, TypeEntry, Reference, name_place, entries_of, references_in, map_row, map_rows, datum_length, max_fork, HasTypes, HasReferences, HasFewRows, HasNames, rank}
+use Rattle.fork_bytes.specs.Fork.{bytes_at, header_of, data_of, map_of, type_list, type_count, TypeEntry, Reference, name_place, entries_of, references_in, map_row, map_rows, datum_length, macheap_limits, HasTypes, HasReferences, HasFewRowsWithin, HasNames, rank}
 use Rattle.mac_base.specs.declared.resource.Resource.{Resource}
 use Rattle.fork_reader.specs.declared.place.Place.{Place}
 use Rattle.fork_reader.specs.declared.types.TypeList.{TypeList}
@@ -53,33 +54,36 @@ abbrev pub IsWithin : List ℕ → PlacedRow → Type 0
 IsWithin fork row = row.datum.offset + row.datum.length ≤ length fork
 
 -- the rows have not too many bytes together, with four of length for each
+abbrev pub AreFewBytesWithin : Limits → List PlacedRow → Type 0
+AreFewBytesWithin limits rows = sum_by (λ (row : PlacedRow). 4 + row.datum.length) rows ≤ limits.bytes
+
 abbrev pub AreFewBytes : List PlacedRow → Type 0
-AreFewBytes rows = sum_by (λ (row : PlacedRow). 4 + row.datum.length) rows ≤ max_fork
+AreFewBytes = AreFewBytesWithin macheap_limits
 
 -- what each condition says of a map alone
-abbrev pub MapHolds : Condition → List ℕ → Type 0
-MapHolds Parts resource_map = ⊤
-MapHolds Types resource_map = HasTypes resource_map
-MapHolds References resource_map = HasReferences resource_map
-MapHolds RowCount resource_map = HasFewRows resource_map
-MapHolds Names resource_map = HasNames resource_map
-MapHolds Places resource_map = ⊤
-MapHolds ByteCount resource_map = ⊤
+abbrev pub MapHoldsWithin : Limits → Condition → List ℕ → Type 0
+MapHoldsWithin limits Parts resource_map = ⊤
+MapHoldsWithin limits Types resource_map = HasTypes resource_map
+MapHoldsWithin limits References resource_map = HasReferences resource_map
+MapHoldsWithin limits RowCount resource_map = HasFewRowsWithin limits resource_map
+MapHoldsWithin limits Names resource_map = HasNames resource_map
+MapHoldsWithin limits Places resource_map = ⊤
+MapHoldsWithin limits ByteCount resource_map = ⊤
 
 -- the bytes are a map: all conditions of a map hold
-abbrev pub IsMap : List ℕ → Type 0
-IsMap resource_map = (condition : Condition) → MapHolds condition resource_map
+abbrev pub IsMapWithin : Limits → List ℕ → Type 0
+IsMapWithin limits resource_map = (condition : Condition) → MapHoldsWithin limits condition resource_map
 
 -- the condition doesn't hold of the map, and those before it do
-pub record MapFailsFirst (resource_map : List ℕ) (condition : Condition) : Type 0 where
-  pub fails : MapHolds condition resource_map → ⊥
-  pub before : (other : Condition) → rank other < rank condition → MapHolds other resource_map
+pub record MapFailsFirstWithin (limits : Limits) (resource_map : List ℕ) (condition : Condition) : Type 0 where
+  pub fails : MapHoldsWithin limits condition resource_map → ⊥
+  pub before : (other : Condition) → rank other < rank condition → MapHoldsWithin limits other resource_map
 
 -- what a fault says of a map
-abbrev pub RefusesMap : List ℕ → ForkFault → Type 0
-RefusesMap resource_map EndOfFile = ⊥
-RefusesMap resource_map (BadMap condition) = MapFailsFirst resource_map condition
-RefusesMap resource_map HostFull = ⊤
+abbrev pub RefusesMapWithin : Limits → List ℕ → ForkFault → Type 0
+RefusesMapWithin limits resource_map EndOfFile = ⊥
+RefusesMapWithin limits resource_map (BadMap condition) = MapFailsFirstWithin limits resource_map condition
+RefusesMapWithin limits resource_map HostFull = ⊤
 
 -- a fault is of this condition, and then this holds; or the host has no memory
 abbrev pub FaultsAt : Condition → Type 0 → ForkFault → Type 0

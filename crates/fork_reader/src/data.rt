@@ -1,11 +1,11 @@
 //! Where in the data the bytes of the rows stand.
 
 ghost use Rattle.std.specs.Prelude.{◌≡◌, ◌<◌, ◌≤◌, ◌+◌, ◌^◌, IfOk, IfErr, OnOk, OnErr};
-ghost use Rattle.fork_reader.specs.Reading.{placed, AreFewBytes};
+ghost use Rattle.fork_reader.specs.Reading.{placed, AreFewBytesWithin};
 
 use crate::place::{Place, PlacedRow};
 use fork_bytes::fault::{Condition, ForkFault};
-use fork_bytes::layout::{Header, MAX_FORK, MapRow};
+use fork_bytes::layout::{Header, Limits, MapRow};
 use mac_base::resource::Resource;
 
 /// Where in the fork the four bytes stand that say how many bytes a row has. The fault is BadMap(Places), exactly where they end
@@ -53,15 +53,15 @@ pub fn place_row(header: Header, row: MapRow, length: u32) -> Result<PlacedRow, 
 }
 
 /// Checks that the rows have not too many bytes together. The fault is BadMap(ByteCount), exactly where they have.
-pub fn check_bytes(rows: &[PlacedRow]) -> Result<(), ForkFault>
-    ensures few { OnOk result (AreFewBytes rows.now) }
-    ensures fails { OnErr result (¬ AreFewBytes rows.now) }
+pub fn check_bytes(rows: &[PlacedRow], limits: Limits) -> Result<(), ForkFault>
+    ensures few { OnOk result (AreFewBytesWithin limits rows.now) }
+    ensures fails { OnErr result (¬ AreFewBytesWithin limits rows.now) }
     ensures fault { IfErr result (λ fault. fault ≡ ForkFault.BadMap Condition.ByteCount) }
 {
     let mut total = 0;
     for row in rows {
         total += 4 + row.datum.length as usize;
-        if total > MAX_FORK {
+        if total > limits.bytes as usize {
             return Err(ForkFault::BadMap(Condition::ByteCount));
         }
     }

@@ -1,11 +1,11 @@
 //! What stands before the data and the map.
 
 ghost use Rattle.std.specs.Prelude.{◌≡◌, ◌<◌, ◌≤◌, ◌++◌, ◌↔◌, length, take, replicate, IfOk, IfErr, OnOk, OnErr, true};
-ghost use Rattle.fork_bytes.specs.Fork.{header_of, HasParts};
+ghost use Rattle.fork_bytes.specs.Fork.{header_of, HasPartsWithin};
 
 use crate::number::read_four;
 use fork_bytes::fault::{Condition, ForkFault};
-use fork_bytes::layout::{Header, MAX_FORK};
+use fork_bytes::layout::{Header, Limits};
 
 /// How many bytes the header has.
 pub const HEADER_LENGTH: usize = 16;
@@ -35,24 +35,24 @@ pub fn read_header(fork: &[u8]) -> Result<Header, ForkFault>
 }
 
 /// Whether the parts lie within a fork of so many bytes.
-fn has_parts(header: Header, fork_length: usize) -> bool
-    ensures { result ≡ true ↔ HasParts fork_length header }
+fn has_parts(header: Header, fork_length: usize, limits: Limits) -> bool
+    ensures { result ≡ true ↔ HasPartsWithin limits fork_length header }
 {
     let data_end = header.data_offset as usize + header.data_length as usize;
     let map_end = header.map_offset as usize + header.map_length as usize;
-    fork_length <= MAX_FORK
+    fork_length <= limits.fork as usize
         && data_end <= fork_length
         && map_end <= fork_length
         && header.map_length >= MAP_HEADER_LENGTH
 }
 
 /// Checks that the parts lie within a fork of so many bytes. The fault is BadMap(Parts) exactly where they don't.
-pub fn check_parts(header: Header, fork_length: usize) -> Result<(), ForkFault>
-    ensures parts { OnOk result (HasParts fork_length header) }
-    ensures fails { OnErr result (¬ HasParts fork_length header) }
+pub fn check_parts(header: Header, fork_length: usize, limits: Limits) -> Result<(), ForkFault>
+    ensures parts { OnOk result (HasPartsWithin limits fork_length header) }
+    ensures fails { OnErr result (¬ HasPartsWithin limits fork_length header) }
     ensures fault { IfErr result (λ fault. fault ≡ ForkFault.BadMap Condition.Parts) }
 {
-    if has_parts(header, fork_length) {
+    if has_parts(header, fork_length, limits) {
         Ok(())
     } else {
         Err(ForkFault::BadMap(Condition::Parts))

@@ -15,4 +15,4 @@ mod types;
 pub use data::{check_bytes, length_place, place_row};
 pub use header::{HEADER_LENGTH, check_parts, extra_bytes, read_header};
 pub use map::{read_attributes, read_map};
-pub use read::read_fork;
+pub use read::{read_fork, read_fork_within};

@@ -4,7 +4,7 @@ ghost use Rattle.std.specs.Prelude.{◌≡◌, ◌<◌, ◌≤◌, ◌+◌, ◌*
 ghost use Rattle.std.specs.Arc.{arc_slice_items};
 ghost use Rattle.std.specs.List.{AllByRecursion};
 ghost use Rattle.fork_bytes.specs.Fork.{attributes_of, map_row, map_rows, references_in, Reference, HasReferences, HasNames};
-ghost use Rattle.fork_reader.specs.Reading.{FaultsAt, HasName, IsMap, IsTypeList, RefusesMap, entry_of, names_end, rows_in};
+ghost use Rattle.fork_reader.specs.Reading.{FaultsAt, HasName, IsMapWithin, IsTypeList, RefusesMapWithin, entry_of, names_end, rows_in};
 
 use crate::grow::push;
 use crate::name::{read_name, share_names};
@@ -12,7 +12,7 @@ use crate::number::{read_signed, read_three, read_two};
 use crate::types::{REFERENCE_LENGTH, TypeEntry, TypeList, check_references, entry, read_types};
 use bitflags::Flags;
 use fork_bytes::fault::{Condition, ForkFault};
-use fork_bytes::layout::MapRow;
+use fork_bytes::layout::{Limits, MapRow};
 use mac_base::resource::{ResAttrs, ResType};
 use std::alloc::Global;
 use std::sync::ArcSlice;
@@ -66,8 +66,13 @@ fn push_rows(
     Ok(())
 }
 
-/// The rows of all types. The fault is BadMap(Names) where a name ends outside the map.
-fn read_rows(alloc: Global, map: &[u8], list: TypeList) -> Result<Vec<MapRow>, ForkFault>
+/// The rows of all types; there is room for so many at first. The fault is BadMap(Names) where a name ends outside the map.
+fn read_rows(
+    alloc: Global,
+    map: &[u8],
+    list: TypeList,
+    count: usize,
+) -> Result<Vec<MapRow>, ForkFault>
     requires list { IsTypeList map.now list }
     requires small { list.offset < 65536 }
     requires references { HasReferences map.now }
@@ -78,7 +83,9 @@ fn read_rows(alloc: Global, map: &[u8], list: TypeList) -> Result<Vec<MapRow>, F
     let Ok(names) = share_names(alloc, map) else {
         return Err(ForkFault::HostFull);
     };
-    let mut rows = Vec::new(alloc);
+    let Ok(mut rows) = Vec::with_capacity(alloc, count) else {
+        return Err(ForkFault::HostFull);
+    };
     for i in 0..list.count {
         push_rows(map, &names, entry(map, list, i), &mut rows)?;
     }
@@ -87,13 +94,13 @@ fn read_rows(alloc: Global, map: &[u8], list: TypeList) -> Result<Vec<MapRow>, F
 
 /// The rows of a map of 28 bytes at least, in the order of its types and of their references. The fault is BadMap of the first
 /// condition of Types, References, RowCount and Names that doesn't hold.
-pub fn read_map(alloc: Global, map: &[u8]) -> Result<Vec<MapRow>, ForkFault>
+pub fn read_map(alloc: Global, map: &[u8], limits: Limits) -> Result<Vec<MapRow>, ForkFault>
     requires { 28 ≤ length map.now }
     ensures rows { IfOk result (λ rows. rows.items ≡ map_rows map.now) }
-    ensures holds { IfOk result (λ _. IsMap map.now) }
-    ensures refuses { IfErr result (RefusesMap map.now) }
+    ensures holds { IfOk result (λ _. IsMapWithin limits map.now) }
+    ensures refuses { IfErr result (RefusesMapWithin limits map.now) }
 {
     let list = read_types(alloc, map)?;
-    check_references(map, list)?;
-    read_rows(alloc, map, list)
+    let count = check_references(map, list, limits)?;
+    read_rows(alloc, map, list, count)
 }

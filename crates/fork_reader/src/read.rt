@@ -1,8 +1,9 @@
 //! A fork is read whole.
 
-ghost use Rattle.std.specs.Prelude.{◌≡◌, ◌<◌, ◌≤◌, ◌+◌, ◌↔◌, length, map, IfOk, IfErr, OnErr, IsErrOf};
+ghost use Rattle.std.specs.Prelude.{◌≡◌, ◌<◌, ◌≤◌, ◌+◌, ◌^◌, ◌↔◌, length, map, IfOk, IfErr, OnErr, IsErrOf};
 ghost use Rattle.std.specs.List.{AllByRecursion};
-ghost use Rattle.fork_bytes.specs.Fork.{bytes_at, header_of, data_of, datum_length, HasParts, HasData, IsFork, StandsFor, Refuses};
+ghost use Rattle.fork_bytes.specs.Fork.{bytes_at, header_of, data_of, datum_length, table_of, HasPartsWithin, HasData, IsForkWithin, StandsFor, StandsForWithin, Refuses, RefusesWithin};
+ghost use Rattle.fork_bytes.specs.declared.layout.Limits.{Limits};
 ghost use Rattle.fork_reader.specs.Reading.{placed_row, placed_rows, row_at, HasDatum, IsWithin, FaultsAt};
 
 use crate::data::{check_bytes, length_place, place_row};
@@ -12,9 +13,8 @@ use crate::map::{read_attributes, read_map};
 use crate::number::read_four;
 use crate::place::PlacedRow;
 use fork_bytes::fault::{Condition, ForkFault};
-use fork_bytes::layout::{Header, MapRow};
-use fork_bytes::table::{Row, Rows, Table};
-use mac_base::bytes::Bytes;
+use fork_bytes::layout::{Header, Limits, MapRow};
+use fork_bytes::table::{Contents, Row, Rows, Table};
 use mac_base::error::HostFull;
 use mac_base::resource::Resource;
 use std::alloc::Global;
@@ -22,7 +22,8 @@ use std::alloc::Global;
 /// The row with the place of its bytes.
 fn find_row(fork: &[u8], header: Header, row: MapRow) -> Result<PlacedRow, ForkFault>
     requires header { header ≡ header_of fork.now }
-    requires parts { HasParts (length fork.now) header }
+    requires whole { header.data_offset + header.data_length ≤ length fork.now }
+    requires small { length fork.now < 2 ^ 32 }
     ensures row { IfOk result (λ found. found ≡ placed_row fork.now row) }
     ensures has { IfOk result (λ _. HasDatum (data_of fork.now) row) }
     ensures fails { OnErr result (¬ HasDatum (data_of fork.now) row) }
@@ -40,12 +41,15 @@ fn find_rows(
     rows: Vec<MapRow>,
 ) -> Result<Vec<PlacedRow>, ForkFault>
     requires header { header ≡ header_of fork.now }
-    requires parts { HasParts (length fork.now) header }
+    requires whole { header.data_offset + header.data_length ≤ length fork.now }
+    requires small { length fork.now < 2 ^ 32 }
     ensures rows { IfOk result (λ found. found.items ≡ map (placed_row fork.now) rows.items) }
     ensures has { IfOk result (λ _. HasData (data_of fork.now) rows.items) }
     ensures refuses { IfErr result (FaultsAt Condition.Places (¬ HasData (data_of fork.now) rows.items)) }
 {
-    let mut placed = Vec::new(alloc);
+    let Ok(mut placed) = Vec::with_capacity(alloc, rows.len()) else {
+        return Err(ForkFault::HostFull);
+    };
     for row in rows {
         push(&mut placed, find_row(fork, header, row)?)?;
     }
@@ -53,9 +57,9 @@ fn find_rows(
 }
 
 /// The row with its bytes.
-fn copy_row(alloc: Global, fork: &[u8], row: PlacedRow) -> Result<Row, HostFull>
+fn row_at<'a>(fork: &'a [u8], row: PlacedRow) -> Row<'a>
     requires { IsWithin fork.now row }
-    ensures { IfOk result (λ copied. copied ≡ row_at fork.now row) }
+    ensures { result ≡ row_at fork.now row }
 {
     let Resource {
         kind,
@@ -65,66 +69,73 @@ fn copy_row(alloc: Global, fork: &[u8], row: PlacedRow) -> Result<Row, HostFull>
         datum,
     } = row;
     let start = datum.offset as usize;
-    let mut bytes = Vec::new(alloc);
-    bytes.extend_from_slice(&fork[start..start + datum.length as usize])?;
-    Ok(Resource {
+    Resource {
         kind,
         id,
         name,
         attributes,
-        datum: Bytes::new(bytes),
-    })
+        datum: Contents::new(&fork[start..start + datum.length as usize]),
+    }
 }
 
 /// The rows with their bytes.
-fn copy_rows(alloc: Global, fork: &[u8], rows: Vec<PlacedRow>) -> Result<Vec<Row>, HostFull>
+fn rows_at<'a>(
+    alloc: Global,
+    fork: &'a [u8],
+    rows: Vec<PlacedRow>,
+) -> Result<Vec<Row<'a>>, HostFull>
     requires { AllByRecursion (IsWithin fork.now) rows.items }
-    ensures { IfOk result (λ copied. copied.items ≡ map (row_at fork.now) rows.items) }
+    ensures { IfOk result (λ found. found.items ≡ map (row_at fork.now) rows.items) }
 {
-    let mut copied = Vec::new(alloc);
+    let mut found = Vec::with_capacity(alloc, rows.len())?;
     for row in rows {
-        copied.push(copy_row(alloc, fork, row)?)?;
+        found.push(row_at(fork, row))?;
     }
-    Ok(copied)
+    Ok(found)
 }
 
 /// The rows of a fork with the places of their bytes.
-fn placed_rows(alloc: Global, fork: &[u8], header: Header) -> Result<Vec<PlacedRow>, ForkFault>
+fn placed_rows(
+    alloc: Global,
+    fork: &[u8],
+    header: Header,
+    limits: Limits,
+) -> Result<Vec<PlacedRow>, ForkFault>
     requires header { header ≡ header_of fork.now }
     requires whole { 16 ≤ length fork.now }
-    requires parts { HasParts (length fork.now) header }
+    requires parts { HasPartsWithin limits (length fork.now) header }
     ensures rows { IfOk result (λ rows. rows.items ≡ placed_rows fork.now) }
-    ensures fork { IfOk result (λ _. IsFork fork.now) }
-    ensures refuses { IfErr result (Refuses fork.now) }
+    ensures fork { IfOk result (λ _. IsForkWithin limits fork.now) }
+    ensures refuses { IfErr result (RefusesWithin limits fork.now) }
 {
-    let rows = read_map(alloc, map_bytes(fork, header))?;
+    let rows = read_map(alloc, map_bytes(fork, header), limits)?;
     let rows = find_rows(alloc, fork, header, rows)?;
-    check_bytes(&rows)?;
+    check_bytes(&rows, limits)?;
     Ok(rows)
 }
 
 /// The bytes of the map.
 fn map_bytes(fork: &[u8], header: Header) -> &[u8]
-    requires { HasParts (length fork.now) header }
+    requires { header.map_offset + header.map_length ≤ length fork.now }
     ensures { result.now ≡ bytes_at header.map_length header.map_offset fork.now }
 {
     let start = header.map_offset as usize;
     &fork[start..start + header.map_length as usize]
 }
 
-/// The table of a fork with these rows.
-fn copy_table(
+/// The table of a fork with these rows, which is a fork within some limits.
+fn table_of<'a>(
     alloc: Global,
-    fork: &[u8],
+    fork: &'a [u8],
     header: Header,
     rows: Vec<PlacedRow>,
-) -> Result<Table, HostFull>
+) -> Result<Table<'a>, HostFull>
     requires header { header ≡ header_of fork.now }
-    requires fork { IsFork fork.now }
+    requires fork { (limits : Limits) × IsForkWithin limits fork.now }
     requires rows { rows.items ≡ placed_rows fork.now }
-    ensures { IfOk result (λ table. StandsFor fork.now table) }
+    ensures { IfOk result (λ table. table ≡ table_of fork.now) }
 {
-    let rows = copy_rows(alloc, fork, rows)?;
+    let rows = rows_at(alloc, fork, rows)?;
     Ok(Table {
         rows: Rows::new(rows),
         extra: extra_bytes(&fork[HEADER_LENGTH..]),
@@ -132,18 +143,33 @@ fn copy_table(
     })
 }
 
-/// The table that the bytes of a fork stand for. The fault is EndOfFile exactly where there are fewer than 16 bytes, and
-/// else BadMap of the first condition that doesn't hold, or HostFull.
-pub fn read_fork(alloc: Global, fork: &[u8]) -> Result<Table, ForkFault>
+/// The table that the bytes of a fork stand for, within these limits. Its rows have their bytes where they stand in the fork, and no
+/// copies of them. The fault is EndOfFile exactly where there are fewer than 16
+/// bytes, and else BadMap of the first condition that doesn't hold, or HostFull.
+pub fn read_fork_within<'a>(
+    alloc: Global,
+    fork: &'a [u8],
+    limits: Limits,
+) -> Result<Table<'a>, ForkFault>
+    ensures table { IfOk result (λ table. StandsForWithin limits fork.now table) }
+    ensures end { IsErrOf result ForkFault.EndOfFile ↔ (length fork.now < 16) }
+    ensures refuses { IfErr result (RefusesWithin limits fork.now) }
+{
+    let header = read_header(fork)?;
+    check_parts(header, fork.len(), limits)?;
+    let rows = placed_rows(alloc, fork, header, limits)?;
+    match table_of(alloc, fork, header, rows) {
+        Ok(table) => Ok(table),
+        Err(HostFull) => Err(ForkFault::HostFull),
+    }
+}
+
+/// The table that the bytes of a fork stand for, within macheap's limits. The fault is EndOfFile exactly where there are fewer than
+/// 16 bytes, and else BadMap of the first condition that doesn't hold, or HostFull.
+pub fn read_fork<'a>(alloc: Global, fork: &'a [u8]) -> Result<Table<'a>, ForkFault>
     ensures table { IfOk result (λ table. StandsFor fork.now table) }
     ensures end { IsErrOf result ForkFault.EndOfFile ↔ (length fork.now < 16) }
     ensures refuses { IfErr result (Refuses fork.now) }
 {
-    let header = read_header(fork)?;
-    check_parts(header, fork.len())?;
-    let rows = placed_rows(alloc, fork, header)?;
-    match copy_table(alloc, fork, header, rows) {
-        Ok(table) => Ok(table),
-        Err(HostFull) => Err(ForkFault::HostFull),
-    }
+    read_fork_within(alloc, fork, Limits::MACHEAP)
 }

@@ -4,12 +4,12 @@ ghost use Rattle.std.specs.Prelude.{◌≡◌, ◌<◌, ◌≤◌, ◌+◌, ◌*
 ghost use Rattle.std.specs.BTreeSet.{IsFromIterResult};
 ghost use Rattle.std.specs.Cmp.Lexicographic.{slice_cmp};
 ghost use Rattle.std.specs.Ordering.{nat_cmp};
-ghost use Rattle.fork_bytes.specs.Fork.{count_at, bytes_at, type_list, type_count, entry_at, references_of, HasTypes, HasReferences, HasFewRows};
-ghost use Rattle.fork_reader.specs.Reading.{IsTypeList, FaultsAt, RefusesMap, entry_of, kinds_of};
+ghost use Rattle.fork_bytes.specs.Fork.{count_at, bytes_at, type_list, type_count, entry_at, references_of, HasTypes, HasReferences, HasFewRowsWithin};
+ghost use Rattle.fork_reader.specs.Reading.{IsTypeList, FaultsAt, RefusesMapWithin, entry_of, kinds_of};
 
 use crate::number::read_two;
 use fork_bytes::fault::{Condition, ForkFault};
-use fork_bytes::layout::MAX_ROWS;
+use fork_bytes::layout::Limits;
 use mac_base::error::HostFull;
 use mac_base::resource::ResType;
 use std::alloc::{AllocError, Global};
@@ -174,19 +174,24 @@ fn count_references(map: &[u8], list: TypeList) -> Option<usize>
     Some(total)
 }
 
-/// Checks that the references lie within the map, and that they are not too many.
-pub(crate) fn check_references(map: &[u8], list: TypeList) -> Result<(), ForkFault>
+/// How many references there are, where they lie within the map and are not too many.
+pub(crate) fn check_references(
+    map: &[u8],
+    list: TypeList,
+    limits: Limits,
+) -> Result<usize, ForkFault>
     requires list { IsTypeList map.now list }
     requires small { list.offset < 65536 }
     requires few { list.count < 65536 }
     requires types { HasTypes map.now }
+    ensures count { IfOk result (λ n. n ≡ length (references_of map.now)) }
     ensures references { IfOk result (λ _. HasReferences map.now) }
-    ensures rows { IfOk result (λ _. HasFewRows map.now) }
-    ensures refuses { IfErr result (RefusesMap map.now) }
+    ensures rows { IfOk result (λ _. HasFewRowsWithin limits map.now) }
+    ensures refuses { IfErr result (RefusesMapWithin limits map.now) }
 {
     match count_references(map, list) {
         None => Err(ForkFault::BadMap(Condition::References)),
-        Some(count) if count > MAX_ROWS => Err(ForkFault::BadMap(Condition::RowCount)),
-        Some(_) => Ok(()),
+        Some(count) if count > limits.rows as usize => Err(ForkFault::BadMap(Condition::RowCount)),
+        Some(count) => Ok(count),
     }
 }

@@ -10,6 +10,7 @@ use crate::fault::OpenFault;
 use crate::part::{find_rows, read_front, read_part};
 use crate::table::{PlacedRows, PlacedTable};
 use fork_bytes::fault::ForkFault;
+use fork_bytes::layout::Limits;
 use fork_disk::store::ForkStore;
 use fork_reader::{HEADER_LENGTH, check_bytes, check_parts, read_attributes, read_map};
 use std::alloc::Global;
@@ -34,10 +35,15 @@ pub fn read_rows<S: ForkStore>(alloc: Global, store: &mut S) -> Result<PlacedTab
     }
     let front = read_front(alloc, store, fork_length)?;
     let header = front.header;
-    check_parts(header, fork_length)?;
+    check_parts(header, fork_length, Limits::MACHEAP)?;
     let map = read_part(alloc, store, header.map_offset, header.map_length)?;
-    let rows = find_rows(alloc, store, header, read_map(alloc, &map)?)?;
-    check_bytes(&rows)?;
+    let rows = find_rows(
+        alloc,
+        store,
+        header,
+        read_map(alloc, &map, Limits::MACHEAP)?,
+    )?;
+    check_bytes(&rows, Limits::MACHEAP)?;
     Ok(PlacedTable {
         rows: PlacedRows::new(rows),
         extra: front.extra,

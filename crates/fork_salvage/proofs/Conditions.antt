@@ -1,16 +1,15 @@
 -- A fault is of the reader's first condition that doesn't hold.
-use Rattle.std.proofs.Common.{◌≡◌, ◌≢◌, ℕ, zero, suc, ◌+◌, ◌*◌, ◌<◌, ◌≤◌, ◌⊎◌, inl, inr, List, [], ◌∷◌, ◌++◌, length, map, get_or, AllPairs, subst, refl, sym, ap, ◌∙◌, arith}
+use Rattle.std.proofs.Common.{◌≡◌, ◌≢◌, ℕ, zero, suc, ◌+◌, ◌*◌, ◌<◌, ◌≤◌, ◌⊎◌, inl, inr, List, [], ◌∷◌, length, map, get_or, AllPairs, subst, refl, sym, ap, ◌∙◌, arith}
 use Rattle.std.specs.Prelude.{sum_by, ⊤}
 use Rattle.std.specs.List.{flat_map, AllByRecursion}
 use Rattle.std.proofs.lemmas.Bool.{cases_lt}
-use Rattle.std.proofs.lemmas.List.{append-nil}
 use Rattle.std.proofs.lemmas.List.Sums.{sum_by-append, sum_by-cons, sum_by_push}
 use Rattle.fork_bytes.specs.declared.fault.Condition.{Condition}
 use Rattle.fork_bytes.specs.declared.fault.Condition.TheVariants.{Parts, Types, References, RowCount, Names, Places, ByteCount}
 use Rattle.fork_bytes.specs.declared.fault.ForkFault.{ForkFault}
 use Rattle.fork_bytes.specs.declared.fault.ForkFault.TheVariants.{EndOfFile, BadMap, HostFull}
 use Rattle.fork_bytes.specs.Rows.{MapRow}
-use Rattle.fork_bytes.specs.Fork.{map_of, data_of, map_row, datum_length, places, type_list, type_count, TypeEntry, entry_at, entries_of, Reference, references_in, references_of, max_fork, HasTypes, Holds, IsFork, rank, Refuses}
+use Rattle.fork_bytes.specs.Fork.{map_of, data_of, map_row, datum_length, places, type_list, type_count, TypeEntry, entry_at, entries_of, Reference, references_in, references_of, HasTypes, HoldsWithin, IsForkWithin, rank, RefusesWithin, format_limits}
 use Rattle.fork_reader.specs.Reading.{HasDatum}
 use Rattle.fork_reader.proofs.Lists.{Ends, all_both, last_ends}
 use Rattle.fork_salvage.specs.declared.plan.Plan.{Plan}
@@ -22,11 +21,10 @@ use Rattle.fork_salvage.specs.declared.fault.SameType.{SameType}
 use Rattle.fork_salvage.specs.Salvage.{map_in, told_list}
 use Rattle.fork_salvage.specs.Plans.{IsTold}
 use Rattle.fork_salvage.specs.Fault.{IsFault, IsFirst, IsSameType, IsBadList, IsBadSum, HasBytes, bytes_up_to, datum_place, entry_place, refusal_of}
-use Rattle.fork_salvage.proofs.DataFaults.{IsSum}
 
 -- the conditions of lower ranks hold
 abbrev pub HoldBelow : List ℕ → ℕ → Type 0
-HoldBelow fork n = (other : Condition) → rank other < n → Holds other fork
+HoldBelow fork n = (other : Condition) → rank other < n → HoldsWithin format_limits other fork
 
 pub none_below : (fork : List ℕ) → HoldBelow fork 0
 none_below fork other low = absurd (omega arith)
@@ -49,14 +47,14 @@ is_with_rank Names = refl
 is_with_rank Places = refl
 is_with_rank ByteCount = refl
 
-is_below : (fork : List ℕ) (c other : Condition) → HoldBelow fork (rank c) → Holds c fork → rank other < rank c + 1 → ((rank other < rank c) ⊎ (rank c ≤ rank other)) → Holds other fork
+is_below : (fork : List ℕ) (c other : Condition) → HoldBelow fork (rank c) → HoldsWithin format_limits c fork → rank other < rank c + 1 → ((rank other < rank c) ⊎ (rank c ≤ rank other)) → HoldsWithin format_limits other fork
 is_below fork c other below holds low (inl less) = below other less
 is_below fork c other below holds low (inr more) =
     let same : rank c ≡ rank other = omega arith in
-    subst (λ (d : Condition). Holds d fork) (sym (is_with_rank c) ∙ ap with_rank same ∙ is_with_rank other) holds
+    subst (λ (d : Condition). HoldsWithin format_limits d fork) (sym (is_with_rank c) ∙ ap with_rank same ∙ is_with_rank other) holds
 
 -- one more holds
-pub next_below : (fork : List ℕ) (c : Condition) → HoldBelow fork (rank c) → Holds c fork → HoldBelow fork (rank c + 1)
+pub next_below : (fork : List ℕ) (c : Condition) → HoldBelow fork (rank c) → HoldsWithin format_limits c fork → HoldBelow fork (rank c + 1)
 next_below fork c below holds other low = is_below fork c other below holds low (cases_lt (rank other) (rank c))
 
 low_rank : (c : Condition) → rank c < 7
@@ -69,7 +67,7 @@ low_rank Places = omega arith
 low_rank ByteCount = omega arith
 
 -- where all hold, it is a fork
-pub all_hold : (fork : List ℕ) → 16 ≤ length fork → HoldBelow fork 7 → IsFork fork
+pub all_hold : (fork : List ℕ) → 16 ≤ length fork → HoldBelow fork 7 → IsForkWithin format_limits fork
 all_hold fork long below = record { header = long; holds = λ c. below c (low_rank c) }
 
 -- the entries of a type list, by index
@@ -134,7 +132,7 @@ all_of_made : {X Y : Type 0} (P : Y → Type 0) (f : X → Y) (xs : List X) → 
 all_of_made P f [] all = tt
 all_of_made P f (x ∷ xs) all = (all.0, all_of_made P f xs all.1)
 
-pub data_hold : (fork : List ℕ) → AllByRecursion (HasBytes fork) (references_of (map_of fork)) → Holds Places fork
+pub data_hold : (fork : List ℕ) → AllByRecursion (HasBytes fork) (references_of (map_of fork)) → HoldsWithin format_limits Places fork
 data_hold fork all = all_made (HasDatum (data_of fork)) (map_row (map_of fork)) (references_of (map_of fork)) all
 
 -- the rows have as many bytes as their references
@@ -145,13 +143,7 @@ sum_of_rows fork (r ∷ rs) =
     let f = λ (r : MapRow). 4 + datum_length (data_of fork) r.datum in let g = λ (s : Reference). 4 + datum_length (data_of fork) (datum_place fork s) in
     sum_by-cons f (map_row (map_of fork) r) (map (map_row (map_of fork)) rs) ∙ ap (λ (n : ℕ). g r + n) (sum_of_rows fork rs) ∙ sym (sum_by-cons g r rs)
 
-pub few_hold : (fork : List ℕ) (left : List Reference) (total : ℕ) → IsSum fork left total → left ≡ [] → total ≤ max_fork → Holds ByteCount fork
-few_hold fork left total so_far none few =
-    let all = so_far.split ∙ ap (λ (xs : List Reference). so_far.before ++ xs) none ∙ append-nil so_far.before in
-    let sum = sum_of_rows fork (references_of (map_of fork)) ∙ ap (bytes_up_to fork) all ∙ so_far.sum in
-    let P : ℕ → Type 0 = λ n. n ≤ max_fork in subst P (sym sum) few
-
-many_fail : (fork : List ℕ) (row : BadRow) → IsBadSum fork row → Holds ByteCount fork → ⊥
+many_fail : (fork : List ℕ) (row : BadRow) → IsBadSum fork row → HoldsWithin format_limits ByteCount fork → ⊥
 many_fail fork row is holds =
     let g = λ (s : Reference). 4 + datum_length (data_of fork) (datum_place fork s) in
     let sum = sum_of_rows fork (references_of (map_of fork)) ∙ ap (bytes_up_to fork) is.split ∙ sum_by-append g is.before (is.reference ∷ is.after) in
@@ -162,16 +154,16 @@ first_fails : {X : Type 0} (P : X → Type 0) (xs : List X) (x : X) → IsFirst 
 first_fails P xs x first all =
     let Q : List _ → Type 0 = AllByRecursion P in first.fails (all_both P first.before (x ∷ first.after) (subst Q first.split all)).1.0
 
-same_fails : (fork : List ℕ) (same : SameType) → IsSameType fork same → Holds Types fork → ⊥
+same_fails : (fork : List ℕ) (same : SameType) → IsSameType fork same → HoldsWithin format_limits Types fork → ⊥
 same_fails fork same is holds = pairs_to (map_of fork) is.first is.second holds.distinct is.is.order is.is.inside is.is.same
 
-list_fails : (fork : List ℕ) (list : BadList) → IsBadList fork list → Holds References fork → ⊥
+list_fails : (fork : List ℕ) (list : BadList) → IsBadList fork list → HoldsWithin format_limits References fork → ⊥
 list_fails fork list is holds =
     let m = map_of fork in let entry = entry_at m (entry_place m is.index) in
     let all = in_entry m (Ends (length m)) (type_count m) (type_list m + 2) is.index (entry_place m is.index) is.first.inside (omega arith) holds in
     let ends = last_ends entry.kind entry.count entry.start (length m) all is.first.some in let outside = is.gap.0 in omega arith
 
-bytes_row_fails : (fork : List ℕ) (r : Reference) → IsFirst (HasBytes fork) (references_of (map_of fork)) r → Holds Places fork → ⊥
+bytes_row_fails : (fork : List ℕ) (r : Reference) → IsFirst (HasBytes fork) (references_of (map_of fork)) r → HoldsWithin format_limits Places fork → ⊥
 bytes_row_fails fork r first holds =
     first_fails (HasBytes fork) (references_of (map_of fork)) r first (all_of_made (HasDatum (data_of fork)) (map_row (map_of fork)) (references_of (map_of fork)) holds)
 
@@ -182,7 +174,7 @@ HoldsBefore fork (BadMap condition) = (16 ≤ length fork) × HoldBelow fork (ra
 HoldsBefore fork HostFull = ⊤
 
 -- a fault that is there is what the reader says, where what it looks at before holds
-pub refuses : (fork : List ℕ) (f : Fault) → IsFault fork f → HoldsBefore fork (refusal_of f) → Refuses fork (refusal_of f)
+pub refuses : (fork : List ℕ) (f : Fault) → IsFault fork f → HoldsBefore fork (refusal_of f) → RefusesWithin format_limits fork (refusal_of f)
 refuses fork (fault.Header gap) is before = is.0
 refuses fork (fault.TooLong count) is before =
     (before.0, record { fails = λ holds. let small = holds.small in let large = is.0 in let all = is.1 in omega arith; before = before.1 })
@@ -201,5 +193,5 @@ refuses fork (fault.Bytes row) is before = (before.0, record { fails = bytes_row
 refuses fork (fault.ByteCount row) is before = (before.0, record { fails = many_fail fork row is; before = before.1 })
 
 pub refuses_at : (fork : List ℕ) (f : Fault) (c : Condition) → IsFault fork f → refusal_of f ≡ BadMap c → 16 ≤ length fork → HoldBelow fork (rank c) →
-    Refuses fork (refusal_of f)
+    RefusesWithin format_limits fork (refusal_of f)
 refuses_at fork f c is says long below = refuses fork f is (subst (HoldsBefore fork) (sym says) (long, below))

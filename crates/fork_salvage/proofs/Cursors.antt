@@ -50,11 +50,6 @@ left_at_next fork plan cursor list none within is =
     ap (λ (xs : List Reference). xs ++ references_from fork plan cursor.next) (none_at cursor.list.kind cursor.list.count cursor.list.start none)
     ∙ from_step fork plan cursor.next within ∙ ap (λ (l : ReferenceList). references_at l ++ references_from fork plan (cursor.next + 1)) (sym is)
 
-pub left_at_end : (fork : List ℕ) (plan : Plan) (cursor : Cursor) → cursor.list.count ≡ 0 → plan.types.count ≤ cursor.next → left_of fork plan cursor ≡ []
-left_at_end fork plan cursor none past =
-    ap (λ (xs : List Reference). xs ++ references_from fork plan cursor.next) (none_at cursor.list.kind cursor.list.count cursor.list.start none)
-    ∙ from_end fork plan cursor.next past
-
 -- and within a list with its next reference
 pub left_in_list : (fork : List ℕ) (plan : Plan) (cursor : Cursor) → 0 < cursor.list.count →
     left_of fork plan cursor ≡ record { kind = cursor.list.kind; place = cursor.list.start }

@@ -63,9 +63,6 @@ loop_start P fork plan cursor is has none first =
 loop_split : (whole before left rest : List Reference) (r : Reference) → whole ≡ before ++ left → left ≡ r ∷ rest → whole ≡ before ++ r ∷ rest
 loop_split whole before left rest r split is = split ∙ ap (λ (xs : List Reference). before ++ xs) is
 
-pub loop_ends : (P : Reference → Type 0) (m : List ℕ) (left rest : List Reference) (r : Reference) → IsLoop P m left → left ≡ r ∷ rest → r.place + 12 ≤ length m
-loop_ends P m left rest r told is = let Q : List Reference → Type 0 = AllByRecursion (lists.Ends (length m)) in (subst Q is told.ends).0
-
 pub loop_step : (P : Reference → Type 0) (m : List ℕ) (left rest : List Reference) (r : Reference) → IsLoop P m left → left ≡ r ∷ rest → P r → IsLoop P m rest
 loop_step P m left rest r told is holds =
     let Q : List Reference → Type 0 = AllByRecursion (lists.Ends (length m)) in record {

@@ -5,3 +5,4 @@ pub mod Told
 pub mod DataFaults
 pub mod Conditions
 pub mod Order
+pub mod Checked

@@ -5,7 +5,7 @@ use Rattle.std.specs.Int.{w16, cast_signed}
 use Rattle.std.proofs.lemmas.List.{append-nil}
 use Rattle.fork_bytes.specs.declared.fault.Condition.TheVariants.{Parts, Types, References, Names, Places}
 use Rattle.fork_bytes.specs.Rows.{Row}
-use Rattle.fork_bytes.specs.Fork.{number_at, bytes_at, header_of, map_of, data_of, map_row, row_with, name_place, name_at, name_list, datum_length, references_of, Reference, HasParts, IsFork}
+use Rattle.fork_bytes.specs.Fork.{number_at, bytes_at, header_of, map_of, data_of, map_row, row_with, name_place, name_at, name_list, datum_length, references_of, Reference, HasPartsWithin, IsForkWithin, format_limits}
 use Rattle.fork_reader.specs.Reading.{HasName, HasDatum}
 use Rattle.fork_reader.proofs.Placing.{bytes_in_part, length-part, length-data}
 use Rattle.fork_salvage.specs.declared.plan.Plan.{Plan}
@@ -51,7 +51,7 @@ inside_by : (fork : List ℕ) (none : Bool) (start : ℕ) → IsNamed fork none 
 inside_by fork true start has = refl
 inside_by fork false start has = ap is_inside (chosen (nat_le (start + 1 + slice_index (map_of fork) start) (length (map_of fork))) _ _ (le-leb _ _ has))
 
-shown_by : (fork : List ℕ) → HasParts (length fork) (header_of fork) → (none : Bool) (start : ℕ) → IsNamed fork none start →
+shown_by : (fork : List ℕ) → HasPartsWithin format_limits (length fork) (header_of fork) → (none : Bool) (start : ℕ) → IsNamed fork none start →
     name_shown fork (name_by fork none start) ≡ name_at (map_of fork) (if none then None else Some start)
 shown_by fork parts true start has = refl
 shown_by fork parts false start has =
@@ -73,7 +73,7 @@ kept fork r is =
     let named : is_inside (name_found fork (told_plan fork) r.place) ≡ true = inside_by fork (offset == 65535) (name_list m + offset) is.1 in
     ap (λ (t : Bool). t && is_inside (name_found fork (told_plan fork) r.place)) b ∙ named
 
-row_same : (fork : List ℕ) → HasParts (length fork) (header_of fork) → (r : Reference) → IsKept fork r →
+row_same : (fork : List ℕ) → HasPartsWithin format_limits (length fork) (header_of fork) → (r : Reference) → IsKept fork r →
     row_shown fork (item_of fork (told_plan fork) r) ≡ Some (row_with (data_of fork) (map_row (map_of fork) r))
 row_same fork parts r is =
     let m = map_of fork in let d = data_of fork in let header = header_of fork in
@@ -86,7 +86,7 @@ row_same fork parts r is =
       attributes = record { 0 = slice_index m (r.place + 4) };
       datum = bytes;
     } in
-    let long = length-data fork parts in
+    let long = length-data fork parts.whole_data in
     let last = is.2.1 in
     let at : header.data_offset + datum + 4 ≡ header.data_offset + (datum + 4) = omega arith in
     let bytes : bytes_at count (header.data_offset + datum + 4) fork ≡ bytes_at count (datum + 4) d =
@@ -104,7 +104,7 @@ all_kept fork (r ∷ rs) all =
     ap (λ (t : Bool). t && list_all (λ (s : Reference). has_bytes fork (told_plan fork) s.place && is_inside (name_found fork (told_plan fork) s.place)) rs) (kept fork r all.0)
     ∙ all_kept fork rs all.1
 
-rows_same : (fork : List ℕ) → HasParts (length fork) (header_of fork) → (rs : List Reference) → AllByRecursion (IsKept fork) rs →
+rows_same : (fork : List ℕ) → HasPartsWithin format_limits (length fork) (header_of fork) → (rs : List Reference) → AllByRecursion (IsKept fork) rs →
     map (row_shown fork) (map (item_of fork (told_plan fork)) rs) ≡ map Some (map (row_with (data_of fork)) (map (map_row (map_of fork)) rs))
 rows_same fork parts [] all = refl
 rows_same fork parts (r ∷ rs) all =
@@ -116,7 +116,7 @@ join_kept : (fork : List ℕ) (rs : List Reference) → AllByRecursion (λ (r : 
 join_kept fork [] ends named has = tt
 join_kept fork (r ∷ rs) ends named has = ((ends.0, named.0, has.0), join_kept fork rs ends.1 named.1 has.1)
 
-is_told : (fork : List ℕ) → IsFork fork → plan_of fork ≡ told_plan fork
+is_told : (fork : List ℕ) → IsForkWithin format_limits fork → plan_of fork ≡ told_plan fork
 is_told fork is =
     let parts = is.holds Parts in let types = is.holds Types in
     let all = join_kept fork (references_of (map_of fork)) (is.holds References) (is.holds Names) (is.holds Places) in

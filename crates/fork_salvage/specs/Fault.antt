@@ -5,7 +5,7 @@ use Rattle.std.specs.Int.{w16, cast_signed}
 use Rattle.fork_bytes.specs.declared.fault.Condition.TheVariants as of
 use Rattle.fork_bytes.specs.declared.fault.ForkFault.{ForkFault}
 use Rattle.fork_bytes.specs.declared.fault.ForkFault.TheVariants.{EndOfFile, BadMap}
-use Rattle.fork_bytes.specs.Fork.{number_at, bytes_at, header_of, map_of, data_of, type_list, name_list, type_count, Reference, entry_at, references_of, map_row, datum_length, max_fork, max_rows}
+use Rattle.fork_bytes.specs.Fork.{number_at, bytes_at, header_of, map_of, data_of, type_list, name_list, type_count, Reference, entry_at, references_of, map_row, datum_length, format_limits}
 use Rattle.fork_reader.specs.Reading.{HasName, HasDatum}
 use Rattle.fork_salvage.specs.declared.place.Gap.{Gap}
 use Rattle.fork_salvage.specs.declared.fault.BadRow.{BadRow}
@@ -133,19 +133,19 @@ pub record IsBadSum (fork : List ℕ) (row : BadRow) : Type 0 where
   pub reference : Reference
   pub after : List Reference
   pub split : references_of (map_of fork) ≡ before ++ reference ∷ after
-  pub few : bytes_up_to fork before ≤ max_fork
-  pub many : max_fork < bytes_up_to fork (before ++ reference ∷ [])
+  pub few : bytes_up_to fork before ≤ format_limits.bytes
+  pub many : format_limits.bytes < bytes_up_to fork (before ++ reference ∷ [])
   pub told : row ≡ bad_row fork reference row.gap
   pub gap : row.gap ≡ record {
     place = (header_of fork).data_offset + datum_place fork reference;
     wanted = bytes_up_to fork (before ++ reference ∷ []);
-    left = max_fork;
+    left = format_limits.bytes;
   }
 
 -- what a fault says of the fork: something ends outside, and nothing that is looked at before it does
 abbrev pub IsFault : List ℕ → Fault → Type 0
 IsFault fork (fault.Header gap) = IsGap 0 (length fork) 0 16 gap
-IsFault fork (fault.TooLong count) = (max_fork < count) × (count ≡ length fork)
+IsFault fork (fault.TooLong count) = (format_limits.fork < count) × (count ≡ length fork)
 IsFault fork (fault.Data gap) = IsGap 0 (length fork) (header_of fork).data_offset (header_of fork).data_length gap
 IsFault fork (fault.Map gap) = IsGap 0 (length fork) (header_of fork).map_offset (header_of fork).map_length gap
 IsFault fork (fault.MapHeader gap) = IsGap (header_of fork).map_offset (header_of fork).map_length 0 28 gap
@@ -154,7 +154,7 @@ IsFault fork (fault.TypeList gap) =
     IsGap (header_of fork).map_offset (length (map_of fork)) (type_list (map_of fork) + 2) (8 * type_count (map_of fork)) gap
 IsFault fork (fault.SameType same) = IsSameType fork same
 IsFault fork (fault.References list) = IsBadList fork list
-IsFault fork (fault.RowCount count) = (max_rows < count) × (count ≡ length (references_of (map_of fork)))
+IsFault fork (fault.RowCount count) = (format_limits.rows < count) × (count ≡ length (references_of (map_of fork)))
 IsFault fork (fault.Name row) = IsBadRow fork (HasName (map_of fork)) (name_gap fork) row
 IsFault fork (fault.Length row) = IsBadRow fork (HasBytes fork) (λ reference gap. datum_gap fork reference 4 gap) row
 IsFault fork (fault.Bytes row) = IsBadRow fork (HasBytes fork) (bytes_gap fork) row

@@ -1,4 +1,5 @@
 pub mod Salvage
 pub mod Plans
 pub mod Fault
+pub mod Faults
 pub mod Laws

@@ -2,8 +2,9 @@
 use Rattle.std.specs.Prelude.{ℕ, zero, suc, ◌+◌, ◌-◌, ◌*◌, ◌/◌, ◌==◌, ◌&&◌, not, nat_le, nat_lt, min, max, if◌then◌else◌, Bool, true, false, List, [], ◌∷◌, ◌++◌, length, map, slice_index, None, Some, Result, Ok, Err, is_ok}
 use Rattle.std.specs.List.{flat_map, list_all}
 use Rattle.std.specs.Int.{w16, cast_signed}
-use Rattle.fork_bytes.specs.Fork.{number_at, bytes_at, count_at, places, type_list, name_list, Reference, references_in}
+use Rattle.fork_bytes.specs.Fork.{number_at, bytes_at, count_at, attributes_of, places, type_list, name_list, Reference, references_in}
 use Rattle.fork_salvage.specs.declared.place.Span.{Span}
+use Rattle.fork_salvage.specs.declared.place.NameSpan.{NameSpan}
 use Rattle.fork_salvage.specs.declared.place.Parts.{Parts}
 use Rattle.fork_salvage.specs.declared.entry.Types.{Types}
 use Rattle.fork_salvage.specs.declared.entry.ReferenceList.{ReferenceList}
@@ -12,7 +13,7 @@ use Rattle.fork_salvage.specs.declared.reference.FoundName.TheVariants.{Unnamed,
 use Rattle.fork_salvage.specs.declared.reference.Loss.{Loss}
 use Rattle.fork_salvage.specs.declared.reference.Loss.TheVariants as loss
 use Rattle.fork_salvage.specs.declared.plan.Plan.{Plan}
-use Rattle.fork_salvage.specs.declared.salvage.FoundRow.{FoundRow}
+use Rattle.fork_salvage.specs.declared.found.FoundRow.{FoundRow}
 use Rattle.fork_salvage.specs.declared.salvage.LostRow.{LostRow}
 use Rattle.fork_salvage.specs.declared.salvage.Item.{Item}
 use Rattle.fork_salvage.specs.declared.salvage.Item.TheVariants.{Row, Lost, Run}
@@ -20,6 +21,10 @@ use Rattle.fork_salvage.specs.declared.salvage.Item.TheVariants.{Row, Lost, Run}
 -- the bytes of a part of a fork
 abbrev pub part : List ℕ → Span → List ℕ
 part fork span = bytes_at span.length span.start fork
+
+-- the bytes of a name
+abbrev pub name_part : List ℕ → NameSpan → List ℕ
+name_part fork span = part fork (record { start = span.start; length = span.length })
 
 -- the map and the data, where a plan says that they are
 abbrev pub map_in : List ℕ → Plan → List ℕ
@@ -213,6 +218,13 @@ mended_plan fork = let parts = stretched (length fork) (mended_parts fork) in re
 -- how the fork is read: as it tells, if nothing is lost by that
 abbrev pub plan_of : List ℕ → Plan
 plan_of fork = if may_be_told fork && keeps_all fork (told_plan fork) then told_plan fork else mended_plan fork
+
+-- the attributes of a map, if it has a header
+abbrev pub attributes_in : List ℕ → ℕ
+attributes_in resource_map = if nat_lt (length resource_map) 28 then 0 else attributes_of resource_map
+
+abbrev pub attributes_found : List ℕ → ℕ
+attributes_found fork = attributes_in (map_in fork (plan_of fork))
 
 -- a reference that has its bytes, and one that hasn't
 abbrev pub found_row : List ℕ → Plan → Reference → Span → FoundRow

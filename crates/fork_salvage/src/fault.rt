@@ -5,8 +5,9 @@ ghost use Rattle.fork_salvage.specs.Fault.{refusal_of};
 
 use crate::place::Gap;
 use fork_bytes::fault::{Condition, ForkFault};
-use fork_text::Quoted;
 use mac_base::resource::ResType;
+use mac_text::Quoted;
+use mac_text::letters::Letters;
 use std::fmt;
 
 /// A type that stands twice in the type list, and where in the fork its two entries stand.
@@ -38,7 +39,7 @@ pub struct BadRow {
 pub enum Fault {
     /// The fork ends within its header.
     Header(Gap),
-    /// There are more than 4,194,304 bytes: so many.
+    /// There are more bytes than four bytes can say: so many.
     TooLong(usize),
     /// The data ends outside of the fork.
     Data(Gap),
@@ -54,7 +55,7 @@ pub enum Fault {
     SameType(SameType),
     /// The references of a type end outside of the map.
     References(BadList),
-    /// There are more than 8,192 references: so many.
+    /// There are more than 4,194,304 references: so many.
     RowCount(usize),
     /// A name ends outside of the map. The place is that of its byte of length.
     Name(BadRow),
@@ -62,12 +63,12 @@ pub enum Fault {
     Length(BadRow),
     /// The bytes of a resource end outside of the data. The place is that of their length.
     Bytes(BadRow),
-    /// The resources as far as this one have more than 4,194,304 bytes together: so many are wanted.
+    /// The resources as far as this one have more than 16,777,216 bytes together: so many are wanted.
     ByteCount(BadRow),
 }
 
 impl Fault {
-    /// What `fork_reader::read_fork` says of it.
+    /// What `fork_reader::read_fork_within` says of it.
     pub fn refusal(&self) -> ForkFault
         ensures { result ≡ refusal_of self.now }
     {
@@ -113,7 +114,7 @@ fn write_row<W: fmt::Write>(
     whole: &str,
 ) -> fmt::Result {
     let kind = row.kind.bytes();
-    let kind = Quoted::single(&kind);
+    let kind = Quoted::single(Letters::Raw, &kind);
     let BadRow {
         id,
         reference,
@@ -138,7 +139,7 @@ impl fmt::Display for Fault {
             Fault::TooLong(count) => {
                 write!(
                     f,
-                    "the fork has {count} bytes, and at most 4194304 are read"
+                    "the fork has {count} bytes, and at most 4294967295 are read"
                 )
             }
             Fault::Data(gap) => write_part(f, "the data", gap, "fork"),
@@ -149,7 +150,10 @@ impl fmt::Display for Fault {
             Fault::SameType(same) => write_same(f, same),
             Fault::References(list) => write_list(f, list),
             Fault::RowCount(count) => {
-                write!(f, "there are {count} resources, and at most 8192 are read")
+                write!(
+                    f,
+                    "there are {count} resources, and at most 4194304 are read"
+                )
             }
             Fault::Name(row) => write_row(f, row, "its name with its byte of length has", "map"),
             Fault::Length(row) => write_row(f, row, "the bytes of its length are", "data"),
@@ -158,7 +162,7 @@ impl fmt::Display for Fault {
                 f,
                 row,
                 "the bytes of the resources up to it are",
-                "4194304 that are read",
+                "16777216 that are read",
             ),
         }
     }
@@ -167,7 +171,7 @@ impl fmt::Display for Fault {
 /// What is said of a type that stands twice.
 fn write_same<W: fmt::Write>(f: &mut fmt::Formatter<W>, same: &SameType) -> fmt::Result {
     let kind = same.kind.bytes();
-    let kind = Quoted::single(&kind);
+    let kind = Quoted::single(Letters::Raw, &kind);
     let SameType { first, second, .. } = *same;
     write!(
         f,
@@ -178,7 +182,7 @@ fn write_same<W: fmt::Write>(f: &mut fmt::Formatter<W>, same: &SameType) -> fmt:
 /// What is said of a list of references.
 fn write_list<W: fmt::Write>(f: &mut fmt::Formatter<W>, list: &BadList) -> fmt::Result {
     let kind = list.kind.bytes();
-    let kind = Quoted::single(&kind);
+    let kind = Quoted::single(Letters::Raw, &kind);
     let Gap {
         place,
         wanted,

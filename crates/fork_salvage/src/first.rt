@@ -2,12 +2,13 @@
 
 ghost use Rattle.std.specs.Prelude.{◌≡◌, ◌≢◌, ℕ, ◌<◌, ◌≤◌, ◌+◌, ◌*◌, ◌^◌, [], length, slice_index, IfSome, IfNone, IfOk, IfErr};
 ghost use Rattle.std.specs.List.{AllByRecursion};
-ghost use Rattle.fork_bytes.specs.Fork.{number_at, header_of, map_of, name_list, references_of, HasParts, HasReferences, Holds, IsFork, Refuses};
+ghost use Rattle.fork_bytes.specs.Fork.{number_at, header_of, map_of, name_list, references_of, HasPartsWithin, HasReferences, HoldsWithin, IsForkWithin, RefusesWithin, format_limits};
 ghost use Rattle.fork_bytes.specs.declared.fault.Condition.TheVariants as condition;
 ghost use Rattle.fork_bytes.specs.declared.fault.ForkFault.TheVariants.{BadMap};
 ghost use Rattle.fork_reader.specs.Reading.{HasName};
 ghost use Rattle.fork_salvage.specs.Plans.{IsTold, IsTypes, reference_of};
 ghost use Rattle.fork_salvage.specs.Salvage.{parts_at, map_in, told_list};
+ghost use Rattle.fork_salvage.specs.Faults.{count_fault};
 ghost use Rattle.fork_salvage.specs.Fault.{IsFault, HasBytes, IsGap, bad_row, refusal_of};
 
 use crate::cursor::Cursor;
@@ -17,15 +18,22 @@ use crate::number::{read_count, read_signed, read_two};
 use crate::place::{Gap, Parts, Span};
 use crate::plan::{HEADER_LENGTH, MAP_HEADER_LENGTH, Plan, parts_at};
 use crate::reference::{Loss, MapReference, NO_NAME, REFERENCE_LENGTH, find_bytes};
-use fork_bytes::layout::{MAX_FORK, MAX_ROWS};
+use fork_bytes::layout::Limits;
+
+/// The most bytes of a fork, the most resources, and the most bytes of all of these with their lengths.
+pub(crate) const MAX_FORK: usize = Limits::FORMAT.fork as usize;
+
+pub(crate) const MAX_ROWS: usize = Limits::FORMAT.rows as usize;
+
+const MAX_BYTES: usize = Limits::FORMAT.bytes as usize;
 
 /// The parts of a fork, or the first fault of its header.
 fn check_parts(fork: &[u8]) -> Result<Parts, Fault>
     ensures parts { IfOk result (λ parts. parts ≡ parts_at 0 fork.now) }
     ensures header { IfOk result (λ _. 16 ≤ length fork.now) }
-    ensures holds { IfOk result (λ _. HasParts (length fork.now) (header_of fork.now)) }
+    ensures holds { IfOk result (λ _. HasPartsWithin format_limits (length fork.now) (header_of fork.now)) }
     ensures fault { IfErr result (IsFault fork.now) }
-    ensures refuses { IfErr result (λ fault. Refuses fork.now (refusal_of fault)) }
+    ensures refuses { IfErr result (λ fault. RefusesWithin format_limits fork.now (refusal_of fault)) }
 {
     let whole = Span {
         start: 0,
@@ -53,7 +61,7 @@ fn check_parts(fork: &[u8]) -> Result<Parts, Fault>
 /// The plan of a fork with these parts as it tells it, or the fault of a type list that ends outside of the map.
 fn check_types(fork: &[u8], parts: Parts) -> Result<Plan, Fault>
     requires parts { parts ≡ parts_at 0 fork.now }
-    requires holds { HasParts (length fork.now) (header_of fork.now) }
+    requires holds { HasPartsWithin format_limits (length fork.now) (header_of fork.now) }
     ensures told { IfOk result (IsTold fork.now) }
     ensures fault { IfErr result (IsFault fork.now) }
     ensures refusal { IfErr result (λ fault. refusal_of fault ≡ BadMap condition.Types) }
@@ -97,7 +105,7 @@ fn find_same_type(fork: &[u8], plan: &Plan) -> Option<Fault>
     requires { IsTold fork.now plan.now }
     ensures some { IfSome result (IsFault fork.now) }
     ensures refusal { IfSome result (λ fault. refusal_of fault ≡ BadMap condition.Types) }
-    ensures none { IfNone result (Holds condition.Types fork.now) }
+    ensures none { IfNone result (HoldsWithin format_limits condition.Types fork.now) }
 {
     let map = plan.map.of(fork);
     let start = plan.map.start + plan.types.place + 2;
@@ -145,11 +153,12 @@ fn find_list(fork: &[u8], plan: &Plan) -> Option<Fault>
 }
 
 /// How many references there are, if they are too many.
-fn find_count(fork: &[u8], plan: &Plan) -> Option<Fault>
+pub(crate) fn find_count(fork: &[u8], plan: &Plan) -> Option<Fault>
     requires { IsTold fork.now plan.now }
     ensures some { IfSome result (IsFault fork.now) }
+    ensures count { result ≡ count_fault fork.now }
     ensures refusal { IfSome result (λ fault. refusal_of fault ≡ BadMap condition.RowCount) }
-    ensures none { IfNone result (Holds condition.RowCount fork.now) }
+    ensures none { IfNone result (HoldsWithin format_limits condition.RowCount fork.now) }
 {
     let map = plan.map.of(fork);
     let mut total = 0;
@@ -164,7 +173,7 @@ fn find_count(fork: &[u8], plan: &Plan) -> Option<Fault>
 }
 
 /// A resource of which something is missing.
-fn bad_row(fork: &[u8], plan: &Plan, reference: MapReference, gap: Gap) -> BadRow
+pub(crate) fn bad_row(fork: &[u8], plan: &Plan, reference: MapReference, gap: Gap) -> BadRow
     requires told { IsTold fork.now plan.now }
     requires within { reference.place + 12 ≤ length (map_in fork.now plan.now) }
     ensures { result ≡ bad_row fork.now (reference_of reference) gap }
@@ -183,7 +192,7 @@ fn find_bad_name(fork: &[u8], plan: &Plan) -> Option<Fault>
     requires references { HasReferences (map_of fork.now) }
     ensures some { IfSome result (IsFault fork.now) }
     ensures refusal { IfSome result (λ fault. refusal_of fault ≡ BadMap condition.Names) }
-    ensures none { IfNone result (Holds condition.Names fork.now) }
+    ensures none { IfNone result (HoldsWithin format_limits condition.Names fork.now) }
 {
     let mut cursor = Cursor::new();
     while let Some(reference) = cursor.next(fork, plan) {
@@ -248,18 +257,18 @@ fn find_sum(fork: &[u8], plan: &Plan) -> Option<Fault>
     requires bytes { AllByRecursion (HasBytes fork.now) (references_of (map_of fork.now)) }
     ensures some { IfSome result (IsFault fork.now) }
     ensures refusal { IfSome result (λ fault. refusal_of fault ≡ BadMap condition.ByteCount) }
-    ensures none { IfNone result (Holds condition.ByteCount fork.now) }
+    ensures none { IfNone result (HoldsWithin format_limits condition.ByteCount fork.now) }
 {
     let mut total = 0;
     let mut cursor = Cursor::new();
     while let Some(reference) = cursor.next(fork, plan) {
         if let Ok(bytes) = find_bytes(fork, plan, reference.place) {
             total += 4 + bytes.length;
-            if total > MAX_FORK {
+            if total > MAX_BYTES {
                 let gap = Gap {
                     place: bytes.start - 4,
                     wanted: total,
-                    left: MAX_FORK,
+                    left: MAX_BYTES,
                 };
                 return Some(Fault::ByteCount(bad_row(fork, plan, reference, gap)));
             }
@@ -271,11 +280,11 @@ fn find_sum(fork: &[u8], plan: &Plan) -> Option<Fault>
 /// The first fault of the map and the data of a fork whose type list lies within the map.
 fn find_fault(fork: &[u8], plan: &Plan) -> Option<Fault>
     requires header { 16 ≤ length fork.now }
-    requires parts { Holds condition.Parts fork.now }
+    requires parts { HoldsWithin format_limits condition.Parts fork.now }
     requires told { IsTold fork.now plan.now }
     ensures fault { IfSome result (IsFault fork.now) }
-    ensures refuses { IfSome result (λ fault. Refuses fork.now (refusal_of fault)) }
-    ensures none { IfNone result (IsFork fork.now) }
+    ensures refuses { IfSome result (λ fault. RefusesWithin format_limits fork.now (refusal_of fault)) }
+    ensures none { IfNone result (IsForkWithin format_limits fork.now) }
 {
     if let Some(fault) = find_same_type(fork, plan) {
         return Some(fault);
@@ -296,11 +305,11 @@ fn find_fault(fork: &[u8], plan: &Plan) -> Option<Fault>
 }
 
 /// The first fault of a fork, in the order of the reader's conditions and at the least place, or None exactly where the bytes are a
-/// fork. Its condition is the first that doesn't hold, as `fork_reader::read_fork` says it.
+/// fork within the format's limits. Its condition is the first that doesn't hold, as `fork_reader::read_fork_within` says it.
 pub fn first_fault(fork: &[u8]) -> Option<Fault>
     ensures fault { IfSome result (IsFault fork.now) }
-    ensures refuses { IfSome result (λ fault. Refuses fork.now (refusal_of fault)) }
-    ensures none { IfNone result (IsFork fork.now) }
+    ensures refuses { IfSome result (λ fault. RefusesWithin format_limits fork.now (refusal_of fault)) }
+    ensures none { IfNone result (IsForkWithin format_limits fork.now) }
 {
     let parts = match check_parts(fork) {
         Ok(parts) => parts,

@@ -2,10 +2,12 @@
 //! of bytes is too large.
 #![tactic(auto)]
 
+mod check;
 mod cursor;
 mod entry;
 mod fault;
 mod first;
+mod found;
 mod laws;
 mod number;
 mod place;
@@ -13,9 +15,11 @@ mod plan;
 mod reference;
 mod salvage;
 
+pub use check::all_faults;
 pub use fault::{BadList, BadRow, Fault, SameType};
 pub use first::first_fault;
+pub use found::FoundRow;
 pub use laws::salvage_laws;
-pub use place::{Gap, Span};
+pub use place::{Gap, NameSpan, Span};
 pub use reference::{FoundName, Loss};
-pub use salvage::{FoundRow, Item, LostRow, Salvage};
+pub use salvage::{Item, LostRow, Salvage, find_attributes};

@@ -1,8 +1,9 @@
 //! Places in a fork.
 
-ghost use Rattle.std.specs.Prelude.{◌≡◌, ◌≤◌, ◌<◌, ◌+◌, ◌^◌, IfSome, IfNone};
-ghost use Rattle.fork_salvage.specs.Salvage.{part};
+ghost use Rattle.std.specs.Prelude.{◌≡◌, ◌≤◌, ◌<◌, ◌+◌, ◌^◌, length, IfSome, IfNone};
+ghost use Rattle.fork_salvage.specs.Salvage.{name_part, part};
 ghost use Rattle.fork_salvage.specs.Fault.{IsGap};
+ghost use Rattle.fork_salvage.specs.Faults.{gap_of};
 
 /// Bytes of a fork: where they begin, and how many there are.
 #[derive(Clone, Copy, Debug, PartialEq, Eq)]
@@ -22,6 +23,27 @@ impl Span {
     }
 }
 
+/// The bytes of a name: where they begin in a fork, and how many there are.
+#[derive(Clone, Copy, Debug, PartialEq, Eq)]
+pub struct NameSpan {
+    pub start: usize,
+    pub length: u8,
+}
+
+impl NameSpan {
+    /// The bytes themselves, as far as they lie within the fork.
+    pub fn of<'a>(&self, fork: &'a [u8]) -> &'a [u8]
+        ensures bytes { result.now ≡ name_part fork.now self.now }
+        ensures short { length result.now ≤ 255 }
+    {
+        let span = Span {
+            start: self.start,
+            length: self.length as usize,
+        };
+        span.of(fork)
+    }
+}
+
 /// Bytes that a fork hasn't: where they should begin, how many there should be, and how many are left there.
 #[derive(Clone, Copy, Debug, PartialEq, Eq)]
 pub struct Gap {
@@ -35,6 +57,7 @@ impl Gap {
     pub(crate) fn of(part: Span, at: usize, wanted: usize) -> Option<Gap>
         requires place { part.start + at < 2 ^ 64 }
         requires end { at + wanted < 2 ^ 64 }
+        ensures gap { result ≡ gap_of part at wanted }
         ensures some { IfSome result (IsGap part.start part.length at wanted) }
         ensures none { IfNone result (at + wanted ≤ part.length) }
     {

@@ -1,11 +1,12 @@
 //! The references of a map, each by itself.
 
-ghost use Rattle.std.specs.Prelude.{◌≡◌, ◌<◌, ◌≤◌, ◌+◌, ◌^◌, length, IfOk, true, ◌&&◌};
+ghost use Rattle.std.specs.Prelude.{◌≡◌, ◌<◌, ◌≤◌, ◌+◌, ◌^◌, length, IfOk, IfSome, true, ◌&&◌, option_map};
+ghost use Rattle.fork_salvage.specs.Laws.{name_shown};
 ghost use Rattle.fork_salvage.specs.Plans.{IsPlan};
 ghost use Rattle.fork_salvage.specs.Salvage.{map_in, bytes_found, datum_found, name_found, has_bytes, is_inside};
 
 use crate::number::{read_four, read_three, read_two};
-use crate::place::{Gap, Span};
+use crate::place::{Gap, NameSpan, Span};
 use crate::plan::Plan;
 use mac_base::resource::ResType;
 
@@ -31,12 +32,23 @@ pub enum FoundName {
     /// It has none.
     Unnamed,
     /// Where the bytes of its name stand in the fork.
-    Named(Span),
+    Named(NameSpan),
     /// Its name ends outside of the map. This is where its byte of length should stand in the fork.
     Outside(usize),
 }
 
 impl FoundName {
+    /// The bytes of the name in its fork: None where it has none, or ends outside of the map.
+    pub fn of<'a>(&self, fork: &'a [u8]) -> Option<&'a [u8]>
+        ensures name { option_map (λ name. name.now) result ≡ name_shown fork.now self.now }
+        ensures short { IfSome result (λ name. length name.now ≤ 255) }
+    {
+        match self {
+            FoundName::Named(span) => Some(span.of(fork)),
+            FoundName::Unnamed | FoundName::Outside(_) => None,
+        }
+    }
+
     /// Whether the name lies within the map, if there is one.
     pub(crate) fn is_inside(self) -> bool
         ensures { result ≡ is_inside self }
@@ -120,9 +132,9 @@ pub(crate) fn find_name(fork: &[u8], plan: &Plan, at: usize) -> FoundName
     }
     let start = read_two(map, 26) + offset;
     match map.get(start) {
-        Some(&count) if start + 1 + count as usize <= map.len() => FoundName::Named(Span {
+        Some(&count) if start + 1 + count as usize <= map.len() => FoundName::Named(NameSpan {
             start: plan.map.start + start + 1,
-            length: count as usize,
+            length: count,
         }),
         _ => FoundName::Outside(plan.map.start + start),
     }

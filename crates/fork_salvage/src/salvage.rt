@@ -2,31 +2,20 @@
 
 ghost use Rattle.std.specs.Prelude.{◌≡◌, ◌<◌, ◌≤◌, ◌+◌, ◌^◌, [], ◌∷◌, length, MatchOption};
 ghost use Rattle.fork_salvage.specs.Plans.{IsPlan, reference_of};
-ghost use Rattle.fork_salvage.specs.Salvage.{map_in, found_row, lost_row, item_of, items, plan_of, runs, runs_of};
+ghost use Rattle.fork_salvage.specs.Salvage.{attributes_found, attributes_in, map_in, found_row, lost_row, item_of, items, plan_of, runs, runs_of};
 
 use crate::cursor::{Cursor, keeps_all};
-use crate::number::{read_four, read_signed};
+use crate::found::FoundRow;
+use crate::number::{read_four, read_signed, read_two};
 use crate::place::Span;
-use crate::plan::{HEADER_LENGTH, Plan, mended_plan, told_plan};
-use crate::reference::{FoundName, Loss, MapReference, find_bytes, find_name};
+use crate::plan::{HEADER_LENGTH, MAP_HEADER_LENGTH, Plan, mended_plan, told_plan};
+use crate::reference::{Loss, MapReference, find_bytes, find_name};
 use bitflags::Flags;
 use mac_base::resource::{ResAttrs, ResType};
 use std::marker::Model;
 
 /// Where the data of a fork begins if nothing else is known: after the header and 240 other bytes.
 const USUAL_DATA: usize = 256;
-
-/// A resource that can be read: what its reference says, and where it and the resource's bytes stand in the fork.
-#[derive(Clone, Copy, Debug, PartialEq, Eq)]
-pub struct FoundRow {
-    pub kind: ResType,
-    pub id: i16,
-    pub name: FoundName,
-    pub attributes: ResAttrs,
-    /// Where the reference stands in the fork.
-    pub reference: usize,
-    pub bytes: Span,
-}
 
 /// A resource that can't be read.
 #[derive(Clone, Copy, Debug, PartialEq, Eq)]
@@ -133,6 +122,23 @@ fn plan_of(fork: &[u8]) -> Plan
         return plan;
     }
     mended_plan(fork)
+}
+
+/// The attributes of the map of a fork, as far as it can be read: zero where no map has a header.
+pub fn find_attributes(fork: &[u8]) -> u16
+    ensures { result ≡ attributes_found fork.now }
+{
+    attributes_in(plan_of(fork).map.of(fork))
+}
+
+/// The attributes of a map; zero where it has no header.
+fn attributes_in(map: &[u8]) -> u16
+    ensures { result ≡ attributes_in map.now }
+{
+    if map.len() < MAP_HEADER_LENGTH {
+        return 0;
+    }
+    read_two(map, 22) as u16
 }
 
 /// The runs that are read of a fork: none where its types are.

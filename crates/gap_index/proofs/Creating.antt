@@ -10,7 +10,7 @@ use Rattle.mac_base.specs.ZoneMap.{ZoneMap, block, total_size}
 use Rattle.mac_base.specs.ZoneSizes.{ZoneSizes, ArePossible}
 use Rattle.mac_base.specs.ZoneState.{Memory}
 use Rattle.zone_laws.proofs.Arranging.{total_size-used}
-use Rattle.zone_laws.proofs.GapAppend.{total_size-append}
+use Rattle.zone_laws.proofs.Maps.{total_size-append}
 use Rattle.linked_zone.specs.Changes.{bare_zone}
 use Rattle.fixed_index.specs.Index.{place}
 use Rattle.fixed_index.specs.Runs.{ends_fixed}

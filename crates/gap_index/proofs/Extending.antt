@@ -4,7 +4,8 @@ use Rattle.std.specs.Prelude.{slice_index}
 use Rattle.mac_base.specs.HeadKind.{zone_header}
 use Rattle.mac_base.specs.ZoneMap.{free_block, total_size, address_behind}
 use Rattle.mac_base.specs.ZoneState.{ZoneState}
-use Rattle.zone_laws.proofs.GapAppend.{total_size-append}
+use Rattle.zone_laws.proofs.Arranging.{total_size-free_block}
+use Rattle.zone_laws.proofs.Maps.{total_size-append}
 use Rattle.linked_zone.specs.Changes.{extended}
 use Rattle.linked_zone.specs.Places.{SplitAt}
 use Rattle.fixed_index.specs.Runs.{FrontAt}
@@ -14,7 +15,6 @@ use Rattle.gap_index.specs.Raised.{Raised}
 use Rattle.gap_index.proofs.Budget.{alike-same}
 use Rattle.gap_index.proofs.Fronts.{front_split}
 use Rattle.gap_index.proofs.Leaves.{loose-loose}
-use Rattle.gap_index.proofs.Named.{over-size}
 use Rattle.gap_index.proofs.Renewed.{Renewal, bound_in, lifted_in, lifted-high, lifted-higher, bounds-renewed}
 use Rattle.gap_index.proofs.Resizing.{over_loose, over_bytes}
 use Rattle.gap_index.proofs.Splits.{LastRun, last_run}
@@ -56,7 +56,7 @@ module _ (z : ZoneState) (zone : IsZone z) (end start : ℕ) (is : end ≡ addre
       (record {
         within =
             let all = total_size-append z.heap.map (free_block (z.shape.limit - (zone_header + total_size z.heap.map))) in
-            let over = over-size (z.shape.limit - (zone_header + total_size z.heap.map)) in
+            let over = total_size-free_block (z.shape.limit - (zone_header + total_size z.heap.map)) in
             let within = zone.within in
             omega arith;
         small = zone.small;

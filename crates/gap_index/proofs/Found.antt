@@ -13,10 +13,11 @@ use Rattle.mac_base.specs.Suits.{is_block_size}
 use Rattle.mac_base.specs.ZoneMap.{ZoneMap, address_behind, free_bytes, total_size}
 use Rattle.mac_base.specs.ZoneState.{ZoneState}
 use Rattle.zone_laws.proofs.Arranging.{free_bytes-all_used}
-use Rattle.zone_laws.proofs.GapAppend.{free_bytes-append, total_size-append}
+use Rattle.zone_laws.proofs.GapAppend.{free_bytes-append}
 use Rattle.zone_laws.proofs.GapApart.{sizes_possible}
 use Rattle.zone_laws.proofs.GapParts.{first_gap, first_gap-before, first_gap-IsGap, gaps-first, later_gaps, lowest_gap-is}
-use Rattle.place_sizes.specs.Sizes.{FirstAtLeast}
+use Rattle.zone_laws.proofs.Maps.{total_size-append}
+use Rattle.place_numbers.specs.Numbers.{FirstAtLeast}
 use Rattle.linked_zone.specs.Fit.{HasSizes}
 use Rattle.linked_zone.specs.Places.{FirstFree, SplitAt, none_free}
 use Rattle.fixed_index.specs.Index.{place}

@@ -2,10 +2,10 @@
 use Rattle.std.proofs.Common.{◌≡◌, ℕ, ◌+◌, ◌≤◌, ◌∷◌, ◌++◌, ap, ◌∙◌, append_assoc, arith}
 use Rattle.mac_base.specs.ZoneMap.{total_size, address_behind}
 use Rattle.mac_base.specs.ZoneState.{ZoneState}
-use Rattle.zone_laws.proofs.GapAppend.{total_size-append}
 use Rattle.linked_zone.specs.Places.{EntryAt, SplitAt}
 use Rattle.fixed_index.specs.Runs.{FrontAt, RestAt}
 use Rattle.gap_index.proofs.Splits.{first_run, last_run}
+use Rattle.zone_laws.proofs.Maps.{total_size-append}
 
 module _ (z : ZoneState) (at : ℕ) (s : SplitAt z at) where
   -- the blocks before an address, up to a fixed one

@@ -6,7 +6,6 @@ use Rattle.mac_base.specs.Gap.{is_fixed}
 use Rattle.mac_base.specs.Heap.{Heap}
 use Rattle.mac_base.specs.ZoneMap.{ZoneMap, total_size, free_bytes, address_behind}
 use Rattle.mac_base.specs.ZoneState.{ZoneState, with_heap}
-use Rattle.zone_laws.proofs.GapAppend.{total_size-append}
 use Rattle.linked_zone.specs.Places.{EntryAt}
 use Rattle.fixed_index.specs.Index.{place}
 use Rattle.fixed_index.specs.Runs.{FrontAt, none_fixed}
@@ -18,6 +17,7 @@ use Rattle.gap_index.proofs.Budget.{Alike}
 use Rattle.gap_index.proofs.Raising.{bounds-joined, bounds-parted, bounds-resized}
 use Rattle.gap_index.proofs.Renewed.{Within}
 use Rattle.gap_index.proofs.Splits.{LastRun, last_run}
+use Rattle.zone_laws.proofs.Maps.{total_size-append}
 
 module _ (z : ZoneState) (at : ℕ) (gap : Around) (g : IsAround z at gap) (e : EntryAt z at) where
   -- the gap before the block

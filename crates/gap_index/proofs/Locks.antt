@@ -1,11 +1,12 @@
 -- Which blocks are fixed once the handle table has changed.
 use Rattle.std.proofs.Common.{◌≡◌, ℕ, Bool, true, false, cond, eqb, List, [], ◌∷◌, ◌++◌, Option, Some, None, refl, ap, sym, ◌∙◌}
+use Rattle.std.proofs.lemmas.Bool.{eqb-true}
 use Rattle.mac_base.specs.declared.block.Kind.{Kind}
 use Rattle.mac_base.specs.declared.block.Kind.TheVariants.{Free, Master, Ptr, Rel}
 use Rattle.mac_base.specs.Gap.{is_fixed}
 use Rattle.mac_base.specs.HandleTable.{HandleTable, Live, EmptyHandle, FullHandle, Pointer, live_at, live_flags, live_handle, live_pointer, is_handle, is_locked, is_pointer, refilled, with_bytes, with_live, without}
 use Rattle.mac_base.specs.ZoneMap.{ZoneMap, is_named, sizes}
-use Rattle.zone_laws.proofs.Tables.{AgreeBut, live_at-with_live, live_at-without, eqb-true-is}
+use Rattle.zone_laws.proofs.Tables.{AgreeBut, live_at-with_live, live_at-without}
 use Rattle.gap_index.proofs.Budget.{Alike}
 
 -- the same handles are locked
@@ -49,7 +50,7 @@ locks-bytes x bytes t h = ap (λ o. (live_flags o).lock) (live_at-with_live x (r
     flags_kept (Some (Pointer old)) = refl
 
     by_number : (b : Bool) → eqb h x ≡ b → (live_flags (cond b (Some (refilled bytes (live_at t x))) (live_at t h))).lock ≡ is_locked t h
-    by_number true is = flags_kept (live_at t x) ∙ ap (is_locked t) (sym (eqb-true-is h x is))
+    by_number true is = flags_kept (live_at t x) ∙ ap (is_locked t) (sym (eqb-true h x is))
     by_number false is = refl
 
 -- nor does what has no lock, where there was none
@@ -57,7 +58,7 @@ pub locks-with_live : (x : ℕ) (l : Live) (t : HandleTable) → is_locked t x �
 locks-with_live x l t was is h = ap (λ o. (live_flags o).lock) (live_at-with_live x l t h) ∙ by_number (eqb h x) refl
   where
     by_number : (b : Bool) → eqb h x ≡ b → (live_flags (cond b (Some l) (live_at t h))).lock ≡ is_locked t h
-    by_number true here = is ∙ sym (ap (is_locked t) (eqb-true-is h x here) ∙ was)
+    by_number true here = is ∙ sym (ap (is_locked t) (eqb-true h x here) ∙ was)
     by_number false here = refl
 
 -- nor what isn't live any more
@@ -65,7 +66,7 @@ pub locks-without : (x : ℕ) (t : HandleTable) → is_locked t x ≡ false → 
 locks-without x t was h = ap (λ o. (live_flags o).lock) (live_at-without x t h) ∙ by_number (eqb h x) refl
   where
     by_number : (b : Bool) → eqb h x ≡ b → (live_flags (cond b None (live_at t h))).lock ≡ is_locked t h
-    by_number true here = sym (ap (is_locked t) (eqb-true-is h x here) ∙ was)
+    by_number true here = sym (ap (is_locked t) (eqb-true h x here) ∙ was)
     by_number false here = refl
 
 -- a pointer is not locked

@@ -8,7 +8,8 @@ use Rattle.mac_base.specs.HandleTable.{EmptyHandle, FullHandle, live_at, live_fl
 use Rattle.mac_base.specs.Loans.{lent_out, returned}
 use Rattle.mac_base.specs.ZoneMap.{block}
 use Rattle.mac_base.specs.ZoneState.{ZoneState, with_heap, with_contents}
-use Rattle.zone_laws.proofs.GapAppend.{total_size-append, free_bytes-append}
+use Rattle.zone_laws.proofs.GapAppend.{free_bytes-append}
+use Rattle.zone_laws.proofs.Maps.{total_size-append}
 use Rattle.linked_zone.specs.Changes.{carried_up, cut_in_two, given_back, joined_pair, pointed, sunk, taken}
 use Rattle.linked_zone.specs.Copying.{copied}
 use Rattle.linked_zone.specs.Places.{CanCut, FreeAt, FreePair, ParcelAt, ParcelUpTo}

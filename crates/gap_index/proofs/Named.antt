@@ -1,44 +1,25 @@
 -- The one block that a handle or a pointer names.
 use Rattle.std.proofs.Common.{◌≡◌, ℕ, ◌+◌, ◌≤◌, Bool, true, false, cond, List, [], ◌∷◌, ◌++◌, length, refl, ap, sym, ◌∙◌, arith}
 use Rattle.std.specs.Prelude.{◌==◌, ◌||◌}
-use Rattle.std.proofs.lemmas.List.{length-map}
+use Rattle.std.proofs.lemmas.List.{length-map, nil_from_length}
 use Rattle.mac_base.specs.declared.block.Entry.{Entry}
 use Rattle.mac_base.specs.declared.block.Kind.{Kind}
 use Rattle.mac_base.specs.declared.block.Kind.TheVariants.{Free, Master, Ptr, Rel}
 use Rattle.mac_base.specs.HandleTable.{has_block, is_full, is_pointer}
 use Rattle.mac_base.specs.HeadKind.{head_size}
 use Rattle.mac_base.specs.Suits.{is_handle_block, is_pointer_block}
-use Rattle.mac_base.specs.ZoneMap.{ZoneMap, block, free_block, is_named, sizes, addresses, address_behind, total_size}
+use Rattle.mac_base.specs.ZoneMap.{ZoneMap, block, is_named, sizes, addresses, address_behind, total_size}
 use Rattle.mac_base.specs.ZoneState.{ZoneState}
 use Rattle.zone_laws.proofs.GapAppend.{sizes-append, length-addresses_from}
 use Rattle.zone_laws.proofs.NamedPlace.{nil-append}
-use Rattle.zone_laws.proofs.Owners.{no_length}
 use Rattle.zone_laws.proofs.ReleasedBlocks.{marked, marked-append, marked-none}
-use Rattle.zone_laws.proofs.SuitsNamed.{full-no_pointer}
-use Rattle.zone_laws.proofs.Tables.{eqb-true-is}
+use Rattle.zone_laws.proofs.SuitsNamed.{full-no_pointer, length-sizes_named}
 use Rattle.linked_zone.specs.Changes.{freed}
 use Rattle.linked_zone.specs.Fit.{Fits}
-
--- a number names a block as a handle or as a pointer
-one_kind : (x : ℕ) (kind : Kind) (n : ℕ) → length (cond (is_named x kind) (n ∷ []) []) ≡ length (cond (is_handle_block x kind) (n ∷ []) []) + length (cond (is_pointer_block x kind) (n ∷ []) [])
-one_kind x Free n = refl
-one_kind x Master n = refl
-one_kind x (Ptr p) n = elim (p == x) as (λ b. length (cond b (n ∷ []) []) ≡ 0 + length (cond b (n ∷ []) [])) [ true ↦ refl | false ↦ refl ]
-one_kind x (Rel h) n = elim (h == x) as (λ b. length (cond b (n ∷ []) []) ≡ length (cond b (n ∷ []) []) + 0) [ true ↦ refl | false ↦ refl ]
 
 length-two : (xs ys : List ℕ) → length (xs ++ ys) ≡ length xs + length ys
 length-two [] ys = omega arith
 length-two (x ∷ xs) ys = let rest = length-two xs ys in omega arith
-
-length-named : (x : ℕ) (m : ZoneMap) → length (sizes (is_named x) m) ≡ length (sizes (is_handle_block x) m) + length (sizes (is_pointer_block x) m)
-length-named x [] = refl
-length-named x (e ∷ es) =
-    let here = one_kind x e.kind e.size in
-    let rest = length-named x es in
-    let all = length-two (cond (is_named x e.kind) (e.size ∷ []) []) (sizes (is_named x) es) in
-    let handles = length-two (cond (is_handle_block x e.kind) (e.size ∷ []) []) (sizes (is_handle_block x) es) in
-    let pointers = length-two (cond (is_pointer_block x e.kind) (e.size ∷ []) []) (sizes (is_pointer_block x) es) in
-    omega arith
 
 at_most_one : (f p : Bool) → (f ≡ true → p ≡ false) → cond f 1 0 + cond p 1 0 ≤ 1
 at_most_one true true h = absurd (cc (h refl))
@@ -53,7 +34,7 @@ length-cond false x = refl
 -- a number names as many blocks as it is a handle with a block, or a pointer
 count-named : (z : ZoneState) (x : ℕ) → Fits z → length (sizes (is_named x) z.heap.map) ≡ cond (is_full z.heap.table x) 1 0 + cond (is_pointer z.heap.table x) 1 0
 count-named z x fits =
-    let all = length-named x z.heap.map in
+    let all = length-sizes_named x z.heap.map in
     let handles = sym (length-addresses_from (address_behind z.shape []) (is_handle_block x) z.heap.map) ∙ fits.coherent.handles x in
     let pointers : length (sizes (is_pointer_block x) z.heap.map) ≡ cond (is_pointer z.heap.table x) 1 0 =
     sym (length-addresses_from (address_behind z.shape []) (is_pointer_block x) z.heap.map)
@@ -78,7 +59,7 @@ names-one z x before e behind fits map named =
     let few = few-named z x fits in
     let all = ap (λ m. length (sizes (is_named x) m)) map ∙ ap length (sizes-append (is_named x) before (e ∷ behind)) ∙ length-two (sizes (is_named x) before) (sizes (is_named x) (e ∷ behind)) in
     let here = ap (λ b. length (cond b (e.size ∷ []) [] ++ sizes (is_named x) behind)) named in
-    record { front = no_length (sizes (is_named x) before) (omega arith); back = no_length (sizes (is_named x) behind) (omega arith) }
+    record { front = nil_from_length (sizes (is_named x) before) (omega arith); back = nil_from_length (sizes (is_named x) behind) (omega arith) }
 
 some_of : (f p : Bool) → 1 ≤ cond f 1 0 + cond p 1 0 → (f || p) ≡ true
 some_of true p h = refl
@@ -120,11 +101,3 @@ same-place x (g ∷ a) e b (h ∷ c) f d is en fn an cn =
     let size = ap (λ (e : Entry). e.size) same in
     let rest = same-place x a e b c f d (cc is) en fn (tail_none x g a an) (tail_none x h c cn) in
     omega arith
-
--- what is over has as many bytes as are over
-pub over-size : (n : ℕ) → total_size (free_block n) ≡ n
-over-size n = by_test (n == 0) refl
-  where
-    by_test : (b : Bool) → (n == 0) ≡ b → total_size (cond b [] (block Free n ∷ [])) ≡ n
-    by_test true none = sym (eqb-true-is n 0 none)
-    by_test false some = omega arith

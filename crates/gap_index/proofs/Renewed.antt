@@ -6,8 +6,8 @@ use Rattle.mac_base.specs.Heap.{Heap}
 use Rattle.mac_base.specs.HeadKind.{Shape, zone_header}
 use Rattle.mac_base.specs.ZoneMap.{ZoneMap, total_size, free_bytes, address_behind}
 use Rattle.mac_base.specs.ZoneState.{ZoneState, with_heap}
-use Rattle.zone_laws.proofs.GapAppend.{total_size-append}
 use Rattle.zone_laws.proofs.Arranging.{total_size-used}
+use Rattle.zone_laws.proofs.Maps.{total_size-append}
 use Rattle.fixed_index.specs.Index.{place}
 use Rattle.fixed_index.specs.Runs.{RestAt}
 use Rattle.gap_index.specs.Index.{AreBounds}

@@ -6,8 +6,8 @@ use Rattle.mac_base.specs.declared.block.Kind.TheVariants.{Free}
 use Rattle.mac_base.specs.HandleTable.{HandleTable, bytes_of, resized}
 use Rattle.mac_base.specs.ZoneMap.{ZoneMap, block, free_block, free_bytes, free_size, total_size, is_named, address_behind}
 use Rattle.mac_base.specs.ZoneState.{ZoneState}
-use Rattle.zone_laws.proofs.Arranging.{named-used}
-use Rattle.zone_laws.proofs.GapAppend.{total_size-append}
+use Rattle.zone_laws.proofs.Arranging.{named-used, total_size-free_block}
+use Rattle.zone_laws.proofs.Maps.{total_size-append}
 use Rattle.linked_zone.specs.Changes.{held_there, enlarged}
 use Rattle.linked_zone.specs.Places.{CanGrow, CanHold, EntryAt, NamedAt}
 use Rattle.fixed_index.specs.Runs.{none_fixed}
@@ -16,7 +16,7 @@ use Rattle.gap_index.specs.Around.{IsAround}
 use Rattle.gap_index.specs.Index.{AreBounds}
 use Rattle.gap_index.specs.Raised.{Raised}
 use Rattle.gap_index.proofs.Grounds.{resized-around}
-use Rattle.gap_index.proofs.Named.{names-one, over-size, same-place}
+use Rattle.gap_index.proofs.Named.{names-one, same-place}
 use Rattle.gap_index.proofs.Locks.{alike-locks, kind-locks, locks-bytes}
 
 -- what is over is not fixed
@@ -72,7 +72,7 @@ module _ (z : ZoneState) (x at : ℕ) (gap : Around) (g : IsAround z at gap) (b 
     pub bounds-held : {size n : ℕ} (can : CanHold z x size n) → Shifted old new gap (at + size) (gap.end - at - size) → AreBounds (held_there z can) new
     bounds-held {size = size} {n = n} can raised =
         let locks = locks-bytes x (resized n (bytes_of z.heap.table x)) z.heap.table in
-        let over = over-size (can.here.size - size) in
+        let over = total_size-free_block (can.here.size - size) in
         let bytes = over_bytes (can.here.size - size) in
         let none : free_size (block can.here.kind size) ≡ 0 = named_bytes x (block can.here.kind size) can.named in
         let within = can.fits.within in
@@ -85,7 +85,7 @@ module _ (z : ZoneState) (x at : ℕ) (gap : Around) (g : IsAround z at gap) (b 
     pub bounds-grown : {size n : ℕ} (can : CanGrow z x size n) → Shifted old new gap (at + size) 0 → AreBounds (enlarged z can) new
     bounds-grown {size = size} {n = n} can raised =
         let locks = locks-bytes x (resized n (bytes_of z.heap.table x)) z.heap.table in
-        let over = over-size (can.here.size + can.free - size) in
+        let over = total_size-free_block (can.here.size + can.free - size) in
         let bytes = over_bytes (can.here.size + can.free - size) in
         let none : free_size (block can.here.kind size) ≡ 0 = named_bytes x (block can.here.kind size) can.named in
         let within = can.fits.within in

@@ -4,7 +4,6 @@ use Rattle.std.specs.Prelude.{nat_le, slice_index}
 use Rattle.std.proofs.lemmas.Bool.{false_from_ne_true, le-leb, leb-true}
 use Rattle.mac_base.specs.ZoneMap.{free_bytes, total_size}
 use Rattle.mac_base.specs.ZoneState.{ZoneState}
-use Rattle.zone_laws.proofs.GapAppend.{total_size-append}
 use Rattle.fixed_index.specs.Index.{place}
 use Rattle.fixed_index.specs.Runs.{RestAt}
 use Rattle.fixed_index.proofs.Searching.{place-back}
@@ -13,6 +12,7 @@ use Rattle.gap_index.specs.Gaps.{GapAt}
 use Rattle.gap_index.specs.Index.{AreBounds}
 use Rattle.gap_index.proofs.Begins.{split_gap}
 use Rattle.gap_index.proofs.Found.{bounds-lowered}
+use Rattle.zone_laws.proofs.Maps.{total_size-append}
 
 -- fewer bytes are not enough
 pub too-few : (k n : ℕ) → n < k → false ≡ nat_le k n

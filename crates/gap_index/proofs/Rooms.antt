@@ -6,8 +6,9 @@ use Rattle.mac_base.specs.declared.block.Kind.TheVariants.{Free}
 use Rattle.mac_base.specs.ZoneMap.{ZoneMap, block, free_bytes, free_size, is_free, total_size}
 use Rattle.mac_base.specs.ZoneState.{ZoneState}
 use Rattle.zone_laws.proofs.Arranging.{free_bytes-all_used, total_size-used}
-use Rattle.zone_laws.proofs.GapAppend.{free_bytes-append, total_size-append}
+use Rattle.zone_laws.proofs.GapAppend.{free_bytes-append}
 use Rattle.zone_laws.proofs.GapApart.{sizes_possible}
+use Rattle.zone_laws.proofs.Maps.{total_size-append}
 use Rattle.linked_zone.specs.Fit.{HasSizes}
 use Rattle.linked_zone.specs.Places.{FirstFree, FreeAt, SplitAt, none_free}
 use Rattle.fixed_index.specs.Runs.{RestAt}

@@ -12,7 +12,7 @@ use crate::raise::{bound_at, set_bound};
 use crate::zone::GapZone;
 use fixed_index::IndexedZone;
 use linked_zone::LinkedZone;
-use place_sizes::Sizes;
+use place_numbers::sizes::Sizes;
 
 impl GapZone {
     /// The address of the first free block of the lowest gap with at least `needed` free bytes, if there is one. Of the gaps

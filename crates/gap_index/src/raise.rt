@@ -4,7 +4,7 @@ ghost use Rattle.std.specs.Prelude.{◌≡◌, ◌+◌, ◌-◌, ◌/◌, ◌≤
 ghost use Rattle.gap_index.specs.Raised.{Raised};
 
 use crate::around::Around;
-use place_sizes::Sizes;
+use place_numbers::sizes::Sizes;
 
 /// The bound for a gap that begins at an address of a zone.
 pub fn bound_at(bounds: &Sizes, base: u32, at: u32) -> u32

@@ -5,7 +5,7 @@ use linked_zone::LinkedZone;
 use mac_base::error::HostFull;
 use mac_base::size::ZONE_HEADER;
 use mac_base::zone_spec::ZoneSpec;
-use place_sizes::Sizes;
+use place_numbers::sizes::Sizes;
 use std::alloc::Global;
 use std::marker::Model;
 

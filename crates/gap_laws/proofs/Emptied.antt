@@ -2,7 +2,7 @@
 use Rattle.std.proofs.Common.{◌≡◌, ℕ, ◌+◌, Bool, true, false, not, cond, eqb, List, [], ◌∷◌, refl, ap, sym, ◌∙◌, subst, arith, inl, inr, Contains}
 use Rattle.std.specs.Prelude.{◌||◌, ◌&&◌, ◌⊎◌, ◌==◌, filter, filter_map}
 use Rattle.std.specs.List.{list_all}
-use Rattle.std.proofs.lemmas.Bool.{and_from, and_parts, or_left, or_parts, or_right, true≢false, false_from_ne_true}
+use Rattle.std.proofs.lemmas.Bool.{and_from, and_parts, or_left, or_parts, or_right, true≢false, false_from_ne_true, not-true, not_from_false, eqb-true}
 use Rattle.std.proofs.lemmas.Bool.Decides.{nat_tests}
 use Rattle.std.proofs.lemmas.List.Elements.{All-contains, filter_passes}
 use Rattle.mac_base.specs.declared.block.Entry.{Entry}
@@ -19,12 +19,11 @@ use Rattle.mac_base.specs.Request.{blocks_to_purge, candidates, candidates_in, i
 use Rattle.mac_base.specs.Heap.{Heap, with_emptied, with_all_emptied}
 use Rattle.mac_base.specs.Sound.{Sound}
 use Rattle.zone_laws.proofs.Lent.{lent-filtered}
-use Rattle.zone_laws.proofs.Maps.{both_true, not_true, true_not}
 use Rattle.zone_laws.proofs.Owners.{no_pointer_block, nothing_passes}
 use Rattle.zone_laws.proofs.SlotPlaces.{Contains-cons_cases, Contains-here, Contains-later, Contains-none}
 use Rattle.zone_laws.proofs.SoundReleased.{sound-emptied}
 use Rattle.zone_laws.proofs.SuitsReleased.{total_size-released}
-use Rattle.zone_laws.proofs.Tables.{by_number, eqb-true-is, full_handle, handle_no_pointer, live_at-with_live_same, with_live_agrees}
+use Rattle.zone_laws.proofs.Tables.{by_number, full_handle, handle_no_pointer, live_at-with_live_same, with_live_agrees}
 use Rattle.gap_laws.proofs.FixesSame.{FixesSame, fixes-refl, fixes-then, blocks_to_purge-same}
 use Rattle.gap_laws.proofs.PurgeBlocks.{keeps_fixed, purge_blocks, purge_blocks-filter, purge_handles, purge_handles-used, used-released}
 
@@ -46,7 +45,7 @@ emptied-FixesSame t h may =
 -- no pointer's block is named by a handle
 none_pass : (at : ℕ) (test : Kind → Bool) (m : ZoneMap) → addresses_from at test m ≡ [] → list_all (λ (e : Entry). not (test e.kind)) m ≡ true
 none_pass at test [] h = refl
-none_pass at test (e ∷ es) h = let parts = nothing_passes (test e.kind) at (addresses_from (at + e.size) test es) h in and_from (not (test e.kind)) _ (not_true (test e.kind) parts.0) (none_pass (at + e.size) test es parts.1)
+none_pass at test (e ∷ es) h = let parts = nothing_passes (test e.kind) at (addresses_from (at + e.size) test es) h in and_from (not (test e.kind)) _ (not_from_false (test e.kind) parts.0) (none_pass (at + e.size) test es parts.1)
 
 -- so an unlocked handle names no fixed block in use
 keeps-unlocked : (t : HandleTable) (h : ℕ) (m : ZoneMap) → is_locked t h ≡ false → list_all (λ (e : Entry). not (is_pointer_block h e.kind)) m ≡ true → keeps_fixed t (λ (e : Entry). not (is_named h e.kind)) (used_blocks m) ≡ true
@@ -65,7 +64,7 @@ keeps-unlocked t h (e ∷ es) unlocked none =
     by_kind Master other = refl
     by_kind (Ptr p) other = other
     by_kind (Rel g) other = elim (eqb g h) as (λ b. eqb g h ≡ b → (not (is_locked t g) || not b) ≡ true) [
-      | true ↦ λ same. ap (λ b. not b || false) (ap (is_locked t) (eqb-true-is g h same) ∙ unlocked)
+      | true ↦ λ same. ap (λ b. not b || false) (ap (is_locked t) (eqb-true g h same) ∙ unlocked)
       | false ↦ λ _. or_right (not (is_locked t g)) true refl
     ] refl
 
@@ -171,10 +170,10 @@ pub candidate-is : (t : HandleTable) (protected : List ℕ) (m : ZoneMap) (h : �
 candidate-is t protected m h c =
     let passes = All-contains (λ g. (is_purgeable t g && not (is_among protected g)) ≡ true) (candidates_in t protected m) h
     (filter_passes (λ g. is_purgeable t g && not (is_among protected g)) (filter_map (λ (e : Entry). handle_of e.kind) m)) c in
-    let both = both_true (is_purgeable t h) (not (is_among protected h)) passes in
-    let purgeable = both_true (is_full t h) ((flags_of t h).purge && not (is_locked t h)) both.0 in
-    let flags = both_true ((flags_of t h).purge) (not (is_locked t h)) purgeable.1 in
-    record { may = record { handle = full_handle t h purgeable.0; unlocked = true_not (is_locked t h) flags.1 }; full = purgeable.0; unprotected = true_not (is_among protected h) both.1 }
+    let both = and_parts (is_purgeable t h) (not (is_among protected h)) passes in
+    let purgeable = and_parts (is_full t h) ((flags_of t h).purge && not (is_locked t h)) both.0 in
+    let flags = and_parts ((flags_of t h).purge) (not (is_locked t h)) purgeable.1 in
+    record { may = record { handle = full_handle t h purgeable.0; unlocked = not-true (is_locked t h) flags.1 }; full = purgeable.0; unprotected = not-true (is_among protected h) both.1 }
 
 filter-none : (p : ℕ → Bool) (ys : List ℕ) → ((y : ℕ) → Contains ys y → p y ≡ false) → filter p ys ≡ []
 filter-none p [] h = refl

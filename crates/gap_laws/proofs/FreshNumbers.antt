@@ -17,9 +17,12 @@ use Rattle.mac_base.specs.HandleTable.{HandleTable, Live, EmptyHandle, FullHandl
 use Rattle.mac_base.specs.Suits.{Suits, slots_from, slots, has_owners_length, is_block_size, is_pointer_block}
 use Rattle.mac_base.specs.Gap.{Gap, room, is_fixed}
 use Rattle.mac_base.specs.Serve.{contents_at_gap}
-use Rattle.zone_laws.proofs.GapAppend.{addresses_from-append, addresses_from-none}
+use Rattle.zone_laws.proofs.GapAppend.{addresses_from-none}
 use Rattle.zone_laws.proofs.GapParts.{IsGap}
 use Rattle.zone_laws.proofs.GapApart.{sizes_possible}
+use Rattle.zone_laws.proofs.Tables.{not_live}
+use Rattle.zone_laws.proofs.SlotOwners.{pointer_not_master}
+use Rattle.zone_laws.proofs.Maps.{addresses_from-append}
 use Rattle.gap_laws.proofs.ServedMaster.{size-positive}
 
 -- whether no number of the list is this one
@@ -158,16 +161,6 @@ module _ (s : Shape) (t : HandleTable) (a c b m : ZoneMap) (x : ℕ) (suits : Su
       let one : none_is x (x ∷ []) ≡ true = ap (none_is x) (sym (suits.coherent.pointers x ∙ ap (λ c. cond c (x ∷ []) []) live)) ∙ list_all-map (λ n. not (n == x)) (λ at. at + head_size s.heads) (addresses s test m) ∙ all in
       absurd (false≢true (ap (λ c. not c && true) (sym (eq-eqb x x refl)) ∙ one)))
 
-not_live_from : (l : Option Live) → live_handle l ≡ false → live_pointer l ≡ false → l ≡ None
-not_live_from None h p = refl
-not_live_from (Some EmptyHandle) h p = absurd (cc h)
-not_live_from (Some (FullHandle flags bytes)) h p = absurd (cc h)
-not_live_from (Some (Pointer bytes)) h p = absurd (cc p)
-
--- what is neither a live handle nor a live pointer is not live
-pub not_live : (t : HandleTable) (x : ℕ) → is_handle t x ≡ false → is_pointer t x ≡ false → live_at t x ≡ None
-not_live t x h p = not_live_from (live_at t x) h p
-
 block_weaker : (p q : Entry → Bool) (b : ZoneMap) → ((e : Entry) → p e ≡ true → q e ≡ true) → list_all p b ≡ true → list_all q b ≡ true
 block_weaker p q [] w h = refl
 block_weaker p q (e ∷ es) w h = let parts = and_parts (p e) (list_all p es) h in and_from (q e) (list_all q es) (w e parts.0) (block_weaker p q es w parts.1)
@@ -219,12 +212,6 @@ first_passing at test (e ∷ es) h = elim (test e.kind) as (λ c. test e.kind �
       record { front = e ∷ rest.front; block = rest.block; back = rest.back; was = ap (λ m. e ∷ m) rest.was; passes = rest.passes; none_front = and_from _ _ (ap not other) rest.none_front }
 ] refl h
 
-pointer_block-no_master : (x : ℕ) (k : Kind) → is_pointer_block x k ≡ true → is_master k ≡ false
-pointer_block-no_master x Free h = refl
-pointer_block-no_master x Master h = absurd (cc h)
-pointer_block-no_master x (Ptr p) h = refl
-pointer_block-no_master x (Rel g) h = refl
-
 -- a slot is no pointer
 pub slot-no_pointer : (s : Shape) (t : HandleTable) (m : ZoneMap) (x : ℕ) → Suits s t m → Contains (slots s m) x → is_pointer t x ≡ false
 slot-no_pointer s t m x suits there = false_from_ne_true (is_pointer t x) (λ live.
@@ -241,4 +228,4 @@ slot-no_pointer s t m x suits there = false_from_ne_true (is_pointer t x) (λ li
     let some = size-positive s f.block.size (and_parts (is_block_size s f.block.size) (sizes_possible s f.back) possible).0 in
     let bytes : 0 < total_size (f.block ∷ []) = omega arith in
     let at : address_behind s f.front + head_size s.heads ≡ x = (let e : address_behind s f.front + head_size s.heads ≡ start + total_size f.front + head_size s.heads = omega arith in e) ∙ number in
-    none_is-contains x (slots s m) (no_slot s t f.front (f.block ∷ []) f.back m x suits f.was bytes at (and_from _ _ (ap not (pointer_block-no_master x f.block.kind f.passes)) refl)) there)
+    none_is-contains x (slots s m) (no_slot s t f.front (f.block ∷ []) f.back m x suits f.was bytes at (and_from _ _ (ap not (pointer_not_master x f.block.kind f.passes)) refl)) there)

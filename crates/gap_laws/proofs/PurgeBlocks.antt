@@ -1,6 +1,6 @@
 -- Among which blocks a request may purge, read from one end of the map to the other: free blocks don't matter, and fewer movable blocks leave fewer.
 use Rattle.std.proofs.Common.{◌≡◌, ℕ, Bool, true, false, not, cond, List, [], ◌∷◌, ◌++◌, refl, ap, sym, ◌∙◌, append-nil, Some, Option}
-use Rattle.std.specs.Prelude.{◌&&◌, ◌||◌, map, find, filter, filter_map, ◌==◌, ◌-◌, ◌+◌}
+use Rattle.std.specs.Prelude.{◌&&◌, ◌||◌, map, find, filter, filter_map, ◌-◌, ◌+◌}
 use Rattle.std.specs.Option.{option_map_or}
 use Rattle.std.specs.List.{All, list_all}
 use Rattle.std.proofs.lemmas.Bool.{and_from, and_parts, or_right, true≢false}
@@ -19,6 +19,7 @@ use Rattle.mac_base.specs.Request.{stays, blocks_to_purge, candidates, is_among}
 use Rattle.zone_laws.proofs.GapParts.{IsLater, first_gap, later_gaps, gaps-first, first_gap-before, later_gaps-IsLater, has_blocks}
 use Rattle.zone_laws.proofs.JoinedBlocks.{join_cases}
 use Rattle.zone_laws.proofs.ReleasedBlocks.{marked}
+use Rattle.zone_laws.proofs.Arranging.{used_blocks-free_block}
 
 -- the blocks up to the first fixed one
 abbrev pub run : HandleTable → ZoneMap → ZoneMap
@@ -178,14 +179,11 @@ pub used-joined : (m : ZoneMap) → used_blocks (joined m) ≡ used_blocks m
 used-joined [] = refl
 used-joined (e ∷ es) = used-joined_to e (joined es) ∙ ap (λ m. cond (not (is_free e.kind)) (e ∷ m) m) (used-joined es)
 
-used-free_block : (n : ℕ) → used_blocks (free_block n) ≡ []
-used-free_block n = elim (n == 0) as (λ c. used_blocks (cond c [] (block Free n ∷ [])) ≡ []) [ true ↦ refl | false ↦ refl ]
-
 -- and so does growth
 pub used-at_limit : (s : Shape) (m : ZoneMap) → used_blocks (at_limit s m) ≡ used_blocks m
 used-at_limit s m =
     let more = s.limit - (zone_header + total_size m) in
-    used-joined (m ++ free_block more) ∙ filter-append (λ (e : Entry). not (is_free e.kind)) m (free_block more) ∙ ap (λ b. used_blocks m ++ b) (used-free_block more) ∙ append-nil (used_blocks m)
+    used-joined (m ++ free_block more) ∙ filter-append (λ (e : Entry). not (is_free e.kind)) m (free_block more) ∙ ap (λ b. used_blocks m ++ b) (used_blocks-free_block more) ∙ append-nil (used_blocks m)
 
 -- so growth leaves the handles that may be purged
 pub candidates-at_limit : (s : Shape) (t : HandleTable) (protected : List ℕ) (r : Request) (m : ZoneMap) → candidates t protected r (at_limit s m) ≡ candidates t protected r m

@@ -19,13 +19,13 @@ use Rattle.mac_base.specs.declared.request.Request.TheVariants.{NewMaster}
 use Rattle.mac_base.specs.Request.{size_needed}
 use Rattle.mac_base.specs.Serve.{taken, take_lowest, begins_free, cleared, placed_fixed, serve}
 use Rattle.mac_base.specs.Trial.{MapServed}
-use Rattle.zone_laws.proofs.GapAppend.{addresses_from-append}
 use Rattle.zone_laws.proofs.GapParts.{IsGap}
 use Rattle.zone_laws.proofs.GapApart.{sizes_possible}
 use Rattle.zone_laws.proofs.Fitting.{begins_free-cleared, size_needed-positive}
 use Rattle.zone_laws.proofs.JoinedBlocks.{joined-apart, joined-front, joined-two}
 use Rattle.zone_laws.proofs.Placing.{has_free-is}
 use Rattle.zone_laws.proofs.PlacedParts.{cleared-Rearranged, free_apart-cleared}
+use Rattle.zone_laws.proofs.Maps.{addresses_from-append}
 use Rattle.gap_laws.proofs.ServedPlaces.{placed_fixed-parts}
 
 -- what is taken where the first block is free and has k bytes

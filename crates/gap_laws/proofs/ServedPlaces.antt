@@ -1,5 +1,5 @@
 -- A request for a new block or a reservation, served exactly, is one that the map may be served by.
-use Rattle.std.proofs.Common.{◌≡◌, ℕ, ◌<◌, ◌≤◌, true, false, not, cond, [], refl, ap, sym, ◌∙◌, subst, inl, inr, Some, None, eqb}
+use Rattle.std.proofs.Common.{◌≡◌, ℕ, ◌<◌, ◌≤◌, true, false, not, cond, [], refl, ap, sym, ◌∙◌, subst, inl, inr, Some, None}
 use Rattle.std.specs.Prelude.{◌⊎◌, IsTrue, nat_le, is_some, option_map, option_and_then}
 use Rattle.std.specs.List.{list_any}
 use Rattle.std.proofs.lemmas.Bool.{eq-eqb}
@@ -76,9 +76,6 @@ pub placed_relocatable-fixed : (s : Shape) (t : HandleTable) (k x : ℕ) (kind :
 placed_relocatable-fixed s t k x kind m new some named none apart h =
     Rearranged-weaker s (stays_for t k m) (is_fixed t) m (released x new) (stays_for-fixed t k m) (placed_relocatable-Rearranged s t k x kind m new some named none apart h)
 
-same_number : (x y : ℕ) → x ≡ y → eqb x y ≡ true
-same_number x y h = eq-eqb x y h
-
 -- a new block, for a slot that has none
 pub served-NewBlock : (s : Shape) (t : HandleTable) (slot : ℕ) (m : ZoneMap) (n x : ℕ) (new : ZoneMap) → free_apart m ≡ true → sizes (is_named slot) m ≡ [] → serve s t slot m (NewBlock n) ≡ Some (x, new)
     → MapServed s t (size_needed s (NewBlock n)) (NewBlock n) x m new
@@ -88,7 +85,7 @@ served-NewBlock s t slot m n x new apart none h =
     let number : slot ≡ x = ap (λ p. p.0) found.2 in
     let is : found.0 ≡ new = ap (λ p. p.1) found.2 in
     subst (λ x. Rearranged s (stays_for t k m) m (released x new)) number
-    (placed_relocatable-Rearranged s t k slot (Rel slot) m new (size_needed-positive s (NewBlock n)) (same_number slot slot refl) none apart (found.1 ∙ ap Some is))
+    (placed_relocatable-Rearranged s t k slot (Rel slot) m new (size_needed-positive s (NewBlock n)) (eq-eqb slot slot refl) none apart (found.1 ∙ ap Some is))
 
 -- a block in place of another: once that is released, it is a new one
 pub served-Replace : (s : Shape) (t : HandleTable) (slot : ℕ) (m : ZoneMap) (h n x : ℕ) (new : ZoneMap) → serve s t slot m (Replace h n) ≡ Some (x, new) → MapServed s t (size_needed s (Replace h n)) (Replace h n) x m new
@@ -96,7 +93,7 @@ served-Replace s t slot m h n x new served =
     let k : ℕ = size_needed s (Replace h n) in
     let found = option_map-Some (gives h) (placed_relocatable s t k (Rel h) (released h m)) (x, new) served in
     let is : found.0 ≡ new = ap (λ p. p.1) found.2 in
-    placed_relocatable-Rearranged s t k h (Rel h) (released h m) new (size_needed-positive s (Replace h n)) (same_number h h refl) (sizes-released h m) (free_apart-released h m) (found.1 ∙ ap Some is)
+    placed_relocatable-Rearranged s t k h (Rel h) (released h m) new (size_needed-positive s (Replace h n)) (eq-eqb h h refl) (sizes-released h m) (free_apart-released h m) (found.1 ∙ ap Some is)
 
 -- what is placed at the start of the lowest gap with room, by its parts
 pub record PlacedFixed (s : Shape) (t : HandleTable) (k : ℕ) (kind : ℕ → Kind) (m : ZoneMap) (x : ℕ) (new : ZoneMap) : Type 0 where
@@ -127,5 +124,5 @@ served-NewPointer s t slot m n x new apart none h =
     let g : Gap = p.gap in
     let i = p.is_gap in
     let parts = sizes-gap_none (is_named x) t m g i none in
-    let same = released-taken_in_gap s t k x (Ptr x) m g (cleared k g.blocks) p.blocks i p.taken (same_number x x refl) none (sizes-cleared (is_named x) k g.blocks refl ∙ parts.1) (free_apart-cleared t k m g i apart) in
+    let same = released-taken_in_gap s t k x (Ptr x) m g (cleared k g.blocks) p.blocks i p.taken (eq-eqb x x refl) none (sizes-cleared (is_named x) k g.blocks refl ∙ parts.1) (free_apart-cleared t k m g i apart) in
     subst (Rearranged s (is_fixed t) m) (sym same ∙ ap (released x) p.is) (cleared-Rearranged s t k m g i)

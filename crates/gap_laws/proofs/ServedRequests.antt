@@ -18,8 +18,9 @@ use Rattle.zone_laws.proofs.Fitting.{serve-NewBlock, serve-NewEmpty, serve-NewPo
 use Rattle.gap_laws.proofs.FittingResize.{serve-Resize}
 use Rattle.zone_laws.proofs.SuitsNamed.{named_once}
 use Rattle.gap_laws.proofs.SuitsNil.{named_none-not_live}
-use Rattle.gap_laws.proofs.FreshNumbers.{gap_start-not_live, slot-no_pointer, not_live}
+use Rattle.gap_laws.proofs.FreshNumbers.{gap_start-not_live, slot-no_pointer}
 use Rattle.zone_laws.proofs.PlacedParts.{option_map-Some}
+use Rattle.zone_laws.proofs.Tables.{not_live}
 use Rattle.gap_laws.proofs.ServedPlaces.{served-NewBlock, served-NewEmpty, served-NewPointer, served-Reserve, served-Replace, placed_fixed-parts}
 use Rattle.gap_laws.proofs.ServedMaster.{served-NewMaster}
 use Rattle.gap_laws.proofs.ServedResize.{served-Resize}

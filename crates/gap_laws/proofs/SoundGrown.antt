@@ -3,6 +3,7 @@ use Rattle.std.proofs.Common.{◌≡◌, ℕ, ◌+◌, ◌-◌, ◌≤◌, ◌�
 use Rattle.std.specs.List.{list_all}
 use Rattle.std.proofs.lemmas.List.Folds.{list_all-append}
 use Rattle.std.proofs.lemmas.Bool.Decides.{nat_tests}
+use Rattle.std.proofs.lemmas.Bool.{and_from}
 use Rattle.mac_base.specs.declared.block.Entry.{Entry}
 use Rattle.mac_base.specs.declared.block.Kind.{Kind}
 use Rattle.mac_base.specs.declared.block.Kind.TheVariants.{Free}
@@ -12,9 +13,11 @@ use Rattle.mac_base.specs.HandleTable.{HandleTable, is_handle}
 use Rattle.mac_base.specs.Suits.{Suits, is_block_size, is_handle_block, is_pointer_block, has_owners_length}
 use Rattle.mac_base.specs.Heap.{Heap, grown}
 use Rattle.mac_base.specs.Sound.{Sound, is_growth}
-use Rattle.zone_laws.proofs.Maps.{true_both, addresses_from-append, addresses_from-skip, total_size-append}
-use Rattle.zone_laws.proofs.Joined.{total_size-joined, addresses_from-joined, sizes-joined, lengths-joined, free_apart-joined}
+use Rattle.zone_laws.proofs.Maps.{addresses_from-append, addresses_from-skip, total_size-append}
+use Rattle.zone_laws.proofs.Joined.{sizes-joined, lengths-joined, free_apart-joined}
 use Rattle.zone_laws.proofs.SuitsTaken.{slots-same, contents-same}
+use Rattle.zone_laws.proofs.Arranging.{total_size-free_block}
+use Rattle.zone_laws.proofs.JoinedBlocks.{total_size-joined, addresses_from-joined}
 
 -- a free block of n bytes, or none where n is 0
 by_free : (P : ZoneMap → Type 0) (n : ℕ) → (n ≡ 0 → P []) → (eqb n 0 ≡ false → P (block Free n ∷ [])) → P (free_block n)
@@ -25,9 +28,6 @@ by_free P n none some = elim (eqb n 0) as (λ b. eqb n 0 ≡ b → P (cond b [] 
   where
     is_zero : eqb n 0 ≡ true → n ≡ 0
     is_zero h = grind (arith, nat_tests)
-
-total_size-free_block : (n : ℕ) → total_size (free_block n) ≡ n
-total_size-free_block n = by_free (λ m. total_size m ≡ n) n (λ h. omega arith) (λ _. omega arith)
 
 addresses_from-free_block : (n at : ℕ) (test : Kind → Bool) → test Free ≡ false → addresses_from at test (free_block n) ≡ []
 addresses_from-free_block n at test free = by_free (λ m. addresses_from at test m ≡ []) n (λ _. refl) (λ _. addresses_from-skip at test (block Free n) [] free)
@@ -47,9 +47,9 @@ total_size-at_limit s m within =
     omega (arith, all)
 
 list_all-at_limit : (p : Entry → Bool) (m : ZoneMap) (n : ℕ) → list_all p m ≡ true → (eqb n 0 ≡ false → p (block Free n) ≡ true) → list_all p (m ++ free_block n) ≡ true
-list_all-at_limit p m n h free = list_all-append p m (free_block n) ∙ true_both (list_all p m) _ h (by_free (λ m. list_all p m ≡ true) n (λ _. refl) (λ some. true_both (p (block Free n)) true (free some) refl))
+list_all-at_limit p m n h free = list_all-append p m (free_block n) ∙ and_from (list_all p m) _ h (by_free (λ m. list_all p m ≡ true) n (λ _. refl) (λ some. and_from (p (block Free n)) true (free some) refl))
 
-or_rest : (a b : Bool) → (a || b) ≡ true → a ≡ false → b ≡ true
+pub or_rest : (a b : Bool) → (a || b) ≡ true → a ≡ false → b ≡ true
 or_rest true b h is = absurd (cc is)
 or_rest false b h is = h
 

@@ -1,6 +1,7 @@
 -- A sound heap stays sound where handles are purged.
 use Rattle.std.proofs.Common.{◌≡◌, ℕ, true, not, ◌&&◌, List, [], ◌∷◌, filter_map, ap, ◌∙◌, Contains}
 use Rattle.std.proofs.lemmas.List.Elements.{All-contains, filter_passes}
+use Rattle.std.proofs.lemmas.Bool.{and_parts}
 use Rattle.mac_base.specs.declared.block.Entry.{Entry}
 use Rattle.mac_base.specs.HeadKind.{Shape}
 use Rattle.mac_base.specs.ZoneMap.{ZoneMap, handle_of}
@@ -8,7 +9,6 @@ use Rattle.mac_base.specs.HandleTable.{HandleTable, EmptyHandle, live_handle, is
 use Rattle.mac_base.specs.Request.{candidates_in, is_among}
 use Rattle.mac_base.specs.Heap.{Heap, with_emptied, with_all_emptied, all_purged}
 use Rattle.mac_base.specs.Sound.{Sound}
-use Rattle.zone_laws.proofs.Maps.{both_true}
 use Rattle.zone_laws.proofs.Tables.{with_live_agrees, live_at-with_live_same, by_number, full_handle}
 use Rattle.zone_laws.proofs.SlotPlaces.{Contains-here, Contains-later}
 use Rattle.zone_laws.proofs.SoundReleased.{sound-emptied}
@@ -30,8 +30,8 @@ pub candidate-handle : (t : HandleTable) (protected : List ℕ) (m : ZoneMap) (h
 candidate-handle t protected m h c =
     let passes = All-contains (λ g. (is_purgeable t g && not (is_among protected g)) ≡ true) (candidates_in t protected m) h
     (filter_passes (λ g. is_purgeable t g && not (is_among protected g)) (filter_map (λ (e : Entry). handle_of e.kind) m)) c in
-    let purgeable = both_true (is_purgeable t h) (not (is_among protected h)) passes in
-    full_handle t h (both_true (is_full t h) ((flags_of t h).purge && not (is_locked t h)) purgeable.0).0
+    let purgeable = and_parts (is_purgeable t h) (not (is_among protected h)) passes in
+    full_handle t h (and_parts (is_full t h) ((flags_of t h).purge && not (is_locked t h)) purgeable.0).0
 
 -- all handles that may be purged become empty
 pub sound-all_purged : (s : Shape) (heap : Heap) → Sound s heap → Sound s (all_purged heap)

@@ -1,7 +1,7 @@
 -- What is locked keeps its block where it is while a heap grows, is purged or releases blocks, and while requests are served.
 use Rattle.std.proofs.Common.{◌≡◌, ℕ, Bool, true, false, cond, eqb, List, [], ◌∷◌, Option, Some, None, refl, ap, sym, ◌∙◌, inl, inr}
 use Rattle.std.specs.Prelude.{◌||◌, ◌⊎◌}
-use Rattle.std.proofs.lemmas.Bool.{true≢false}
+use Rattle.std.proofs.lemmas.Bool.{true≢false, eqb-true}
 use Rattle.mac_base.specs.declared.block.Kind.{Kind}
 use Rattle.mac_base.specs.declared.block.Kind.TheVariants.{Master, Ptr, Rel}
 use Rattle.mac_base.specs.declared.releasing.ReleasingCall.{ReleasingCall}
@@ -25,7 +25,7 @@ use Rattle.zone_laws.proofs.Resized.{resized_in_place-at}
 use Rattle.zone_laws.proofs.SuitsReleased.{addresses-released}
 use Rattle.zone_laws.proofs.SuitsResized.{addresses_from-resized}
 use Rattle.zone_laws.proofs.SuitsTaken.{addresses-untaken}
-use Rattle.zone_laws.proofs.Tables.{by_number, eqb-true-is, eqb_swap, live_at-with_live_same, live_at-without_same, with_live_agrees, without_agrees}
+use Rattle.zone_laws.proofs.Tables.{by_number, eqb_swap, live_at-with_live_same, live_at-without_same, with_live_agrees, without_agrees}
 use Rattle.gap_laws.proofs.KeepsLoans.{rearranged-stays}
 use Rattle.gap_laws.proofs.ServedBase.{TakenFrom, ResizedFrom, ResizedElsewhere, placed_relocatable-TakenFrom, resized_block-from}
 use Rattle.gap_laws.proofs.ServedRequests.{serve-MapServed}
@@ -149,7 +149,7 @@ module _ (s : Shape) (heap : Heap) (sound : Sound s heap) where
 
           by_test : (b : Bool) → eqb h y ≡ b → b ≡ false
           by_test false is = refl
-          by_test true is = absurd (true≢false (sym locked ∙ ap (is_locked heap.table) (eqb-true-is h y is) ∙ unlocked (is_pointer heap.table y) (is_locked heap.table y) moves))
+          by_test true is = absurd (true≢false (sym locked ∙ ap (is_locked heap.table) (eqb-true h y is) ∙ unlocked (is_pointer heap.table y) (is_locked heap.table y) moves))
 
       by_place : (h : ℕ) → is_locked heap.table h ≡ true → ResizedFrom s heap.table heap.table (need s.heads n) y heap.map m ⊎ ResizedElsewhere s heap.table heap.table (need s.heads n) y heap.map m
           → addresses s (is_handle_block h) m ≡ addresses s (is_handle_block h) heap.map

@@ -1,5 +1,5 @@
 -- Where a map suits a table, no block is of the number nil, and none of a number that isn't live.
-use Rattle.std.proofs.Common.{◌≡◌, ℕ, zero, suc, ◌+◌, ◌<◌, Bool, true, false, cond, List, [], ◌∷◌, ◌++◌, length, refl, ap, sym, ◌∙◌, inl, inr, arith, Some, None, Option, get_or}
+use Rattle.std.proofs.Common.{◌≡◌, ℕ, zero, suc, ◌+◌, ◌<◌, Bool, true, false, cond, List, [], ◌∷◌, ◌++◌, length, refl, ap, sym, ◌∙◌, inl, inr, arith, None, get_or}
 use Rattle.std.specs.Prelude.{◌⊎◌, Contains, map, flat_map, nat_lt}
 use Rattle.std.specs.List.{list_all}
 use Rattle.std.proofs.lemmas.Bool.{and_from, and_parts, lt-ltb, ltb-true, true≢false, false≢true, cases_Bool, false_from_ne_true}
@@ -8,9 +8,10 @@ use Rattle.std.proofs.lemmas.List.Folds.{list_all-append}
 use Rattle.mac_base.specs.declared.block.Kind.{Kind}
 use Rattle.mac_base.specs.HeadKind.{Shape, head_size, slot_count}
 use Rattle.mac_base.specs.ZoneMap.{ZoneMap, is_named, is_master, sizes, address_behind, addresses_from, contents_addresses}
-use Rattle.mac_base.specs.HandleTable.{HandleTable, Live, EmptyHandle, FullHandle, Pointer, live_at, live_full, live_handle, live_pointer, is_full, is_handle, is_pointer}
+use Rattle.mac_base.specs.HandleTable.{HandleTable, live_at, live_full, live_pointer, is_full, is_handle, is_pointer}
 use Rattle.mac_base.specs.Suits.{Suits, slots_from, slots, is_pointer_block}
 use Rattle.zone_laws.proofs.SuitsNamed.{length-sizes_of}
+use Rattle.zone_laws.proofs.Tables.{full_handle}
 
 abbrev all_positive : List ℕ → Bool
 all_positive ns = list_all (λ n. nat_lt 0 n) ns
@@ -42,15 +43,6 @@ positive-slots n [] h = refl
 positive-slots n (at ∷ ats) h = let parts = and_parts (nat_lt 0 at) (all_positive ats) h in
     list_all-append (λ n. nat_lt 0 n) (slots_from n at) (flat_map (slots_from n) ats) ∙ and_from _ _ (positive-slots_from n at (ltb-true 0 at parts.0)) (positive-slots n ats parts.1)
 
-full-handle : (t : HandleTable) (x : ℕ) → is_full t x ≡ true → is_handle t x ≡ true
-full-handle t x h = by_live (live_at t x) h
-  where
-    by_live : (l : Option Live) → live_full l ≡ true → live_handle l ≡ true
-    by_live None h = absurd (cc h)
-    by_live (Some EmptyHandle) h = absurd (cc h)
-    by_live (Some (FullHandle flags bytes)) h = refl
-    by_live (Some (Pointer bytes)) h = absurd (cc h)
-
 -- nil is no live handle
 pub nil-no_handle : (s : Shape) (t : HandleTable) (m : ZoneMap) → Suits s t m → is_handle t 0 ≡ false
 nil-no_handle s t m suits = false_from_ne_true (is_handle t 0) (λ live. let positive = positive-contains (slots s m) 0 (positive-slots slot_count (contents_addresses s is_master m) (positive-contents s is_master m)) (suits.coherent.in_slots 0 live) in absurd (omega (arith, positive)))
@@ -75,5 +67,5 @@ pub named_none-nil : (s : Shape) (t : HandleTable) (m : ZoneMap) → Suits s t m
 named_none-nil s t m suits = named_none s t m 0 suits (no_full (cases_Bool (is_full t 0))) (nil-no_pointer s t m suits)
   where
     no_full : (is_full t 0 ≡ true) ⊎ (is_full t 0 ≡ false) → is_full t 0 ≡ false
-    no_full (inl full) = absurd (true≢false (sym (full-handle t 0 full) ∙ nil-no_handle s t m suits))
+    no_full (inl full) = absurd (true≢false (sym (full_handle t 0 full) ∙ nil-no_handle s t m suits))
     no_full (inr not_full) = not_full

@@ -6,6 +6,7 @@ use Rattle.std.specs.Ordering.{nat_cmp}
 use Rattle.std.specs.FinMap.{is_sorted}
 use Rattle.std.proofs.lemmas.Bool.{and_from}
 use Rattle.std.proofs.lemmas.Bool.Decides.{nat_tests}
+use Rattle.std.proofs.lemmas.List.{nil_from_length}
 use Rattle.mac_base.specs.declared.block.Entry.{Entry}
 use Rattle.mac_base.specs.declared.block.Kind.{Kind}
 use Rattle.mac_base.specs.declared.block.Kind.TheVariants.{Free, Master, Ptr, Rel}
@@ -16,9 +17,9 @@ use Rattle.mac_base.specs.Suits.{Suits, free_apart, starts_free, is_block_size, 
 use Rattle.mac_base.specs.Serve.{taken, renamed}
 use Rattle.zone_laws.proofs.GapAppend.{length-addresses_from}
 use Rattle.zone_laws.proofs.GapApart.{sizes_possible}
-use Rattle.zone_laws.proofs.Arranging.{is_kind-free}
+use Rattle.zone_laws.proofs.Arranging.{is_kind-free, named-used}
 use Rattle.zone_laws.proofs.Tables.{AgreeBut, by_number}
-use Rattle.zone_laws.proofs.Owners.{other_handle, other_pointer, no_length, wanted_length-agree}
+use Rattle.zone_laws.proofs.Owners.{other_handle, other_pointer, wanted_length-agree}
 use Rattle.zone_laws.proofs.Taken.{by_taken, head-below_smallest}
 use Rattle.zone_laws.proofs.JoinedBlocks.{sizes-joined}
 use Rattle.zone_laws.proofs.ReleasedBlocks.{marked, sizes-marked}
@@ -74,7 +75,7 @@ Suits-restored s x size u v new r =
             (length-addresses_from at (is_handle_block x) new ∙ ap (λ test. length (sizes test new)) (handle_block-kind x) ∙ ap length r.one ∙ sym (ap (λ c. cond c 1 0) r.full))
             (λ g apart. ap length (sym (addresses-released s x (is_handle_block g) new refl (other_handle x g apart))) ∙ suits.coherent.handles g ∙ sym (ap (λ o. cond (live_full o) 1 0) (agree.others g apart)));
         pointers = by_number (λ p. contents_addresses s (is_pointer_block p) new ≡ cond (is_pointer v p) (p ∷ []) []) x
-            (contents-same s (is_pointer_block x) [] new (no_length (addresses s (is_pointer_block x) new) (length-addresses_from at (is_pointer_block x) new ∙ ap (λ test. length (sizes test new)) (pointer_block-kind x) ∙ ap length r.none))
+            (contents-same s (is_pointer_block x) [] new (nil_from_length (addresses s (is_pointer_block x) new) (length-addresses_from at (is_pointer_block x) new ∙ ap (λ test. length (sizes test new)) (pointer_block-kind x) ∙ ap length r.none))
             ∙ sym (ap (λ c. cond c (x ∷ []) []) r.no_pointer))
             (λ p apart. contents-same s (is_pointer_block p) (released x new) new (sym (addresses-released s x (is_pointer_block p) new refl (other_pointer x p apart))) ∙ suits.coherent.pointers p
             ∙ sym (ap (λ o. cond (live_pointer o) (p ∷ []) []) (agree.others p apart)));
@@ -95,15 +96,9 @@ sizes_possible-renamed s z x (e ∷ es) = elim (is_named z e.kind) as (λ c. siz
   | false ↦ ap (λ b. is_block_size s e.size && b) (sizes_possible-renamed s z x es)
 ]
 
-named_used : (x : ℕ) (kind : Kind) → is_named x kind ≡ true → is_free kind ≡ false
-named_used x Free h = absurd (cc h)
-named_used x Master h = refl
-named_used x (Ptr p) h = refl
-named_used x (Rel g) h = refl
-
 free-renamed : (z x : ℕ) (e : Entry) → (let f : Entry = cond (is_named z e.kind) (block (Rel x) e.size) e in is_free f.kind) ≡ is_free e.kind
 free-renamed z x e = elim (is_named z e.kind) as (λ c. is_named z e.kind ≡ c → (let f : Entry = cond c (block (Rel x) e.size) e in is_free f.kind) ≡ is_free e.kind) [
-  | true ↦ λ named. sym (named_used z e.kind named)
+  | true ↦ λ named. sym (named-used z e.kind named)
   | false ↦ λ _. refl
 ] refl
 

@@ -1,6 +1,6 @@
 -- What is promised of every run from a new zone on.
 use Rattle.std.proofs.Common.{◌≡◌, ℕ, Bool, true, false, eqb, List, [], ◌∷◌, ◌++◌, Option, Some, None, refl, ap, sym, subst, ◌∙◌, inl, inr}
-use Rattle.std.proofs.lemmas.Bool.{true≢false}
+use Rattle.std.proofs.lemmas.Bool.{true≢false, eqb-true}
 use Rattle.mac_base.specs.declared.error.OsErr.{OsErr}
 use Rattle.mac_base.specs.HandleTable.{EmptyHandle, FullHandle, bytes_of, has_block, is_handle, is_lent, is_locked, live_handle}
 use Rattle.mac_base.specs.HeadKind.{Shape}
@@ -16,7 +16,7 @@ use Rattle.mac_calls.specs.Outcomes.{Outcome}
 use Rattle.mac_base.specs.declared.releasing.ReleasingCall.{ReleasingCall}
 use Rattle.mac_base.specs.declared.releasing.ReleasingCall.TheVariants.{DisposesHandle, DisposesPtr, Empties}
 use Rattle.mac_calls.specs.Released.{disposed_by}
-use Rattle.zone_laws.proofs.Tables.{eqb-true-is, handle_no_pointer}
+use Rattle.zone_laws.proofs.Tables.{handle_no_pointer}
 use Rattle.gap_laws.proofs.KeepsLoans.{contents-pointer}
 use Rattle.heap_laws.specs.Act.{Act, Calls, Does, Done, HasOperand, AreDone, Loads, Moment, OnLoan, Unloads, moment_after, new_zone}
 use Rattle.heap_laws.specs.Headline.{ActMayDispose, ActMayLose, ActTells, AllPromised, ByOne, FullWhereItMay, IsLockedThroughout, KeepsAddress, OfNext, Promised}
@@ -80,12 +80,12 @@ act-disposes s (Unloads call) old new h sound does was gone = by_call call does.
     by_call (DisposesHandle g) has gone = by_number (eqb h g) refl
       where
         by_number : (b : Bool) → eqb h g ≡ b → Some g ≡ Some h
-        by_number true is = ap (λ x. Some x) (sym (eqb-true-is h g is))
+        by_number true is = ap (λ x. Some x) (sym (eqb-true h g is))
         by_number false apart = absurd (true≢false (sym (other (DisposesHandle g) apart) ∙ gone))
     by_call (DisposesPtr p) has gone = absurd (true≢false (by_number (eqb h p) refl))
       where
         by_number : (b : Bool) → eqb h p ≡ b → true ≡ false
-        by_number true is = sym has ∙ handle_no_pointer old.heap.table p (ap (is_handle old.heap.table) (sym (eqb-true-is h p is)) ∙ was)
+        by_number true is = sym has ∙ handle_no_pointer old.heap.table p (ap (is_handle old.heap.table) (sym (eqb-true h p is)) ∙ was)
         by_number false apart = sym (other (DisposesPtr p) apart) ∙ gone
 
 -- and memFullErr is given only where it may be

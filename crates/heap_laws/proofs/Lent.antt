@@ -2,6 +2,7 @@
 use Rattle.std.proofs.Common.{◌≡◌, ℕ, Bool, true, false, eqb, cond, List, [], ◌∷◌, ◌++◌, Option, Some, None, Ok, Err, refl, ap, sym, subst, ◌∙◌}
 use Rattle.std.specs.Prelude.{◌||◌, ◌==◌}
 use Rattle.std.specs.List.{list_any}
+use Rattle.std.proofs.lemmas.Bool.{eqb-true}
 use Rattle.mac_base.specs.declared.error.OsErr.{OsErr}
 use Rattle.mac_base.specs.HandleTable.{bytes_of, has_block, is_lent, live_at, live_bytes, refilled}
 use Rattle.mac_base.specs.HeadKind.{Shape}
@@ -19,7 +20,7 @@ use Rattle.mac_calls.specs.Outcomes.{Outcome}
 use Rattle.mac_calls.specs.Tests.{IsBlock, MayBeLent, NotEmpty, NotLent}
 use Rattle.zone_laws.proofs.Lent.{KeepsLent, lent-block}
 use Rattle.zone_laws.proofs.LentChanges.{keeps-released}
-use Rattle.zone_laws.proofs.Tables.{eqb-true-is, eqb_same, eqb_swap, live_at-with_live_same}
+use Rattle.zone_laws.proofs.Tables.{eqb_same, eqb_swap, live_at-with_live_same}
 use Rattle.call_laws.proofs.Refusals.{passed-NotLent, test_3}
 use Rattle.call_laws.proofs.LentSteps.{lent-exact_step}
 use Rattle.heap_laws.specs.Act.{Act, Calls, Does, Done, AreDone, Loads, Moment, OnLoan, Unloads, moment_after}
@@ -78,12 +79,12 @@ module _ (s : Shape) (x : ℕ) where
         over = written at bytes (held_bytes y old.loans)
 
         by_number : (b : Bool) → eqb y x ≡ b → held_bytes x (with_held y over old.loans) ≡ cond b (written at bytes (held_bytes x old.loans)) (held_bytes x old.loans)
-        by_number true is = let same = eqb-true-is y x is in subst (λ z. held_bytes x (with_held z (written at bytes (held_bytes z old.loans)) old.loans) ≡ written at bytes (held_bytes x old.loans)) (sym same) (held-with_same x (written at bytes (held_bytes x old.loans)) old.loans loaned)
+        by_number true is = let same = eqb-true y x is in subst (λ z. held_bytes x (with_held z (written at bytes (held_bytes z old.loans)) old.loans) ≡ written at bytes (held_bytes x old.loans)) (sym same) (held-with_same x (written at bytes (held_bytes x old.loans)) old.loans loaned)
         by_number false apart = held-with_other y x over old.loans (eqb_swap x y ∙ apart)
     loan-stays (loan_call.Return y) outcome None step map not_returned = by_number (eqb x y) refl
       where
         by_number : (b : Bool) → eqb x y ≡ b → StaysLent old new (OnLoan (loan_call.Return y) outcome)
-        by_number true is = absurd (not_returned (ap (λ o. OnLoan (loan_call.Return y) o) step.0 ∙ ap (λ z. OnLoan (loan_call.Return z) (Ok Nothing)) (sym (eqb-true-is x y is))))
+        by_number true is = absurd (not_returned (ap (λ o. OnLoan (loan_call.Return y) o) step.0 ∙ ap (λ z. OnLoan (loan_call.Return z) (Ok Nothing)) (sym (eqb-true x y is))))
         by_number false apart = on-loan (OnLoan (loan_call.Return y) outcome) map (ap (is_loaned x) step.1 ∙ loaned-without_other y x old.loans apart ∙ loaned) (ap (held_bytes x) step.1 ∙ held-without y x old.loans apart)
 
     -- any act that isn't its return

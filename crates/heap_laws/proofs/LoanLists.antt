@@ -2,8 +2,9 @@
 use Rattle.std.proofs.Common.{◌≡◌, ℕ, Bool, true, false, not, cond, eqb, List, [], ◌∷◌, ◌++◌, refl, ap, sym, ◌∙◌}
 use Rattle.std.specs.Prelude.{◌||◌, ◌==◌}
 use Rattle.std.specs.List.{list_any}
+use Rattle.std.proofs.lemmas.Bool.{eqb-true}
 use Rattle.mac_calls.specs.Loans.{Loans, held_bytes, with_held, without_loan}
-use Rattle.zone_laws.proofs.Tables.{eqb-true-is, eqb_same, eqb_swap}
+use Rattle.zone_laws.proofs.Tables.{eqb_same, eqb_swap}
 
 -- whether x is among the loans
 abbrev pub is_loaned : ℕ → Loans → Bool
@@ -42,7 +43,7 @@ loaned-last x y bytes (loan ∷ loans) = ap (λ b. (loan.0 == y) || b) (loaned-l
 -- ---- other bytes in a loan
 
 same_tests : (l x y : ℕ) → (l == x) ≡ true → (x == y) ≡ (l == y)
-same_tests l x y h = ap (λ z. z == y) (sym (eqb-true-is l x h))
+same_tests l x y h = ap (λ z. z == y) (sym (eqb-true l x h))
 
 pub loaned-with : (x y : ℕ) (bytes : List ℕ) (loans : Loans) → is_loaned y (with_held x bytes loans) ≡ is_loaned y loans
 loaned-with x y bytes [] = refl

@@ -2,7 +2,7 @@
 use Rattle.std.proofs.Common.{◌≡◌, ℕ, ◌+◌, ◌≤◌, Bool, true, false, not, cond, eqb, length, take, drop, List, [], ◌∷◌, ◌++◌, Option, Some, None, Ok, Err, refl, ap, sym, subst, ◌∙◌}
 use Rattle.std.specs.Prelude.{◌||◌, ◌&&◌, ◌==◌, nat_lt}
 use Rattle.std.specs.List.{list_any}
-use Rattle.std.proofs.lemmas.Bool.{true≢false}
+use Rattle.std.proofs.lemmas.Bool.{true≢false, and_parts}
 use Rattle.mac_base.specs.declared.error.OsErr.{OsErr}
 use Rattle.mac_base.specs.declared.error.OsErr.TheVariants.{MemPurErr, ParamErr}
 use Rattle.mac_base.specs.HandleTable.{FullHandle, bytes_of, has_block, is_lent, is_locked, is_pointer, live_at, live_bytes, refilled, resized, with_live, zeros}
@@ -29,7 +29,6 @@ use Rattle.mac_calls.specs.RequestRun.{RequestRun}
 use Rattle.mac_calls.specs.Tests.{IsHandle, IsPointer, IsBlock, NotEmpty, NotLent, NotLocked, IsSize, IsWithin, IsLent, MayBeLent, refusal, refused_by, unless_passed}
 use Rattle.zone_laws.proofs.Lent.{KeepsLent, block-owner, fixed-kept, lent-apart, lent-block, lent-filtered}
 use Rattle.zone_laws.proofs.LentChanges.{lent_out-fixed, returned-bytes, returned-fixed, sound-lent, sound-returned}
-use Rattle.zone_laws.proofs.Maps.{both_true}
 use Rattle.zone_laws.proofs.Tables.{by_number, eqb_same, eqb_swap, live_at-with_live_same, with_live_agrees}
 use Rattle.call_laws.proofs.LentSteps.{block-here, lent-exact_step, pointer-here}
 use Rattle.call_laws.proofs.Refusals.{passed-IsWithin, passed-NotEmpty, passed-NotLent, test_2, test_3, test_4, test_5, test_6}
@@ -358,7 +357,7 @@ module _ (s : Shape) (held : Moment) (last : LastPut) (inv : LoansHeld held) (sh
       let block = passed-NotEmpty s held.heap x (test_2 s held.heap (IsBlock x) (NotEmpty x) (NotLent x ∷ MayBeLent x ∷ []) is) in
       let here = passed-NotLent s held.heap x (test_3 s held.heap (IsBlock x) (NotEmpty x) (NotLent x) (MayBeLent x ∷ []) is) in
       let may = passed-true (may_be_lent held.heap.table x) (test_4 s held.heap (IsBlock x) (NotEmpty x) (NotLent x) (MayBeLent x) [] is) in
-      let fixes = (both_true (is_pointer held.heap.table x || is_locked held.heap.table x) (nat_lt (length held.heap.table.lent) most_loans) may).0 in
+      let fixes = (and_parts (is_pointer held.heap.table x || is_locked held.heap.table x) (nat_lt (length held.heap.table.lent) most_loans) may).0 in
       subst (λ n. Leaves n last) (sym same) (record { sound = sound-lent s held.heap (lent_out x held.heap).table.lent sound; held_too = lend-held sound x block here fixes; shown = lend-shows sound x block here fixes })
   loan-left (loan_call.LentPeek x at n) r new sound is same = subst (λ n. Leaves n last) (sym same) (record { sound = sound; held_too = inv; shown = shows })
   loan-left (loan_call.LentPoke x at bytes) r new sound is same =

@@ -2,7 +2,7 @@
 use Rattle.std.proofs.Common.{◌≡◌, ℕ, Bool, true, false, not, cond, length, take, drop, List, [], ◌∷◌, ◌++◌, Option, Some, None, Ok, Contains, refl, ap, sym, subst, ◌∙◌, inl, inr, append-nil, append_assoc, arith, ◌-◌}
 use Rattle.std.specs.List.{cons_option}
 use Rattle.std.specs.Prelude.{flat_map, ◌||◌, ◌&&◌, ◌⊎◌, filter_map}
-use Rattle.std.proofs.lemmas.Bool.{or_left, true≢false}
+use Rattle.std.proofs.lemmas.Bool.{or_left, true≢false, not-true, and_parts}
 use Rattle.std.proofs.lemmas.Grind.{flat_map-append}
 use Rattle.std.proofs.lemmas.List.Elements.{All-contains, Contains-append_left, Contains-append_right, filter_map-append, filter_passes}
 use Rattle.mac_base.specs.declared.block.Entry.{Entry}
@@ -32,7 +32,6 @@ use Rattle.mac_calls.specs.declared.reply.Results.{Results}
 use Rattle.mac_calls.specs.declared.reply.Results.TheVariants.{Nothing}
 use Rattle.mac_calls.specs.RequestRun.{RequestRun}
 use Rattle.mac_calls.specs.Tests.{Test, IsHandle, IsSize, IsState, KeepsLent, NotEmpty, NotLent, NotLocked, first_refusal, protected_by, refusal}
-use Rattle.zone_laws.proofs.Maps.{both_true, true_not}
 use Rattle.zone_laws.proofs.SlotPlaces.{Contains-here, Contains-later, Contains-none}
 use Rattle.zone_laws.proofs.Tables.{by_number, eqb_same, live_at-with_live_same, with_live_agrees}
 use Rattle.call_laws.proofs.Refusals.{passed-IsHandle, test_1}
@@ -61,13 +60,13 @@ candidate-purgeable : (t : HandleTable) (protected : List ℕ) (m : ZoneMap) (x 
 candidate-purgeable t protected m x c =
     let passes = All-contains (λ g. (is_purgeable t g && not (is_among protected g)) ≡ true) (candidates_in t protected m) x
     (filter_passes (λ g. is_purgeable t g && not (is_among protected g)) (filter_map (λ (e : Entry). handle_of e.kind) m)) c in
-    let both = both_true (is_purgeable t x) (not (is_among protected x)) passes in
-    (both.0, true_not (is_among protected x) both.1)
+    let both = and_parts (is_purgeable t x) (not (is_among protected x)) passes in
+    (both.0, not-true (is_among protected x) both.1)
 
 -- what is purgeable was so as long as it had a block
 still-purgeable : (protected : List ℕ) (old new : HandleTable) (x : ℕ) → Fewer protected old new → is_purgeable new x ≡ true → is_purgeable old x ≡ true
 still-purgeable protected old new x fewer purgeable =
-    let block = or_left (is_full new x) (is_pointer new x) (both_true (is_full new x) ((flags_of new x).purge && not (is_locked new x)) purgeable).0 in
+    let block = or_left (is_full new x) (is_pointer new x) (and_parts (is_full new x) ((flags_of new x).purge && not (is_locked new x)) purgeable).0 in
     ap (λ o. live_full o && ((live_flags o).purge && not (live_flags o).lock)) (sym (fewer.same x block)) ∙ purgeable
 
 -- what is passed as a handle is one

@@ -10,7 +10,7 @@ use Rattle.mac_base.specs.HeadKind.{Shape}
 use Rattle.mac_base.specs.Heap.{Heap, every_slot_live}
 use Rattle.mac_base.specs.Releasing.{heap_released, operand_of}
 use Rattle.mac_base.specs.Request.{is_among, makes_handle, size_needed}
-use Rattle.mac_base.specs.Trial.{Fails, SameHeap, Serves}
+use Rattle.mac_base.specs.Trial.{Fails, Serves}
 use Rattle.mac_calls.specs.declared.memory_call.MemoryCall.{MemoryCall}
 use Rattle.mac_calls.specs.Effect.{request_of}
 use Rattle.mac_calls.specs.GrowZone.{Answer, Ask, Carried, carried_from, carried_once, carried_out, heap_unless, memory_call, most_answers}
@@ -19,6 +19,7 @@ use Rattle.mac_calls.specs.Outcomes.{Outcome}
 use Rattle.mac_calls.specs.RequestRun.{EndsUnserved, RequestRun}
 use Rattle.mac_calls.specs.Tests.{protected_by, refusal}
 use Rattle.heap_laws.specs.Course.{Asked, Begins, GaveUp, Tried, is_worth_a_trial, needs_master}
+use Rattle.call_laws.proofs.Steps.{same_heap}
 
 -- the calls of an answer one by one: one that isn't on a protected block is carried out or refused
 pub carried-steps : (s : Shape) (protected : List ℕ) (P : Carried → Type 0)
@@ -30,9 +31,6 @@ carried-steps s protected P step (call ∷ calls) c here =
     let next : Carried = record { heap = heap_unless (refusal s c.heap (memory_call call)) (heap_released call c.heap) c.heap; calls = c.calls ++ (call, refusal s c.heap (memory_call call)) ∷ [] } in
     carried-steps s protected P step calls (carried_once s protected call c)
     (elim (is_among protected (operand_of call)) as (λ b. is_among protected (operand_of call) ≡ b → P (cond b c next)) [ true ↦ λ _. here | false ↦ λ other. step call c other here ] refl)
-
-pub same-refl : (heap : Heap) → SameHeap heap heap
-same-refl heap = record { table = refl; map = refl }
 
 module _ (s : Shape) (protected : List ℕ) (r : Request) where
   -- the run as trials, where so many answers were allowed
@@ -66,11 +64,11 @@ module _ (s : Shape) (protected : List ℕ) (r : Request) where
       by_value true zero ends = ran-last given allowed old full (carried_out s protected a.calls full).heap (record { needed = needed; answer = Some a; carried = carried }) asks new fails (size, run.0, ends.2) (ap not zero) ends
       by_value false worth more =
           let after = (carried_out s protected a.calls full).heap in
-          ran-more given allowed old full after (record { needed = needed; answer = Some a; carried = carried }) asks new left fails (size, run.0, same-refl after) (ap not worth) (later after more)
+          ran-more given allowed old full after (record { needed = needed; answer = Some a; carried = carried }) asks new left fails (size, run.0, same_heap after) (ap not worth) (later after more)
 
   pub run-trials : (allowed : ℕ) (old : Heap) (asks : List Ask) (given : Option ℕ) (new : Heap) → RequestRun s protected r allowed old asks given new → Ran allowed old asks given new
   run-trials allowed old [] (Some x) new run = (old, refl, run, omega arith)
-  run-trials allowed old [] None new run = ([], [], old, new, refl, refl, run.1, same-refl new, λ none. sym run.0)
+  run-trials allowed old [] None new run = ([], [], old, new, refl, refl, run.1, same_heap new, λ none. sym run.0)
   run-trials allowed old (ask ∷ asks) given new run =
       answered-ran allowed old run.2 ask.needed ask.answer ask.carried asks given new run.0 run.1 run.3 (λ heap. run-trials (allowed - 1) heap asks given new) run.4
 

@@ -8,12 +8,12 @@ use Rattle.mac_calls.specs.GrowZone.{Answer, Ask}
 use Rattle.mac_calls.specs.Loans.{Loans}
 use Rattle.mac_calls.specs.Outcomes.{Outcome}
 use Rattle.call_laws.proofs.LentSteps.{step_keeps_lent}
-use Rattle.made_calls.specs.Answers.{OutOfAnswers, taken}
-use Rattle.made_calls.specs.Making.{MemorySteps}
-use Rattle.made_calls.proofs.Steps.{exact-queued}
-use Rattle.held_loans.specs.declared.loans.Held.{Held}
-use Rattle.held_loans.specs.Holding.{Holds}
-use Rattle.held_loans.proofs.Holding.{Holds-kept}
+use Rattle.held_calls.specs.Answers.{OutOfAnswers, taken}
+use Rattle.held_calls.specs.Making.{MemorySteps}
+use Rattle.held_calls.proofs.Steps.{exact-queued}
+use Rattle.held_calls.specs.declared.loans.Held.{Held}
+use Rattle.held_calls.specs.Holding.{Holds}
+use Rattle.held_calls.proofs.Holding.{Holds-kept}
 use Rattle.held_zone.specs.State.{State, with_no_asks}
 use Rattle.held_zone.specs.Told.{Makes, StaysLent}
 

@@ -1,7 +1,7 @@
 -- What is lent in a new zone.
 use Rattle.std.proofs.Common.{◌≡◌, ℕ, ◌==◌, List, [], ap}
 use Rattle.mac_base.specs.ZoneState.{ZoneState}
-use Rattle.held_loans.specs.Holding.{Holds}
+use Rattle.held_calls.specs.Holding.{Holds}
 use Rattle.std.specs.List.{list_any}
 
 -- where nothing is lent, nothing is held

@@ -2,8 +2,8 @@
 use Rattle.std.specs.Prelude.{◌≡◌, ℕ, ℤ, pos, List, [], Result, Option, Some, None, Ok, Err, unwrap_or}
 use Rattle.mac_base.specs.Codes.{code_of, minus}
 use Rattle.mac_base.specs.declared.error.OsErr.{OsErr}
-use Rattle.held_loans.specs.declared.window.Window.{Window}
-use Rattle.held_loans.specs.Holding.{IsWindow}
+use Rattle.held_calls.specs.declared.window.Window.{Window}
+use Rattle.held_calls.specs.Holding.{IsWindow}
 use Rattle.linked_zone.specs.Loans.{KeepsLoans}
 use Rattle.mac_base.specs.ZoneState.{ZoneState}
 use Rattle.mac_calls.specs.declared.loan_call.LoanCall.{LoanCall}

@@ -1,13 +1,13 @@
 //! Bytes out of a loan.
 
 ghost use Rattle.std.specs.Prelude.{◌≡◌, length, OnErr};
-ghost use Rattle.held_loans.specs.Holding.{Holds, loans_of};
+ghost use Rattle.held_calls.specs.Holding.{Holds, loans_of};
 ghost use Rattle.mac_calls.specs.declared.loan_call.LoanCall.TheVariants as loan_call;
 ghost use Rattle.mac_calls.specs.Loans.{LoanStep};
 ghost use Rattle.held_zone.specs.Told.{shown_outcome};
 
-use held_loans::lending;
-use held_loans::loans::Loans;
+use held_calls::lending;
+use held_calls::loans::Loans;
 use mac_base::error::OsErr;
 use mem_calls::MemoryManager;
 

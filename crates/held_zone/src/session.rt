@@ -3,15 +3,14 @@
 ghost use Rattle.std.specs.Prelude.{◌≡◌, []};
 
 use crate::lent;
-use held_loans::lending;
-use held_loans::loans::Loans;
-use held_loans::window::Window;
+use held_calls::answers::{AnswerQueue, MOST_ASKS, MadeAsk};
+use held_calls::loans::Loans;
+use held_calls::window::Window;
+use held_calls::{bytes, lending, making};
 use mac_base::block::Block;
 use mac_base::error::{HostFull, OsErr};
 use mac_base::zone_spec::ZoneSpec;
 use mac_calls::{Answer, MemoryCall, Outcome};
-use made_calls::answers::{AnswerQueue, MOST_ASKS, MadeAsk};
-use made_calls::{bytes, making};
 use mem_calls::MemoryManager;
 use std::alloc::Global;
 use std::marker::Model;
@@ -27,7 +26,7 @@ pub struct Session {
 }
 
 impl Model for Session {
-    ghost use Rattle.held_loans.specs.Holding.{Holds, loans_of};
+    ghost use Rattle.held_calls.specs.Holding.{Holds, loans_of};
     ghost use Rattle.held_zone.specs.State.{State};
 
     ghost Value = { State };
@@ -60,8 +59,8 @@ impl Session {
     ghost use Rattle.mac_calls.specs.declared.loan_call.LoanCall.TheVariants as loan_call;
     ghost use Rattle.mac_calls.specs.declared.memory_call.MemoryCall.TheVariants as call;
     ghost use Rattle.mac_calls.specs.Loans.{loan_refusal};
-    ghost use Rattle.made_calls.specs.Making.{copies};
-    ghost use Rattle.held_loans.specs.Holding.{IsWindow};
+    ghost use Rattle.held_calls.specs.Making.{copies};
+    ghost use Rattle.held_calls.specs.Holding.{IsWindow};
     ghost use Rattle.held_zone.specs.State.{IsNew, queue_refusal, with_no_asks};
     ghost use Rattle.held_zone.specs.Told.{Makes, MakesLoan, shown_outcome};
 

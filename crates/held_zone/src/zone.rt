@@ -8,7 +8,7 @@ ghost use Rattle.held_zone.specs.State.{State};
 use crate::parked::Parked;
 use crate::session::Session;
 use crate::told;
-pub use held_loans::window::Window;
+pub use held_calls::window::Window;
 use mac_calls::{MemoryCall, Outcome};
 use std::alloc::Global;
 use std::marker::Model;
@@ -126,7 +126,7 @@ impl MhZone {
 }
 
 impl MhZone {
-    ghost use Rattle.made_calls.specs.Making.{copies};
+    ghost use Rattle.held_calls.specs.Making.{copies};
     ghost use Rattle.held_zone.specs.Told.{Called, Told, ToldNumber, ToldNumbers};
 
     /// Makes a call of the Memory Manager, where there is a zone.

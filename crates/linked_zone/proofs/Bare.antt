@@ -3,12 +3,12 @@ use Rattle.std.proofs.Common.{◌≡◌, ℕ, ◌-◌, ◌≤◌, ◌%◌, ◌==
 use Rattle.std.proofs.lemmas.Bool.Decides.{nat_tests}
 use Rattle.std.specs.Prelude.{nat_eq}
 use Rattle.std.specs.List.{IsDistinct}
+use Rattle.std.proofs.lemmas.Bool.{and_from}
 use Rattle.mac_base.specs.declared.block.HeadKind.{HeadKind}
 use Rattle.mac_base.specs.declared.block.HeadKind.TheVariants.{Bits24, Bits32}
 use Rattle.mac_base.specs.HeadKind.{head_size, smallest_block, zone_header}
 use Rattle.mac_base.specs.ZoneSizes.{ZoneSizes, ArePossible}
 use Rattle.mac_base.specs.ZoneState.{Memory}
-use Rattle.zone_laws.proofs.Maps.{true_both}
 use Rattle.zone_laws.proofs.SlotPlaces.{Contains-none}
 use Rattle.zone_records.specs.Records.{ZoneRecords}
 use Rattle.zone_records.specs.Changes.{new_records}
@@ -43,7 +43,7 @@ bare-stands r memory sizes possible is =
     let within = possible.within in record {
       blocks = is;
       fits = bare-fits memory sizes;
-      sizes = true_both _ true (true_both _ _ (whole sizes.size possible.even_size large) (above sizes.heads sizes.size large)) refl;
+      sizes = and_from _ true (and_from _ _ (whole sizes.size possible.even_size large) (above sizes.heads sizes.size large)) refl;
       rooms = room sizes.heads (sizes.size - zone_header) (omega arith);
       within = omega arith;
       even = possible.even_base;

@@ -4,6 +4,7 @@ use Rattle.std.specs.Prelude.{slice_index}
 use Rattle.std.specs.List.{list_all}
 use Rattle.std.proofs.lemmas.List.Folds.{list_all-append}
 use Rattle.std.proofs.lemmas.List.{map-append}
+use Rattle.std.proofs.lemmas.Bool.{not-true, and_parts, and_from}
 use Rattle.mac_base.specs.declared.block.Entry.{Entry}
 use Rattle.mac_base.specs.declared.block.Kind.{Kind}
 use Rattle.mac_base.specs.declared.block.Kind.TheVariants.{Free, Master, Ptr, Rel}
@@ -11,18 +12,18 @@ use Rattle.mac_base.specs.HeadKind.{Shape, head_size}
 use Rattle.mac_base.specs.ZoneMap.{ZoneMap, block, is_master, is_named, total_size, address_behind, addresses, addresses_from, contents_addresses, contents_of}
 use Rattle.mac_base.specs.Suits.{is_handle_block, is_pointer_block, slots}
 use Rattle.mac_base.specs.ZoneState.{ZoneState}
-use Rattle.zone_laws.proofs.Maps.{both_true, true_both, true_not}
-use Rattle.zone_laws.proofs.GapAppend.{addresses_from-append, addresses_from-none}
+use Rattle.zone_laws.proofs.GapAppend.{addresses_from-none}
 use Rattle.zone_laws.proofs.Owners.{none_named}
 use Rattle.zone_laws.proofs.SuitsTaken.{slots-same, contents-same}
+use Rattle.zone_laws.proofs.Maps.{addresses_from-append}
 use Rattle.linked_zone.specs.Changes.{freed}
 
 -- where x names no block, none is the block of the handle x
 pub none_handle : (x : ℕ) (m : ZoneMap) → none_named x m ≡ true → IsTrue (list_all (λ (e : Entry). not (is_handle_block x e.kind)) m)
 none_handle x [] none = refl
 none_handle x (e ∷ es) none =
-    let parts = both_true (not (is_named x e.kind)) (none_named x es) none in
-    true_both (not (is_handle_block x e.kind)) _ (by_kind e.kind parts.0) (none_handle x es parts.1)
+    let parts = and_parts (not (is_named x e.kind)) (none_named x es) none in
+    and_from (not (is_handle_block x e.kind)) _ (by_kind e.kind parts.0) (none_handle x es parts.1)
   where
     by_kind : (kind : Kind) → not (is_named x kind) ≡ true → not (is_handle_block x kind) ≡ true
     by_kind Free h = refl
@@ -34,8 +35,8 @@ none_handle x (e ∷ es) none =
 pub none_pointer : (x : ℕ) (m : ZoneMap) → none_named x m ≡ true → IsTrue (list_all (λ (e : Entry). not (is_pointer_block x e.kind)) m)
 none_pointer x [] none = refl
 none_pointer x (e ∷ es) none =
-    let parts = both_true (not (is_named x e.kind)) (none_named x es) none in
-    true_both (not (is_pointer_block x e.kind)) _ (by_kind e.kind parts.0) (none_pointer x es parts.1)
+    let parts = and_parts (not (is_named x e.kind)) (none_named x es) none in
+    and_from (not (is_pointer_block x e.kind)) _ (by_kind e.kind parts.0) (none_pointer x es parts.1)
   where
     by_kind : (kind : Kind) → not (is_named x kind) ≡ true → not (is_pointer_block x kind) ≡ true
     by_kind Free h = refl
@@ -47,8 +48,8 @@ none_pointer x (e ∷ es) none =
 pub freed-none : (x : ℕ) (m : ZoneMap) → none_named x m ≡ true → freed x m ≡ m
 freed-none x [] none = refl
 freed-none x (e ∷ es) none =
-    let parts = both_true (not (is_named x e.kind)) (none_named x es) none in
-    ap (λ b. cond b (block Free e.size) e ∷ freed x es) (true_not _ parts.0) ∙ ap (λ es. e ∷ es) (freed-none x es parts.1)
+    let parts = and_parts (not (is_named x e.kind)) (none_named x es) none in
+    ap (λ b. cond b (block Free e.size) e ∷ freed x es) (not-true _ parts.0) ∙ ap (λ es. e ∷ es) (freed-none x es parts.1)
 
 -- to free what x names is to free the one block that it names
 pub freed-only : (x : ℕ) (m before : ZoneMap) (e : Entry) (behind : ZoneMap) → m ≡ before ++ e ∷ behind → is_named x e.kind ≡ true → none_named x before ≡ true → none_named x behind ≡ true
@@ -63,8 +64,8 @@ freed-only x m before e behind is named first second =
 -- where x names no block of a map in three parts, it names none before and none behind
 pub none_named-parts : (x : ℕ) (before : ZoneMap) (e : Entry) (behind : ZoneMap) → none_named x (before ++ e ∷ behind) ≡ true → (none_named x before ≡ true) × (none_named x behind ≡ true)
 none_named-parts x before e behind none =
-    let outer = both_true (none_named x before) (none_named x (e ∷ behind)) (sym (list_all-append _ before (e ∷ behind)) ∙ none) in
-    (outer.0, (both_true (not (is_named x e.kind)) (none_named x behind) outer.1).1)
+    let outer = and_parts (none_named x before) (none_named x (e ∷ behind)) (sym (list_all-append _ before (e ∷ behind)) ∙ none) in
+    (outer.0, (and_parts (not (is_named x e.kind)) (none_named x behind) outer.1).1)
 
 -- where the first block that passes stands
 pub addresses-first : (s : Shape) (test : Kind → Bool) (before : ZoneMap) (e : Entry) (behind : ZoneMap) → IsTrue (list_all (λ (e : Entry). not (test e.kind)) before) → test e.kind ≡ true

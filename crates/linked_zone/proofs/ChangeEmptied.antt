@@ -1,6 +1,8 @@
 -- What a zone is once a handle's block is free and the handle empty.
-use Rattle.std.proofs.Common.{◌≡◌, ℕ, suc, ◌+◌, Bool, true, false, not, cond, List, [], ◌∷◌, ◌++◌, length, Some, refl, ap, sym, ◌∙◌, arith, IsTrue, Contains, subst, ne_eqb, length-append}
+use Rattle.std.proofs.Common.{◌≡◌, ℕ, suc, ◌+◌, Bool, true, false, not, cond, [], ◌∷◌, ◌++◌, length, Some, refl, ap, sym, ◌∙◌, arith, IsTrue, Contains, subst, ne_eqb, length-append}
 use Rattle.std.specs.List.{list_all}
+use Rattle.std.proofs.lemmas.List.{nil_from_length}
+use Rattle.std.proofs.lemmas.Bool.{eqb-true}
 use Rattle.mac_base.specs.declared.block.Entry.{Entry}
 use Rattle.mac_base.specs.declared.block.Kind.{Kind}
 use Rattle.mac_base.specs.declared.block.Kind.TheVariants.{Free, Master, Ptr, Rel}
@@ -9,15 +11,17 @@ use Rattle.mac_base.specs.ZoneMap.{ZoneMap, block, total_size, addresses, addres
 use Rattle.mac_base.specs.HandleTable.{HandleTable, EmptyHandle, live_at, live_full, live_handle, live_pointer, is_full, is_handle, is_lent, is_pointer, with_live}
 use Rattle.mac_base.specs.Suits.{is_handle_block, is_pointer_block, slots}
 use Rattle.mac_base.specs.ZoneState.{ZoneState, with_heap}
-use Rattle.zone_laws.proofs.GapAppend.{addresses_from-append, addresses_from-none}
-use Rattle.zone_laws.proofs.Tables.{AgreeBut, live_at-with_live_same, with_live_agrees, in_order-with_live, by_number, eqb_same, eqb_swap, eqb-true-is, full_handle, handle_no_pointer}
-use Rattle.zone_laws.proofs.Owners.{none_named, none_named-from, no_length}
+use Rattle.zone_laws.proofs.GapAppend.{addresses_from-none}
+use Rattle.zone_laws.proofs.Tables.{AgreeBut, live_at-with_live_same, with_live_agrees, in_order-with_live, by_number, eqb_same, eqb_swap, full_handle, handle_no_pointer}
+use Rattle.zone_laws.proofs.Owners.{none_named, none_named-from, no_map}
+use Rattle.zone_laws.proofs.NamedPlace.{nil-append}
+use Rattle.zone_laws.proofs.Maps.{addresses_from-append}
 use Rattle.zone_records.specs.declared.slot.Slot.TheVariants as slot
 use Rattle.linked_zone.specs.Owned.{slot_of, next_free, slot_of_live}
 use Rattle.linked_zone.specs.Places.{BlockOf}
 use Rattle.linked_zone.specs.Changes.{freed, without_block}
 use Rattle.linked_zone.specs.Fit.{Fits}
-use Rattle.linked_zone.proofs.ChangeParts.{same_slot, no_map, Fits-kept}
+use Rattle.linked_zone.proofs.ChangeParts.{same_slot, Fits-kept}
 use Rattle.linked_zone.proofs.Lent.{loans-replaced}
 use Rattle.linked_zone.proofs.ChangeBlock.{freed-only, none_handle, contents_of-first, swapped-addresses, swapped-slots, swapped-pointers, swapped-contents}
 
@@ -26,7 +30,7 @@ handle_kind : (h : ℕ) (kind : Kind) → is_handle_block h kind ≡ true → ki
 handle_kind h Free is = absurd (cc is)
 handle_kind h Master is = absurd (cc is)
 handle_kind h (Ptr p) is = absurd (cc is)
-handle_kind h (Rel g) is = ap (λ x. Rel x) (eqb-true-is g h is)
+handle_kind h (Rel g) is = ap (λ x. Rel x) (eqb-true g h is)
 
 -- The block of a handle between others.
 record HandleBlock (h : ℕ) (m : ZoneMap) : Type 0 where
@@ -43,10 +47,6 @@ handle_block-found at h (e ∷ es) one = elim (is_handle_block h e.kind) as (λ 
   | false ↦ λ other later. let rest = handle_block-found (at + e.size) h es later in
       record { before = e ∷ rest.before; size = rest.size; behind = rest.behind; was = ap (λ m. e ∷ m) rest.was }
 ] refl one
-
-nothing_left : (xs ys : List ℕ) → xs ++ ys ≡ [] → (xs ≡ []) × (ys ≡ [])
-nothing_left [] ys h = (refl, h)
-nothing_left (x ∷ xs) ys h = absurd (cc h)
 
 -- the place of the block of a handle
 pub record OwnBlock (z : ZoneState) (h : ℕ) : Type 0 where
@@ -84,15 +84,15 @@ module _ (z : ZoneState) (h : ℕ) (fits : Fits z) (full : is_full z.heap.table 
         omega arith
 
     pointers : (addresses_from start (is_pointer_block h) b.before ≡ []) × (addresses_from (here + b.size) (is_pointer_block h) b.behind ≡ [])
-    pointers = nothing_left _ _ (sym (addresses_from-append start (is_pointer_block h) b.before (block (Rel h) b.size ∷ b.behind)) ∙ ap (addresses z.shape (is_pointer_block h)) (sym b.map) ∙ no_pointers)
+    pointers = nil-append _ _ (sym (addresses_from-append start (is_pointer_block h) b.before (block (Rel h) b.size ∷ b.behind)) ∙ ap (addresses z.shape (is_pointer_block h)) (sym b.map) ∙ no_pointers)
 
     -- no block before it bears the handle's name
     pub emptied-none_before : none_named h b.before ≡ true
-    emptied-none_before = none_named-from start h b.before (no_length _ (omega (arith, found))) pointers.0
+    emptied-none_before = none_named-from start h b.before (nil_from_length _ (omega (arith, found))) pointers.0
 
     -- and none behind it
     pub emptied-none_behind : none_named h b.behind ≡ true
-    emptied-none_behind = none_named-from (here + b.size) h b.behind (no_length _ (omega (arith, found))) pointers.1
+    emptied-none_behind = none_named-from (here + b.size) h b.behind (nil_from_length _ (omega (arith, found))) pointers.1
 
     -- the contents begin behind its header
     pub emptied-contents : contents_of z.shape h z.heap.map ≡ at + head_size z.shape.heads

@@ -1,6 +1,7 @@
 -- What a zone is once two neighbours that may move have changed places.
 use Rattle.std.proofs.Common.{◌≡◌, ℕ, ◌+◌, Bool, true, false, cond, List, [], ◌∷◌, ◌++◌, length, map, refl, ap, sym, ◌∙◌, arith, length-append, Option, Some, None}
 use Rattle.std.specs.Prelude.{slice_index}
+use Rattle.std.proofs.lemmas.List.{nil_from_length}
 use Rattle.mac_base.specs.declared.block.Entry.{Entry}
 use Rattle.mac_base.specs.declared.block.HeadKind.{HeadKind}
 use Rattle.mac_base.specs.declared.block.Kind.{Kind}
@@ -12,7 +13,6 @@ use Rattle.mac_base.specs.Suits.{is_handle_block, is_pointer_block, slots}
 use Rattle.mac_base.specs.ZoneState.{ZoneState}
 use Rattle.zone_laws.proofs.GapAppend.{sizes-append, length-addresses_from}
 use Rattle.zone_laws.proofs.Maps.{Exchanged, addresses_from-exchanged, addresses_from-skip}
-use Rattle.zone_laws.proofs.Owners.{no_length}
 use Rattle.zone_laws.proofs.SuitsTaken.{slots-same, contents-same}
 use Rattle.zone_laws.proofs.Tables.{eqb_same}
 use Rattle.linked_zone.specs.Changes.{exchanged}
@@ -30,7 +30,7 @@ rel-full z h before e behind fits was kind = by_test (is_full z.heap.table h) (f
   where
     by_test : (b : Bool) → length (addresses z.shape (is_handle_block h) z.heap.map) ≡ cond b 1 0 → b ≡ true
     by_test true count = refl
-    by_test false none = absurd (passes-some (address_behind z.shape []) (is_handle_block h) before e behind (ap (is_handle_block h) kind ∙ eqb_same h) (ap (addresses z.shape (is_handle_block h)) (sym was) ∙ no_length _ none))
+    by_test false none = absurd (passes-some (address_behind z.shape []) (is_handle_block h) before e behind (ap (is_handle_block h) kind ∙ eqb_same h) (ap (addresses z.shape (is_handle_block h)) (sym was) ∙ nil_from_length _ none))
 
 -- a slot whose handle's contents begin elsewhere says so
 pub moved-slot : (heads : HeadKind) (o : Option Live) (old new next : ℕ) → slot_of_live heads o new next ≡ moved_to new (slot_of_live heads o old next)

@@ -1,8 +1,9 @@
 -- What a zone is once it has grown to its limit.
-use Rattle.std.proofs.Common.{◌≡◌, ℕ, ◌+◌, ◌-◌, ◌<◌, ◌≤◌, Bool, true, false, cond, eqb, [], ◌∷◌, ◌++◌, map, refl, ap, ◌∙◌, arith, append-nil}
+use Rattle.std.proofs.Common.{◌≡◌, ℕ, ◌+◌, ◌-◌, ◌<◌, ◌≤◌, Bool, true, false, cond, eqb, [], ◌∷◌, ◌++◌, refl, ap, ◌∙◌, arith, append-nil}
 use Rattle.std.specs.List.{filter, list_all}
 use Rattle.std.proofs.lemmas.Bool.Decides.{nat_tests}
 use Rattle.std.proofs.lemmas.List.Folds.{list_all-append}
+use Rattle.std.proofs.lemmas.Bool.{and_from}
 use Rattle.mac_base.specs.declared.block.Entry.{Entry}
 use Rattle.mac_base.specs.declared.block.Kind.{Kind}
 use Rattle.mac_base.specs.declared.block.Kind.TheVariants.{Free}
@@ -12,7 +13,7 @@ use Rattle.mac_base.specs.Loans.{owners}
 use Rattle.mac_base.specs.ZoneMap.{ZoneMap, block, free_block, total_size, address_behind, addresses, addresses_from}
 use Rattle.mac_base.specs.ZoneState.{ZoneState}
 use Rattle.zone_laws.proofs.Arranging.{total_size-free_block}
-use Rattle.zone_laws.proofs.Maps.{addresses_from-append, addresses_from-skip, total_size-append, true_both}
+use Rattle.zone_laws.proofs.Maps.{addresses_from-append, addresses_from-skip, total_size-append}
 use Rattle.linked_zone.specs.Changes.{extended}
 use Rattle.linked_zone.specs.Fit.{Fits}
 use Rattle.linked_zone.specs.Owned.{slot_of}
@@ -46,8 +47,8 @@ owners-behind m n = owners-append m (free_block n) ∙ ap (λ os. owners m ++ os
 
 -- what all blocks pass, and the free one
 pub passes-behind : (p : Entry → Bool) (m : ZoneMap) (n : ℕ) → list_all p m ≡ true → (0 < n → p (block Free n) ≡ true) → list_all p (m ++ free_block n) ≡ true
-passes-behind p m n all free = list_all-append p m (free_block n) ∙ true_both (list_all p m) _ all
-    (by_free (λ bs. list_all p bs ≡ true) n (λ is. refl) (λ some. true_both (p (block Free n)) true (free some) refl))
+passes-behind p m n all free = list_all-append p m (free_block n) ∙ and_from (list_all p m) _ all
+    (by_free (λ bs. list_all p bs ≡ true) n (λ is. refl) (λ some. and_from (p (block Free n)) true (free some) refl))
 
 module _ (z : ZoneState) where
   abbrev left : ℕ

@@ -1,18 +1,18 @@
 -- What a zone is once a new pointer has a block that was free.
 use Rattle.std.proofs.Common.{◌≡◌, ℕ, ◌+◌, true, false, cond, [], ◌∷◌, ◌++◌, length, map, Some, refl, ap, sym, ◌∙◌, subst, arith, Contains, ne_eqb}
 use Rattle.std.proofs.lemmas.List.Elements.{Contains-append_right}
-use Rattle.mac_base.specs.declared.block.Kind.{Kind}
-use Rattle.mac_base.specs.declared.block.Kind.TheVariants.{Free, Master, Ptr, Rel}
+use Rattle.std.proofs.lemmas.Bool.{false_from_ne_true}
+use Rattle.mac_base.specs.declared.block.Kind.TheVariants.{Free, Ptr}
 use Rattle.mac_base.specs.HeadKind.{head_size, slot_count}
-use Rattle.mac_base.specs.ZoneMap.{ZoneMap, block, is_free, is_master, total_size, addresses, addresses_from, address_behind, contents_addresses}
+use Rattle.mac_base.specs.ZoneMap.{ZoneMap, block, is_free, total_size, addresses, addresses_from, address_behind, contents_addresses}
 use Rattle.mac_base.specs.HandleTable.{HandleTable, Live, Pointer, zeros, live_at, live_full, live_handle, live_pointer, is_full, is_handle, is_lent, is_pointer, with_live}
 use Rattle.mac_base.specs.Suits.{is_handle_block, is_pointer_block, slots}
 use Rattle.mac_base.specs.ZoneState.{ZoneState}
-use Rattle.zone_laws.proofs.GapAppend.{addresses_from-append}
-use Rattle.zone_laws.proofs.SlotOwners.{false_from}
+use Rattle.zone_laws.proofs.SlotOwners.{free_not_master, pointer_not_free}
 use Rattle.zone_laws.proofs.SlotPlaces.{slot_no_contents, one_block_at, Contains-here}
 use Rattle.zone_laws.proofs.Tables.{AgreeBut, live_at-with_live_same, with_live_agrees, in_order-with_live, by_number, eqb_same, eqb_swap, full_handle}
 use Rattle.zone_laws.proofs.Owners.{none_named}
+use Rattle.zone_laws.proofs.Maps.{addresses_from-append}
 use Rattle.linked_zone.specs.Owned.{slot_of}
 use Rattle.linked_zone.specs.Places.{FreeAt}
 use Rattle.linked_zone.specs.Changes.{fixed}
@@ -20,18 +20,6 @@ use Rattle.linked_zone.specs.Fit.{Fits, HasRooms}
 use Rattle.linked_zone.proofs.ChangeParts.{Contains-map, same_slot, none_named-fits, Fits-kept}
 use Rattle.linked_zone.proofs.Lent.{loans-replaced, not-lent}
 use Rattle.linked_zone.proofs.ChangeBlock.{none_pointer, none_named-parts, addresses-only, swapped-addresses, swapped-slots, swapped-pointers, swapped-contents}
-
-free_not_master : (kind : Kind) → is_free kind ≡ true → is_master kind ≡ false
-free_not_master Free h = refl
-free_not_master Master h = absurd (cc h)
-free_not_master (Ptr q) h = refl
-free_not_master (Rel g) h = refl
-
-pointer_not_free : (p : ℕ) (kind : Kind) → is_pointer_block p kind ≡ true → is_free kind ≡ false
-pointer_not_free p Free h = absurd (cc h)
-pointer_not_free p Master h = refl
-pointer_not_free p (Ptr q) h = refl
-pointer_not_free p (Rel g) h = refl
 
 module _ (z : ZoneState) (n at : ℕ) (free : FreeAt z at) (fits : Fits z) (rooms : HasRooms z) where
   -- the pointer's number
@@ -57,11 +45,11 @@ module _ (z : ZoneState) (n at : ℕ) (free : FreeAt z at) (fits : Fits z) (room
 
   -- so no handle is live there
   pub fixed-no_handle : is_handle z.heap.table p ≡ false
-  fixed-no_handle = false_from (is_handle z.heap.table p) (λ live. fixed-no_slot (fits.coherent.in_slots p live))
+  fixed-no_handle = false_from_ne_true (is_handle z.heap.table p) (λ live. fixed-no_slot (fits.coherent.in_slots p live))
 
   -- and no pointer
   pub fixed-no_pointer : is_pointer z.heap.table p ≡ false
-  fixed-no_pointer = false_from (is_pointer z.heap.table p) (λ live.
+  fixed-no_pointer = false_from_ne_true (is_pointer z.heap.table p) (λ live.
       let found = Contains-map (λ a. a + head_size z.shape.heads) (addresses z.shape (is_pointer_block p) z.heap.map) p
       (subst (λ xs. Contains xs p) (sym (fits.coherent.pointers p ∙ ap (λ c. cond c (p ∷ []) []) live)) (Contains-here p [])) in
       let same : found.0 ≡ start + total_size free.before = (let is = found.2 in let here = there in omega arith) in
@@ -69,7 +57,7 @@ module _ (z : ZoneState) (n at : ℕ) (free : FreeAt z at) (fits : Fits z) (room
       (subst (Contains (addresses z.shape (is_pointer_block p) z.heap.map)) same found.1) free_there)
 
   not_full : is_full z.heap.table p ≡ false
-  not_full = false_from (is_full z.heap.table p) (λ full. cc (full_handle z.heap.table p full, fixed-no_handle))
+  not_full = false_from_ne_true (is_full z.heap.table p) (λ full. cc (full_handle z.heap.table p full, fixed-no_handle))
 
   none_all : none_named p z.heap.map ≡ true
   none_all = none_named-fits z p fits not_full fixed-no_pointer

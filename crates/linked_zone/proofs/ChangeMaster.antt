@@ -7,27 +7,26 @@ use Rattle.std.proofs.lemmas.List.{map-append}
 use Rattle.std.proofs.lemmas.List.Elements.{Contains-append_cases, Contains-append_left, Contains-append_right}
 use Rattle.std.proofs.lemmas.List.Folds.{list_all-append}
 use Rattle.std.proofs.lemmas.Grind.{flat_map-append}
+use Rattle.std.proofs.lemmas.Bool.{and_parts, false_from_ne_true, and_from}
 use Rattle.mac_base.specs.declared.block.HeadKind.{HeadKind}
 use Rattle.mac_base.specs.declared.block.HeadKind.TheVariants.{Bits24, Bits32}
-use Rattle.mac_base.specs.declared.block.Kind.{Kind}
-use Rattle.mac_base.specs.declared.block.Kind.TheVariants.{Free, Master, Ptr, Rel}
+use Rattle.mac_base.specs.declared.block.Kind.TheVariants.{Free, Master}
 use Rattle.mac_base.specs.HeadKind.{Shape, head_size, need, slot_count, master_length}
 use Rattle.mac_base.specs.ZoneMap.{ZoneMap, block, is_master, total_size, address_behind, addresses, addresses_from, contents_of}
 use Rattle.mac_base.specs.HandleTable.{live_at, is_handle, is_pointer}
 use Rattle.mac_base.specs.Suits.{has_length, is_handle_block, is_pointer_block, slots, slots_from}
 use Rattle.mac_base.specs.ZoneState.{ZoneState}
-use Rattle.zone_laws.proofs.Maps.{both_true, true_both}
-use Rattle.zone_laws.proofs.GapAppend.{addresses_from-append}
 use Rattle.zone_laws.proofs.Tables.{not_live}
-use Rattle.zone_laws.proofs.SlotPlaces.{has_room, slots_at, slot_cases, slots_at-above, slot_no_contents, Contains-none, Contains-here, Contains-later, Contains-cons_cases}
-use Rattle.zone_laws.proofs.SlotOwners.{false_from}
+use Rattle.zone_laws.proofs.SlotPlaces.{has_room, slots_at, slot_cases, slots_at-above, slot_no_contents, Contains-none, Contains-here, Contains-later, Contains-cons_cases, slots_from-bounds}
+use Rattle.zone_laws.proofs.SlotOwners.{pointer_not_master}
 use Rattle.zone_laws.proofs.SoundReleased.{IsDistinct-more}
+use Rattle.zone_laws.proofs.Maps.{addresses_from-append}
 use Rattle.zone_records.specs.declared.slot.Slot.TheVariants as slot
 use Rattle.linked_zone.specs.Owned.{slot_of, next_free, slot_of_live}
 use Rattle.linked_zone.specs.Places.{RoomFor}
 use Rattle.linked_zone.specs.Changes.{with_master}
 use Rattle.linked_zone.specs.Fit.{Fits, HasRooms}
-use Rattle.linked_zone.proofs.ChangeParts.{same_slot, next_free-skip, next_free-front, slots_from-bounds, Contains-map}
+use Rattle.linked_zone.proofs.ChangeParts.{same_slot, next_free-skip, next_free-front, Contains-map}
 use Rattle.linked_zone.proofs.Lent.{loans-replaced}
 use Rattle.linked_zone.proofs.ChangeBlock.{swapped-addresses, swapped-pointers, swapped-contents}
 
@@ -79,7 +78,7 @@ slots_from-distinct (suc n) at fs apart once =
 pub slots_at-below : (head n at : ℕ) (m : ZoneMap) (h : ℕ) → list_all (has_room head n) m ≡ true → Contains (slots_at head n at m) h → h + 4 ≤ at + total_size m
 slots_at-below head n at [] h room c = absurd (Contains-none h c)
 slots_at-below head n at (e ∷ es) h room c =
-    let rooms = both_true (has_room head n e) (list_all (has_room head n) es) room in
+    let rooms = and_parts (has_room head n e) (list_all (has_room head n) es) room in
     elim (slot_cases head n at e es h rooms.0 c) [
       | inl first ↦ (let end = first.2 in omega arith)
       | inr later ↦ let rest = slots_at-below head n (at + e.size) es h rooms.1 later in omega arith
@@ -91,12 +90,6 @@ slots_at-append head n at xs ys =
     ap (λ found. flat_map (slots_from n) (map (λ a. a + head) found)) (addresses_from-append at is_master xs ys)
     ∙ ap (flat_map (slots_from n)) (map-append (λ a. a + head) (addresses_from at is_master xs) (addresses_from (at + total_size xs) is_master ys))
     ∙ flat_map-append (slots_from n) (map (λ a. a + head) (addresses_from at is_master xs)) (map (λ a. a + head) (addresses_from (at + total_size xs) is_master ys))
-
-pointer_not_master : (p : ℕ) (kind : Kind) → is_pointer_block p kind ≡ true → is_master kind ≡ false
-pointer_not_master p Free h = refl
-pointer_not_master p Master h = absurd (cc h)
-pointer_not_master p (Ptr q) h = refl
-pointer_not_master p (Rel g) h = refl
 
 -- a block that has a master block's length has room for its header and its slots
 master_room : (s : Shape) (n : ℕ) → has_length s n master_length ≡ true → head_size s.heads + 4 * slot_count ≤ n
@@ -179,13 +172,13 @@ module _ (z : ZoneState) (at : ℕ) (r : RoomFor z at master_length) (fits : Fit
 
   old_rooms : (list_all (has_room head slot_count) r.free.before ≡ true) × (list_all (has_room head slot_count) r.free.behind ≡ true)
   old_rooms =
-      let parts = both_true (list_all (has_room head slot_count) r.free.before) _ (sym (list_all-append (has_room head slot_count) r.free.before (block Free r.free.size ∷ r.free.behind)) ∙ ap (list_all (has_room head slot_count)) (sym r.free.map) ∙ rooms) in
-      (parts.0, (both_true (has_room head slot_count (block Free r.free.size)) (list_all (has_room head slot_count) r.free.behind) parts.1).1)
+      let parts = and_parts (list_all (has_room head slot_count) r.free.before) _ (sym (list_all-append (has_room head slot_count) r.free.before (block Free r.free.size ∷ r.free.behind)) ∙ ap (list_all (has_room head slot_count)) (sym r.free.map) ∙ rooms) in
+      (parts.0, (and_parts (has_room head slot_count (block Free r.free.size)) (list_all (has_room head slot_count) r.free.behind) parts.1).1)
 
   -- each block has room, the master block for its slots
   pub master-rooms : HasRooms (with_master z r.free)
   master-rooms = list_all-append (has_room head slot_count) r.free.before (block Master r.free.size ∷ r.free.behind)
-      ∙ true_both (list_all (has_room head slot_count) r.free.before) _ old_rooms.0 (true_both (has_room head slot_count (block Master r.free.size)) _ (room head slot_count r.free.size (let wide = large in omega arith) large) old_rooms.1)
+      ∙ and_from (list_all (has_room head slot_count) r.free.before) _ old_rooms.0 (and_from (has_room head slot_count (block Master r.free.size)) _ (room head slot_count r.free.size (let wide = large in omega arith) large) old_rooms.1)
     where
       room : (a n size : ℕ) → a < size → a + 4 * n ≤ size → (nat_lt a size && nat_le (a + 4 * n) size) ≡ true
       room a n size above le = grind (arith, nat_tests)
@@ -210,10 +203,10 @@ module _ (z : ZoneState) (at : ℕ) (r : RoomFor z at master_length) (fits : Fit
   ]
 
   no_handle : (x : ℕ) → Contains (slots_from slot_count (at + head)) x → is_handle z.heap.table x ≡ false
-  no_handle x own = false_from (is_handle z.heap.table x) (λ live. master-apart x (fits.coherent.in_slots x live) own)
+  no_handle x own = false_from_ne_true (is_handle z.heap.table x) (λ live. master-apart x (fits.coherent.in_slots x live) own)
 
   no_pointer : (x : ℕ) → Contains (slots_from slot_count (at + head)) x → is_pointer z.heap.table x ≡ false
-  no_pointer x own = false_from (is_pointer z.heap.table x) (λ live.
+  no_pointer x own = false_from_ne_true (is_pointer z.heap.table x) (λ live.
       let begins = swapped-pointers z r.free.before Free Master r.free.size r.free.behind r.free.map x refl ∙ fits.coherent.pointers x ∙ ap (λ b. cond b (x ∷ []) []) live in
       let found = Contains-map (λ a. a + head) (addresses z.shape (is_pointer_block x) m) x (subst (λ xs. Contains xs x) (sym begins) (Contains-here x [])) in
       slot_no_contents head slot_count start (is_pointer_block x) (pointer_not_master x) m found.0 master-rooms found.1 (subst (λ a. Contains (slots z.shape m) a) (sym found.2) (master-new_slot x own)))

@@ -1,21 +1,21 @@
 -- What the changes of a zone have in common: what a master pointer rests on, where slots lie, and when a zone still fits.
-use Rattle.std.proofs.Common.{◌≡◌, ℕ, zero, suc, ◌+◌, ◌*◌, ◌≤◌, Bool, true, false, cond, eqb, List, [], ◌∷◌, ◌++◌, length, map, flat_map, refl, ap, sym, ◌∙◌, arith, IsTrue, Contains, subst, inl, inr}
+use Rattle.std.proofs.Common.{◌≡◌, ℕ, ◌+◌, ◌≤◌, true, false, cond, eqb, List, [], ◌∷◌, length, map, flat_map, refl, ap, sym, ◌∙◌, arith, IsTrue, Contains, subst, inl, inr}
 use Rattle.std.specs.Prelude.{slice_index}
 use Rattle.std.specs.Ordering.{nat_cmp}
 use Rattle.std.specs.FinMap.{is_sorted}
 use Rattle.std.proofs.lemmas.List.Elements.{Contains-append_cases}
-use Rattle.mac_base.specs.declared.block.Kind.{Kind}
-use Rattle.mac_base.specs.declared.block.Kind.TheVariants.{Free, Master, Ptr, Rel}
+use Rattle.std.proofs.lemmas.Bool.{false_from_ne_true}
+use Rattle.std.proofs.lemmas.List.{nil_from_length}
 use Rattle.mac_base.specs.HeadKind.{Shape, zone_header, head_size, slot_count}
 use Rattle.mac_base.specs.Loans.{LoansFit}
-use Rattle.mac_base.specs.ZoneMap.{ZoneMap, is_master, address_behind, addresses, addresses_from, contents_addresses, contents_of}
+use Rattle.mac_base.specs.ZoneMap.{ZoneMap, is_master, address_behind, addresses, contents_addresses, contents_of}
 use Rattle.mac_base.specs.HandleTable.{HandleTable, live_at, live_full, live_handle, live_pointer, is_full, is_handle, is_pointer}
 use Rattle.mac_base.specs.Suits.{is_handle_block, is_pointer_block, slots, slots_from}
 use Rattle.mac_base.specs.ZoneState.{ZoneState, with_heap}
 use Rattle.zone_laws.proofs.Tables.{AgreeBut, by_number, eqb_same, eqb_swap}
-use Rattle.zone_laws.proofs.Owners.{none_named, none_named-from, no_length}
-use Rattle.zone_laws.proofs.SlotPlaces.{slot_no_contents, Contains-none, Contains-here, Contains-later, Contains-cons_cases}
-use Rattle.zone_laws.proofs.SlotOwners.{false_from}
+use Rattle.zone_laws.proofs.Owners.{none_named, none_named-from, no_map}
+use Rattle.zone_laws.proofs.SlotPlaces.{slot_no_contents, Contains-none, Contains-here, Contains-later, Contains-cons_cases, slots_from-bounds, addresses_from-above}
+use Rattle.zone_laws.proofs.SlotOwners.{pointer_not_master}
 use Rattle.linked_zone.specs.Owned.{slot_of, next_free, slot_of_live}
 use Rattle.linked_zone.specs.Fit.{Fits, HasRooms}
 
@@ -52,59 +52,28 @@ Contains-map f (x ∷ xs) y c = elim (Contains-cons_cases (f x) (map f xs) y c) 
   | inr later ↦ let rest = Contains-map f xs y later in (rest.0, Contains-later x xs rest.0 rest.1, rest.2)
 ]
 
--- a slot lies at or behind the first, and its four bytes are among those of n slots
-pub slots_from-bounds : (n at h : ℕ) → Contains (slots_from n at) h → (at ≤ h) × (h + 4 ≤ at + 4 * n)
-slots_from-bounds zero at h c = absurd (Contains-none h c)
-slots_from-bounds (suc n) at h c = elim (Contains-cons_cases at (slots_from n (at + 4)) h c) [
-  | inl is ↦ (omega arith, omega arith)
-  | inr later ↦ let rest = slots_from-bounds n (at + 4) h later in (omega arith, omega arith)
-]
-
--- what passes lies at the first block or behind
-pub addresses_from-least : (at : ℕ) (test : Kind → Bool) (m : ZoneMap) (a : ℕ) → Contains (addresses_from at test m) a → at ≤ a
-addresses_from-least at test [] a c = absurd (Contains-none a c)
-addresses_from-least at test (e ∷ es) a c = by_test (test e.kind) (λ later. addresses_from-least (at + e.size) test es a later) c
-  where
-    by_test : (b : Bool) → (Contains (addresses_from (at + e.size) test es) a → at + e.size ≤ a) → Contains (cond b (at ∷ []) [] ++ addresses_from (at + e.size) test es) a → at ≤ a
-    by_test false rest later = let above = rest later in omega arith
-    by_test true rest c = elim (Contains-cons_cases at (addresses_from (at + e.size) test es) a c) [
-      | inl same ↦ omega arith
-      | inr later ↦ let above = rest later in omega arith
-    ]
-
 -- a slot lies behind the zone's header
 pub slot-above : (s : Shape) (m : ZoneMap) (h : ℕ) → Contains (slots s m) h → s.base + zone_header + head_size s.heads ≤ h
 slot-above s m h c =
     let found = Contains-flat_map (slots_from slot_count) (contents_addresses s is_master m) h c in
     let place = Contains-map (λ a. a + head_size s.heads) (addresses s is_master m) found.0 found.1 in
-    let low = addresses_from-least (address_behind s []) is_master m place.0 place.1 in
+    let low = addresses_from-above (address_behind s []) is_master m place.0 place.1 in
     let bounds = slots_from-bounds slot_count found.0 h found.2 in
     let same = place.2 in
     omega arith
 
-pointer_not_master : (p : ℕ) (kind : Kind) → is_pointer_block p kind ≡ true → is_master kind ≡ false
-pointer_not_master p Free h = refl
-pointer_not_master p Master h = absurd (cc h)
-pointer_not_master p (Ptr q) h = refl
-pointer_not_master p (Rel g) h = refl
-
 -- no slot is a pointer
 pub slot-no_pointer : (z : ZoneState) (h : ℕ) → Fits z → HasRooms z → Contains (slots z.shape z.heap.map) h → is_pointer z.heap.table h ≡ false
-slot-no_pointer z h fits rooms slot = false_from (is_pointer z.heap.table h) (λ live.
+slot-no_pointer z h fits rooms slot = false_from_ne_true (is_pointer z.heap.table h) (λ live.
     let here = subst (λ xs. Contains xs h) (sym (fits.coherent.pointers h ∙ ap (λ b. cond b (h ∷ []) []) live)) (Contains-here h []) in
     let there = Contains-map (λ a. a + head_size z.shape.heads) (addresses z.shape (is_pointer_block h) z.heap.map) h here in
     slot_no_contents (head_size z.shape.heads) slot_count (address_behind z.shape []) (is_pointer_block h) (pointer_not_master h) z.heap.map there.0 rooms there.1
     (subst (λ a. Contains (slots z.shape z.heap.map) a) (sym there.2) slot))
 
--- only an empty list maps to one
-pub no_map : (f : ℕ → ℕ) (xs : List ℕ) → map f xs ≡ [] → xs ≡ []
-no_map f [] h = refl
-no_map f (x ∷ xs) h = absurd (cc h)
-
 -- a number that is neither a handle with a block nor a pointer names no block
 pub none_named-fits : (z : ZoneState) (x : ℕ) → Fits z → is_full z.heap.table x ≡ false → is_pointer z.heap.table x ≡ false → none_named x z.heap.map ≡ true
 none_named-fits z x fits full pointer = none_named-from (address_behind z.shape []) x z.heap.map
-    (no_length _ (fits.coherent.handles x ∙ ap (λ b. cond b 1 0) full))
+    (nil_from_length _ (fits.coherent.handles x ∙ ap (λ b. cond b 1 0) full))
     (no_map _ _ (fits.coherent.pointers x ∙ ap (λ b. cond b (x ∷ []) []) pointer))
 
 -- a zone whose slots, handles and free slots stay fits where its blocks are those that its table has

@@ -1,14 +1,15 @@
 -- What a zone is once a handle's block is another one, which was free.
-use Rattle.std.proofs.Common.{◌≡◌, ℕ, ◌+◌, ◌||◌, Bool, true, false, cond, [], ◌∷◌, Some, refl, ap, sym, ◌∙◌, arith, ne_eqb}
+use Rattle.std.proofs.Common.{◌≡◌, ℕ, ◌+◌, ◌||◌, true, false, cond, ◌∷◌, Some, refl, ap, sym, ◌∙◌, arith, ne_eqb}
 use Rattle.std.proofs.lemmas.List.{map-append}
 use Rattle.mac_base.specs.declared.block.Entry.{Entry}
 use Rattle.mac_base.specs.declared.block.Kind.TheVariants.{Free, Rel}
 use Rattle.mac_base.specs.HeadKind.{head_size}
-use Rattle.mac_base.specs.ZoneMap.{ZoneMap, block, is_named, total_size, contents_of}
+use Rattle.mac_base.specs.ZoneMap.{block, is_named, contents_of}
 use Rattle.mac_base.specs.HandleTable.{EmptyHandle, FullHandle, Live, live_at, live_full, live_handle, live_pointer, bytes_of, is_full, is_lent, no_flags, zeros, refilled, resized}
 use Rattle.mac_base.specs.Suits.{slots}
 use Rattle.mac_base.specs.ZoneState.{ZoneState}
 use Rattle.zone_laws.proofs.Tables.{AgreeBut, live_at-with_live_same, with_live_agrees, in_order-with_live, full_handle, handle_no_pointer, eqb_swap}
+use Rattle.zone_laws.proofs.SuitsReleased.{total_size-freed}
 use Rattle.linked_zone.specs.Owned.{slot_of, next_free, slot_of_live}
 use Rattle.linked_zone.specs.Following.{moved_to}
 use Rattle.linked_zone.specs.Places.{FreeAt, BlockOf}
@@ -22,16 +23,6 @@ use Rattle.linked_zone.proofs.ChangePointed.{pointed-fits, pointed-contents}
 use Rattle.linked_zone.proofs.ChangeSized.{Refilled, refilled_block}
 use Rattle.linked_zone.proofs.Lent.{loans-kept}
 
--- to free a block changes no size
-pub total-freed : (h : ℕ) (m : ZoneMap) → total_size (freed h m) ≡ total_size m
-total-freed h [] = refl
-total-freed h (e ∷ es) =
-    ap (λ n. n + total_size (freed h es)) (by_test (is_named h e.kind)) ∙ ap (λ n. e.size + n) (total-freed h es)
-  where
-    by_test : (b : Bool) → (cond b (block Free e.size) e).size ≡ e.size
-    by_test true = refl
-    by_test false = refl
-
 -- a free block of the map is free in the map with the block of h freed
 abbrev pub still_free : {at : ℕ} (h : ℕ) (z : ZoneState) → FreeAt z at → FreeAt (without_block h z) at
 still_free h z free = record {
@@ -39,7 +30,7 @@ still_free h z free = record {
   size = free.size;
   behind = freed h free.behind;
   map = ap (freed h) free.map ∙ map-append (λ (e : Entry). cond (is_named h e.kind) (block Free e.size) e) free.before (block Free free.size ∷ free.behind);
-  place = (let total = total-freed h free.before in let place = free.place in omega arith);
+  place = (let total = total_size-freed h free.before in let place = free.place in omega arith);
 }
 
 module _ (z : ZoneState) (h n at : ℕ) (free : FreeAt z at) where

@@ -2,7 +2,7 @@
 use Rattle.std.proofs.Common.{◌≡◌, ℕ, suc, ◌+◌, ◌-◌, ◌≤◌, Bool, true, false, cond, List, [], ◌∷◌, ◌++◌, length, map, Some, None, Option, refl, ap, sym, ◌∙◌, arith, ne_eqb, length-append, append_assoc, ◌==◌, ◌||◌, ◌⊎◌, inl, inr}
 use Rattle.std.specs.Prelude.{slice_index}
 use Rattle.std.specs.List.{filter, list_all}
-use Rattle.std.proofs.lemmas.Bool.Decides.{nat_tests}
+use Rattle.std.proofs.lemmas.List.{nil_from_length}
 use Rattle.mac_base.specs.declared.block.Entry.{Entry}
 use Rattle.mac_base.specs.declared.block.Kind.{Kind}
 use Rattle.mac_base.specs.declared.block.Kind.TheVariants.{Free, Master, Ptr, Rel}
@@ -13,17 +13,18 @@ use Rattle.mac_base.specs.ZoneMap.{ZoneMap, block, free_block, is_free, is_maste
 use Rattle.mac_base.specs.HandleTable.{HandleTable, Live, EmptyHandle, FullHandle, Pointer, live_at, live_bytes, live_full, live_handle, live_pointer, bytes_of, has_block, is_full, is_handle, is_lent, is_pointer, refilled, resized, with_live}
 use Rattle.mac_base.specs.Suits.{is_handle_block, is_pointer_block}
 use Rattle.mac_base.specs.ZoneState.{ZoneState, with_heap}
-use Rattle.zone_laws.proofs.Joined.{free_kind}
-use Rattle.zone_laws.proofs.Maps.{both_true, Exchanged, addresses_from-exchanged, addresses_from-skip}
-use Rattle.zone_laws.proofs.GapAppend.{addresses_from-append}
+use Rattle.zone_laws.proofs.Maps.{Exchanged, addresses_from-exchanged, addresses_from-skip, addresses_from-append}
 use Rattle.zone_laws.proofs.SuitsTaken.{slots-same, contents-same}
 use Rattle.zone_laws.proofs.Tables.{AgreeBut, live_at-with_live_same, with_live_agrees, in_order-with_live, by_number, full_handle, handle_no_pointer, pointer_no_handle}
-use Rattle.zone_laws.proofs.Owners.{none_named, none_named-from, no_length}
+use Rattle.zone_laws.proofs.Owners.{none_named, none_named-from, no_map}
+use Rattle.zone_laws.proofs.Arranging.{total_size-free_block}
+use Rattle.zone_laws.proofs.NamedPlace.{nil-append}
+use Rattle.zone_laws.proofs.SuitsResized.{length_of_map, free_only}
 use Rattle.linked_zone.specs.Owned.{slot_of, next_free, slot_of_live}
 use Rattle.linked_zone.specs.Places.{CanFront}
 use Rattle.linked_zone.specs.Changes.{sized}
 use Rattle.linked_zone.specs.Fit.{Fits}
-use Rattle.linked_zone.proofs.ChangeParts.{same_slot, no_map, Fits-kept}
+use Rattle.linked_zone.proofs.ChangeParts.{same_slot, Fits-kept}
 use Rattle.linked_zone.proofs.ChangeBlock.{contents_of-first}
 use Rattle.linked_zone.proofs.Lent.{loans-replaced, owners-free}
 
@@ -53,29 +54,19 @@ others_pass at test before e behind passes few =
     addresses_from-append at test before (e ∷ behind) ∙ ap (λ b. addresses_from at test before ++ (cond b (here ∷ []) [] ++ addresses_from (here + e.size) test behind)) passes in
     let lengths : length (addresses_from at test (before ++ e ∷ behind)) ≡ length (addresses_from at test before) + suc (length (addresses_from (here + e.size) test behind)) =
     ap length parts ∙ length-append (addresses_from at test before) (here ∷ addresses_from (here + e.size) test behind) in
-    (no_length _ (omega (arith, lengths, few)), no_length _ (omega (arith, lengths, few)))
-
--- where none passes, none of the others does
-nothing_left : (xs ys : List ℕ) → xs ++ ys ≡ [] → (xs ≡ []) × (ys ≡ [])
-nothing_left [] ys h = (refl, h)
-nothing_left (x ∷ xs) ys h = absurd (cc h)
+    (nil_from_length _ (omega (arith, lengths, few)), nil_from_length _ (omega (arith, lengths, few)))
 
 -- what passes at a place is found
 pub passes-some : (at : ℕ) (test : Kind → Bool) (before : ZoneMap) (e : Entry) (behind : ZoneMap) → test e.kind ≡ true → addresses_from at test (before ++ e ∷ behind) ≡ [] → ⊥
 passes-some at test before e behind passes none =
     let later : addresses_from (at + total_size before) test (e ∷ behind) ≡ [] =
-    (nothing_left (addresses_from at test before) (addresses_from (at + total_size before) test (e ∷ behind)) (sym (addresses_from-append at test before (e ∷ behind)) ∙ none)).1 in
+    (nil-append (addresses_from at test before) (addresses_from (at + total_size before) test (e ∷ behind)) (sym (addresses_from-append at test before (e ∷ behind)) ∙ none)).1 in
     absurd (cc (later, ap (λ b. cond b ((at + total_size before) ∷ []) [] ++ addresses_from (at + total_size before + e.size) test behind) passes))
 
 -- as many as the test says
 at_most : (b : Bool) (n : ℕ) → n ≡ cond b 1 0 → n ≤ 1
 at_most true n h = omega arith
 at_most false n h = omega arith
-
--- a list keeps its length under a function
-length_of_map : (f : ℕ → ℕ) (xs : List ℕ) → length (map f xs) ≡ length xs
-length_of_map f [] = refl
-length_of_map f (x ∷ xs) = let rest = length_of_map f xs in omega arith
 
 -- The number x has a block, and names no other.
 pub record NamesOne (z : ZoneState) (x : ℕ) (before behind : ZoneMap) : Type 0 where
@@ -94,8 +85,8 @@ names-one z x before e behind fits map_is named = by_kind e.kind refl named
     none_pass : (test : Kind → Bool) → addresses_from start test (before ++ e ∷ behind) ≡ [] → (addresses_from start test before ≡ []) × (addresses_from (start + total_size before + e.size) test behind ≡ [])
     none_pass test none =
         let here = start + total_size before in
-        let parts = nothing_left (addresses_from start test before) (addresses_from here test (e ∷ behind)) (sym (addresses_from-append start test before (e ∷ behind)) ∙ none) in
-        (parts.0, (nothing_left (cond (test e.kind) (here ∷ []) []) (addresses_from (here + e.size) test behind) parts.1).1)
+        let parts = nil-append (addresses_from start test before) (addresses_from here test (e ∷ behind)) (sym (addresses_from-append start test before (e ∷ behind)) ∙ none) in
+        (parts.0, (nil-append (cond (test e.kind) (here ∷ []) []) (addresses_from (here + e.size) test behind) parts.1).1)
 
     full_or : (b c : Bool) → (b ≡ true) ⊎ (c ≡ true) → (b || c) ≡ true
     full_or true c h = refl
@@ -119,7 +110,7 @@ names-one z x before e behind fits map_is named = by_kind e.kind refl named
       where
         by_test : (b : Bool) → length (addresses_from start (is_handle_block x) (before ++ e ∷ behind)) ≡ cond b 1 0 → (addresses_from start (is_handle_block x) (before ++ e ∷ behind) ≡ [] → ⊥) → b ≡ true
         by_test true h some = refl
-        by_test false h some = absurd (some (no_length _ h))
+        by_test false h some = absurd (some (nil_from_length _ h))
 
     -- it is a pointer's
     by_pointer : is_pointer_block x e.kind ≡ true → NamesOne z x before behind
@@ -127,7 +118,7 @@ names-one z x before e behind fits map_is named = by_kind e.kind refl named
         let found : addresses_from start (is_pointer_block x) (before ++ e ∷ behind) ≡ addresses z.shape (is_pointer_block x) z.heap.map = ap (addresses_from start (is_pointer_block x)) (sym map_is) in
         let pointer : is_pointer z.heap.table x ≡ true = by_test (is_pointer z.heap.table x) (fits.coherent.pointers x) (λ none. passes-some start (is_pointer_block x) before e behind passes (found ∙ none)) in
         let full = (pointer_no_handle z.heap.table x pointer).1 in
-        let none : addresses_from start (is_handle_block x) (before ++ e ∷ behind) ≡ [] = ap (addresses_from start (is_handle_block x)) (sym map_is) ∙ no_length _ (fits.coherent.handles x ∙ ap (λ b. cond b 1 0) full) in
+        let none : addresses_from start (is_handle_block x) (before ++ e ∷ behind) ≡ [] = ap (addresses_from start (is_handle_block x)) (sym map_is) ∙ nil_from_length _ (fits.coherent.handles x ∙ ap (λ b. cond b 1 0) full) in
         let one : length (addresses_from start (is_pointer_block x) (before ++ e ∷ behind)) ≡ 1 =
         ap length found ∙ sym (length_of_map (λ a. a + head_size z.shape.heads) (addresses z.shape (is_pointer_block x) z.heap.map)) ∙ ap length (fits.coherent.pointers x ∙ ap (λ b. cond b (x ∷ []) []) pointer) in
         let pointers = others_pass start (is_pointer_block x) before e behind passes (omega (arith, one)) in
@@ -168,16 +159,6 @@ pub record Room (z : ZoneState) (x whole size n : ℕ) : Type 0 where
   pub sum : here.size + total_size room ≡ whole
   pub fits : CanFront z.shape whole size n
 
--- all bytes of a free block
-pub total_free_block : (n : ℕ) → total_size (free_block n) ≡ n
-total_free_block n = elim (n == 0) as (λ b. (n == 0) ≡ b → total_size (cond b [] (block Free n ∷ [])) ≡ n) [
-  | true ↦ λ none. by_number none
-  | false ↦ λ some. omega arith
-] refl
-  where
-    by_number : (n == 0) ≡ true → 0 ≡ n
-    by_number none = grind (arith, nat_tests)
-
 -- what passes no free block passes nothing of it
 no_free_block : (at : ℕ) (test : Kind → Bool) (n : ℕ) → test Free ≡ false → addresses_from at test (free_block n) ≡ []
 no_free_block at test n free = elim (n == 0) as (λ b. addresses_from at test (cond b [] (block Free n ∷ [])) ≡ []) [ true ↦ refl | false ↦ addresses_from-skip at test (block Free n) [] free ]
@@ -185,13 +166,6 @@ no_free_block at test n free = elim (n == 0) as (λ b. addresses_from at test (c
 -- it has no owner
 owners-over : (n : ℕ) → owners (free_block n) ≡ []
 owners-over n = elim (n == 0) as (λ b. owners (cond b [] (block Free n ∷ [])) ≡ []) [ true ↦ refl | false ↦ refl ]
-
--- free blocks pass only what passes a free one
-free_only : (at : ℕ) (test : Kind → Bool) (m : ZoneMap) → test Free ≡ false → list_all (λ (e : Entry). is_free e.kind) m ≡ true → addresses_from at test m ≡ []
-free_only at test [] free h = refl
-free_only at test (e ∷ es) free h =
-    let hs = both_true (is_free e.kind) (list_all (λ (e : Entry). is_free e.kind) es) h in
-    addresses_from-skip at test e es (ap test (free_kind e.kind hs.0) ∙ free) ∙ free_only (at + e.size) test es free hs.1
 
 module _ (z : ZoneState) (x whole size n : ℕ) (fits : Fits z) (r : Room z x whole size n) where
   -- the map then
@@ -215,7 +189,7 @@ module _ (z : ZoneState) (x whole size n : ℕ) (fits : Fits z) (r : Room z x wh
     behind = r.behind;
     was = r.map;
     is = append_assoc r.before (block r.here.kind size ∷ free_block (whole - size)) r.behind;
-    as_large = (let all = total_free_block (whole - size) in let sum = r.sum in let within = r.fits.within in omega arith);
+    as_large = (let all = total_size-free_block (whole - size) in let sum = r.sum in let within = r.fits.within in omega arith);
   }
 
   -- what passes no free block passes the same blocks

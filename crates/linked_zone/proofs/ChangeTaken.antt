@@ -1,44 +1,22 @@
 -- What a zone is once the next slot to be given is an empty handle.
-use Rattle.std.proofs.Common.{◌≡◌, ℕ, ◌↔◌, Bool, true, false, cond, eqb, List, [], ◌∷◌, length, drop, Some, None, refl, ap, sym, ◌∙◌, arith, IsTrue, IsFalse, Contains, subst, inl, inr, nat_eq, ne_eqb}
+use Rattle.std.proofs.Common.{◌≡◌, ℕ, ◌↔◌, cond, List, [], ◌∷◌, length, drop, Some, None, refl, ap, sym, ◌∙◌, IsTrue, IsFalse, Contains, subst, nat_eq, ne_eqb}
 use Rattle.std.specs.Prelude.{slice_index}
 use Rattle.std.specs.List.{IsDistinct}
-use Rattle.std.proofs.lemmas.Bool.Decides.{nat_tests}
-use Rattle.std.proofs.lemmas.List.Elements.{All-contains, All-from_recursion}
-use Rattle.std.proofs.lemmas.Map.Keys.{IsDistinct-head, IsDistinct-tail}
+use Rattle.std.proofs.lemmas.Map.Keys.{IsDistinct-tail}
 use Rattle.mac_base.specs.ZoneMap.{addresses, contents_addresses, contents_of}
 use Rattle.mac_base.specs.HandleTable.{HandleTable, EmptyHandle, live_at, live_bytes, live_full, live_handle, live_pointer, bytes_of, flags_of, live_flags, is_full, is_handle, is_pointer, with_live}
 use Rattle.mac_base.specs.Heap.{front_slot}
 use Rattle.mac_base.specs.Suits.{is_handle_block, is_pointer_block, slots}
 use Rattle.mac_base.specs.ZoneState.{ZoneState}
-use Rattle.zone_laws.proofs.Tables.{AgreeBut, live_at-with_live_same, with_live_agrees, in_order-with_live, not_live, by_number, eqb-true-is}
-use Rattle.zone_laws.proofs.SlotPlaces.{Contains-cons_cases, Contains-here, Contains-later}
+use Rattle.zone_laws.proofs.Tables.{AgreeBut, live_at-with_live_same, with_live_agrees, in_order-with_live, not_live, by_number}
+use Rattle.zone_laws.proofs.SlotPlaces.{Contains-here}
+use Rattle.zone_laws.proofs.SoundPlaced.{front_slot-taken}
 use Rattle.zone_records.specs.declared.slot.Slot.TheVariants as slot
 use Rattle.linked_zone.specs.Owned.{slot_of, next_free, slot_of_live}
 use Rattle.linked_zone.specs.Changes.{taken}
 use Rattle.linked_zone.specs.Fit.{Fits, HasRooms}
 use Rattle.linked_zone.proofs.ChangeParts.{same_slot, next_free-skip, next_free-front, slot-no_pointer}
 use Rattle.linked_zone.proofs.Lent.{loans-kept}
-
--- the other free slots are just the slots that aren't live once the front one is
-front_slot-taken : (h : ℕ) (hs all : List ℕ) (t u : HandleTable) → IsDistinct nat_eq (h ∷ hs) → ((x : ℕ) → Contains (h ∷ hs) x ↔ (Contains all x × IsFalse (is_handle t x))) → AgreeBut h t u → is_handle u h ≡ true
-    → (x : ℕ) → Contains hs x ↔ (Contains all x × IsFalse (is_handle u x))
-front_slot-taken h hs all t u once free agree live x = (
-  (λ c. let fact = (free x).0 (Contains-later h hs x c) in (fact.0, ap live_handle (agree.others x (apart c)) ∙ fact.1)),
-  (λ c. by_case c (eqb x h) refl),
-)
-  where
-    apart : Contains hs x → eqb x h ≡ false
-    apart c = let here : nat_eq h x ≡ false = All-contains (λ y. nat_eq h y ≡ false) hs x (All-from_recursion (λ y. nat_eq h y ≡ false) hs (IsDistinct-head nat_eq h hs once)) c in grind (arith, nat_tests)
-
-    others : h ≡ x → IsFalse (is_handle u x) → ⊥
-    others same no_handle = cc (ap (is_handle u) same, live, no_handle)
-
-    by_case : Contains all x × IsFalse (is_handle u x) → (b : Bool) → eqb x h ≡ b → Contains hs x
-    by_case c true is = absurd (others (sym (eqb-true-is x h is)) c.1)
-    by_case c false is = elim (Contains-cons_cases h hs x ((free x).1 (c.0, sym (ap live_handle (agree.others x is)) ∙ c.1))) [
-      | inl same ↦ absurd (others same c.1)
-      | inr later ↦ later
-    ]
 
 module _ (z : ZoneState) (h : ℕ) (hs : List ℕ) (fits : Fits z) (rooms : HasRooms z) (front : z.heap.free_slots ≡ h ∷ hs) where
   abbrev u : HandleTable

@@ -2,12 +2,13 @@
 use Rattle.std.proofs.Common.{◌≡◌, ℕ, Bool, true, not, [], ◌∷◌, ◌++◌, refl, ap, sym, ◌∙◌, subst, append_assoc, arith}
 use Rattle.std.specs.List.{list_all}
 use Rattle.std.proofs.lemmas.List.Folds.{list_all-append}
+use Rattle.std.proofs.lemmas.Bool.{not-true, and_parts, and_from}
 use Rattle.mac_base.specs.declared.block.Entry.{Entry}
 use Rattle.mac_base.specs.Loans.{is_here}
 use Rattle.mac_base.specs.Suits.{slots}
 use Rattle.mac_base.specs.ZoneMap.{ZoneMap, is_named, address_behind, contents_of}
 use Rattle.mac_base.specs.ZoneState.{ZoneState}
-use Rattle.zone_laws.proofs.Maps.{Exchanged, both_true, true_both, true_not, total_size-append}
+use Rattle.zone_laws.proofs.Maps.{Exchanged, total_size-append}
 use Rattle.zone_laws.proofs.Owners.{none_named}
 use Rattle.linked_zone.specs.Changes.{with_map, exchanged}
 use Rattle.linked_zone.specs.Fit.{Fits}
@@ -26,10 +27,10 @@ passed-all : (z : ZoneState) (before : ZoneMap) (here : Entry) (blocks behind : 
 passed-all z before here [] behind was moves fits = subst (λ m. Reordered z (with_map m z) (here ∷ [])) was (record { fits = fits; slots = refl; others = λ y none. refl })
 passed-all z before here (b ∷ bs) behind was moves fits =
     let t = z.heap.table in
-    let all = both_true (can_move t here.kind) (all_can_move t (b ∷ bs)) moves in
-    let rest = both_true (can_move t b.kind) (all_can_move t bs) all.1 in
-    let first = both_true (is_movable here.kind) (is_here t here.kind) all.0 in
-    let second = both_true (is_movable b.kind) (is_here t b.kind) rest.0 in
+    let all = and_parts (can_move t here.kind) (all_can_move t (b ∷ bs)) moves in
+    let rest = and_parts (can_move t b.kind) (all_can_move t bs) all.1 in
+    let first = and_parts (is_movable here.kind) (is_here t here.kind) all.0 in
+    let second = and_parts (is_movable b.kind) (is_here t b.kind) rest.0 in
     let at = address_behind z.shape before in
     let pair : MovablePair z at = record {
       before = before;
@@ -43,17 +44,17 @@ passed-all z before here (b ∷ bs) behind was moves fits =
       first_here = first.1;
       second_here = second.1;
     } in
-    let later = passed-all (exchanged z pair) (before ++ b ∷ []) here bs behind (sym (append_assoc before (b ∷ []) (here ∷ bs ++ behind))) (true_both (can_move t here.kind) (all_can_move t bs) all.0 rest.1) (exchanged-fits z at pair fits) in
+    let later = passed-all (exchanged z pair) (before ++ b ∷ []) here bs behind (sym (append_assoc before (b ∷ []) (here ∷ bs ++ behind))) (and_from (can_move t here.kind) (all_can_move t bs) all.0 rest.1) (exchanged-fits z at pair fits) in
     let next : Reordered (exchanged z pair) (with_map (before ++ (b ∷ bs ++ here ∷ behind)) z) (here ∷ bs) =
     subst (λ m. Reordered (exchanged z pair) (with_map m z) (here ∷ bs)) (append_assoc before (b ∷ []) (bs ++ here ∷ behind)) later in
     record {
       fits = next.fits;
       slots = next.slots ∙ exchanged-slots z at pair;
       others = λ y none.
-          let named = both_true (not (is_named y here.kind)) (none_named y (b ∷ bs)) none in
-          let behind_named = both_true (not (is_named y b.kind)) (none_named y bs) named.1 in
-          next.others y (true_both (not (is_named y here.kind)) (none_named y bs) named.0 behind_named.1)
-          ∙ exchanged-others z at pair y (true_not _ named.0) (true_not _ behind_named.0);
+          let named = and_parts (not (is_named y here.kind)) (none_named y (b ∷ bs)) none in
+          let behind_named = and_parts (not (is_named y b.kind)) (none_named y bs) named.1 in
+          next.others y (and_from (not (is_named y here.kind)) (none_named y bs) named.0 behind_named.1)
+          ∙ exchanged-others z at pair y (not-true _ named.0) (not-true _ behind_named.0);
     }
 
 -- blocks pass others, the last of them first
@@ -62,18 +63,18 @@ run-passed : (z : ZoneState) (before first second behind : ZoneMap) → z.heap.m
 run-passed z before [] second behind was moves others fits = subst (λ m. Reordered z (with_map m z) second) was (record { fits = fits; slots = refl; others = λ y none. refl })
 run-passed z before (e ∷ es) second behind was moves others fits =
     let t = z.heap.table in
-    let all = both_true (can_move t e.kind) (all_can_move t es) moves in
+    let all = and_parts (can_move t e.kind) (all_can_move t es) moves in
     let later = run-passed z (before ++ e ∷ []) es second behind (was ∙ sym (append_assoc before (e ∷ []) (es ++ (second ++ behind)))) all.1 others fits in
     let one : Reordered z (with_map (before ++ (e ∷ second ++ (es ++ behind))) z) (es ++ second) =
     subst (λ m. Reordered z (with_map m z) (es ++ second)) (append_assoc before (e ∷ []) (second ++ (es ++ behind))) later in
-    let last = passed-all (with_map (before ++ (e ∷ second ++ (es ++ behind))) z) before e second (es ++ behind) refl (true_both (can_move t e.kind) (all_can_move t second) all.0 others) one.fits in
+    let last = passed-all (with_map (before ++ (e ∷ second ++ (es ++ behind))) z) before e second (es ++ behind) refl (and_from (can_move t e.kind) (all_can_move t second) all.0 others) one.fits in
     record {
       fits = last.fits;
       slots = last.slots ∙ one.slots;
       others = λ y none.
-          let named = both_true (not (is_named y e.kind)) (none_named y (es ++ second)) none in
-          let rest = both_true (none_named y es) (none_named y second) (sym (list_all-append (λ (e : Entry). not (is_named y e.kind)) es second) ∙ named.1) in
-          last.others y (true_both (not (is_named y e.kind)) (none_named y second) named.0 rest.1) ∙ one.others y named.1;
+          let named = and_parts (not (is_named y e.kind)) (none_named y (es ++ second)) none in
+          let rest = and_parts (none_named y es) (none_named y second) (sym (list_all-append (λ (e : Entry). not (is_named y e.kind)) es second) ∙ named.1) in
+          last.others y (and_from (not (is_named y e.kind)) (none_named y second) named.0 rest.1) ∙ one.others y named.1;
     }
 
 -- two runs that can be moved, one behind the other
@@ -104,7 +105,7 @@ module _ (z : ZoneState) (runs : TwoRuns z) where
 
   -- both can be moved
   pub runs-move : (all_can_move z.heap.table runs.first ≡ true) × (all_can_move z.heap.table runs.second ≡ true)
-  runs-move = both_true (all_can_move z.heap.table runs.first) _ (sym (list_all-append (λ (e : Entry). can_move z.heap.table e.kind) runs.first runs.second) ∙ runs.moves)
+  runs-move = and_parts (all_can_move z.heap.table runs.first) _ (sym (list_all-append (λ (e : Entry). can_move z.heap.table e.kind) runs.first runs.second) ∙ runs.moves)
 
   -- the zone is as it was but for their order
   pub turned-reordered : Fits z → Reordered z (turned z runs) (runs.first ++ runs.second)
@@ -113,5 +114,5 @@ module _ (z : ZoneState) (runs : TwoRuns z) where
 -- what all blocks of two runs pass they pass in the other order
 pub all-turned : (p : Entry → Bool) (first second : ZoneMap) → list_all p (first ++ second) ≡ true → list_all p (second ++ first) ≡ true
 all-turned p first second all =
-    let both = both_true (list_all p first) (list_all p second) (sym (list_all-append p first second) ∙ all) in
-    list_all-append p second first ∙ true_both (list_all p second) (list_all p first) both.1 both.0
+    let both = and_parts (list_all p first) (list_all p second) (sym (list_all-append p first second) ∙ all) in
+    list_all-append p second first ∙ and_from (list_all p second) (list_all p first) both.1 both.0

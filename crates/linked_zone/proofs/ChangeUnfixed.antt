@@ -1,5 +1,7 @@
 -- What a zone is once a pointer's block is free and the pointer isn't live.
 use Rattle.std.proofs.Common.{◌≡◌, ℕ, ◌+◌, true, false, cond, [], ◌∷◌, ◌++◌, length, map, None, refl, ap, sym, ◌∙◌, subst, ne_eqb}
+use Rattle.std.proofs.lemmas.Bool.{false_from_ne_true, eqb-true}
+use Rattle.std.proofs.lemmas.List.{nil_from_length}
 use Rattle.mac_base.specs.declared.block.Kind.{Kind}
 use Rattle.mac_base.specs.declared.block.Kind.TheVariants.{Free, Master, Ptr, Rel}
 use Rattle.mac_base.specs.HeadKind.{head_size}
@@ -7,10 +9,10 @@ use Rattle.mac_base.specs.ZoneMap.{ZoneMap, block, is_named, total_size, address
 use Rattle.mac_base.specs.HandleTable.{HandleTable, live_at, live_full, live_handle, live_pointer, is_full, is_handle, is_lent, is_pointer, without}
 use Rattle.mac_base.specs.Suits.{is_handle_block, is_pointer_block}
 use Rattle.mac_base.specs.ZoneState.{ZoneState, with_heap}
-use Rattle.zone_laws.proofs.GapAppend.{addresses_from-append, addresses_from-none}
-use Rattle.zone_laws.proofs.SlotOwners.{false_from}
-use Rattle.zone_laws.proofs.Tables.{AgreeBut, live_at-without_same, without_agrees, in_order-without, by_number, eqb_swap, eqb-true-is, pointer_no_handle}
-use Rattle.zone_laws.proofs.Owners.{none_named, no_length}
+use Rattle.zone_laws.proofs.GapAppend.{addresses_from-none}
+use Rattle.zone_laws.proofs.Tables.{AgreeBut, live_at-without_same, without_agrees, in_order-without, by_number, eqb_swap, pointer_no_handle}
+use Rattle.zone_laws.proofs.Owners.{none_named}
+use Rattle.zone_laws.proofs.Maps.{addresses_from-append}
 use Rattle.linked_zone.specs.Owned.{slot_of}
 use Rattle.linked_zone.specs.Places.{NamedAt}
 use Rattle.linked_zone.specs.Changes.{unfixed}
@@ -27,13 +29,13 @@ module _ (z : ZoneState) (p at : ℕ) (fits : Fits z) (live : is_pointer z.heap.
 
   -- the block is the pointer's
   kind_is : b.here.kind ≡ Ptr p
-  kind_is = by_kind b.here.kind b.named (false_from (is_handle_block p b.here.kind) (λ passes.
-      passes-some (address_behind z.shape []) (is_handle_block p) b.before b.here b.behind passes (ap (addresses z.shape (is_handle_block p)) (sym b.map) ∙ no_length _ (fits.coherent.handles p ∙ ap (λ c. cond c 1 0) no_handle.1))))
+  kind_is = by_kind b.here.kind b.named (false_from_ne_true (is_handle_block p b.here.kind) (λ passes.
+      passes-some (address_behind z.shape []) (is_handle_block p) b.before b.here b.behind passes (ap (addresses z.shape (is_handle_block p)) (sym b.map) ∙ nil_from_length _ (fits.coherent.handles p ∙ ap (λ c. cond c 1 0) no_handle.1))))
     where
       by_kind : (kind : Kind) → is_named p kind ≡ true → is_handle_block p kind ≡ false → kind ≡ Ptr p
       by_kind Free named other = absurd (cc named)
       by_kind Master named other = absurd (cc named)
-      by_kind (Ptr q) named other = ap (λ x. Ptr x) (eqb-true-is q p named)
+      by_kind (Ptr q) named other = ap (λ x. Ptr x) (eqb-true q p named)
       by_kind (Rel g) named other = absurd (cc (named, other))
 
   -- it stands in the map

@@ -1,6 +1,7 @@
 -- How the changes of a zone end: another part of its blocks, another slot, and when these stand for the changed zone.
 use Rattle.std.proofs.Common.{◌≡◌, ℕ, ◌+◌, Bool, true, false, cond, eqb, List, [], ◌++◌, refl, ap, sym, ◌∙◌, subst, arith, Contains}
 use Rattle.std.specs.List.{list_all}
+use Rattle.std.proofs.lemmas.Bool.{eqb-true}
 use Rattle.mac_base.specs.declared.block.Entry.{Entry}
 use Rattle.mac_base.specs.HeadKind.{Shape}
 use Rattle.mac_base.specs.ZoneMap.{ZoneMap, total_size, address_behind}
@@ -8,7 +9,7 @@ use Rattle.mac_base.specs.Heap.{Heap}
 use Rattle.mac_base.specs.Suits.{slots, is_block_size}
 use Rattle.mac_base.specs.ZoneState.{Memory, ZoneState, with_heap}
 use Rattle.zone_laws.proofs.Maps.{Exchanged, total_size-exchanged, list_all-exchanged}
-use Rattle.zone_laws.proofs.Tables.{eqb-true-is, eqb_same}
+use Rattle.zone_laws.proofs.Tables.{eqb_same}
 use Rattle.zone_records.specs.declared.slot.Slot.{Slot}
 use Rattle.zone_records.specs.Records.{BlockRecord, ZoneRecords}
 use Rattle.zone_records.specs.Records as records
@@ -40,7 +41,7 @@ pub slot-settled : (memory : Memory) (s : Shape) (front : ℕ) (o p : Owners) (m
 slot-settled memory s front o p m h w here others flags bytes lent = sym (image-same memory s front (slot_set o h w) p m (λ x _. by_test x (eqb x h) refl) flags bytes lent)
   where
     by_test : (x : ℕ) (b : Bool) → eqb x h ≡ b → p.slot x ≡ cond b w (o.slot x)
-    by_test x true is = ap p.slot (eqb-true-is x h is) ∙ here
+    by_test x true is = ap p.slot (eqb-true x h is) ∙ here
     by_test x false is = others x (λ same. absurd (cc (ap (λ y. eqb y h) same ∙ eqb_same h, is)))
 
 -- ---- a part of the blocks

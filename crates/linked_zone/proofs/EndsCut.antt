@@ -1,13 +1,14 @@
 -- How the calls end that cut a free block in two and make one of two.
 use Rattle.std.proofs.Common.{◌≡◌, ℕ, ◌+◌, ◌-◌, true, [], ◌∷◌, ◌++◌, refl, sym, ◌∙◌, subst, arith}
 use Rattle.std.specs.List.{list_all}
+use Rattle.std.proofs.lemmas.Bool.{and_parts, and_from}
 use Rattle.mac_base.specs.declared.block.Entry.{Entry}
 use Rattle.mac_base.specs.declared.block.Kind.TheVariants.{Free}
 use Rattle.mac_base.specs.Heap.{front_slot}
 use Rattle.mac_base.specs.Suits.{is_block_size}
 use Rattle.mac_base.specs.ZoneMap.{ZoneMap, block}
 use Rattle.mac_base.specs.ZoneState.{ZoneState}
-use Rattle.zone_laws.proofs.Maps.{Exchanged, both_true, true_both}
+use Rattle.zone_laws.proofs.Maps.{Exchanged}
 use Rattle.zone_records.specs.Changes as records
 use Rattle.zone_records.specs.Places as places
 use Rattle.zone_records.specs.Records.{ZoneRecords}
@@ -56,8 +57,8 @@ module _ (r : ZoneRecords) (z : ZoneState) (held : Stands r z) where
     -- it is
     pub split-ends : (n : ZoneRecords) → ((can : places.CanCut r at size) → n ≡ records.cut_in_two size r can.free) → Kept n (cut_in_two size z can.free)
     split-ends n is = free_ends r n z (cut_in_two size z can.free).heap.map cut held (cut-fits z at size can.free can.smaller held.fits) (cut-pointers z at size can.free can.smaller)
-        (true_both (is_block_size z.shape size) _ can.front (true_both (is_block_size z.shape (can.free.size - size)) true can.rest refl))
-        (true_both (has_room z.shape (block Free size)) _ (size-room z.shape Free size refl can.front) (true_both (has_room z.shape (block Free (can.free.size - size))) true (size-room z.shape Free (can.free.size - size) refl can.rest) refl))
+        (and_from (is_block_size z.shape size) _ can.front (and_from (is_block_size z.shape (can.free.size - size)) true can.rest refl))
+        (and_from (has_room z.shape (block Free size)) _ (size-room z.shape Free size refl can.front) (and_from (has_room z.shape (block Free (can.free.size - size))) true (size-room z.shape Free (can.free.size - size) refl can.rest) refl))
         ((subst (λ (r : ZoneRecords). (can : places.CanCut r at size) → n ≡ records.cut_in_two size r can.free) held.blocks is) there)
 
   module _ (at : ℕ) (pair : FreePair z at) where
@@ -81,12 +82,12 @@ module _ (r : ZoneRecords) (z : ZoneState) (held : Stands r z) where
     -- they are one
     pub merge-ends : (n : ZoneRecords) → ((pair : places.FreePair r at) → n ≡ records.joined_pair r pair) → Kept n (joined_pair z pair)
     merge-ends n is = free_ends r n z (joined_pair z pair).heap.map joined held (joined-fits z at pair held.fits) (joined-pointers z at pair)
-        (true_both (is_block_size z.shape (pair.first + pair.second)) true size refl)
-        (true_both (has_room z.shape (block Free (pair.first + pair.second))) true (size-room z.shape Free (pair.first + pair.second) refl size) refl)
+        (and_from (is_block_size z.shape (pair.first + pair.second)) true size refl)
+        (and_from (has_room z.shape (block Free (pair.first + pair.second))) true (size-room z.shape Free (pair.first + pair.second) refl size) refl)
         ((subst (λ (r : ZoneRecords). (pair : places.FreePair r at) → n ≡ records.joined_pair r pair) held.blocks is) both)
       where
         size : is_block_size z.shape (pair.first + pair.second) ≡ true
         size =
             let both = part-passes (λ (e : Entry). is_block_size z.shape e.size) pair.before (block Free pair.first ∷ block Free pair.second ∷ []) pair.behind z.heap.map pair.map held.sizes in
-            let first = both_true (is_block_size z.shape pair.first) _ both in
-            size-sum z.shape pair.first pair.second first.0 (both_true (is_block_size z.shape pair.second) true first.1).0
+            let first = and_parts (is_block_size z.shape pair.first) _ both in
+            size-sum z.shape pair.first pair.second first.0 (and_parts (is_block_size z.shape pair.second) true first.1).0

@@ -1,5 +1,6 @@
 -- How the call ends that sets a handle's flags.
 use Rattle.std.proofs.Common.{◌≡◌, ℕ, ◌+◌, ◌<◌, Bool, true, false, eqb, List, [], ◌∷◌, ◌++◌, refl, ap, sym, ◌∙◌, subst, Option, Some, None}
+use Rattle.std.proofs.lemmas.Bool.{eqb-true}
 use Rattle.mac_base.specs.declared.block.Flags.{Flags}
 use Rattle.mac_base.specs.declared.block.HeadKind.TheVariants.{Bits24, Bits32}
 use Rattle.mac_base.specs.declared.block.Kind.TheVariants as kind
@@ -8,7 +9,7 @@ use Rattle.mac_base.specs.HandleTable.{Live, EmptyHandle, FullHandle, Pointer, l
 use Rattle.mac_base.specs.Heap.{front_slot}
 use Rattle.mac_base.specs.ZoneMap.{block, contents_of}
 use Rattle.mac_base.specs.ZoneState.{ZoneState}
-use Rattle.zone_laws.proofs.Tables.{with_live_agrees, live_at-with_live_same, eqb-true-is, eqb_same}
+use Rattle.zone_laws.proofs.Tables.{with_live_agrees, live_at-with_live_same, eqb_same}
 use Rattle.zone_records.specs.declared.slot.Slot.TheVariants as slot
 use Rattle.zone_records.specs.Changes as records
 use Rattle.zone_records.specs.Places as places
@@ -107,8 +108,8 @@ module _ (r : ZoneRecords) (z : ZoneState) (held : Stands r z) (h at : ℕ) (fla
 
         same_slot : (y : ℕ) (b : Bool) → eqb y h ≡ b → slot_of now y ≡ slot_of z y
         same_slot y false apart = flagged-others z h flags held.fits full y (λ same. absurd (cc (ap (λ x. eqb x h) same ∙ eqb_same h, apart)))
-        same_slot y true is = ap (slot_of now) (eqb-true-is y h is) ∙ flagged-pointer z h flags held.fits full
+        same_slot y true is = ap (slot_of now) (eqb-true y h is) ∙ flagged-pointer z h flags held.fits full
             ∙ sym (ap (λ k. slot_of_live k (live_at z.heap.table h) (contents_of z.shape h z.heap.map) (next_free z.heap.free_slots h)) bits
             ∙ no_slot_flags (live_at z.heap.table h) (contents_of z.shape h z.heap.map) (next_free z.heap.free_slots h) flags full
             ∙ ap (λ k. slot.Full (slot_flags k flags) (contents_of z.shape h z.heap.map)) (sym bits))
-            ∙ ap (slot_of z) (sym (eqb-true-is y h is))
+            ∙ ap (slot_of z) (sym (eqb-true y h is))

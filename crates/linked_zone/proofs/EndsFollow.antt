@@ -2,6 +2,7 @@
 use Rattle.std.proofs.Common.{◌≡◌, ℕ, Bool, true, false, cond, eqb, refl, ap, sym, ◌∙◌, subst, Contains}
 use Rattle.std.specs.Prelude.{⊤}
 use Rattle.std.specs.List.{list_all}
+use Rattle.std.proofs.lemmas.Bool.{eqb-true}
 use Rattle.mac_base.specs.declared.block.Flags.{Flags}
 use Rattle.mac_base.specs.declared.block.Kind.{Kind}
 use Rattle.mac_base.specs.declared.block.Kind.TheVariants as kind
@@ -9,7 +10,7 @@ use Rattle.mac_base.specs.HeadKind.{Shape}
 use Rattle.mac_base.specs.Suits.{slots}
 use Rattle.mac_base.specs.ZoneMap.{ZoneMap, is_named}
 use Rattle.mac_base.specs.ZoneState.{Memory}
-use Rattle.zone_laws.proofs.Tables.{eqb_swap, eqb-true-is}
+use Rattle.zone_laws.proofs.Tables.{eqb_swap}
 use Rattle.zone_records.specs.declared.slot.Slot.{Slot}
 use Rattle.zone_records.specs.declared.slot.Slot.TheVariants as slot
 use Rattle.zone_records.specs.Changes.{with_slot}
@@ -107,7 +108,7 @@ following-slot (kind.Ptr p) contents o y moves = absurd (cc moves)
 following-slot (kind.Rel h) contents o y moves = ap (λ b. cond b (moved_to contents (o.slot h)) (o.slot y)) (eqb_swap y h) ∙ by_test (eqb h y) refl
   where
     by_test : (b : Bool) → eqb h y ≡ b → cond b (moved_to contents (o.slot h)) (o.slot y) ≡ cond b (moved_to contents (o.slot y)) (o.slot y)
-    by_test true is = ap (λ x. moved_to contents (o.slot x)) (eqb-true-is h y is)
+    by_test true is = ap (λ x. moved_to contents (o.slot x)) (eqb-true h y is)
     by_test false is = refl
 
 -- the flags and bytes stay

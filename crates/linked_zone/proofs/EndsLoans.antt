@@ -1,5 +1,6 @@
 -- How the calls end that lend a block's bytes and take them back.
 use Rattle.std.proofs.Common.{◌≡◌, ℕ, ◌+◌, ◌<◌, Bool, true, false, not, ◌&&◌, ◌||◌, [], ◌∷◌, ◌++◌, length, refl, ap, sym, ◌∙◌, subst, arith}
+use Rattle.std.proofs.lemmas.Bool.{eqb-true}
 use Rattle.mac_base.specs.declared.block.Kind.{Kind}
 use Rattle.mac_base.specs.declared.block.Kind.TheVariants as kind
 use Rattle.mac_base.specs.HeadKind.{head_size}
@@ -10,7 +11,7 @@ use Rattle.mac_base.specs.Suits.{wanted_length}
 use Rattle.mac_base.specs.ZoneMap.{is_master, is_named, total_size, address_behind, contents_of}
 use Rattle.mac_base.specs.ZoneState.{ZoneState, with_heap}
 use Rattle.raw_region.specs.State.{Loan}
-use Rattle.zone_laws.proofs.Tables.{with_live_agrees, eqb_same, eqb-true-is}
+use Rattle.zone_laws.proofs.Tables.{with_live_agrees, eqb_same}
 use Rattle.zone_records.specs.Changes as changes
 use Rattle.zone_records.specs.Places as places
 use Rattle.zone_records.specs.Places.{has_bytes}
@@ -45,8 +46,8 @@ lent-block z fits x lent = by_test (is_full z.heap.table x) (is_pointer z.heap.t
 wanted-named : (z : ZoneState) (x : ℕ) (k : Kind) → is_named x k ≡ true → wanted_length z.heap.table k ≡ length (bytes_of z.heap.table x)
 wanted-named z x kind.Free named = absurd (cc named)
 wanted-named z x kind.Master named = absurd (cc named)
-wanted-named z x (kind.Ptr p) named = ap (λ y. length (bytes_of z.heap.table y)) (eqb-true-is p x named)
-wanted-named z x (kind.Rel h) named = ap (λ y. length (bytes_of z.heap.table y)) (eqb-true-is h x named)
+wanted-named z x (kind.Ptr p) named = ap (λ y. length (bytes_of z.heap.table y)) (eqb-true p x named)
+wanted-named z x (kind.Rel h) named = ap (λ y. length (bytes_of z.heap.table y)) (eqb-true h x named)
 
 module _ (r : ZoneRecords) (z : ZoneState) (held : Stands r z) (x at : ℕ) (named : NamedAt z x at) where
   -- ---- what is read of the block

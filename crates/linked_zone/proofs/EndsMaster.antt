@@ -1,12 +1,13 @@
 -- How the call ends that makes a free block a master block.
 use Rattle.std.proofs.Common.{◌≡◌, ℕ, zero, suc, ◌+◌, ◌*◌, ◌<◌, true, [], ◌∷◌, ◌++◌, map, refl, ap, sym, ◌∙◌, subst, arith, Contains}
+use Rattle.std.proofs.lemmas.Bool.{and_from}
 use Rattle.mac_base.specs.declared.block.Kind.TheVariants as kind
 use Rattle.mac_base.specs.HeadKind.{head_size, slot_count, master_length}
 use Rattle.mac_base.specs.Heap.{front_slot}
 use Rattle.mac_base.specs.Suits.{is_block_size, slots_from}
 use Rattle.mac_base.specs.ZoneMap.{block, total_size, address_behind}
 use Rattle.mac_base.specs.ZoneState.{ZoneState}
-use Rattle.zone_laws.proofs.Maps.{Exchanged, true_both}
+use Rattle.zone_laws.proofs.Maps.{Exchanged}
 use Rattle.zone_laws.proofs.SlotPlaces.{Contains-here, Contains-later}
 use Rattle.zone_records.specs.declared.slot.Slot.{Slot}
 use Rattle.zone_records.specs.declared.slot.Slot.TheVariants as slot
@@ -54,7 +55,7 @@ module _ (r : ZoneRecords) (z : ZoneState) (held : Stands r z) (at last : ℕ) (
   master-ends front m n is fills last_is =
       let filled = (subst (λ (r : ZoneRecords). (w : places.RoomFor r at master_length) → m ≡ records.filled (Master (chained slot_count (at + head_size r.shape.heads) last)) r w.free) held.blocks fills) (room-there r z held at master_length room) in
       let there : first ≡ (address_behind z.shape [] + total_size room.free.before) + head_size z.shape.heads = (let place = room.free.place in omega arith) in
-      ended z now.heap x r n held (master-fits z at room held.fits held.rooms) (true_both (is_block_size z.shape room.free.size) true (room-size r z held at master_length room) refl)
+      ended z now.heap x r n held (master-fits z at room held.fits held.rooms) (and_from (is_block_size z.shape room.free.size) true (room-size r z held at master_length room) refl)
       (part-passes (has_room z.shape) room.free.before (block kind.Master room.free.size ∷ []) room.free.behind now.heap.map refl (master-rooms z at room held.fits held.rooms))
       (parts-after z now.heap x n (front_slot now.heap) (owners_of now)
       (λ y c. master-old_pointer z at room held.fits held.rooms y (master-before z at room held.fits held.rooms y c))

@@ -3,6 +3,7 @@ use Rattle.std.proofs.Common.{◌≡◌, ℕ, ◌+◌, ◌-◌, ◌≤◌, min, 
 use Rattle.std.specs.List.{list_all}
 use Rattle.std.proofs.Math.Nat.{min-le_left, min-le_right, min_comm}
 use Rattle.std.proofs.lemmas.List.{take_min, drop-replicate, length-replicate}
+use Rattle.std.proofs.lemmas.Bool.{and_from}
 use Rattle.mac_base.specs.declared.block.Entry.{Entry}
 use Rattle.mac_base.specs.declared.block.Flags.{Flags}
 use Rattle.mac_base.specs.declared.block.Kind.TheVariants as kind
@@ -12,7 +13,7 @@ use Rattle.mac_base.specs.Heap.{front_slot}
 use Rattle.mac_base.specs.Suits.{is_block_size}
 use Rattle.mac_base.specs.ZoneMap.{block, total_size}
 use Rattle.mac_base.specs.ZoneState.{ZoneState, written}
-use Rattle.zone_laws.proofs.Maps.{Exchanged, list_all-exchanged, total_size-exchanged, true_both}
+use Rattle.zone_laws.proofs.Maps.{Exchanged, list_all-exchanged, total_size-exchanged}
 use Rattle.zone_laws.proofs.Tables.{eqb_same}
 use Rattle.zone_records.specs.Changes as records
 use Rattle.zone_records.specs.Copying as copying
@@ -248,14 +249,14 @@ module _ (r : ZoneRecords) (z : ZoneState) (held : Stands r z) (h n from at : �
               new_size = room-size r z held at n room
 
               sizes_now : list_all (λ (e : Entry). is_block_size z.shape e.size) now.heap.map ≡ true
-              sizes_now = list_all-exchanged (without_block h z).heap.map now.heap.map taken_up (λ (e : Entry). is_block_size z.shape e.size) (true_both (is_block_size z.shape room.free.size) true new_size refl)
-                  (list_all-exchanged z.heap.map (without_block h z).heap.map cleared (λ (e : Entry). is_block_size z.shape e.size) (true_both (is_block_size z.shape b.size) true old_size refl) held.sizes)
+              sizes_now = list_all-exchanged (without_block h z).heap.map now.heap.map taken_up (λ (e : Entry). is_block_size z.shape e.size) (and_from (is_block_size z.shape room.free.size) true new_size refl)
+                  (list_all-exchanged z.heap.map (without_block h z).heap.map cleared (λ (e : Entry). is_block_size z.shape e.size) (and_from (is_block_size z.shape b.size) true old_size refl) held.sizes)
 
               rooms_now : list_all (has_room z.shape) now.heap.map ≡ true
               rooms_now = list_all-exchanged (without_block h z).heap.map now.heap.map taken_up (has_room z.shape)
-                  (true_both (has_room z.shape (block (kind.Rel h) room.free.size)) true (size-room z.shape (kind.Rel h) room.free.size refl new_size) refl)
+                  (and_from (has_room z.shape (block (kind.Rel h) room.free.size)) true (size-room z.shape (kind.Rel h) room.free.size refl new_size) refl)
                   (list_all-exchanged z.heap.map (without_block h z).heap.map cleared (has_room z.shape)
-                  (true_both (has_room z.shape (block kind.Free b.size)) true (size-room z.shape kind.Free b.size refl old_size) refl) held.rooms)
+                  (and_from (has_room z.shape (block kind.Free b.size)) true (size-room z.shape kind.Free b.size refl old_size) refl) held.rooms)
 
               within_now : zone_header + total_size now.heap.map ≤ z.shape.limit
               within_now =

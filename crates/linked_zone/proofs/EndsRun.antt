@@ -3,6 +3,7 @@ use Rattle.std.proofs.Common.{◌≡◌, ℕ, ◌+◌, ◌<◌, ◌≤◌, ◌&&
 use Rattle.std.specs.List.{list_all}
 use Rattle.std.proofs.lemmas.Bool.Decides.{nat_tests}
 use Rattle.std.proofs.lemmas.List.Folds.{list_all-append}
+use Rattle.std.proofs.lemmas.Bool.{and_parts}
 use Rattle.mac_base.specs.declared.block.Entry.{Entry}
 use Rattle.mac_base.specs.declared.block.HeadKind.{HeadKind}
 use Rattle.mac_base.specs.declared.block.Kind.{Kind}
@@ -13,7 +14,7 @@ use Rattle.mac_base.specs.Heap.{front_slot}
 use Rattle.mac_base.specs.Loans.{is_here}
 use Rattle.mac_base.specs.ZoneMap.{ZoneMap, block, is_named, total_size, address_behind, contents_of}
 use Rattle.mac_base.specs.ZoneSizes.{ZoneSizes}
-use Rattle.zone_laws.proofs.Maps.{both_true, total_size-append}
+use Rattle.zone_laws.proofs.Maps.{total_size-append}
 use Rattle.zone_laws.proofs.Owners.{none_named}
 use Rattle.zone_laws.proofs.Tables.{full_handle}
 use Rattle.zone_records.specs.declared.slot.Slot.{Slot}
@@ -35,7 +36,7 @@ use Rattle.linked_zone.proofs.ChangeSized.{named-contents}
 none-left : (s : Shape) (m : ZoneMap) → list_all (has_room s) m ≡ true → total_size m ≡ 0 → m ≡ []
 none-left s [] rooms none = refl
 none-left s (e ∷ es) rooms none =
-    let some = larger (head_size s.heads) e.size (both_true (nat_lt (head_size s.heads) e.size) _ (both_true (has_room s e) (list_all (has_room s) es) rooms).0).0 in absurd (omega arith)
+    let some = larger (head_size s.heads) e.size (and_parts (nat_lt (head_size s.heads) e.size) _ (and_parts (has_room s e) (list_all (has_room s) es) rooms).0).0 in absurd (omega arith)
   where
     larger : (a b : ℕ) → nat_lt a b ≡ true → a < b
     larger a b is = grind (arith, nat_tests)
@@ -113,8 +114,8 @@ module _ {r : ZoneRecords} {start end : ℕ} (m : Misplaced r start end) where
     moves_coming : is_movable (c.here).kind ≡ true
     moves_coming =
         let p : Entry → Bool = λ e. can_move m.zone.heap.table e.kind in
-        let rest = (both_true (list_all p c.done) _ (sym (list_all-append p c.done (c.here ∷ c.rest)) ∙ sym (ap (list_all p) (c.is).parts) ∙ m.moves)).1 in
-        (both_true (is_movable (c.here).kind) (is_here m.zone.heap.table (c.here).kind) (both_true (p c.here) (list_all p c.rest) rest).0).0
+        let rest = (and_parts (list_all p c.done) _ (sym (list_all-append p c.done (c.here ∷ c.rest)) ∙ sym (ap (list_all p) (c.is).parts) ∙ m.moves)).1 in
+        (and_parts (is_movable (c.here).kind) (is_here m.zone.heap.table (c.here).kind) (and_parts (p c.here) (list_all p c.rest) rest).0).0
 
     -- its block is there
     abbrev block_now : RecordAt (image m.zone.memory m.zone.shape (front_slot m.zone.heap) (partly m c.done) m.zone.heap.map) next
@@ -211,7 +212,7 @@ module _ {r : ZoneRecords} {start end : ℕ} (m : Misplaced r start end) where
   run-ends w next t more =
       let all : total_size m.run ≡ total_size t.done + total_size t.rest = ap total_size (t.is).parts ∙ total_size-append t.done t.rest in
       let place = (t.is).place in let long = m.long in
-      let left = (both_true (list_all (has_room m.zone.shape) t.done) _ (sym (list_all-append (has_room m.zone.shape) t.done t.rest) ∙ sym (ap (list_all (has_room m.zone.shape)) (t.is).parts) ∙ passes (has_room m.zone.shape) stands.rooms)).1 in
+      let left = (and_parts (list_all (has_room m.zone.shape) t.done) _ (sym (list_all-append (has_room m.zone.shape) t.done t.rest) ∙ sym (ap (list_all (has_room m.zone.shape)) (t.is).parts) ∙ passes (has_room m.zone.shape) stands.rooms)).1 in
       let none : t.rest ≡ [] = none-left m.zone.shape t.rest left (omega arith) in
       let done : t.done ≡ m.run = sym ((t.is).parts ∙ ap (λ rest. t.done ++ rest) none ∙ append-nil t.done) in
       (t.is).image_is ∙ ap (λ done. image m.zone.memory m.zone.shape (front_slot m.zone.heap) (partly m done) m.zone.heap.map) done

@@ -4,6 +4,7 @@ use Rattle.std.specs.Prelude.{◌==◌, slice_index}
 use Rattle.std.specs.List.{list_all}
 use Rattle.std.proofs.lemmas.List.Folds.{list_all-append}
 use Rattle.std.proofs.lemmas.Bool.Decides.{nat_tests}
+use Rattle.std.proofs.lemmas.Bool.{and_parts}
 use Rattle.mac_base.specs.declared.block.Entry.{Entry}
 use Rattle.mac_base.specs.declared.block.Flags.{Flags}
 use Rattle.mac_base.specs.declared.block.HeadKind.{HeadKind}
@@ -14,11 +15,12 @@ use Rattle.mac_base.specs.Suits.{slots, slots_from, is_block_size}
 use Rattle.mac_base.specs.declared.block.Kind.{Kind}
 use Rattle.mac_base.specs.ZoneMap.{ZoneMap, block, is_master, total_size, address_behind, addresses, addresses_from, contents_addresses}
 use Rattle.mac_base.specs.ZoneState.{ZoneState}
-use Rattle.zone_laws.proofs.Maps.{both_true, total_size-append}
+use Rattle.zone_laws.proofs.Maps.{total_size-append}
 use Rattle.zone_laws.proofs.SlotPlaces.{Contains-none, Contains-here, Contains-cons_cases}
 use Rattle.zone_records.specs.declared.slot.Slot.TheVariants as slot
 use Rattle.zone_records.specs.Places.{can_say, can_flag}
 use Rattle.zone_records.specs.Records.{ZoneRecords}
+use Rattle.zone_records.proofs.Chaining.{head-even}
 use Rattle.linked_zone.specs.Owned.{slot_flags, header_flags}
 use Rattle.linked_zone.specs.Fit.{has_room}
 use Rattle.linked_zone.specs.Places.{EntryAt}
@@ -43,10 +45,6 @@ pub flags-said : (heads : HeadKind) (flags : Flags) → can_flag heads (header_f
 flags-said Bits24 flags = refl
 flags-said Bits32 flags = refl
 
-pub head_even : (heads : HeadKind) → head_size heads % 4 ≡ 0
-head_even Bits24 = refl
-head_even Bits32 = refl
-
 -- ---- numbers of a zone
 
 pub sum_even : (a b : ℕ) → a % 4 ≡ 0 → b % 4 ≡ 0 → (a + b) % 4 ≡ 0
@@ -56,17 +54,17 @@ sum_even a b even too = grind arith
 pub total-even : (s : Shape) (m : ZoneMap) → list_all (λ (e : Entry). is_block_size s e.size) m ≡ true → total_size m % 4 ≡ 0
 total-even s [] h = refl
 total-even s (e ∷ es) h =
-    let parts = both_true (is_block_size s e.size) (list_all (λ (e : Entry). is_block_size s e.size) es) h in
+    let parts = and_parts (is_block_size s e.size) (list_all (λ (e : Entry). is_block_size s e.size) es) h in
     sum_even e.size (total_size es) (first e.size (nat_le _ e.size) parts.0) (total-even s es parts.1)
   where
     first : (n : ℕ) (b : Bool) → ((n % 4 == 0) && b) ≡ true → n % 4 ≡ 0
-    first n b h = let is = (both_true (n % 4 == 0) b h).0 in grind (arith, nat_tests)
+    first n b h = let is = (and_parts (n % 4 == 0) b h).0 in grind (arith, nat_tests)
 
 addresses-even : (s : Shape) (at : ℕ) (test : Kind → Bool) (m : ZoneMap) (a : ℕ) → at % 4 ≡ 0 → list_all (λ (e : Entry). is_block_size s e.size) m ≡ true
     → Contains (addresses_from at test m) a → a % 4 ≡ 0
 addresses-even s at test [] a even h c = absurd (Contains-none a c)
 addresses-even s at test (e ∷ es) a even h c =
-    let parts = both_true (is_block_size s e.size) (list_all (λ (e : Entry). is_block_size s e.size) es) h in
+    let parts = and_parts (is_block_size s e.size) (list_all (λ (e : Entry). is_block_size s e.size) es) h in
     let size : e.size % 4 ≡ 0 = (let total = total-even s (e ∷ []) (ap (λ b. is_block_size s e.size && b) (sym parts.1) ∙ h) in grind arith) in
     by_test (test e.kind) (λ later. addresses-even s (at + e.size) test es a (sum_even at e.size even size) parts.1 later) c
   where
@@ -94,7 +92,7 @@ module _ (r : ZoneRecords) (z : ZoneState) (held : Stands r z) where
       let found = Contains-flat_map (slots_from slot_count) (contents_addresses z.shape is_master z.heap.map) x c in
       let place = Contains-map (λ a. a + head_size z.shape.heads) (addresses z.shape is_master z.heap.map) found.0 found.1 in
       let even = addresses-even z.shape (address_behind z.shape []) is_master z.heap.map place.0 start_even held.sizes place.1 in
-      let first = ap (λ n. n % 4) (sym place.2) ∙ sum_even place.0 (head_size z.shape.heads) even (head_even z.shape.heads) in
+      let first = ap (λ n. n % 4) (sym place.2) ∙ sum_even place.0 (head_size z.shape.heads) even (head-even z.shape.heads) in
       let below = slots_at-below (head_size z.shape.heads) slot_count (address_behind z.shape []) z.heap.map x held.rooms c in
       let above = slot-above z.shape z.heap.map x c in
       let within = held.within in
@@ -120,15 +118,15 @@ module _ (r : ZoneRecords) (z : ZoneState) (held : Stands r z) where
     pub entry-even : at % 4 ≡ 0
     entry-even =
         let before : list_all (λ (e : Entry). is_block_size z.shape e.size) e.before ≡ true =
-        (both_true (list_all (λ (e : Entry). is_block_size z.shape e.size) e.before) _ (sym (list_all-append (λ (e : Entry). is_block_size z.shape e.size) e.before (e.here ∷ e.behind)) ∙ ap (list_all (λ (e : Entry). is_block_size z.shape e.size)) (sym e.map) ∙ held.sizes)).0 in
+        (and_parts (list_all (λ (e : Entry). is_block_size z.shape e.size) e.before) _ (sym (list_all-append (λ (e : Entry). is_block_size z.shape e.size) e.before (e.here ∷ e.behind)) ∙ ap (list_all (λ (e : Entry). is_block_size z.shape e.size)) (sym e.map) ∙ held.sizes)).0 in
         ap (λ n. n % 4) e.place ∙ sum_even (z.shape.base + 52) (total_size e.before) (sum_even z.shape.base 52 held.even refl) (total-even z.shape e.before before)
 
     -- it has contents, which begin and end within 24 bits
     pub entry-room : head_size z.shape.heads < e.here.size
     entry-room =
-        let all = (both_true (list_all (has_room z.shape) e.before) _ (sym (list_all-append (has_room z.shape) e.before (e.here ∷ e.behind)) ∙ ap (list_all (has_room z.shape)) (sym e.map) ∙ held.rooms)).1 in
-        let here = (both_true (has_room z.shape e.here) (list_all (has_room z.shape) e.behind) all).0 in
-        let first = (both_true (nat_lt (head_size z.shape.heads) e.here.size) _ here).0 in
+        let all = (and_parts (list_all (has_room z.shape) e.before) _ (sym (list_all-append (has_room z.shape) e.before (e.here ∷ e.behind)) ∙ ap (list_all (has_room z.shape)) (sym e.map) ∙ held.rooms)).1 in
+        let here = (and_parts (has_room z.shape e.here) (list_all (has_room z.shape) e.behind) all).0 in
+        let first = (and_parts (nat_lt (head_size z.shape.heads) e.here.size) _ here).0 in
         grind (arith, nat_tests)
 
     pub entry-end : at + e.here.size ≤ 0x100_0000
@@ -144,13 +142,13 @@ module _ (r : ZoneRecords) (z : ZoneState) (held : Stands r z) where
 
     -- a slot can say where they begin
     pub contents-said : (flags : Flags) → can_say z.shape.heads (slot.Full (slot_flags z.shape.heads flags) (at + head_size z.shape.heads)) ≡ true
-    contents-said flags = full-said z.shape.heads flags (at + head_size z.shape.heads) (sum_even at (head_size z.shape.heads) entry-even (head_even z.shape.heads)) entry-below (let place = e.place in let low = held.low in omega arith)
+    contents-said flags = full-said z.shape.heads flags (at + head_size z.shape.heads) (sum_even at (head_size z.shape.heads) entry-even (head-even z.shape.heads)) entry-below (let place = e.place in let low = held.low in omega arith)
 
 -- ---- room
 
 -- a block of a possible size has room, if it isn't to be a master block
 pub size-room : (s : Shape) (k : Kind) (n : ℕ) → is_master k ≡ false → is_block_size s n ≡ true → has_room s (block k n) ≡ true
-size-room s k n other size = by_heads s.heads (is_master k) other ((both_true (n % 4 == 0) _ size).1)
+size-room s k n other size = by_heads s.heads (is_master k) other ((and_parts (n % 4 == 0) _ size).1)
   where
     by_heads : (heads : HeadKind) (b : Bool) → b ≡ false → nat_le (smallest_block heads) n ≡ true → (nat_lt (head_size heads) n && (not b || nat_le (head_size heads + 4 * slot_count) n)) ≡ true
     by_heads heads true other large = absurd (cc other)
@@ -164,5 +162,5 @@ size-sum s a b first second = grind (arith, nat_tests)
 -- each block of a part of a map passes what all do
 pub part-passes : (p : Entry → Bool) (before part behind m : ZoneMap) → m ≡ before ++ (part ++ behind) → list_all p m ≡ true → list_all p part ≡ true
 part-passes p before part behind m is h =
-    let rest = (both_true (list_all p before) _ (sym (list_all-append p before (part ++ behind)) ∙ ap (list_all p) (sym is) ∙ h)).1 in
-    (both_true (list_all p part) _ (sym (list_all-append p part behind) ∙ rest)).0
+    let rest = (and_parts (list_all p before) _ (sym (list_all-append p before (part ++ behind)) ∙ ap (list_all p) (sym is) ∙ h)).1 in
+    (and_parts (list_all p part) _ (sym (list_all-append p part behind) ∙ rest)).0

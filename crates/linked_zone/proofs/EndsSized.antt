@@ -3,6 +3,7 @@ use Rattle.std.proofs.Common.{◌≡◌, ℕ, ◌+◌, ◌-◌, ◌==◌, Bool, 
 use Rattle.std.specs.List.{list_all}
 use Rattle.std.proofs.lemmas.Bool.Decides.{nat_tests}
 use Rattle.std.proofs.lemmas.List.Folds.{list_all-append}
+use Rattle.std.proofs.lemmas.Bool.{and_parts, and_from, eqb-true}
 use Rattle.mac_base.specs.declared.block.Entry.{Entry}
 use Rattle.mac_base.specs.declared.block.Kind.{Kind}
 use Rattle.mac_base.specs.declared.block.Kind.TheVariants as kind
@@ -12,9 +13,8 @@ use Rattle.mac_base.specs.Heap.{front_slot}
 use Rattle.mac_base.specs.Suits.{is_block_size}
 use Rattle.mac_base.specs.ZoneMap.{ZoneMap, block, free_block, is_master, is_named, total_size, address_behind}
 use Rattle.mac_base.specs.ZoneState.{ZoneState}
-use Rattle.zone_laws.proofs.Maps.{both_true, true_both}
 use Rattle.zone_laws.proofs.Owners.{none_named}
-use Rattle.zone_laws.proofs.Tables.{eqb_same, eqb-true-is, live_at-with_live}
+use Rattle.zone_laws.proofs.Tables.{eqb_same, live_at-with_live}
 use Rattle.zone_records.specs.Records.{ZoneRecords, BlockRecord, block_record}
 use Rattle.zone_records.specs.Records as records
 use Rattle.zone_records.specs.Changes as changes
@@ -45,7 +45,7 @@ pub flags-stay : (x : ℕ) (bytes : List ℕ) (t : HandleTable) (y : ℕ) → fl
 flags-stay x bytes t y = ap live_flags (live_at-with_live x (refilled bytes (live_at t x)) t y) ∙ by_test (eqb y x) refl
   where
     by_test : (b : Bool) → eqb y x ≡ b → live_flags (cond b (Some (refilled bytes (live_at t x))) (live_at t y)) ≡ live_flags (live_at t y)
-    by_test true is = live-flags bytes (live_at t x) ∙ ap (λ n. live_flags (live_at t n)) (sym (eqb-true-is y x is))
+    by_test true is = live-flags bytes (live_at t x) ∙ ap (λ n. live_flags (live_at t n)) (sym (eqb-true y x is))
     by_test false is = refl
 
 -- ---- a block with other bytes
@@ -54,8 +54,8 @@ flags-stay x bytes t y = ap live_flags (live_at-with_live x (refilled bytes (liv
 pub content-named : (o q : Owners) (at x : ℕ) (k : Kind) → is_named x k ≡ true → q.flags x ≡ o.flags x → content_of q at k ≡ records.with_bytes (q.bytes x) (content_of o at k)
 content-named o q at x kind.Free named flags = absurd (cc named)
 content-named o q at x kind.Master named flags = absurd (cc named)
-content-named o q at x (kind.Ptr p) named flags = ap (λ p. records.Fixed (q.bytes p)) (eqb-true-is p x named)
-content-named o q at x (kind.Rel h) named flags = let is = eqb-true-is h x named in
+content-named o q at x (kind.Ptr p) named flags = ap (λ p. records.Fixed (q.bytes p)) (eqb-true p x named)
+content-named o q at x (kind.Rel h) named flags = let is = eqb-true h x named in
     ap (λ y. records.Relocatable h (q.flags y) (q.bytes y)) is ∙ ap (λ f. records.Relocatable h f (q.bytes x)) (flags ∙ ap o.flags (sym is))
 
 -- it is no master block
@@ -75,7 +75,7 @@ free-passes p n is = by_test (n == 0) refl
   where
     by_test : (b : Bool) → (n == 0) ≡ b → list_all p (cond b [] (block kind.Free n ∷ [])) ≡ true
     by_test true none = refl
-    by_test false some = true_both (p (block kind.Free n)) true (is some) refl
+    by_test false some = and_from (p (block kind.Free n)) true (is some) refl
 
 module _ (r : ZoneRecords) (z : ZoneState) (held : Stands r z) (x whole size n : ℕ) (unlent : is_lent z.heap.table x ≡ false) (room : Room z x whole size n) where
   -- the zone then, and its owners
@@ -108,7 +108,7 @@ module _ (r : ZoneRecords) (z : ZoneState) (held : Stands r z) (x whole size n :
       let o = owners_of z in
       let q = owners_of now in
       let one = sized-one z x whole size n held.fits room in
-      let none_behind = (both_true (none_named x room.room) (none_named x room.behind) (sym (list_all-append _ room.room room.behind) ∙ one.none_behind)).1 in
+      let none_behind = (and_parts (none_named x room.room) (none_named x room.behind) (sym (list_all-append _ room.room room.behind) ∙ one.none_behind)).1 in
       let same : (y : ℕ) → eqb y x ≡ false → SameOf o q y = λ y apart.
       (ap (header_flags z.shape.heads) (flags-stay x (resized n (bytes_of z.heap.table x)) z.heap.table y), sized-other_bytes z x whole size n held.fits room y (λ is. absurd (cc (apart, is, eqb_same x))), refl) in
       let content : content_of q there room.here.kind ≡ changes.sized n (content_of o there room.here.kind) =
@@ -120,8 +120,8 @@ module _ (r : ZoneRecords) (z : ZoneState) (held : Stands r z) (x whole size n :
       ∙ ap (λ l. record { size = size; content = changes.sized n (content_of o there room.here.kind); lent = l } ∷ records_from q z.shape ((address_behind z.shape [] + total_size room.before) + size) (free_block (whole - size))) (named-lent q x room.here.kind room.named ∙ unlent)
       ∙ ap (λ bs. block_record (changes.sized n (content_of o there room.here.kind)) size ∷ bs) (free-record q z.shape ((address_behind z.shape [] + total_size room.before) + size) (whole - size)) in
       ended z now.heap (sized_exchange z x whole size n held.fits room) r m held (sized-fits z x whole size n held.fits room)
-      (true_both (is_block_size z.shape size) _ room.fits.front (free-passes (λ (e : Entry). is_block_size z.shape e.size) (whole - size) over-size))
-      (true_both (has_room z.shape (block room.here.kind size)) _ (size-room z.shape room.here.kind size (named-other x room.here.kind room.named) room.fits.front)
+      (and_from (is_block_size z.shape size) _ room.fits.front (free-passes (λ (e : Entry). is_block_size z.shape e.size) (whole - size) over-size))
+      (and_from (has_room z.shape (block room.here.kind size)) _ (size-room z.shape room.here.kind size (named-other x room.here.kind room.named) room.fits.front)
       (free-passes (has_room z.shape) (whole - size) (λ some. size-room z.shape kind.Free (whole - size) refl (over-size some))))
       (parts-after z now.heap (sized_exchange z x whole size n held.fits room) m (front_slot z.heap) q (λ y c. sized-pointers z x whole size n held.fits room y) (λ y c. sized-pointers z x whole size n held.fits room y)
       (same_but o q x room.before one.none_before same) (same_but o q x room.behind none_behind same)

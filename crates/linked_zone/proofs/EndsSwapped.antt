@@ -2,6 +2,7 @@
 use Rattle.std.proofs.Common.{◌≡◌, ℕ, ◌+◌, ◌*◌, ◌/◌, ◌≤◌, ◌<◌, ◌&&◌, nat_le, nat_lt, max, Bool, true, false, eqb, [], ◌∷◌, ◌++◌, refl, ap, sym, ◌∙◌, subst, arith}
 use Rattle.std.specs.List.{list_all}
 use Rattle.std.proofs.lemmas.Bool.Decides.{nat_tests}
+use Rattle.std.proofs.lemmas.Bool.{and_from}
 use Rattle.mac_base.specs.declared.block.Entry.{Entry}
 use Rattle.mac_base.specs.declared.block.HeadKind.{HeadKind}
 use Rattle.mac_base.specs.declared.block.HeadKind.TheVariants.{Bits24, Bits32}
@@ -13,7 +14,7 @@ use Rattle.mac_base.specs.Heap.{Heap, front_slot}
 use Rattle.mac_base.specs.Suits.{is_block_size, has_length}
 use Rattle.mac_base.specs.ZoneMap.{ZoneMap, block, is_master, total_size, address_behind}
 use Rattle.mac_base.specs.ZoneState.{ZoneState, with_heap}
-use Rattle.zone_laws.proofs.Maps.{Exchanged, list_all-exchanged, true_both}
+use Rattle.zone_laws.proofs.Maps.{Exchanged, list_all-exchanged}
 use Rattle.zone_laws.proofs.Owners.{none_named}
 use Rattle.zone_laws.proofs.Tables.{AgreeBut}
 use Rattle.zone_records.specs.Places as places
@@ -53,10 +54,10 @@ module _ (r : ZoneRecords) (z : ZoneState) (held : Stands r z) (heap : Heap) (h 
       first false h = absurd (cc h)
 
   sizes_now : list_all (λ (e : Entry). is_block_size z.shape e.size) (block b n ∷ []) ≡ true
-  sizes_now = true_both (is_block_size z.shape n) true swapped-size refl
+  sizes_now = and_from (is_block_size z.shape n) true swapped-size refl
 
   rooms_now : list_all (has_room z.shape) (block b n ∷ []) ≡ true
-  rooms_now = true_both (has_room z.shape (block b n)) true (size-room z.shape b n other swapped-size) refl
+  rooms_now = and_from (has_room z.shape (block b n)) true (size-room z.shape b n other swapped-size) refl
 
   -- every block has room
   pub swapped-rooms : list_all (has_room z.shape) heap.map ≡ true
@@ -120,7 +121,7 @@ room_had heads size n fits = by_heads heads fits
 
 -- a block that has an owner's length can have so many bytes
 pub length-had : (s : Shape) (size n : ℕ) → is_block_size s size ≡ true → has_length s size n ≡ true → can_have s size n ≡ true
-length-had s size n possible fits = true_both (is_block_size s size) _ possible (room_had s.heads size n fits)
+length-had s size n possible fits = and_from (is_block_size s size) _ possible (room_had s.heads size n fits)
 
 -- how blocks are headed, and the bytes of a header, as they are read
 pub kind-is : (r : ZoneRecords) (z : ZoneState) → Stands r z → (spec : ZoneSizes) (heads : HeadKind) → spec ≡ sizes_of r → heads ≡ spec.heads → z.shape.heads ≡ heads

@@ -1,6 +1,7 @@
 -- How the calls end by which two runs of blocks change places, before and after their handles' slots follow.
 use Rattle.std.proofs.Common.{◌≡◌, ℕ, ◌+◌, ◌≤◌, Bool, true, not, [], ◌∷◌, ◌++◌, refl, ap, sym, ◌∙◌, subst, append_assoc, arith}
 use Rattle.std.specs.List.{list_all}
+use Rattle.std.proofs.lemmas.Bool.{and_parts, and_from}
 use Rattle.mac_base.specs.declared.block.Entry.{Entry}
 use Rattle.mac_base.specs.HeadKind.{head_size}
 use Rattle.mac_base.specs.Heap.{front_slot}
@@ -8,7 +9,7 @@ use Rattle.mac_base.specs.Loans.{is_here}
 use Rattle.mac_base.specs.Suits.{is_block_size}
 use Rattle.mac_base.specs.ZoneMap.{ZoneMap, block, is_named, total_size, address_behind, contents_of}
 use Rattle.mac_base.specs.ZoneState.{ZoneState}
-use Rattle.zone_laws.proofs.Maps.{both_true, true_both, total_size-append, total_size-exchanged, list_all-exchanged}
+use Rattle.zone_laws.proofs.Maps.{total_size-append, total_size-exchanged, list_all-exchanged}
 use Rattle.zone_records.specs.Changes as changes
 use Rattle.zone_records.specs.Places as places
 use Rattle.zone_records.specs.Places.{RecordAt}
@@ -31,8 +32,8 @@ run-unlent : (z : ZoneState) (a : ℕ) (m : ZoneMap) → all_can_move z.heap.tab
 run-unlent z a [] moves = refl
 run-unlent z a (e ∷ es) moves =
     let t = z.heap.table in
-    let all = both_true (can_move t e.kind) (all_can_move t es) moves in
-    true_both _ _ (ap not (here-unlent z e.kind (both_true (is_movable e.kind) (is_here t e.kind) all.0).1)) (run-unlent z (a + e.size) es all.1)
+    let all = and_parts (can_move t e.kind) (all_can_move t es) moves in
+    and_from _ _ (ap not (here-unlent z e.kind (and_parts (is_movable e.kind) (is_here t e.kind) all.0).1)) (run-unlent z (a + e.size) es all.1)
 
 -- their blocks are the same elsewhere
 run-moves : (z : ZoneState) (a b : ℕ) (m : ZoneMap) → all_can_move z.heap.table m ≡ true → records_from (owners_of z) z.shape a m ≡ records_from (owners_of z) z.shape b m
@@ -40,8 +41,8 @@ run-moves z a b [] moves = refl
 run-moves z a b (e ∷ es) moves =
     let t = z.heap.table in
     let o = owners_of z in
-    let all = both_true (can_move t e.kind) (all_can_move t es) moves in
-    let first = content-moves o (a + head_size z.shape.heads) (b + head_size z.shape.heads) e.kind (both_true (is_movable e.kind) (is_here t e.kind) all.0).0 in
+    let all = and_parts (can_move t e.kind) (all_can_move t es) moves in
+    let first = content-moves o (a + head_size z.shape.heads) (b + head_size z.shape.heads) e.kind (and_parts (is_movable e.kind) (is_here t e.kind) all.0).0 in
     let rest = run-moves z (a + e.size) (b + e.size) es all.1 in
     λ i. record { size = e.size; content = first i; lent = lent_of o e.kind } ∷ rest i
 

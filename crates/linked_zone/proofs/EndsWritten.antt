@@ -3,14 +3,16 @@ use Rattle.std.proofs.Common.{◌≡◌, ℕ, ◌+◌, ◌<◌, true, false, con
 use Rattle.std.specs.List.{list_all}
 use Rattle.std.proofs.lemmas.Bool.Decides.{nat_tests}
 use Rattle.std.proofs.lemmas.List.Folds.{list_all-append}
+use Rattle.std.proofs.lemmas.Bool.{and_parts}
 use Rattle.mac_base.specs.declared.block.Entry.{Entry}
 use Rattle.mac_base.specs.HeadKind.{Shape, head_size, slot_count}
 use Rattle.mac_base.specs.HandleTable.{bytes_of, has_block}
 use Rattle.mac_base.specs.Heap.{front_slot}
 use Rattle.mac_base.specs.ZoneMap.{ZoneMap, total_size, address_behind}
 use Rattle.mac_base.specs.ZoneState.{ZoneState, overwritten, with_contents}
-use Rattle.zone_laws.proofs.Maps.{Exchanged, both_true}
+use Rattle.zone_laws.proofs.Maps.{Exchanged}
 use Rattle.zone_laws.proofs.Tables.{eqb_same}
+use Rattle.zone_laws.proofs.SlotPlaces.{some_size}
 use Rattle.zone_records.specs.Records.{ZoneRecords, BlockRecord, with_bytes}
 use Rattle.zone_records.specs.Records as records
 use Rattle.zone_records.specs.WritingBack.{overwritten_at, with_contents_at}
@@ -24,7 +26,6 @@ use Rattle.linked_zone.proofs.EndsSized.{flags-stay, content-named}
 use Rattle.linked_zone.proofs.ChangeSized.{names-one}
 use Rattle.linked_zone.proofs.ChangeWritten.{rewritten, written-fits, written-pointers, written-bytes, written-other_bytes}
 use Rattle.linked_zone.proofs.Found.{named-held}
-use Rattle.linked_zone.proofs.ReadNumbers.{room_some}
 
 -- a block with bytes written over its own
 abbrev written_over : List ℕ → BlockRecord → BlockRecord
@@ -40,8 +41,8 @@ overwritten-there o s start at ws [] e high rooms place =
     ap (λ b. cond b (written_over ws (record_of o s start e) ∷ records_from o s (start + e.size) high) (record_of o s start e ∷ overwritten_at (start + e.size) at ws (records_from o s (start + e.size) high))) here
     ∙ ap (λ a. written_over ws (record_of o s a e) ∷ records_from o s (a + e.size) high) same
 overwritten-there o s start at ws (f ∷ low) e high rooms place =
-    let parts = both_true (has_room s f) (list_all (has_room s) low) rooms in
-    let some = room_some (head_size s.heads) slot_count f parts.0 in
+    let parts = and_parts (has_room s f) (list_all (has_room s) low) rooms in
+    let some = some_size (head_size s.heads) slot_count f parts.0 in
     let apart : eqb start at ≡ false = differs start at f.size (total_size low) (omega arith) place in
     let same : (start + f.size) + total_size low ≡ start + total_size (f ∷ low) = omega arith in
     let bs = records_from o s (start + f.size) (low ++ e ∷ high) in
@@ -86,7 +87,7 @@ module _ (r : ZoneRecords) (z : ZoneState) (held : Stands r z) (x at : ℕ) (has
   pub lent-kept : (ws : List ℕ) → Kept (with_contents_at r at ws) (with_contents z x ws)
   lent-kept ws =
       let o = owners_of z in
-      let rooms = (both_true (list_all (has_room z.shape) place.before) _ (sym (ap (list_all (has_room z.shape)) place.map ∙ list_all-append (has_room z.shape) place.before (place.here ∷ place.behind)) ∙ held.rooms)).0 in
+      let rooms = (and_parts (list_all (has_room z.shape) place.before) _ (sym (ap (list_all (has_room z.shape)) place.map ∙ list_all-append (has_room z.shape) place.before (place.here ∷ place.behind)) ∙ held.rooms)).0 in
       let address = place.place in
       let end : (start + total_size place.before) + place.here.size ≡ (start + total_size place.before) + total_size (place.here ∷ []) = omega arith in
       rewritten-kept (overwritten (bytes_of z.heap.table x) ws) (with_contents_at r at ws)

@@ -1,6 +1,8 @@
 -- What is found at a number in the blocks of a zone: what its slot says, its block, and what it has there.
 use Rattle.std.proofs.Common.{◌≡◌, ℕ, ◌+◌, ◌-◌, ◌≤◌, Bool, true, false, ◌||◌, cond, [], ◌∷◌, ◌++◌, Option, Some, None, refl, ap, sym, ◌∙◌, subst, arith, Contains, ◌⊎◌, inl, inr}
 use Rattle.std.proofs.lemmas.List.Elements.{Contains-append_cases}
+use Rattle.std.proofs.lemmas.List.{nil_from_length}
+use Rattle.std.proofs.lemmas.Bool.{eqb-true}
 use Rattle.mac_base.specs.declared.block.Entry.{Entry}
 use Rattle.mac_base.specs.declared.block.Flags.{Flags}
 use Rattle.mac_base.specs.declared.block.HeadKind.{HeadKind}
@@ -12,9 +14,9 @@ use Rattle.mac_base.specs.ZoneMap.{ZoneMap, block, is_named, addresses_from, add
 use Rattle.mac_base.specs.HandleTable.{Live, EmptyHandle, FullHandle, Pointer, live_at, live_full, live_flags, live_handle, live_pointer, no_flags, flags_of, is_full, is_handle, is_pointer, has_block, is_lent, bytes_of}
 use Rattle.mac_base.specs.Suits.{slots, is_handle_block, is_pointer_block, wanted_length}
 use Rattle.mac_base.specs.ZoneState.{ZoneState}
-use Rattle.zone_laws.proofs.Owners.{nothing_passes, no_length}
+use Rattle.zone_laws.proofs.Owners.{nothing_passes}
 use Rattle.zone_laws.proofs.SlotPlaces.{Contains-none, Contains-cons_cases}
-use Rattle.zone_laws.proofs.Tables.{eqb_same, eqb-true-is, full_handle}
+use Rattle.zone_laws.proofs.Tables.{eqb_same, full_handle}
 use Rattle.zone_records.specs.declared.slot.Slot.{Slot}
 use Rattle.zone_records.specs.declared.slot.Slot.TheVariants as slot
 use Rattle.zone_records.specs.Records.{ZoneRecords, Free, Master, kind_of, length_of}
@@ -213,7 +215,7 @@ passing at test (e ∷ es) a c = by_cases (test e.kind) refl (Contains-append_ca
 pointer_kind : (p : ℕ) (k : Kind) → is_pointer_block p k ≡ true → k ≡ kind.Ptr p
 pointer_kind p kind.Free is = absurd (cc is)
 pointer_kind p kind.Master is = absurd (cc is)
-pointer_kind p (kind.Ptr q) is = ap (λ x. kind.Ptr x) (eqb-true-is q p is)
+pointer_kind p (kind.Ptr q) is = ap (λ x. kind.Ptr x) (eqb-true q p is)
 pointer_kind p (kind.Rel h) is = absurd (cc is)
 
 -- the block of a pointer, whose contents begin at its number
@@ -285,7 +287,7 @@ module _ (r : ZoneRecords) (z : ZoneState) (stands : Stands r z) where
       by_test : (b : Bool) → is_full z.heap.table h ≡ b → b ≡ true
       by_test true full = refl
       by_test false empty =
-          let none = no_length _ (stands.fits.coherent.handles h ∙ ap (λ b. cond b 1 0) empty) in
+          let none = nil_from_length _ (stands.fits.coherent.handles h ∙ ap (λ b. cond b 1 0) empty) in
           let passes = passes-not (address_behind z.shape []) (is_handle_block h) e.before e.here e.behind (ap (addresses_from (address_behind z.shape []) (is_handle_block h)) (sym e.map) ∙ none) in
           absurd (cc (passes, ap (is_handle_block h) is, eqb_same h))
 
@@ -312,15 +314,15 @@ length-wanted z at (kind.Rel h) = refl
 pub named-held : (o : Owners) (at x : ℕ) (k : Kind) → is_named x k ≡ true → (has_bytes (content_of o at k) ≡ true) × (records.bytes_of (content_of o at k) ≡ o.bytes x)
 named-held o at x kind.Free named = absurd (cc named)
 named-held o at x kind.Master named = absurd (cc named)
-named-held o at x (kind.Ptr p) named = (refl, ap o.bytes (eqb-true-is p x named))
-named-held o at x (kind.Rel h) named = (refl, ap o.bytes (eqb-true-is h x named))
+named-held o at x (kind.Ptr p) named = (refl, ap o.bytes (eqb-true p x named))
+named-held o at x (kind.Rel h) named = (refl, ap o.bytes (eqb-true h x named))
 
 -- and is lent where its owner is
 pub named-lent : (o : Owners) (x : ℕ) (k : Kind) → is_named x k ≡ true → lent_of o k ≡ o.lent x
 named-lent o x kind.Free named = absurd (cc named)
 named-lent o x kind.Master named = absurd (cc named)
-named-lent o x (kind.Ptr p) named = ap o.lent (eqb-true-is p x named)
-named-lent o x (kind.Rel h) named = ap o.lent (eqb-true-is h x named)
+named-lent o x (kind.Ptr p) named = ap o.lent (eqb-true p x named)
+named-lent o x (kind.Rel h) named = ap o.lent (eqb-true h x named)
 
 pub record OfNamed (r : ZoneRecords) (z : ZoneState) (x at : ℕ) : Type 0 where
   pub there : HeldAt r at

@@ -5,6 +5,8 @@ use Rattle.std.proofs.lemmas.List.Elements.{filter-append, filter_agree}
 use Rattle.std.proofs.lemmas.List.Filters.{length-filter_both}
 use Rattle.std.proofs.lemmas.List.Folds.{list_any-append}
 use Rattle.std.proofs.lemmas.Map.Views.{any-filter_same}
+use Rattle.std.proofs.lemmas.Bool.{or_parts, not-true, and_parts, eqb-true}
+use Rattle.std.proofs.Math.Bool.{and-false}
 use Rattle.mac_base.specs.declared.block.Entry.{Entry}
 use Rattle.mac_base.specs.declared.block.Kind.{Kind}
 use Rattle.mac_base.specs.declared.block.Kind.TheVariants.{Free, Master, Ptr, Rel}
@@ -12,9 +14,8 @@ use Rattle.mac_base.specs.HandleTable.{HandleTable, is_lent}
 use Rattle.mac_base.specs.Heap.{Heap}
 use Rattle.mac_base.specs.Loans.{LoansFit, most_loans, owner_of, owners, is_here, lent_out, returned}
 use Rattle.mac_base.specs.ZoneMap.{ZoneMap, is_free, is_named}
-use Rattle.zone_laws.proofs.Maps.{both_true, true_not}
 use Rattle.zone_laws.proofs.Owners.{none_named}
-use Rattle.zone_laws.proofs.Tables.{eqb_same, eqb-true-is}
+use Rattle.zone_laws.proofs.Tables.{eqb_same}
 
 -- ---- owners
 
@@ -27,14 +28,14 @@ owners-append (e ∷ es) ys = ap (λ os. owner_of e.kind ++ os) (owners-append e
 pub owner-named : (x : ℕ) (k : Kind) → is_named x k ≡ true → owner_of k ≡ x ∷ []
 owner-named x Free named = absurd (cc named)
 owner-named x Master named = absurd (cc named)
-owner-named x (Ptr p) named = ap (λ y. y ∷ []) (eqb-true-is p x named)
-owner-named x (Rel h) named = ap (λ y. y ∷ []) (eqb-true-is h x named)
+owner-named x (Ptr p) named = ap (λ y. y ∷ []) (eqb-true p x named)
+owner-named x (Rel h) named = ap (λ y. y ∷ []) (eqb-true h x named)
 
 -- free blocks have none
 pub owners-free : (m : ZoneMap) → list_all (λ (e : Entry). is_free e.kind) m ≡ true → owners m ≡ []
 owners-free [] free = refl
 owners-free (e ∷ es) free =
-    let parts = both_true (is_free e.kind) (list_all (λ (e : Entry). is_free e.kind) es) free in
+    let parts = and_parts (is_free e.kind) (list_all (λ (e : Entry). is_free e.kind) es) free in
     by_kind e.kind parts.0 ∙ owners-free es parts.1
   where
     by_kind : (k : Kind) → is_free k ≡ true → owner_of k ++ owners es ≡ owners es
@@ -47,14 +48,14 @@ owners-free (e ∷ es) free =
 pub owners-none : (x : ℕ) (m : ZoneMap) → none_named x m ≡ true → list_any (λ y. eqb y x) (owners m) ≡ false
 owners-none x [] none = refl
 owners-none x (e ∷ es) none =
-    let parts = both_true (not (is_named x e.kind)) (none_named x es) none in
+    let parts = and_parts (not (is_named x e.kind)) (none_named x es) none in
     list_any-append (λ y. eqb y x) (owner_of e.kind) (owners es) ∙ ap (λ b. b || list_any (λ y. eqb y x) (owners es)) (by_kind e.kind parts.0) ∙ owners-none x es parts.1
   where
     by_kind : (k : Kind) → not (is_named x k) ≡ true → list_any (λ y. eqb y x) (owner_of k) ≡ false
     by_kind Free h = refl
     by_kind Master h = refl
-    by_kind (Ptr p) h = ap (λ b. b || false) (true_not _ h)
-    by_kind (Rel g) h = ap (λ b. b || false) (true_not _ h)
+    by_kind (Ptr p) h = ap (λ b. b || false) (not-true _ h)
+    by_kind (Rel g) h = ap (λ b. b || false) (not-true _ h)
 
 -- and what names one is one
 pub owners-some : (x : ℕ) (before : ZoneMap) (e : Entry) (behind : ZoneMap) → is_named x e.kind ≡ true → list_any (λ y. eqb y x) (owners (before ++ e ∷ behind)) ≡ true
@@ -69,17 +70,13 @@ owners-some x before e behind named =
 
 -- ---- what is lent stays
 
-and_false : (b : Bool) → (b && false) ≡ false
-and_false true = refl
-and_false false = refl
-
 -- what is lent is an owner
 pub lent-owned : (heap : Heap) → LoansFit heap → (x : ℕ) → is_lent heap.table x ≡ (is_lent heap.table x && list_any (λ y. eqb y x) (owners heap.map))
-lent-owned heap fit x = ap (list_any (λ y. eqb y x)) fit.in_order ∙ any-filter_same (λ y. eqb y x) (is_lent heap.table) (is_lent heap.table x) (λ y is. ap (is_lent heap.table) (eqb-true-is y x is)) (owners heap.map)
+lent-owned heap fit x = ap (list_any (λ y. eqb y x)) fit.in_order ∙ any-filter_same (λ y. eqb y x) (is_lent heap.table) (is_lent heap.table x) (λ y is. ap (is_lent heap.table) (eqb-true y x is)) (owners heap.map)
 
 -- so what names no block isn't lent
 pub not-lent : (heap : Heap) → LoansFit heap → (x : ℕ) → none_named x heap.map ≡ true → is_lent heap.table x ≡ false
-not-lent heap fit x none = lent-owned heap fit x ∙ ap (λ b. is_lent heap.table x && b) (owners-none x heap.map none) ∙ and_false (is_lent heap.table x)
+not-lent heap fit x none = lent-owned heap fit x ∙ ap (λ b. is_lent heap.table x && b) (owners-none x heap.map none) ∙ and-false (is_lent heap.table x)
 
 -- what is lent stays where a map has other blocks of which the same ones are lent
 pub loans-kept : (heap now : Heap) → LoansFit heap → now.table.lent ≡ heap.table.lent → filter (is_lent heap.table) (owners now.map) ≡ filter (is_lent heap.table) (owners heap.map) → LoansFit now
@@ -110,20 +107,16 @@ here-skip t e es here = filter-append (is_lent t) (owner_of e.kind) (owners es) 
     by_kind : (k : Kind) → is_here t k ≡ true → filter (is_lent t) (owner_of k) ≡ []
     by_kind Free here = refl
     by_kind Master here = refl
-    by_kind (Ptr p) here = ap (λ b. cond b (p ∷ []) []) (true_not _ here)
-    by_kind (Rel h) here = ap (λ b. cond b (h ∷ []) []) (true_not _ here)
+    by_kind (Ptr p) here = ap (λ b. cond b (p ∷ []) []) (not-true _ here)
+    by_kind (Rel h) here = ap (λ b. cond b (h ∷ []) []) (not-true _ here)
 
 -- ---- one is lent
-
-neither : (a b : Bool) → (a || b) ≡ false → (a ≡ false) × (b ≡ false)
-neither true b h = absurd (cc h)
-neither false b h = (refl, h)
 
 -- tests that tell x alone apart keep the same of others
 filter-others : (f g : ℕ → Bool) (x : ℕ) (xs : List ℕ) → list_any (λ y. eqb y x) xs ≡ false → ((y : ℕ) → eqb y x ≡ false → f y ≡ g y) → filter f xs ≡ filter g xs
 filter-others f g x [] none same = refl
 filter-others f g x (y ∷ ys) none same =
-    let parts = neither (eqb y x) (list_any (λ y. eqb y x) ys) none in
+    let parts = or_parts (eqb y x) (list_any (λ y. eqb y x) ys) none in
     ap (λ b. cond b (y ∷ filter f ys) (filter f ys)) (same y parts.0) ∙ ap (λ zs. cond (g y) (y ∷ zs) zs) (filter-others f g x ys parts.1 same)
 
 module _ (heap : Heap) (fit : LoansFit heap) (x : ℕ) (before : ZoneMap) (e : Entry) (behind : ZoneMap) (was : heap.map ≡ before ++ e ∷ behind) (named : is_named x e.kind ≡ true) where
@@ -132,9 +125,9 @@ module _ (heap : Heap) (fit : LoansFit heap) (x : ℕ) (before : ZoneMap) (e : E
 
   -- x is lent then, and the others as before
   pub lent_out-test : (y : ℕ) → is_lent (lent_out x heap).table y ≡ (eqb y x || is_lent heap.table y)
-  lent_out-test y = any-filter_same (λ z. eqb z y) now (now y) (λ z is. ap now (eqb-true-is z y is)) (owners heap.map)
+  lent_out-test y = any-filter_same (λ z. eqb z y) now (now y) (λ z is. ap now (eqb-true z y is)) (owners heap.map)
       ∙ by_test (eqb y x) (is_lent heap.table y) (list_any (λ z. eqb z y) (owners heap.map))
-      (λ same. ap (λ n. list_any (λ z. eqb z n) (owners heap.map)) (eqb-true-is y x same) ∙ ap (λ m. list_any (λ z. eqb z x) (owners m)) was ∙ owners-some x before e behind named) (lent-owned heap fit y)
+      (λ same. ap (λ n. list_any (λ z. eqb z n) (owners heap.map)) (eqb-true y x same) ∙ ap (λ m. list_any (λ z. eqb z x) (owners m)) was ∙ owners-some x before e behind named) (lent-owned heap fit y)
     where
       by_test : (a l o : Bool) → (a ≡ true → o ≡ true) → l ≡ (l && o) → ((a || l) && o) ≡ (a || l)
       by_test true l o some owned = some refl
@@ -177,7 +170,7 @@ filter-twice p q (x ∷ xs) = by_test (q x) (filter-twice p q xs)
 
     by_test : (b : Bool) → filter p (filter q xs) ≡ filter (λ y. p y && q y) xs → filter p (cond b (x ∷ filter q xs) (filter q xs)) ≡ cond (p x && b) (x ∷ filter (λ y. p y && q y) xs) (filter (λ y. p y && q y) xs)
     by_test true rest = both (p x) rest
-    by_test false rest = rest ∙ ap (λ b. cond b (x ∷ filter (λ y. p y && q y) xs) (filter (λ y. p y && q y) xs)) (sym (and_false (p x)))
+    by_test false rest = rest ∙ ap (λ b. cond b (x ∷ filter (λ y. p y && q y) xs) (filter (λ y. p y && q y) xs)) (sym (and-false (p x)))
 
 module _ (heap : Heap) (x : ℕ) (bytes : List ℕ) where
   abbrev stays : ℕ → Bool
@@ -185,7 +178,7 @@ module _ (heap : Heap) (x : ℕ) (bytes : List ℕ) where
 
   -- x isn't lent then, and the others as before
   pub returned-test : (y : ℕ) → is_lent (returned x bytes heap).table y ≡ (not (eqb y x) && is_lent heap.table y)
-  returned-test y = any-filter_same (λ z. eqb z y) stays (stays y) (λ z is. ap stays (eqb-true-is z y is)) heap.table.lent
+  returned-test y = any-filter_same (λ z. eqb z y) stays (stays y) (λ z is. ap stays (eqb-true z y is)) heap.table.lent
 
   -- what is lent fits
   pub returned-fits : LoansFit heap → LoansFit (returned x bytes heap)

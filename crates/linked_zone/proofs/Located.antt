@@ -1,5 +1,5 @@
 -- One address as that of an entry of a zone's map and as that of its block, and one number as that of a slot in both.
-use Rattle.std.proofs.Common.{◌≡◌, ℕ, zero, suc, ◌+◌, ◌*◌, ◌<◌, true, not, ◌&&◌, nat_le, cond, List, [], ◌∷◌, ◌++◌, length, map, refl, ap, sym, ◌∙◌, subst, arith, Contains, length-append, Option, Some, None, IfNone}
+use Rattle.std.proofs.Common.{◌≡◌, ℕ, zero, suc, ◌+◌, ◌*◌, ◌<◌, true, not, ◌&&◌, nat_le, cond, List, [], ◌∷◌, ◌++◌, length, map, refl, ap, sym, ◌∙◌, subst, arith, Contains, length-append}
 use Rattle.std.specs.List.{list_all}
 use Rattle.std.proofs.lemmas.List.{length-map}
 use Rattle.std.proofs.lemmas.List.Elements.{Contains-append_left, Contains-append_right}
@@ -12,7 +12,7 @@ use Rattle.mac_base.specs.ZoneMap as map
 use Rattle.mac_base.specs.HandleTable.{HandleTable}
 use Rattle.mac_base.specs.Suits.{slots, slots_from}
 use Rattle.mac_base.specs.ZoneState.{ZoneState}
-use Rattle.zone_laws.proofs.SlotPlaces.{Contains-here, Contains-later, slots_at}
+use Rattle.zone_laws.proofs.SlotPlaces.{Contains-here, Contains-later, slots_at, slots_at-cons}
 use Rattle.zone_records.specs.declared.slot.Slot.{Slot}
 use Rattle.zone_records.specs.Records.{BlockRecord, ZoneRecords, block_record, Free, Master, total_of, kind_of}
 use Rattle.zone_records.specs.Records as zone_records
@@ -22,14 +22,8 @@ use Rattle.linked_zone.specs.Owned.{Owners, owners_of, content_of, record_of, re
 use Rattle.linked_zone.specs.Places.{EntryAt, LowestAt, SplitAt, FirstFree, LastFree, none_free}
 use Rattle.linked_zone.specs.Fit.{Fits, HasRooms}
 use Rattle.linked_zone.proofs.Owning.{records_from-append, records-total}
-use Rattle.linked_zone.proofs.ReadNumbers.{slots_at-first}
 use Rattle.linked_zone.proofs.ReadBlocks.{IsPointerThere, ArePointersThere, kind-back}
 use Rattle.linked_zone.proofs.ReadBack.{all-pointers}
-
--- what follows from what a clause says of `None`
-pub IfNone_then : {P Q : Type 0} (r : Option ℕ) → IfNone r P → (P → Q) → IfNone r Q
-IfNone_then None h f = f h
-IfNone_then (Some n) h f = tt
 
 -- ---- the block of an entry
 
@@ -286,11 +280,11 @@ slots_from-at (suc n) at (suc k) below =
 in-slots : (head n at : ℕ) (low : ZoneMap) (e : Entry) (high : ZoneMap) (x : ℕ) → is_master e.kind ≡ true → Contains (slots_from n (at + total_size low + head)) x → Contains (slots_at head n at (low ++ e ∷ high)) x
 in-slots head n at [] e high x master c =
     let same : at + 0 + head ≡ at + head = omega arith in
-    subst (λ xs. Contains xs x) (sym (slots_at-first head n at e high ∙ ap (λ b. cond b (slots_from n (at + head)) [] ++ slots_at head n (at + e.size) high) master))
+    subst (λ xs. Contains xs x) (sym (slots_at-cons head n at e high ∙ ap (λ b. cond b (slots_from n (at + head)) [] ++ slots_at head n (at + e.size) high) master))
     (Contains-append_left (slots_from n (at + head)) (slots_at head n (at + e.size) high) x (subst (λ a. Contains (slots_from n a) x) same c))
 in-slots head n at (f ∷ low) e high x master c =
     let same : at + total_size (f ∷ low) + head ≡ (at + f.size) + total_size low + head = omega arith in
-    subst (λ xs. Contains xs x) (sym (slots_at-first head n at f (low ++ e ∷ high)))
+    subst (λ xs. Contains xs x) (sym (slots_at-cons head n at f (low ++ e ∷ high)))
     (Contains-append_right (cond (is_master f.kind) (slots_from n (at + head)) []) (slots_at head n (at + f.size) (low ++ e ∷ high)) x
     (in-slots head n (at + f.size) low e high x master (subst (λ a. Contains (slots_from n a) x) same c)))
 

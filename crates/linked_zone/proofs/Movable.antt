@@ -1,5 +1,6 @@
 -- Blocks that may move: what is in one, and what the slot of its handle can say.
 use Rattle.std.proofs.Common.{◌≡◌, ℕ, true, false, refl, Option, Some, None}
+use Rattle.std.proofs.lemmas.Bool.{not-true}
 use Rattle.mac_base.specs.declared.block.Flags.{Flags}
 use Rattle.mac_base.specs.declared.block.HeadKind.{HeadKind}
 use Rattle.mac_base.specs.declared.block.Kind.{Kind}
@@ -7,7 +8,6 @@ use Rattle.mac_base.specs.declared.block.Kind.TheVariants as kind
 use Rattle.mac_base.specs.HandleTable.{Live, EmptyHandle, FullHandle, Pointer, live_full}
 use Rattle.mac_base.specs.Loans.{is_here}
 use Rattle.mac_base.specs.ZoneState.{ZoneState}
-use Rattle.zone_laws.proofs.Maps.{true_not}
 use Rattle.zone_records.specs.declared.slot.Slot.TheVariants as slot
 use Rattle.zone_records.specs.Places.{can_say}
 use Rattle.linked_zone.specs.Following.{moved_to}
@@ -25,8 +25,8 @@ content-moves o a b (kind.Rel h) moves = refl
 pub here-unlent : (z : ZoneState) (k : Kind) → is_here z.heap.table k ≡ true → lent_of (owners_of z) k ≡ false
 here-unlent z kind.Free here = refl
 here-unlent z kind.Master here = refl
-here-unlent z (kind.Ptr p) here = true_not _ here
-here-unlent z (kind.Rel h) here = true_not _ here
+here-unlent z (kind.Ptr p) here = not-true _ here
+here-unlent z (kind.Rel h) here = not-true _ here
 
 -- a handle's slot can say where its block's contents are to begin
 pub moved-said : (heads : HeadKind) (l : Option Live) (old new next : ℕ) → live_full l ≡ true → ((flags : Flags) → can_say heads (slot.Full (slot_flags heads flags) new) ≡ true) → can_say heads (moved_to new (slot_of_live heads l old next)) ≡ true

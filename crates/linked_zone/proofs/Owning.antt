@@ -3,16 +3,16 @@ use Rattle.std.proofs.Common.{◌≡◌, ℕ, zero, suc, ◌+◌, ◌*◌, ◌�
 use Rattle.std.specs.List.{list_all}
 use Rattle.std.proofs.lemmas.Bool.Decides.{nat_tests}
 use Rattle.std.proofs.lemmas.List.Elements.{Contains-append_cases, Contains-append_left, Contains-append_right}
+use Rattle.std.proofs.lemmas.Bool.{and_parts, eqb-true}
 use Rattle.mac_base.specs.declared.block.Kind.{Kind}
 use Rattle.mac_base.specs.declared.block.Kind.TheVariants as kind
 use Rattle.mac_base.specs.HeadKind.{Shape, head_size, slot_count}
 use Rattle.mac_base.specs.ZoneMap.{ZoneMap, is_master, is_named, total_size, address_behind, addresses_from}
 use Rattle.mac_base.specs.Suits.{slots, slots_from}
 use Rattle.mac_base.specs.ZoneState.{Memory}
-use Rattle.zone_laws.proofs.Maps.{both_true}
 use Rattle.zone_laws.proofs.Owners.{none_named}
-use Rattle.zone_laws.proofs.SlotPlaces.{slots_at, has_room, slots_at-above, Contains-cons_cases, Contains-none, Contains-here, Contains-later}
-use Rattle.zone_laws.proofs.Tables.{eqb_same, eqb-true-is}
+use Rattle.zone_laws.proofs.SlotPlaces.{slots_at, has_room, slots_at-above, Contains-cons_cases, Contains-none, Contains-here, Contains-later, slots_from-bounds}
+use Rattle.zone_laws.proofs.Tables.{eqb_same}
 use Rattle.zone_records.specs.declared.slot.Slot.{Slot}
 use Rattle.zone_records.specs.Records.{BlockRecord, ZoneRecords, block_record, Master, total_of}
 use Rattle.zone_records.specs.Records as records
@@ -111,7 +111,7 @@ pub same_but : (o p : Owners) (h : ℕ) (m : ZoneMap) → none_named h m ≡ tru
 same_but o p h m none same x named = by_test (eqb x h) refl
   where
     by_test : (b : Bool) → eqb x h ≡ b → SameOf o p x
-    by_test true is = absurd (cc (ap (λ y. none_named y m) (eqb-true-is x h is), named, none))
+    by_test true is = absurd (cc (ap (λ y. none_named y m) (eqb-true x h is), named, none))
     by_test false is = same x is
 
 -- the blocks of a map, one part of which another one of the same size has taken the place of
@@ -138,7 +138,7 @@ set-other : (f : ℕ → Slot) (h : ℕ) (w : Slot) (x : ℕ) → (x ≡ h → �
 set-other f h w x other = by_test (eqb x h) refl
   where
     by_test : (b : Bool) → eqb x h ≡ b → cond b w (f x) ≡ f x
-    by_test true is = absurd (other (eqb-true-is x h is))
+    by_test true is = absurd (other (eqb-true x h is))
     by_test false is = refl
 
 -- the slot h among n slots, the first at an address
@@ -149,13 +149,6 @@ record AmongSlots (f : ℕ → Slot) (n at h : ℕ) : Type 0 where
   has : map f (slots_from n at) ≡ before ++ f h ∷ behind
   sets : (w : Slot) → map (λ x. cond (eqb x h) w (f x)) (slots_from n at) ≡ before ++ w ∷ behind
 
-slots_from-above : (n at h : ℕ) → Contains (slots_from n at) h → (at ≤ h) × (h + 4 ≤ at + 4 * n)
-slots_from-above zero at h c = absurd (Contains-none h c)
-slots_from-above (suc n) at h c = elim (Contains-cons_cases at (slots_from n (at + 4)) h c) [
-  | inl is ↦ (omega arith, omega arith)
-  | inr later ↦ let rest = slots_from-above n (at + 4) h later in (omega arith, omega arith)
-]
-
 among-slots : (f : ℕ → Slot) (n at h : ℕ) → Contains (slots_from n at) h → AmongSlots f n at h
 among-slots f zero at h c = absurd (Contains-none h c)
 among-slots f (suc n) at h c = elim (Contains-cons_cases at (slots_from n (at + 4)) h c) [
@@ -165,9 +158,9 @@ among-slots f (suc n) at h c = elim (Contains-cons_cases at (slots_from n (at + 
     place = omega arith;
     has = ap (λ x. f x ∷ map f (slots_from n (at + 4))) is;
     sets = λ w. ap (λ y. y ∷ map (λ x. cond (eqb x h) w (f x)) (slots_from n (at + 4))) (ap (λ x. cond (eqb x h) w (f x)) is ∙ set-here f h w)
-        ∙ ap (λ ys. w ∷ ys) (map-same f (λ x. cond (eqb x h) w (f x)) (slots_from n (at + 4)) (λ x d. let above = slots_from-above n (at + 4) x d in set-other f h w x (λ same. omega arith)));
+        ∙ ap (λ ys. w ∷ ys) (map-same f (λ x. cond (eqb x h) w (f x)) (slots_from n (at + 4)) (λ x d. let above = slots_from-bounds n (at + 4) x d in set-other f h w x (λ same. omega arith)));
   }
-  | inr later ↦ (let rest = among-slots f n (at + 4) h later in let above = slots_from-above n (at + 4) h later in record {
+  | inr later ↦ (let rest = among-slots f n (at + 4) h later in let above = slots_from-bounds n (at + 4) h later in record {
     before = f at ∷ rest.before;
     behind = rest.behind;
     place = (let place = rest.place in omega arith);
@@ -194,8 +187,8 @@ in_front o s at size h (kind.Ptr p) es rooms c = absurd (Contains-none h c)
 in_front o s at size h (kind.Rel g) es rooms c = absurd (Contains-none h c)
 in_front o s at size h kind.Master es rooms c =
     let among = among-slots o.slot slot_count (at + head_size s.heads) h c in
-    let bounds = slots_from-above slot_count (at + head_size s.heads) h c in
-    let room = both_true (has_room (head_size s.heads) slot_count (record { size = size; kind = kind.Master })) (list_all (has_room (head_size s.heads) slot_count) es) rooms in
+    let bounds = slots_from-bounds slot_count (at + head_size s.heads) h c in
+    let room = and_parts (has_room (head_size s.heads) slot_count (record { size = size; kind = kind.Master })) (list_all (has_room (head_size s.heads) slot_count) es) rooms in
     let large : head_size s.heads + 4 * slot_count ≤ size = (let here = room.0 in grind (arith, nat_tests)) in
     record {
       before = [];
@@ -215,12 +208,12 @@ pub slot-in : (o : Owners) (s : Shape) (at : ℕ) (m : ZoneMap) (h : ℕ) → li
 slot-in o s at [] h rooms c = absurd (Contains-none h c)
 slot-in o s at (e ∷ es) h rooms c = elim (Contains-append_cases _ _ h (subst (λ xs. Contains xs h) (slots_at-cons (head_size s.heads) slot_count at e.size e.kind es) c)) [
   | inl first ↦ in_front o s at e.size h e.kind es rooms first
-  | inr later ↦ behind_first later (slot-in o s (at + e.size) es h (both_true (has_room (head_size s.heads) slot_count e) (list_all (has_room (head_size s.heads) slot_count) es) rooms).1 later)
+  | inr later ↦ behind_first later (slot-in o s (at + e.size) es h (and_parts (has_room (head_size s.heads) slot_count e) (list_all (has_room (head_size s.heads) slot_count) es) rooms).1 later)
 ]
   where
     behind_first : Contains (slots_at (head_size s.heads) slot_count (at + e.size) es) h → SlotIn o s (at + e.size) es h → SlotIn o s at (e ∷ es) h
     behind_first later rest =
-        let room = both_true (has_room (head_size s.heads) slot_count e) (list_all (has_room (head_size s.heads) slot_count) es) rooms in
+        let room = and_parts (has_room (head_size s.heads) slot_count e) (list_all (has_room (head_size s.heads) slot_count) es) rooms in
         let above = slots_at-above (head_size s.heads) slot_count (at + e.size) es h room.1 later in
         record {
           before = record_of o s at e ∷ rest.before;
@@ -241,8 +234,8 @@ slot-in o s at (e ∷ es) h rooms c = elim (Contains-append_cases _ _ h (subst (
             by_test : (b : Bool) → is_master e.kind ≡ b → Contains (cond b (slots_from slot_count (at + head_size s.heads)) []) x → ⊥
             by_test false is d = Contains-none x d
             by_test true is d =
-                let bounds = slots_from-above slot_count (at + head_size s.heads) x d in
-                let room = both_true (has_room (head_size s.heads) slot_count e) (list_all (has_room (head_size s.heads) slot_count) es) rooms in
+                let bounds = slots_from-bounds slot_count (at + head_size s.heads) x d in
+                let room = and_parts (has_room (head_size s.heads) slot_count e) (list_all (has_room (head_size s.heads) slot_count) es) rooms in
                 let above = slots_at-above (head_size s.heads) slot_count (at + e.size) es h room.1 later in
                 let large : head_size s.heads + 4 * slot_count ≤ e.size = (let here = room.0 in grind (arith, nat_tests)) in
                 omega arith

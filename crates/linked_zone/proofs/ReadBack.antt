@@ -3,18 +3,17 @@ use Rattle.std.proofs.Common.{◌≡◌, ◌≢◌, ℕ, ◌+◌, ◌≤◌, ◌
 use Rattle.std.specs.Ordering.{nat_cmp}
 use Rattle.std.specs.FinMap.{find}
 use Rattle.std.proofs.lemmas.List.{length-map}
+use Rattle.std.proofs.lemmas.Bool.{false_from_ne_true}
 use Rattle.mac_base.specs.declared.block.Flags.{Flags}
 use Rattle.mac_base.specs.declared.block.HeadKind.{HeadKind}
 use Rattle.mac_base.specs.declared.block.HeadKind.TheVariants.{Bits24, Bits32}
-use Rattle.mac_base.specs.declared.block.Kind.{Kind}
-use Rattle.mac_base.specs.declared.block.Kind.TheVariants.{Free, Master, Ptr, Rel}
 use Rattle.mac_base.specs.HeadKind.{head_size, slot_count}
-use Rattle.mac_base.specs.ZoneMap.{is_master, addresses, address_behind, contents_of}
+use Rattle.mac_base.specs.ZoneMap.{addresses, address_behind, contents_of}
 use Rattle.mac_base.specs.HandleTable.{Live, EmptyHandle, FullHandle, Pointer, live_at, live_bytes, live_flags, live_full, live_handle, live_pointer, is_handle, is_pointer}
 use Rattle.mac_base.specs.Suits.{is_handle_block, is_pointer_block, slots}
 use Rattle.mac_base.specs.ZoneState.{ZoneState}
 use Rattle.zone_laws.proofs.Tables.{not_live}
-use Rattle.zone_laws.proofs.SlotOwners.{false_from}
+use Rattle.zone_laws.proofs.SlotOwners.{pointer_not_master, address_from_contents}
 use Rattle.zone_laws.proofs.SlotPlaces.{Contains-none, Contains-here, Contains-later, Contains-cons_cases, slots_at-above, slot_no_contents}
 use Rattle.zone_records.specs.Records.{BlockRecord}
 use Rattle.linked_zone.specs.Owned.{slot_flags, header_flags, next_free, slot_of_live, slot_of, owners_of, records_of}
@@ -39,11 +38,6 @@ one_mapped e [] h = absurd (cc h)
 one_mapped e (x ∷ []) h = refl
 one_mapped e (x ∷ y ∷ xs) h = absurd (omega (arith, h))
 
--- what maps to the only one
-only_mapped : (f : ℕ → ℕ) (xs : List ℕ) (y : ℕ) → map f xs ≡ y ∷ [] → (x : ℕ) × Contains xs x × (f x ≡ y)
-only_mapped f [] y h = absurd (cc h)
-only_mapped f (x ∷ xs) y h = (x, Contains-here x xs, cc h)
-
 -- what an element maps to is among what all do
 Contains-mapped : (f : ℕ → ℕ) (xs : List ℕ) (x : ℕ) → Contains xs x → Contains (map f xs) (f x)
 Contains-mapped f [] x c = absurd (Contains-none x c)
@@ -56,13 +50,6 @@ Contains-mapped f (y ∷ ys) x c = elim (Contains-cons_cases y ys x c) [
 only_number : (b : Bool) (p a : ℕ) → Contains (cond b (p ∷ []) []) a → (p ≡ a) × (b ≡ true)
 only_number false p a c = absurd (Contains-none a c)
 only_number true p a c = elim (Contains-cons_cases p [] a c) [ inl is ↦ (is, refl) | inr none ↦ absurd (Contains-none a none) ]
-
--- the block of a pointer is no master block
-pointer_not_master : (p : ℕ) (kind : Kind) → is_pointer_block p kind ≡ true → is_master kind ≡ false
-pointer_not_master p Free h = refl
-pointer_not_master p Master h = absurd (cc h)
-pointer_not_master p (Ptr q) h = refl
-pointer_not_master p (Rel g) h = refl
 
 -- what is live is a handle or a pointer
 handle_or_pointer : (o : Option Live) (l : Live) → o ≡ Some l → live_handle o ≡ false → live_pointer o ≡ true
@@ -83,11 +70,11 @@ module _ (z : ZoneState) (fits : Fits z) (rooms : HasRooms z) where
 
   -- the place of a live pointer's block
   pub pointer_place : (p : ℕ) → is_pointer z.heap.table p ≡ true → (a : ℕ) × Contains (addresses z.shape (is_pointer_block p) z.heap.map) a × (a + head ≡ p)
-  pointer_place p live = only_mapped (λ a. a + head) (addresses z.shape (is_pointer_block p) z.heap.map) p (fits.coherent.pointers p ∙ ap (λ b. cond b (p ∷ []) []) live)
+  pointer_place p live = address_from_contents (λ a. a + head) (addresses z.shape (is_pointer_block p) z.heap.map) p (fits.coherent.pointers p ∙ ap (λ b. cond b (p ∷ []) []) live)
 
   -- no slot is a pointer
   pub slot_no_pointer : (x : ℕ) → Contains (slots z.shape z.heap.map) x → is_pointer z.heap.table x ≡ false
-  slot_no_pointer x c = false_from (is_pointer z.heap.table x) (λ live.
+  slot_no_pointer x c = false_from_ne_true (is_pointer z.heap.table x) (λ live.
       let there = pointer_place x live in
       slot_no_contents head slot_count start (is_pointer_block x) (pointer_not_master x) z.heap.map there.0 rooms there.1
       (subst (λ a. Contains (slots z.shape z.heap.map) a) (sym there.2) c))

@@ -5,6 +5,7 @@ use Rattle.std.specs.List.{filter}
 use Rattle.std.proofs.lemmas.Grind.{flat_map-append}
 use Rattle.std.proofs.lemmas.List.{map-append}
 use Rattle.std.proofs.lemmas.List.Elements.{Contains-append_left, Contains-append_right, filter-append}
+use Rattle.std.proofs.lemmas.Bool.{eqb-true}
 use Rattle.mac_base.specs.declared.block.Flags.{Flags}
 use Rattle.mac_base.specs.declared.block.Kind.{Kind}
 use Rattle.mac_base.specs.declared.block.Kind.TheVariants.{Free, Master, Ptr, Rel}
@@ -13,13 +14,13 @@ use Rattle.mac_base.specs.Loans.{owner_of, owners}
 use Rattle.mac_base.specs.ZoneMap.{ZoneMap, block, is_master, addresses_from}
 use Rattle.mac_base.specs.HandleTable.{HandleTable, Live, EmptyHandle, FullHandle, Pointer, live_at, bytes_of, live_bytes, live_pointer, is_pointer}
 use Rattle.mac_base.specs.Suits.{slots_from, is_handle_block, is_pointer_block}
-use Rattle.zone_laws.proofs.Tables.{eqb_same, eqb-true-is}
-use Rattle.zone_laws.proofs.SlotPlaces.{Contains-here, Contains-later, slots_at}
+use Rattle.zone_laws.proofs.Tables.{eqb_same}
+use Rattle.zone_laws.proofs.SlotPlaces.{Contains-here, Contains-later, slots_at, slots_at-cons}
 use Rattle.zone_records.specs.declared.slot.Slot.{Slot}
 use Rattle.zone_records.specs.Records.{BlockRecord, kind_of}
 use Rattle.linked_zone.specs.Owned.{Owners, content_of, lent_of, records_from}
 use Rattle.linked_zone.specs.Reading.{map_in, lents_in, addressed, either_flags, live_there, lives_there, live_in, live_of, lives_in, slots_of, all_slots}
-use Rattle.linked_zone.proofs.ReadNumbers.{slots_at-first, numbers_of, numbers, entry_of}
+use Rattle.linked_zone.proofs.ReadNumbers.{numbers_of, numbers, entry_of}
 
 -- ---- pointers
 
@@ -102,7 +103,7 @@ slots-back o s at (e ∷ es) =
     let later = slots_at (head_size s.heads) slot_count (at + e.size) es in
     ap (λ (xs : List (ℕ × Slot)). xs ++ all_slots s (at + e.size) (records_from o s (at + e.size) es)) (slots-block o (at + head_size s.heads) e.kind)
     ∙ ap (λ (xs : List (ℕ × Slot)). map (λ a. (a, o.slot a)) first ++ xs) (slots-back o s (at + e.size) es)
-    ∙ sym (map-append (λ a. (a, o.slot a)) first later) ∙ ap (map (λ a. (a, o.slot a))) (sym (slots_at-first (head_size s.heads) slot_count at e es))
+    ∙ sym (map-append (λ a. (a, o.slot a)) first later) ∙ ap (map (λ a. (a, o.slot a))) (sym (slots_at-cons (head_size s.heads) slot_count at e es))
 
 -- ---- what is live
 
@@ -122,7 +123,7 @@ lives-there-back o s h flags at (e ∷ es) = by_kind e.kind _ _ (lives-there-bac
     by_kind (Ptr p) rest others is = is
     by_kind (Rel g) rest others is = elim (eqb g h) as (λ b. eqb g h ≡ b → flat_map (λ l. (h, l) ∷ []) (cond b (FullHandle (either_flags flags (o.flags g)) (o.bytes g) ∷ []) []) ++ rest
         ≡ map (λ a. full_entry o h flags) (cond b (at ∷ []) [] ++ others)) [
-          | true ↦ λ test. ap (λ g. (h, FullHandle (either_flags flags (o.flags g)) (o.bytes g)) ∷ rest) (eqb-true-is g h test) ∙ ap (λ (es : List (ℕ × Live)). full_entry o h flags ∷ es) is
+          | true ↦ λ test. ap (λ g. (h, FullHandle (either_flags flags (o.flags g)) (o.bytes g)) ∷ rest) (eqb-true g h test) ∙ ap (λ (es : List (ℕ × Live)). full_entry o h flags ∷ es) is
           | false ↦ λ test. is
         ] refl
 
@@ -169,7 +170,7 @@ lives-back o s t all at (e ∷ es) same there says =
     let first = cond (is_master e.kind) (slots_from slot_count (at + head)) [] in
     let later = slots_at head slot_count (at + e.size) es in
     let here = numbers_of slot_count (at + head) e.kind in
-    let parts : slots_at head slot_count at (e ∷ es) ≡ first ++ later = slots_at-first head slot_count at e es in
+    let parts : slots_at head slot_count at (e ∷ es) ≡ first ++ later = slots_at-cons head slot_count at e es in
     let one = says-block o t all (at + head) e.kind same there.0 (λ x c. says x (subst (λ xs. Contains xs x) (sym parts) (Contains-append_left first later x c))) in
     let rest = lives-back o s t all (at + e.size) es same there.1 (λ x c. says x (subst (λ xs. Contains xs x) (sym parts) (Contains-append_right first later x c))) in
     ap (λ (lives : List (ℕ × Live)). lives ++ lives_in s all (at + e.size) (records_from o s (at + e.size) es)) one

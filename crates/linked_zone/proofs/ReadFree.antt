@@ -6,7 +6,8 @@ use Rattle.std.specs.Cmp.{IsEquivalence}
 use Rattle.std.proofs.lemmas.Bool.Decides.{nat_tests}
 use Rattle.std.proofs.lemmas.Map.Made.{length-le_from_is_member}
 use Rattle.std.proofs.lemmas.Map.Views.{list_any-from_Contains, Contains-from_any}
-use Rattle.zone_laws.proofs.Tables.{eqb_same, eqb_swap, eqb-true-is}
+use Rattle.std.proofs.lemmas.Bool.{eqb-true}
+use Rattle.zone_laws.proofs.Tables.{eqb_same, eqb_swap}
 use Rattle.zone_laws.proofs.SlotPlaces.{Contains-cons_cases, Contains-here, Contains-later, Contains-none}
 use Rattle.zone_records.specs.declared.slot.Slot.{Slot}
 use Rattle.linked_zone.specs.Owned.{next_free}
@@ -14,17 +15,17 @@ use Rattle.linked_zone.specs.Reading.{next_said, next_named, chain}
 
 -- equality of numbers is one
 equal_numbers : IsEquivalence eqb
-equal_numbers = record { refl = eqb_same; symm = eqb_swap; congr = λ x y z same. ap (λ n. eqb n z) (eqb-true-is x y same) }
+equal_numbers = record { refl = eqb_same; symm = eqb_swap; congr = λ x y z same. ap (λ n. eqb n z) (eqb-true x y same) }
 
 -- numbers that differ, each of them among others, are at most as many
 pub length-among : (xs ys : List ℕ) → IsDistinct nat_eq xs → ((x : ℕ) → Contains xs x → Contains ys x) → length xs ≤ length ys
-length-among xs ys once among = length-le_from_is_member equal_numbers xs ys once (λ q c. list_any-from_Contains equal_numbers q ys (among q (Contains-from_any eqb-true-is q xs c)))
+length-among xs ys once among = length-le_from_is_member equal_numbers xs ys once (λ q c. list_any-from_Contains equal_numbers q ys (among q (Contains-from_any eqb-true q xs c)))
 
 -- what stands at each of some numbers names the next
 pub next-named : (f : ℕ → Slot) (xs : List ℕ) (x : ℕ) → Contains xs x → next_named x (map (λ a. (a, f a)) xs) ≡ next_said (f x)
 next-named f [] x c = absurd (Contains-none x c)
 next-named f (y ∷ ys) x c = elim (eqb y x) as (λ b. eqb y x ≡ b → cond b (next_said (f y)) (next_named x (map (λ a. (a, f a)) ys)) ≡ next_said (f x)) [
-  | true ↦ λ test. ap (λ n. next_said (f n)) (eqb-true-is y x test)
+  | true ↦ λ test. ap (λ n. next_said (f n)) (eqb-true y x test)
   | false ↦ λ test. next-named f ys x (later test (Contains-cons_cases y ys x c))
 ] refl
   where

@@ -1,5 +1,5 @@
 -- The numbers that the blocks of a map can have, in order: those of slots and of pointers. A table is read off at each of them.
-use Rattle.std.proofs.Common.{◌≡◌, ◌≢◌, ℕ, zero, suc, ◌+◌, ◌*◌, ◌<◌, ◌≤◌, Bool, true, false, not, ◌&&◌, ◌||◌, nat_le, nat_lt, cond, eqb, List, [], ◌∷◌, ◌++◌, flat_map, Option, Some, None, refl, ap, sym, ◌∙◌, subst, arith, Contains, inl, inr, map}
+use Rattle.std.proofs.Common.{◌≡◌, ◌≢◌, ℕ, zero, suc, ◌+◌, ◌*◌, ◌<◌, ◌≤◌, Bool, true, false, not, ◌&&◌, ◌||◌, nat_le, nat_lt, cond, eqb, List, [], ◌∷◌, ◌++◌, flat_map, Option, Some, None, refl, ap, sym, ◌∙◌, subst, arith, Contains, inl, inr}
 use Rattle.std.specs.Prelude.{⊤}
 use Rattle.std.specs.List.{list_all}
 use Rattle.std.specs.Ordering.{nat_cmp, eq_by_cmp, is_lt}
@@ -7,23 +7,13 @@ use Rattle.std.specs.FinMap.{find, is_sorted}
 use Rattle.std.specs.FinMap.Entries.{below_all}
 use Rattle.std.proofs.lemmas.Bool.Decides.{nat_tests}
 use Rattle.std.proofs.lemmas.List.Elements.{Contains-append_left, Contains-append_right, Contains-append_cases}
-use Rattle.mac_base.specs.declared.block.Entry.{Entry}
+use Rattle.std.proofs.lemmas.Bool.{and_parts, and_from, eqb-true}
 use Rattle.mac_base.specs.declared.block.Kind.{Kind}
 use Rattle.mac_base.specs.declared.block.Kind.TheVariants.{Free, Master, Ptr, Rel}
 use Rattle.mac_base.specs.ZoneMap.{ZoneMap, is_master, addresses_from}
 use Rattle.mac_base.specs.Suits.{slots_from, is_pointer_block}
 use Rattle.mac_base.specs.HandleTable.{Live}
-use Rattle.zone_laws.proofs.Maps.{both_true, true_both}
-use Rattle.zone_laws.proofs.Tables.{eqb-true-is}
-use Rattle.zone_laws.proofs.SlotPlaces.{Contains-cons_cases, Contains-here, Contains-later, Contains-none, has_room, slots_at}
-
--- the slots of a map's first block, and those of the others
-pub slots_at-first : (head n at : ℕ) (e : Entry) (es : ZoneMap) → slots_at head n at (e ∷ es) ≡ cond (is_master e.kind) (slots_from n (at + head)) [] ++ slots_at head n (at + e.size) es
-slots_at-first head n at e es = by_test (is_master e.kind)
-  where
-    by_test : (b : Bool) → flat_map (slots_from n) (map (λ a. a + head) (cond b (at ∷ []) [] ++ addresses_from (at + e.size) is_master es)) ≡ cond b (slots_from n (at + head)) [] ++ slots_at head n (at + e.size) es
-    by_test true = refl
-    by_test false = refl
+use Rattle.zone_laws.proofs.SlotPlaces.{Contains-cons_cases, Contains-here, Contains-later, Contains-none, has_room, slots_at, slots_at-cons, some_size}
 
 -- numbers that rise, none of them below a bound
 abbrev pub IsRising : ℕ → List ℕ → Type 0
@@ -67,10 +57,6 @@ rising-block n low at high Master xs below some room h = rising-slots n low at h
 rising-block n low at high (Ptr p) xs below some room h = (below, rising-lower (suc at) high xs (omega arith) h)
 rising-block n low at high (Rel g) xs below some room h = rising-lower low high xs (omega arith) h
 
--- a block with room is larger than its header
-pub room_some : (head n : ℕ) (e : Entry) → has_room head n e ≡ true → head < e.size
-room_some head n e h = grind (arith, nat_tests)
-
 -- and a master block has room for its slots
 room_master : (head n size : ℕ) (b : Bool) → (nat_lt head size && (not b || nat_le (head + 4 * n) size)) ≡ true → b ≡ true → head + 4 * n ≤ size
 room_master head n size true h is = grind (arith, nat_tests)
@@ -80,8 +66,8 @@ room_master head n size false h is = absurd (cc is)
 pub rising-numbers : (head n at low : ℕ) (m : ZoneMap) → low ≤ at + head → list_all (has_room head n) m ≡ true → IsRising low (numbers head n at m)
 rising-numbers head n at low [] below room = tt
 rising-numbers head n at low (e ∷ es) below room =
-    let rooms = both_true (has_room head n e) (list_all (has_room head n) es) room in
-    let some = room_some head n e rooms.0 in
+    let rooms = and_parts (has_room head n e) (list_all (has_room head n) es) room in
+    let some = some_size head n e rooms.0 in
     let rest = rising-numbers head n (at + e.size) (at + e.size) es (omega arith) rooms.1 in
     rising-block n low (at + head) (at + e.size) e.kind _ below (omega arith)
     (λ is. let large = room_master head n e.size (is_master e.kind) rooms.0 is in omega arith) rest
@@ -100,7 +86,7 @@ slot_in_block n at (Rel h) xs ys x later c = later c
 pub slot-numbers : (head n at : ℕ) (m : ZoneMap) (x : ℕ) → Contains (slots_at head n at m) x → Contains (numbers head n at m) x
 slot-numbers head n at [] x c = c
 slot-numbers head n at (e ∷ es) x c =
-    slot_in_block n (at + head) e.kind (slots_at head n (at + e.size) es) (numbers head n (at + e.size) es) x (slot-numbers head n (at + e.size) es x) (subst (λ xs. Contains xs x) (slots_at-first head n at e es) c)
+    slot_in_block n (at + head) e.kind (slots_at head n (at + e.size) es) (numbers head n (at + e.size) es) x (slot-numbers head n (at + e.size) es x) (subst (λ xs. Contains xs x) (slots_at-cons head n at e es) c)
 
 -- the contents of a block that passes a test begin at its number
 pointer_here : (head at a : ℕ) (b : Bool) → Contains (cond b (at ∷ []) []) a → Contains ((at + head) ∷ []) (a + head)
@@ -134,7 +120,7 @@ entry_of x (Some l) = (x, l) ∷ []
 find-below : (x : ℕ) (es : List (ℕ × Live)) → below_all nat_cmp x es ≡ true → find nat_cmp x es ≡ None
 find-below x [] h = refl
 find-below x (e ∷ es) h =
-    let parts = both_true (is_lt (nat_cmp x e.0)) (below_all nat_cmp x es) h in
+    let parts = and_parts (is_lt (nat_cmp x e.0)) (below_all nat_cmp x es) h in
     let less = parts.0 in
     let apart : eq_by_cmp nat_cmp x e.0 ≡ false = grind (arith, nat_tests) in
     ap (λ b. cond b (Some e.1) (find nat_cmp x es)) apart ∙ find-below x es parts.1
@@ -151,10 +137,10 @@ find-later x e es other = let apart : eq_by_cmp nat_cmp x e.0 ≡ false = grind 
 below-more : (x y : ℕ) (es : List (ℕ × Live)) → x < y → below_all nat_cmp y es ≡ true → below_all nat_cmp x es ≡ true
 below-more x y [] less h = refl
 below-more x y (e ∷ es) less h =
-    let parts = both_true (is_lt (nat_cmp y e.0)) (below_all nat_cmp y es) h in
+    let parts = and_parts (is_lt (nat_cmp y e.0)) (below_all nat_cmp y es) h in
     let above = parts.0 in
     let here : is_lt (nat_cmp x e.0) ≡ true = grind (arith, nat_tests) in
-    true_both _ _ here (below-more x y es less parts.1)
+    and_from _ _ here (below-more x y es less parts.1)
 
 -- entries in order are those that are read off at numbers that rise, all keys among them
 pub entries-read : (low : ℕ) (ns : List ℕ) (es : List (ℕ × Live)) (f : ℕ → Option Live) → IsRising low ns → is_sorted nat_cmp es ≡ true
@@ -165,10 +151,10 @@ entries-read low (n ∷ ns) [] f rise order same keys =
     ap (λ o. entry_of n o ++ flat_map (λ x. entry_of x (f x)) ns) (same n (Contains-here n ns))
     ∙ entries-read (suc n) ns [] f rise.1 refl (λ x c. same x (Contains-later n ns x c)) (λ x l is. absurd (cc is))
 entries-read low (n ∷ ns) (e ∷ es) f rise order same keys =
-    let parts = both_true (below_all nat_cmp e.0 es) (is_sorted nat_cmp es) order in
+    let parts = and_parts (below_all nat_cmp e.0 es) (is_sorted nat_cmp es) order in
     elim (eqb n e.0) as (λ b. eqb n e.0 ≡ b → flat_map (λ x. entry_of x (f x)) (n ∷ ns) ≡ e ∷ es) [
       | true ↦ λ test.
-          let is : n ≡ e.0 = eqb-true-is n e.0 test in
+          let is : n ≡ e.0 = eqb-true n e.0 test in
           let rest = entries-read (suc n) ns es f rise.1 parts.1
           (λ x c. let above = rising-above (suc n) ns x rise.1 c in same x (Contains-later n ns x c) ∙ find-later x e es (omega arith))
           (λ x l found. elim (Contains-cons_cases n ns x (keys x l (find-later x e es (not_first x l e es n is parts.0 found) ∙ found))) [

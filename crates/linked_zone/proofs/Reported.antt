@@ -4,6 +4,7 @@ use Rattle.std.specs.Prelude.{find, ◌==◌}
 use Rattle.std.specs.List.{list_all}
 use Rattle.std.proofs.lemmas.Bool.Decides.{nat_tests}
 use Rattle.std.proofs.lemmas.List.Folds.{list_all-append}
+use Rattle.std.proofs.lemmas.Bool.{and_parts, eqb-true}
 use Rattle.mac_base.specs.declared.block.Block.{Block}
 use Rattle.mac_base.specs.declared.block.Entry.{Entry}
 use Rattle.mac_base.specs.declared.block.Flags.{Flags}
@@ -13,15 +14,12 @@ use Rattle.mac_base.specs.HandleTable.{HandleTable}
 use Rattle.mac_base.specs.Suits.{wanted_length}
 use Rattle.mac_base.specs.BlockReport.{block_flags, reports_from, report_at}
 use Rattle.mac_base.specs.ZoneState.{ZoneState}
-use Rattle.zone_laws.proofs.Maps.{both_true}
-use Rattle.zone_laws.proofs.SlotPlaces.{has_room}
-use Rattle.zone_laws.proofs.Tables.{eqb-true-is}
+use Rattle.zone_laws.proofs.SlotPlaces.{has_room, some_size}
 use Rattle.zone_records.specs.Records.{ZoneRecords}
 use Rattle.zone_records.specs.Places.{RecordAt}
 use Rattle.linked_zone.specs.Places.{EntryAt}
 use Rattle.linked_zone.proofs.Standing.{Stands}
 use Rattle.linked_zone.proofs.Located.{of-entry}
-use Rattle.linked_zone.proofs.ReadNumbers.{room_some}
 
 -- the report of a block
 abbrev report : HandleTable → ℕ → Entry → Block
@@ -37,7 +35,7 @@ report-none t x at (e ∷ es) none =
   where
     not_here : (c : Bool) → (at == x) ≡ c → c ≡ false
     not_here false is = refl
-    not_here true is = let same = eqb-true-is at x is in absurd (none [] e es refl (omega arith))
+    not_here true is = let same = eqb-true at x is in absurd (none [] e es refl (omega arith))
 
 -- the one that stands there is reported, where each before it has some bytes
 report-here : (t : HandleTable) (head n x at : ℕ) (before : ZoneMap) (e : Entry) (behind : ZoneMap) → list_all (has_room head n) before ≡ true → x ≡ at + total_size before
@@ -47,8 +45,8 @@ report-here t head n x at [] e behind room place =
     ap (λ c. cond c (Some (report t at e)) (find (λ (b : Block). b.address == x) (reports_from t (at + e.size) behind))) (let test : (at == x) ≡ true = grind (arith, nat_tests) in test)
     ∙ ap (λ a. Some (report t a e)) same
 report-here t head n x at (f ∷ before) e behind room place =
-    let parts = both_true (has_room head n f) (list_all (has_room head n) before) room in
-    let some = room_some head n f parts.0 in
+    let parts = and_parts (has_room head n f) (list_all (has_room head n) before) room in
+    let some = some_size head n f parts.0 in
     ap (λ c. cond c (Some (report t at f)) (find (λ (b : Block). b.address == x) (reports_from t (at + f.size) (before ++ e ∷ behind)))) (apart at x f.size (total_size before) (omega arith) place)
     ∙ report-here t head n x (at + f.size) before e behind parts.1 (omega arith)
   where
@@ -70,7 +68,7 @@ module _ (r : ZoneRecords) (z : ZoneState) (stands : Stands r z) where
   reported-here at e entry n flags is long has =
       let t = z.heap.table in
       let place = e.place in
-      let all = both_true (list_all (has_room (head_size z.shape.heads) slot_count) e.before) _ (sym (ap (list_all (has_room (head_size z.shape.heads) slot_count)) e.map ∙ list_all-append _ e.before (e.here ∷ e.behind)) ∙ stands.rooms) in
+      let all = and_parts (list_all (has_room (head_size z.shape.heads) slot_count) e.before) _ (sym (ap (list_all (has_room (head_size z.shape.heads) slot_count)) e.map ∙ list_all-append _ e.before (e.here ∷ e.behind)) ∙ stands.rooms) in
       let found = report-here t (head_size z.shape.heads) slot_count at (address_behind z.shape []) e.before e.here e.behind all.0 (omega arith) in
       let one = λ (entry : Entry) (n : ℕ) (flags : Flags). let b : Block = record { address = at; entry = entry; length = n; flags = flags } in Some b in
       ap (one entry n) has ∙ ap (λ n. one entry n (block_flags t entry.kind)) long ∙ ap (λ (f : Entry). one f (wanted_length t e.here.kind) (block_flags t f.kind)) is

@@ -1,1 +1,4 @@
 pub mod Roman
+pub mod Quoted
+pub mod Strings
+pub mod Versions

@@ -7,7 +7,7 @@ use Rattle.fork_disk.specs.declared.store.ForkStore.{Ghosts}
 use Rattle.mac_base.specs.ZoneSizes.{ZoneSizes}
 use Rattle.script_run.specs.declared.end.RunEnd.{RunEnd}
 use Rattle.script_run.specs.declared.end.RunEnd.TheVariants.{Finished, ScriptFault, NoMemory, ReadFault, WriteFault}
-use Rattle.script_run.specs.Counting.{Rose}
+use Rattle.script_run.specs.Counting.{RoseByOne}
 use Rattle.script_run.specs.End.{status_of}
 use Rattle.script_run.specs.Line.{start_of}
 use Rattle.script_run.specs.Run.{Ends, IsProperFront, no_memory_text, Tells as EndTells}
@@ -58,8 +58,8 @@ some_line [] none = cc
 some_line (byte ∷ text) none = cc
 
 -- a failure after a write that didn't fail
-pub failed_after : (whole : Bool) (before mid now : ℕ) → mid ≡ before → MatchBool whole (now ≡ mid) (Rose mid now) → MatchBool whole (now ≡ before) (Rose before now)
-failed_after whole before mid now same failed = subst (λ (n : ℕ). MatchBool whole (now ≡ n) (Rose n now)) same failed
+pub failed_after : (whole : Bool) (before mid now : ℕ) → mid ≡ before → MatchBool whole (now ≡ mid) (RoseByOne mid now) → MatchBool whole (now ≡ before) (RoseByOne before now)
+failed_after whole before mid now same failed = subst (λ (n : ℕ). MatchBool whole (now ≡ n) (RoseByOne n now)) same failed
 
 -- it was told what is wrong with the words
 pub words_told : (error : NotAsked) (told : Told) → lacks_memory error ≡ false → TellsBadWords told → Refuses error told

@@ -14,11 +14,12 @@ use Rattle.clap.specs.declared.parser.matches.ArgMatches.{ArgMatches}
 use Rattle.clap.specs.Words.{App, Text, HasKind, HasMatchesOf, IsAmong, all_of, app_of, fault_of, first_of, first_value, found_of, matched_of, raw_values, is_simple, is_simple_and_free, kind_of, matches_of}
 use Rattle.clap.proofs.OnLiterals.{clap_on_literals}
 use Rattle.clap.proofs.WalkLemmas.{first_value-rows, raw_values-rows}
+use Rattle.res_files.specs.Standing.{most_files}
 use Rattle.macheap.specs.declared.asked.Asked.{Asked}
 use Rattle.macheap.specs.declared.asked.Asked.TheVariants.{Run, Help}
 use Rattle.macheap.specs.declared.asked.NotAsked.{NotAsked}
 use Rattle.macheap.specs.declared.asked.NotAsked.TheVariants.{Words, TooManyForks, OtherJournals, NoNumber, Mode, Spec, HostFull}
-use Rattle.macheap.specs.Files.{most_forks, FitForks, NotNamed}
+use Rattle.macheap.specs.Files.{FitForks, NotNamed}
 use Rattle.macheap.specs.Options.{options, faults, forks_of, journals_of, value_of, values_of, IsDecimal, IsNumberOf, IsNoNumber}
 use Rattle.macheap.specs.Asking.{Asks, Match, GivesNoNumber, MeansNoRun, IsNoNumberFault}
 
@@ -53,13 +54,13 @@ as_long : {B : Type 0} (names : List B) (now : B → Text) (texts : List Text) �
 as_long names now texts are = ap length (sym are) ∙ length-map names now
 
 -- and so the words match the options, where files have these names
-pub match_of : {B : Type 0} (words : List Text) (forks journals : List B) (now : B → Text) → faults words ≡ [] → map now forks ≡ forks_of words → map now journals ≡ journals_of words → length forks ≤ most_forks → FitForks journals forks → Match words
+pub match_of : {B : Type 0} (words : List Text) (forks journals : List B) (now : B → Text) → faults words ≡ [] → map now forks ≡ forks_of words → map now journals ≡ journals_of words → length forks ≤ most_files → FitForks journals forks → Match words
 match_of words forks journals now none are theirs few fit =
     let f = as_long forks now (forks_of words) are in
-    (none, subst (λ (n : ℕ). n ≤ most_forks) (sym f) few, fit_given journals forks (journals_of words) (forks_of words) (as_long journals now (journals_of words) theirs) f fit)
+    (none, subst (λ (n : ℕ). n ≤ most_files) (sym f) few, fit_given journals forks (journals_of words) (forks_of words) (as_long journals now (journals_of words) theirs) f fit)
 
 not_named : {B : Type 0} (words : List Text) (forks journals : List B) (e : NotAsked) → faults words ≡ [] → length (forks_of words) ≡ length forks → length (journals_of words) ≡ length journals → NotNamed forks journals e → Asks words (Err e)
-not_named words forks journals TooManyForks none f j many = (none, subst (λ (n : ℕ). most_forks < n) (sym f) many)
+not_named words forks journals TooManyForks none f j many = (none, subst (λ (n : ℕ). most_files < n) (sym f) many)
 not_named words forks journals OtherJournals none f j others = (none, λ fit. others (fit_given (journals_of words) (forks_of words) journals forks (sym j) (sym f) fit))
 not_named words forks journals HostFull none f j fault = tt
 not_named words forks journals (Words fault) none f j other = absurd other

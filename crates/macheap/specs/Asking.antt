@@ -6,16 +6,17 @@ use Rattle.clap.specs.declared.error.kind.ErrorKind.TheVariants.{DisplayHelp, Ou
 use Rattle.mac_base.specs.declared.block.HeadKind.{HeadKind}
 use Rattle.mac_base.specs.declared.zone_spec.BadSpec.{BadSpec}
 use Rattle.mac_base.specs.ZoneSizes.{ZoneSizes, ArePossible, first_fault}
+use Rattle.res_files.specs.Standing.{most_files}
 use Rattle.macheap.specs.declared.asked.Asked.{Asked}
 use Rattle.macheap.specs.declared.asked.Asked.TheVariants.{Run, Help}
 use Rattle.macheap.specs.declared.asked.NotAsked.{NotAsked}
 use Rattle.macheap.specs.declared.asked.NotAsked.TheVariants.{Words, TooManyForks, OtherJournals, NoNumber, Mode, Spec, HostFull}
-use Rattle.macheap.specs.Files.{most_forks, FitForks}
+use Rattle.macheap.specs.Files.{FitForks}
 use Rattle.macheap.specs.Options.{faults, forks_of, heads_of, journals_of, value_of, IsNumberOf, IsNoNumber}
 
 -- the words match the options, and name no more files than a run may have, with a journal for each or none
 abbrev pub Match : List Text → Type 0
-Match words = (faults words ≡ []) × (length (forks_of words) ≤ most_forks) × FitForks (journals_of words) (forks_of words)
+Match words = (faults words ≡ []) × (length (forks_of words) ≤ most_files) × FitForks (journals_of words) (forks_of words)
 
 -- the words match the options, and give these numbers: the zone's first address, its size in bytes, the size that it may grow to,
 -- which is its own where none is given, and the mode
@@ -50,7 +51,7 @@ DontMatch words = (fault : ErrorKind) × IsAmong fault (faults words) × (fault 
 
 -- the words match the options, and name more files than a run may have
 abbrev pub NamesTooMany : List Text → Type 0
-NamesTooMany words = (faults words ≡ []) × (most_forks < length (forks_of words))
+NamesTooMany words = (faults words ≡ []) × (most_files < length (forks_of words))
 
 -- the words match the options, and name journals, and not one for each file
 abbrev pub JournalsDontFit : List Text → Type 0

@@ -1,10 +1,10 @@
 -- A disk in memory or a file, as a disk.
 use Rattle.std.specs.Prelude.{◌≡◌, ℕ, List, [], ⊤}
 use Rattle.fork_disk.specs.Record.{IsHonest, IsStable}
-use Rattle.fork_disk.specs.declared.host_file.HostFile.{HostFile}
 use Rattle.fork_disk.specs.declared.world.World.{Ghosts}
 use Rattle.macheap.specs.declared.disk.Disk.{Disk}
 use Rattle.macheap.specs.declared.disk.Disk.TheVariants.{Memory, File}
+use Rattle.macheap.specs.declared.opened.NewFile.{NewFile}
 
 -- the bytes of a disk in memory; of a file those that its world tells of
 abbrev pub seen : {W : Type 0} → Ghosts W → Disk W → List ℕ
@@ -27,6 +27,6 @@ fails (Memory disk) = disk.failures
 fails (File disk) = disk.file.failures
 
 -- the disk is a file, of this number in its world, of which nothing was asked so far
-abbrev pub IsFile : {W : Type 0} → ℕ → HostFile → Disk W → Type 0
+abbrev pub IsFile : {W : Type 0} → ℕ → NewFile → Disk W → Type 0
 IsFile number file (Memory disk) = ⊥
-IsFile number file (File disk) = (disk.file ≡ file) × (disk.number ≡ number) × (disk.log.events ≡ [])
+IsFile number file (File disk) = (disk.file ≡ file.file) × (disk.number ≡ number) × (disk.log.events ≡ [])

@@ -7,7 +7,7 @@ use Rattle.mac_base.specs.ZoneSizes.{ZoneSizes}
 use Rattle.mac_base.specs.declared.zone_spec.BadSpec.{BadSpec}
 use Rattle.script_run.specs.declared.end.RunEnd.{RunEnd}
 use Rattle.script_run.specs.declared.end.RunEnd.TheVariants.{Finished, ScriptFault, NoMemory, ReadFault, WriteFault}
-use Rattle.script_run.specs.Counting.{Counting, Gave, Rose, Took}
+use Rattle.script_run.specs.Counting.{Counting, Gave, RoseByOne, Took}
 use Rattle.script_run.specs.End.{status_of}
 use Rattle.script_run.specs.Line.{start_of}
 use Rattle.script_run.specs.Run.{Ends, IsProperFront, no_memory_text}
@@ -53,8 +53,8 @@ Tells contents notes output output_now messages messages_now status So = (writte
       written = written;
       said = said;
       silent = messages_now ≡ messages;
-      write_failed = Rose output.failures output_now.failures;
-      tell_failed = Rose messages.failures messages_now.failures;
+      write_failed = RoseByOne output.failures output_now.failures;
+      tell_failed = RoseByOne messages.failures messages_now.failures;
     })
 
 -- With its three streams and this status the program did so. The input is the bytes that the reader tells; of one that doesn't tell, those
@@ -64,7 +64,7 @@ Did remaining contents notes input input_now output output_now messages messages
     × Tells contents notes output output_now messages messages_now status (λ told. So (record {
       input = unwrap_or (remaining input.inner) given;
       given = given;
-      read_failed = Rose input.failures input_now.failures;
+      read_failed = RoseByOne input.failures input_now.failures;
       told = told;
     }))
 

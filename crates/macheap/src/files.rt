@@ -1,22 +1,21 @@
 //! The files that a run is over.
 
 ghost use Rattle.std.specs.Prelude.{◌≡◌, ◌≤◌, length, IfOk, IfErr};
+ghost use Rattle.res_files.specs.Standing.{most_files};
 ghost use Rattle.macheap.specs.Files.{FitForks, NotNamed};
 
 use crate::asked::NotAsked;
+use res_files::MOST_FILES;
 use std::alloc::Global;
-
-/// The most files that a run may have.
-const MOST_FORKS: usize = 8;
 
 /// The names of the files that a run is over.
 #[derive(Drop)]
 pub struct Files<'a> {
-    /// Where the forks are: none, for one in memory, or up to 8.
+    /// Where the forks are: none, for one in memory, or up to `MOST_FILES`.
     forks: Vec<&'a str>,
     /// Where their journals are: none, or one for each fork.
     journals: Vec<&'a str>,
-    ghost few: { length forks.items ≤ 8 },
+    ghost few: { length forks.items ≤ most_files },
     ghost fit: { FitForks journals.items forks.items },
 }
 
@@ -31,7 +30,7 @@ impl<'a> Files<'a> {
         ensures journals { IfOk result (λ files. files.journals.items ≡ journals.now) }
         ensures fault { IfErr result (NotNamed forks.now journals.now) }
     {
-        if forks.len() > MOST_FORKS {
+        if forks.len() > MOST_FILES {
             return Err(NotAsked::TooManyForks);
         }
         if !journals.is_empty() && journals.len() != forks.len() {
@@ -46,7 +45,7 @@ impl<'a> Files<'a> {
     /// The names of the forks' files.
     pub fn forks(&self) -> &[&'a str]
         ensures names { result.now ≡ self.now.forks.items }
-        ensures few { length result.now ≤ 8 }
+        ensures few { length result.now ≤ most_files }
     {
         &self.forks
     }

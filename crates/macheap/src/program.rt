@@ -1,7 +1,8 @@
 //! What the program does with its words, its input and its output.
 
 ghost use Rattle.std.specs.Prelude.{◌≡◌, ◌≢◌, ◌≤◌, ◌++◌, [], ℕ, List, IfOk, length, map};
-ghost use Rattle.script_run.specs.Counting.{Rose, Took};
+ghost use Rattle.res_files.specs.Standing.{most_files};
+ghost use Rattle.script_run.specs.Counting.{RoseByOne, Took};
 ghost use Rattle.macheap.specs.Program.{Answers, Did, HelpEnds, NoStoresEnd, ProgramEnds, Refuses, RunEnds, RunsOn, Tells, Wrote, lacks_memory};
 ghost use Rattle.macheap.specs.Stores.{Opening};
 
@@ -130,7 +131,7 @@ fn run_on<S: ForkStore + Drop, R: Read, W: Write, M: Write>(
     output: &mut Counted<W>,
     messages: &mut Counted<M>,
 ) -> u8
-    requires { IfOk stores (λ stores. length stores.items ≤ 8) }
+    requires { IfOk stores (λ stores. length stores.items ≤ most_files) }
     ensures ends { Did R.remaining W.contents M.contents input.old input.new output.old output.new messages.old messages.new result (RunsOn S.ForkStore spec stores) }
     ensures no_read_failed { result ≢ 1 → input.new.failures ≡ input.old.failures }
     ensures no_write_failed { result ≢ 1 → output.new.failures ≡ output.old.failures }
@@ -192,7 +193,7 @@ fn lacks_memory(error: &NotAsked) -> bool
 /// Writes what is wrong with the words.
 fn tell_error<M: Write>(alloc: Global, error: &NotAsked, messages: &mut Counted<M>)
     ensures { (text : List ℕ) × (text ≢ []) × (said : List ℕ) × Took M.contents messages.old said messages.new
-        × Wrote text (Rose messages.old.failures messages.new.failures) said }
+        × Wrote text (RoseByOne messages.old.failures messages.new.failures) said }
 {
     let Ok(text) = format!(in alloc; "{error}") else {
         let _ = write_whole(messages, b"error: the words are bad\n");
@@ -207,7 +208,7 @@ fn tell_error<M: Write>(alloc: Global, error: &NotAsked, messages: &mut Counted<
 /// Writes the help text, and gives the exit status.
 fn show_help<W: Write>(alloc: Global, output: &mut Counted<W>, text: &clap::Error) -> u8
     ensures ends { (written : List ℕ) × Took W.contents output.old written output.new
-        × HelpEnds (Rose output.old.failures output.new.failures) result written }
+        × HelpEnds (RoseByOne output.old.failures output.new.failures) result written }
     ensures no_write_failed { result ≢ 1 → output.new.failures ≡ output.old.failures }
 {
     let Ok(text) = format!(in alloc; "{text}") else {

@@ -1,12 +1,13 @@
 //! The stores of a run.
 
 ghost use Rattle.std.specs.Prelude.{◌≡◌, ◌≤◌, ◌++◌, ◌∷◌, [], List, ℕ, Option, Some, length, map, IfOk, IfErr};
+ghost use Rattle.res_files.specs.Standing.{most_files};
 ghost use Rattle.macheap.specs.Stores.{AreJournalled, AreOn, ArePlain, Asked, IsOpened, Opening};
 
 use crate::disk::Disk;
-use crate::opened::OpenedFiles;
+use crate::opened::{NewFile, OpenedFiles, note};
 use fork_disk::store::{ForkStore, PlainStore};
-use fork_disk::{FileDisk, HostFile, MemDisk, World};
+use fork_disk::{FileDisk, HostFile, MemDisk, Record, World};
 use fork_journal::{FilePair, Journal, PairWorld};
 use std::alloc::{AllocError, AllocFailed, Global};
 use std::marker::PhantomData;
@@ -52,31 +53,36 @@ pub struct HostDisks<'a, W: World, V: PairWorld> {
 }
 
 impl<'a, W: World, V: PairWorld> HostDisks<'a, W, V> {
-    /// Opens the files of this host.
-    pub fn new(runtime: &'a HostRuntime) -> HostDisks<'a, W, V> {
+    /// Opens the files of this host. None was asked for so far.
+    pub fn new(runtime: &'a HostRuntime) -> HostDisks<'a, W, V>
+        ensures { result.opened.events ≡ [] }
+    {
         HostDisks {
             runtime,
-            opened: OpenedFiles::new(),
+            opened: Record::new(),
             world: PhantomData,
             pair_world: PhantomData,
         }
     }
 }
 
-impl<W: World, V: PairWorld> Opens<HostFile, PlainStore<Disk<W>>, Journal<FilePair<V>>>
+impl<W: World, V: PairWorld> Opens<NewFile, PlainStore<Disk<W>>, Journal<FilePair<V>>>
     for HostDisks<'_, W, V> {
     ghost use Rattle.macheap.specs.Disks.{IsFile};
 
-    ghost openings = { λ opener. opener.opened.files };
+    ghost openings = { λ opener. opener.opened.events };
 
     ghost plain = { λ number fork store. IsFile number fork store.disk };
 
-    ghost pairs = { λ number fork journal store. (store.pair.fork ≡ fork) × (store.pair.journal ≡ journal)
-        × (store.pair.number ≡ number) × (store.pair.log.events ≡ []) };
+    ghost pairs = { λ number fork journal store. (store.pair.fork ≡ record fork.file { which = 0 })
+        × (store.pair.journal ≡ record journal.file { which = 1 }) × (store.pair.number ≡ number) × (store.pair.log.events ≡ []) };
 
-    fn open(&mut self, path: &str) -> Option<HostFile> {
-        let file = HostFile::open(self.runtime, path).ok();
-        self.opened.note(path.as_bytes(), &file);
+    fn open(&mut self, path: &str) -> Option<NewFile> {
+        let file = match HostFile::open(self.runtime, path) {
+            Ok(file) => Some(NewFile { file }),
+            Err(_) => None,
+        };
+        note(&mut self.opened, path, &file);
         file
     }
 
@@ -86,14 +92,17 @@ impl<W: World, V: PairWorld> Opens<HostFile, PlainStore<Disk<W>>, Journal<FilePa
         }
     }
 
-    fn plain(&self, fork: HostFile, number: u64) -> PlainStore<Disk<W>> {
+    fn plain(&self, fork: NewFile, number: u64) -> PlainStore<Disk<W>> {
         PlainStore {
-            disk: Disk::File(FileDisk::new(fork, number)),
+            disk: Disk::File(FileDisk::new(fork.file, number)),
         }
     }
 
-    fn journalled(&self, fork: HostFile, journal: HostFile, number: u64) -> Journal<FilePair<V>> {
-        Journal::new(self.runtime.alloc(), FilePair::new(fork, journal, number))
+    fn journalled(&self, fork: NewFile, journal: NewFile, number: u64) -> Journal<FilePair<V>> {
+        Journal::new(
+            self.runtime.alloc(),
+            FilePair::new(fork.file, journal.file, number),
+        )
     }
 }
 
@@ -134,10 +143,10 @@ pub fn plain_stores<F: Drop, S: ForkStore + Drop, J: ForkStore, O: Opens<F, S, J
     opener: &mut O,
     paths: &[&str],
 ) -> Result<Vec<S>, NoStores>
-    requires { length paths.now ≤ 8 }
+    requires { length paths.now ≤ most_files }
     ensures stores { (openings : List (Opening F)) × (O.openings opener.new ≡ O.openings opener.old ++ openings)
         × IsOpened (map (λ path. path.now) paths.now) openings (ArePlain S.ForkStore O.plain (map (λ path. path.now) paths.now) openings) result }
-    ensures few { IfOk result (λ stores. length stores.items ≤ 8) }
+    ensures few { IfOk result (λ stores. length stores.items ≤ most_files) }
 {
     if paths.is_empty() {
         return one_in_memory(alloc, opener);
@@ -155,7 +164,7 @@ fn one_in_memory<F: Drop, S: ForkStore + Drop, J: ForkStore, O: Opens<F, S, J>>(
     opener: &O,
 ) -> Result<Vec<S>, NoStores>
     ensures stores { IfOk result (λ stores. ArePlain S.ForkStore O.plain [] [] stores.items) }
-    ensures few { IfOk result (λ stores. length stores.items ≤ 8) }
+    ensures few { IfOk result (λ stores. length stores.items ≤ most_files) }
     ensures full { IfErr result (λ fault. fault ≡ NoStores.HostFull) }
 {
     let mut stores = Vec::new(alloc);

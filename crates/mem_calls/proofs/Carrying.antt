@@ -36,7 +36,7 @@ carried-last done [] a = refl
 carried-last done (b ∷ []) a = refl
 carried-last done (b ∷ d ∷ before) a = ap (λ rest. b ∷ rest) (carried-last done (d ∷ before) a)
 
-may_note-last : (before : List Ask) (a : Ask) → may_note (before ++ a ∷ []) ≡ may_note (a ∷ [])
+pub may_note-last : (before : List Ask) (a : Ask) → may_note (before ++ a ∷ []) ≡ may_note (a ∷ [])
 may_note-last [] a = refl
 may_note-last (b ∷ []) a = refl
 may_note-last (b ∷ d ∷ before) a = may_note-last (d ∷ before) a

@@ -2,7 +2,7 @@
 use Rattle.std.proofs.Common.{◌≡◌, ℕ, zero, suc, ◌+◌, ◌-◌, ◌≤◌, Bool, true, false, cond, eqb, List, [], ◌∷◌, ◌++◌, length, take, drop, Option, Some, None, Result, Ok, refl, ap, sym, ◌∙◌, subst, arith, append-nil, length-take}
 use Rattle.std.specs.Prelude.{◌||◌, ◌==◌}
 use Rattle.std.specs.List.{list_any}
-use Rattle.std.proofs.lemmas.Bool.{or_left, or_right}
+use Rattle.std.proofs.lemmas.Bool.{or_left, or_right, eqb-true}
 use Rattle.std.proofs.lemmas.List.{take-append-le}
 use Rattle.std.proofs.Math.ListN.{drop_of_length-le}
 use Rattle.std.proofs.Math.Seq.{take-length}
@@ -21,7 +21,7 @@ use Rattle.mac_base.specs.Request.{is_among}
 use Rattle.mac_base.specs.ZoneState.{ZoneState, written}
 use Rattle.mac_calls.specs.GrowZone.{Ask}
 use Rattle.zone_laws.proofs.SoundWritten.{refilled_block}
-use Rattle.zone_laws.proofs.Tables.{eqb_same, eqb-true-is, live_at-with_live_same, with_live_agrees}
+use Rattle.zone_laws.proofs.Tables.{eqb_same, live_at-with_live_same, with_live_agrees}
 use Rattle.zone_heap.proofs.Writing.{full-has_block, full-here}
 use Rattle.linked_zone.specs.Copying.{copied}
 use Rattle.mem_calls.specs.Requesting.{IsCallRun, IsCopyRun, block_given}
@@ -127,7 +127,7 @@ module _ (s : Shape) (from n : ℕ) (asks : List Ask) (old mid : Heap) (result :
       }
     where
       other : (t : HandleTable) (b : Bool) → eqb from x ≡ b → has_block t from ≡ true → live_at t x ≡ None → eqb from x ≡ false
-      other t true same block none = absurd (cc (sym block ∙ ap (λ y. has_block t y) (eqb-true-is from x same) ∙ ap (λ o. live_full o || live_pointer o) none))
+      other t true same block none = absurd (cc (sym block ∙ ap (λ y. has_block t y) (eqb-true from x same) ∙ ap (λ o. live_full o || live_pointer o) none))
       other t false apart block none = apart
 
   -- behind the first bytes of a block
@@ -153,7 +153,7 @@ module _ (s : Shape) (from n : ℕ) (asks : List Ask) (old mid : Heap) (result :
       }
     where
       by_case : {to : ℕ} {m : ℕ} (b : Bool) → eqb from to ≡ b → Keeps m old.table mid.table to → (eqb from to ≡ false → Keeps m old.table mid.table from) → Keeps m old.table mid.table from
-      by_case {m = m} true same there other = subst (λ y. Keeps m old.table mid.table y) (sym (eqb-true-is from _ same)) there
+      by_case {m = m} true same there other = subst (λ y. Keeps m old.table mid.table y) (sym (eqb-true from _ same)) there
       by_case false apart there other = other apart
 
 -- the request of a call and the copy behind it

@@ -2,6 +2,7 @@
 use Rattle.std.proofs.Common.{◌≡◌, ℕ, Bool, true, false, cond, not, ◌&&◌, ◌||◌, eqb, List, [], ◌∷◌, ◌++◌, Option, Some, None, refl, ap, sym, ◌∙◌, subst, Contains, filter_map, inl, inr}
 use Rattle.std.specs.List.{list_any}
 use Rattle.std.proofs.lemmas.List.Elements.{All-contains, filter_passes}
+use Rattle.std.proofs.lemmas.Bool.{not-true, and_parts, eqb-true}
 use Rattle.mac_base.specs.declared.error.OsErr.{OsErr}
 use Rattle.mac_base.specs.declared.block.Entry.{Entry}
 use Rattle.mac_base.specs.HeadKind.{Shape}
@@ -20,8 +21,7 @@ use Rattle.mac_calls.specs.GrowZone.{Carried, memory_call, heap_unless, carried_
 use Rattle.mac_calls.specs.Tests.{refusal}
 use Rattle.zone_heap.specs.Attempts.{is_ready, lacks_slot}
 use Rattle.zone_heap.specs.Purge.{is_protected}
-use Rattle.zone_laws.proofs.Maps.{both_true}
-use Rattle.zone_laws.proofs.Tables.{eqb-true-is, with_live_agrees, without_agrees}
+use Rattle.zone_laws.proofs.Tables.{with_live_agrees, without_agrees}
 use Rattle.zone_laws.proofs.SlotPlaces.{Contains-none, Contains-cons_cases, Contains-here, Contains-later}
 
 -- x is what it was, and the same are lent
@@ -47,7 +47,7 @@ keeps-both protected a b c first then = record {
 
 apart : (protected : List ℕ) (x h : ℕ) → is_among protected x ≡ true → is_among protected h ≡ false → eqb x h ≡ false
 apart protected x h one other = elim (eqb x h) as (λ b. eqb x h ≡ b → b ≡ false) [
-  | true ↦ λ same. absurd (cc (sym one ∙ ap (is_among protected) (eqb-true-is x h same) ∙ other))
+  | true ↦ λ same. absurd (cc (sym one ∙ ap (is_among protected) (eqb-true x h same) ∙ other))
   | false ↦ λ same. refl
 ] refl
 
@@ -77,16 +77,12 @@ until_candidates P enough (x ∷ hs) m each h c =
       | inr rest ↦ later rest
     ]
 
-not_passed : (b : Bool) → not b ≡ true → b ≡ false
-not_passed true h = absurd (cc h)
-not_passed false h = refl
-
 -- what may be purged isn't protected
 pub candidate-free : (t : HandleTable) (protected : List ℕ) (m : ZoneMap) (h : ℕ) → Contains (candidates_in t protected m) h → is_among protected h ≡ false
 candidate-free t protected m h c =
     let passes = All-contains (λ g. (is_purgeable t g && not (is_among protected g)) ≡ true) (candidates_in t protected m) h
     (filter_passes (λ g. is_purgeable t g && not (is_among protected g)) (filter_map (λ (e : Entry). handle_of e.kind) m)) c in
-    not_passed (is_among protected h) (both_true (is_purgeable t h) (not (is_among protected h)) passes).1
+    not-true (is_among protected h) (and_parts (is_purgeable t h) (not (is_among protected h)) passes).1
 
 -- handles are purged for a request
 pub keeps-purged : (s : Shape) (protected : List ℕ) (r : Request) (heap : Heap) → Keeps protected heap (purged s protected r heap)

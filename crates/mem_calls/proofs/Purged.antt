@@ -1,6 +1,7 @@
 -- Where handles are purged no lock changes, so the same blocks are fixed.
-use Rattle.std.proofs.Common.{◌≡◌, ℕ, Bool, true, false, cond, not, ◌&&◌, List, [], ◌∷◌, ◌++◌, refl, ap, ◌∙◌, sym, Contains, filter_map}
+use Rattle.std.proofs.Common.{◌≡◌, ℕ, true, false, cond, not, ◌&&◌, List, [], ◌∷◌, ◌++◌, refl, ap, ◌∙◌, sym, Contains, filter_map}
 use Rattle.std.proofs.lemmas.List.Elements.{All-contains, filter_passes}
+use Rattle.std.proofs.lemmas.Bool.{not-true, and_parts}
 use Rattle.mac_base.specs.declared.block.Entry.{Entry}
 use Rattle.mac_base.specs.declared.block.Kind.{Kind}
 use Rattle.mac_base.specs.declared.block.Kind.TheVariants.{Free, Master, Ptr, Rel}
@@ -11,22 +12,17 @@ use Rattle.mac_base.specs.Arrangement.{down}
 use Rattle.mac_base.specs.Compaction.{all_down, all_down_behind}
 use Rattle.mac_base.specs.Heap.{Heap, with_emptied, with_all_emptied, all_purged}
 use Rattle.mac_base.specs.Request.{candidates_in, is_among}
-use Rattle.zone_laws.proofs.Maps.{both_true}
 use Rattle.zone_laws.proofs.Tables.{by_number, with_live_agrees, live_at-with_live_same}
 use Rattle.zone_laws.proofs.SlotPlaces.{Contains-here, Contains-later}
-
-not_passed : (b : Bool) → not b ≡ true → b ≡ false
-not_passed true h = absurd (cc h)
-not_passed false h = refl
 
 -- a handle that may be purged is unlocked
 candidate-unlocked : (t : HandleTable) (protected : List ℕ) (m : ZoneMap) (h : ℕ) → Contains (candidates_in t protected m) h → is_locked t h ≡ false
 candidate-unlocked t protected m h c =
     let passes = All-contains (λ g. (is_purgeable t g && not (is_among protected g)) ≡ true) (candidates_in t protected m) h
     (filter_passes (λ g. is_purgeable t g && not (is_among protected g)) (filter_map (λ (e : Entry). handle_of e.kind) m)) c in
-    let purgeable = (both_true (is_purgeable t h) (not (is_among protected h)) passes).0 in
-    let flags = (both_true (is_full t h) ((flags_of t h).purge && not (is_locked t h)) purgeable).1 in
-    not_passed (is_locked t h) (both_true (flags_of t h).purge (not (is_locked t h)) flags).1
+    let purgeable = (and_parts (is_purgeable t h) (not (is_among protected h)) passes).0 in
+    let flags = (and_parts (is_full t h) ((flags_of t h).purge && not (is_locked t h)) purgeable).1 in
+    not-true (is_locked t h) (and_parts (flags_of t h).purge (not (is_locked t h)) flags).1
 
 -- no lock changes where an unlocked handle becomes empty
 locked-emptied : (heap : Heap) (h : ℕ) → is_locked heap.table h ≡ false → (y : ℕ) → is_locked (with_emptied heap h).table y ≡ is_locked heap.table y

@@ -1,6 +1,7 @@
 -- The steps of calls: what a call does exactly, and that it may.
 use Rattle.std.proofs.Common.{◌≡◌, ℕ, Bool, true, false, List, [], ◌++◌, Option, Some, None, Result, Ok, Err, refl, ap, sym, ◌∙◌, subst}
 use Rattle.std.specs.Result.{IsErrAnd}
+use Rattle.std.specs.Prelude.{MatchResult, IsOkAnd}
 use Rattle.mac_base.specs.declared.error.OsErr.{OsErr}
 use Rattle.mac_base.specs.HeadKind.{Shape}
 use Rattle.mac_base.specs.HandleTable.{HandleTable, with_bytes}
@@ -15,8 +16,8 @@ use Rattle.mac_calls.specs.GrowZone.{Answer, Ask, answers_in, most_answers}
 use Rattle.mac_calls.specs.ExactRequest.{Ending, request_run}
 use Rattle.mac_calls.specs.ExactStep.{StepEnd, rearranged, quiet_outcome, request_end, behind_master, request_step, step_asking, step_unless, IsExactStep}
 use Rattle.mac_calls.specs.Effect.{request_of, table_copied, effect_of}
-use Rattle.mac_calls.specs.declared.reply.Results.TheVariants.{Handle, Nothing}
-use Rattle.mac_calls.specs.Outcomes.{Outcome, done_outcome, given_results, handle_outcome}
+use Rattle.mac_calls.specs.declared.reply.Results.TheVariants.{Handle, Pointer, Nothing}
+use Rattle.mac_calls.specs.Outcomes.{Outcome, done_outcome, given_results, handle_outcome, pointer_outcome}
 use Rattle.mac_calls.specs.MemoryStep.{MemoryStep, StepUnless}
 use Rattle.mac_calls.specs.RequestRun.{RequestRun}
 use Rattle.call_laws.proofs.StepPermitted.{exact-permitted}
@@ -93,10 +94,26 @@ pub handle_ends : (call : MemoryCall) → ((x : ℕ) → given_results call x �
 handle_ends call gives (Ok x) = ap Ok (sym (gives x))
 handle_ends call gives (Err code) = refl
 
+pub pointer_ends : (call : MemoryCall) → ((x : ℕ) → given_results call x ≡ Pointer x) → (tried : Result ℕ OsErr) → pointer_outcome tried ≡ request_outcome call tried
+pointer_ends call gives (Ok x) = ap Ok (sym (gives x))
+pointer_ends call gives (Err code) = refl
+
 -- and of one without a result
 pub done_ends : (call : MemoryCall) → ((x : ℕ) → given_results call x ≡ Nothing) → (result : Result (Unit {0}) OsErr) (tried : Result ℕ OsErr) → result ≡ done tried → done_outcome result ≡ request_outcome call tried
 done_ends call gives result (Ok x) is = ap done_outcome is ∙ ap Ok (sym (gives x))
 done_ends call gives result (Err code) is = ap done_outcome is
+
+-- a result whose number becomes a handle or a pointer
+pub mapped : (r m : Result ℕ OsErr) → MatchResult r (λ x. IsOkAnd m (λ y. y ≡ x)) (λ e. m ≡ Err e) → m ≡ r
+mapped (Ok x) (Ok y) h = ap Ok h
+mapped (Ok x) (Err e) h = absurd h
+mapped (Err e) m h = h
+
+-- and one whose number is dropped
+pub mapped_done : (r : Result ℕ OsErr) (m : Result (Unit {0}) OsErr) (P : ℕ → Unit {0} → Type 0) → MatchResult r (λ x. IsOkAnd m (P x)) (λ e. m ≡ Err e) → m ≡ done r
+mapped_done (Ok x) (Ok y) P h = refl
+mapped_done (Ok x) (Err e) P h = absurd h
+mapped_done (Err e) m P h = h
 
 -- the outcome of a refused call
 pub refused_outcome : {A : Type 0} (outcome : Result A OsErr → Outcome) → ((code : OsErr) → outcome (Err code) ≡ Err code) → (result : Result A OsErr) (code : OsErr) → IsErrAnd result (λ e. e ≡ code) → outcome result ≡ Err code

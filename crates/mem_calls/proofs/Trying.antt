@@ -1,21 +1,22 @@
 -- Attempts and trials: an attempt is served just where the request fits, and a trial prepares no more than it needs.
-use Rattle.std.proofs.Common.{◌≡◌, ℕ, ◌<◌, Bool, true, false, cond, not, List, [], ◌∷◌, length, Some, refl, ap, sym, ◌∙◌, arith}
+use Rattle.std.proofs.Common.{◌≡◌, ℕ, ◌<◌, true, false, cond, not, List, [], ◌∷◌, length, Some, ap, sym, ◌∙◌, arith}
 use Rattle.std.specs.Prelude.{is_some}
+use Rattle.std.proofs.lemmas.Bool.{and_parts}
 use Rattle.mac_base.specs.Attempt.{attempted}
 use Rattle.mac_base.specs.HeadKind.{Shape}
-use Rattle.mac_base.specs.ZoneMap.{ZoneMap, released}
+use Rattle.mac_base.specs.ZoneMap.{ZoneMap}
 use Rattle.mac_base.specs.HandleTable.{has_block, is_lent}
 use Rattle.mac_base.specs.Heap.{Heap, front_slot, granted, grown, has_none, with_all_emptied}
 use Rattle.mac_base.specs.Purging.{purged}
 use Rattle.mac_base.specs.declared.request.Request.{Request}
 use Rattle.mac_base.specs.declared.request.Request.TheVariants.{NewBlock, NewEmpty, NewPointer, NewMaster, Reserve, Resize, Replace}
-use Rattle.mac_base.specs.Request.{fits, candidates, purged_until}
+use Rattle.mac_base.specs.Request.{fits, candidates}
 use Rattle.mac_base.specs.Serve.{serve}
 use Rattle.mac_base.specs.Sound.{Sound}
 use Rattle.mac_calls.specs.ExactRequest.{prepared}
 use Rattle.zone_heap.specs.Attempts.{is_ready, lacks_slot}
 use Rattle.gap_laws.proofs.ServedRequests.{MayAsk, serve-fits, front_slot-not_live}
-use Rattle.zone_laws.proofs.Maps.{both_true}
+use Rattle.gap_laws.proofs.Emptied.{purged_until-none}
 use Rattle.zone_laws.proofs.PlacedParts.{option_map-Some}
 
 some_free : (xs : List ℕ) → has_none xs ≡ false → 0 < length xs
@@ -29,7 +30,7 @@ may_ask s heap NewEmpty sound ready slot = front_slot-not_live s heap sound (som
 may_ask s heap (NewPointer n) sound ready slot = tt
 may_ask s heap NewMaster sound ready slot = tt
 may_ask s heap (Reserve n) sound ready slot = tt
-may_ask s heap (Resize x n) sound ready slot = (both_true (has_block heap.table x) (not (is_lent heap.table x)) ready).0
+may_ask s heap (Resize x n) sound ready slot = (and_parts (has_block heap.table x) (not (is_lent heap.table x)) ready).0
 may_ask s heap (Replace h n) sound ready slot = tt
 
 -- a request that an attempt serves fits
@@ -43,13 +44,9 @@ attempted-fits s heap r found sound ready slot is =
 pub prepared-else : (s : Shape) (protected : List ℕ) (r : Request) (heap : Heap) → fits s heap.table r heap.map ≡ false → prepared s protected r heap ≡ purged s protected r (grown s heap)
 prepared-else s protected r heap h = ap (λ b. cond b heap (purged s protected r (grown s heap))) h
 
-until_enough : (enough : ZoneMap → Bool) (hs : List ℕ) (m : ZoneMap) → enough m ≡ true → purged_until enough hs m ≡ []
-until_enough enough [] m h = refl
-until_enough enough (x ∷ hs) m h = ap (λ b. cond b [] (x ∷ purged_until enough hs (released x m))) h
-
 -- nothing is purged where the request fits
 pub purged-fits : (s : Shape) (protected : List ℕ) (r : Request) (heap : Heap) → fits s heap.table r heap.map ≡ true → purged s protected r heap ≡ heap
-purged-fits s protected r heap h = ap (λ hs. with_all_emptied hs heap) (until_enough (fits s heap.table r) (candidates heap.table protected r heap.map) heap.map h)
+purged-fits s protected r heap h = ap (λ hs. with_all_emptied hs heap) (purged_until-none (fits s heap.table r) (candidates heap.table protected r heap.map) heap.map h)
 
 -- where it fits in the zone grown to its limit, no more is done
 pub prepared-grown : (s : Shape) (protected : List ℕ) (r : Request) (heap : Heap) → fits s heap.table r heap.map ≡ false → fits s (grown s heap).table r (grown s heap).map ≡ true

@@ -16,3 +16,4 @@ mod sizes;
 mod state;
 
 pub use manager::MemoryManager;
+pub use state::state_of;

@@ -32,8 +32,7 @@ impl MemoryManager {
         ensures loans { KeepsLoans self.old self.new }
     {
         test_size(size)?;
-        let handle = request(&mut self.zone, &Request::NewBlock(size), &[], procedure)?;
-        Ok(Handle::new(handle))
+        request(&mut self.zone, &Request::NewBlock(size), &[], procedure).map(Handle::new)
     }
 
     /// NewEmptyHandle: a new handle without a block. Where no slot is free, a new master block comes first, for which the zone may
@@ -47,8 +46,7 @@ impl MemoryManager {
         ensures shape { self.new.shape ≡ self.old.shape }
         ensures loans { KeepsLoans self.old self.new }
     {
-        let handle = request(&mut self.zone, &Request::NewEmpty, &[], procedure)?;
-        Ok(Handle::new(handle))
+        request(&mut self.zone, &Request::NewEmpty, &[], procedure).map(Handle::new)
     }
 
     /// NewPtr: a new nonrelocatable block of `size` zero bytes, at the start of the lowest gap with room: the relocatable blocks there
@@ -64,8 +62,7 @@ impl MemoryManager {
         ensures loans { KeepsLoans self.old self.new }
     {
         test_size(size)?;
-        let pointer = request(&mut self.zone, &Request::NewPointer(size), &[], procedure)?;
-        Ok(Ptr::new(pointer))
+        request(&mut self.zone, &Request::NewPointer(size), &[], procedure).map(Ptr::new)
     }
 
     /// DisposeHandle: the handle's block, if it has one, is free, and its slot is the next to be given. nilHandleErr

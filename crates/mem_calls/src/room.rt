@@ -30,8 +30,7 @@ impl MemoryManager {
         ensures loans { KeepsLoans self.old self.new }
     {
         test_size(size)?;
-        request(&mut self.zone, &Request::Reserve(size), &[], procedure)?;
-        Ok(())
+        request(&mut self.zone, &Request::Reserve(size), &[], procedure).map(|_| ())
     }
 
     /// MoreMasters: a new master block, placed as NewPtr places a block, whose 64 slots are the next to be given. memFullErr where there
@@ -44,8 +43,7 @@ impl MemoryManager {
         ensures shape { self.new.shape ≡ self.old.shape }
         ensures loans { KeepsLoans self.old self.new }
     {
-        request(&mut self.zone, &Request::NewMaster, &[], procedure)?;
-        Ok(())
+        request(&mut self.zone, &Request::NewMaster, &[], procedure).map(|_| ())
     }
 
     /// CompactMem: compacts the zone for `size` bytes, and gives the size of the largest free block then. Nothing moves where a

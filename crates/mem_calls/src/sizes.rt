@@ -44,8 +44,8 @@ impl MemoryManager {
             &Request::Resize(block, size),
             &[block],
             procedure,
-        )?;
-        Ok(())
+        )
+        .map(|_| ())
     }
 
     /// GetHandleSize: the bytes of the handle's block. nilHandleErr where the handle is 0 or empty, memWZErr where it
@@ -83,8 +83,8 @@ impl MemoryManager {
             &Request::Resize(block, size),
             &[block],
             procedure,
-        )?;
-        Ok(())
+        )
+        .map(|_| ())
     }
 
     /// GetPtrSize: the bytes of the pointer's block. memWZErr where the pointer isn't live (Inside Macintosh: Memory,
@@ -123,7 +123,7 @@ impl MemoryManager {
             &Request::Replace(handle, size),
             &[handle.number()],
             procedure,
-        )?;
-        Ok(())
+        )
+        .map(|_| ())
     }
 }

@@ -1,6 +1,6 @@
 //! The flags of a handle as the number that HGetState gives.
 
-ghost use Rattle.std.specs.Prelude.{◌≡◌};
+ghost use Rattle.std.specs.Prelude.{◌≡◌, ◌≤◌};
 ghost use Rattle.mac_base.specs.FlagState.{flags_from, state_of};
 
 use mac_base::block::Flags;
@@ -14,9 +14,11 @@ const PURGE: u32 = 64;
 /// The block has the contents of a resource.
 const RESOURCE: u32 = 32;
 
-/// The flags as a number: lock 128, purgeable 64, resource 32, added.
-pub(crate) fn state_of(flags: Flags) -> u32
-    ensures { result ≡ state_of flags }
+/// The flags as a number: lock 128, purgeable 64, resource 32, added. HSetState sets them by it again.
+pub fn state_of(flags: Flags) -> u32
+    ensures state { result ≡ state_of flags }
+    ensures flags { flags_from result ≡ flags }
+    ensures possible { result ≤ 255 }
 {
     let lock = if flags.lock { LOCK } else { 0 };
     let purge = if flags.purge { PURGE } else { 0 };

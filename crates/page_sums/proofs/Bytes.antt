@@ -1,12 +1,13 @@
 -- New bytes change no flags, so blocks weigh the same.
 use Rattle.std.proofs.Common.{◌≡◌, ℕ, Bool, true, false, not, cond, eqb, List, [], ◌∷◌, Option, Some, None, refl, ap, sym, ◌∙◌}
 use Rattle.std.specs.Prelude.{◌&&◌}
+use Rattle.std.proofs.lemmas.Bool.{eqb-true}
 use Rattle.mac_base.specs.declared.block.Entry.{Entry}
 use Rattle.mac_base.specs.declared.block.Kind.{Kind}
 use Rattle.mac_base.specs.declared.block.Kind.TheVariants.{Free, Master, Ptr, Rel}
 use Rattle.mac_base.specs.HandleTable.{HandleTable, Live, EmptyHandle, FullHandle, Pointer, live_at, live_flags, live_full, is_purgeable, refilled, with_bytes}
 use Rattle.mac_base.specs.ZoneMap.{ZoneMap, free_size}
-use Rattle.zone_laws.proofs.Tables.{live_at-with_live, eqb-true-is}
+use Rattle.zone_laws.proofs.Tables.{live_at-with_live}
 use Rattle.gap_index.proofs.Locks.{SameLocks, kind-locks, locks-bytes}
 use Rattle.page_sums.specs.Weights.{is_space, weigh, weights}
 
@@ -47,7 +48,7 @@ purges-bytes x bytes t h = ap live_purgeable (live_at-with_live x (refilled byte
     kept (Some (Pointer old)) = refl
 
     by_number : (b : Bool) → eqb h x ≡ b → live_purgeable (cond b (Some (refilled bytes (live_at t x))) (live_at t h)) ≡ is_purgeable t h
-    by_number true is = kept (live_at t x) ∙ ap (is_purgeable t) (sym (eqb-true-is h x is))
+    by_number true is = kept (live_at t x) ∙ ap (is_purgeable t) (sym (eqb-true h x is))
     by_number false is = refl
 
 -- blocks weigh the same

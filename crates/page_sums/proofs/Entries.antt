@@ -5,11 +5,11 @@ use Rattle.std.proofs.lemmas.Bool.{and_parts}
 use Rattle.mac_base.specs.declared.block.Entry.{Entry}
 use Rattle.mac_base.specs.ZoneMap.{total_size, address_behind}
 use Rattle.mac_base.specs.ZoneState.{ZoneState}
-use Rattle.zone_laws.proofs.GapAppend.{total_size-append}
 use Rattle.zone_laws.proofs.GapApart.{sizes_possible}
+use Rattle.zone_laws.proofs.Maps.{total_size-append}
 use Rattle.linked_zone.specs.Fit.{HasSizes}
 use Rattle.linked_zone.specs.Places.{EntryAt}
-use Rattle.page_sums.proofs.Sizes.{all_parts, first_bytes}
+use Rattle.fixed_index.proofs.Sizes.{all_parts, first_bytes}
 
 -- what holds of each block holds of one that is read
 pub entry_passes : (p : Entry → Bool) (z : ZoneState) (at : ℕ) (e : EntryAt z at) → list_all p z.heap.map ≡ true → p e.here ≡ true

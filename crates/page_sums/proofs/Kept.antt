@@ -6,12 +6,12 @@ use Rattle.std.specs.declared.vec.Vec.{Vec}
 use Rattle.mac_base.specs.declared.block.Entry.{Entry}
 use Rattle.mac_base.specs.ZoneMap.{ZoneMap, is_named, total_size, address_behind}
 use Rattle.mac_base.specs.ZoneState.{ZoneState}
-use Rattle.zone_laws.proofs.GapAppend.{total_size-append}
 use Rattle.linked_zone.specs.Fit.{Fits}
 use Rattle.linked_zone.specs.Places.{NamedAt}
 use Rattle.gap_index.proofs.Named.{names-one, same-place}
 use Rattle.page_sums.specs.declared.sums.Sums.{Sums}
 use Rattle.page_sums.specs.Pages.{ArePages, Forgets, page}
+use Rattle.zone_laws.proofs.Maps.{total_size-append}
 
 -- the blocks behind a part end where the zone does
 pub part-ends : (z : ZoneState) (front rest : ZoneMap) → z.heap.map ≡ front ++ rest → address_behind z.shape front + total_size rest ≡ address_behind z.shape z.heap.map

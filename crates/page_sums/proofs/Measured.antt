@@ -1,11 +1,13 @@
 -- What is remembered of lengths stays so.
-use Rattle.std.proofs.Common.{◌≡◌, ℕ, ◌+◌, ◌≤◌, ◌-◌, List, [], ◌++◌, length, take, drop, Option, Some, None, true, false, eqb, inl, inr, refl, ap, sym, ◌∙◌, subst, arith}
+use Rattle.std.proofs.Common.{◌≡◌, ℕ, ◌+◌, ◌≤◌, List, [], ◌++◌, length, take, drop, Option, Some, None, true, false, eqb, inl, inr, refl, ap, sym, ◌∙◌, subst, arith}
 use Rattle.std.specs.Prelude.{◌||◌}
-use Rattle.std.proofs.lemmas.List.{length-append, length-take, length-drop, length-replicate}
+use Rattle.std.proofs.lemmas.List.{length-append, length-take, length-drop}
+use Rattle.std.proofs.lemmas.Bool.{eqb-true}
 use Rattle.mac_base.specs.declared.block.Flags.{Flags}
-use Rattle.mac_base.specs.HandleTable.{HandleTable, Live, EmptyHandle, FullHandle, Pointer, bytes_of, has_block, live_at, live_bytes, live_full, live_pointer, refilled, resized, with_bytes, with_flags, with_live, without, zeros}
+use Rattle.mac_base.specs.HandleTable.{HandleTable, Live, EmptyHandle, FullHandle, Pointer, bytes_of, has_block, live_at, live_bytes, live_full, live_pointer, refilled, resized, with_bytes, with_flags, with_live, without}
 use Rattle.mac_base.specs.ZoneState.{ZoneState, overwritten, written}
-use Rattle.zone_laws.proofs.Tables.{by_number, eqb-true-is, live_at-with_live_same, live_at-without_same, with_live_agrees, without_agrees}
+use Rattle.zone_laws.proofs.Tables.{by_number, live_at-with_live_same, live_at-without_same, with_live_agrees, without_agrees}
+use Rattle.zone_laws.proofs.SoundResized.{length-resized}
 use Rattle.page_sums.specs.declared.lengths.Lengths.{Lengths}
 use Rattle.linked_zone.specs.Changes.{sized}
 use Rattle.linked_zone.specs.Copying.{CanCopy, copied}
@@ -29,7 +31,7 @@ lengths-noted t u x n old new are noted here others y m told = elim (noted y m t
 ]
 
 apart : (y x : ℕ) → (y ≡ x → ⊥) → eqb y x ≡ false
-apart y x other = elim (eqb y x) as (λ b. eqb y x ≡ b → b ≡ false) [ true ↦ λ same. absurd (other (eqb-true-is y x same)) | false ↦ λ h. refl ] refl
+apart y x other = elim (eqb y x) as (λ b. eqb y x ≡ b → b ≡ false) [ true ↦ λ same. absurd (other (eqb-true y x same)) | false ↦ λ h. refl ] refl
 
 -- what x is given concerns x alone
 pub others-with_live : (x : ℕ) (l : Live) (t : HandleTable) → OtherLengths x t (with_live x l t)
@@ -77,13 +79,6 @@ same-with_bytes x bytes t same = same-with_live x (refilled bytes (live_at t x))
 
 pub same-with_flags : (h : ℕ) (flags : Flags) (t : HandleTable) → SameLengths t (with_flags h flags t)
 same-with_flags h flags t = same-with_live h (FullHandle flags (bytes_of t h)) t refl
-
--- as many bytes are there
-pub length-resized : (n : ℕ) (bytes : List ℕ) → length (resized n bytes) ≡ n
-length-resized n bytes = let first = length-take n bytes in let last = length-replicate (n - length bytes) (zero_byte) in let all = length-append (take n bytes) (zeros (n - length bytes)) in omega arith
-  where
-    zero_byte : ℕ
-    zero_byte = 0
 
 pub length-overwritten : (old others : List ℕ) → length (overwritten old others) ≡ length old
 length-overwritten old others = let first = length-take (length old) others in let last = length-drop (length others) old in let all = length-append (take (length old) others) (drop (length others) old) in omega arith

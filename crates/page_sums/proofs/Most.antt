@@ -1,5 +1,5 @@
 -- The most that a gap has of a sort of bytes, by a walk over what the blocks weigh.
-use Rattle.std.proofs.Common.{◌≡◌, ℕ, ◌+◌, true, false, cond, List, [], ◌∷◌, refl, ap, sym, ◌∙◌, append-nil, arith}
+use Rattle.std.proofs.Common.{◌≡◌, ℕ, ◌+◌, true, false, cond, List, [], ◌∷◌, refl, ap, sym, ◌∙◌, arith}
 use Rattle.std.specs.Prelude.{max, map, fold}
 use Rattle.mac_base.specs.declared.block.Entry.{Entry}
 use Rattle.mac_base.specs.Gap.{Gap, gaps, further, is_fixed}
@@ -7,10 +7,7 @@ use Rattle.mac_base.specs.HandleTable.{HandleTable}
 use Rattle.mac_base.specs.Reports.{largest}
 use Rattle.mac_base.specs.ZoneMap.{ZoneMap}
 use Rattle.zone_laws.proofs.GapParts.{first_gap, later_gaps, gaps-first}
-use Rattle.page_sums.specs.declared.span.Span.{Span}
-use Rattle.page_sums.specs.declared.span.Span.TheVariants.{Whole, Parted}
 use Rattle.page_sums.specs.declared.weight.Weight.{Weight}
-use Rattle.page_sums.specs.Spans.{IsSpan, most_in, passed}
 use Rattle.page_sums.specs.Weights.{most, weigh, weights}
 
 -- a number and others
@@ -45,11 +42,3 @@ module _ (t : HandleTable) (sort : Weight → ℕ) (total : ZoneMap → ℕ) (no
   -- the walk finds the largest of what the gaps have
   pub most-gaps : (m : ZoneMap) → most sort 0 (weights t m) ≡ largest (map (λ (g : Gap). total g.blocks) (gaps t m))
   most-gaps m = sym (ap (λ gs. largest (totals gs)) (gaps-first t m) ∙ fold-max (max 0 (total (first_gap t m).blocks)) (totals (later_gaps t m)) ∙ (let all = most-first 0 m in omega arith))
-
--- what is remembered of all blocks tells what the walk finds
-pub most-span : (sort : Weight → ℕ) (ws : List Weight) (s : Span) → IsSpan sort ws s → most_in s ≡ most sort 0 ws
-most-span sort ws s is = sym (ap (most sort 0) (sym (append-nil ws)) ∙ is 0 [] ∙ by_span s)
-  where
-    by_span : (s : Span) → passed s 0 (λ n. most sort n []) ≡ most_in s
-    by_span (Whole n) = omega arith
-    by_span (Parted p) = omega arith

@@ -2,15 +2,15 @@
 use Rattle.std.proofs.Common.{◌≡◌, ℕ, zero, suc, ◌+◌, ◌*◌, List, [], ◌∷◌, ◌++◌, set, slice_get, Option, Some, None, inl, inr, eqb, true, false, refl, ap, sym, ◌∙◌, subst, arith}
 use Rattle.std.specs.Prelude.{◌⊎◌, SomeIff}
 use Rattle.std.specs.Option.{ForSome}
-use Rattle.std.proofs.lemmas.Bool.{false≢true}
-use Rattle.zone_laws.proofs.Tables.{eqb_same, eqb-true-is}
+use Rattle.std.proofs.lemmas.Bool.{false≢true, eqb-true}
+use Rattle.zone_laws.proofs.Tables.{eqb_same}
 use Rattle.page_sums.specs.declared.lengths.Lengths.{Lengths}
 use Rattle.page_sums.specs.Lengths.{IsNoted, Tells}
 
 -- two numbers are one, or not
 pub one-or-two : (x y : ℕ) → (y ≡ x) ⊎ (y ≡ x → ⊥)
 one-or-two x y = elim (eqb y x) as (λ b. eqb y x ≡ b → (y ≡ x) ⊎ (y ≡ x → ⊥)) [
-  | true ↦ λ same. inl (eqb-true-is y x same)
+  | true ↦ λ same. inl (eqb-true y x same)
   | false ↦ λ apart. inr (λ same. false≢true (sym apart ∙ (ap (λ k. eqb k x) same ∙ eqb_same x)))
 ] refl
 

@@ -4,8 +4,8 @@ use Rattle.std.specs.Prelude.{◌&&◌, ◌||◌, List, nat_lt}
 use Rattle.mac_base.specs.declared.block.Entry.{Entry}
 use Rattle.mac_base.specs.ZoneMap.{ZoneMap, total_size, address_behind}
 use Rattle.mac_base.specs.ZoneState.{ZoneState}
-use Rattle.zone_laws.proofs.GapAppend.{total_size-append}
 use Rattle.zone_laws.proofs.GapApart.{sizes_possible}
+use Rattle.zone_laws.proofs.Maps.{total_size-append}
 use Rattle.linked_zone.specs.Fit.{HasSizes}
 use Rattle.linked_zone.specs.Places.{EntryAt}
 use Rattle.page_sums.specs.declared.sums.Sums.{Sums}
@@ -15,9 +15,10 @@ use Rattle.page_sums.specs.Pages.{page, page_weights}
 use Rattle.page_sums.specs.Spans.{IsSum, behind_of, both}
 use Rattle.page_sums.specs.Weights.{in_order, weigh, weights}
 use Rattle.page_sums.proofs.Begun.{weights-append}
-use Rattle.page_sums.proofs.Sizes.{all_parts, no_bytes, total_size-push}
+use Rattle.page_sums.proofs.Sizes.{no_bytes, total_size-push}
 use Rattle.page_sums.proofs.Spans.{nothing, order-all}
 use Rattle.page_sums.proofs.Walking.{Turn, Walked, none_walked, walked-all, walked-on}
+use Rattle.fixed_index.proofs.Sizes.{all_parts}
 
 -- The blocks below an address are in order, by the sums of their pages; a page begins there, or the zone ends.
 pub record Passing (z : ZoneState) (at : ℕ) (free : Bool) : Type 0 where

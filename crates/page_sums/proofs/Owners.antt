@@ -13,7 +13,7 @@ use Rattle.linked_zone.specs.Fit.{Fits}
 use Rattle.linked_zone.specs.Places.{EntryAt, HasOwner}
 
 -- a handle with a block is live
-live_full-handle : (o : Option Live) → live_full o ≡ true → live_handle o ≡ true
+pub live_full-handle : (o : Option Live) → live_full o ≡ true → live_handle o ≡ true
 live_full-handle None h = absurd (cc h)
 live_full-handle (Some EmptyHandle) h = refl
 live_full-handle (Some (FullHandle flags bytes)) h = refl

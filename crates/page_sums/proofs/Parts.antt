@@ -6,10 +6,10 @@ use Rattle.mac_base.specs.HandleTable.{bytes_of, resized}
 use Rattle.mac_base.specs.HeadKind.{zone_header}
 use Rattle.mac_base.specs.ZoneMap.{block, free_block, total_size, address_behind}
 use Rattle.mac_base.specs.ZoneState.{ZoneState}
-use Rattle.zone_laws.proofs.GapAppend.{total_size-append}
+use Rattle.zone_laws.proofs.Arranging.{total_size-free_block}
+use Rattle.zone_laws.proofs.Maps.{total_size-append}
 use Rattle.linked_zone.specs.Changes.{carried_up, cut_in_two, enlarged, extended, held_there, joined_pair, sunk}
 use Rattle.linked_zone.specs.Places.{CanCut, CanGrow, CanHold, EntryAt, FreeAt, FreePair, ParcelAt, ParcelUpTo}
-use Rattle.gap_index.proofs.Named.{over-size}
 use Rattle.page_sums.specs.declared.sums.Sums.{Sums}
 use Rattle.page_sums.specs.Pages.{ArePages, Forgets, page}
 use Rattle.page_sums.specs.Walk.{AllBelow}
@@ -109,7 +109,7 @@ module _ (z : ZoneState) (old new : List (Option Sums)) (a : ArePages z old) whe
   pub pages-held : {x size n at : ℕ} (can : CanHold z x size n) → at ≡ address_behind z.shape can.before → Forgets old new (page z.shape at) (page z.shape (at + size)) → ArePages (held_there z can) new
   pages-held {x} {size} {n} {at} can place forgets =
       let bytes = resized n (bytes_of z.heap.table x) in
-      let over = over-size (can.here.size - size) in
+      let over = total_size-free_block (can.here.size - size) in
       let within = can.fits.within in
       pages-renewed z (held_there z can).heap at (at + size) old new a (record {
         front = can.before;
@@ -129,7 +129,7 @@ module _ (z : ZoneState) (old new : List (Option Sums)) (a : ArePages z old) whe
   pub pages-grown : {x size n at : ℕ} (can : CanGrow z x size n) → at ≡ address_behind z.shape can.before → Forgets old new (page z.shape at) (page z.shape (at + size)) → ArePages (enlarged z can) new
   pages-grown {x} {size} {n} {at} can place forgets =
       let bytes = resized n (bytes_of z.heap.table x) in
-      let over = over-size (can.here.size + can.free - size) in
+      let over = total_size-free_block (can.here.size + can.free - size) in
       let within = can.fits.within in
       let larger = can.larger in
       pages-renewed z (enlarged z can).heap at (at + size) old new a (record {

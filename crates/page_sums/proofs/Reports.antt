@@ -9,13 +9,14 @@ use Rattle.page_sums.specs.declared.sums.Sums.{Sums}
 use Rattle.page_sums.specs.declared.weight.Weight.{Weight}
 use Rattle.page_sums.specs.Spans.{IsSum, most_in}
 use Rattle.page_sums.specs.Weights.{weights}
-use Rattle.page_sums.proofs.Most.{most-gaps, most-span}
+use Rattle.page_sums.proofs.Most.{most-gaps}
 use Rattle.page_sums.proofs.Space.{purge_space-is, largest_purge_space-is}
+use Rattle.page_sums.proofs.Spans.{span-all}
 
 module _ (t : HandleTable) (m : ZoneMap) (s : Sums) (sum : IsSum (weights t m) s) where
   -- the most free bytes of a gap
   pub reports-room : most_in s.free ≡ largest_room t m
-  reports-room = most-span (λ (w : Weight). w.free) (weights t m) s.free sum.free ∙ most-gaps t (λ (w : Weight). w.free) free_bytes refl (λ e es. refl) m
+  reports-room = span-all (λ (w : Weight). w.free) (weights t m) s.free sum.free ∙ most-gaps t (λ (w : Weight). w.free) free_bytes refl (λ e es. refl) m
 
   module _ (shape : Shape) (coherent : Coherent shape t m) where
     -- the bytes that are free or may be purged
@@ -24,4 +25,4 @@ module _ (t : HandleTable) (m : ZoneMap) (s : Sums) (sum : IsSum (weights t m) s
 
     -- the most of them that one gap has
     pub reports-contiguous : most_in s.spaces ≡ largest_purge_space t m
-    reports-contiguous = most-span (λ (w : Weight). w.space) (weights t m) s.spaces sum.spaces ∙ largest_purge_space-is shape t m coherent
+    reports-contiguous = span-all (λ (w : Weight). w.space) (weights t m) s.spaces sum.spaces ∙ largest_purge_space-is shape t m coherent

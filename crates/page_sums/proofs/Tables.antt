@@ -1,11 +1,12 @@
 -- Blocks that weigh the same by two handle tables.
 use Rattle.std.proofs.Common.{◌≡◌, ℕ, Bool, true, false, cond, eqb, List, [], ◌∷◌, ◌++◌, Option, Some, None, refl, ap, sym, ◌∙◌}
+use Rattle.std.proofs.lemmas.Bool.{eqb-true}
 use Rattle.mac_base.specs.declared.block.Entry.{Entry}
 use Rattle.mac_base.specs.declared.block.Kind.{Kind}
 use Rattle.mac_base.specs.declared.block.Kind.TheVariants.{Free, Master, Ptr, Rel}
 use Rattle.mac_base.specs.HandleTable.{HandleTable, Live, EmptyHandle, FullHandle, Pointer, live_at, live_handle, live_pointer, no_flags, with_live, without}
 use Rattle.mac_base.specs.ZoneMap.{ZoneMap, free_size, is_named, sizes}
-use Rattle.zone_laws.proofs.Tables.{AgreeBut, live_at-with_live, live_at-without, eqb-true-is}
+use Rattle.zone_laws.proofs.Tables.{AgreeBut, live_at-with_live, live_at-without}
 use Rattle.fixed_index.proofs.Rules.{lock_live, purge_live}
 use Rattle.gap_index.proofs.Locks.{kind-apart, locks-with_live, locks-without}
 use Rattle.page_sums.specs.Weights.{is_space, weigh, weights}
@@ -59,7 +60,7 @@ purges-kept : (x : ℕ) (t u : HandleTable) (l : Option Live) → ((h : ℕ) →
 purges-kept x t u l at was is h = ap purge_live (at h) ∙ by_number (eqb h x) refl
   where
     by_number : (b : Bool) → eqb h x ≡ b → purge_live (cond b l (live_at t h)) ≡ purge_live (live_at t h)
-    by_number true here = is ∙ sym (ap (λ y. purge_live (live_at t y)) (eqb-true-is h x here) ∙ was)
+    by_number true here = is ∙ sym (ap (λ y. purge_live (live_at t y)) (eqb-true h x here) ∙ was)
     by_number false here = refl
 
 -- where one such becomes another, all blocks weigh the same

@@ -7,8 +7,8 @@ use Rattle.mac_base.specs.HandleTable.{HandleTable}
 use Rattle.mac_base.specs.HeadKind.{zone_header}
 use Rattle.mac_base.specs.ZoneMap.{ZoneMap, total_size, address_behind}
 use Rattle.mac_base.specs.ZoneState.{ZoneState}
-use Rattle.zone_laws.proofs.GapAppend.{total_size-append}
 use Rattle.zone_laws.proofs.GapApart.{sizes_possible}
+use Rattle.zone_laws.proofs.Maps.{total_size-append}
 use Rattle.linked_zone.specs.Fit.{HasSizes}
 use Rattle.linked_zone.specs.Places.{EntryAt}
 use Rattle.page_sums.specs.declared.sums.Sums.{Sums}
@@ -16,9 +16,10 @@ use Rattle.page_sums.specs.Weights.{weigh, weights, bytes_of}
 use Rattle.page_sums.specs.Spans.{IsSum, IsWithin, both, one}
 use Rattle.page_sums.specs.Pages.{begun, page, page_start, page_weights}
 use Rattle.page_sums.specs.Walk.{AllBelow, FirstOfPage}
-use Rattle.page_sums.proofs.Sizes.{all_parts, first_bytes, no_bytes, total_size-push}
+use Rattle.page_sums.proofs.Sizes.{no_bytes, total_size-push}
 use Rattle.page_sums.proofs.Begun.{weights-append, bytes-weights, begun-append, begun-above, begun-below, begun-between, below-append, below-higher}
 use Rattle.page_sums.proofs.Spans.{nothing, sum-join, sum-none, sum-one, sum-within}
+use Rattle.fixed_index.proofs.Sizes.{all_parts, first_bytes}
 
 -- Blocks begin in one page: those before them begin below it, and those behind in a higher one.
 pub record Filling (z : ZoneState) (c : ℕ) (blocks : ZoneMap) : Type 0 where

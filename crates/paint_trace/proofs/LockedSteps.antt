@@ -1,7 +1,7 @@
 -- A locked handle stays as it is while steps are made on others, where no procedure answers.
 use Rattle.std.proofs.Common.{◌≡◌, ◌≢◌, ℕ, zero, suc, ◌<◌, eqb, length, replicate, get_or, true, false, List, [], ◌∷◌, ◌++◌, Option, Some, None, Ok, refl, ap, sym, subst, ◌∙◌, inl, inr}
 use Rattle.std.specs.Prelude.{⊤, slice_index, slice_set}
-use Rattle.std.proofs.lemmas.Bool.{true≢false, false_from_ne_true}
+use Rattle.std.proofs.lemmas.Bool.{true≢false, false_from_ne_true, eqb-true}
 use Rattle.std.proofs.lemmas.List.{get_or_default}
 use Rattle.mac_base.specs.declared.error.OsErr.{OsErr}
 use Rattle.mac_base.specs.declared.request.Request.TheVariants.{NewBlock, Resize}
@@ -17,7 +17,7 @@ use Rattle.mac_calls.specs.MemoryStep.{MemoryStep, StepAsking, StepUnless}
 use Rattle.mac_calls.specs.Outcomes.{Outcome}
 use Rattle.mac_calls.specs.RequestRun.{RequestRun}
 use Rattle.mac_calls.specs.Tests.{protected_by, refusal}
-use Rattle.zone_laws.proofs.Tables.{eqb-true-is, with_live_agrees, without_agrees}
+use Rattle.zone_laws.proofs.Tables.{with_live_agrees, without_agrees}
 use Rattle.gap_laws.proofs.SuitsNil.{nil-no_handle}
 use Rattle.call_laws.proofs.RunTables.{Releases, request-asked}
 use Rattle.paint_trace.specs.declared.trace.Action.{Action}
@@ -35,7 +35,7 @@ still_locked : (h : ℕ) (old new : HandleTable) → Same h old new → is_locke
 still_locked h old new same locked = ap (λ o. (live_flags o).lock) same ∙ locked
 
 apart : (h y : ℕ) → y ≢ h → eqb h y ≡ false
-apart h y other = false_from_ne_true (eqb h y) (λ is. other (sym (eqb-true-is h y is)))
+apart h y other = false_from_ne_true (eqb h y) (λ is. other (sym (eqb-true h y is)))
 
 -- another number than that of a locked handle
 unlocked_other : (t : HandleTable) (h y : ℕ) → is_locked t h ≡ true → is_locked t y ≡ false → y ≢ h

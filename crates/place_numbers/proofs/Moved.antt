@@ -1,100 +1,191 @@
--- Numbers that move with their marks and sizes.
-use Rattle.std.proofs.Common.{◌≡◌, ℕ, List, sym, ap, ◌∙◌, ◌+◌, ◌-◌, ◌<◌, ◌≤◌, inl, inr, length, get_or, arith}
+-- Marks that move to other places.
+use Rattle.std.proofs.Common.{◌≡◌, ℕ, List, ◌++◌, replicate, sym, ap, ◌∙◌, append_assoc, length-append, ◌+◌, ◌-◌, ◌*◌, ◌<◌, ◌≤◌, inl, inr, length, get_or, take, drop, arith, get_or-take, get_or-drop}
 use Rattle.std.proofs.lemmas.Bool.{cases_lt}
-use Rattle.std.proofs.lemmas.List.{get_or_past}
-use Rattle.place_marks.proofs.Moved.{shifted-down, shifted-up}
-use Rattle.place_numbers.specs.Parts.{numbers_of, AreParts}
+use Rattle.std.proofs.lemmas.List.{ext_get_or, get_or_append_left, get_or-append_right, length-replicate, length-take-le, length-drop, take-append-le, drop-append-le}
 use Rattle.place_numbers.specs.Shifted.{shifted_down, shifted_up}
-use Rattle.place_numbers.proofs.Parts.{at, only, length-numbers}
+use Rattle.place_numbers.specs.Bounds.{AreBounds, AreBoundsOutside}
+use Rattle.place_numbers.proofs.Bounds.{zeros-at, padded-at, less-padded, outside, reached}
 
--- where what stands at a place came from, whatever the list. Past the end there is 0
-source-down : (from to n len j : ℕ) → to ≤ from → from + n ≤ len → (i : ℕ) × ((xs : List ℕ) → length xs ≡ len → get_or (shifted_down from to n xs) j 0 ≡ get_or xs i 0)
-source-down from to n len j down inside = elim (cases_lt j to) [
-  | inl low ↦ (j, λ xs is. (shifted-down xs from to n down (omega arith)).below j low)
-  | inr past ↦ elim (cases_lt (j + (from - to)) (from + n)) [
-    | inl early ↦ (j + (from - to), λ xs is. (shifted-down xs from to n down (omega arith)).moved j past early)
-    | inr late ↦ elim (cases_lt j (from + n)) [
-      | inl before ↦ (len, λ xs is. (shifted-down xs from to n down (omega arith)).zeros j past late before ∙ sym (get_or_past xs len 0 (omega arith)))
-      | inr behind ↦ (j, λ xs is. (shifted-down xs from to n down (omega arith)).behind j behind)
+-- those of xs from `to + gap` up to `place` have moved down by `gap`, and 0 stands in all other places from `to` on
+pub record MovedDown (xs ys : List ℕ) (to gap place : ℕ) : Type 0 where
+  pub len : length ys ≡ length xs
+  pub below : (j : ℕ) → j < to → get_or ys j 0 ≡ get_or xs j 0
+  pub moved : (j : ℕ) → to ≤ j → j + gap < place → get_or ys j 0 ≡ get_or xs (j + gap) 0
+  pub zeros : (j : ℕ) → to ≤ j → place ≤ j + gap → j < place → get_or ys j 0 ≡ 0
+  pub behind : (j : ℕ) → place ≤ j → get_or ys j 0 ≡ get_or xs j 0
+
+-- those of xs from `place` on have moved up by `gap`, as far as this is before `end`, and 0 stands in all other places up to there
+pub record MovedUp (xs ys : List ℕ) (end gap place : ℕ) : Type 0 where
+  pub len : length ys ≡ length xs
+  pub below : (j : ℕ) → j < place → get_or ys j 0 ≡ get_or xs j 0
+  pub zeros : (j : ℕ) → place ≤ j → j < place + gap → j < end → get_or ys j 0 ≡ 0
+  pub moved : (j : ℕ) → place + gap ≤ j → j < end → get_or ys j 0 ≡ get_or xs (j - gap) 0
+  pub behind : (j : ℕ) → end ≤ j → get_or ys j 0 ≡ get_or xs j 0
+
+-- what stands where in a list of four parts
+module _ (ks ls ms ns : List ℕ) (k l m j : ℕ) (k-is : length ks ≡ k) (l-is : length (ks ++ ls) ≡ l) (m-is : length ((ks ++ ls) ++ ms) ≡ m) where
+  first : k ≤ l → l ≤ m → j < k → get_or (((ks ++ ls) ++ ms) ++ ns) j 0 ≡ get_or ks j 0
+  first kl lm in-it =
+      get_or_append_left ((ks ++ ls) ++ ms) ns 0 j (omega arith) ∙ get_or_append_left (ks ++ ls) ms 0 j (omega arith) ∙ get_or_append_left ks ls 0 j (omega arith)
+
+  second : l ≤ m → k ≤ j → j < l → get_or (((ks ++ ls) ++ ms) ++ ns) j 0 ≡ get_or ls (j - k) 0
+  second lm past in-it =
+      get_or_append_left ((ks ++ ls) ++ ms) ns 0 j (omega arith) ∙ get_or_append_left (ks ++ ls) ms 0 j (omega arith) ∙ get_or-append_right ks ls k j 0 k-is past
+
+  third : l ≤ j → j < m → get_or (((ks ++ ls) ++ ms) ++ ns) j 0 ≡ get_or ms (j - l) 0
+  third past in-it = get_or_append_left ((ks ++ ls) ++ ms) ns 0 j (omega arith) ∙ get_or-append_right (ks ++ ls) ms l j 0 l-is past
+
+  fourth : m ≤ j → get_or (((ks ++ ls) ++ ms) ++ ns) j 0 ≡ get_or ns (j - m) 0
+  fourth past = get_or-append_right ((ks ++ ls) ++ ms) ns m j 0 m-is past
+
+pub same-place : (xs : List ℕ) (i j : ℕ) → i ≡ j → get_or xs i 0 ≡ get_or xs j 0
+same-place xs i j is = ap (λ (k : ℕ). get_or xs k 0) is
+
+-- so it is in the shifted lists
+pub shifted-down : (xs : List ℕ) (from to n : ℕ) → to ≤ from → from + n ≤ length xs → MovedDown xs (shifted_down from to n xs) to (from - to) (from + n)
+shifted-down xs from to n down inside =
+    let ks = take to xs in let ls = take n (drop from xs) in let ms = replicate {A = ℕ} (from - to) 0 in let ns = drop (from + n) xs in
+    let one : length ks ≡ to = length-take-le to xs (omega arith) in
+    let rest = length-drop from xs in let last = length-drop (from + n) xs in
+    let two : length ls ≡ n = length-take-le n (drop from xs) (omega arith) in
+    let three : length ms ≡ from - to = length-replicate (from - to) 0 in
+    let one-two : length (ks ++ ls) ≡ to + n = length-append ks ls ∙ (let e : length ks + length ls ≡ to + n = omega arith in e) in
+    let to-three : length ((ks ++ ls) ++ ms) ≡ from + n = length-append (ks ++ ls) ms ∙ (let e : length (ks ++ ls) + length ms ≡ from + n = omega arith in e) in
+    record {
+      len = length-append ((ks ++ ls) ++ ms) ns ∙ (let e : length ((ks ++ ls) ++ ms) + length ns ≡ length xs = omega arith in e);
+      below = λ j low. first ks ls ms ns to (to + n) (from + n) j one one-two to-three (omega arith) (omega arith) low ∙ get_or-take to xs j 0 low;
+      moved = λ j low high. second ks ls ms ns to (to + n) (from + n) j one one-two to-three (omega arith) low (omega arith)
+          ∙ get_or-take n (drop from xs) (j - to) 0 (omega arith) ∙ get_or-drop from xs (j - to) 0 ∙ same-place xs (from + (j - to)) (j + (from - to)) (omega arith);
+      zeros = λ j low past high. third ks ls ms ns to (to + n) (from + n) j one one-two to-three (omega arith) high ∙ zeros-at (from - to) (j - (to + n));
+      behind = λ j past. fourth ks ls ms ns to (to + n) (from + n) j one one-two to-three past ∙ get_or-drop (from + n) xs (j - (from + n)) 0 ∙ same-place xs (from + n + (j - (from + n))) j (omega arith);
+    }
+
+pub shifted-up : (xs : List ℕ) (from to n : ℕ) → from ≤ to → to + n ≤ length xs → MovedUp xs (shifted_up from to n xs) (to + n) (to - from) from
+shifted-up xs from to n up inside =
+    let ks = take from xs in let ls = replicate {A = ℕ} (to - from) 0 in let ms = take n (drop from xs) in let ns = drop (to + n) xs in
+    let one : length ks ≡ from = length-take-le from xs (omega arith) in
+    let rest = length-drop from xs in let last = length-drop (to + n) xs in
+    let two : length ls ≡ to - from = length-replicate (to - from) 0 in
+    let three : length ms ≡ n = length-take-le n (drop from xs) (omega arith) in
+    let one-two : length (ks ++ ls) ≡ to = length-append ks ls ∙ (let e : length ks + length ls ≡ to = omega arith in e) in
+    let to-three : length ((ks ++ ls) ++ ms) ≡ to + n = length-append (ks ++ ls) ms ∙ (let e : length (ks ++ ls) + length ms ≡ to + n = omega arith in e) in
+    record {
+      len = length-append ((ks ++ ls) ++ ms) ns ∙ (let e : length ((ks ++ ls) ++ ms) + length ns ≡ length xs = omega arith in e);
+      below = λ j low. first ks ls ms ns from to (to + n) j one one-two to-three up (omega arith) low ∙ get_or-take from xs j 0 low;
+      zeros = λ j low past high. second ks ls ms ns from to (to + n) j one one-two to-three (omega arith) low (omega arith) ∙ zeros-at (to - from) (j - from);
+      moved = λ j past high. third ks ls ms ns from to (to + n) j one one-two to-three (omega arith) high
+          ∙ get_or-take n (drop from xs) (j - to) 0 (omega arith) ∙ get_or-drop from xs (j - to) 0 ∙ same-place xs (from + (j - to)) (j - (to - from)) (omega arith);
+      behind = λ j past. fourth ks ls ms ns from to (to + n) j one one-two to-three past ∙ get_or-drop (to + n) xs (j - (to + n)) 0 ∙ same-place xs (to + n + (j - (to + n))) j (omega arith);
+    }
+
+-- that is all there is to say of the list
+pub only-down : (xs ys zs : List ℕ) (to gap place : ℕ) → MovedDown xs ys to gap place → MovedDown xs zs to gap place → ys ≡ zs
+only-down xs ys zs to gap place one other = ext_get_or 0 ys zs (one.len ∙ sym other.len) (λ j inside. elim (cases_lt j to) [
+  | inl low ↦ one.below j low ∙ sym (other.below j low)
+  | inr from ↦ elim (cases_lt (j + gap) place) [
+    | inl early ↦ one.moved j from early ∙ sym (other.moved j from early)
+    | inr late ↦ elim (cases_lt j place) [
+      | inl before ↦ one.zeros j from late before ∙ sym (other.zeros j from late before)
+      | inr past ↦ one.behind j past ∙ sym (other.behind j past)
     ]
   ]
-]
+])
 
-source-up : (from to n len j : ℕ) → from ≤ to → to + n ≤ len → (i : ℕ) × ((xs : List ℕ) → length xs ≡ len → get_or (shifted_up from to n xs) j 0 ≡ get_or xs i 0)
-source-up from to n len j up inside = elim (cases_lt j from) [
-  | inl low ↦ (j, λ xs is. (shifted-up xs from to n up (omega arith)).below j low)
-  | inr past ↦ elim (cases_lt j (to + n)) [
-    | inl before ↦ elim (cases_lt j (from + (to - from))) [
-      | inl early ↦ (len, λ xs is. (shifted-up xs from to n up (omega arith)).zeros j past early before ∙ sym (get_or_past xs len 0 (omega arith)))
-      | inr late ↦ (j - (to - from), λ xs is. (shifted-up xs from to n up (omega arith)).moved j late before)
+pub only-up : (xs ys zs : List ℕ) (end gap place : ℕ) → MovedUp xs ys end gap place → MovedUp xs zs end gap place → ys ≡ zs
+only-up xs ys zs end gap place one other = ext_get_or 0 ys zs (one.len ∙ sym other.len) (λ j inside. elim (cases_lt j place) [
+  | inl low ↦ one.below j low ∙ sym (other.below j low)
+  | inr from ↦ elim (cases_lt j end) [
+    | inl before ↦ elim (cases_lt j (place + gap)) [
+      | inl early ↦ one.zeros j from early before ∙ sym (other.zeros j from early before)
+      | inr late ↦ one.moved j late before ∙ sym (other.moved j late before)
     ]
-    | inr behind ↦ (j, λ xs is. (shifted-up xs from to n up (omega arith)).behind j behind)
+    | inr past ↦ one.behind j past ∙ sym (other.behind j past)
   ]
-]
+])
 
--- lists that change places alike
-module _ (xs ys now ks ls new : List ℕ) (parts : AreParts xs ys) (view : numbers_of xs ys ≡ now) (long : length ks ≡ length xs) (same : length ls ≡ length ks) (as-long : length new ≡ length ks)
-    (source : (j : ℕ) → (i : ℕ) × (get_or ks j 0 ≡ get_or xs i 0) × (get_or ls j 0 ≡ get_or ys i 0) × (get_or new j 0 ≡ get_or now i 0)) where
-  alike-parts : AreParts ks ls
-  alike-parts = record {
-    count = same;
-    most = λ j. let s = source j in let x = s.1 in let m = parts.most s.0 in omega arith;
-    small = λ j low. let s = source j in let x = s.1 in let y = s.2 in let z = parts.small s.0 (omega arith) in omega arith;
-    large = λ j full. let s = source j in let x = s.1 in let y = s.2 in let z = parts.large s.0 (omega arith) in omega arith;
+-- zeros behind a list stay where they are while a run in it moves
+pub padded-down : (xs : List ℕ) (from to n k : ℕ) → to ≤ from → from + n ≤ length xs → shifted_down from to n xs ++ replicate k 0 ≡ shifted_down from to n (xs ++ replicate k 0)
+padded-down xs from to n k down inside =
+    let zs = replicate {A = ℕ} k 0 in let rest = length-drop from xs in
+    append_assoc (take to xs ++ take n (drop from xs) ++ replicate (from - to) 0) (drop (from + n) xs) zs
+    ∙ (λ i. sym (take-append-le to xs zs (omega arith)) i ++ (sym (take-append-le n (drop from xs) zs (omega arith)) ∙ ap (take n) (sym (drop-append-le from xs zs (omega arith)))) i
+    ++ replicate (from - to) 0 ++ sym (drop-append-le (from + n) xs zs inside) i)
+
+pub padded-up : (xs : List ℕ) (from to n k : ℕ) → from ≤ to → to + n ≤ length xs → shifted_up from to n xs ++ replicate k 0 ≡ shifted_up from to n (xs ++ replicate k 0)
+padded-up xs from to n k up inside =
+    let zs = replicate {A = ℕ} k 0 in let rest = length-drop from xs in
+    append_assoc (take from xs ++ replicate (to - from) 0 ++ take n (drop from xs)) (drop (to + n) xs) zs
+    ∙ (λ i. sym (take-append-le from xs zs (omega arith)) i ++ replicate (to - from) 0
+    ++ (sym (take-append-le n (drop from xs) zs (omega arith)) ∙ ap (take n) (sym (drop-append-le from xs zs (omega arith)))) i ++ sym (drop-append-le (to + n) xs zs inside) i)
+
+module _ (xs ys : List ℕ) (to gap place : ℕ) (done : MovedDown xs ys to gap place) where
+  -- zeros are passed over
+  pub skip-down : (at : ℕ) → place ≤ at → ((j : ℕ) → place ≤ j → j < at → get_or ys j 0 < 1) → MovedDown xs ys to gap at
+  skip-down at on none = record {
+    len = done.len;
+    below = done.below;
+    moved = λ j from high. elim (cases_lt (j + gap) place) [
+      | inl early ↦ done.moved j from early
+      | inr late ↦ let same = done.behind (j + gap) late in let was = none (j + gap) late high in let now = empty j from late (omega arith) in omega arith
+    ];
+    zeros = λ j from late before. empty j from (omega arith) before;
+    behind = λ j past. done.behind j (omega arith);
   }
+    where
+      empty : (j : ℕ) → to ≤ j → place ≤ j + gap → j < at → get_or ys j 0 ≡ 0
+      empty j from late before = elim (cases_lt j place) [
+        | inl here ↦ done.zeros j from late here
+        | inr past ↦ let no = none j past before in omega arith
+      ]
 
-  alike-view : numbers_of ks ls ≡ new
-  alike-view = only ks ls new same as-long (λ j.
-      let s = source j in let x = s.1 in let y = s.2 in let z = s.3 in let there = ap (λ (l : List ℕ). get_or l s.0 0) (sym view) ∙ at xs ys s.0 parts.count in omega arith)
+module _ (xs ys : List ℕ) (end gap place : ℕ) (done : MovedUp xs ys end gap place) where
+  -- zeros are passed over
+  pub skip-up : (at : ℕ) → at ≤ place → ((j : ℕ) → at ≤ j → j < place → get_or ys j 0 < 1) → MovedUp xs ys end gap at
+  skip-up at on none = record {
+    len = done.len;
+    below = λ j low. done.below j (omega arith);
+    zeros = λ j from early before. empty j from (omega arith) before;
+    moved = λ j past before. elim (cases_lt j (place + gap)) [
+      | inl early ↦ let same = done.below (j - gap) (omega arith) in let was = none (j - gap) (omega arith) (omega arith) in let now = empty j (omega arith) early before in omega arith
+      | inr late ↦ done.moved j late before
+    ];
+    behind = done.behind;
+  }
+    where
+      empty : (j : ℕ) → at ≤ j → j < place + gap → j < end → get_or ys j 0 ≡ 0
+      empty j from early before = elim (cases_lt j place) [
+        | inl here ↦ let no = none j from here in omega arith
+        | inr past ↦ done.zeros j past early before
+      ]
 
-module _ (xs ys now ks ls : List ℕ) (from to n : ℕ) (parts : AreParts xs ys) (view : numbers_of xs ys ≡ now) where
-  whole : length now ≡ length xs
-  whole = ap length (sym view) ∙ length-numbers xs ys
+-- where a run has moved, zeros maybe put behind the numbers before, the bounds are right at the other places
+pub but-moved : (bs old xs ys zs ws : List ℕ) (k first end : ℕ) → AreBounds old xs → bs ≡ old → ys ≡ xs ++ replicate k 0 → length ys ≤ 32 * length old → ws ≡ zs → length zs ≡ length ys
+    → ((j : ℕ) → j < first → get_or zs j 0 ≡ get_or ys j 0)
+    → ((j : ℕ) → end ≤ j → get_or zs j 0 ≡ get_or ys j 0)
+    → AreBoundsOutside bs ws first end
+but-moved bs old xs ys zs ws k first end bounds same padded room now long below behind =
+    rw (same, now) (outside old xs zs first end first end bounds (omega arith) (λ j low. below j low ∙ before j) (λ j past. behind j past ∙ before j) (omega arith) (omega arith))
+  where
+    before : (j : ℕ) → get_or ys j 0 ≡ get_or xs j 0
+    before j = ap (λ (l : List ℕ). get_or l j 0) padded ∙ padded-at xs k j
 
-  module _ (marks : ks ≡ shifted_down from to n xs) (sizes : ls ≡ shifted_down from to n ys) (down : to ≤ from) (inside : from + n ≤ length now) where
-    long-down : (zs : List ℕ) → length zs ≡ length now → length (shifted_down from to n zs) ≡ length now
-    long-down zs is = (shifted-down zs from to n down (omega arith)).len ∙ is
+-- bounds are what they are under any name
+pub along : {bs cs xs ys : List ℕ} → AreBounds bs xs → cs ≡ bs → ys ≡ xs → AreBounds cs ys
+along bounds here there = rw (here, there) bounds
 
-    source : (j : ℕ) → (i : ℕ) × (get_or ks j 0 ≡ get_or xs i 0) × (get_or ls j 0 ≡ get_or ys i 0) × (get_or (shifted_down from to n now) j 0 ≡ get_or now i 0)
-    source j =
-        let s = source-down from to n (length now) j down inside in let w = whole in let count = parts.count in
-        (s.0, ap (λ (l : List ℕ). get_or l j 0) marks ∙ s.1 xs (omega arith), ap (λ (l : List ℕ). get_or l j 0) sizes ∙ s.1 ys (omega arith), s.1 now (omega arith))
+-- a run that is moved among the numbers that are there then
+module _ (xs ys zs now : List ℕ) (from to n count : ℕ) (fits : length xs ≤ count) (view : xs ++ replicate (count - length xs) 0 ≡ now) where
+  all : (end : ℕ) → ys ≡ xs ++ replicate (end - length xs) 0 → end ≤ count → ys ++ replicate (count - length ys) 0 ≡ now
+  all end is inside = ap (λ (l : List ℕ). l ++ replicate (count - length l) 0) is ∙ less-padded xs end count inside fits ∙ view
 
-    long-marks : length ks ≡ length xs
-    long-marks = let w = whole in let l = ap length marks ∙ long-down xs (omega arith) in omega arith
+  pub view-down : ys ≡ xs ++ replicate (from + n - length xs) 0 → zs ≡ shifted_down from to n ys → to ≤ from → from + n ≤ count → zs ++ replicate (count - length zs) 0 ≡ shifted_down from to n now
+  view-down is moved down inside =
+      let reach = reached xs ys (from + n) is in
+      (λ i. moved i ++ replicate (count - (ap length moved ∙ (shifted-down ys from to n down reach).len) i) 0)
+      ∙ padded-down ys from to n (count - length ys) down reach ∙ ap (shifted_down from to n) (all (from + n) is inside)
 
-    long-sizes : length ls ≡ length ks
-    long-sizes = let w = whole in let count = parts.count in let k = long-marks in let l = ap length sizes ∙ long-down ys (omega arith) in omega arith
-
-    long-new : length (shifted_down from to n now) ≡ length ks
-    long-new = let w = whole in let k = long-marks in let l = long-down now (omega arith) in omega arith
-
-    pub down-parts : AreParts ks ls
-    down-parts = alike-parts xs ys now ks ls (shifted_down from to n now) parts view long-marks long-sizes long-new source
-
-    pub down-view : numbers_of ks ls ≡ shifted_down from to n now
-    down-view = alike-view xs ys now ks ls (shifted_down from to n now) parts view long-marks long-sizes long-new source
-
-  module _ (marks : ks ≡ shifted_up from to n xs) (sizes : ls ≡ shifted_up from to n ys) (up : from ≤ to) (inside : to + n ≤ length now) where
-    long-up : (zs : List ℕ) → length zs ≡ length now → length (shifted_up from to n zs) ≡ length now
-    long-up zs is = (shifted-up zs from to n up (omega arith)).len ∙ is
-
-    source-of : (j : ℕ) → (i : ℕ) × (get_or ks j 0 ≡ get_or xs i 0) × (get_or ls j 0 ≡ get_or ys i 0) × (get_or (shifted_up from to n now) j 0 ≡ get_or now i 0)
-    source-of j =
-        let s = source-up from to n (length now) j up inside in let w = whole in let count = parts.count in
-        (s.0, ap (λ (l : List ℕ). get_or l j 0) marks ∙ s.1 xs (omega arith), ap (λ (l : List ℕ). get_or l j 0) sizes ∙ s.1 ys (omega arith), s.1 now (omega arith))
-
-    marks-up : length ks ≡ length xs
-    marks-up = let w = whole in let l = ap length marks ∙ long-up xs (omega arith) in omega arith
-
-    sizes-up : length ls ≡ length ks
-    sizes-up = let w = whole in let count = parts.count in let k = marks-up in let l = ap length sizes ∙ long-up ys (omega arith) in omega arith
-
-    new-up : length (shifted_up from to n now) ≡ length ks
-    new-up = let w = whole in let k = marks-up in let l = long-up now (omega arith) in omega arith
-
-    pub up-parts : AreParts ks ls
-    up-parts = alike-parts xs ys now ks ls (shifted_up from to n now) parts view marks-up sizes-up new-up source-of
-
-    pub up-view : numbers_of ks ls ≡ shifted_up from to n now
-    up-view = alike-view xs ys now ks ls (shifted_up from to n now) parts view marks-up sizes-up new-up source-of
+  pub view-up : ys ≡ xs ++ replicate (to + n - length xs) 0 → zs ≡ shifted_up from to n ys → from ≤ to → to + n ≤ count → zs ++ replicate (count - length zs) 0 ≡ shifted_up from to n now
+  view-up is moved up inside =
+      let reach = reached xs ys (to + n) is in
+      (λ i. moved i ++ replicate (count - (ap length moved ∙ (shifted-up ys from to n up reach).len) i) 0)
+      ∙ padded-up ys from to n (count - length ys) up reach ∙ ap (shifted_up from to n) (all (to + n) is inside)

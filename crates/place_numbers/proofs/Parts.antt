@@ -3,8 +3,8 @@ use Rattle.std.proofs.Common.{◌≡◌, ◌⊎◌, Option, None, Some, IfNone, 
 use Rattle.std.proofs.Math.ListN.{set}
 use Rattle.std.proofs.lemmas.Bool.{cases_eq, cases_lt}
 use Rattle.std.proofs.lemmas.List.{ext_get_or}
-use Rattle.place_marks.specs.Marks.{FirstAtLeast as FirstMark, LastAtLeast as LastMark}
-use Rattle.place_sizes.specs.Sizes.{FirstAtLeast as FirstSize, LastAtLeast as LastSize}
+use Rattle.place_numbers.specs.Numbers.{FirstAtLeast as FirstMark, LastAtLeast as LastMark}
+use Rattle.place_numbers.specs.Numbers.{FirstAtLeast as FirstSize, LastAtLeast as LastSize}
 use Rattle.place_numbers.specs.Numbers.{FirstAtLeast, LastAtLeast}
 use Rattle.place_numbers.specs.Parts.{numbers_of, AreParts}
 

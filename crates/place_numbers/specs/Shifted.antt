@@ -1,6 +1,10 @@
 -- Numbers moved to other places.
 use Rattle.std.specs.Prelude.{ℕ, ◌+◌, ◌-◌, List, ◌++◌, take, drop, replicate}
 
+-- n numbers from a place on copied over those from another on
+abbrev pub copied : ℕ → ℕ → ℕ → List ℕ → List ℕ
+copied from to n xs = take to xs ++ take n (drop from xs) ++ drop (to + n) xs
+
 -- n numbers from a place on moved down to another: those that stood between are gone, and as many zeros stand behind them
 abbrev pub shifted_down : ℕ → ℕ → ℕ → List ℕ → List ℕ
 shifted_down from to n xs = take to xs ++ take n (drop from xs) ++ replicate (from - to) 0 ++ drop (from + n) xs

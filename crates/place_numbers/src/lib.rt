@@ -4,8 +4,11 @@
 
 ghost use Rattle.std.specs.Prelude.{◌≡◌, ◌<◌, length, set};
 
-use place_marks::Marks;
-use place_sizes::Sizes;
+pub mod marks;
+pub mod sizes;
+
+use marks::Marks;
+use sizes::Sizes;
 use std::alloc::{AllocError, Global};
 use std::marker::Model;
 

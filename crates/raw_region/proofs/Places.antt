@@ -1,5 +1,6 @@
 -- Which bytes are here, as ranges are lent and come back.
 use Rattle.std.proofs.Common.{◌≡◌, ℕ, ◌+◌, ◌<◌, ◌≤◌, ◌⊎◌, Bool, true, false, not, ◌&&◌, ◌||◌, ◌==◌, nat_le, nat_lt, List, [], ◌∷◌, refl, sym, ap, subst, ◌∙◌, inl, inr, ⊎_elim, true≢false, if◌then◌else◌, arith, lt-ltb, le-ltb, le-leb, leb-true, eqb-true, eq-eqb}
+use Rattle.std.proofs.Math.Bool.{and-false}
 use borrow.Author.Tests.{lt-leb}
 use Rattle.raw_region.specs.Span.{Span, covers, is_lent, is_here, IsApart, AllApart, IsFree, is_apart, is_free, are_loans, IsListed, without}
 
@@ -8,10 +9,6 @@ use Rattle.raw_region.specs.Span.{Span, covers, is_lent, is_here, IsApart, AllAp
 pub by_case : {X : Type 0} (b : Bool) → (b ≡ true → X) → (b ≡ false → X) → X
 by_case true t f = t refl
 by_case false t f = f refl
-
-and_false : (x : Bool) → (x && false) ≡ false
-and_false true = refl
-and_false false = refl
 
 -- the first of two that both hold
 pub left : (x y : Bool) → (x && y) ≡ true → x ≡ true
@@ -39,7 +36,7 @@ outside : (s : Span) (k : ℕ) → (k < s.0) ⊎ (s.0 + s.1 ≤ k) → covers s 
 outside s k off = ⊎_elim (λ low. below (lt-leb s.0 k low)) (λ high. above (le-ltb k (s.0 + s.1) high)) off
   where
     above : nat_lt k (s.0 + s.1) ≡ false → covers s k ≡ false
-    above e = ap (λ (b : Bool). nat_le s.0 k && b) e ∙ and_false (nat_le s.0 k)
+    above e = ap (λ (b : Bool). nat_le s.0 k && b) e ∙ and-false (nat_le s.0 k)
 
     below : nat_le s.0 k ≡ false → covers s k ≡ false
     below e = ap (λ (b : Bool). b && nat_lt k (s.0 + s.1)) e

@@ -1,5 +1,5 @@
--- Calls by what the devices answered in them: the stores need not be honest.
-use Rattle.std.specs.Prelude.{◌≡◌, ◌⊎◌, ℕ, List, [], length, map, Option, Some, None, MatchBool, Result, Ok, Err}
+-- Calls by what the devices answered in them: a store need not be honest.
+use Rattle.std.specs.Prelude.{◌≡◌, ◌⊎◌, ℕ, suc, Bool, if◌then◌else◌, IsTrue, List, [], ◌∷◌, length, map, Option, Some, None, MatchBool, Result, Ok, Err}
 use Rattle.std.specs.Option.{IsSomeAnd}
 use Rattle.mac_base.specs.declared.error.OsErr.{OsErr}
 use Rattle.mac_base.specs.declared.error.OsErr.TheVariants.{EofErr, MapReadErr}
@@ -12,49 +12,63 @@ use Rattle.res_table.specs.declared.chain.OpenFile.{OpenFile}
 use Rattle.res_calls.specs.Changes.{Files, FileRow, FileTable, opened_table}
 use Rattle.res_calls.specs.Device.{Device, Disk, DiskRelations, LeaveRelation, Reads, device_works}
 use Rattle.res_calls.specs.Files.{ResState}
+use Rattle.res_calls.specs.Loads.{gets}
 use Rattle.res_calls.specs.Steps.{MemoryRelation, ResourceStepBy, Work, Gets, Updates, Opens, Quiet, work_of}
 
--- a row with a zero for each of its bytes on the disk
-abbrev pub blank_row : FileRow → FileRow
-blank_row r = record {
-  resource = record { kind = r.resource.kind; id = r.resource.id; name = r.resource.name; attributes = r.resource.attributes; datum = zeros (length r.resource.datum) };
+-- bytes, or where they aren't known a zero for each
+abbrev pub known_bytes : Bool → List ℕ → List ℕ
+known_bytes known bytes = if known then bytes else zeros (length bytes)
+
+-- a row with its bytes on the disk, where they are known
+abbrev pub known_row : Bool → FileRow → FileRow
+known_row known r = record {
+  resource = record { kind = r.resource.kind; id = r.resource.id; name = r.resource.name; attributes = r.resource.attributes; datum = known_bytes known r.resource.datum };
   handle = r.handle;
 }
 
 -- a table of such rows
-abbrev pub blank_table : FileTable → FileTable
-blank_table table = record { rows = map blank_row table.rows; extra = table.extra; map_attributes = table.map_attributes }
+abbrev pub known_table : Bool → FileTable → FileTable
+known_table known table = record { rows = map (known_row known) table.rows; extra = table.extra; map_attributes = table.map_attributes }
 
--- an open file with such a table
-abbrev pub blank_file : OpenFile (List ℕ) → OpenFile (List ℕ)
-blank_file file = record { number = file.number; table = blank_table file.table }
+-- an open file with such a table, where this says of which files the bytes are known
+abbrev pub known_file : (ℕ → Bool) → OpenFile (List ℕ) → OpenFile (List ℕ)
+known_file known file = record { number = file.number; table = known_table (known file.number) file.table }
 
--- The open files with a zero for each byte of their rows: files that are the same so differ in these bytes alone, and not in how many they are.
-abbrev pub blank_files : Files → Files
-blank_files files = record { files = map blank_file files.files; current = files.current }
+-- the open files so: each row is there, and has as many bytes
+abbrev pub known_files : (ℕ → Bool) → Files → Files
+known_files known files = record { files = map (known_file known) files.files; current = files.current }
 
--- These files are those as the devices answered: but for the bytes of rows they are the same, and where the devices are honest, they are.
-abbrev pub AnswersFor : Type 0 → Files → Files → Type 0
-AnswersFor honest files answered = (blank_files answered ≡ blank_files files) × (honest → answered ≡ files)
+-- the disks in the order of numbers, of which those of other files have no bytes
+abbrev pub known_disks : (ℕ → Bool) → List Disk → List Disk
+known_disks known [] = []
+known_disks known (disk ∷ disks) = (if known 1 then disk else []) ∷ known_disks (λ k. known (suc k)) disks
 
--- the state with such files, and with disks of which only the number is seen
-abbrev pub blank_state : ResState → ResState
-blank_state state = record { shape = state.shape; heap = state.heap; files = blank_files state.files; loads = state.loads; disks = map (λ (disk : Disk). []) state.disks }
+-- the state where the bytes of these files alone are known
+abbrev pub known_state : (ℕ → Bool) → ResState → ResState
+known_state known state = record { shape = state.shape; heap = state.heap; files = known_files known state.files; loads = state.loads; disks = known_disks known state.disks }
 
--- This state is that one as the devices answered: but for bytes on disks it is the same, and where the devices are honest, it is.
-abbrev pub IsAnswered : Type 0 → ResState → ResState → Type 0
-IsAnswered honest state answered = (blank_state answered ≡ blank_state state) × (honest → answered ≡ state)
+-- each of these files has an honest device
+abbrev pub AreHonest : (ℕ → Type 0) → (ℕ → Bool) → Type 0
+AreHonest honest these = (k : ℕ) → IsTrue (these k) → honest k
+
+-- These files are those as the devices answered: but for the bytes of rows they are the same, and of each file whose device is honest, these too.
+abbrev pub AnswersFor : (ℕ → Type 0) → Files → Files → Type 0
+AnswersFor honest files answered = (known : ℕ → Bool) → AreHonest honest known → known_files known answered ≡ known_files known files
+
+-- This state is that one as the devices answered: but for bytes on disks it is the same, and of each file whose device is honest, these too.
+abbrev pub IsAnswered : (ℕ → Type 0) → ResState → ResState → Type 0
+IsAnswered honest state answered = (known : ℕ → Bool) → AreHonest honest known → known_state known answered ≡ known_state known state
 
 -- what an opening may give where nothing is known of the disk: rows without handles of which none is changed, or one of two refusals
 abbrev pub IsOpening : Result FileTable OsErr → Type 0
 IsOpening (Ok table) = (fork : Table) × (table ≡ opened_table fork)
 IsOpening (Err code) = (code ≡ EofErr) ⊎ (code ≡ MapReadErr)
 
--- What may become of disks: what is said of bytes, where the devices are honest; and else an opening may read anything that it may give.
-abbrev pub answered_disks : Type 0 → LeaveRelation → DiskRelations
-answered_disks honest may_leave = record {
-  may_leave = λ new old left. honest → may_leave new old left;
-  may_read = λ disk read. IsOpening read × (honest → Reads disk read);
+-- What may become of the disk of a file: what is said of bytes, where its device is honest; and else an opening may read anything that it may give.
+abbrev pub answered_disks : (ℕ → Type 0) → LeaveRelation → ℕ → DiskRelations
+answered_disks honest may_leave k = record {
+  may_leave = λ new old left. honest k → may_leave new old left;
+  may_read = λ disk read. IsOpening read × (honest k → Reads disk read);
 }
 
 -- the file on whose store such work is done
@@ -65,14 +79,15 @@ file_of_work (Opens k) = Some k
 file_of_work Quiet = None
 
 -- From the old state, the call with these asks may have this outcome and leave the new one, by what the devices answered: from the
--- state as they answered before it, it is a step to the state as they answered after it. A device failed in it just where a count of
--- failures rose, that of the store of the file that the call reads or writes.
-pub record AnswersStep (honest worked : Type 0) (Failed : ℕ → Type 0) (Memory : MemoryRelation) (may_leave : LeaveRelation)
+-- state as they answered before it, it is a step to the state as they answered after it. Only a call that gets or loads a resource reads
+-- bytes of a row before its step. A device failed in it just where a count of failures rose, that of the store of the file that the call
+-- reads or writes.
+pub record AnswersStep (honest : ℕ → Type 0) (worked : Type 0) (Failed : ℕ → Type 0) (Memory : MemoryRelation) (may_leave : LeaveRelation)
     (old : ResState) (call : ResourceCall) (asks : List Ask) (outcome : Outcome) (new : ResState) : Type 0 where
   pub device : Device
   pub before : ResState
   pub after : ResState
-  pub was : IsAnswered honest old before
+  pub was : MatchBool (gets call) (IsAnswered honest old before) (before ≡ old)
   pub becomes : IsAnswered honest new after
   pub step : ResourceStepBy Memory (answered_disks honest may_leave) device before call asks (record { outcome = outcome; state = after })
   pub cause : MatchBool (device_works device) worked (IsSomeAnd (file_of_work (work_of before call)) Failed)

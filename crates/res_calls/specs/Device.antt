@@ -41,16 +41,16 @@ LeaveRelation = Disk → Disk → Disk → Type 0
 abbrev pub Anything : LeaveRelation
 Anything new old left = ⊤
 
--- What may become of disks: what a replacement that failed may leave, and what an opening may read.
+-- What may become of a disk: what a replacement that failed may leave, and what an opening may read.
 pub record DiskRelations : Type 1 where
   pub may_leave : LeaveRelation
   pub may_read : Disk → Result FileTable OsErr → Type 0
 
--- an opening reads what the disk has
-abbrev pub read_truly : LeaveRelation → DiskRelations
-read_truly may_leave = record { may_leave = may_leave; may_read = Reads }
+-- an opening reads what the disk has, of whichever file
+abbrev pub read_truly : LeaveRelation → ℕ → DiskRelations
+read_truly may_leave k = record { may_leave = may_leave; may_read = Reads }
 
 -- what opening reads where the device goes so
 abbrev pub ReadsBy : DiskRelations → Device → Disk → Result FileTable OsErr → Type 0
-ReadsBy disks Works disk read = disks.may_read disk read
-ReadsBy disks _ disk read = read ≡ Err IoErr
+ReadsBy relations Works disk read = relations.may_read disk read
+ReadsBy relations _ disk read = read ≡ Err IoErr

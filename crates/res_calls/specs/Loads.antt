@@ -1,5 +1,5 @@
 -- Loads: the bytes of a row on the disk, put behind a handle.
-use Rattle.std.specs.Prelude.{ℕ, ◌==◌, Bool, true, not, ◌&&◌, ◌||◌, length, Option, Some, None, is_some, unwrap_or, if◌then◌else◌, Ok, Err, option_map, option_and_then}
+use Rattle.std.specs.Prelude.{ℕ, ◌==◌, Bool, true, false, not, ◌&&◌, ◌||◌, length, Option, Some, None, is_some, unwrap_or, if◌then◌else◌, Ok, Err, option_map, option_and_then}
 use Rattle.std.specs.Option.{option_map_or}
 use Rattle.mac_base.specs.declared.block.Flags.{Flags}
 use Rattle.mac_base.specs.declared.error.OsErr.TheVariants.{IoErr}
@@ -30,6 +30,14 @@ row_wanted state (call.Get1Resource kind id) = place_here kind id state.files
 row_wanted state (call.GetIndResource kind i) = option_and_then (λ k. option_map (λ at. record { file = k; index = at }) (index_of_ith kind i (current_rows state.files))) state.files.current
 row_wanted state (call.LoadResource h) = place_of_handle h state.files
 row_wanted state call = None
+
+-- whether a call gets or loads a resource
+abbrev pub gets : ResourceCall → Bool
+gets (call.GetResource kind id) = true
+gets (call.Get1Resource kind id) = true
+gets (call.GetIndResource kind i) = true
+gets (call.LoadResource h) = true
+gets _ = false
 
 -- whether such a call loads the row's bytes: LoadResource always does
 abbrev pub loads_bytes : ResState → ResourceCall → Bool

@@ -61,10 +61,11 @@ MemoryRelation = Shape → Heap → MemoryCall → List Ask → Outcome → Heap
 abbrev pub Memory : MemoryRelation
 Memory shape old call asks outcome new = MemoryStep shape old call asks outcome new × IsExactStep shape old call asks outcome new
 
-module _ (Memory : MemoryRelation) (disks : DiskRelations) where
+-- by what may become of the disk of each file
+module _ (Memory : MemoryRelation) (disks : ℕ → DiskRelations) where
   -- what an update may leave on the disk where the device goes so
   abbrev pub LeavesDisk : Device → Update → Disk → Type 0
-  LeavesDisk (FailsWriting left) u disk = disks.may_leave (written (saved_table u.table)) disk left
+  LeavesDisk (FailsWriting left) u disk = (disks u.file).may_leave (written (saved_table u.table)) disk left
   LeavesDisk device u disk = ⊤
 
   -- The call gets the row at a place; this call of the Memory Manager makes the place for its bytes, if one is needed.
@@ -84,7 +85,7 @@ module _ (Memory : MemoryRelation) (disks : DiskRelations) where
   Works device old call asks end (Gets p) = GetsPlace device old call asks end p (row_at p old.files)
   Works device old call asks end (Updates u) = (asks ≡ []) × LeavesDisk device u (disk_of u.file old) × (end ≡ update_end device call u old)
   Works device old call asks end (Opens k) = (asks ≡ []) × (read : Result (FileTable) OsErr)
-      × ReadsBy disks device (disk_of k old) read × (end ≡ opened_end k old read)
+      × ReadsBy (disks k) device (disk_of k old) read × (end ≡ opened_end k old read)
   Works device old call asks end Quiet = (asks ≡ []) × (end ≡ quiet_end call old)
 
   -- a call by its refusal, if it is refused before anything is asked or changed
@@ -104,10 +105,11 @@ update_in (Gets p) = None
 update_in (Opens k) = None
 update_in Quiet = None
 
--- The file of an update stands for the table as it was saved, if there was an update: read again, it gives that table and no other.
-abbrev pub IsSaved : Option Update → ResState → Type 0
-IsSaved update state = IfSome update (λ u. StandsFor (disk_of u.file state) (saved_table u.table))
+-- The file of an update stands for the table as it was saved, if there was an update and its device is honest: read again, it gives that
+-- table and no other.
+abbrev pub IsSaved : (ℕ → Type 0) → Option Update → ResState → Type 0
+IsSaved honest update state = IfSome update (λ u. honest u.file → StandsFor (disk_of u.file state) (saved_table u.table))
 
 -- Where a call that updates a file succeeds, the file reads back as the table that was saved.
-abbrev pub ReadsBack : ResState → ResourceCall → Outcome → ResState → Type 0
-ReadsBack old call outcome new = OnOk outcome (IsSaved (update_in (work_of old call)) new)
+abbrev pub ReadsBack : (ℕ → Type 0) → ResState → ResourceCall → Outcome → ResState → Type 0
+ReadsBack honest old call outcome new = OnOk outcome (IsSaved honest (update_in (work_of old call)) new)

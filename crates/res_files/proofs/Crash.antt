@@ -1,19 +1,18 @@
--- One of the stores is another: what happened to it, and that nothing happened to the others.
-use Rattle.std.proofs.Common.{◌≡◌, ◌≢◌, refl, sym, ap, ◌∙◌, subst, arith, ℕ, zero, suc, ◌-◌, ◌<◌, ◌≤◌, List, [], ◌∷◌, length, map, set, get_or, slice_get, Bool, true, false, Option, Some, IfSome, IsTrue, All}
+-- One of the stores is another: what happened to it.
+use Rattle.std.proofs.Common.{◌≡◌, refl, sym, ap, ◌∙◌, subst, arith, ℕ, ◌-◌, ◌<◌, ◌≤◌, List, [], ◌∷◌, length, set, get_or, slice_get, Bool, true, false, Option, Some, IfSome, IsTrue}
 use Rattle.std.specs.Prelude.{◌||◌, cond}
 use Rattle.std.specs.List.{find, list_any}
 use Rattle.std.specs.Option.{option_map, option_map_or}
-use Rattle.std.proofs.Math.Seq.{map-set_same}
 use Rattle.std.proofs.lemmas.Bool.{false≢true}
 use Rattle.std.proofs.lemmas.Option.{slice_get_read}
 use Rattle.fork_disk.specs.Crash.{AlwaysFinds, Finds}
 use Rattle.fork_reader.specs.declared.place.Place.{Place}
 use Rattle.res_table.specs.declared.chain.OpenFile.{OpenFile}
 use Rattle.res_table.specs.OpenFiles.{OpenFiles, is_numbered, table_in}
-use Rattle.res_files.specs.Crash.{history_of, OthersAreCalm}
-use Rattle.res_files.specs.FilesOn.{FilesOn, fork_of}
+use Rattle.res_files.specs.Crash.{history_of, OthersStay}
+use Rattle.res_files.specs.FilesOn.{FilesOn, HonestAt, fork_of}
 use Rattle.res_files.proofs.On.{seen}
-use Rattle.res_files.proofs.Stores.{get_set}
+use Rattle.res_files.proofs.Stores.{get_other, get_set}
 use Rattle.res_files.proofs.Using.{mine}
 
 -- an open file has a table
@@ -26,20 +25,12 @@ no_table k (f ∷ files) none is = by (is_numbered k f) none is (no_table k file
     by true none is deeper = none
     by false none is deeper = deeper none is
 
--- what is set elsewhere
-other_set : {S X : Type 0} (f : S → X) (d : X) (xs : List S) (i n : ℕ) (y : S) → n ≢ i → option_map_or f (slice_get (set xs i y) n) d ≡ option_map_or f (slice_get xs n) d
-other_set f d [] i n y apart = refl
-other_set f d (x ∷ xs) zero zero y apart = absurd (apart refl)
-other_set f d (x ∷ xs) zero (suc n) y apart = refl
-other_set f d (x ∷ xs) (suc i) zero y apart = refl
-other_set f d (x ∷ xs) (suc i) (suc n) y apart = other_set f d xs i n y (λ same. apart (ap suc same))
-
 module _ {S Event : Type 0} (fork : S → List ℕ) (is_honest : S → Type 0) (history : S → List Event) (chain : OpenFiles Place) (loads : Bool) (stores : List S) (now : FilesOn S) (view_is : seen fork chain loads stores ≡ now)
     (k : ℕ) (within : k - 1 < length stores) (old new : S) (value : old ≡ get_or stores (k - 1) old) where
   stores_are : now.stores ≡ stores
   stores_are = ap (λ (v : FilesOn S). v.stores) (sym view_is)
 
-  honest_here : All is_honest (set stores (k - 1) new) → is_honest new
+  honest_here : HonestAt is_honest (set stores (k - 1) new) k → is_honest new
   honest_here = mine fork is_honest chain loads stores now view_is (k - 1) within old new value
 
   before : history_of history k now.stores ≡ history old
@@ -50,30 +41,18 @@ module _ {S Event : Type 0} (fork : S → List ℕ) (is_honest : S → Type 0) (
 
   -- what a start finds, whenever a crash came
   pub found_always : (may_find : List Event → List ℕ → Type 0) (P : List Event → List ℕ → Type 0) → (is_honest new → AlwaysFinds may_find (P (history old)) (history old) (history new))
-      → All is_honest (set stores (k - 1) new) → AlwaysFinds may_find (P (history_of history k now.stores)) (history_of history k now.stores) (history_of history k (set stores (k - 1) new))
+      → HonestAt is_honest (set stores (k - 1) new) k → AlwaysFinds may_find (P (history_of history k now.stores)) (history_of history k now.stores) (history_of history k (set stores (k - 1) new))
   found_always may_find P finds honest =
       subst (λ (h : List Event). AlwaysFinds may_find (P h) h (history_of history k (set stores (k - 1) new))) (sym before)
       (subst (λ (h : List Event). AlwaysFinds may_find (P (history old)) (history old) h) (sym after) (finds (honest_here honest)))
 
-  -- nothing happened to the others
-  pub others_calm : 1 ≤ k → OthersAreCalm history k now.stores (set stores (k - 1) new)
-  others_calm low other from apart =
-      other_set history [] stores (k - 1) (other - 1) new (λ same. apart (omega (arith, low, from, same))) ∙ ap (λ (xs : List S). history_of history other xs) (sym stores_are)
-
-  -- nor to this one
-  pub this_calm : (is_honest new → history new ≡ history old) → All is_honest (set stores (k - 1) new) → history_of history k (set stores (k - 1) new) ≡ history_of history k now.stores
-  this_calm same honest = after ∙ same (honest_here honest) ∙ sym before
+  -- the others are the same
+  pub others_stay : 1 ≤ k → OthersStay k now.stores (set stores (k - 1) new)
+  others_stay low other from apart =
+      get_other stores (k - 1) (other - 1) new (λ same. apart (omega (arith, low, from, same))) ∙ ap (λ (xs : List S). slice_get xs (other - 1)) (sym stores_are)
 
   -- a start finds the fork that is read
   pub found_there : (may_find : List Event → List ℕ → Type 0) → (is_honest new → Finds may_find (λ found. found ≡ fork new) (history new))
-      → All is_honest (set stores (k - 1) new) → Finds may_find (λ found. found ≡ fork_of fork k (set stores (k - 1) new)) (history_of history k (set stores (k - 1) new))
+      → HonestAt is_honest (set stores (k - 1) new) k → Finds may_find (λ found. found ≡ fork_of fork k (set stores (k - 1) new)) (history_of history k (set stores (k - 1) new))
   found_there may_find finds honest found may =
       finds (honest_here honest) found (subst (λ (h : List Event). may_find h found) after may) ∙ sym (ap (λ (s : Option S). option_map_or fork s []) (get_set stores (k - 1) new within))
-
--- nothing happened to any store
-pub all_calm : {S Event : Type 0} (fork : S → List ℕ) (is_honest : S → Type 0) (history : S → List Event) (chain : OpenFiles Place) (loads : Bool) (stores : List S) (now : FilesOn S) (view_is : seen fork chain loads stores ≡ now)
-    (at : ℕ) (within : at < length stores) (old new : S) (value : old ≡ get_or stores at old) → (is_honest new → history new ≡ history old)
-    → All is_honest (set stores at new) → map history (set stores at new) ≡ map history now.stores
-all_calm {S} fork is_honest history chain loads stores now view_is at within old new value same honest =
-    map-set_same history stores at new old (same (mine fork is_honest chain loads stores now view_is at within old new value honest) ∙ ap history value)
-    ∙ ap (λ (v : FilesOn S). map history v.stores) view_is

@@ -1,6 +1,6 @@
 pub mod Grouped
 pub mod Mapped
-pub mod Blank
+pub mod Known
 pub mod Stands
 pub mod On
 pub mod Stores

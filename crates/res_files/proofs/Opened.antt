@@ -1,5 +1,5 @@
 -- A file is opened on its store: how the files stand then, and how they are seen.
-use Rattle.std.proofs.Common.{◌≡◌, refl, sym, ap, ◌∙◌, subst, arith, ℕ, ◌-◌, ◌<◌, ◌≤◌, List, [], length, map, set, get_or, slice_get, unwrap_or, Bool, false, Option, Some, Result, Ok, Err, OnOk, OnErr, IfOk, All, ◌⊎◌, inl, inr}
+use Rattle.std.proofs.Common.{◌≡◌, refl, sym, ap, ◌∙◌, subst, arith, ℕ, ◌-◌, ◌<◌, ◌≤◌, List, [], length, map, set, get_or, slice_get, unwrap_or, Bool, false, Option, Some, Result, Ok, Err, OnOk, OnErr, IfOk, ◌⊎◌, inl, inr}
 use Rattle.std.specs.Prelude.{IsFalse, ⊤}
 use Rattle.std.specs.Option.{option_map, option_map_or}
 use Rattle.std.proofs.lemmas.List.{length-set}
@@ -19,18 +19,18 @@ use Rattle.res_calls.specs.Answered.{IsOpening}
 use Rattle.res_calls.specs.Changes.{Files, FileTable}
 use Rattle.res_calls.specs.Device.{Reads}
 use Rattle.res_update.specs.Placed.{table_on, AreInside, Holds}
-use Rattle.res_files.specs.FilesOn.{FilesOn, FailedAt, NoneFailed, fork_of}
+use Rattle.res_files.specs.FilesOn.{FilesOn, FailedAt, HonestAt, NoneFailed, fork_of}
 use Rattle.res_files.specs.Opening.{RefusesFile, MayRead, code_of}
 use Rattle.res_files.specs.Standing.{fork_at, files_on, AreSmall, StandOn}
 use Rattle.res_files.specs.Stores.{ReadsTable, FindsAsRead, OpensStore}
-use Rattle.res_files.proofs.Crash.{found_always, others_calm, found_there}
+use Rattle.res_files.proofs.Crash.{found_always, found_there}
 use Rattle.res_files.proofs.Mapped.{open-mapped, opened-mapped, set-mapped}
 use Rattle.res_files.proofs.On.{seen, bytes_in, asked}
 use Rattle.res_files.proofs.Stands.{stand_opened}
 use Rattle.res_files.proofs.Stores.{get_set, new_set, stand_set}
 use Rattle.res_files.proofs.TablesRead.{told_by_code}
 use Rattle.res_files.proofs.Written.{from_one, others_seen}
-use Rattle.res_files.proofs.Using.{mine, same_forks, same_honest, none_failed, this_failed}
+use Rattle.res_files.proofs.Using.{mine, same_honest, same_values, none_failed, this_failed}
 
 module _ {S : Type 0} (store : Ghosts S) (chain : OpenFiles Place) (loads : Bool) (stores : List S) (now : FilesOn S) (view_is : seen store.fork chain loads stores ≡ now)
     (k : ℕ) (low : 1 ≤ k) (high : k ≤ length now.stores) (old new : S) (value : old ≡ get_or stores (k - 1) old)
@@ -79,12 +79,6 @@ module _ {S : Type 0} (store : Ghosts S) (chain : OpenFiles Place) (loads : Bool
       (others_seen k low (map store.fork stores) (store.fork new) chain.files (from_one store.fork store.is_ready store.is_honest stores chain.files stand.each) (closed_there closed))
       ∙ ap (λ (v : FilesOn S). v.files) view_is
 
-  pub forks_kept : All store.is_honest (set stores (k - 1) new) → map store.fork (set stores (k - 1) new) ≡ map store.fork now.stores
-  forks_kept = same_forks store.fork store.is_honest chain loads stores now view_is (k - 1) within old new value forks
-
-  pub honest_kept : All store.is_honest (set stores (k - 1) new) → All store.is_honest now.stores
-  honest_kept = same_honest store.fork store.is_honest chain loads stores now view_is (k - 1) within old new value same
-
   fork_is : fork_of store.fork k now.stores ≡ store.fork old
   fork_is = ap (λ (xs : List S). fork_of store.fork k xs) stores_are ∙ ap (λ (found : Option S). option_map_or store.fork found []) here
 
@@ -94,7 +88,7 @@ module _ {S : Type 0} (store : Ghosts S) (chain : OpenFiles Place) (loads : Bool
   -- what is seen of the one that is opened
   pub seen_more : (table : ResourceTable Place) (more : OpenFiles Place) → more ≡ file_opened k table chain → StandOn store.fork store.is_ready store.is_honest stores chain → IsFalse (is_open k now.files)
       → ((bytes : List ℕ) → IsOpening (Ok (table_on bytes table))) → (store.is_honest new → Reads (store.fork old) (Ok (table_on (store.fork old) table)))
-      → (t : FileTable) × MayRead (All store.is_honest (set stores (k - 1) new)) (fork_of store.fork k now.stores) (Ok t) × (files_on (map store.fork (set stores (k - 1) new)) more ≡ file_opened k t now.files)
+      → (t : FileTable) × MayRead (HonestAt store.is_honest (set stores (k - 1) new) k) (fork_of store.fork k now.stores) (Ok t) × (files_on (map store.fork (set stores (k - 1) new)) more ≡ file_opened k t now.files)
   seen_more table more is stand closed opening reads = (
     table_on (store.fork new) table,
     (
@@ -111,12 +105,12 @@ module _ {S : Type 0} (store : Ghosts S) (chain : OpenFiles Place) (loads : Bool
 
   -- what the code of a fault says
   pub seen_refused : (failures : S → ℕ) (fault : OpenFault) (c : OsErr) → Ok c ≡ code_of fault → (store.is_honest new → RefusesFile (store.fork old) fault) → CountsFault (failures old) (failures new) fault
-      → (MayRead (All store.is_honest (set stores (k - 1) new)) (fork_of store.fork k now.stores) (Err c) × NoneFailed failures now.stores (set stores (k - 1) new))
+      → (MayRead (HonestAt store.is_honest (set stores (k - 1) new) k) (fork_of store.fork k now.stores) (Err c) × NoneFailed failures now.stores (set stores (k - 1) new))
       ⊎ ((c ≡ IoErr) × FailedAt failures k now.stores (set stores (k - 1) new))
   seen_refused failures fault c is told counts = by (told_by_code (store.is_honest new) (store.fork old) (failures old) (failures new) fault c is told counts)
     where
       by : (IsOpening (Err c) × (store.is_honest new → Reads (store.fork old) (Err c)) × (failures new ≡ failures old)) ⊎ ((c ≡ IoErr) × Rose (failures old) (failures new))
-          → (MayRead (All store.is_honest (set stores (k - 1) new)) (fork_of store.fork k now.stores) (Err c) × NoneFailed failures now.stores (set stores (k - 1) new))
+          → (MayRead (HonestAt store.is_honest (set stores (k - 1) new) k) (fork_of store.fork k now.stores) (Err c) × NoneFailed failures now.stores (set stores (k - 1) new))
           ⊎ ((c ≡ IoErr) × FailedAt failures k now.stores (set stores (k - 1) new))
       by (inl refused) = inl (
         (refused.0, λ honest. subst (λ (bytes : List ℕ). Reads bytes (Err c)) (sym fork_is) (refused.1 (mine store.fork store.is_honest chain loads stores now view_is (k - 1) within old new value honest))),
@@ -125,16 +119,16 @@ module _ {S : Type 0} (store : Ghosts S) (chain : OpenFiles Place) (loads : Bool
       by (inr failed) = inr (failed.0, this_failed store.fork store.is_honest chain loads stores now view_is (k - 1) within old new value failures failed.1)
 
   -- a start finds what is read, once the store is ready
-  pub found_as_read : (store.is_honest new → store.is_ready new) → All store.is_honest (set stores (k - 1) new) → FindsAsRead store k (set stores (k - 1) new)
+  pub found_as_read : (store.is_honest new → store.is_ready new) → HonestAt store.is_honest (set stores (k - 1) new) k → FindsAsRead store k (set stores (k - 1) new)
   found_as_read ready honest journalled =
       found_there store.fork store.is_honest store.history chain loads stores now view_is k within old new value store.may_find (λ h. store.ready_finds new journalled h (ready h)) honest
 
   -- what an opening does to the stores
-  pub opens_store : (result : Result (Result ⊤ OsErr) HostFull) → (All store.is_honest (set stores (k - 1) new) → IfOk result (λ done. OnOk done (FindsAsRead store k (set stores (k - 1) new))))
-      → All store.is_honest (set stores (k - 1) new) → OpensStore store k now.stores (set stores (k - 1) new) result
+  pub opens_store : (result : Result (Result ⊤ OsErr) HostFull) → (HonestAt store.is_honest (set stores (k - 1) new) k → IfOk result (λ done. OnOk done (FindsAsRead store k (set stores (k - 1) new))))
+      → HonestAt store.is_honest (set stores (k - 1) new) k → OpensStore store k now.stores (set stores (k - 1) new) result
   opens_store result settled honest = record {
-    works = record { honest = honest_kept honest; others = others_calm store.fork store.is_honest store.history chain loads stores now view_is k within old new value low };
-    forks = forks_kept honest;
+    honest = same_honest store.fork store.is_honest chain loads stores now view_is (k - 1) within old new value same k honest;
+    fork = same_values store.fork store.is_honest chain loads stores now view_is (k - 1) within old new value store.fork [] forks k honest;
     any_moment = found_always store.fork store.is_honest store.history chain loads stores now view_is k within old new value store.may_find store.may_find (λ h. (known h).any_moment) honest;
     settled = settled honest;
   }

@@ -1,5 +1,5 @@
 -- The store of an open file is written anew: how the files stand then, and how they are seen.
-use Rattle.std.proofs.Common.{◌≡◌, refl, sym, ap, ◌∙◌, subst, arith, ℕ, suc, ◌+◌, ◌-◌, ◌<◌, ◌≤◌, List, [], ◌∷◌, length, map, set, get_or, slice_get, unwrap_or, Bool, true, false, Option, None, Some, Result, Ok, Err, IfSome, All, IsTrue}
+use Rattle.std.proofs.Common.{◌≡◌, refl, sym, ap, ◌∙◌, subst, arith, ℕ, zero, suc, ◌+◌, ◌-◌, ◌<◌, ◌≤◌, List, [], ◌∷◌, length, map, set, get_or, slice_get, unwrap_or, Bool, true, false, Option, None, Some, Result, Ok, Err, IfSome, All, IsTrue}
 use Rattle.std.specs.Global.{Global}
 use Rattle.std.specs.Prelude.{◌↔◌, ◌&&◌, IsFalse, IsErrOf, Vec, if◌then◌else◌}
 use Rattle.std.specs.List.{AllByRecursion}
@@ -22,7 +22,7 @@ use Rattle.res_table.specs.declared.chain.ResourceTable.{ResourceTable}
 use Rattle.res_table.specs.declared.chain.OpenFile.{OpenFile}
 use Rattle.res_table.specs.Rows.{is_changed}
 use Rattle.res_table.specs.OpenFiles.{OpenFiles, is_open, table_of, rows_changed, without, last_number, is_current, file_closed}
-use Rattle.res_calls.specs.Answered.{AnswersFor, blank_files}
+use Rattle.res_calls.specs.Answered.{AnswersFor, known_files}
 use Rattle.res_calls.specs.Changes.{Files, FileRow, FileTable, rows_of, rows_in, saved_table}
 use Rattle.res_calls.specs.Tests.{is_lent_row}
 use Rattle.res_update.specs.declared.fault.UpdateFault.{UpdateFault}
@@ -34,19 +34,19 @@ use Rattle.res_update.specs.Placed.{bytes_on, rows_on, table_on, AreInside, IsIn
 use Rattle.res_update.specs.Selected.{updated, reads_lent, CountsUpdate}
 use Rattle.res_update.specs.Writing.{Writes}
 use Rattle.res_files.specs.Crash.{history_of}
-use Rattle.res_files.specs.FilesOn.{FilesOn, fork_of, forks_with}
+use Rattle.res_files.specs.FilesOn.{FilesOn, HonestAt, fork_of}
 use Rattle.res_files.specs.Standing.{fork_at, files_on, AreSmall, StandsOn, StandOn}
-use Rattle.res_files.specs.Stores.{WorksOn, UpdatesStore}
+use Rattle.res_files.specs.Stores.{UpdatesStore}
 use Rattle.res_files.specs.Updating.{row_placed, rows_placed}
-use Rattle.res_files.proofs.Blank.{same_blank}
-use Rattle.res_files.proofs.Crash.{all_calm, found_always, found_there, others_calm}
+use Rattle.res_files.proofs.Known.{same_known}
+use Rattle.res_files.proofs.Crash.{found_always, found_there}
 use Rattle.res_files.proofs.Grouped.{placed_grouped, updated_grouped}
 use Rattle.res_files.proofs.Mapped.{mapped_row, mapped_rows, mapped_table, any-mapped, get-mapped, set-mapped, table-mapped, without-mapped, closed-mapped}
 use Rattle.res_files.proofs.On.{seen, bytes_in}
 use Rattle.res_files.proofs.Stands.{table_stands, stand_closed, any_changed, apart_changed}
 use Rattle.res_files.proofs.Stores.{get_set, stand_set}
 use Rattle.res_files.proofs.Updated.{all_placed, one_placed}
-use Rattle.res_files.proofs.Using.{mine, same_forks, same_honest}
+use Rattle.res_files.proofs.Using.{mine, same_honest, same_values}
 use Rattle.res_files.proofs.Written.{from_one, others_seen, one_seen, rest_seen, others_stand, one_stands, rest_stands}
 
 -- what is lent is told by handles and attributes
@@ -147,7 +147,7 @@ module _ {S : Type 0} (store : Ghosts S) (chain : OpenFiles Place) (loads : Bool
     of_table P is = subst (λ (found : Option FileTable). IfSome found P) (sym seen_table) is
 
     module _ (new : S) where
-      honest_here : All store.is_honest (set stores (k - 1) new) → store.is_honest new
+      honest_here : HonestAt store.is_honest (set stores (k - 1) new) k → store.is_honest new
       honest_here = mine store.fork store.is_honest chain loads stores now view_is (k - 1) within old new value
 
       -- when no store.fork holds the table
@@ -171,25 +171,35 @@ module _ {S : Type 0} (store : Ghosts S) (chain : OpenFiles Place) (loads : Bool
       fork_set : (bytes : List ℕ) → fork_at (forks_now bytes) k ≡ bytes
       fork_set bytes = ap (λ (o : Option (List ℕ)). unwrap_or o []) (get_set (map store.fork stores) (k - 1) bytes (subst (λ (n : ℕ). k - 1 < n) (sym (length-map stores store.fork)) within))
 
-      forks_seen : map store.fork (set stores (k - 1) new) ≡ forks_with store.fork k (store.fork new) now.stores
-      forks_seen = forks_set ∙ ap (λ (xs : List S). set (map store.fork xs) (k - 1) (store.fork new)) (sym stores_are)
+      fork_new : fork_of store.fork k (set stores (k - 1) new) ≡ store.fork new
+      fork_new = ap (λ (found : Option S). option_map_or store.fork found []) (get_set stores (k - 1) new within)
 
-      -- the forks, once it is written
+      -- where it is honest, it is as one of these
+      forks_agree : (bytes : List ℕ) → (store.is_honest new → store.fork new ≡ bytes) → (n : ℕ) → HonestAt store.is_honest (set stores (k - 1) new) n
+          → fork_at (map store.fork (set stores (k - 1) new)) n ≡ fork_at (forks_now bytes) n
+      forks_agree bytes same n honest = ap (λ (o : Option (List ℕ)). unwrap_or o []) (by stores (k - 1) (n - 1) honest)
+        where
+          by : (xs : List S) (i at : ℕ) → IfSome (slice_get (set xs i new) at) store.is_honest → slice_get (map store.fork (set xs i new)) at ≡ slice_get (set (map store.fork xs) i bytes) at
+          by [] i at held = refl
+          by (x ∷ xs) zero zero held = ap Some (same held)
+          by (x ∷ xs) zero (suc at) held = refl
+          by (x ∷ xs) (suc i) zero held = refl
+          by (x ∷ xs) (suc i) (suc at) held = by xs i at held
+
+      -- the fork, once it is written
       written_seen : (t : HandleTable) (selection : Selection) → (store.is_honest new → store.fork new ≡ written (saved_table (updated t selection (table_on (store.fork old) table))))
-          → All store.is_honest (set stores (k - 1) new) → IfSome (table_of k now.files) (λ shown. map store.fork (set stores (k - 1) new) ≡ forks_with store.fork k (written (saved_table (updated t selection shown))) now.stores)
+          → HonestAt store.is_honest (set stores (k - 1) new) k → IfSome (table_of k now.files) (λ shown. fork_of store.fork k (set stores (k - 1) new) ≡ written (saved_table (updated t selection shown)))
       written_seen t selection is honest =
-          of_table (λ shown. map store.fork (set stores (k - 1) new) ≡ forks_with store.fork k (written (saved_table (updated t selection shown))) now.stores)
-          (forks_seen ∙ ap (λ (bytes : List ℕ). forks_with store.fork k bytes now.stores) (is (honest_here honest)))
+          of_table (λ shown. fork_of store.fork k (set stores (k - 1) new) ≡ written (saved_table (updated t selection shown))) (fork_new ∙ is (honest_here honest))
 
       -- and what it stands for
       stands_seen : (t : HandleTable) (selection : Selection)
           → (store.is_honest new → IsGrouped (saved_table (updated t selection (table_on (store.fork old) table))).rows → StandsFor (store.fork new) (saved_table (updated t selection (table_on (store.fork old) table))))
-          → All store.is_honest (set stores (k - 1) new) → IfSome (table_of k now.files) (λ shown. StandsFor (fork_of store.fork k (set stores (k - 1) new)) (saved_table (updated t selection shown)))
+          → HonestAt store.is_honest (set stores (k - 1) new) k → IfSome (table_of k now.files) (λ shown. StandsFor (fork_of store.fork k (set stores (k - 1) new)) (saved_table (updated t selection shown)))
       stands_seen t selection is honest =
           let saved = saved_table (updated t selection (table_on (store.fork old) table)) in
-          let new_is : fork_of store.fork k (set stores (k - 1) new) ≡ store.fork new = ap (λ (found : Option S). option_map_or store.fork found []) (get_set stores (k - 1) new within) in
           of_table (λ shown. StandsFor (fork_of store.fork k (set stores (k - 1) new)) (saved_table (updated t selection shown)))
-          (subst (λ (bytes : List ℕ). StandsFor bytes saved) (sym new_is) (is (honest_here honest) (updated_grouped t selection (store.fork old) table small.grouped)))
+          (subst (λ (bytes : List ℕ). StandsFor bytes saved) (sym fork_new) (is (honest_here honest) (updated_grouped t selection (store.fork old) table small.grouped)))
 
       -- the rows at their places in a store.fork
       placed_seen : (t : HandleTable) (selection : Selection) (places : List Place) (bytes : List ℕ) → map (bytes_on bytes) places ≡ map (λ (r : FileRow). r.resource.datum) (updated t selection (table_on (store.fork old) table)).rows
@@ -214,19 +224,15 @@ module _ {S : Type 0} (store : Ghosts S) (chain : OpenFiles Place) (loads : Bool
       pub rows_seen : (t : HandleTable) (selection : Selection) (places : List Place) (more : OpenFiles Place) → more ≡ rows_changed k (λ rows. rows_placed selection 0 rows places) chain
           → (store.is_honest new → store.fork new ≡ written (saved_table (updated t selection (table_on (store.fork old) table))))
           → map (bytes_on (written (saved_table (updated t selection (table_on (store.fork old) table))))) places ≡ map (λ (r : FileRow). r.resource.datum) (updated t selection (table_on (store.fork old) table)).rows
-          → IfSome (table_of k now.files) (λ shown. AnswersFor (All store.is_honest (set stores (k - 1) new)) (rows_changed k (λ _. (updated t selection shown).rows) now.files) (files_on (map store.fork (set stores (k - 1) new)) more))
+          → IfSome (table_of k now.files) (λ shown. AnswersFor (HonestAt store.is_honest (set stores (k - 1) new)) (rows_changed k (λ _. (updated t selection shown).rows) now.files) (files_on (map store.fork (set stores (k - 1) new)) more))
       rows_seen t selection places more more_is written_is is =
           let bytes = written (saved_table (updated t selection (table_on (store.fork old) table))) in
           let placed = rows_changed k (λ rows. rows_placed selection 0 rows places) chain in
-          of_table (λ shown. AnswersFor (All store.is_honest (set stores (k - 1) new)) (rows_changed k (λ _. (updated t selection shown).rows) now.files) (files_on (map store.fork (set stores (k - 1) new)) more)) (
-            ap (λ (all : OpenFiles Place). blank_files (files_on (map store.fork (set stores (k - 1) new)) all)) more_is
-                ∙ same_blank (map store.fork (set stores (k - 1) new)) (forks_now bytes) placed
-                ∙ ap blank_files (rows_on_fork t selection places bytes is),
-            λ honest.
-                ap (files_on (map store.fork (set stores (k - 1) new))) more_is
-                ∙ ap (λ (all : List (List ℕ)). files_on all placed) (forks_set ∙ ap forks_now (written_is (honest_here honest)))
-                ∙ rows_on_fork t selection places bytes is,
-          )
+          of_table (λ shown. AnswersFor (HonestAt store.is_honest (set stores (k - 1) new)) (rows_changed k (λ _. (updated t selection shown).rows) now.files) (files_on (map store.fork (set stores (k - 1) new)) more))
+          (λ known are.
+          ap (λ (all : OpenFiles Place). known_files known (files_on (map store.fork (set stores (k - 1) new)) all)) more_is
+          ∙ same_known known (map store.fork (set stores (k - 1) new)) (forks_now bytes) (λ n is. forks_agree bytes written_is n (are n is)) placed
+          ∙ ap (known_files known) (rows_on_fork t selection places bytes is))
 
       -- the others, once it is closed
       closed_on : files_on (forks_now (store.fork new)) (file_closed k chain) ≡ files_on (map store.fork stores) (file_closed k chain)
@@ -255,16 +261,11 @@ module _ {S : Type 0} (store : Ghosts S) (chain : OpenFiles Place) (loads : Bool
       -- what is left on the disk then
       left_seen : (may_leave : List ℕ → List ℕ → List ℕ → Type 0) (t : HandleTable) (selection : Selection)
           → (store.is_honest new → may_leave (written (saved_table (updated t selection (table_on (store.fork old) table)))) (store.fork old) (store.fork new))
-          → All store.is_honest (set stores (k - 1) new) → IfSome (table_of k now.files) (λ shown. (left : List ℕ) × may_leave (written (saved_table (updated t selection shown))) (fork_of store.fork k now.stores) left
-          × (map store.fork (set stores (k - 1) new) ≡ forks_with store.fork k left now.stores))
+          → HonestAt store.is_honest (set stores (k - 1) new) k → IfSome (table_of k now.files) (λ shown. may_leave (written (saved_table (updated t selection shown))) (fork_of store.fork k now.stores) (fork_of store.fork k (set stores (k - 1) new)))
       left_seen may_leave t selection is honest =
           let new_bytes = written (saved_table (updated t selection (table_on (store.fork old) table))) in
-          of_table (λ shown. (left : List ℕ) × may_leave (written (saved_table (updated t selection shown))) (fork_of store.fork k now.stores) left
-          × (map store.fork (set stores (k - 1) new) ≡ forks_with store.fork k left now.stores)) (
-            store.fork new,
-            subst (λ (bytes : List ℕ). may_leave new_bytes bytes (store.fork new)) (sym fork_is) (is (honest_here honest)),
-            forks_seen,
-          )
+          of_table (λ shown. may_leave (written (saved_table (updated t selection shown))) (fork_of store.fork k now.stores) (fork_of store.fork k (set stores (k - 1) new)))
+          (rw (fork_is, fork_new) (is (honest_here honest)))
 
       -- the files stand, once it is written
       pub stand_written : (selection : Selection) (places : List Place) (more : OpenFiles Place) → more ≡ rows_changed k (λ rows. rows_placed selection 0 rows places) chain
@@ -338,16 +339,13 @@ module _ {S : Type 0} (store : Ghosts S) (chain : OpenFiles Place) (loads : Bool
               kept (λ h. (known h).replaces.honest) (λ h. (((known h).replaces.before refl).same, λ _. ((known h).replaces.before refl).ready))
           by (Device Later) other untouched unasked known = absurd (other refl)
 
-      -- what an update does to the stores
-      works : (store.is_honest new → store.is_honest old) → All store.is_honest (set stores (k - 1) new) → WorksOn store k now.stores (set stores (k - 1) new)
-      works same honest = record {
-        honest = same_honest store.fork store.is_honest chain loads stores now view_is (k - 1) within old new value same honest;
-        others = others_calm store.fork store.is_honest store.history chain loads stores now view_is k within old new value low;
-      }
+      -- what an update does to the store
+      was_honest : (store.is_honest new → store.is_honest old) → HonestAt store.is_honest (set stores (k - 1) new) k → HonestAt store.is_honest now.stores k
+      was_honest same honest = same_honest store.fork store.is_honest chain loads stores now view_is (k - 1) within old new value same k honest
 
       moments : (t : HandleTable) (selection : Selection)
           → (store.is_honest new → AlwaysFinds store.may_find (FoundBeforeOr store.may_find (store.history old) (written (saved_table (updated t selection (table_on (store.fork old) table))))) (store.history old) (store.history new))
-          → All store.is_honest (set stores (k - 1) new) → IfSome (table_of k now.files) (λ shown. AlwaysFinds store.may_find
+          → HonestAt store.is_honest (set stores (k - 1) new) k → IfSome (table_of k now.files) (λ shown. AlwaysFinds store.may_find
           (FoundBeforeOr store.may_find (history_of store.history k now.stores) (written (saved_table (updated t selection shown)))) (history_of store.history k now.stores) (history_of store.history k (set stores (k - 1) new)))
       moments t selection finds honest =
           of_table (λ shown. AlwaysFinds store.may_find
@@ -356,10 +354,10 @@ module _ {S : Type 0} (store : Ghosts S) (chain : OpenFiles Place) (loads : Bool
           (λ past. FoundBeforeOr store.may_find past (written (saved_table (updated t selection (table_on (store.fork old) table))))) finds honest)
 
       pub updates_ok : {T : Type 0} (t : HandleTable) (selection : Selection) (places : Vec Place Global) (x : T)
-          → (store.is_honest new → Writes store old new (updated t selection (table_on (store.fork old) table)) (Ok places)) → All store.is_honest (set stores (k - 1) new)
+          → (store.is_honest new → Writes store old new (updated t selection (table_on (store.fork old) table)) (Ok places)) → HonestAt store.is_honest (set stores (k - 1) new) k
           → UpdatesStore store k (updated t selection) now.files now.stores (set stores (k - 1) new) (Ok x)
       updates_ok t selection places x known honest = record {
-        works = works (λ h. (known h).replaces.honest) honest;
+        honest = was_honest (λ h. (known h).replaces.honest) honest;
         replaced = written_seen t selection (λ h. (known h).replaces.replaced) honest;
         stands = stands_seen t selection (λ h. (known h).stands) honest;
         before = λ told. absurd (cc told);
@@ -370,18 +368,18 @@ module _ {S : Type 0} (store : Ghosts S) (chain : OpenFiles Place) (loads : Bool
       }
 
       pub updates_err : {T : Type 0} (t : HandleTable) (selection : Selection) (fault : UpdateFault)
-          → (store.is_honest new → Writes store old new (updated t selection (table_on (store.fork old) table)) (Err fault)) → All store.is_honest (set stores (k - 1) new)
+          → (store.is_honest new → Writes store old new (updated t selection (table_on (store.fork old) table)) (Err fault)) → HonestAt store.is_honest (set stores (k - 1) new) k
           → UpdatesStore {T = T} store k (updated t selection) now.files now.stores (set stores (k - 1) new) (Err fault)
       updates_err t selection fault known honest = record {
-        works = works (λ h. (known h).replaces.honest) honest;
+        honest = was_honest (λ h. (known h).replaces.honest) honest;
         replaced = tt;
         stands = tt;
         before = λ told. record {
-          honest = same_honest store.fork store.is_honest chain loads stores now view_is (k - 1) within old new value (λ h. (known h).replaces.honest) honest;
-          forks = same_forks store.fork store.is_honest chain loads stores now view_is (k - 1) within old new value
-              (λ h. ((known h).replaces.before (fault_as fault (Device BeforeFirstWrite) told)).same) honest;
-          calm = all_calm store.fork store.is_honest store.history chain loads stores now view_is (k - 1) within old new value
-              (λ h. ((known h).replaces.before (fault_as fault (Device BeforeFirstWrite) told)).calm) honest;
+          honest = was_honest (λ h. (known h).replaces.honest) honest;
+          fork = same_values store.fork store.is_honest chain loads stores now view_is (k - 1) within old new value store.fork []
+              (λ h. ((known h).replaces.before (fault_as fault (Device BeforeFirstWrite) told)).same) k honest;
+          calm = same_values store.fork store.is_honest chain loads stores now view_is (k - 1) within old new value store.history []
+              (λ h. ((known h).replaces.before (fault_as fault (Device BeforeFirstWrite) told)).calm) k honest;
         };
         later = λ told. left_seen store.may_leave t selection (λ h. (known h).replaces.left (fault_as fault (Device Later) told)) honest;
         any_moment = moments t selection (λ h. (known h).replaces.any_moment) honest;

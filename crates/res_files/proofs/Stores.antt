@@ -1,8 +1,9 @@
 -- One of the stores is another: what stays the same of all.
-use Rattle.std.proofs.Common.{◌≡◌, refl, sym, subst, arith, ℕ, zero, suc, ◌-◌, ◌<◌, ◌≤◌, List, [], ◌∷◌, length, set, get_or, slice_get, Some, IfSome, All}
+use Rattle.std.proofs.Common.{◌≡◌, refl, sym, ap, ◌∙◌, subst, arith, ℕ, zero, suc, ◌-◌, ◌<◌, ◌≤◌, List, [], ◌∷◌, length, map, set, get_or, slice_get, unwrap_or, Option, None, Some, option_map, IfSome}
+use Rattle.std.specs.Option.{option_map_or}
+use Rattle.std.proofs.lemmas.Option.{slice_get-map}
 use Rattle.std.specs.List.{AllByRecursion}
 use Rattle.std.proofs.lemmas.List.{length-set}
-use Rattle.std.proofs.lemmas.List.Elements.{All-head, All-tail, All-from_recursion}
 use Rattle.fork_disk.specs.Disk.{Rose}
 use Rattle.fork_reader.specs.declared.place.Place.{Place}
 use Rattle.res_table.specs.declared.chain.OpenFile.{OpenFile}
@@ -10,6 +11,14 @@ use Rattle.res_table.specs.OpenFiles.{OpenFiles}
 use Rattle.res_update.specs.Placed.{AreInside, Holds}
 use Rattle.res_files.specs.FilesOn.{failures_at}
 use Rattle.res_files.specs.Standing.{StandsOn, StandOn}
+
+-- the fork of a store, by the forks of all
+pub fork_or : {S : Type 0} (fork : S → List ℕ) (stores : List S) (at : ℕ) → unwrap_or (slice_get (map fork stores) at) [] ≡ option_map_or fork (slice_get stores at) []
+fork_or {S} fork stores at = ap (λ (o : Option (List ℕ)). unwrap_or o []) (slice_get-map fork stores at) ∙ by (slice_get stores at)
+  where
+    by : (o : Option S) → unwrap_or (option_map fork o) [] ≡ option_map_or fork o []
+    by None = refl
+    by (Some s) = refl
 
 -- what was set is there
 pub get_set : {X : Type 0} (xs : List X) (i : ℕ) (y : X) → i < length xs → slice_get (set xs i y) i ≡ Some y
@@ -31,18 +40,21 @@ new_set P [] i y mine = tt
 new_set P (x ∷ xs) zero y mine = mine
 new_set P (x ∷ xs) (suc i) y mine = new_set P xs i y mine
 
--- all are honest where they were
-all_back : {S : Type 0} (P : S → Type 0) (xs : List S) (i : ℕ) (y d : S) → i < length xs → (P y → P (get_or xs i d)) → AllByRecursion P (set xs i y) → AllByRecursion P xs
-all_back P [] i y d within step all = all
-all_back P (x ∷ xs) zero y d within step all = (step all.0, all.1)
-all_back P (x ∷ xs) (suc i) y d within step all = (all.0, all_back P xs i y d (omega arith) step all.1)
+-- what holds of each store and itself, and of the one and the other, holds at each place
+pub each_store : {S : Type 0} (R : Option S → Option S → Type 0) → ((o : Option S) → R o o) → (xs : List S) (i : ℕ) (y d : S) → R (Some (get_or xs i d)) (Some y) → (at : ℕ) → R (slice_get xs at) (slice_get (set xs i y) at)
+each_store R same [] i y d step at = same (slice_get [] at)
+each_store R same (x ∷ xs) zero y d step zero = step
+each_store R same (x ∷ xs) zero y d step (suc at) = same (slice_get xs at)
+each_store R same (x ∷ xs) (suc i) y d step zero = same (Some x)
+each_store R same (x ∷ xs) (suc i) y d step (suc at) = each_store R same xs i y d step at
 
-by_recursion : {S : Type 0} (P : S → Type 0) (xs : List S) → All P xs → AllByRecursion P xs
-by_recursion P [] all = tt
-by_recursion P (x ∷ xs) all = (All-head P x xs all, by_recursion P xs (All-tail P x xs all))
-
-pub all_same : {S : Type 0} (P : S → Type 0) (xs : List S) (i : ℕ) (y d : S) → i < length xs → (P y → P (get_or xs i d)) → All P (set xs i y) → All P xs
-all_same P xs i y d within same = λ all. All-from_recursion P xs (all_back P xs i y d within same (by_recursion P (set xs i y) all))
+-- what stands at another index
+pub get_other : {X : Type 0} (xs : List X) (i j : ℕ) (y : X) → (j ≡ i → ⊥) → slice_get (set xs i y) j ≡ slice_get xs j
+get_other [] i j y other = refl
+get_other (x ∷ xs) zero zero y other = absurd (other refl)
+get_other (x ∷ xs) zero (suc j) y other = refl
+get_other (x ∷ xs) (suc i) zero y other = refl
+get_other (x ∷ xs) (suc i) (suc j) y other = get_other xs i j y (λ same. other (ap suc same))
 
 -- a count of failures that rose
 pub one_failed : {S : Type 0} (failures : S → ℕ) (xs : List S) (i : ℕ) (y d : S) → i < length xs → Rose (failures (get_or xs i d)) (failures y) → Rose (failures_at failures i xs) (failures_at failures i (set xs i y))

@@ -1,15 +1,16 @@
--- A call of the store on which a row stands, that leaves the fork as it is: what follows of all files.
-use Rattle.std.proofs.Common.{◌≡◌, sym, ap, ◌∙◌, subst, ℕ, ◌<◌, List, length, map, set, get_or, Bool, Result, Ok, Err, MatchResult, All}
-use Rattle.std.proofs.lemmas.List.{length-set, get_or-set_same}
+-- A call of one store: what follows of all stores and files.
+use Rattle.std.proofs.Common.{◌≡◌, refl, sym, ap, ◌∙◌, subst, ℕ, ◌-◌, ◌<◌, List, [], length, map, set, get_or, slice_get, unwrap_or, Bool, Option, Some, option_map, Result, Ok, Err, MatchResult, IfSome, IsTrue}
+use Rattle.std.specs.Option.{option_map_or}
+use Rattle.std.proofs.lemmas.Option.{slice_get-map}
 use Rattle.std.proofs.Math.Seq.{map-set_same}
 use Rattle.fork_disk.specs.Disk.{Rose}
 use Rattle.fork_reader.specs.declared.place.Place.{Place}
 use Rattle.res_table.specs.OpenFiles.{OpenFiles}
-use Rattle.res_calls.specs.Answered.{AnswersFor, blank_files}
-use Rattle.res_files.specs.FilesOn.{FilesOn, NoneFailed, failures_at}
-use Rattle.res_files.specs.Standing.{files_on, StandOn}
-use Rattle.res_files.proofs.Blank.{same_blank}
-use Rattle.res_files.proofs.Stores.{all_same, one_failed, stand_set}
+use Rattle.res_calls.specs.Answered.{AnswersFor, known_files}
+use Rattle.res_files.specs.FilesOn.{FilesOn, HonestAt, NoneFailed, failures_at}
+use Rattle.res_files.specs.Standing.{fork_at, files_on, StandOn}
+use Rattle.res_files.proofs.Known.{same_known}
+use Rattle.res_files.proofs.Stores.{each_store, get_set, one_failed, stand_set}
 use Rattle.res_files.proofs.On.{seen}
 
 pub match_then : {A E : Type 0} (r : Result A E) (P Q P' Q' : Type 0) → MatchResult r (λ _. P) (λ _. Q) → (P → P') → (Q → Q') → MatchResult r (λ _. P') (λ _. Q')
@@ -21,24 +22,33 @@ module _ {S : Type 0} (fork : S → List ℕ) (is_honest : S → Type 0) (chain 
   stores_are : now.stores ≡ stores
   stores_are = ap (λ (v : FilesOn S). v.stores) (sym view_is)
 
-  -- the store is honest behind the call where all are
-  pub mine : All is_honest (set stores at new) → is_honest new
-  mine honest = subst is_honest (get_or-set_same stores at new old within) (honest at old (subst (λ (n : ℕ). at < n) (sym (length-set stores at new)) within))
+  -- the store is honest behind the call
+  pub mine : IfSome (slice_get (set stores at new) at) is_honest → is_honest new
+  mine honest = subst (λ (found : Option S). IfSome found is_honest) (get_set stores at new within) honest
 
-  -- the forks are the same
-  pub same_forks : (is_honest new → fork new ≡ fork old) → All is_honest (set stores at new) → map fork (set stores at new) ≡ map fork now.stores
-  same_forks same honest = map-set_same fork stores at new old (same (mine honest) ∙ ap fork value) ∙ ap (map fork) (sym stores_are)
+  -- at each place stands the same store, or this one
+  each : (R : Option S → Option S → Type 0) → ((o : Option S) → R o o) → R (Some old) (Some new) → (i : ℕ) → R (slice_get now.stores i) (slice_get (set stores at new) i)
+  each R same step i = subst (λ (xs : List S). R (slice_get xs i) (slice_get (set stores at new) i)) (sym stores_are)
+      (each_store R same stores at new old (subst (λ (s : S). R (Some s) (Some new)) value step) i)
 
-  -- the files are the same but for the bytes of rows, and where all stores are honest, these too
-  pub files_answer : (is_honest new → fork new ≡ fork old) → AnswersFor (All is_honest (set stores at new)) now.files (files_on (map fork (set stores at new)) chain)
-  files_answer same = (
-    same_blank (map fork (set stores at new)) (map fork stores) chain ∙ ap (λ (v : FilesOn S). blank_files v.files) view_is,
-    λ honest. ap (λ (forks : List (List ℕ)). files_on forks chain) (map-set_same fork stores at new old (same (mine honest) ∙ ap fork value)) ∙ ap (λ (v : FilesOn S). v.files) view_is,
-  )
+  -- what is the same of this one where it is honest is so of each that is
+  pub same_values : {X : Type 0} (f : S → X) (d : X) → (is_honest new → f new ≡ f old) → (k : ℕ) → HonestAt is_honest (set stores at new) k
+      → option_map_or f (slice_get (set stores at new) (k - 1)) d ≡ option_map_or f (slice_get now.stores (k - 1)) d
+  same_values f d same k = each (λ was is. IfSome is is_honest → option_map_or f is d ≡ option_map_or f was d) (λ o honest. refl) same (k - 1)
 
-  -- all were honest where all are
-  pub same_honest : (is_honest new → is_honest old) → All is_honest (set stores at new) → All is_honest now.stores
-  same_honest same honest = subst (λ (xs : List S). All is_honest xs) (sym stores_are) (all_same is_honest stores at new old within (λ h. subst is_honest value (same h)) honest)
+  -- each was honest that is
+  pub same_honest : (is_honest new → is_honest old) → (k : ℕ) → HonestAt is_honest (set stores at new) k → HonestAt is_honest now.stores k
+  same_honest same k = each (λ was is. IfSome is is_honest → IfSome was is_honest) (λ o honest. honest) same (k - 1)
+
+  -- the files are the same but for the bytes of rows, and of those on an honest store, these too
+  pub files_answer : (is_honest new → fork new ≡ fork old) → AnswersFor (HonestAt is_honest (set stores at new)) now.files (files_on (map fork (set stores at new)) chain)
+  files_answer same known are =
+      let default = λ (o : Option (List ℕ)). unwrap_or o [] in
+      let here : (k : ℕ) → IsTrue (known k) → fork_at (map fork (set stores at new)) k ≡ fork_at (map fork stores) k =
+      λ k is. ap default (slice_get-map fork (set stores at new) (k - 1))
+      ∙ each_store (λ was is. IfSome is is_honest → default (option_map fork is) ≡ default (option_map fork was)) (λ o honest. refl) stores at new old (λ honest. same honest ∙ ap fork value) (k - 1) (are k is)
+      ∙ sym (ap default (slice_get-map fork stores (k - 1))) in
+      same_known known (map fork (set stores at new)) (map fork stores) here chain ∙ ap (λ (v : FilesOn S). known_files known v.files) view_is
 
   -- the files stand still
   pub stand_still : (is_ready : S → Type 0) → (is_honest new → is_honest old) → (is_honest new → fork new ≡ fork old) → (is_honest new → is_ready new)

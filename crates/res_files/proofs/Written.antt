@@ -1,5 +1,5 @@
 -- One fork is written anew: the other files stay as they are, and stand as they stood.
-use Rattle.std.proofs.Common.{◌≡◌, refl, sym, ap, ◌∙◌, subst, arith, ℕ, zero, suc, ◌-◌, ◌≤◌, List, [], ◌∷◌, map, set, slice_get, unwrap_or, Bool, true, false, cond, Option, Some, IfSome, find}
+use Rattle.std.proofs.Common.{◌≡◌, refl, sym, ap, ◌∙◌, subst, arith, ℕ, ◌-◌, ◌≤◌, List, [], ◌∷◌, map, set, slice_get, unwrap_or, Bool, true, false, cond, Option, Some, IfSome, find}
 use Rattle.std.specs.Prelude.{◌||◌, if◌then◌else◌}
 use Rattle.std.specs.List.{list_any, AllByRecursion}
 use Rattle.std.specs.Option.{option_map}
@@ -13,15 +13,7 @@ use Rattle.res_table.specs.OpenFiles.{is_numbered, table_in, with_rows, changed_
 use Rattle.res_calls.specs.Changes.{FileRow}
 use Rattle.res_update.specs.Placed.{rows_on, Holds}
 use Rattle.res_files.specs.Standing.{fork_at, file_on, AreSmall, StandsOn, AreApart}
-use Rattle.res_files.proofs.Stores.{new_set}
-
--- what stands at another index
-get_other : {X : Type 0} (xs : List X) (i j : ℕ) (y : X) → (j ≡ i → ⊥) → slice_get (set xs i y) j ≡ slice_get xs j
-get_other [] i j y other = refl
-get_other (x ∷ xs) zero zero y other = absurd (other refl)
-get_other (x ∷ xs) zero (suc j) y other = refl
-get_other (x ∷ xs) (suc i) zero y other = refl
-get_other (x ∷ xs) (suc i) (suc j) y other = get_other xs i j y (λ same. other (ap suc same))
+use Rattle.res_files.proofs.Stores.{get_other, new_set}
 
 -- another number has another index
 other_index : (k n : ℕ) → 1 ≤ k → 1 ≤ n → (n ≡ k → ⊥) → n - 1 ≡ k - 1 → ⊥

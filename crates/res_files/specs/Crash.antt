@@ -6,6 +6,6 @@ use Rattle.std.specs.Option.{option_map_or}
 abbrev pub history_of : {S Event : Type 0} → (S → List Event) → ℕ → List S → List Event
 history_of history number stores = option_map_or history (slice_get stores (number - 1)) []
 
--- nothing happened to the stores of other files
-abbrev pub OthersAreCalm : {S Event : Type 0} → (S → List Event) → ℕ → List S → List S → Type 0
-OthersAreCalm history number old new = (other : ℕ) → 1 ≤ other → other ≢ number → history_of history other new ≡ history_of history other old
+-- the stores of other files are the same
+abbrev pub OthersStay : {S : Type 0} → ℕ → List S → List S → Type 0
+OthersStay number old new = (other : ℕ) → 1 ≤ other → other ≢ number → slice_get new (other - 1) ≡ slice_get old (other - 1)

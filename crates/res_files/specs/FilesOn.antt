@@ -1,5 +1,5 @@
 -- The open files with the bytes of their rows, and the stores of all files.
-use Rattle.std.specs.Prelude.{◌≡◌, ℕ, ◌-◌, ◌<◌, Bool, List, [], length, map, set, slice_get}
+use Rattle.std.specs.Prelude.{◌≡◌, ℕ, ◌-◌, ◌<◌, Bool, List, [], length, map, slice_get, IfSome}
 use Rattle.std.specs.Option.{option_map_or}
 use Rattle.fork_disk.specs.Disk.{Rose}
 use Rattle.fork_reader.specs.declared.place.Place.{Place}
@@ -15,10 +15,6 @@ pub record FilesOn (S : Type 0) : Type 0 where
 -- the fork of the file of a number, where this gives that of a store
 abbrev pub fork_of : {S : Type 0} → (S → List ℕ) → ℕ → List S → List ℕ
 fork_of fork number stores = option_map_or fork (slice_get stores (number - 1)) []
-
--- the forks of stores, with another one of the file of a number
-abbrev pub forks_with : {S : Type 0} → (S → List ℕ) → ℕ → List ℕ → List S → List (List ℕ)
-forks_with fork number new stores = set (map fork stores) (number - 1) new
 
 -- no store has failed, where this counts a store's failures
 abbrev pub NoneFailed : {S : Type 0} → (S → ℕ) → List S → List S → Type 0
@@ -36,6 +32,14 @@ SomeFailed failures before now = (at : ℕ) × (at < length before) × Rose (fai
 abbrev pub FailedAt : {S : Type 0} → (S → ℕ) → ℕ → List S → List S → Type 0
 FailedAt failures number before now = (number - 1 < length before)
     × Rose (failures_at failures (number - 1) before) (failures_at failures (number - 1) now)
+
+-- the device of the store of the file of a number is honest, where there is that file
+abbrev pub HonestAt : {S : Type 0} → (S → Type 0) → List S → ℕ → Type 0
+HonestAt is_honest stores number = IfSome (slice_get stores (number - 1)) is_honest
+
+-- each device that is honest was so before
+abbrev pub WereHonest : {S : Type 0} → (S → Type 0) → List S → List S → Type 0
+WereHonest is_honest old new = (k : ℕ) → HonestAt is_honest new k → HonestAt is_honest old k
 
 -- The row of an open file is this, but for its bytes, and its place has as many as these.
 pub record Shows (row : Row Place) (shown : FileRow) : Type 0 where

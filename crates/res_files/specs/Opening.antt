@@ -24,6 +24,6 @@ code_of (Fork (fork.BadMap condition)) = Ok MapReadErr
 code_of (Fork fork.HostFull) = Err (record {})
 code_of Device = Ok IoErr
 
--- an opening may give this, and where the devices are honest, it is what the disk has
+-- an opening may give this, and where the device is honest, it is what the disk has
 abbrev pub MayRead : Type 0 → List ℕ → Result FileTable OsErr → Type 0
 MayRead honest disk read = IsOpening read × (honest → Reads disk read)

@@ -2,12 +2,16 @@
 
 ghost use Rattle.std.specs.Prelude.{◌≡◌, ℕ, ◌≤◌, length, true, IsTrue};
 ghost use Rattle.res_table.specs.OpenFiles.{no_files, is_open};
+ghost use Rattle.res_files.specs.Standing.{most_files};
 
 use fork_disk::store::ForkStore;
 use fork_reader::place::Place;
 use res_table::chain::Chain;
 use std::alloc::Global;
 use std::marker::Model;
+
+/// A run has at most this many resource files, open or not.
+pub const MOST_FILES: usize = 8;
 
 /// The resource files of a run: a store for each, and the open ones. Contracts see the open files with the bytes that their
 /// resources have on the disk, whether calls load what they get, and the stores.
@@ -32,9 +36,9 @@ impl<S: ForkStore> Model for ResourceFiles<S> {
 }
 
 impl<S: ForkStore> ResourceFiles<S> {
-    /// The files of these stores, of which none is open: at most 8. Calls load what they get.
+    /// The files of these stores, of which none is open: at most `MOST_FILES`. Calls load what they get.
     pub fn new(alloc: Global, stores: Vec<S>) -> ResourceFiles<S>
-        requires { length stores.items ≤ 8 }
+        requires { length stores.items ≤ most_files }
         ensures { result ≡ record { files = no_files; loads = true; stores = stores.items } }
     {
         ResourceFiles {
@@ -59,10 +63,10 @@ impl<S: ForkStore> ResourceFiles<S> {
         stores
     }
 
-    /// How many files there are, open or not: at most 8. The number of an open one is at most that.
+    /// How many files there are, open or not: at most `MOST_FILES`. The number of an open one is at most that.
     pub fn count(&self) -> usize
         ensures count { result ≡ length self.now.stores }
-        ensures few { length self.now.stores ≤ 8 }
+        ensures few { length self.now.stores ≤ most_files }
         ensures numbers { (k : ℕ) → IsTrue (is_open k self.now.files) → k ≤ length self.now.stores }
     {
         self.stores.len()

@@ -13,4 +13,4 @@ mod reading;
 mod tables;
 mod updating;
 
-pub use files::ResourceFiles;
+pub use files::{MOST_FILES, ResourceFiles};

@@ -1,9 +1,10 @@
 //! A resource file is opened.
 
-ghost use Rattle.std.specs.Prelude.{◌≡◌, ◌≤◌, ◌⊎◌, length, All, IsFalse, IfOk, IfErr, OnOk, OnErr, Ok, Err};
+ghost use Rattle.std.specs.Prelude.{◌≡◌, ◌≤◌, ◌⊎◌, length, IsFalse, IfOk, IfErr, OnOk, OnErr, Ok, Err};
 ghost use Rattle.res_table.specs.OpenFiles.{is_open, file_opened};
 ghost use Rattle.res_calls.specs.Changes.{FileTable};
-ghost use Rattle.res_files.specs.FilesOn.{fork_of, FailedAt, NoneFailed};
+ghost use Rattle.res_files.specs.FilesOn.{fork_of, FailedAt, HonestAt, NoneFailed};
+ghost use Rattle.res_files.specs.Crash.{OthersStay};
 ghost use Rattle.res_files.specs.Opening.{MayRead};
 ghost use Rattle.res_files.specs.Stores.{OpensStore};
 
@@ -20,15 +21,16 @@ impl<S: ForkStore> ResourceFiles<S> {
         requires there { (1 ≤ number) × (number ≤ length self.old.stores) }
         requires closed { IsFalse (is_open number self.old.files) }
         ensures opened { IfOk result (λ done. OnOk done ((table : FileTable)
-            × MayRead (All S.is_honest self.new.stores) (fork_of S.fork number self.old.stores) (Ok table)
+            × MayRead (HonestAt S.is_honest self.new.stores number) (fork_of S.fork number self.old.stores) (Ok table)
             × (self.new.files ≡ file_opened number table self.old.files))) }
         ensures refused { IfOk result (λ done. IfErr done (λ code.
-            (MayRead (All S.is_honest self.new.stores) (fork_of S.fork number self.old.stores) (Err code) × NoneFailed S.failures self.old.stores self.new.stores)
+            (MayRead (HonestAt S.is_honest self.new.stores number) (fork_of S.fork number self.old.stores) (Err code) × NoneFailed S.failures self.old.stores self.new.stores)
             ⊎ ((code ≡ OsErr.IoErr) × FailedAt S.failures number self.old.stores self.new.stores))) }
         ensures works { IfOk result (λ done. OnOk done (NoneFailed S.failures self.old.stores self.new.stores)) }
         ensures same { IfOk result (λ done. OnErr done (self.new.files ≡ self.old.files)) }
         ensures full { OnErr result (self.new.files ≡ self.old.files) }
-        ensures opens { All S.is_honest self.new.stores → OpensStore S.ForkStore number self.old.stores self.new.stores result }
+        ensures opens { HonestAt S.is_honest self.new.stores number → OpensStore S.ForkStore number self.old.stores self.new.stores result }
+        ensures others { OthersStay number self.old.stores self.new.stores }
         ensures loads { self.new.loads ≡ self.old.loads }
         ensures count { length self.new.stores ≡ length self.old.stores }
     {

@@ -8,22 +8,12 @@ ghost use Rattle.res_update.specs.Drafts.{is_selected};
 ghost use Rattle.res_files.specs.Standing.{placed_rows_of};
 ghost use Rattle.res_files.specs.Updating.{row_placed, rows_placed};
 
-use bitflags::Flags;
 use fork_reader::place::Place;
 use mac_base::resource::ResAttrs;
+use res_table::attributes::unmarked;
 use res_table::chain::{Chain, RowPlace};
 use res_table::row::Row;
 use res_update::selection::Selection;
-
-/// The bits of all attributes but resChanged.
-const UNMARKED_BITS: u8 = 253;
-
-/// The attributes without resChanged.
-fn unmarked(attributes: ResAttrs) -> ResAttrs
-    ensures { result ≡ unmarked attributes }
-{
-    ResAttrs::from_bits_retain(attributes.bits() & UNMARKED_BITS)
-}
 
 /// The attributes of the row at an index once the file is written: one that was selected is no longer changed.
 fn saved_attributes(selection: Selection, index: usize, row: &Row<Place>) -> ResAttrs

@@ -1,10 +1,10 @@
 //! What is read from the disks.
 
-ghost use Rattle.std.specs.Prelude.{◌≡◌, length, All, IfSome, MatchResult};
+ghost use Rattle.std.specs.Prelude.{◌≡◌, length, IfSome, MatchResult, OnOk};
 ghost use Rattle.res_table.specs.OpenFiles.{row_at};
 ghost use Rattle.res_calls.specs.Answered.{AnswersFor};
-ghost use Rattle.res_files.specs.FilesOn.{FailedAt, NoneFailed};
-ghost use Rattle.res_files.specs.Stores.{ReadsRow};
+ghost use Rattle.res_files.specs.FilesOn.{FailedAt, HonestAt, NoneFailed};
+ghost use Rattle.res_files.specs.Stores.{KeepsStores};
 
 use crate::files::ResourceFiles;
 use fork_disk::disk::DiskFault;
@@ -16,9 +16,10 @@ impl<S: ForkStore> ResourceFiles<S> {
     /// bytes.
     pub fn read(&mut self, place: RowPlace, buffer: &mut [u8]) -> Result<(), DiskFault>
         requires long { IfSome (row_at place self.old.files) (λ r. length buffer.old ≡ length r.resource.datum) }
-        ensures reads { All S.is_honest self.new.stores → ReadsRow S.ForkStore self.old.stores self.new.stores (row_at place self.old.files) buffer.new result }
+        ensures reads { HonestAt S.is_honest self.new.stores place.file → OnOk result (IfSome (row_at place self.old.files) (λ r. buffer.new ≡ r.resource.datum)) }
+        ensures keeps { KeepsStores S.ForkStore self.old.stores self.new.stores }
         ensures length { length buffer.new ≡ length buffer.old }
-        ensures files { AnswersFor (All S.is_honest self.new.stores) self.old.files self.new.files }
+        ensures files { AnswersFor (HonestAt S.is_honest self.new.stores) self.old.files self.new.files }
         ensures loads { self.new.loads ≡ self.old.loads }
         ensures count { length self.new.stores ≡ length self.old.stores }
         ensures cause { MatchResult result (λ _. NoneFailed S.failures self.old.stores self.new.stores)

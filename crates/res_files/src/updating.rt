@@ -1,12 +1,13 @@
 //! A resource file is written.
 
-ghost use Rattle.std.specs.Prelude.{◌≡◌, ◌↔◌, length, All, IsTrue, IsFalse, OnOk, IfSome, IsErrOf};
+ghost use Rattle.std.specs.Prelude.{◌≡◌, ◌↔◌, length, IsTrue, IsFalse, OnOk, IfSome, IsErrOf};
 ghost use Rattle.res_table.specs.OpenFiles.{is_open, rows_changed, file_closed, table_of};
 ghost use Rattle.res_calls.specs.Answered.{AnswersFor};
 ghost use Rattle.res_calls.specs.Changes.{rows_of};
 ghost use Rattle.res_calls.specs.Updates.{fits_fork};
 ghost use Rattle.res_update.specs.Selected.{updated, reads_lent};
-ghost use Rattle.res_files.specs.FilesOn.{FailedAt, NoneFailed};
+ghost use Rattle.res_files.specs.FilesOn.{FailedAt, HonestAt, NoneFailed};
+ghost use Rattle.res_files.specs.Crash.{OthersStay};
 ghost use Rattle.res_files.specs.Stores.{UpdatesStore};
 
 use crate::files::ResourceFiles;
@@ -47,18 +48,19 @@ impl<S: ForkStore> ResourceFiles<S> {
         requires open { IsTrue (is_open number self.old.files) }
         requires unlent { IsFalse (reads_lent (C.table contents.now) selection (rows_of number self.old.files)) }
         ensures rows { OnOk result (IfSome (table_of number self.old.files) (λ table.
-            AnswersFor (All S.is_honest self.new.stores)
+            AnswersFor (HonestAt S.is_honest self.new.stores)
             (rows_changed number (λ _. (updated (C.table contents.now) selection table).rows) self.old.files) self.new.files)) }
         ensures too_big { IfSome (table_of number self.old.files) (λ table.
             IsErrOf result UpdateFault.TooBig ↔ IsFalse (fits_fork (updated (C.table contents.now) selection table))) }
         ensures untouched { IsErrOf result UpdateFault.TooBig → self.new ≡ self.old }
         ensures unasked { IsErrOf result UpdateFault.HostFull → self.new ≡ self.old }
         ensures before { IsErrOf result (UpdateFault.Device ReplaceFault.BeforeFirstWrite)
-            → AnswersFor (All S.is_honest self.new.stores) self.old.files self.new.files }
+            → AnswersFor (HonestAt S.is_honest self.new.stores) self.old.files self.new.files }
         ensures closed { IsErrOf result (UpdateFault.Device ReplaceFault.Later)
             → self.new.files ≡ file_closed number self.old.files }
-        ensures updates { All S.is_honest self.new.stores → UpdatesStore S.ForkStore number (updated (C.table contents.now) selection)
-            self.old.files self.old.stores self.new.stores result }
+        ensures updates { HonestAt S.is_honest self.new.stores number → UpdatesStore S.ForkStore number
+            (updated (C.table contents.now) selection) self.old.files self.old.stores self.new.stores result }
+        ensures others { OthersStay number self.old.stores self.new.stores }
         ensures loads { self.new.loads ≡ self.old.loads }
         ensures count { length self.new.stores ≡ length self.old.stores }
         ensures none { OnOk result (NoneFailed S.failures self.old.stores self.new.stores) }

@@ -216,7 +216,7 @@ module _ (loans : Loans) where
     wanted-inner (call.CloseResFile named) inner wanted is = absurd (cc wanted)
     wanted-inner rc' inner wanted is = (p, r, wanted, stands, is)
 
-    gets-done : (device : Device) (asks : List Ask) (end : ResourceEnd) (disks : DiskRelations) (o : Option MemoryCall) → old.shape ≡ s → placing old.heap.table (loads_bytes old rc) r ≡ o → GetsRow Memory disks device old rc asks end p r o → MadeOf s (IsActOf old rc) old.heap end.state.heap
+    gets-done : (device : Device) (asks : List Ask) (end : ResourceEnd) (disks : ℕ → DiskRelations) (o : Option MemoryCall) → old.shape ≡ s → placing old.heap.table (loads_bytes old rc) r ≡ o → GetsRow Memory disks device old rc asks end p r o → MadeOf s (IsActOf old rc) old.heap end.state.heap
     gets-done device asks end disks None shape is gets = none-done s (IsActOf old rc) old.heap end.state.heap (ap (λ (e : ResourceEnd). e.state.heap) gets.1)
     gets-done device asks end disks (Some inner) shape is gets =
         let step : Memory s old.heap inner asks gets.0 gets.1 = subst (λ s. Memory s old.heap inner asks gets.0 gets.1) shape gets.2 in
@@ -286,7 +286,7 @@ module _ (loans : Loans) where
     gets-wanted (call.OpenResFile k) p is = absurd (no-opening (is_open k old.files) k p is)
     gets-wanted rc' p is = gotten (row_wanted old rc') p is
 
-    works-done : (disks : DiskRelations) (device : Device) (asks : List Ask) (end : ResourceEnd) (w : Work) → work_of old rc ≡ w → Works Memory disks device old rc asks end w → Made end.state.heap
+    works-done : (disks : ℕ → DiskRelations) (device : Device) (asks : List Ask) (end : ResourceEnd) (w : Work) → work_of old rc ≡ w → Works Memory disks device old rc asks end w → Made end.state.heap
     works-done disks device asks end (Gets p) is works = by_row (row_at p old.files) refl works
       where
         by_row : (o : Option FileRow) → row_at p old.files ≡ o → GetsPlace Memory disks device old rc asks end p o → MadeOf old.shape (IsActOf old rc) old.heap end.state.heap
@@ -296,10 +296,10 @@ module _ (loans : Loans) where
     works-done disks device asks end (Opens k) is works = subst (λ (e : ResourceEnd). Made e.state.heap) (sym works.3) (opened-done k works.1)
     works-done disks device asks end Quiet is works = subst (λ (e : ResourceEnd). Made e.state.heap) (sym works.1) (quiet-done rc)
 
-    steps-done : (disks : DiskRelations) (device : Device) (asks : List Ask) (end : ResourceEnd) (o : Option OsErr) → StepsUnless Memory disks o device old rc asks end → Made end.state.heap
+    steps-done : (disks : ℕ → DiskRelations) (device : Device) (asks : List Ask) (end : ResourceEnd) (o : Option OsErr) → StepsUnless Memory disks o device old rc asks end → Made end.state.heap
     steps-done disks device asks end (Some code) step = same-done end.state.heap (ap (λ (e : ResourceEnd). e.state.heap) step.1)
     steps-done disks device asks end None step = works-done disks device asks end (work_of old rc) refl step
 
   -- what a call of the Resource Manager does to the heap is a run of acts
-  pub made-of-acts : (disks : DiskRelations) (device : Device) (old : ResState) (rc : ResourceCall) (asks : List Ask) (end : ResourceEnd) → LoansAreFixed old.heap → ResourceStepBy Memory disks device old rc asks end → MadeOf old.shape (IsActOf old rc) old.heap end.state.heap
+  pub made-of-acts : (disks : ℕ → DiskRelations) (device : Device) (old : ResState) (rc : ResourceCall) (asks : List Ask) (end : ResourceEnd) → LoansAreFixed old.heap → ResourceStepBy Memory disks device old rc asks end → MadeOf old.shape (IsActOf old rc) old.heap end.state.heap
   made-of-acts disks device old rc asks end fixed step = steps-done old rc fixed disks device asks end (resource_refusal old rc) step

@@ -123,7 +123,7 @@ module _ (MayLeave : LeaveRelation) (old : Before) where
 
   -- it does what it may, and goes so
   abbrev pub EndsSo : Call → Ended → Type 0
-  EndsSo call e = ToolDoes ⊤ old.tools call e.asks e.outcome e.tools × GoesSo call e
+  EndsSo call e = ToolDoes (λ k. ⊤) old.tools call e.asks e.outcome e.tools × GoesSo call e
 
   same-end : (a b : Ended) → a.asks ≡ b.asks → a.outcome ≡ b.outcome → a.tools.resources ≡ b.tools.resources → a.tools.loans ≡ b.tools.loans → a.left ≡ b.left → a ≡ b
   same-end a b asks outcome resources loans left =

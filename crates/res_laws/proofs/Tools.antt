@@ -1,5 +1,5 @@
 -- What is promised of runs of calls of both managers and on lent blocks.
-use Rattle.std.proofs.Common.{◌≡◌, List, [], ◌∷◌, ◌++◌, refl, ap, sym, subst, ◌∙◌}
+use Rattle.std.proofs.Common.{◌≡◌, ℕ, List, [], ◌∷◌, ◌++◌, refl, ap, sym, subst, ◌∙◌}
 use Rattle.mac_base.specs.HeadKind.{Shape}
 use Rattle.mac_base.specs.Heap.{Heap}
 use Rattle.mac_base.specs.ZoneSizes.{shape_of}
@@ -19,6 +19,7 @@ use Rattle.heap_laws.proofs.Loaned.{LoansHeld}
 use Rattle.heap_laws.proofs.Standing.{Standing, run-first, run-later, stand-new, stand-run}
 use Rattle.mac_base.specs.Loans.{LoansAreFixed}
 use Rattle.res_calls.specs.Answered.{answered_disks}
+use Rattle.res_calls.proofs.Answering.{answered_before, none, none_honest}
 use Rattle.res_calls.specs.Device.{Anything}
 use Rattle.res_laws.specs.Tools.{AreActsOf, AreMadeOf, Called, IsMadeOf, IsToolRun, ToolDoes, Tools, ToolsShow, UpdateReadsBack, all_acts, moment_of, tools_after}
 use Rattle.res_laws.proofs.Acts.{made-of-acts}
@@ -36,7 +37,7 @@ none-changed old new resources loans = ap (λ (st : ResState). moment st.heap ol
 called : Call → List Ask → Outcome → Tools → Called
 called call asks outcome new = record { call = call; asks = asks; outcome = outcome; tools = new }
 
-module _ (honest : Type 0) where
+module _ (honest : ℕ → Type 0) where
   -- a call that is one act
   one-act : (old : Tools) (call : Call) (asks : List Ask) (outcome : Outcome) (new : Tools) (act : Act) → Does old.resources.shape act (moment_of old) (moment_of new) → AreActsOf honest old call asks outcome (act ∷ [])
       → (acts : List Done) × IsMadeOf honest old (called call asks outcome new) acts
@@ -56,15 +57,17 @@ module _ (honest : Type 0) where
   call-acts old (Resource rc) asks outcome new held does =
       let step = does.0 in
       let before : Heap = step.before.heap in
-      let same_before : before ≡ old.resources.heap = ap (λ (s : ResState). s.heap) step.was.0 in
-      let same_after : step.after.heap ≡ new.resources.heap = ap (λ (s : ResState). s.heap) step.becomes.0 in
-      let same_shape : step.before.shape ≡ old.resources.shape = ap (λ (s : ResState). s.shape) step.was.0 in
+      let was = answered_before honest rc old.resources step.before step.was in
+      let same = was none (none_honest honest) in
+      let same_before : before ≡ old.resources.heap = ap (λ (s : ResState). s.heap) same in
+      let same_after : step.after.heap ≡ new.resources.heap = ap (λ (s : ResState). s.heap) (step.becomes none (none_honest honest)) in
+      let same_shape : step.before.shape ≡ old.resources.shape = ap (λ (s : ResState). s.shape) same in
       let made = made-of-acts old.loans (answered_disks honest Anything) step.device step.before rc asks (record { outcome = outcome; state = step.after }) (subst LoansAreFixed (sym same_before) held.fixed) step.step in (
         made.run,
         record {
           run = subst (λ (s : Shape). AreDone s (moment_of old) made.run) same_shape (subst (λ (h : Heap). AreDone step.before.shape (moment h old.loans) made.run) same_before made.is);
           ends = subst (λ (h : Heap). moment_after (moment h old.loans) made.run ≡ moment step.after.heap old.loans) same_before made.ends ∙ ap (λ (h : Heap). moment h old.loans) same_after ∙ ap (moment new.resources.heap) (sym does.1);
-          own = (step.before, step.was, made.acts);
+          own = (step.before, was, made.acts);
         },
       )
   call-acts old MemError asks outcome new held does = no-act old MemError asks outcome new does.0 does.1 refl
@@ -124,12 +127,12 @@ module _ (honest : Type 0) where
   call-made start (c ∷ first) later called is = call-made c.tools first later called is.1
 
   -- so what it updated reads back
-  update-reads : honest → (old : Tools) (call : Call) (asks : List Ask) (outcome : Outcome) (new : Tools) → ToolDoes honest old call asks outcome new → UpdateReadsBack old call outcome new
-  update-reads is old (Resource rc) asks outcome new does = does.3 is
-  update-reads is old call asks outcome new does = tt
+  update-reads : (old : Tools) (call : Call) (asks : List Ask) (outcome : Outcome) (new : Tools) → ToolDoes honest old call asks outcome new → UpdateReadsBack honest old call outcome new
+  update-reads old (Resource rc) asks outcome new does = does.3
+  update-reads old call asks outcome new does = tt
 
 -- from a new zone on
-pub tools-show : (honest : Type 0) → ToolsShow honest
+pub tools-show : (honest : ℕ → Type 0) → ToolsShow honest
 tools-show honest z start calls possible shape zone none is =
     let s = start.resources.shape in
     let stands : (put : LastPut) (set : LastSet) → Standing s (moment_of start) put set = λ put set. subst (λ s. Standing s (moment_of start) put set) (sym shape) (subst (λ at. Standing (shape_of z) at put set) (sym zone) (stand-new z put set possible)) in
@@ -138,6 +141,6 @@ tools-show honest z start calls possible shape zone none is =
       acts = all.acts;
       own = all.made;
       promised = λ first part later put set same. part-promised honest s (moment_of start) first part later put set (stands put set) (subst (AreDone s (moment_of start)) same all.run);
-      forks = λ true_devices first later called same. update-reads honest true_devices (tools_after start first) called.call called.asks called.outcome called.tools (call-made honest start first later called (subst (IsToolRun honest start) same is));
-      rows = λ true_devices first later same. run-reads honest true_devices start first later none (subst (IsToolRun honest start) same is);
+      forks = λ first later called same. update-reads honest (tools_after start first) called.call called.asks called.outcome called.tools (call-made honest start first later called (subst (IsToolRun honest start) same is));
+      rows = λ first later same. run-reads honest start first later none (subst (IsToolRun honest start) same is);
     }

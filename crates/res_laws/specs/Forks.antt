@@ -19,6 +19,6 @@ IsOfRow r q = (q.kind ≡ r.resource.kind) × (q.id ≡ r.resource.id) × (q.nam
 abbrev pub HasBytes : Disk → FileRow → Type 0
 HasBytes fork r = ((r.resource.datum ≡ []) × (is_changed r ≡ true)) ⊎ ((table : Table) × StandsFor fork table × Any (IsOfRow r) table.rows)
 
--- all rows of the open files have such bytes
-abbrev pub ReadOffForks : ResState → Type 0
-ReadOffForks state = (p : RowPlace) (r : FileRow) → row_at p state.files ≡ Some r → HasBytes (disk_of p.file state) r
+-- all rows of each open file whose device is honest have such bytes
+abbrev pub ReadOffForks : (ℕ → Type 0) → ResState → Type 0
+ReadOffForks honest state = (p : RowPlace) (r : FileRow) → honest p.file → row_at p state.files ≡ Some r → HasBytes (disk_of p.file state) r

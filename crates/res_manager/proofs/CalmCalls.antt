@@ -22,7 +22,7 @@ use Rattle.res_files.specs.FilesOn.{FilesOn}
 use Rattle.res_manager.specs.Ends.{copies, is_calm, is_quiet}
 use Rattle.res_manager.specs.Steps.{state_of, takes_memory}
 use Rattle.res_manager.specs.Tests.{early_tests, late_tests}
-use Rattle.res_manager.proofs.Blank.{itself}
+use Rattle.res_calls.proofs.Answering.{itself}
 use Rattle.res_manager.proofs.Refusals.{passed-early}
 
 -- work that writes no file and opens none
@@ -75,9 +75,9 @@ module _ {S : Type 0} (store : Ghosts S) (stores : List S) (work : Work) (idle :
   calm_settles (Err code) = tt
 
 -- and saves none
-pub calm_reads : (old new : ResState) (c : ResourceCall) → IsIdle (work_of old c) → (outcome : Outcome) → ReadsBack old c outcome new
-calm_reads old new c idle (Ok done) = subst (λ (o : Option Update). IsSaved o new) (sym idle.no_update) tt
-calm_reads old new c idle (Err code) = tt
+pub calm_reads : (honest : ℕ → Type 0) (old new : ResState) (c : ResourceCall) → IsIdle (work_of old c) → (outcome : Outcome) → ReadsBack honest old c outcome new
+calm_reads honest old new c idle (Ok done) = subst (λ (o : Option Update). IsSaved honest o new) (sym idle.no_update) tt
+calm_reads honest old new c idle (Err code) = tt
 
 -- what holds of each thing given
 pub if_any : {T E : Type 0} (P : T → Type 0) (result : Result T E) → ((x : T) → P x) → IfOk result P
@@ -91,7 +91,7 @@ copies_take state (call.GetResInfo h) is = refl
 copies_take state _ is = absurd (cc is)
 
 -- an error behind which zone and files are as before
-pub err_same : {S T E : Type 0} (honest : Type 0) (fork : S → List ℕ) (old new : ZoneState) (on after : FilesOn S) (result : Result T E) → OnErr result (new ≡ old) → OnErr result (after ≡ on)
+pub err_same : {S T E : Type 0} (honest : ℕ → Type 0) (fork : S → List ℕ) (old new : ZoneState) (on after : FilesOn S) (result : Result T E) → OnErr result (new ≡ old) → OnErr result (after ≡ on)
     → OnErr result (IsAnswered honest (state_of fork new after) (state_of fork old on))
 err_same honest fork old new on after (Ok x) zone files = tt
 err_same honest fork old new on after (Err e) zone files = subst (λ (s : ResState). IsAnswered honest (state_of fork new after) s) (ap (λ z. state_of fork z after) zone ∙ ap (state_of fork old) files) (itself honest (state_of fork new after))

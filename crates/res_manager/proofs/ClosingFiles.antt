@@ -1,6 +1,6 @@
 -- How closing a file ends that was written.
 use Rattle.std.proofs.Common.{◌≡◌, ◌∙◌, Bool, true, false, List, map, None, Err, refl, sym, ap, subst}
-use Rattle.std.specs.Prelude.{All, MatchBool}
+use Rattle.std.specs.Prelude.{MatchBool}
 use Rattle.std.specs.Result.{is_err}
 use Rattle.mac_base.specs.ZoneState.{ZoneState}
 use Rattle.mac_base.specs.declared.error.OsErr.{OsErr}
@@ -15,10 +15,10 @@ use Rattle.res_calls.specs.Device.{Device, device_works}
 use Rattle.res_calls.specs.Device as device
 use Rattle.res_calls.specs.Files.{ResState, ResourceEnd}
 use Rattle.res_calls.specs.Updates.{Update, behind_update, disposed, fits_fork, handles_of, update_end}
-use Rattle.res_files.specs.FilesOn.{FailedAt, FilesOn, NoneFailed}
+use Rattle.res_files.specs.FilesOn.{FailedAt, FilesOn, HonestAt, NoneFailed}
 use Rattle.res_manager.specs.Ends.{IsUnwritten, Writes, WritesFile}
 use Rattle.res_manager.specs.Steps.{state_of}
-use Rattle.res_manager.proofs.Blank.{closed-answered}
+use Rattle.res_manager.proofs.Known.{closed-answered}
 use Rattle.res_manager.proofs.States.{same_state}
 
 module _ {S : Type 0} (store : Ghosts S) (zone new : ZoneState) (on mid after : FilesOn S) (u : Update) (outcome : Outcome) where
@@ -42,10 +42,10 @@ module _ {S : Type 0} (store : Ghosts S) (zone new : ZoneState) (on mid after : 
       mid_stores = ap (λ (f : FilesOn S). f.stores) (sym closed)
 
       -- what is as the devices answered is so once the file is closed
-      closing_answered : (state : ResState) → IsAnswered (All store.is_honest mid.stores) (state_of store.fork zone mid) state → IsAnswered (All store.is_honest after.stores) (state_of store.fork new after) (closing state)
+      closing_answered : (state : ResState) → IsAnswered (HonestAt store.is_honest mid.stores) (state_of store.fork zone mid) state → IsAnswered (HonestAt store.is_honest after.stores) (state_of store.fork new after) (closing state)
       closing_answered state answered =
-          subst (λ (s : ResState). IsAnswered (All store.is_honest after.stores) s (closing state)) closed_state
-          (subst (λ (stores : List S). IsAnswered (All store.is_honest stores) (closing (state_of store.fork zone mid)) (closing state)) mid_stores (closed-answered (All store.is_honest mid.stores) u.file (state_of store.fork zone mid) state answered))
+          subst (λ (s : ResState). IsAnswered (HonestAt store.is_honest after.stores) s (closing state)) closed_state
+          (subst (λ (stores : List S). IsAnswered (HonestAt store.is_honest stores) (closing (state_of store.fork zone mid)) (closing state)) mid_stores (closed-answered (HonestAt store.is_honest mid.stores) u.file (state_of store.fork zone mid) state answered))
 
       by_device : (w : Writes store zone on (UpdateResFile None) u outcome zone mid) (dev : Device) → w.device ≡ dev → Writes store zone on (CloseResFile None) u outcome new after
       by_device w device.Works is =

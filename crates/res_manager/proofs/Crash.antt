@@ -1,9 +1,8 @@
 -- What a start may find behind a crash in a call, by what the call did to the stores.
-use Rattle.std.proofs.Common.{◌≡◌, ℕ, ◌-◌, Bool, true, false, cond, List, [], map, slice_get, Option, Some, None, option_map, Result, Ok, Err, refl, sym, ap, subst, ◌∙◌, inl, inr, ⊎_elim}
+use Rattle.std.proofs.Common.{◌≡◌, ℕ, Bool, true, false, cond, List, [], Option, Some, None, Result, Ok, Err, refl, sym, ap, subst, ◌∙◌, inl, inr, ⊎_elim}
 use Rattle.std.specs.Prelude.{IfOk, OnOk, OnErr, IfSome}
 use Rattle.std.specs.Option.{option_map_or}
 use Rattle.std.proofs.lemmas.Bool.Decides.{eqb_tells}
-use Rattle.std.proofs.lemmas.Option.{slice_get-map}
 use Rattle.mac_base.specs.ZoneState.{ZoneState}
 use Rattle.mac_calls.specs.declared.resource_call.ResourceCall.{ResourceCall}
 use Rattle.mac_calls.specs.declared.resource_call.ResourceCall.TheVariants as call
@@ -15,8 +14,8 @@ use Rattle.res_calls.specs.Changes.{FileTable, Files, saved_table}
 use Rattle.res_calls.specs.Files.{ResState}
 use Rattle.res_calls.specs.Steps.{Work, Quiet, Opens, IsSaved, ReadsBack, work_of, update_in}
 use Rattle.res_calls.specs.Updates.{Update, update_of}
-use Rattle.res_files.specs.Crash.{history_of, OthersAreCalm}
-use Rattle.res_files.specs.FilesOn.{FilesOn}
+use Rattle.res_files.specs.Crash.{history_of, OthersStay}
+use Rattle.res_files.specs.FilesOn.{FilesOn, HonestAt}
 use Rattle.res_files.specs.Stores.{UpdatesStore}
 use Rattle.res_table.specs.OpenFiles.{is_open, table_of}
 use Rattle.res_update.specs.Selected.{updated}
@@ -32,17 +31,6 @@ weaker : {Event : Type 0} (may_find : List Event → List ℕ → Type 0) (P Q :
 weaker may_find P Q old new each (at_first finds) = at_first (λ found may. each found (finds found may))
 weaker may_find P Q old new each (and_then {event} {past} before finds) = and_then (weaker may_find P Q old past each before) (λ found may. each found (finds found may))
 
--- the history of each file, where that of each store is the same
-same_history : {S Event : Type 0} (history : S → List Event) (old new : List S) → map history new ≡ map history old → (k : ℕ) → history_of history k new ≡ history_of history k old
-same_history history old new same k = by_map new ∙ ap (λ (all : List _). option_map_or (λ h. h) (slice_get all (k - 1)) []) same ∙ sym (by_map old)
-  where
-    or_none : (o : Option _) → option_map_or history o [] ≡ option_map_or (λ h. h) (option_map history o) []
-    or_none None = refl
-    or_none (Some s) = refl
-
-    by_map : (stores : List _) → history_of history k stores ≡ option_map_or (λ h. h) (slice_get (map history stores) (k - 1)) []
-    by_map stores = or_none (slice_get stores (k - 1)) ∙ ap (λ (o : Option _). option_map_or (λ h. h) o []) (sym (slice_get-map history stores (k - 1)))
-
 module _ {S : Type 0} (store : Ghosts S) (old new : List S) where
   -- a file of which nothing happened
   same_finds : (update : Option Update) (k : ℕ) → history_of store.history k new ≡ history_of store.history k old
@@ -50,39 +38,39 @@ module _ {S : Type 0} (store : Ghosts S) (old new : List S) where
   same_finds update k same = subst (λ (h : List store.Event). AlwaysFinds store.may_find (MayBeFound store update old k) (history_of store.history k old) h) (sym same) (at_first (λ found may. inl may))
 
   -- nothing happened
-  pub calm_leaves : (update : Option Update) → map store.history new ≡ map store.history old → CrashLeaves store update old new
-  calm_leaves update same k from_one = same_finds update k (same_history store.history old new same k)
+  pub calm_leaves : (update : Option Update) → ((k : ℕ) → HonestAt store.is_honest new k → history_of store.history k new ≡ history_of store.history k old) → CrashLeaves store update old new
+  calm_leaves update same k from_one honest = same_finds update k (same k honest)
 
   -- something happened to one file alone
-  one_leaves : (update : Option Update) (k : ℕ) → OthersAreCalm store.history k old new
-      → AlwaysFinds store.may_find (MayBeFound store update old k) (history_of store.history k old) (history_of store.history k new) → CrashLeaves store update old new
-  one_leaves update k others finds number from_one = ⊎_elim
-      (λ is. subst (λ n. AlwaysFinds store.may_find (MayBeFound store update old n) (history_of store.history n old) (history_of store.history n new)) (sym is.1) finds)
-      (λ apart. same_finds update number (others number from_one apart.1)) (eqb_tells number k)
+  one_leaves : (update : Option Update) (k : ℕ) → OthersStay k old new
+      → (HonestAt store.is_honest new k → AlwaysFinds store.may_find (MayBeFound store update old k) (history_of store.history k old) (history_of store.history k new)) → CrashLeaves store update old new
+  one_leaves update k others finds number from_one honest = ⊎_elim
+      (λ is. subst (λ n. AlwaysFinds store.may_find (MayBeFound store update old n) (history_of store.history n old) (history_of store.history n new)) (sym is.1) (finds (subst (HonestAt store.is_honest new) is.1 honest)))
+      (λ apart. same_finds update number (ap (λ (found : Option S). option_map_or store.history found []) (others number from_one apart.1))) (eqb_tells number k)
 
   -- that file was opened
-  pub open_leaves : (k : ℕ) → OthersAreCalm store.history k old new
-      → AlwaysFinds store.may_find (store.may_find (history_of store.history k old)) (history_of store.history k old) (history_of store.history k new) → CrashLeaves store None old new
-  open_leaves k others finds = one_leaves None k others (weaker store.may_find _ _ _ _ (λ found may. inl may) finds)
+  pub open_leaves : (k : ℕ) → OthersStay k old new
+      → (HonestAt store.is_honest new k → AlwaysFinds store.may_find (store.may_find (history_of store.history k old)) (history_of store.history k old) (history_of store.history k new)) → CrashLeaves store None old new
+  open_leaves k others finds = one_leaves None k others (λ honest. weaker store.may_find _ _ _ _ (λ found may. inl may) (finds honest))
 
   -- or written
   file_leaves : (k : ℕ) (change : FileTable → FileTable) (files : Files) (u : Update) → update_of k change files ≡ Some u
-      → IfSome (table_of k files) (λ table. AlwaysFinds store.may_find (FoundBeforeOr store.may_find (history_of store.history k old) (written (saved_table (change table)))) (history_of store.history k old) (history_of store.history k new))
-      → OthersAreCalm store.history k old new → CrashLeaves store (Some u) old new
+      → (HonestAt store.is_honest new k → IfSome (table_of k files) (λ table. AlwaysFinds store.may_find (FoundBeforeOr store.may_find (history_of store.history k old) (written (saved_table (change table)))) (history_of store.history k old) (history_of store.history k new)))
+      → OthersStay k old new → CrashLeaves store (Some u) old new
   file_leaves k change files u is finds others =
       let f = update_found k change files u is in
       let v : Update = record { file = k; table = change f.table } in
       subst (λ (w : Update). CrashLeaves store (Some w) old new) f.is
-      (one_leaves (Some v) k others (weaker store.may_find _ _ _ _ (λ found. ⊎_elim inl (λ same. inr (refl, same))) (rw f.there at finds)))
+      (one_leaves (Some v) k others (λ honest. weaker store.may_find _ _ _ _ (λ found. ⊎_elim inl (λ same. inr (refl, same))) (rw f.there at (finds honest))))
 
   -- so with the contents of this zone
   pub zone_leaves : {T : Type 0} (contents zone : ZoneState) (selection : Selection) (k : ℕ) (files : Files) (result : Result T UpdateFault) → contents ≡ zone → is_open k files ≡ true
-      → UpdatesStore store k (updated contents.heap.table selection) files old new result → CrashLeaves store (update_of k (updated zone.heap.table selection) files) old new
-  zone_leaves contents zone selection k files result same there updates =
+      → (HonestAt store.is_honest new k → UpdatesStore store k (updated contents.heap.table selection) files old new result) → OthersStay k old new → CrashLeaves store (update_of k (updated zone.heap.table selection) files) old new
+  zone_leaves contents zone selection k files result same there updates others =
       let o = open_update k (updated contents.heap.table selection) files there in
       let P : ZoneState → Type 0 = λ z. CrashLeaves store (update_of k (updated z.heap.table selection) files) old new in
       subst P same (subst (λ (update : Option Update). CrashLeaves store update old new) (sym o.1)
-      (file_leaves k (updated contents.heap.table selection) files o.0 o.1 updates.any_moment updates.works.others))
+      (file_leaves k (updated contents.heap.table selection) files o.0 o.1 (λ honest. (updates honest).any_moment) others))
 
   -- by the work of a call
   pub work_leaves : {E : Type 0} (work : Work) (update : Option Update) (result : Result Outcome E) → update_in work ≡ update → CrashLeaves store update old new → IfOk result (λ outcome. CrashLeaves store (update_in work) old new)
@@ -113,7 +101,7 @@ err_anyhow P (Ok x) holds = tt
 err_anyhow P (Err e) holds = holds
 
 -- and reads none back
-pub opening_reads : {E : Type 0} (old new : ResState) (k : ℕ) (result : Result Outcome E) → IfOk result (λ outcome. ReadsBack old (call.OpenResFile k) outcome new)
-opening_reads old new k (Ok (Ok done)) = subst (λ (o : Option Update). IsSaved o new) (sym (opening_saves old k)) tt
-opening_reads old new k (Ok (Err code)) = tt
-opening_reads old new k (Err full) = tt
+pub opening_reads : {E : Type 0} (honest : ℕ → Type 0) (old new : ResState) (k : ℕ) (result : Result Outcome E) → IfOk result (λ outcome. ReadsBack honest old (call.OpenResFile k) outcome new)
+opening_reads honest old new k (Ok (Ok done)) = subst (λ (o : Option Update). IsSaved honest o new) (sym (opening_saves old k)) tt
+opening_reads honest old new k (Ok (Err code)) = tt
+opening_reads honest old new k (Err full) = tt

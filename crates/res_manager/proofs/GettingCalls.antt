@@ -11,17 +11,18 @@ use Rattle.res_calls.specs.Loads.{loads_bytes, row_wanted}
 use Rattle.res_calls.specs.Steps.{StepsUnless, Work, Gets, Quiet, work_of, Memory}
 use Rattle.res_calls.specs.Steps as steps
 use Rattle.res_calls.specs.Tests.{ResourceTest, first_refused_for, resource_refusal}
-use Rattle.res_files.specs.FilesOn.{FailedAt, FilesOn, NoneFailed}
+use Rattle.res_files.specs.FilesOn.{FailedAt, FilesOn, HonestAt, NoneFailed}
 use Rattle.fork_disk.specs.declared.store.ForkStore.{Ghosts}
-use Rattle.res_calls.specs.Answered.{answered_disks, blank_files, file_of_work}
-use Rattle.res_calls.specs.Device.{DiskRelations, device_works}
-use Rattle.std.specs.Prelude.{All, MatchBool}
+use Rattle.res_calls.specs.Answered.{IsAnswered, answered_disks, file_of_work}
+use Rattle.res_calls.proofs.Answering.{none, none_honest}
+use Rattle.res_calls.specs.Device.{device_works}
+use Rattle.std.specs.Prelude.{MatchBool}
 use Rattle.res_table.specs.declared.chain.RowPlace.{RowPlace}
-use Rattle.res_manager.specs.Ends.{gets}
+use Rattle.res_calls.specs.Loads.{gets}
 use Rattle.res_manager.specs.Loading.{LoadSteps, loaded_outcome}
 use Rattle.res_manager.specs.Steps.{ResourceSteps, state_of}
 use Rattle.res_manager.specs.Tests.{early_tests, late_tests}
-use Rattle.res_manager.proofs.Blank.{same_passed, same_wanted}
+use Rattle.res_manager.proofs.Known.{blank_files, same_passed, same_wanted}
 use Rattle.res_manager.proofs.Refusals.{passed-early}
 
 -- such a call has no other work, and all its tests are early ones
@@ -39,13 +40,15 @@ pub get_steps : {S : Type 0} (store : Ghosts S) (old new : ZoneState) (on after 
 get_steps {S} store old new on after c p loads asks result is passed place loads_so load =
     let real : ResState = state_of store.fork old on in
     let state : ResState = load.before in
-    let blank : blank_files state.files ≡ blank_files real.files = ap (λ (s : ResState). s.files) load.was.0 in
+    let honest = HonestAt store.is_honest after.stores in
+    let unknown = load.was none (none_honest honest) in
+    let blank : blank_files state.files ≡ blank_files real.files = ap (λ (s : ResState). s.files) unknown in
     let end : ResourceEnd = record { outcome = loaded_outcome c result; state = load.after } in
-    let disks : DiskRelations = answered_disks (All store.is_honest after.stores) store.may_leave in
+    let disks = answered_disks honest store.may_leave in
     let alone = gets_alone state c is in
     let accepted : resource_refusal state c ≡ None = passed-early state c (same_passed state real blank c is ∙ passed) ∙ ap (λ (tests : List ResourceTest). first_refused_for state tests) alone.1 in
     let work : work_of state c ≡ Gets p = alone.0 ∙ ap (λ (o : Option RowPlace). option_map_or Gets o Quiet) (same_wanted state real blank c is ∙ place) in
-    let same : loads_bytes state c ≡ loads = sym (loads_so state (ap (λ (s : ResState). s.loads) load.was.0)) in
+    let same : loads_bytes state c ≡ loads = sym (loads_so state (ap (λ (s : ResState). s.loads) unknown)) in
     let P : Option OsErr → Type 0 = λ o. StepsUnless Memory disks o load.device state c asks end in
     let Q : Work → Type 0 = λ w. steps.Works Memory disks load.device state c asks end w in
     let Cause : Work → Type 0 = λ w. MatchBool (device_works load.device) (NoneFailed store.failures on.stores after.stores) (IsSomeAnd (file_of_work w) (λ k. FailedAt store.failures k on.stores after.stores)) in
@@ -53,7 +56,7 @@ get_steps {S} store old new on after c p loads asks result is passed place loads
       device = load.device;
       before = state;
       after = load.after;
-      was = load.was;
+      was = subst (λ (b : Bool). MatchBool b (IsAnswered honest real state) (state ≡ real)) (sym is) load.was;
       becomes = load.becomes;
       step = subst P (sym accepted) (subst Q (sym work) (load.step c same));
       cause = subst Cause (sym work) load.cause;

@@ -1,5 +1,5 @@
 -- The end of a load, by the call that made the place for the row's bytes and by what was read into it.
-use Rattle.std.proofs.Common.{◌≡◌, ℕ, ◌<◌, Bool, true, false, List, [], length, map, All, IfSome, IsSome, Option, Some, None, Result, Ok, Err, refl, ap, sym, ◌∙◌, subst, arith}
+use Rattle.std.proofs.Common.{◌≡◌, ℕ, ◌<◌, ◌≤◌, Bool, true, false, List, [], length, map, IfSome, IsSome, Option, Some, None, Result, Ok, Err, refl, ap, sym, ◌∙◌, subst, arith}
 use Rattle.std.specs.Prelude.{◌==◌, ◌||◌, ◌&&◌, not, is_some, unwrap_or, if◌then◌else◌}
 use Rattle.std.specs.Option.{option_map_or}
 use Rattle.std.proofs.lemmas.Bool.Decides.{nat_tests}
@@ -24,16 +24,18 @@ use Rattle.res_table.specs.declared.chain.RowPlace.{RowPlace}
 use Rattle.res_table.specs.OpenFiles.{row_at}
 use Rattle.res_table.specs.Rows.{with_datum, with_handle}
 use Rattle.res_calls.specs.Changes.{FileRow, Files, handles_forgotten, row_changed}
-use Rattle.res_calls.specs.Answered.{AnswersFor, IsAnswered, answered_disks, blank_files}
+use Rattle.res_calls.specs.Answered.{AnswersFor, AreHonest, IsAnswered, answered_disks, known_bytes, known_files}
 use Rattle.res_calls.specs.Device.{Device, DiskRelations, Works as Working, FailsBefore}
-use Rattle.res_calls.specs.Files.{ResState, ResourceEnd, refused_with, with_heap, with_files}
+use Rattle.res_calls.specs.Files.{ResState, ResourceEnd, disk_of, refused_with, with_heap, with_files}
 use Rattle.res_calls.specs.Loads.{found_end, loads_bytes, placing, loaded, unloaded, loaded_results, read_fails, load_end, placed_end}
 use Rattle.mac_calls.specs.Released.{disposed_in}
 use Rattle.res_calls.specs.Steps.{GetsPlace, GetsRow, behind_memory, Memory}
 use Rattle.fork_disk.specs.declared.store.ForkStore.{Ghosts}
-use Rattle.res_files.specs.FilesOn.{FailedAt, FilesOn}
+use Rattle.res_files.specs.FilesOn.{FailedAt, FilesOn, HonestAt, fork_of}
 use Rattle.res_manager.specs.Loading.{AreAnswered, HasBytes, LoadSteps, LoadsTo, flags_for, handle_placed, loaded_outcome, loaded_with, place_call}
-use Rattle.res_manager.proofs.Blank.{answered-parts, answers-back, blank-datum, blank-forgotten, blank-handle, blank-there, itself, same-datum}
+use Rattle.res_calls.proofs.Answering.{itself, none, none_honest}
+use Rattle.res_manager.proofs.Known.{answered-parts, answers-back, blank-there, known-datum, known-forgotten, known-handle, known-same}
+use Rattle.res_manager.proofs.OpenedFiles.{disk-fork}
 use Rattle.res_manager.proofs.Forgetting.{row_forgotten}
 use Rattle.res_manager.specs.Steps.{state_of}
 
@@ -84,7 +86,7 @@ pub record IsGot (old : ResState) (p : RowPlace) (loads : Bool) (own : Option �
   pub long : size ≡ length r.resource.datum
   pub needs : IfSome own (λ h. (is_full old.heap.table h || not loads) ≡ false)
 
-module _ (disks : DiskRelations) (old : ResState) (p : RowPlace) (loads : Bool) (own : Option ℕ) (size : ℕ) (r : FileRow) (got : IsGot old p loads own size r)
+module _ (disks : ℕ → DiskRelations) (old : ResState) (p : RowPlace) (loads : Bool) (own : Option ℕ) (size : ℕ) (r : FileRow) (got : IsGot old p loads own size r)
     (asks : List Ask) (heap : Heap) (outcome : Outcome) (step : Memory old.shape old.heap (place_call own size loads) asks outcome heap) where
   -- the state that the call of the Memory Manager left
   abbrev placed_state : ResState
@@ -118,7 +120,7 @@ module _ (disks : DiskRelations) (old : ResState) (p : RowPlace) (loads : Bool) 
         gets_place Working call (record { outcome = Ok (loaded_results call h); state = last }) same_loads (sym ending ∙ sym (placed Working loads call p r own placed_state h outcome got.same made))
 
 -- a handle serves as it is
-serves_load : (disks : DiskRelations) (old : ResState) (p : RowPlace) (loads : Bool) (r : FileRow) (h : ℕ) (asks : List Ask) → asks ≡ [] → row_at p old.files ≡ Some r → r.handle ≡ Some h → (is_full old.heap.table h || not loads) ≡ true
+serves_load : (disks : ℕ → DiskRelations) (old : ResState) (p : RowPlace) (loads : Bool) (r : FileRow) (h : ℕ) (asks : List Ask) → asks ≡ [] → row_at p old.files ≡ Some r → r.handle ≡ Some h → (is_full old.heap.table h || not loads) ≡ true
     → LoadsTo disks Working old p loads asks (Ok h) old
 serves_load disks old p loads r h asks none here handle serves call same =
     let end : ResourceEnd = record { outcome = loaded_outcome call (Ok h); state = old } in
@@ -133,7 +135,7 @@ serves_load disks old p loads r h asks none here handle serves call same =
 pub served : {S : Type 0} (store : Ghosts S) (old : ZoneState) (on : FilesOn S) (p : RowPlace) (loads : Bool) (r : FileRow) (h : ℕ) (asks : List Ask) → asks ≡ [] → row_at p on.files ≡ Some r → r.handle ≡ Some h → (is_full old.heap.table h || not loads) ≡ true
     → LoadSteps store old on p loads asks (Ok h) old on
 served store old on p loads r h asks none here handle serves =
-    let honest = All store.is_honest on.stores in
+    let honest = HonestAt store.is_honest on.stores in
     record {
       device = Working;
       before = state_of store.fork old on;
@@ -171,7 +173,7 @@ module _ {S : Type 0} (store : Ghosts S) (old : ZoneState) (on : FilesOn S) (p :
   -- the place isn't made
   pub refused_load : (code : OsErr) → (let failed : Result ℕ OsErr = Err code in failed ≡ handle_placed own outcome) → LoadSteps store old on p loads asks (Err code) mid mid_files
   refused_load code is =
-      let honest = All store.is_honest mid_files.stores in
+      let honest = HonestAt store.is_honest mid_files.stores in
       record {
         device = Working;
         before = begun;
@@ -183,13 +185,17 @@ module _ {S : Type 0} (store : Ghosts S) (old : ZoneState) (on : FilesOn S) (p :
       }
 
   module _ (h : ℕ) (made : (let handle : Result ℕ OsErr = Ok h in handle ≡ handle_placed own outcome)) (new : ZoneState) (new_files : FilesOn S) (new_shape : new.shape ≡ mid.shape)
-      (files : AnswersFor (All store.is_honest new_files.stores) mid_files.files new_files.files) (forks : All store.is_honest new_files.stores → map store.fork new_files.stores ≡ map store.fork mid_files.stores)
+      (files : AnswersFor (HonestAt store.is_honest new_files.stores) mid_files.files new_files.files) (forks : (k : ℕ) → HonestAt store.is_honest new_files.stores k → fork_of store.fork k new_files.stores ≡ fork_of store.fork k mid_files.stores)
       (same_loads : new_files.loads ≡ mid_files.loads) (count : length new_files.stores ≡ length mid_files.stores) where
+    -- the disk of a file whose device is honest
+    same_disk : (k : ℕ) → 1 ≤ k → HonestAt store.is_honest new_files.stores k → disk_of k (state_of store.fork old on) ≡ disk_of k (state_of store.fork new new_files)
+    same_disk k low honest = disk-fork store.fork old on k ∙ ap (fork_of store.fork k) (sym mid_stores) ∙ sym (forks k honest) ∙ sym (disk-fork store.fork new new_files k)
+
     -- the bytes aren't read
     pub failed_load : loads ≡ true → 0 < size → new.heap ≡ (if is_some own then with_emptied mid.heap h else heap_released (DisposesHandle h) mid.heap) → FailedAt store.failures p.file mid_files.stores new_files.stores
         → LoadSteps store old on p loads asks (Err IoErr) new new_files
     failed_load is some heap cause =
-        let honest = All store.is_honest new_files.stores in
+        let honest = HonestAt store.is_honest new_files.stores in
         let last : ResState = with_heap (unloaded h r mid.heap) (behind_memory asks mid.heap begun) in
         record {
           device = FailsBefore;
@@ -201,7 +207,7 @@ module _ {S : Type 0} (store : Ghosts S) (old : ZoneState) (on : FilesOn S) (p :
               (subst (λ (f : FilesOn S). AnswersFor honest new_files.files f.files) forgotten (answers-back honest mid_files.files new_files.files files))
               (sym (same_loads ∙ ap (λ (f : FilesOn S). f.loads) forgotten))
               (length-map on.stores store.fork ∙ ap (λ (stores : List S). length stores) (sym mid_stores) ∙ sym count ∙ sym (length-map new_files.stores store.fork))
-              (λ all. ap (map store.fork) (sym mid_stores) ∙ sym (forks all));
+              same_disk;
           step = faults (answered_disks honest store.may_leave) begun p loads own size r got asks mid.heap outcome step h made is some;
           cause = subst (λ (stores : List S). FailedAt store.failures p.file stores new_files.stores) mid_stores cause;
         }
@@ -210,7 +216,7 @@ module _ {S : Type 0} (store : Ghosts S) (old : ZoneState) (on : FilesOn S) (p :
     pub empty_load : loads ≡ false → new.heap ≡ mid.heap → new_files ≡ mid_files → (last_files : FilesOn S) → (IsSome (row_at p new_files.files) → last_files ≡ record new_files { files = row_changed p (with_handle (Some h)) new_files.files })
         → LoadSteps store old on p loads asks (Ok h) new last_files
     empty_load none heap unread last_files attached =
-        let honest = All store.is_honest last_files.stores in
+        let honest = HonestAt store.is_honest last_files.stores in
         let kept : (now : FileRow) × (row_at p mid_files.files ≡ Some now) × (now.resource ≡ r.resource) = rw forgotten (row_forgotten (disposed_in asks) p on.files r got.here) in
         let there : IsSome (row_at p new_files.files) = rw (unread, kept.1) refl in
         let is = attached there in
@@ -230,36 +236,37 @@ module _ {S : Type 0} (store : Ghosts S) (old : ZoneState) (on : FilesOn S) (p :
         }
 
     -- the row has its handle, with the bytes that were read
-    pub given_load : (attributes : ResAttrs) (bytes : List ℕ) → loads ≡ true → attributes ≡ r.resource.attributes → AreAnswered (All store.is_honest new_files.stores) size (row_at p mid_files.files) bytes
+    pub given_load : (attributes : ResAttrs) (bytes : List ℕ) → loads ≡ true → attributes ≡ r.resource.attributes → AreAnswered (HonestAt store.is_honest new_files.stores p.file) size (row_at p mid_files.files) bytes
         → new.heap ≡ loaded_with h (flags_for attributes) bytes mid.heap → map store.failures new_files.stores ≡ map store.failures mid_files.stores
         → (last_files : FilesOn S) → (IsSome (row_at p new_files.files) → last_files ≡ record new_files { files = row_changed p (with_handle (Some h)) new_files.files })
         → LoadSteps store old on p loads asks (Ok h) new last_files
     given_load attributes bytes is same_attributes answered heap worked last_files attached =
-        let honest = All store.is_honest new_files.stores in
+        let honest = HonestAt store.is_honest new_files.stores in
         let kept : (now : FileRow) × (row_at p mid_files.files ≡ Some now) × (now.resource ≡ r.resource) = rw forgotten (row_forgotten (disposed_in asks) p on.files r got.here) in
         let there : IsSome (row_at p mid_files.files) = rw kept.1 refl in
-        let is_last = attached (blank-there p new_files.files mid_files.files files.0 there) in
+        let is_last = attached (blank-there p new_files.files mid_files.files (files none (none_honest honest)) there) in
         let shown : FileRow = with_datum bytes r in
         let long : length bytes ≡ length r.resource.datum = answered.long ∙ got.long in
-        let mine : honest → bytes ≡ r.resource.datum = λ all. own-forgotten (disposed_in asks) p on.files r bytes got.here
+        let mine : honest p.file → bytes ≡ r.resource.datum = λ all. own-forgotten (disposed_in asks) p on.files r bytes got.here
         (subst (λ (f : FilesOn S). IfSome (row_at p f.files) (λ now. bytes ≡ now.resource.datum)) forgotten (answered.own all)) in
+        let same_bytes : (known : ℕ → Bool) → AreHonest honest known → known_bytes (known p.file) bytes ≡ known_bytes (known p.file) r.resource.datum =
+        λ known are. known-same (known p.file) bytes r.resource.datum long (λ is. mine (are p.file is)) in
         let before : ResState = with_files (row_changed p (with_datum bytes) on.files) begun in
         let placed : ResState = behind_memory asks mid.heap before in
         let last : ResState = with_files (row_changed p (with_handle (Some h)) placed.files) (with_heap (loaded h shown mid.heap) placed) in
         let got_now : IsGot before p loads own size shown = record { here = row_changed_there p (with_datum bytes) on.files r got.here; same = got.same; long = sym answered.long; needs = got.needs } in
         let chosen : (if loads then with_heap (loaded h shown mid.heap) placed else placed) ≡ with_heap (loaded h shown mid.heap) placed = first loads (with_heap (loaded h shown mid.heap) placed) placed is in
-        let was : IsAnswered honest begun before = answered-parts honest begun before refl refl (blank-datum p bytes on.files r got.here long, λ all. same-datum p bytes on.files r got.here (mine all)) refl refl (λ all. refl) in
-        let rows : blank_files placed.files ≡ blank_files new_files.files =
-        sym (blank-forgotten (disposed_in asks) before.files) ∙ ap (handles_forgotten (disposed_in asks)) (blank-datum p bytes on.files r got.here long) ∙ blank-forgotten (disposed_in asks) on.files
-        ∙ ap (λ (f : FilesOn S). blank_files f.files) (sym forgotten) ∙ sym files.0 in
-        let same : honest → placed.files ≡ new_files.files = λ all. ap (handles_forgotten (disposed_in asks)) (same-datum p bytes on.files r got.here (mine all)) ∙ ap (λ (f : FilesOn S). f.files) (sym forgotten) ∙ sym (files.1 all) in
+        let was : IsAnswered honest begun before = answered-parts honest begun before refl refl (λ known are. known-datum known p bytes on.files r got.here (same_bytes known are)) refl refl (λ k low all. refl) in
+        let rows : (known : ℕ → Bool) → AreHonest honest known → known_files known placed.files ≡ known_files known new_files.files =
+        λ known are. sym (known-forgotten known (disposed_in asks) before.files) ∙ ap (handles_forgotten (disposed_in asks)) (known-datum known p bytes on.files r got.here (same_bytes known are)) ∙ known-forgotten known (disposed_in asks) on.files
+        ∙ ap (λ (f : FilesOn S). known_files known f.files) (sym forgotten) ∙ sym (files known are) in
         let becomes : IsAnswered honest (state_of store.fork new (record new_files { files = row_changed p (with_handle (Some h)) new_files.files })) last =
         answered-parts honest (state_of store.fork new (record new_files { files = row_changed p (with_handle (Some h)) new_files.files })) last (sym (new_shape ∙ shape))
         (sym (heap ∙ ap (λ (a : ResAttrs). loaded_with h (flags_for a) bytes mid.heap) same_attributes))
-        (blank-handle p (Some h) placed.files ∙ ap (row_changed p (with_handle (Some h))) rows ∙ sym (blank-handle p (Some h) new_files.files), λ all. ap (row_changed p (with_handle (Some h))) (same all))
+        (λ known are. known-handle known p (Some h) placed.files ∙ ap (row_changed p (with_handle (Some h))) (rows known are) ∙ sym (known-handle known p (Some h) new_files.files))
         (sym (same_loads ∙ ap (λ (f : FilesOn S). f.loads) forgotten))
         (length-map on.stores store.fork ∙ ap (λ (stores : List S). length stores) (sym mid_stores) ∙ sym count ∙ sym (length-map new_files.stores store.fork))
-        (λ all. ap (map store.fork) (sym mid_stores) ∙ sym (forks all)) in
+        same_disk in
         subst (λ (f : FilesOn S). LoadSteps store old on p loads asks (Ok h) new f) (sym is_last) (record {
           device = Working;
           before = before;

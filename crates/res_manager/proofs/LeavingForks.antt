@@ -1,6 +1,7 @@
 -- What calls leave of the forks, by what was done to the stores.
-use Rattle.std.proofs.Common.{◌≡◌, true, List, map, Option, Some, None, Result, ℕ, ap, subst}
-use Rattle.std.specs.Prelude.{IfOk, OnOk, OnErr, ⊤}
+use Rattle.std.proofs.Common.{◌≡◌, refl, true, List, [], Option, Some, None, Result, ℕ, ap, subst}
+use Rattle.std.specs.Prelude.{IfOk, IfSome, OnOk, OnErr, ⊤}
+use Rattle.std.specs.Option.{option_map_or}
 use Rattle.mac_base.specs.ZoneState.{ZoneState}
 use Rattle.mac_base.specs.declared.error.HostFull.{HostFull}
 use Rattle.mac_base.specs.declared.error.OsErr.{OsErr}
@@ -14,31 +15,42 @@ use Rattle.res_calls.specs.Updates.{Update, update_of}
 use Rattle.res_update.specs.Selected.{updated}
 use Rattle.res_update.specs.declared.fault.UpdateFault.{UpdateFault}
 use Rattle.res_update.specs.declared.selection.Selection.{Selection}
-use Rattle.res_files.specs.FilesOn.{FilesOn}
+use Rattle.res_files.specs.FilesOn.{FilesOn, HonestAt, WereHonest}
+use Rattle.res_files.specs.Crash.{OthersStay, history_of}
 use Rattle.res_files.specs.Stores.{OpensStore, UpdatesStore}
 use Rattle.res_manager.specs.Crash.{CrashLeaves, IsSettled, LeavesForks, OpensFork, SavesFork}
 use Rattle.res_manager.specs.Steps.{state_of}
 use Rattle.res_manager.proofs.Crash.{calm_leaves, made_file, open_leaves, work_leaves, work_settles, zone_leaves}
+use Rattle.res_manager.proofs.Keeping.{one_kept}
 use Rattle.res_manager.proofs.ReadingBack.{made_reads}
 use Rattle.res_manager.proofs.Stepping.{if_ok}
 use Rattle.res_manager.proofs.UpdatingCalls.{Makes, on_err}
 
--- a file is opened, or isn't
-pub opens_fork : {S E : Type 0} (store : Ghosts S) (k : ℕ) (old new : List S) (opening : Result (Result ⊤ OsErr) HostFull) (result : Result Outcome E) → OpensStore store k old new opening
-    → IfOk result (λ outcome. OnOk outcome (IsSettled store (Some k) new)) → OpensFork store k old new result
-opens_fork store k old new opening result opens settled = record {
-  works = record { honest = opens.works.honest; any_moment = open_leaves store old new k opens.works.others opens.any_moment; settled = settled };
-  forks = opens.forks;
-}
+module _ {S : Type 0} (store : Ghosts S) (k : ℕ) (old new : List S) (others : OthersStay k old new) where
+  -- a device that is honest was so, where that of the one file was
+  were_honest : (HonestAt store.is_honest new k → HonestAt store.is_honest old k) → WereHonest store.is_honest old new
+  were_honest here = one_kept k old new others (λ was now. IfSome now store.is_honest → IfSome was store.is_honest) (λ o honest. honest) here
+
+  -- a file is opened, or isn't
+  pub opens_fork : {E : Type 0} (opening : Result (Result ⊤ OsErr) HostFull) (result : Result Outcome E) → (HonestAt store.is_honest new k → OpensStore store k old new opening)
+      → IfOk result (λ outcome. OnOk outcome (IsSettled store (Some k) new)) → OpensFork store k old new result
+  opens_fork opening result opens settled = record {
+    works = record { honest = were_honest (λ honest. (opens honest).honest); any_moment = open_leaves store old new k others (λ honest. (opens honest).any_moment); settled = settled };
+    forks = one_kept k old new others (λ was now. IfSome now store.is_honest → option_map_or store.fork now [] ≡ option_map_or store.fork was []) (λ o honest. refl) (λ honest. (opens honest).fork);
+  }
 
 -- a file is written, or isn't
 pub saves_fork : {S T E : Type 0} (store : Ghosts S) (contents zone : ZoneState) (selection : Selection) (k : ℕ) (files : Files) (old : List S) (after : FilesOn S) (writing : Result T UpdateFault) (result : Result Outcome E)
-    → contents ≡ zone → is_open k files ≡ true → UpdatesStore store k (updated contents.heap.table selection) files old after.stores writing
+    → contents ≡ zone → is_open k files ≡ true → (HonestAt store.is_honest after.stores k → UpdatesStore store k (updated contents.heap.table selection) files old after.stores writing) → OthersStay k old after.stores
     → IfOk result (λ outcome. OnOk outcome (IsSettled store (Some k) after.stores))
-    → IfOk result (λ outcome. OnOk outcome (IsSaved (update_of k (updated zone.heap.table selection) files) (state_of store.fork zone after)))
+    → IfOk result (λ outcome. OnOk outcome (IsSaved (HonestAt store.is_honest after.stores) (update_of k (updated zone.heap.table selection) files) (state_of store.fork zone after)))
     → SavesFork store k (update_of k (updated zone.heap.table selection) files) old zone after result
-saves_fork store contents zone selection k files old after writing result same there updates settled saved = record {
-  works = record { honest = updates.works.honest; any_moment = zone_leaves store old after.stores contents zone selection k files writing same there updates; settled = settled };
+saves_fork store contents zone selection k files old after writing result same there updates others settled saved = record {
+  works = record {
+    honest = were_honest store k old after.stores others (λ honest. (updates honest).honest);
+    any_moment = zone_leaves store old after.stores contents zone selection k files writing same there updates others;
+    settled = settled;
+  };
   saved = saved;
 }
 
@@ -48,8 +60,8 @@ pub made_leaves : {S E : Type 0} (store : Ghosts S) (zone new : ZoneState) (on a
 made_leaves {S} store zone new on after c k change u result is made same saves =
     let work = work_of (state_of store.fork zone on) c in record {
       honest = saves.works.honest;
-      reads_back = if_ok _ _ result (λ outcome saved. made_reads store.fork zone on c u (update_of k change on.files) outcome (state_of store.fork new after) made is saved) saves.saved;
+      reads_back = if_ok _ _ result (λ outcome saved. made_reads (HonestAt store.is_honest after.stores) store.fork zone on c u (update_of k change on.files) outcome (state_of store.fork new after) made is saved) saves.saved;
       any_moment = work_leaves store on.stores after.stores work (Some u) result (ap update_in made.work) (subst (λ (o : Option Update). CrashLeaves store o on.stores after.stores) is saves.works.any_moment);
       settled = work_settles store after.stores work (Some k) result (made_file store.fork zone on c k change u is made) saves.works.settled;
-      crash_full = on_err _ _ result (λ unchanged. calm_leaves store on.stores after.stores None (ap (λ (f : FilesOn S). map store.history f.stores) unchanged)) same;
+      crash_full = on_err _ _ result (λ unchanged. calm_leaves store on.stores after.stores None (λ n honest. ap (λ (f : FilesOn S). history_of store.history n f.stores) unchanged)) same;
     }

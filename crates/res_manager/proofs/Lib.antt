@@ -1,4 +1,4 @@
-pub mod Blank
+pub mod Known
 pub mod CalmCalls
 pub mod Changing
 pub mod ClosingFiles

@@ -17,17 +17,17 @@ use Rattle.res_manager.proofs.OpenedFiles.{disk-fork}
 use Rattle.res_manager.proofs.UpdatingCalls.{Makes}
 
 -- a fork that stands for the table is that of the update
-pub saved_update : {S : Type 0} (fork : S → List ℕ) (zone : ZoneState) (after : FilesOn S) (k : ℕ) (change : FileTable → FileTable) (files : Files)
-    → IfSome (table_of k files) (λ table. StandsFor (fork_of fork k after.stores) (saved_table (change table))) → IsSaved (update_of k change files) (state_of fork zone after)
-saved_update fork zone after k change files stands = by_case (table_of k files) stands
+pub saved_update : {S : Type 0} (honest : ℕ → Type 0) (fork : S → List ℕ) (zone : ZoneState) (after : FilesOn S) (k : ℕ) (change : FileTable → FileTable) (files : Files)
+    → (honest k → IfSome (table_of k files) (λ table. StandsFor (fork_of fork k after.stores) (saved_table (change table)))) → IsSaved honest (update_of k change files) (state_of fork zone after)
+saved_update honest fork zone after k change files stands = by_case (table_of k files) stands
   where
-    by_case : (o : Option FileTable) → IfSome o (λ table. StandsFor (fork_of fork k after.stores) (saved_table (change table)))
-        → IsSaved (option_map (λ (table : FileTable). let v : Update = record { file = k; table = change table } in v) o) (state_of fork zone after)
-    by_case (Some table) h = subst (λ (d : Disk). StandsFor d (saved_table (change table))) (sym (disk-fork fork zone after k)) h
+    by_case : (o : Option FileTable) → (honest k → IfSome o (λ table. StandsFor (fork_of fork k after.stores) (saved_table (change table))))
+        → IsSaved honest (option_map (λ (table : FileTable). let v : Update = record { file = k; table = change table } in v) o) (state_of fork zone after)
+    by_case (Some table) h = λ is. subst (λ (d : Disk). StandsFor d (saved_table (change table))) (sym (disk-fork fork zone after k)) (h is)
     by_case None h = tt
 
 -- a call that makes this update
-pub made_reads : {S : Type 0} (fork : S → List ℕ) (zone : ZoneState) (on : FilesOn S) (c : ResourceCall) (u : Update) (update : Option Update) (outcome : Outcome) (new : ResState) → Makes fork zone on c u → update ≡ Some u
-    → OnOk outcome (IsSaved update new) → ReadsBack (state_of fork zone on) c outcome new
-made_reads fork zone on c u update outcome new made is saved =
-    subst (λ (o : Option Update). OnOk outcome (IsSaved o new)) (is ∙ sym (ap update_in made.work)) saved
+pub made_reads : {S : Type 0} (honest : ℕ → Type 0) (fork : S → List ℕ) (zone : ZoneState) (on : FilesOn S) (c : ResourceCall) (u : Update) (update : Option Update) (outcome : Outcome) (new : ResState) → Makes fork zone on c u → update ≡ Some u
+    → OnOk outcome (IsSaved honest update new) → ReadsBack honest (state_of fork zone on) c outcome new
+made_reads honest fork zone on c u update outcome new made is saved =
+    subst (λ (o : Option Update). OnOk outcome (IsSaved honest o new)) (is ∙ sym (ap update_in made.work)) saved

@@ -1,6 +1,6 @@
 -- Steps of calls that ask nothing.
 use Rattle.std.proofs.Common.{◌≡◌, ℕ, Bool, true, false, [], Option, Some, None, Result, Ok, Err, refl, ap, sym, subst, ◌∙◌}
-use Rattle.std.specs.Prelude.{All, IfOk, MatchBool, MatchResult, is_ok, map, if◌then◌else◌}
+use Rattle.std.specs.Prelude.{IfOk, MatchBool, MatchResult, is_ok, map, if◌then◌else◌}
 use Rattle.std.specs.Option.{IsSomeAnd}
 use Rattle.mac_base.specs.declared.error.OsErr.{OsErr}
 use Rattle.mac_base.specs.declared.error.OsErr.TheVariants.{DskFulErr}
@@ -18,12 +18,13 @@ use Rattle.res_calls.specs.Steps.{StepsUnless, Work, Quiet, Opens, Updates, work
 use Rattle.res_calls.specs.Steps as steps
 use Rattle.res_calls.specs.Tests.{resource_refusal, first_refused_for}
 use Rattle.res_calls.specs.Updates.{Update, fits_fork}
-use Rattle.res_files.specs.FilesOn.{FailedAt, FilesOn, NoneFailed}
+use Rattle.res_files.specs.FilesOn.{FailedAt, FilesOn, HonestAt, NoneFailed}
 use Rattle.res_table.specs.OpenFiles.{is_open}
 use Rattle.res_manager.specs.Ends.{EndsQuietly, IsUnwritten, OpensFile, Writes, WritesFile}
 use Rattle.res_manager.specs.Steps.{ResourceSteps, state_of}
 use Rattle.res_manager.specs.Tests.{early_tests, late_tests}
-use Rattle.res_manager.proofs.Blank.{itself}
+use Rattle.res_calls.proofs.Answering.{before_itself, itself}
+use Rattle.res_calls.specs.Loads.{gets}
 use Rattle.res_manager.proofs.Refusals.{refused-early}
 
 -- what holds of what is given
@@ -36,9 +37,9 @@ pub refused_steps : {S : Type 0} (store : Ghosts S) (zone : ZoneState) (on : Fil
     → ResourceSteps store zone on c [] (Err code) zone on
 refused_steps store zone on c code is =
     let state : ResState = state_of store.fork zone on in
-    let honest = All store.is_honest on.stores in
+    let honest = HonestAt store.is_honest on.stores in
     let P : Option OsErr → Type 0 = λ o. StepsUnless Memory (answered_disks honest store.may_leave) o device.Works state c [] (refused_with code state) in
-    record { device = device.Works; before = state; after = state; was = itself honest state; becomes = itself honest state; step = subst P (sym (refused-early state c code is)) (refl, refl); cause = refl }
+    record { device = device.Works; before = state; after = state; was = before_itself honest (gets c) state; becomes = itself honest state; step = subst P (sym (refused-early state c code is)) (refl, refl); cause = refl }
 
 -- a call that isn't refused and needs neither room nor a disk
 pub quiet_steps : {S : Type 0} (store : Ghosts S) (old new : ZoneState) (on after : FilesOn S) (c : ResourceCall) (outcome : Outcome) → resource_refusal (state_of store.fork old on) c ≡ None
@@ -47,11 +48,11 @@ quiet_steps store old new on after c outcome passed quiet stores ends =
     let state : ResState = state_of store.fork old on in
     let last : ResState = state_of store.fork new after in
     let end : ResourceEnd = record { outcome = outcome; state = last } in
-    let honest = All store.is_honest after.stores in
+    let honest = HonestAt store.is_honest after.stores in
     let disks = answered_disks honest store.may_leave in
     let P : Option OsErr → Type 0 = λ o. StepsUnless Memory disks o device.Works state c [] end in
     let Q : Work → Type 0 = λ w. steps.Works Memory disks device.Works state c [] end w in
-    record { device = device.Works; before = state; after = last; was = itself honest state; becomes = itself honest last; step = subst P (sym passed) (subst Q (sym quiet) (refl, sym ends)); cause = ap (map store.failures) stores }
+    record { device = device.Works; before = state; after = last; was = before_itself honest (gets c) state; becomes = itself honest last; step = subst P (sym passed) (subst Q (sym quiet) (refl, sym ends)); cause = ap (map store.failures) stores }
 
 -- a call that opens a file
 pub opened_steps : {S : Type 0} (store : Ghosts S) (zone : ZoneState) (on after : FilesOn S) (k : ℕ) (outcome : Outcome) → resource_refusal (state_of store.fork zone on) (call.OpenResFile k) ≡ None
@@ -59,7 +60,7 @@ pub opened_steps : {S : Type 0} (store : Ghosts S) (zone : ZoneState) (on after 
 opened_steps store zone on after k outcome passed closed opens =
     let state : ResState = state_of store.fork zone on in
     let end : ResourceEnd = record { outcome = outcome; state = opens.after } in
-    let honest = All store.is_honest after.stores in
+    let honest = HonestAt store.is_honest after.stores in
     let disks = answered_disks honest store.may_leave in
     let P : Option OsErr → Type 0 = λ o. StepsUnless Memory disks o opens.device state (call.OpenResFile k) [] end in
     let Q : Bool → Type 0 = λ b. steps.Works Memory disks opens.device state (call.OpenResFile k) [] end (if b then Quiet else Opens k) in
@@ -68,7 +69,7 @@ opened_steps store zone on after k outcome passed closed opens =
       device = opens.device;
       before = state;
       after = opens.after;
-      was = itself honest state;
+      was = refl;
       becomes = opens.becomes;
       step = subst P (sym passed) (subst Q (sym closed) (refl, opens.read, opens.reads, sym opens.ends));
       cause = subst Cause (sym closed) opens.cause;
@@ -86,7 +87,7 @@ written_steps {S} store old new on after c u outcome late test work written = by
 
     by_case : (b : Bool) → resource_refusal state c ≡ unless_passed DskFulErr b → MatchBool b (Writes store old on c u outcome new after) (IsUnwritten store old on outcome new after) → ResourceSteps store old on c [] outcome new after
     by_case true passed writes =
-        let honest = All store.is_honest after.stores in
+        let honest = HonestAt store.is_honest after.stores in
         let disks = answered_disks honest store.may_leave in
         let P : Option OsErr → Type 0 = λ o. StepsUnless Memory disks o writes.device state c [] (record { outcome = outcome; state = writes.after }) in
         let Q : Work → Type 0 = λ w. steps.Works Memory disks writes.device state c [] (record { outcome = outcome; state = writes.after }) w in
@@ -95,16 +96,16 @@ written_steps {S} store old new on after c u outcome late test work written = by
           device = writes.device;
           before = state;
           after = writes.after;
-          was = itself honest state;
+          was = before_itself honest (gets c) state;
           becomes = writes.becomes;
           step = subst P (sym passed) (subst Q (sym work) (refl, writes.leaves, sym writes.ends));
           cause = subst Cause (sym work) writes.cause;
         }
     by_case false refused unwritten =
-        let honest = All store.is_honest after.stores in
+        let honest = HonestAt store.is_honest after.stores in
         let last : ResState = state_of store.fork new after in
         let P : Option OsErr → Type 0 = λ o. StepsUnless Memory (answered_disks honest store.may_leave) o device.Works state c [] (record { outcome = outcome; state = last }) in
-        record { device = device.Works; before = state; after = last; was = itself honest state; becomes = itself honest last; step = subst P (sym refused) (refl, sym unwritten.ends); cause = unwritten.works }
+        record { device = device.Works; before = state; after = last; was = before_itself honest (gets c) state; becomes = itself honest last; step = subst P (sym refused) (refl, sym unwritten.ends); cause = unwritten.works }
 
 -- what a result comes with, it comes with as it is told
 pub told_so : {X E F : Type 0} (P Q : Type 0) (result : Result X E) (told : Result X F) → is_ok told ≡ is_ok result → MatchResult result (λ done. Q) (λ fault. P) → MatchResult told (λ done. Q) (λ fault. P)

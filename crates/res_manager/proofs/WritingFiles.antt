@@ -1,8 +1,8 @@
 -- How writing a file ends.
-use Rattle.std.proofs.Common.{◌≡◌, ℕ, zero, suc, ◌-◌, ◌<◌, Bool, true, false, List, [], ◌∷◌, length, map, set, slice_get, All, Option, Some, None, Ok, Err, option_map, refl, ap, sym, subst, ◌∙◌, arith}
+use Rattle.std.proofs.Common.{◌≡◌, ℕ, zero, suc, ◌-◌, ◌≤◌, Bool, true, false, List, [], ◌∷◌, length, map, set, slice_get, unwrap_or, IfSome, Option, Some, None, Ok, Err, option_map, refl, ap, sym, subst, ◌∙◌}
 use Rattle.std.specs.Option.{option_map_or}
 use Rattle.std.proofs.lemmas.List.{length-map, length-set}
-use Rattle.std.proofs.lemmas.Option.{slice_get-map}
+use Rattle.res_files.proofs.Stores.{fork_or}
 use Rattle.std.specs.Prelude.{IsFalse, MatchBool}
 use Rattle.fork_bytes.specs.Written.{written}
 use Rattle.mac_base.specs.ZoneState.{ZoneState}
@@ -15,17 +15,19 @@ use Rattle.mac_calls.specs.declared.reply.Results.TheVariants.{Nothing}
 use Rattle.mac_calls.specs.Outcomes.{Outcome}
 use Rattle.res_calls.specs.Changes.{FileTable, Files, saved_table}
 use Rattle.fork_disk.specs.declared.store.ForkStore.{Ghosts}
-use Rattle.res_calls.specs.Answered.{AnswersFor, IsAnswered, blank_files}
+use Rattle.res_calls.specs.Answered.{AnswersFor, IsAnswered, known_files}
 use Rattle.res_calls.specs.Device.{Device, Disk}
 use Rattle.res_calls.specs.Device as device
 use Rattle.res_calls.specs.Files.{ResState, with_disk, with_files}
 use Rattle.res_calls.specs.Updates.{Update, behind_update, fits_fork, update_end, update_of}
-use Rattle.res_files.specs.FilesOn.{FailedAt, FilesOn, NoneFailed, fork_of, forks_with}
+use Rattle.res_files.specs.FilesOn.{FailedAt, FilesOn, HonestAt, NoneFailed, fork_of}
 use Rattle.res_table.specs.OpenFiles.{file_closed, rows_changed, table_of}
 use Rattle.res_manager.specs.Ends.{IsUnwritten, Writes, WritesFile}
 use Rattle.res_manager.specs.Steps.{state_of}
 use Rattle.res_manager.proofs.OpenedFiles.{disk-fork}
-use Rattle.res_manager.proofs.Blank.{answered-parts, answers-back}
+use Rattle.res_manager.proofs.Known.{answered-parts, answers-back}
+use Rattle.res_manager.proofs.Keeping.{one_kept}
+use Rattle.res_files.specs.Crash.{OthersStay}
 use Rattle.res_manager.proofs.States.{same_end}
 
 -- the update of a file is that of the table that it has
@@ -53,55 +55,69 @@ unfit : (A B : Type 0) (b : Bool) → b ≡ false → B → MatchBool b A B
 unfit A B false is h = h
 unfit A B true is h = absurd (cc is)
 
--- a fork that is set is the one that is there
-fork_set : {S : Type 0} (fork : S → List ℕ) (k : ℕ) (left : Disk) (on after : List S) → k - 1 < length on → map fork after ≡ forks_with fork k left on → fork_of fork k after ≡ left
-fork_set {S} fork k left on after within is =
-    of_map fork (slice_get after (k - 1)) ∙ ap (λ (o : Option Disk). option_map_or (λ (d : Disk). d) o []) (sym (slice_get-map fork after (k - 1)) ∙ ap (λ (forks : List Disk). slice_get forks (k - 1)) is
-    ∙ set_there (map fork on) (k - 1) left (subst (λ (n : ℕ). k - 1 < n) (sym (length-map on fork)) within))
-  where
-    of_map : (fork : S → List ℕ) (o : Option S) → option_map_or fork o [] ≡ option_map_or (λ (d : Disk). d) (option_map fork o) []
-    of_map fork None = refl
-    of_map fork (Some s) = refl
+-- the forks of stores, with another one of the file of a number
+abbrev forks_with : {S : Type 0} → (S → List ℕ) → ℕ → List ℕ → List S → List (List ℕ)
+forks_with fork number new stores = set (map fork stores) (number - 1) new
 
-    set_there : (xs : List Disk) (i : ℕ) (d : Disk) → i < length xs → slice_get (set xs i d) i ≡ Some d
-    set_there [] i d within = absurd (omega (arith, within))
-    set_there (x ∷ xs) zero d within = refl
-    set_there (x ∷ xs) (suc i) d within = set_there xs i d (omega (arith, within))
+-- where one of the forks is another, and the other stores are the same
+one_set : {S : Type 0} (fork : S → List ℕ) (on after : List S) (i at : ℕ) (disk : Disk) → length after ≡ length on → (at ≡ i → option_map_or fork (slice_get after at) [] ≡ disk)
+    → ((at ≡ i → ⊥) → slice_get after at ≡ slice_get on at) → unwrap_or (slice_get (set (map fork on) i disk) at) [] ≡ option_map_or fork (slice_get after at) []
+one_set fork [] [] i at disk count here other = refl
+one_set fork [] (s ∷ after) i at disk count here other = absurd (cc count)
+one_set fork (s ∷ on) [] i at disk count here other = absurd (cc count)
+one_set fork (s ∷ on) (t ∷ after) zero zero disk count here other = sym (here refl)
+one_set {S} fork (s ∷ on) (t ∷ after) zero (suc at) disk count here other =
+    fork_or fork on at ∙ ap (λ (o : Option S). option_map_or fork o []) (sym (other (λ same. absurd (cc same))))
+one_set {S} fork (s ∷ on) (t ∷ after) (suc i) zero disk count here other = ap (λ (o : Option S). option_map_or fork o []) (sym (other (λ same. absurd (cc same))))
+one_set fork (s ∷ on) (t ∷ after) (suc i) (suc at) disk count here other = one_set fork on after i at disk (cc count) (λ same. here (ap suc same)) (λ apart. other (λ same. apart (cc same)))
 
-module _ {S : Type 0} (store : Ghosts S) (zone : ZoneState) (on after : FilesOn S) (u : Update) (loads : after.loads ≡ on.loads) (count : length after.stores ≡ length on.stores) where
+module _ {S : Type 0} (store : Ghosts S) (zone : ZoneState) (on after : FilesOn S) (u : Update) (loads : after.loads ≡ on.loads) (count : length after.stores ≡ length on.stores) (others : OthersStay u.file on.stores after.stores) where
   abbrev state : ResState
   state = state_of store.fork zone on
 
   -- a state with these files and disks is as the devices answered
-  leaves_state : (files : Files) (disks : List Disk) → AnswersFor (All store.is_honest after.stores) files after.files → length disks ≡ length (map store.fork on.stores) → (All store.is_honest after.stores → map store.fork after.stores ≡ disks)
-      → IsAnswered (All store.is_honest after.stores) (state_of store.fork zone after) (record state { files = files; disks = disks })
+  leaves_state : (files : Files) (disks : List Disk) → AnswersFor (HonestAt store.is_honest after.stores) files after.files → length disks ≡ length (map store.fork on.stores) → ((n : ℕ) → 1 ≤ n → HonestAt store.is_honest after.stores n → unwrap_or (slice_get disks (n - 1)) [] ≡ fork_of store.fork n after.stores)
+      → IsAnswered (HonestAt store.is_honest after.stores) (state_of store.fork zone after) (record state { files = files; disks = disks })
   leaves_state files disks answers long forks =
-      answered-parts (All store.is_honest after.stores) (state_of store.fork zone after) (record state { files = files; disks = disks }) refl refl (answers-back (All store.is_honest after.stores) files after.files answers) (sym loads)
-      (long ∙ length-map on.stores store.fork ∙ sym count ∙ sym (length-map after.stores store.fork)) (λ honest. sym (forks honest))
+      answered-parts (HonestAt store.is_honest after.stores) (state_of store.fork zone after) (record state { files = files; disks = disks }) refl refl (answers-back (HonestAt store.is_honest after.stores) files after.files answers) (sym loads)
+      (long ∙ length-map on.stores store.fork ∙ sym count ∙ sym (length-map after.stores store.fork)) (λ n low honest. forks n low honest ∙ sym (disk-fork store.fork zone after n))
+
+  -- the disks, where this file has another one
+  one_disk : (disk : Disk) → (HonestAt store.is_honest after.stores u.file → fork_of store.fork u.file after.stores ≡ disk)
+      → (n : ℕ) → 1 ≤ n → HonestAt store.is_honest after.stores n → unwrap_or (slice_get (forks_with store.fork u.file disk on.stores) (n - 1)) [] ≡ fork_of store.fork n after.stores
+  one_disk disk is n low honest = one_set store.fork on.stores after.stores (u.file - 1) (n - 1) disk count
+      (λ same. subst (λ (i : ℕ). option_map_or store.fork (slice_get after.stores i) [] ≡ disk) (sym same) (is (subst (λ (i : ℕ). IfSome (slice_get after.stores i) store.is_honest) same honest)))
+      (λ apart. others n low (λ same. apart (ap (λ (k : ℕ). k - 1) same)))
+
+  -- or none has
+  no_disk : (HonestAt store.is_honest after.stores u.file → fork_of store.fork u.file after.stores ≡ fork_of store.fork u.file on.stores)
+      → (n : ℕ) → 1 ≤ n → HonestAt store.is_honest after.stores n → unwrap_or (slice_get (map store.fork on.stores) (n - 1)) [] ≡ fork_of store.fork n after.stores
+  no_disk same n low honest = fork_or store.fork on.stores (n - 1)
+      ∙ sym (one_kept u.file on.stores after.stores others (λ was now. IfSome now store.is_honest → option_map_or store.fork now [] ≡ option_map_or store.fork was []) (λ o h. refl) same n honest)
 
   -- the file is written
-  pub writes_all : fits_fork u.table ≡ true → AnswersFor (All store.is_honest after.stores) (rows_changed u.file (λ rows. u.table.rows) on.files) after.files
-      → (All store.is_honest after.stores → map store.fork after.stores ≡ forks_with store.fork u.file (written (saved_table u.table)) on.stores) → NoneFailed store.failures on.stores after.stores
+  pub writes_all : fits_fork u.table ≡ true → AnswersFor (HonestAt store.is_honest after.stores) (rows_changed u.file (λ rows. u.table.rows) on.files) after.files
+      → (HonestAt store.is_honest after.stores u.file → fork_of store.fork u.file after.stores ≡ written (saved_table u.table)) → NoneFailed store.failures on.stores after.stores
       → WritesFile store zone on (UpdateResFile None) u (Ok Nothing) zone after
   writes_all room files forks works =
       let disk = written (saved_table u.table) in
       fits _ _ (fits_fork u.table) room (record {
         device = device.Works;
         after = with_disk u.file disk (with_files (rows_changed u.file (λ rows. u.table.rows) on.files) state);
-        becomes = leaves_state (rows_changed u.file (λ rows. u.table.rows) on.files) (forks_with store.fork u.file disk on.stores) files (length-set (map store.fork on.stores) (u.file - 1) disk) forks;
+        becomes = leaves_state (rows_changed u.file (λ rows. u.table.rows) on.files) (forks_with store.fork u.file disk on.stores) files (length-set (map store.fork on.stores) (u.file - 1) disk) (one_disk disk forks);
         leaves = tt;
         ends = refl;
         cause = works;
       })
 
   -- the device fails before
-  pub writes_none : fits_fork u.table ≡ true → AnswersFor (All store.is_honest after.stores) on.files after.files → (All store.is_honest after.stores → map store.fork after.stores ≡ map store.fork on.stores)
+  pub writes_none : fits_fork u.table ≡ true → AnswersFor (HonestAt store.is_honest after.stores) on.files after.files → (HonestAt store.is_honest after.stores u.file → fork_of store.fork u.file after.stores ≡ fork_of store.fork u.file on.stores)
       → FailedAt store.failures u.file on.stores after.stores → WritesFile store zone on (UpdateResFile None) u (Err IoErr) zone after
   writes_none room files forks failed =
       fits _ _ (fits_fork u.table) room (record {
         device = device.FailsBefore;
         after = state;
-        becomes = leaves_state on.files (map store.fork on.stores) files refl forks;
+        becomes = leaves_state on.files (map store.fork on.stores) files refl (no_disk forks);
         leaves = tt;
         ends = refl;
         cause = failed;
@@ -115,28 +131,26 @@ module _ {S : Type 0} (store : Ghosts S) (zone : ZoneState) (on after : FilesOn 
 
   -- or later
   pub writes_part : fits_fork u.table ≡ true → after.files ≡ file_closed u.file on.files
-      → (All store.is_honest after.stores → (left : Disk) × store.may_leave (written (saved_table u.table)) (fork_of store.fork u.file on.stores) left × (map store.fork after.stores ≡ forks_with store.fork u.file left on.stores))
+      → (HonestAt store.is_honest after.stores u.file → store.may_leave (written (saved_table u.table)) (fork_of store.fork u.file on.stores) (fork_of store.fork u.file after.stores))
       → FailedAt store.failures u.file on.stores after.stores → WritesFile store zone on (UpdateResFile None) u (Err IoErr) zone after
   writes_part room files leaves failed =
       let left : Disk = fork_of store.fork u.file after.stores in
-      let within = failed.0 in
-      let mine : (honest : All store.is_honest after.stores) → (leaves honest).0 ≡ left = λ honest. sym (fork_set store.fork u.file (leaves honest).0 on.stores after.stores within (leaves honest).2) in
       fits _ _ (fits_fork u.table) room (record {
         device = device.FailsWriting left;
         after = with_disk u.file left (with_files (file_closed u.file on.files) state);
-        becomes = leaves_state (file_closed u.file on.files) (forks_with store.fork u.file left on.stores) (ap blank_files files, λ honest. files) (length-set (map store.fork on.stores) (u.file - 1) left)
-            (λ honest. (leaves honest).2 ∙ ap (λ (d : Disk). forks_with store.fork u.file d on.stores) (mine honest));
-        leaves = λ honest. subst (λ (d : Disk). store.may_leave (written (saved_table u.table)) d left) (sym (disk-fork store.fork zone on u.file)) (subst (λ (d : Disk). store.may_leave (written (saved_table u.table)) (fork_of store.fork u.file on.stores) d) (mine honest) (leaves honest).1);
+        becomes = leaves_state (file_closed u.file on.files) (forks_with store.fork u.file left on.stores) (λ known are. ap (known_files known) files) (length-set (map store.fork on.stores) (u.file - 1) left)
+            (one_disk left (λ honest. refl));
+        leaves = λ honest. subst (λ (d : Disk). store.may_leave (written (saved_table u.table)) d left) (sym (disk-fork store.fork zone on u.file)) (leaves honest);
         ends = refl;
         cause = failed;
       })
 
   -- the device fails, before or later
   pub writes_faulted : (fault : ReplaceFault) → fits_fork u.table ≡ true
-      → (fault ≡ BeforeFirstWrite → AnswersFor (All store.is_honest after.stores) on.files after.files)
-      → (All store.is_honest after.stores → fault ≡ BeforeFirstWrite → map store.fork after.stores ≡ map store.fork on.stores)
+      → (fault ≡ BeforeFirstWrite → AnswersFor (HonestAt store.is_honest after.stores) on.files after.files)
+      → (HonestAt store.is_honest after.stores u.file → fault ≡ BeforeFirstWrite → fork_of store.fork u.file after.stores ≡ fork_of store.fork u.file on.stores)
       → (fault ≡ Later → after.files ≡ file_closed u.file on.files)
-      → (All store.is_honest after.stores → fault ≡ Later → (left : Disk) × store.may_leave (written (saved_table u.table)) (fork_of store.fork u.file on.stores) left × (map store.fork after.stores ≡ forks_with store.fork u.file left on.stores))
+      → (HonestAt store.is_honest after.stores u.file → fault ≡ Later → store.may_leave (written (saved_table u.table)) (fork_of store.fork u.file on.stores) (fork_of store.fork u.file after.stores))
       → (fault ≡ BeforeFirstWrite → FailedAt store.failures u.file on.stores after.stores) → (fault ≡ Later → FailedAt store.failures u.file on.stores after.stores) → WritesFile store zone on (UpdateResFile None) u (Err IoErr) zone after
   writes_faulted BeforeFirstWrite room before forks closed later cause cause_later = writes_none room (before refl) (λ honest. forks honest refl) (cause refl)
   writes_faulted Later room before forks closed later cause cause_later = writes_part room (closed refl) (λ honest. later honest refl) (cause_later refl)

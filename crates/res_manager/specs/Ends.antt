@@ -1,5 +1,5 @@
 -- How calls end that ask nothing, and which calls need what.
-use Rattle.std.specs.Prelude.{◌≡◌, ℕ, Bool, true, false, ◌||◌, All, List, Result, MatchBool}
+use Rattle.std.specs.Prelude.{◌≡◌, ℕ, Bool, true, false, ◌||◌, List, Result, MatchBool}
 use Rattle.mac_base.specs.declared.error.OsErr.{OsErr}
 use Rattle.mac_base.specs.declared.error.OsErr.TheVariants.{DskFulErr}
 use Rattle.mac_base.specs.ZoneState.{ZoneState}
@@ -10,11 +10,12 @@ use Rattle.res_calls.specs.Changes.{FileTable}
 use Rattle.res_calls.specs.Device.{Device, ReadsBy, device_works}
 use Rattle.res_calls.specs.Answered.{IsAnswered, answered_disks}
 use Rattle.res_calls.specs.Files.{ResState, disk_of, refused_with}
+use Rattle.res_calls.specs.Loads.{gets}
 use Rattle.res_calls.specs.Quiet.{quiet_end}
 use Rattle.res_calls.specs.Steps.{LeavesDisk, opened_end, Memory}
 use Rattle.res_calls.specs.Updates.{Update, fits_fork, update_end}
 use Rattle.fork_disk.specs.declared.store.ForkStore.{Ghosts}
-use Rattle.res_files.specs.FilesOn.{FailedAt, FilesOn, NoneFailed}
+use Rattle.res_files.specs.FilesOn.{FailedAt, FilesOn, HonestAt, NoneFailed}
 use Rattle.res_manager.specs.Steps.{state_of}
 
 -- the call ends so and leaves these, as calls do that need neither room in the zone nor a disk
@@ -54,14 +55,6 @@ copies _ = false
 abbrev pub is_quiet : ResourceCall → Bool
 is_quiet call = copies call || (tells call || changes call)
 
--- whether a call gets or loads a resource
-abbrev pub gets : ResourceCall → Bool
-gets (call.GetResource kind id) = true
-gets (call.Get1Resource kind id) = true
-gets (call.GetIndResource kind i) = true
-gets (call.LoadResource h) = true
-gets _ = false
-
 -- whether a call writes a file, or a row of one
 abbrev pub writes : ResourceCall → Bool
 writes (call.WriteResource h) = true
@@ -77,8 +70,8 @@ is_calm call = gets call || is_quiet call
 pub record Writes {S : Type 0} (store : Ghosts S) (old : ZoneState) (old_files : FilesOn S) (call : ResourceCall) (u : Update) (outcome : Outcome) (new : ZoneState) (new_files : FilesOn S) : Type 0 where
   pub device : Device
   pub after : ResState
-  pub becomes : IsAnswered (All store.is_honest new_files.stores) (state_of store.fork new new_files) after
-  pub leaves : LeavesDisk Memory (answered_disks (All store.is_honest new_files.stores) store.may_leave) device u (disk_of u.file (state_of store.fork old old_files))
+  pub becomes : IsAnswered (HonestAt store.is_honest new_files.stores) (state_of store.fork new new_files) after
+  pub leaves : LeavesDisk Memory (answered_disks (HonestAt store.is_honest new_files.stores) store.may_leave) device u (disk_of u.file (state_of store.fork old old_files))
   pub ends : update_end device call u (state_of store.fork old old_files) ≡ record { outcome = outcome; state = after }
   pub cause : MatchBool (device_works device) (NoneFailed store.failures old_files.stores new_files.stores) (FailedAt store.failures u.file old_files.stores new_files.stores)
 
@@ -97,7 +90,7 @@ pub record OpensFile {S : Type 0} (store : Ghosts S) (zone : ZoneState) (old_fil
   pub device : Device
   pub read : Result FileTable OsErr
   pub after : ResState
-  pub becomes : IsAnswered (All store.is_honest new_files.stores) (state_of store.fork zone new_files) after
-  pub reads : ReadsBy (answered_disks (All store.is_honest new_files.stores) store.may_leave) device (disk_of k (state_of store.fork zone old_files)) read
+  pub becomes : IsAnswered (HonestAt store.is_honest new_files.stores) (state_of store.fork zone new_files) after
+  pub reads : ReadsBy (answered_disks (HonestAt store.is_honest new_files.stores) store.may_leave k) device (disk_of k (state_of store.fork zone old_files)) read
   pub ends : opened_end k (state_of store.fork zone old_files) read ≡ record { outcome = outcome; state = after }
   pub cause : MatchBool (device_works device) (NoneFailed store.failures old_files.stores new_files.stores) (FailedAt store.failures k old_files.stores new_files.stores)

@@ -1,5 +1,5 @@
 -- Loads of a row's bytes, step by step.
-use Rattle.std.specs.Prelude.{◌≡◌, ℕ, Bool, true, false, ◌==◌, All, List, length, Option, Some, None, unwrap_or, Result, Ok, Err, IfSome, MatchBool}
+use Rattle.std.specs.Prelude.{◌≡◌, ℕ, Bool, true, false, ◌==◌, List, length, Option, Some, None, unwrap_or, Result, Ok, Err, IfSome, MatchBool}
 use Rattle.mac_base.specs.declared.error.OsErr.{OsErr}
 use Rattle.mac_base.specs.declared.releasing.ReleasingCall.TheVariants.{DisposesHandle}
 use Rattle.mac_base.specs.HandleTable.{Live, FullHandle, live_at, is_lent, no_flags, with_live, zeros}
@@ -24,7 +24,7 @@ use Rattle.res_calls.specs.Answered.{IsAnswered, answered_disks}
 use Rattle.res_calls.specs.Loads.{loads_bytes, loaded_results}
 use Rattle.res_calls.specs.Steps.{GetsPlace, Memory}
 use Rattle.fork_disk.specs.declared.store.ForkStore.{Ghosts}
-use Rattle.res_files.specs.FilesOn.{FailedAt, FilesOn, NoneFailed}
+use Rattle.res_files.specs.FilesOn.{FailedAt, FilesOn, HonestAt, NoneFailed}
 use Rattle.res_manager.specs.Steps.{state_of}
 
 -- the outcome of a call that gets or loads a row, by the row's handle or the code of its refusal
@@ -33,7 +33,7 @@ loaded_outcome call (Ok h) = Ok (loaded_results call h)
 loaded_outcome call (Err code) = Err code
 
 -- From the old state, each call that gets or loads the row at a place, and loads its bytes or not, may ask so, end so and leave the new one.
-abbrev pub LoadsTo : DiskRelations → Device → ResState → RowPlace → Bool → List Ask → Result ℕ OsErr → ResState → Type 0
+abbrev pub LoadsTo : (ℕ → DiskRelations) → Device → ResState → RowPlace → Bool → List Ask → Result ℕ OsErr → ResState → Type 0
 LoadsTo disks device old place loads asks result new = (call : ResourceCall) → loads_bytes old call ≡ loads
     → GetsPlace Memory disks device old call asks (record { outcome = loaded_outcome call result; state = new }) place (row_at place old.files)
 
@@ -42,9 +42,9 @@ pub record LoadSteps {S : Type 0} (store : Ghosts S) (old : ZoneState) (old_file
   pub device : Device
   pub before : ResState
   pub after : ResState
-  pub was : IsAnswered (All store.is_honest new_files.stores) (state_of store.fork old old_files) before
-  pub becomes : IsAnswered (All store.is_honest new_files.stores) (state_of store.fork new new_files) after
-  pub step : LoadsTo (answered_disks (All store.is_honest new_files.stores) store.may_leave) device before place loads asks result after
+  pub was : IsAnswered (HonestAt store.is_honest new_files.stores) (state_of store.fork old old_files) before
+  pub becomes : IsAnswered (HonestAt store.is_honest new_files.stores) (state_of store.fork new new_files) after
+  pub step : LoadsTo (answered_disks (HonestAt store.is_honest new_files.stores) store.may_leave) device before place loads asks result after
   pub cause : MatchBool (device_works device) (NoneFailed store.failures old_files.stores new_files.stores) (FailedAt store.failures place.file old_files.stores new_files.stores)
 
 -- the call of the Memory Manager that makes the place for so many bytes: under the row's own handle, or a new one
@@ -86,7 +86,7 @@ flags_for attributes = record { lock = has_bit res_locked attributes; purge = ha
 abbrev pub loaded_with : ℕ → Flags → List ℕ → Heap → Heap
 loaded_with h flags bytes heap = with_table (with_live h (FullHandle flags bytes) heap.table) heap
 
--- bytes with which a device answers the read of a row: as many as it has, and where the devices are honest, its own
+-- bytes with which a device answers the read of a row: as many as it has, and where the device is honest, its own
 pub record AreAnswered (honest : Type 0) (size : ℕ) (row : Option FileRow) (bytes : List ℕ) : Type 0 where
   pub long : length bytes ≡ size
   pub own : honest → IfSome row (λ r. bytes ≡ r.resource.datum)

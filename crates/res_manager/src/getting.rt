@@ -1,11 +1,11 @@
 //! The calls that get or load a resource.
 
-ghost use Rattle.std.specs.Prelude.{◌≡◌, [], All, IsSome, IfSome, IsTrue, length};
+ghost use Rattle.std.specs.Prelude.{◌≡◌, [], IsSome, IfSome, IsTrue, length};
 ghost use Rattle.linked_zone.specs.Loans.{KeepsLoans};
 ghost use Rattle.res_calls.specs.Files.{ResState};
 ghost use Rattle.res_calls.specs.Loads.{loaded_results, loads_bytes, row_wanted};
 ghost use Rattle.res_files.specs.Stores.{KeepsStores};
-ghost use Rattle.res_manager.specs.Ends.{gets};
+ghost use Rattle.res_calls.specs.Loads.{gets};
 ghost use Rattle.res_manager.specs.Steps.{ResourceSteps, state_of};
 ghost use Rattle.res_manager.specs.Tests.{Passes, early_tests};
 ghost use Rattle.res_table.specs.OpenFiles.{row_at};
@@ -30,7 +30,7 @@ pub(crate) fn get<S: ForkStore, G: GrowZone>(
     requires passed { Passes (state_of S.fork memory.old files.old) (early_tests call.now) }
     requires unasked { G.asks procedure.old ≡ [] }
     ensures step { ResourceSteps S.ForkStore memory.old files.old call.now (G.asks procedure.new) result memory.new files.new }
-    ensures keeps { All S.is_honest files.new.stores → KeepsStores S.ForkStore files.old.stores files.new.stores }
+    ensures keeps { KeepsStores S.ForkStore files.old.stores files.new.stores }
     ensures source { G.source procedure.new ≡ G.source procedure.old }
     ensures loans { KeepsLoans memory.old memory.new }
     ensures lent { memory.new.heap.table.lent ≡ memory.old.heap.table.lent }

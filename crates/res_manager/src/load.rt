@@ -1,16 +1,15 @@
 //! Loads of resources: a row's bytes come into a block of the zone.
 
-ghost use Rattle.std.specs.Prelude.{◌≡◌, [], Some, true, false, not, ◌||◌, length, All, IsTrue, IsFalse, IsSome, IfOk, IfSome, OnOk, OnErr, IfErr, MatchResult, ◌≤◌, ◌<◌, ℕ, List, if◌then◌else◌};
+ghost use Rattle.std.specs.Prelude.{◌≡◌, [], Some, true, false, not, ◌||◌, length, IsTrue, IsFalse, IsSome, IfOk, IfSome, OnOk, OnErr, IfErr, MatchResult, ◌≤◌, ◌<◌, ℕ, List, if◌then◌else◌};
 ghost use Rattle.linked_zone.specs.Loans.{KeepsLoans};
 ghost use Rattle.mac_base.specs.declared.releasing.ReleasingCall.TheVariants.{DisposesHandle};
 ghost use Rattle.mac_base.specs.HandleTable.{is_full, with_flags};
 ghost use Rattle.mac_base.specs.Heap.{with_table, with_emptied};
-ghost use Rattle.mac_base.specs.FlagState.{flags_from};
 ghost use Rattle.mac_base.specs.Releasing.{heap_released};
 ghost use Rattle.mac_calls.specs.Outcomes.{Outcome};
 ghost use Rattle.res_calls.specs.Changes.{handles_forgotten, row_changed};
 ghost use Rattle.mac_calls.specs.Released.{disposed_in};
-ghost use Rattle.res_files.specs.FilesOn.{FailedAt, NoneFailed};
+ghost use Rattle.res_files.specs.FilesOn.{FailedAt, HonestAt, NoneFailed};
 ghost use Rattle.res_files.specs.Stores.{KeepsStores};
 ghost use Rattle.res_calls.specs.Answered.{AnswersFor};
 ghost use Rattle.res_table.specs.OpenFiles.{row_at};
@@ -21,11 +20,12 @@ ghost use Rattle.res_calls.specs.Steps.{Memory};
 use crate::watch::Watched;
 use bitflags::Flags;
 use fork_disk::store::ForkStore;
+use mac_base::block;
 use mac_base::error::OsErr;
 use mac_base::handle::Handle;
 use mac_base::resource::ResAttrs;
 use mac_calls::GrowZone;
-use mem_calls::MemoryManager;
+use mem_calls::{MemoryManager, state_of};
 use res_files::ResourceFiles;
 use res_table::chain::RowPlace;
 
@@ -42,7 +42,7 @@ pub(crate) fn get_row<S: ForkStore, G: GrowZone>(
     requires unasked { G.asks procedure.old ≡ [] }
     requires there { IsSome (row_at place files.old.files) }
     ensures step { LoadSteps S.ForkStore memory.old files.old place loads (G.asks procedure.new) result memory.new files.new }
-    ensures keeps { All S.is_honest files.new.stores → KeepsStores S.ForkStore files.old.stores files.new.stores }
+    ensures keeps { KeepsStores S.ForkStore files.old.stores files.new.stores }
     ensures source { G.source procedure.new ≡ G.source procedure.old }
     ensures loans { KeepsLoans memory.old memory.new }
     ensures lent { memory.new.heap.table.lent ≡ memory.old.heap.table.lent }
@@ -176,7 +176,7 @@ fn load_bytes<S: ForkStore>(
 ) -> Result<(), OsErr>
     requires placed { IsPlaced memory.old.heap handle size }
     requires long { HasBytes size (row_at place files.old.files) }
-    ensures loaded { OnOk result ((bytes : List ℕ) × AreAnswered (All S.is_honest files.new.stores) size (row_at place files.old.files) bytes
+    ensures loaded { OnOk result ((bytes : List ℕ) × AreAnswered (HonestAt S.is_honest files.new.stores place.file) size (row_at place files.old.files) bytes
         × (memory.new.heap ≡ loaded_with handle (flags_for attributes) bytes memory.old.heap)) }
     ensures undone { OnErr result (memory.new.heap ≡ (if is_own then with_emptied memory.old.heap handle else heap_released (DisposesHandle handle) memory.old.heap)) }
     ensures code { IfErr result (λ code. code ≡ OsErr.IoErr) }
@@ -184,8 +184,8 @@ fn load_bytes<S: ForkStore>(
     ensures loans { KeepsLoans memory.old memory.new }
     ensures lent { memory.new.heap.table.lent ≡ memory.old.heap.table.lent }
     ensures shape { memory.new.shape ≡ memory.old.shape }
-    ensures files { AnswersFor (All S.is_honest files.new.stores) files.old.files files.new.files }
-    ensures keeps { All S.is_honest files.new.stores → KeepsStores S.ForkStore files.old.stores files.new.stores }
+    ensures files { AnswersFor (HonestAt S.is_honest files.new.stores) files.old.files files.new.files }
+    ensures keeps { KeepsStores S.ForkStore files.old.stores files.new.stores }
     ensures loads { files.new.loads ≡ files.old.loads }
     ensures count { length files.new.stores ≡ length files.old.stores }
     ensures cause { MatchResult result (λ _. NoneFailed S.failures files.old.stores files.new.stores) (λ _. FailedAt S.failures place.file files.old.stores files.new.stores) }
@@ -209,13 +209,13 @@ fn read_bytes<S: ForkStore>(
     requires placed { IsPlaced memory.old.heap handle size }
     requires long { HasBytes size (row_at place files.old.files) }
     ensures filled { (bytes : List ℕ) × IsFilled handle bytes memory.old.heap memory.new.heap
-        × OnOk result (AreAnswered (All S.is_honest files.new.stores) size (row_at place files.old.files) bytes) }
+        × OnOk result (AreAnswered (HonestAt S.is_honest files.new.stores place.file) size (row_at place files.old.files) bytes) }
     ensures code { IfErr result (λ code. code ≡ OsErr.IoErr) }
     ensures some { OnErr result (0 < size) }
     ensures loans { KeepsLoans memory.old memory.new }
     ensures shape { memory.new.shape ≡ memory.old.shape }
-    ensures files { AnswersFor (All S.is_honest files.new.stores) files.old.files files.new.files }
-    ensures keeps { All S.is_honest files.new.stores → KeepsStores S.ForkStore files.old.stores files.new.stores }
+    ensures files { AnswersFor (HonestAt S.is_honest files.new.stores) files.old.files files.new.files }
+    ensures keeps { KeepsStores S.ForkStore files.old.stores files.new.stores }
     ensures loads { files.new.loads ≡ files.old.loads }
     ensures count { length files.new.stores ≡ length files.old.stores }
     ensures cause { MatchResult result (λ _. NoneFailed S.failures files.old.stores files.new.stores) (λ _. FailedAt S.failures place.file files.old.stores files.new.stores) }
@@ -251,20 +251,16 @@ fn set_flags(memory: &mut MemoryManager, handle: Handle, attributes: ResAttrs)
     ensures shape { memory.new.shape ≡ memory.old.shape }
 {
     // It isn't refused: the handle has a block that isn't lent.
-    let _ = memory.hset_state(handle, state_for(attributes));
+    let _ = memory.hset_state(handle, state_of(flags_for(attributes)));
 }
 
-/// The state of the handle of a loaded row with these attributes, as HSetState takes it.
-fn state_for(attributes: ResAttrs) -> u32
-    ensures flags { flags_from result ≡ flags_for attributes }
-    ensures possible { result ≤ 255 }
+/// The flags of the handle of a loaded row with these attributes.
+fn flags_for(attributes: ResAttrs) -> block::Flags
+    ensures { result ≡ flags_for attributes }
 {
-    let locked = attributes.contains(ResAttrs::LOCKED);
-    let purgeable = attributes.contains(ResAttrs::PURGEABLE);
-    match (locked, purgeable) {
-        (true, true) => 224,
-        (true, false) => 160,
-        (false, true) => 96,
-        (false, false) => 32,
+    block::Flags {
+        lock: attributes.contains(ResAttrs::LOCKED),
+        purge: attributes.contains(ResAttrs::PURGEABLE),
+        resource: true,
     }
 }

@@ -1,10 +1,11 @@
 //! One call of the Resource Manager.
 
-ghost use Rattle.std.specs.Prelude.{◌≡◌, [], None, length, All, IsTrue, IfOk, OnErr};
+ghost use Rattle.std.specs.Prelude.{◌≡◌, [], None, length, IsTrue, IfOk, OnErr};
 ghost use Rattle.linked_zone.specs.Loans.{KeepsLoans};
 ghost use Rattle.res_calls.specs.Answered.{IsAnswered};
 ghost use Rattle.res_calls.specs.Tests.{resource_refusal};
 ghost use Rattle.mac_calls.specs.declared.resource_call.ResourceCall.TheVariants as call;
+ghost use Rattle.res_files.specs.FilesOn.{HonestAt};
 ghost use Rattle.res_manager.specs.Crash.{LeavesForks};
 ghost use Rattle.res_manager.specs.Ends.{EndsQuietly, copies, is_calm, is_quiet};
 ghost use Rattle.res_manager.specs.Steps.{ResourceSteps, state_of, takes_memory};
@@ -19,11 +20,8 @@ use fork_disk::store::ForkStore;
 use mac_base::error::HostFull;
 use mac_calls::{GrowZone, Outcome, ResourceCall, Results};
 use mem_calls::MemoryManager;
-use res_files::ResourceFiles;
+use res_files::{MOST_FILES, ResourceFiles};
 use std::alloc::Global;
-
-/// The most files that a run has.
-const MOST_FILES: usize = 8;
 
 /// Makes a call of the Resource Manager. One that loads a resource makes its place by a call of the Memory Manager, which asks the
 /// grow-zone procedure where it finds no room. The blocks that are lent are told in any order. HostFull comes only where the call isn't refused, from calls that take host memory for
@@ -40,7 +38,7 @@ pub fn make<S: ForkStore, G: GrowZone>(
     requires lent { AreLent memory.old.heap.table lent.now }
     requires unasked { G.asks procedure.old ≡ [] }
     ensures step { IfOk result (λ outcome. ResourceSteps S.ForkStore memory.old files.old call.now (G.asks procedure.new) outcome memory.new files.new) }
-    ensures leaves { All S.is_honest files.new.stores → LeavesForks S.ForkStore memory.old files.old call.now result memory.new files.new }
+    ensures leaves { LeavesForks S.ForkStore memory.old files.old call.now result memory.new files.new }
     ensures source { G.source procedure.new ≡ G.source procedure.old }
     ensures loans { KeepsLoans memory.old memory.new }
     ensures lent { memory.new.heap.table.lent ≡ memory.old.heap.table.lent }
@@ -48,7 +46,7 @@ pub fn make<S: ForkStore, G: GrowZone>(
     ensures count { length files.new.stores ≡ length files.old.stores }
     ensures unchanged { OnErr result (memory.new ≡ memory.old) }
     ensures unasked { OnErr result (G.asks procedure.new ≡ []) }
-    ensures same { OnErr result (IsAnswered (All S.is_honest files.new.stores) (state_of S.fork memory.new files.new) (state_of S.fork memory.old files.old)) }
+    ensures same { OnErr result (IsAnswered (HonestAt S.is_honest files.new.stores) (state_of S.fork memory.new files.new) (state_of S.fork memory.old files.old)) }
     ensures full { OnErr result (IsTrue (takes_memory (state_of S.fork memory.old files.old) call.now)) }
     ensures late { OnErr result (resource_refusal (state_of S.fork memory.old files.old) call.now ≡ None) }
 {
@@ -76,7 +74,7 @@ fn make_calm<S: ForkStore, G: GrowZone>(
     requires passed { Passes (state_of S.fork memory.old files.old) (early_tests call.now) }
     requires unasked { G.asks procedure.old ≡ [] }
     ensures step { IfOk result (λ outcome. ResourceSteps S.ForkStore memory.old files.old call.now (G.asks procedure.new) outcome memory.new files.new) }
-    ensures leaves { All S.is_honest files.new.stores → LeavesForks S.ForkStore memory.old files.old call.now result memory.new files.new }
+    ensures leaves { LeavesForks S.ForkStore memory.old files.old call.now result memory.new files.new }
     ensures source { G.source procedure.new ≡ G.source procedure.old }
     ensures loans { KeepsLoans memory.old memory.new }
     ensures lent { memory.new.heap.table.lent ≡ memory.old.heap.table.lent }
@@ -84,7 +82,7 @@ fn make_calm<S: ForkStore, G: GrowZone>(
     ensures count { length files.new.stores ≡ length files.old.stores }
     ensures unchanged { OnErr result (memory.new ≡ memory.old) }
     ensures unasked { OnErr result (G.asks procedure.new ≡ []) }
-    ensures same { OnErr result (IsAnswered (All S.is_honest files.new.stores) (state_of S.fork memory.new files.new) (state_of S.fork memory.old files.old)) }
+    ensures same { OnErr result (IsAnswered (HonestAt S.is_honest files.new.stores) (state_of S.fork memory.new files.new) (state_of S.fork memory.old files.old)) }
     ensures full { OnErr result (IsTrue (takes_memory (state_of S.fork memory.old files.old) call.now)) }
     ensures late { OnErr result (resource_refusal (state_of S.fork memory.old files.old) call.now ≡ None) }
 {
@@ -146,8 +144,8 @@ fn open_file<S: ForkStore>(
 ) -> Result<Outcome, HostFull>
     requires { Passes (state_of S.fork memory.now files.old) (early_tests (call.OpenResFile number)) }
     ensures step { IfOk result (λ outcome. ResourceSteps S.ForkStore memory.now files.old (call.OpenResFile number) [] outcome memory.now files.new) }
-    ensures leaves { All S.is_honest files.new.stores → LeavesForks S.ForkStore memory.now files.old (call.OpenResFile number) result memory.now files.new }
-    ensures same { OnErr result (IsAnswered (All S.is_honest files.new.stores) (state_of S.fork memory.now files.new) (state_of S.fork memory.now files.old)) }
+    ensures leaves { LeavesForks S.ForkStore memory.now files.old (call.OpenResFile number) result memory.now files.new }
+    ensures same { OnErr result (IsAnswered (HonestAt S.is_honest files.new.stores) (state_of S.fork memory.now files.new) (state_of S.fork memory.now files.old)) }
     ensures full { OnErr result (IsTrue (takes_memory (state_of S.fork memory.now files.old) (call.OpenResFile number))) }
     ensures count { length files.new.stores ≡ length files.old.stores }
 {

@@ -1,6 +1,6 @@
 //! The call that opens a file.
 
-ghost use Rattle.std.specs.Prelude.{◌≡◌, ◌≤◌, All, IfOk, OnErr, IsFalse, length};
+ghost use Rattle.std.specs.Prelude.{◌≡◌, ◌≤◌, IfOk, OnErr, IsFalse, length};
 ghost use Rattle.mac_base.specs.ZoneState.{ZoneState};
 ghost use Rattle.res_manager.specs.Crash.{OpensFork};
 ghost use Rattle.res_manager.specs.Ends.{OpensFile};
@@ -20,7 +20,7 @@ pub(crate) fn open<S: ForkStore>(
     requires closed { IsFalse (is_open number files.old.files) }
     ensures opened { IfOk result (λ outcome. (zone : ZoneState) → OpensFile S.ForkStore zone files.old number outcome files.new) }
     ensures full { OnErr result (files.new.files ≡ files.old.files) }
-    ensures opens { All S.is_honest files.new.stores → OpensFork S.ForkStore number files.old.stores files.new.stores result }
+    ensures opens { OpensFork S.ForkStore number files.old.stores files.new.stores result }
     ensures loads { files.new.loads ≡ files.old.loads }
     ensures count { length files.new.stores ≡ length files.old.stores }
 {

@@ -23,6 +23,7 @@ use mac_base::resource::{ResAttrs, ResType};
 use mac_calls::{ResourceCall, ResourceInfo, Results};
 use mem_calls::MemoryManager;
 use res_files::ResourceFiles;
+use res_table::attributes::unmarked;
 use std::alloc::Global;
 
 /// What a call gives that only tells what the open files say.
@@ -206,7 +207,9 @@ fn mark<S: ForkStore>(files: &mut ResourceFiles<S>, handle: Handle)
 fn marked(attributes: ResAttrs) -> ResAttrs
     ensures { result ≡ marked attributes }
 {
-    ResAttrs::from_bits_retain(attributes.bits() | 2)
+    let mut attributes = attributes;
+    attributes.insert(ResAttrs::CHANGED);
+    attributes
 }
 
 /// SetResAttrs: the resource has other attributes, but whether it is changed stays.
@@ -227,10 +230,11 @@ fn set_attributes<S: ForkStore>(files: &mut ResourceFiles<S>, handle: Handle, at
 fn replaced_attributes(new: u8, old: ResAttrs) -> ResAttrs
     ensures { result ≡ replaced_attributes new old }
 {
+    let new = ResAttrs::from_bits_retain(new);
     if old.contains(ResAttrs::CHANGED) {
-        ResAttrs::from_bits_retain(new | 2)
+        marked(new)
     } else {
-        ResAttrs::from_bits_retain(new & 253)
+        unmarked(new)
     }
 }
 

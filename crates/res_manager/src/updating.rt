@@ -1,6 +1,6 @@
 //! The calls that write files.
 
-ghost use Rattle.std.specs.Prelude.{◌≡◌, [], All, IfOk, OnErr, IsTrue, IsFalse, Some, None, length};
+ghost use Rattle.std.specs.Prelude.{◌≡◌, [], IfOk, OnErr, IsTrue, IsFalse, Some, None, length};
 ghost use Rattle.linked_zone.specs.Loans.{KeepsLoans};
 ghost use Rattle.mac_calls.specs.declared.resource_call.ResourceCall.TheVariants as call;
 ghost use Rattle.res_calls.specs.Changes.{rows_of};
@@ -33,7 +33,7 @@ pub(crate) fn update<S: ForkStore>(
     requires writes { IsTrue (writes call.now) }
     requires passed { Passes (state_of S.fork memory.old files.old) (early_tests call.now) }
     ensures step { IfOk result (λ outcome. ResourceSteps S.ForkStore memory.old files.old call.now [] outcome memory.new files.new) }
-    ensures leaves { All S.is_honest files.new.stores → LeavesForks S.ForkStore memory.old files.old call.now result memory.new files.new }
+    ensures leaves { LeavesForks S.ForkStore memory.old files.old call.now result memory.new files.new }
     ensures loans { KeepsLoans memory.old memory.new }
     ensures lent { memory.new.heap.table.lent ≡ memory.old.heap.table.lent }
     ensures shape { memory.new.shape ≡ memory.old.shape }
@@ -69,7 +69,7 @@ fn write_resource<S: ForkStore>(
 ) -> Result<Outcome, HostFull>
     requires { Passes (state_of S.fork memory.now files.old) (early_tests (call.WriteResource handle)) }
     ensures step { IfOk result (λ outcome. ResourceSteps S.ForkStore memory.now files.old (call.WriteResource handle) [] outcome memory.now files.new) }
-    ensures leaves { All S.is_honest files.new.stores → LeavesForks S.ForkStore memory.now files.old (call.WriteResource handle) result memory.now files.new }
+    ensures leaves { LeavesForks S.ForkStore memory.now files.old (call.WriteResource handle) result memory.now files.new }
     ensures count { length files.new.stores ≡ length files.old.stores }
     ensures same { OnErr result (files.new ≡ files.old) }
     ensures late { OnErr result (resource_refusal (state_of S.fork memory.now files.old) (call.WriteResource handle) ≡ None) }
@@ -95,7 +95,7 @@ fn close<S: ForkStore>(
     ensures written { IfOk result (λ outcome. (u : Update)
         → update_of number (updated memory.old.heap.table Selection.AllChanged) files.old.files ≡ Some u
         → WritesFile S.ForkStore memory.old files.old (call.CloseResFile None) u outcome memory.new files.new) }
-    ensures saves { All S.is_honest files.new.stores → SavesFork S.ForkStore number (update_of number (updated memory.old.heap.table Selection.AllChanged) files.old.files) files.old.stores memory.new files.new result }
+    ensures saves { SavesFork S.ForkStore number (update_of number (updated memory.old.heap.table Selection.AllChanged) files.old.files) files.old.stores memory.new files.new result }
     ensures loans { KeepsLoans memory.old memory.new }
     ensures lent { memory.new.heap.table.lent ≡ memory.old.heap.table.lent }
     ensures shape { memory.new.shape ≡ memory.old.shape }
@@ -127,7 +127,7 @@ fn write_file<S: ForkStore>(
     ensures written { IfOk result (λ outcome. (u : Update)
         → update_of number (updated memory.now.heap.table selection) files.old.files ≡ Some u
         → WritesFile S.ForkStore memory.now files.old (call.UpdateResFile None) u outcome memory.now files.new) }
-    ensures saves { All S.is_honest files.new.stores → SavesFork S.ForkStore number (update_of number (updated memory.now.heap.table selection) files.old.files) files.old.stores memory.now files.new result }
+    ensures saves { SavesFork S.ForkStore number (update_of number (updated memory.now.heap.table selection) files.old.files) files.old.stores memory.now files.new result }
     ensures count { length files.new.stores ≡ length files.old.stores }
     ensures same { OnErr result (files.new ≡ files.old) }
     ensures fits { OnErr result ((u : Update)

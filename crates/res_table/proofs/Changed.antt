@@ -6,15 +6,16 @@ use Rattle.std.specs.Option.{option_map_or}
 use Rattle.std.proofs.Math.Bool.{and_comm}
 use Rattle.std.proofs.lemmas.List.{drop_more}
 use Rattle.std.proofs.lemmas.List.Elements.{All-drop}
+use Rattle.std.proofs.lemmas.Bool.{eq-eqb}
 use Rattle.res_table.specs.declared.row.Row.{Row}
-use Rattle.row_index.specs.declared.keyed.Pair.{Pair}
+use Rattle.res_table.specs.declared.keyed.Pair.{Pair}
 use Rattle.res_table.specs.Rows.{has_changed, is_changed}
-use Rattle.row_index.specs.Keyed.{key_of_handle, rank, with_key, AreInOrder}
+use Rattle.res_table.specs.Keyed.{key_of_handle, rank, with_key, AreInOrder}
 use Rattle.res_table.specs.Indexed.{handle_key, pairs_from, pairs_of}
-use Rattle.row_index.proofs.HandleKeys.{key_tells}
-use Rattle.row_index.proofs.Pairs.{order_dropped}
+use Rattle.res_table.proofs.HandleKeys.{key_tells}
+use Rattle.res_table.proofs.Pairs.{order_dropped}
 use Rattle.res_table.proofs.RowPairs.{order_kept, places_below, row_is}
-use Rattle.row_index.proofs.AnyPair.{below, above, alike, any_with, any_from, none_behind, least_key}
+use Rattle.res_table.proofs.AnyPair.{below, above, any_with, any_from, none_behind, least_key}
 
 -- whether a pair has the key, and its row is changed
 abbrev pub is_changed_pair : {D : Type 0} → ℕ → List (Row D) → Pair → Bool
@@ -91,6 +92,6 @@ module _ {D : Type 0} (h k : ℕ) (rows : List (Row D)) (ps rest : List Pair) (k
   by_row i d r changed within same read told =
       let found : slice_get rows (get_or rest i d).place ≡ Some r = row_is (get_or rest i d).place r rows (place_within i d within) read in
       this i d within
-      ∙ ap (λ (t : Bool). (t && option_map_or is_changed (slice_get rows (get_or rest i d).place) false) || list_any test (drop (i + 1) rest)) (alike (get_or rest i d).key k same)
+      ∙ ap (λ (t : Bool). (t && option_map_or is_changed (slice_get rows (get_or rest i d).place) false) || list_any test (drop (i + 1) rest)) (eq-eqb (get_or rest i d).key k same)
       ∙ ap (λ (found : Option (Row D)). option_map_or is_changed found false || list_any test (drop (i + 1) rest)) found
       ∙ ap (λ (t : Bool). t || list_any test (drop (i + 1) rest)) (sym told)

@@ -8,8 +8,8 @@ use Rattle.std.proofs.Math.Seq.{map-set_same}
 use Rattle.std.proofs.lemmas.List.Elements.{All-head, All-tail}
 use Rattle.res_table.specs.declared.row.Row.{Row}
 use Rattle.res_table.specs.Rows.{changed_handle}
-use Rattle.res_table.specs.Indexed.{IsTold}
-use Rattle.row_index.specs.Keyed.{key_of_resource}
+use Rattle.res_table.specs.Indexed.{IsKept}
+use Rattle.res_table.specs.Keyed.{key_of_resource}
 
 -- the handles of rows, of which one was changed, put in or taken out
 pub handles_set : {D : Type 0} (i : ℕ) (new now : Row D) (rows : List (Row D)) (handles : List (Option ℕ)) (handle : Option ℕ) → i < length rows → now ≡ get_or (set rows i new) i now
@@ -48,8 +48,8 @@ handles_removed zero (r ∷ rows) = refl
 handles_removed (suc i) (r ∷ rows) = ap (λ (hs : List (Option ℕ)). changed_handle r ∷ hs) (handles_removed i rows)
 
 -- a type that is told by its key has four bytes
-pub kinds_are_four : {D : Type 0} (rows : List (Row D)) → All IsTold rows → AllByRecursion (λ r. length r.resource.kind ≡ 4) rows
+pub kinds_are_four : {D : Type 0} (rows : List (Row D)) → All IsKept rows → AllByRecursion (λ r. length r.resource.kind ≡ 4) rows
 kinds_are_four [] told = tt
 kinds_are_four (r ∷ rows) told =
     let bytes : length (to_be_bytes w32 (key_of_resource r.resource.kind r.resource.id / 65536)) ≡ 4 = refl in
-    (sym (ap (λ (bs : List ℕ). length bs) (All-head IsTold r rows told).0) ∙ bytes, kinds_are_four rows (All-tail IsTold r rows told))
+    (sym (ap (λ (bs : List ℕ). length bs) (All-head IsKept r rows told).0.0) ∙ bytes, kinds_are_four rows (All-tail IsKept r rows told))

@@ -7,7 +7,7 @@ use Rattle.std.proofs.lemmas.List.Quantifiers.{position-Some}
 use Rattle.res_table.specs.declared.row.Row.{Row}
 use Rattle.res_table.specs.declared.chain.OpenFile.{OpenFile}
 use Rattle.res_table.specs.declared.chain.RowPlace.{RowPlace}
-use Rattle.res_table.specs.OpenFiles.{place_in, latest_place, earliest_place, OpenFiles, is_numbered, is_open, is_current, without, last_number, file_closed, with_rows, changed_file, table_in, row_at}
+use Rattle.res_table.specs.OpenFiles.{place_in, latest_place, earliest_place, OpenFiles, is_numbered, is_open, is_current, without, last_number, file_closed, with_rows, changed_file, rows_changed, table_in, row_at}
 use Rattle.res_table.specs.declared.chain.ResourceTable.{ResourceTable}
 use Rattle.res_table.proofs.Forgetting.{past_end}
 
@@ -157,3 +157,19 @@ pub row_found : {D : Type 0} (place : RowPlace) (chain : OpenFiles D) (at : ℕ)
     → row_at place chain ≡ slice_get f.table.rows place.index
 row_found {D} place chain at f is read =
     ap (λ (found : Option (OpenFile D)). option_and_then (λ (table : ResourceTable D). slice_get table.rows place.index) (option_map table_in found)) (file_found place.file chain.files at f is read).file
+
+-- a file that is found in a chain, read off the chain's parts
+module _ {D : Type 0} (k : ℕ) (files : List (OpenFile D)) (current : Option ℕ) (now : OpenFiles D) (found : Option ℕ) (at : ℕ) (f : OpenFile D)
+    (view : (let chain : OpenFiles D = record { files = files; current = current } in chain) ≡ now) (is : found ≡ position (is_numbered k) now.files) (some : found ≡ Some at) (read : f ≡ get_or files at f) where
+  -- a row at a place in it is within
+  pub row_inside : (index : ℕ) → IsSome (row_at (record { file = k; index = index }) now) → index < length f.table.rows
+  row_inside index there = row_within (record { file = k; index = index }) now at f (sym is ∙ some) (read ∙ ap (λ (chain : OpenFiles D). get_or chain.files at f) view) there
+
+  -- the chain in which its rows are changed
+  pub rows_written : (change : List (Row D) → List (Row D)) (rows : List (Row D)) → rows ≡ change f.table.rows
+      → (let chain : OpenFiles D = record { files = set files at (record { number = f.number; table = record { rows = rows; extra = f.table.extra; map_attributes = f.table.map_attributes } }); current = current } in chain) ≡ rows_changed k change now
+  rows_written change rows changed =
+      ap (λ (rows : List (Row D)). let chain : OpenFiles D = record { files = set files at (record { number = f.number; table = record { rows = rows; extra = f.table.extra; map_attributes = f.table.map_attributes } }); current = current } in chain) changed
+      ∙ ap (λ (files : List (OpenFile D)). let chain : OpenFiles D = record { files = files; current = current } in chain)
+      (changed_found k change files at f (ap (λ (chain : OpenFiles D). position (is_numbered k) chain.files) view ∙ sym is ∙ some) read)
+      ∙ ap (rows_changed k change) view

@@ -6,12 +6,12 @@ use Rattle.std.specs.List.{list_any}
 use Rattle.std.proofs.lemmas.Int.{ints, to_z-of_z}
 use Rattle.std.proofs.lemmas.List.Elements.{All-head, All-tail}
 use Rattle.res_table.specs.declared.row.Row.{Row}
-use Rattle.row_index.specs.declared.keyed.Pair.{Pair}
-use Rattle.row_index.specs.Keyed.{key_of_resource, has_pair}
-use Rattle.res_table.specs.Indexed.{resource_key, pairs_from, pairs_of, IsTold}
+use Rattle.res_table.specs.declared.keyed.Pair.{Pair}
+use Rattle.res_table.specs.Keyed.{key_of_resource, has_pair}
+use Rattle.res_table.specs.Indexed.{resource_key, pairs_from, pairs_of, IsKept}
 use Rattle.res_table.specs.Rows.{is_resource, free_id_from, unique_id}
 use Rattle.res_table.proofs.RowPairs.{has_key, few_pairs}
-use Rattle.row_index.proofs.AnyPair.{any_with}
+use Rattle.res_table.proofs.AnyPair.{any_with}
 use Rattle.res_table.proofs.Resources.{told_by_key}
 
 -- a pair of rows has the key of one of them
@@ -21,13 +21,13 @@ has_from k at (r ∷ rows) =
     any_with (λ p. p.key == k) (record { key = key_of_resource r.resource.kind r.resource.id; place = at }) (pairs_from resource_key (at + 1) rows) ∙ ap (λ (t : Bool). has_key resource_key k r || t) (has_from k (at + 1) rows)
 
 -- and so that row's type and id
-told_any : {D : Type 0} (kind : List ℕ) (id : ℤ) (k : ℕ) (rows : List (Row D)) → k ≡ key_of_resource kind id → to_be_bytes w32 (k / 65536) ≡ kind → cast_signed w16 (k % 65536) ≡ id → All IsTold rows
+told_any : {D : Type 0} (kind : List ℕ) (id : ℤ) (k : ℕ) (rows : List (Row D)) → k ≡ key_of_resource kind id → to_be_bytes w32 (k / 65536) ≡ kind → cast_signed w16 (k % 65536) ≡ id → All IsKept rows
     → list_any (has_key resource_key k) rows ≡ list_any (is_resource kind id) rows
 told_any kind id k [] is kinds ids all = refl
 told_any kind id k (r ∷ rows) is kinds ids all =
-    let told = All-head IsTold r rows all in
-    ap (λ (t : Bool). t || list_any (has_key resource_key k) rows) (told_by_key kind id r _ k refl is told.0 told.1 kinds ids)
-    ∙ ap (λ (t : Bool). is_resource kind id r || t) (told_any kind id k rows is kinds ids (All-tail IsTold r rows all))
+    let told = All-head IsKept r rows all in
+    ap (λ (t : Bool). t || list_any (has_key resource_key k) rows) (told_by_key kind id r _ k refl is told.0.0 told.0.1 kinds ids)
+    ∙ ap (λ (t : Bool). is_resource kind id r || t) (told_any kind id k rows is kinds ids (All-tail IsKept r rows all))
 
 -- the keys of ids from 128 on follow one another
 high : (n first k : ℕ) → first ≡ n * 65536 + 128 → k ≤ 8192 → (first + k) / 65536 ≡ first / 65536
@@ -39,7 +39,7 @@ low n first k is small = omega arith
 as_signed : (n : ℕ) → n < 32768 → cast_signed w16 n ≡ pos n
 as_signed n small = omega (arith, ints)
 
-id_taken : {D : Type 0} (kind : List ℕ) (rows : List (Row D)) (ps : List Pair) (first k : ℕ) → ps ≡ pairs_of resource_key rows → All IsTold rows → first ≡ key_of_resource kind (pos 128) → to_be_bytes w32 (first / 65536) ≡ kind → k ≤ 8192
+id_taken : {D : Type 0} (kind : List ℕ) (rows : List (Row D)) (ps : List Pair) (first k : ℕ) → ps ≡ pairs_of resource_key rows → All IsKept rows → first ≡ key_of_resource kind (pos 128) → to_be_bytes w32 (first / 65536) ≡ kind → k ≤ 8192
     → list_any (is_resource kind (pos (128 + k))) rows ≡ has_pair (first + k) ps
 id_taken kind rows ps first k is all start kinds small =
     let key : first + k ≡ key_of_resource kind (pos (128 + k)) = omega arith in
@@ -65,7 +65,7 @@ free_after kind rows (suc n) first (suc place) few taken free =
     ∙ next
 
 -- the first key that no pair has is that of the first id that no row has
-pub unique_is : {D : Type 0} (kind : List ℕ) (rows : List (Row D)) (ps : List Pair) (first free : ℕ) → ps ≡ pairs_of resource_key rows → All IsTold rows → length rows ≤ 8192 → first ≡ key_of_resource kind (pos 128) → to_be_bytes w32 (first / 65536) ≡ kind
+pub unique_is : {D : Type 0} (kind : List ℕ) (rows : List (Row D)) (ps : List Pair) (first free : ℕ) → ps ≡ pairs_of resource_key rows → All IsKept rows → length rows ≤ 8192 → first ≡ key_of_resource kind (pos 128) → to_be_bytes w32 (first / 65536) ≡ kind
     → first ≤ free → free ≤ first + length ps → ((k : ℕ) → first ≤ k → k < free → has_pair k ps ≡ true) → has_pair free ps ≡ false
     → (free ≤ first + 8192) × (unique_id kind rows ≡ 128 + (free - first))
 unique_is kind rows ps first free is all few start kinds least most taken none =

@@ -8,5 +8,13 @@ pub mod Files
 pub mod RowPairs
 pub mod Resources
 pub mod RowKinds
+pub mod KeptRows
 pub mod Types
 pub mod TypeRuns
+pub mod Pairs
+pub mod AnyPair
+pub mod Sorting
+pub mod FreeKeys
+pub mod HandleKeys
+pub mod Expanded
+pub mod RunTypes

@@ -1,18 +1,20 @@
 -- A row is found by the key of its type and id.
 use Rattle.std.proofs.Common.{◌≡◌, refl, sym, ap, ◌∙◌, arith, ℕ, ℤ, zero, suc, ◌+◌, ◌<◌, subst, List, [], ◌∷◌, length, get_or, set, take, drop, remove, Bool, true, false, Some, None, position, bytes_eq, if◌then◌else◌}
-use Rattle.std.specs.Prelude.{◌&&◌, ◌==◌, ◌/◌, ◌%◌, All, insert}
+use Rattle.std.specs.Prelude.{◌&&◌, ◌==◌, ◌≤◌, ◌*◌, ◌/◌, ◌%◌, All, insert}
 use Rattle.std.specs.Int.{w16, w32, cast_signed, to_be_bytes}
 use Rattle.std.specs.List.{position_from}
 use Rattle.std.specs.Ordering.{int_eq}
 use Rattle.std.proofs.lemmas.Bool.Decides.{nat_tests, Decides-eqb, Decides-int_eq}
-use Rattle.std.proofs.lemmas.List.Elements.{All-append, All-cons, All-drop, All-set, All-take}
+use Rattle.std.proofs.lemmas.List.Elements.{All-append, All-cons, All-drop, All-head, All-set, All-tail, All-take}
 use Rattle.std.proofs.lemmas.List.Quantifiers.{position-Some}
+use Rattle.std.proofs.lemmas.List.Sums.{sum_by-cons}
 use Rattle.std.proofs.lemmas.Iterator.Adapters.{position_from-zero}
 use Rattle.std.proofs.lemmas.Slice.Eq.{bytes_eq-Decides}
+use Rattle.std.proofs.lemmas.Bool.{and_parts}
 use Rattle.res_table.specs.declared.row.Row.{Row}
-use Rattle.res_table.specs.Rows.{is_resource}
-use Rattle.row_index.specs.Keyed.{key_of_resource, first_place}
-use Rattle.res_table.specs.Indexed.{resource_key, pairs_of, IsTold}
+use Rattle.res_table.specs.Rows.{is_resource, name_size, names_size}
+use Rattle.res_table.specs.Keyed.{key_of_resource, first_place}
+use Rattle.res_table.specs.Indexed.{resource_key, pairs_of, most_name_size, IsKept}
 use Rattle.res_table.proofs.RowPairs.{has_key, first_is}
 
 -- a test that is passed only where another is
@@ -49,13 +51,9 @@ some_where_some p q at (suc i) d (x ∷ xs) only found is within = by (p x) (q x
 same_number : (n : ℕ) → (n == n) ≡ true
 same_number n = grind (arith, nat_tests)
 
-both : (b c : Bool) → (b && c) ≡ true → (b ≡ true) × (c ≡ true)
-both true c is = (refl, is)
-both false c is = absurd (cc is)
-
 with_its_key : {D : Type 0} (kind : List ℕ) (id : ℤ) (r : Row D) → is_resource kind id r ≡ true → has_key resource_key (key_of_resource kind id) r ≡ true
 with_its_key kind id r is =
-    let parts = both (bytes_eq r.resource.kind kind) (int_eq r.resource.id id) is in
+    let parts = and_parts (bytes_eq r.resource.kind kind) (int_eq r.resource.id id) is in
     let kinds : r.resource.kind ≡ kind = (bytes_eq-Decides r.resource.kind kind).0 parts.0 in
     let ids : r.resource.id ≡ id = (Decides-int_eq r.resource.id id).0 parts.1 in
     ap (λ (k : List ℕ). key_of_resource k r.resource.id == key_of_resource kind id) kinds
@@ -103,12 +101,19 @@ told_by_key kind id r k l is is' kinds ids kinds' ids' = by (k == l) (is_resourc
         sym (ap (λ (b : Bool). b && int_eq r.resource.id id) ((bytes_eq-Decides r.resource.kind kind).1 one_kind) ∙ (Decides-int_eq r.resource.id id).1 one_id) ∙ f
 
 -- types and ids are told by their keys where a row is put in, taken out, or changed in other ways
-pub told_inserted : {D : Type 0} (i : ℕ) (r : Row D) (rows : List (Row D)) → IsTold r → All IsTold rows → All IsTold (insert rows i r)
+pub told_inserted : {D : Type 0} (i : ℕ) (r : Row D) (rows : List (Row D)) → IsKept r → All IsKept rows → All IsKept (insert rows i r)
 told_inserted i r rows told all =
-    All-append IsTold (take i rows) (r ∷ drop i rows) (All-take IsTold i rows all) (All-cons IsTold r (drop i rows) told (All-drop IsTold i rows all))
+    All-append IsKept (take i rows) (r ∷ drop i rows) (All-take IsKept i rows all) (All-cons IsKept r (drop i rows) told (All-drop IsKept i rows all))
 
-pub told_removed : {D : Type 0} (i : ℕ) (rows : List (Row D)) → All IsTold rows → All IsTold (remove rows i)
-told_removed i rows all = All-append IsTold (take i rows) (drop (suc i) rows) (All-take IsTold i rows all) (All-drop IsTold (suc i) rows all)
+pub told_removed : {D : Type 0} (i : ℕ) (rows : List (Row D)) → All IsKept rows → All IsKept (remove rows i)
+told_removed i rows all = All-append IsKept (take i rows) (drop (suc i) rows) (All-take IsKept i rows all) (All-drop IsKept (suc i) rows all)
 
-pub told_kept : {D : Type 0} (i : ℕ) (r new : Row D) (rows : List (Row D)) → i < length rows → r ≡ get_or rows i r → (IsTold r → IsTold new) → All IsTold rows → All IsTold (set rows i new)
-told_kept i r new rows within is same all = All-set IsTold rows i new (same (subst IsTold (sym is) (all i r within))) all
+pub told_kept : {D : Type 0} (i : ℕ) (r new : Row D) (rows : List (Row D)) → i < length rows → r ≡ get_or rows i r → (IsKept r → IsKept new) → All IsKept rows → All IsKept (set rows i new)
+told_kept i r new rows within is same all = All-set IsKept rows i new (same (subst IsKept (sym is) (all i r within))) all
+
+-- how many bytes the names of rows take at most
+pub names_few : {D : Type 0} (rows : List (Row D)) → All IsKept rows → names_size rows ≤ most_name_size * length rows
+names_few [] all = omega arith
+names_few (r ∷ rows) all =
+    let one = (All-head IsKept r rows all).1 in let more = names_few rows (All-tail IsKept r rows all) in
+    let sum : names_size (r ∷ rows) ≡ name_size r + names_size rows = sum_by-cons name_size r rows in omega (arith, one, more, sum)

@@ -4,7 +4,7 @@ use Rattle.std.specs.List.{list_any}
 use Rattle.res_table.specs.declared.row.Row.{Row}
 use Rattle.res_table.specs.Rows.{is_of_type, added, indexes_from, count_of_type}
 use Rattle.res_table.specs.Behind.{last_of_type}
-use Rattle.row_index.specs.Kinds.{has_kind, count_of, places_of, end_of, with_kind}
+use Rattle.res_table.specs.Kinds.{has_kind, count_of, places_of, end_of, with_kind}
 use Rattle.res_table.specs.Indexed.{kinds_of}
 
 -- what is asked of the types of rows is asked of the rows

@@ -4,15 +4,15 @@ use Rattle.std.specs.Prelude.{option_map, insert, All}
 use Rattle.std.specs.List.{position_from}
 use Rattle.std.proofs.lemmas.Iterator.Adapters.{position_from-zero}
 use Rattle.res_table.specs.declared.row.Row.{Row}
-use Rattle.row_index.specs.declared.keyed.Pair.{Pair}
+use Rattle.res_table.specs.declared.keyed.Pair.{Pair}
 use Rattle.std.specs.Option.{option_map_or}
 use Rattle.std.proofs.lemmas.List.{length-set}
 use Rattle.mac_base.specs.declared.resource.Resource.{Resource}
 use Rattle.res_table.specs.Rows.{has_handle, changed_at, opened_row}
-use Rattle.row_index.specs.Keyed.{key_of_handle, key_of_resource, with_pair, with_key, without_key, pushed_back, pulled_up, first_place, AreInOrder, in_order}
+use Rattle.res_table.specs.Keyed.{key_of_handle, key_of_resource, with_pair, with_key, without_key, pushed_back, pulled_up, first_place, AreInOrder, in_order}
 use Rattle.res_table.specs.Indexed.{handle_key, resource_key, pairs_from, pairs_of}
-use Rattle.row_index.proofs.HandleKeys.{key_tells}
-use Rattle.row_index.proofs.Pairs.{AreBelow, AreFrom, before, behind, below_at, below_with, commute_key, first_with, from_less, from_with, length-with, order_pushed_from, order_with, pull_push, push_at, without_key_with}
+use Rattle.res_table.proofs.HandleKeys.{key_tells}
+use Rattle.res_table.proofs.Pairs.{AreBelow, AreFrom, before, behind, below_at, below_with, commute_key, first_with, from_less, from_with, length-with, order_pushed_from, order_with, pull_push, push_at, without_key_with}
 
 -- all rows stand behind
 pub push_all : {D : Type 0} (key : Row D → Option ℕ) (k at : ℕ) (rows : List (Row D)) → k ≤ at → map (pushed_back k) (pairs_from key at rows) ≡ pairs_from key (at + 1) rows

@@ -1,38 +1,30 @@
 -- Runs of which none has the type of the one before it are the types of rows.
-use Rattle.std.proofs.Common.{◌≡◌, sym, ap, ◌∙◌, arith, refl, ℕ, zero, suc, ◌+◌, ◌≤◌, List, [], ◌∷◌, ◌++◌, drop, replicate, Bool, true, false, not, ◌&&◌, Option, None, Some, bytes_eq, if◌then◌else◌}
+use Rattle.std.proofs.Common.{◌≡◌, sym, ap, ◌∙◌, arith, refl, ℕ, zero, suc, ◌+◌, ◌≤◌, List, [], ◌∷◌, ◌++◌, drop, replicate, Bool, true, ◌&&◌, Option, None, Some, bytes_eq, if◌then◌else◌}
 use Rattle.std.specs.Prelude.{nat_lt}
-use Rattle.std.proofs.lemmas.Bool.{ltb-true}
+use Rattle.std.proofs.lemmas.Bool.{ltb-true, not-true, and_parts}
 use Rattle.fork_bytes.specs.declared.layout.TypeCount.{TypeCount}
 use Rattle.fork_bytes.specs.Written.{counted_before}
 use Rattle.res_table.specs.declared.row.Row.{Row}
 use Rattle.res_table.specs.Indexed.{kinds_of}
-use Rattle.row_index.specs.Kinds.{expanded, is_other, are_types}
+use Rattle.res_table.specs.Kinds.{expanded, is_other, are_types}
 use Rattle.res_table.specs.Saved.{row_types}
-use Rattle.row_index.proofs.RunTypes.{same_kind}
+use Rattle.res_table.proofs.RunTypes.{same_kind}
 
 -- each run has rows, and of another type than the run before it
 abbrev AreTypes : Option (List ℕ) → List TypeCount → Type 0
 AreTypes last [] = Unit {0}
 AreTypes last (run ∷ runs) = (1 ≤ run.count) × (is_other last run.kind ≡ true) × AreTypes (Some run.kind) runs
 
-both : (a b : Bool) → (a && b) ≡ true → (a ≡ true) × (b ≡ true)
-both true b is = (refl, is)
-both false b is = absurd (cc is)
-
 from_told : (last : Option (List ℕ)) (runs : List TypeCount) → are_types last runs ≡ true → AreTypes last runs
 from_told last [] told = tt
 from_told last (run ∷ runs) told =
-    let all = both (nat_lt 0 run.count && is_other last run.kind) (are_types (Some run.kind) runs) told in
-    let here = both (nat_lt 0 run.count) (is_other last run.kind) all.0 in
+    let all = and_parts (nat_lt 0 run.count && is_other last run.kind) (are_types (Some run.kind) runs) told in
+    let here = and_parts (nat_lt 0 run.count) (is_other last run.kind) all.0 in
     (ltb-true 0 run.count here.0, here.1, from_told (Some run.kind) runs all.1)
 
 no_rows : (n : ℕ) (kind : List ℕ) (ks : List (List ℕ)) → 1 ≤ n → replicate n kind ++ ks ≡ [] → ⊥
 no_rows zero kind ks few is = omega (arith, few)
 no_rows (suc n) kind ks few is = absurd (cc is)
-
-not_true : (b : Bool) → not b ≡ true → b ≡ false
-not_true true is = absurd (cc is)
-not_true false is = refl
 
 abbrev first : List (List ℕ) → List ℕ
 first [] = []
@@ -42,7 +34,7 @@ first (k ∷ ks) = k
 alone : (kind : List ℕ) (runs : List TypeCount) → AreTypes (Some kind) runs → counted_before kind 1 runs ≡ record { kind = kind; count = 1 } ∷ runs
 alone kind [] types = refl
 alone kind (run ∷ runs) types =
-    ap (λ (b : Bool). if b then record { kind = kind; count = 1 + run.count } ∷ runs else record { kind = kind; count = 1 } ∷ run ∷ runs) (not_true (bytes_eq kind run.kind) types.1)
+    ap (λ (b : Bool). if b then record { kind = kind; count = 1 + run.count } ∷ runs else record { kind = kind; count = 1 } ∷ run ∷ runs) (not-true (bytes_eq kind run.kind) types.1)
 
 -- one row more before rows of its type
 joined : (kind : List ℕ) (n : ℕ) (runs : List TypeCount) → counted_before kind 1 (record { kind = kind; count = suc n } ∷ runs) ≡ record { kind = kind; count = suc (suc n) } ∷ runs

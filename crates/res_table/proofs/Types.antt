@@ -6,7 +6,7 @@ use Rattle.fork_bytes.specs.declared.layout.TypeCount.{TypeCount}
 use Rattle.fork_bytes.specs.Written.{counted_before}
 use Rattle.res_table.specs.declared.row.Row.{Row}
 use Rattle.res_table.specs.Rows.{name_size, names_size}
-use Rattle.row_index.specs.Kinds.{changes}
+use Rattle.res_table.specs.Kinds.{changes}
 use Rattle.res_table.specs.Indexed.{kinds_of}
 use Rattle.res_table.specs.Saved.{row_types}
 

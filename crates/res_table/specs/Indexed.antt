@@ -1,9 +1,10 @@
 -- The keys by which rows are found, the pairs of those that have one, and the types of rows.
-use Rattle.std.specs.Prelude.{ℕ, ◌+◌, ◌/◌, ◌%◌, List, [], ◌∷◌, Option, Some, option_map, ◌≡◌, map}
+use Rattle.std.specs.Prelude.{ℕ, ◌≤◌, ◌+◌, ◌/◌, ◌%◌, List, [], ◌∷◌, Option, Some, option_map, ◌≡◌, map}
 use Rattle.std.specs.Int.{w16, w32, cast_signed, to_be_bytes}
 use Rattle.res_table.specs.declared.row.Row.{Row}
-use Rattle.row_index.specs.declared.keyed.Pair.{Pair}
-use Rattle.row_index.specs.Keyed.{key_of_handle, key_of_resource, with_key}
+use Rattle.res_table.specs.declared.keyed.Pair.{Pair}
+use Rattle.res_table.specs.Keyed.{key_of_handle, key_of_resource, with_key}
+use Rattle.res_table.specs.Rows.{name_size}
 
 -- the key of a row's handle, if it has one
 abbrev pub handle_key : {D : Type 0} → Row D → Option ℕ
@@ -26,6 +27,14 @@ pairs_of key rows = pairs_from key 0 rows
 abbrev pub IsTold : {D : Type 0} → Row D → Type 0
 IsTold r = (to_be_bytes w32 (key_of_resource r.resource.kind r.resource.id / 65536) ≡ r.resource.kind)
     × (cast_signed w16 (key_of_resource r.resource.kind r.resource.id % 65536) ≡ r.resource.id)
+
+-- a name takes at most this many bytes in a fork, with its byte of length
+abbrev pub most_name_size : ℕ
+most_name_size = 256
+
+-- what is known of each row of a file: its key can be read again, and its name is short
+abbrev pub IsKept : {D : Type 0} → Row D → Type 0
+IsKept r = IsTold r × (name_size r ≤ most_name_size)
 
 -- the types of rows
 abbrev pub kinds_of : {D : Type 0} → List (Row D) → List (List ℕ)

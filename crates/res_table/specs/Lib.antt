@@ -4,3 +4,5 @@ pub mod Saved
 pub mod Behind
 pub mod OpenFiles
 pub mod Indexed
+pub mod Keyed
+pub mod Kinds

@@ -9,7 +9,7 @@ use Rattle.mac_base.specs.declared.resource.ResAttrs.{ResAttrs}
 use Rattle.mac_base.specs.declared.resource.Resource.{Resource}
 use Rattle.res_table.specs.declared.row.Row.{Row}
 use Rattle.res_table.specs.Attributes.{is_marked, unmarked}
-pub use Rattle.row_index.specs.Kinds.{ith}
+pub use Rattle.res_table.specs.Kinds.{ith}
 
 -- whether a row has the handle
 abbrev pub has_handle : {D : Type 0} → ℕ → Row D → Bool

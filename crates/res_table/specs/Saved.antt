@@ -6,7 +6,7 @@ use Rattle.fork_bytes.specs.declared.layout.TypeCount.{TypeCount}
 use Rattle.fork_bytes.specs.Written.{types_of, Fits}
 use Rattle.res_table.specs.declared.row.Row.{Row}
 use Rattle.res_table.specs.Attributes.{unmarked}
-pub use Rattle.row_index.specs.Kinds.{kind_of}
+pub use Rattle.res_table.specs.Kinds.{kind_of}
 
 -- the resource of a row as it is saved, where this gives the bytes of its datum: without the handle, and not changed
 abbrev pub saved_row : {D : Type 0} → (D → List ℕ) → Row D → Resource (List ℕ)

@@ -50,7 +50,8 @@ impl<D> Model for Chain<D> {
 }
 
 impl<D> Chain<D> {
-    ghost use Rattle.std.specs.Prelude.{◌≡◌, OnOk, OnErr, IfSome, IfNone, IsSome, IsTrue, None, Some, position};
+    ghost use Rattle.std.specs.Prelude.{◌≡◌, ◌<◌, length, OnOk, OnErr, IfSome, IfNone, IsSome, IsTrue, None, Some, position};
+    ghost use Rattle.fork_bytes.specs.Fork.{max_rows};
     ghost use Rattle.res_table.specs.OpenFiles.{no_files, is_numbered, is_open, searched, place_of_resource, place_of_handle, handle_forgotten, file_opened, file_used, file_closed, is_current, last_number, place_here, place_in_file, row_at, rows_changed, table_of};
     ghost use Rattle.res_table.specs.Rows.{added, changed_at, removed_at, with_attributes, with_datum, with_handle};
 
@@ -299,12 +300,13 @@ impl<D> Chain<D> {
         Some(self.files[at].table.rows.remove(place.index))
     }
 
-    /// Adds a row to the file of a number, behind the last of its type, or last where there is none. Without host memory nothing is
-    /// changed.
+    /// Adds a row to the file of a number, which has fewer than 8,192, behind the last of its type, or last where there is none. Without
+    /// host memory nothing is changed.
     pub fn add(&mut self, number: u8, row: Row<D>) -> Result<(), HostFull>
     where
         D: Drop,
-        requires { IsTrue (is_open number self.old) }
+        requires open { IsTrue (is_open number self.old) }
+        requires room { IfSome (table_of number self.old) (λ table. length table.rows < max_rows) }
         ensures added { OnOk result (self.new ≡ rows_changed number (added row) self.old) }
         ensures same { OnErr result (self.new ≡ self.old) }
     {

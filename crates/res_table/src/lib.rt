@@ -1,7 +1,12 @@
-//! The rows of open resource files, and the chain of open files.
+//! The rows of open resource files, and the chain of open files. `keyed` and `kinds` say where rows stand that have a key, and how
+//! many rows of one type stand together.
 #![tactic(auto)]
 
+pub mod attributes;
 pub mod chain;
+mod keyed;
+mod keys;
+mod kinds;
 pub mod row;
 pub mod rows;
 mod runs;

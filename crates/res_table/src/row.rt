@@ -1,10 +1,10 @@
 //! A row: a resource while its file is open.
 
+use crate::attributes::unmarked;
+use crate::keys::{key_of_handle, key_of_resource};
 use bitflags::Flags;
-use mac_base::error::HostFull;
 use mac_base::handle::Handle;
 use mac_base::resource::{ResAttrs, ResType, Resource};
-use row_index::keys::{key_of_handle, key_of_resource};
 
 /// A resource of an open file, and its handle, if it has one (Inside Macintosh: More Macintosh Toolbox, chapter 1).
 #[derive(Drop)]
@@ -14,9 +14,9 @@ pub struct Row<D> {
 }
 
 impl<D> Row<D> {
-    ghost use Rattle.std.specs.Prelude.{◌≡◌, ◌==◌, ◌+◌, IfOk};
-    ghost use Rattle.row_index.specs.Keyed.{key_of_resource};
-    ghost use Rattle.res_table.specs.Indexed.{handle_key, IsTold};
+    ghost use Rattle.std.specs.Prelude.{◌≡◌, ◌==◌, ◌≤◌};
+    ghost use Rattle.res_table.specs.Keyed.{key_of_resource};
+    ghost use Rattle.res_table.specs.Indexed.{handle_key, most_name_size, IsTold};
     ghost use Rattle.res_table.specs.Rows.{is_of_type, is_resource, is_changed, changed_handle, name_size, opened_row};
 
     /// The row of a resource that was read: it has no handle and is not changed.
@@ -30,13 +30,12 @@ impl<D> Row<D> {
             attributes,
             datum,
         } = resource;
-        let attributes = ResAttrs::from_bits_retain(attributes.bits() & 253);
         Row {
             resource: Resource {
                 kind,
                 id,
                 name,
-                attributes,
+                attributes: unmarked(attributes),
                 datum,
             },
             handle: None,
@@ -67,19 +66,13 @@ impl<D> Row<D> {
 
     /// How many bytes the row's name takes in a fork, with its byte of length.
     pub(crate) fn name_size(&self) -> usize
-        ensures { result ≡ name_size self.now }
+        ensures size { result ≡ name_size self.now }
+        ensures short { name_size self.now ≤ most_name_size }
     {
         match &self.resource.name {
             Some(name) => 1 + name.as_slice().len(),
             None => 0,
         }
-    }
-
-    /// How many bytes names take with that of the row. No host has memory for names of which there are more than a number tells.
-    pub(crate) fn names_with(&self, names: usize) -> Result<usize, HostFull>
-        ensures { IfOk result (λ all. all ≡ names + name_size self.now) }
-    {
-        names.checked_add(self.name_size()).ok_or(HostFull)
     }
 
     /// Whether the row has the key of a type and an id: it is of that type then, and has that id.

@@ -1,14 +1,14 @@
 //! The rows of an open file, in order.
 
+use crate::keyed::{Keyed, Pair};
+use crate::keys::{key_of_handle, key_of_resource};
+use crate::kinds::{Kinds, ith_type};
 use crate::row::Row;
 use crate::runs::{MAX_NAME_OFFSET, MAX_OFFSET, names_fit, run_end};
 use fork_bytes::layout::MAX_ROWS;
 use mac_base::error::HostFull;
 use mac_base::handle::Handle;
 use mac_base::resource::{ResAttrs, ResType, Resource};
-use row_index::keyed::{Keyed, Pair};
-use row_index::keys::{key_of_handle, key_of_resource};
-use row_index::kinds::{Kinds, ith_type};
 use std::alloc::Global;
 use std::marker::Model;
 
@@ -31,8 +31,8 @@ pub struct Rows<D> {
 impl<D> Model for Rows<D> {
     ghost use Rattle.std.specs.Prelude.{◌≡◌, ◌≤◌, List, length, map, All};
     ghost use Rattle.res_table.specs.declared.row.Row.{Row};
-    ghost use Rattle.row_index.specs.Kinds.{expanded};
-    ghost use Rattle.res_table.specs.Indexed.{pairs_of, handle_key, resource_key, kinds_of, IsTold};
+    ghost use Rattle.res_table.specs.Kinds.{expanded};
+    ghost use Rattle.res_table.specs.Indexed.{pairs_of, handle_key, resource_key, kinds_of, IsKept};
     ghost use Rattle.res_table.specs.Rows.{names_size, changed_handle};
 
     ghost Value = { List (Row D) };
@@ -41,7 +41,7 @@ impl<D> Model for Rows<D> {
 
     ghost invariant = { λ r. (r.handles.pairs ≡ pairs_of handle_key r.rows.items) × (length r.rows.items ≤ r.handles.room)
         × (expanded r.kinds.runs ≡ kinds_of r.rows.items) × (r.resources.pairs ≡ pairs_of resource_key r.rows.items)
-        × (r.names ≡ names_size r.rows.items) × (All IsTold r.rows.items) × (r.changed.items ≡ map changed_handle r.rows.items) };
+        × (r.names ≡ names_size r.rows.items) × (All IsKept r.rows.items) × (r.changed.items ≡ map changed_handle r.rows.items) };
 }
 
 impl<D> Rows<D> {
@@ -66,11 +66,12 @@ impl<D> Rows<D> {
         }
     }
 
-    /// The rows of resources that were read: none has a handle, and none is changed. The only error is that the host has no
-    /// memory.
+    /// The rows of resources that were read, at most 8,192: none has a handle, and none is changed. The only error is that the host
+    /// has no memory.
     pub fn opened(alloc: Global, resources: Vec<Resource<D>>) -> Result<Rows<D>, HostFull>
     where
         D: Drop,
+        requires { length resources.items ≤ max_rows }
         ensures { IfOk result (λ rows. rows ≡ map opened_row resources.items) }
     {
         let mut rows = Vec::with_capacity(alloc, resources.len())?;
@@ -80,7 +81,7 @@ impl<D> Rows<D> {
         let mut changed = Vec::with_capacity(alloc, resources.len())?;
         for resource in resources {
             let row = Row::opened(resource);
-            names = row.names_with(names)?;
+            names += row.name_size();
             kinds.push(row.kind())?;
             keys.push(Pair {
                 key: row.resource_key(),
@@ -195,10 +196,12 @@ impl<D> Rows<D> {
         self.kinds.end(kind, self.rows.len())
     }
 
-    /// Adds a row behind the last of its type, or last where there is none. Without host memory nothing is changed.
+    /// Adds a row behind the last of its type, or last where there is none, to fewer than 8,192. Without host memory nothing is
+    /// changed.
     pub fn add(&mut self, row: Row<D>) -> Result<(), HostFull>
     where
         D: Drop,
+        requires { length self.old < max_rows }
         ensures added { OnOk result (self.new ≡ added row self.old) }
         ensures same { OnErr result (self.new ≡ self.old) }
     {
@@ -208,7 +211,7 @@ impl<D> Rows<D> {
         let key = row.resource_key();
         let changed = row.changed_handle();
         let count = self.rows.len();
-        let names = row.names_with(self.names)?;
+        let names = self.names + row.name_size();
         self.handles.reserve(count + 1)?;
         self.kinds.reserve()?;
         self.resources.reserve(count + 1)?;

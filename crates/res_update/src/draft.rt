@@ -9,12 +9,12 @@ ghost use Rattle.res_update.specs.Selected.{reads_lent};
 
 use crate::contents::Contents;
 use crate::selection::Selection;
-use bitflags::Flags;
 use fork_bytes::datum::Datum;
 use fork_reader::place::Place;
 use mac_base::error::HostFull;
 use mac_base::name::Name;
-use mac_base::resource::{ResAttrs, Resource};
+use mac_base::resource::Resource;
+use res_table::attributes::unmarked;
 use res_table::row::Row;
 use res_table::rows::Rows;
 use std::alloc::Global;
@@ -67,9 +67,6 @@ impl<'a> Datum for DraftBytes<'a> {
 /// A row of the draft.
 pub(crate) type DraftRow<'a> = Resource<DraftBytes<'a>>;
 
-/// The bits of all attributes but resChanged, which a file doesn't have.
-const SAVED_BITS: u8 = 253;
-
 /// The bytes of a row's handle: none where it has no handle.
 fn handle_bytes<'a, C: Contents>(handles: &'a C, row: &Row<Place>) -> &'a [u8]
     requires { IsFalse (is_lent_row (C.table handles.now) row.now) }
@@ -114,7 +111,7 @@ fn saved_row<'a>(row: &Row<Place>, bytes: DraftBytes<'a>) -> Result<DraftRow<'a>
         kind: resource.kind,
         id: resource.id,
         name,
-        attributes: ResAttrs::from_bits_retain(resource.attributes.bits() & SAVED_BITS),
+        attributes: unmarked(resource.attributes),
         datum: bytes,
     })
 }

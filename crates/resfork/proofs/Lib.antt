@@ -1,4 +1,1 @@
-pub mod Reading
-pub mod Written
-pub mod Words
-pub mod TypeLines
+pub mod Mending

@@ -5,15 +5,15 @@ use Rattle.std.specs.Io.KnownBytes.{Appends}
 use Rattle.fork_bytes.specs.declared.fault.ForkFault.{ForkFault}
 use Rattle.fork_bytes.specs.declared.table.Table.{Table}
 use Rattle.fork_bytes.specs.Rows.{Row}
-use Rattle.fork_bytes.specs.Fork.{StandsFor, Refuses}
-use Rattle.resfork.specs.Listing.{listing}
-use Rattle.resfork.specs.Types.{type_lines}
-use Rattle.resfork.specs.Find.{is_wanted}
+use Rattle.fork_bytes.specs.Fork.{StandsForWithin, RefusesWithin, format_limits}
+use Rattle.fork_list.specs.Listing.{listing}
+use Rattle.fork_list.specs.Types.{type_lines}
+use Rattle.fork_list.specs.Find.{is_wanted}
 use Rattle.resfork.specs.Source.{IsForkIn, IsNoForkIn}
 use Rattle.resfork.specs.declared.source.NoFork.{NoFork}
 use Rattle.resfork.specs.declared.request.Request.{Request}
 use Rattle.resfork.specs.declared.request.Request.TheVariants as request
-use Rattle.resfork.specs.declared.request.Wanted.{Wanted}
+use Rattle.fork_list.specs.declared.find.Wanted.{Wanted}
 use Rattle.resfork.specs.declared.answer.Failure.{Failure}
 use Rattle.resfork.specs.declared.answer.Failure.TheVariants as failure
 
@@ -23,12 +23,12 @@ empty_table = record { rows = []; extra = replicate 240 0; map_attributes = 0 }
 
 -- the table of a fork: that which its bytes stand for; without any, it has no resources
 abbrev pub IsTableOf : List ℕ → Table → Type 0
-IsTableOf fork table = ((fork ≡ []) × (table ≡ empty_table)) ⊎ StandsFor fork table
+IsTableOf fork table = ((fork ≡ []) × (table ≡ empty_table)) ⊎ StandsForWithin format_limits fork table
 
 -- what reading a fork gives: its table, or why it is none
 abbrev pub IsReadOf : List ℕ → Result Table ForkFault → Type 0
 IsReadOf fork (Ok table) = IsTableOf fork table
-IsReadOf fork (Err fault) = (fork ≢ []) × Refuses fork fault
+IsReadOf fork (Err fault) = (fork ≢ []) × RefusesWithin format_limits fork fault
 
 -- the resource of a table that is wanted: the n-th of those with its type, and its id or its name
 abbrev pub wanted_row : Wanted → Table → Option Row
@@ -59,7 +59,7 @@ Shows request table old new (Err (failure.NoFork fault)) = ⊥
 -- stand for no table, and the answer tells why. A write may fail, and the host may have no memory.
 abbrev pub AnswersFork : {T : Type 0} → Request → List ℕ → Option (List ℕ) → Option (List ℕ) → Result T Failure → Type 0
 AnswersFork request fork old new result = ((table : Table) × IsTableOf fork table × Shows request table old new result)
-    ⊎ ((fault : ForkFault) × (fork ≢ []) × Refuses fork fault × (result ≡ Err (failure.Fork fault)))
+    ⊎ ((fault : ForkFault) × (fork ≢ []) × RefusesWithin format_limits fork fault × (result ≡ Err (failure.Fork fault)))
 
 -- what an answer says of a file: what it says of the resource fork in it, or why there is none
 abbrev pub Answers : {T : Type 0} → Request → List ℕ → Option (List ℕ) → Option (List ℕ) → Result T Failure → Type 0

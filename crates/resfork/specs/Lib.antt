@@ -1,7 +1,3 @@
 pub mod Answer
-pub mod Attributes
-pub mod Find
-pub mod Kind
-pub mod Listing
+pub mod Mended
 pub mod Source
-pub mod Types

@@ -3,14 +3,14 @@
 ghost use Rattle.std.specs.Prelude.{◌≡◌, IfErr, IfOk};
 ghost use Rattle.resfork.specs.Answer.{Answers, AnswersFork, IsQuiet, IsReadOf, Shows, empty_table};
 
-use crate::find::find_row;
-use crate::list::listing;
-use crate::request::{Choice, Request, Wanted};
+use crate::request::{Choice, Request};
 use crate::source::{NoFork, resource_fork};
-use crate::types::types_listing;
 use fork_bytes::fault::ForkFault;
+use fork_bytes::layout::Limits;
 use fork_bytes::table::{Rows, Table};
-use fork_reader::read_fork;
+use fork_list::find::{Wanted, find_row};
+use fork_list::{listing, types_listing};
+use fork_reader::read_fork_within;
 use std::alloc::{AllocError, Global};
 use std::io;
 use std::io::Write;
@@ -48,17 +48,17 @@ impl From<AllocError> for Failure {
 }
 
 /// The table of a fork. A fork without bytes is that of a file without resources.
-pub(crate) fn read_table(alloc: Global, fork: &[u8]) -> Result<Table, ForkFault>
+pub(crate) fn read_table<'a>(alloc: Global, fork: &'a [u8]) -> Result<Table<'a>, ForkFault>
     ensures { IsReadOf fork.now result }
 {
     if fork.is_empty() {
         return Ok(no_resources(alloc));
     }
-    read_fork(alloc, fork)
+    read_fork_within(alloc, fork, Limits::FORMAT)
 }
 
 /// The table of a file without resources.
-fn no_resources(alloc: Global) -> Table
+fn no_resources<'a>(alloc: Global) -> Table<'a>
     ensures { result ≡ empty_table }
 {
     Table {

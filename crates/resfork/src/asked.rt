@@ -1,14 +1,17 @@
 //! The words of the command line.
 
 use crate::command::command;
-use crate::kind::kind_of;
-use crate::letters::Letters;
-use crate::name::name_of;
-use crate::request::{Choice, Key, Request, Wanted};
+use crate::request::{Choice, Form, Report, Request};
+use crate::unpack::Unpacking;
+use crate::view::{Chosen, ShowAs, View};
 use clap::ArgMatches;
 use clap::error::ErrorKind;
+use fork_json::Bytes;
+use fork_list::find::{Key, Wanted};
+use fork_list::{kind_of, name_of};
 use mac_base::resource::ResType;
 use mac_text::bytes_of;
+use mac_text::letters::Letters;
 use std::alloc::{AllocError, Global};
 use std::convert::AsStr;
 use thiserror::Error;
@@ -22,8 +25,28 @@ pub enum Asked<'a> {
         files: Vec<&'a str>,
         output: Option<&'a str>,
     },
-    /// To tell about each of these files.
-    Info(Vec<&'a str>),
+    /// To report on each of these files.
+    Report {
+        report: Report,
+        files: Vec<&'a str>,
+    },
+    /// To list what can be read of a damaged file, or to write it to a file of this name.
+    Salvage {
+        file: &'a str,
+        letters: Letters,
+        output: Option<&'a str>,
+    },
+    /// To show resources of a file to people, on the standard output or in a file of this name.
+    View {
+        view: View,
+        file: &'a str,
+        output: Option<&'a str>,
+    },
+    /// To write the resources of a file to a folder.
+    Unpack {
+        unpacking: Unpacking<'a>,
+        file: &'a str,
+    },
     /// To write this text: the help, or the version.
     Tell(clap::Error),
 }
@@ -43,9 +66,18 @@ pub enum NotAsked {
     /// A resource is named by nothing that may be an id or a name.
     #[error("error: a resource is named by its id, from -32768 to 32767, or by its name, as resfork ls shows it, with \\xHH for a byte that isn't a letter\n")]
     NoKey,
+    /// What `--data` has is no form of bytes, or the list isn't of JSON.
+    #[error("error: --data takes base64, and goes with --json\n")]
+    NoData,
+    /// A list of types has no form in JSON.
+    #[error("error: --types doesn't go with --json\n")]
+    NoTypesJson,
     /// What `--nth` has is no count from 1 on.
     #[error("error: --nth takes a count from 1 on\n")]
     NoCount,
+    /// What `--as` has is no form.
+    #[error("error: --as takes text, hex or png\n")]
+    NoForm,
     /// The host has no memory for the words.
     #[error("error: the host has no memory\n")]
     HostFull,
@@ -69,8 +101,40 @@ pub fn asked_by<'a, S: AsStr>(alloc: Global, words: &'a [S]) -> Result<Asked<'a>
     match name {
         "ls" => asked_to_list(alloc, matches),
         "get" => asked_to_get(alloc, matches),
-        "info" => Ok(Asked::Info(files_named(alloc, matches)?)),
+        "info" => Ok(Asked::Report {
+            report: Report::Info(form_of(matches)),
+            files: files_named(alloc, matches)?,
+        }),
+        "check" => Ok(Asked::Report {
+            report: Report::Check(form_of(matches)),
+            files: files_named(alloc, matches)?,
+        }),
+        "salvage" => Ok(Asked::Salvage {
+            file: matches.get_str("file").unwrap_or(""),
+            letters: letters_of(matches),
+            output: matches.get_str("output"),
+        }),
+        "show" => asked_to_view(alloc, matches),
+        "unpack" => asked_to_unpack(alloc, matches),
         _ => Err(NotAsked::NoCommand),
+    }
+}
+
+/// The form in which something is told.
+fn form_of(matches: &ArgMatches<'_>) -> Form {
+    if matches.get_flag("json") {
+        Form::Json
+    } else {
+        Form::Text
+    }
+}
+
+/// How letters that aren't ASCII are shown.
+fn letters_of(matches: &ArgMatches<'_>) -> Letters {
+    if matches.get_flag("raw") {
+        Letters::Raw
+    } else {
+        Letters::Roman
     }
 }
 
@@ -82,16 +146,22 @@ fn files_named<'a>(alloc: Global, matches: &ArgMatches<'a>) -> Result<Vec<&'a st
 /// What `ls` asks for.
 fn asked_to_list<'a>(alloc: Global, matches: &ArgMatches<'a>) -> Result<Asked<'a>, NotAsked> {
     let files = files_named(alloc, matches)?;
-    let mut kinds = Vec::new(alloc);
-    for word in matches.get_strs("type").unwrap_or(&[]) {
-        let kind = kind_named(alloc, word)?;
-        kinds.push(kind).map_err(AllocError::from)?;
-    }
-    let letters = if matches.get_flag("raw") {
-        Letters::Raw
-    } else {
-        Letters::Roman
+    let kinds = kinds_named(alloc, matches)?;
+    let shown = match (matches.get_str("data"), form_of(matches)) {
+        (None, _) => Bytes::Hidden,
+        (Some("base64"), Form::Json) => Bytes::Base64,
+        _ => return Err(NotAsked::NoData),
     };
+    if let Form::Json = form_of(matches) {
+        if matches.get_flag("types") {
+            return Err(NotAsked::NoTypesJson);
+        }
+        return Ok(Asked::Report {
+            report: Report::List { kinds, shown },
+            files,
+        });
+    }
+    let letters = letters_of(matches);
     let choice = Choice { letters, kinds };
     let request = if matches.get_flag("types") {
         Request::Types(choice)
@@ -117,6 +187,65 @@ fn asked_to_get<'a>(alloc: Global, matches: &ArgMatches<'a>) -> Result<Asked<'a>
         files,
         output: matches.get_str("output"),
     })
+}
+
+/// The form that `--as` names.
+fn shown_as(word: &str) -> Result<ShowAs, NotAsked> {
+    match word {
+        "text" => Ok(ShowAs::Text),
+        "hex" => Ok(ShowAs::Hex),
+        "png" => Ok(ShowAs::Png),
+        _ => Err(NotAsked::NoForm),
+    }
+}
+
+/// Which resources a type and an id or a name ask for, where they are given.
+fn chosen_by(alloc: Global, matches: &ArgMatches<'_>) -> Result<Chosen, NotAsked> {
+    let Some(word) = matches.get_str("type") else {
+        return Ok(Chosen::All);
+    };
+    let kind = kind_named(alloc, word)?;
+    let Some(word) = matches.get_str("key") else {
+        return Ok(Chosen::Kind(kind));
+    };
+    let key = key_named(alloc, word)?;
+    Ok(Chosen::One(Wanted { kind, key, nth: 0 }))
+}
+
+/// What `show` asks for.
+fn asked_to_view<'a>(alloc: Global, matches: &ArgMatches<'a>) -> Result<Asked<'a>, NotAsked> {
+    let form = match matches.get_str("as") {
+        Some(word) => Some(shown_as(word)?),
+        None => None,
+    };
+    let chosen = chosen_by(alloc, matches)?;
+    Ok(Asked::View {
+        view: View { chosen, form },
+        file: matches.get_str("file").unwrap_or(""),
+        output: matches.get_str("output"),
+    })
+}
+
+/// What `unpack` asks for.
+fn asked_to_unpack<'a>(alloc: Global, matches: &ArgMatches<'a>) -> Result<Asked<'a>, NotAsked> {
+    let kinds = kinds_named(alloc, matches)?;
+    Ok(Asked::Unpack {
+        unpacking: Unpacking {
+            kinds,
+            folder: matches.get_str("folder").unwrap_or(""),
+        },
+        file: matches.get_str("file").unwrap_or(""),
+    })
+}
+
+/// The types that `-t` names.
+fn kinds_named(alloc: Global, matches: &ArgMatches<'_>) -> Result<Vec<ResType>, NotAsked> {
+    let mut kinds = Vec::new(alloc);
+    for word in matches.get_strs("type").unwrap_or(&[]) {
+        let kind = kind_named(alloc, word)?;
+        kinds.push(kind).map_err(AllocError::from)?;
+    }
+    Ok(kinds)
 }
 
 /// The type that a word names.

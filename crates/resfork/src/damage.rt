@@ -10,20 +10,20 @@ use std::alloc::Global;
 use std::fmt;
 
 /// How many resources of a damaged fork are counted at most. No fork has so many that was whole once.
-const MOST_FOUND: usize = 1_048_576;
+pub const MOST_FOUND: usize = 1_048_576;
 
 /// What has a fork in it.
 #[derive(Clone, Copy, Debug)]
-enum Holder {
+pub enum Holder {
     Container(Container),
     BinHex,
 }
 
 /// How many resources of a damaged fork can be read, and how many are found in it.
 #[derive(Clone, Copy, Debug)]
-struct Tally {
-    readable: usize,
-    found: usize,
+pub struct Tally {
+    pub readable: usize,
+    pub found: usize,
 }
 
 /// The first fault of a fork, and how much can still be read of it.
@@ -38,7 +38,7 @@ pub struct Damage {
 
 impl Holder {
     /// What has the fork of this file in it. None where the whole file is taken for a fork.
-    fn of_file(file: &[u8]) -> Option<Holder> {
+    pub fn of_file(file: &[u8]) -> Option<Holder> {
         match container_of(file) {
             Some(Container::Raw) => None,
             Some(container) => Some(Holder::Container(container)),
@@ -48,7 +48,7 @@ impl Holder {
     }
 
     /// What such a file is called.
-    fn name(self) -> &'static str {
+    pub fn name(self) -> &'static str {
         match self {
             Holder::Container(container) => name_of_container(container),
             Holder::BinHex => "a BinHex file",
@@ -85,7 +85,7 @@ impl Damage {
     }
 
     /// Whether some resource can be read.
-    fn is_readable(&self) -> bool {
+    pub fn is_readable(&self) -> bool {
         match self.tally {
             Some(tally) => tally.readable > 0,
             None => false,
@@ -111,7 +111,7 @@ impl fmt::Display for Damage {
 }
 
 /// How many resources of a fork can be read, of how many that are found in it. None where none is found, or too many to be counted.
-fn tally_of(fork: &[u8]) -> Option<Tally> {
+pub fn tally_of(fork: &[u8]) -> Option<Tally> {
     let mut salvage = Salvage::new(fork);
     let mut readable = 0usize;
     for found in 0..MOST_FOUND {

@@ -4,16 +4,16 @@ ghost use Rattle.std.specs.Prelude.{◌≡◌, IfSome, length, true};
 ghost use Rattle.mac_files.specs.Parts.{lies_within};
 
 use crate::answer::{Failure, read_table};
-use crate::letters::Letters;
-use crate::shown::{KindText, NameText};
 use crate::source::{NoFork, name_of_container};
-use crate::types::types_listing;
+use fork_list::{KindText, types_listing};
 use mac_base::resource::ResType;
 use mac_files::bin_hex::file::BinHexFile;
 use mac_files::bin_hex::{is_bin_hex, read_bin_hex};
 use mac_files::container::Container;
 use mac_files::contents::Contents;
 use mac_files::{container_of, read_contents};
+use mac_text::Quoted;
+use mac_text::letters::Letters;
 use std::alloc::{AllocError, Global};
 
 /// Adds the lines of a name, and of a type and a creator.
@@ -23,7 +23,7 @@ fn push_name(
     kind: [u8; 4],
     creator: [u8; 4],
 ) -> Result<(), AllocError> {
-    let name = NameText::new(Letters::Roman, name);
+    let name = Quoted::double(Letters::Roman, name);
     let kind = KindText::new(Letters::Roman, ResType::new(kind));
     let creator = KindText::new(Letters::Roman, ResType::new(creator));
     writeln!(text, "name: {name}")?;

@@ -7,12 +7,16 @@ use std::alloc::Global;
 use std::io;
 use std::io::{ErrorKind, Read};
 
-/// All bytes that the reader gives.
-pub fn read_all<R: Read + Drop>(alloc: Global, mut reader: R) -> io::Result<Vec<u8>>
+/// All bytes that the reader gives. There is room for so many at first: where they are no more, none of them is moved.
+pub fn read_all<R: Read + Drop>(
+    alloc: Global,
+    mut reader: R,
+    expected: usize,
+) -> io::Result<Vec<u8>>
     ensures all { IfOk result (λ bytes. IfSome (R.remaining reader) (λ all. bytes.items ≡ all)) }
     ensures retried { IfErr result (λ error. error_kind error ≢ ErrorKind.Interrupted) }
 {
-    let mut bytes = Vec::new(alloc);
+    let mut bytes = Vec::with_capacity(alloc, expected)?;
     reader.read_to_end(&mut bytes)?;
     Ok(bytes)
 }

@@ -3,31 +3,36 @@
 
 mod answer;
 mod asked;
-mod attribute;
 mod command;
 mod damage;
-mod find;
+mod form;
 mod info;
 mod input;
-mod kind;
-mod letters;
-mod list;
+mod json;
+mod manifest;
+mod mend;
 mod message;
-mod name;
+mod report;
 mod request;
-mod shown;
 mod source;
-mod types;
+mod unpack;
+mod view;
 
-use answer::answer;
+use answer::{Failure, answer, read_table};
 use asked::{Asked, NotAsked, asked_by};
-use info::info_text;
+use damage::Tally;
+use fork_bytes::table::Table;
 use input::read_all;
-use message::{BAD_WORDS, CANT_GO_ON, DONE, Problem, tell_bad_words, tell_problem};
-use request::Request;
-use std::io::{ErrorKind, IsTerminal};
+use mac_text::letters::Letters;
+use message::{BAD_WORDS, CANT_GO_ON, DONE, NO_FORK, Problem, tell_bad_words, tell_problem};
+use report::Told;
+use request::{Form, Report, Request};
+use source::{Found, resource_fork};
+use std::io::{ErrorKind, IsTerminal, Write};
 use std::process::ExitCode;
 use std::{env, fs, io};
+use unpack::{Unpacking, unpack};
+use view::{View, sight_of};
 
 /// The word for the standard input, in place of a file's name.
 const INPUT: &str = "-";
@@ -54,7 +59,22 @@ fn run(rt: &HostRuntime) -> u8 {
                 output,
             },
         ) => show_all(rt, &request, files.as_slice(), output),
-        Ok(Asked::Info(files)) => tell_about_all(rt, files.as_slice()),
+        Ok(Asked::Report { report, files }) => report_all(rt, &report, files.as_slice()),
+        Ok(
+            Asked::Salvage {
+                file,
+                letters,
+                output,
+            },
+        ) => finish(rt, file, salvage_file(rt, file, letters, output)),
+        Ok(Asked::View { view, file, output }) => {
+            finish(rt, file, view_file(rt, &view, file, output))
+        }
+        Ok(Asked::Unpack { unpacking, file }) => finish(
+            rt,
+            file,
+            unpack_file(rt, &unpacking, file),
+        ),
         Ok(Asked::Tell(text)) => tell(rt, &text),
         Err(error) => tell_bad_words(rt, &error),
     }
@@ -99,37 +119,155 @@ fn show(
     fs::write(rt, output, text.as_slice()).map_err(Problem::Save)
 }
 
-/// Tells about each of these files, and why of some nothing is told. The result is the highest status of them.
-fn tell_about_all(rt: &HostRuntime, files: &[&str]) -> u8 {
+/// Reports on each of these files, and tells why of some nothing is told. The result is the highest status of them.
+fn report_all(rt: &HostRuntime, report: &Report, files: &[&str]) -> u8 {
+    let form = report.form();
     let mut status = DONE;
     for file in files {
-        if files.len() > 1 && println!(rt; "{file}:").is_err() {
+        if let Form::Text = form
+            && files.len() > 1
+            && println!(rt; "{file}:").is_err()
+        {
             return CANT_GO_ON;
         }
-        if let Err(problem) = tell_about(rt, file) {
-            tell_problem(rt, file, &problem);
-            status = status.max(problem.status());
-        }
+        let told = report_file(rt, report, file);
+        status = status.max(finish(rt, file, print_told(rt, form, file, told)));
     }
     status
 }
 
-/// Tells about the file of this name.
-fn tell_about(rt: &HostRuntime, file: &str) -> Result<(), Problem> {
+/// What is told of the file of this name.
+fn report_file(rt: &HostRuntime, report: &Report, file: &str) -> Result<Told, Problem> {
+    let bytes = read(rt, file).map_err(Problem::Read)?;
+    report::report_on(rt.alloc(), report, file, &bytes)
+}
+
+/// Writes what is told of a file. The result is its status, or why nothing is told.
+fn print_told(
+    rt: &HostRuntime,
+    form: Form,
+    file: &str,
+    told: Result<Told, Problem>,
+) -> Result<u8, Problem> {
+    match told {
+        Ok(Told { text, is_damaged }) => {
+            write_text(rt, &text)?;
+            Ok(if is_damaged { NO_FORK } else { DONE })
+        }
+        Err(problem) => {
+            if let Form::Json = form
+                && let Ok(line) = report::refused(rt.alloc(), file, &problem)
+            {
+                write_text(rt, &line)?;
+            }
+            Err(problem)
+        }
+    }
+}
+
+/// Writes a text in one piece.
+fn write_text(rt: &HostRuntime, text: &String) -> Result<(), Problem> {
+    rt.stdout()
+        .write_all(text.as_bytes())
+        .map_err(Problem::Print)
+}
+
+/// The status of what was done with a file. A problem is told.
+fn finish(rt: &HostRuntime, file: &str, done: Result<u8, Problem>) -> u8 {
+    match done {
+        Ok(status) => status,
+        Err(problem) => {
+            tell_problem(rt, file, &problem);
+            problem.status()
+        }
+    }
+}
+
+/// Lists what can be read of the file of this name, or writes it to a file.
+fn salvage_file(
+    rt: &HostRuntime,
+    file: &str,
+    letters: Letters,
+    output: Option<&str>,
+) -> Result<u8, Problem> {
     let alloc = rt.alloc();
     let bytes = read(rt, file).map_err(Problem::Read)?;
-    let text = info_text(alloc, &bytes).map_err(|failure| Problem::of_failure(
-        alloc, failure, &bytes,
-    ))?;
-    print!(rt; "{text}").map_err(Problem::Print)
+    let Some(output) = output else {
+        let text = report::salvage_list(alloc, letters, &bytes)?;
+        write_text(rt, &text)?;
+        return Ok(DONE);
+    };
+    let (fork, tally) = report::salvage(alloc, &bytes)?;
+    fs::write(rt, output, fork.as_slice()).map_err(Problem::Save)?;
+    if let Some(Tally { readable, found }) = tally {
+        let _ = eprintln!(rt;
+            "{file}: {readable} of {found} resources can be read, and are written to {output}"
+        );
+    }
+    Ok(DONE)
+}
+
+/// The resource fork in a file.
+fn fork_found<'a>(rt: &HostRuntime, bytes: &'a [u8]) -> Result<Found<'a>, Problem> {
+    let alloc = rt.alloc();
+    resource_fork(alloc, bytes).map_err(|fault| Problem::of_failure(
+        alloc,
+        Failure::NoFork(fault),
+        bytes,
+    ))
+}
+
+/// The table of the resource fork that was found in a file.
+fn table_found<'a>(
+    rt: &HostRuntime,
+    found: &'a Found<'_>,
+    bytes: &[u8],
+) -> Result<Table<'a>, Problem> {
+    let alloc = rt.alloc();
+    read_table(alloc, found.fork()).map_err(|fault| Problem::of_failure(
+        alloc,
+        Failure::Fork(fault),
+        bytes,
+    ))
+}
+
+/// Shows resources of the file of this name to people. A picture isn't written to a terminal.
+fn view_file(
+    rt: &HostRuntime,
+    view: &View,
+    file: &str,
+    output: Option<&str>,
+) -> Result<u8, Problem> {
+    let bytes = read(rt, file).map_err(Problem::Read)?;
+    let found = fork_found(rt, &bytes)?;
+    let table = table_found(rt, &found, &bytes)?;
+    let sight = sight_of(rt.alloc(), view, table.rows.as_slice()).map_err(Problem::View)?;
+    match output {
+        Some(output) => fs::write(rt, output, sight.bytes.as_slice()).map_err(Problem::Save)?,
+        None if sight.is_picture && rt.stdout().is_terminal() => return Err(Problem::Terminal),
+        None => rt.stdout().write_all(&sight.bytes).map_err(Problem::Print)?,
+    }
+    Ok(DONE)
+}
+
+/// Writes the resources of the file of this name to a folder.
+fn unpack_file(rt: &HostRuntime, unpacking: &Unpacking<'_>, file: &str) -> Result<u8, Problem> {
+    let bytes = read(rt, file).map_err(Problem::Read)?;
+    let found = fork_found(rt, &bytes)?;
+    let table = table_found(rt, &found, &bytes)?;
+    unpack(rt, unpacking, &bytes, &table).map_err(Problem::Unpack)?;
+    Ok(DONE)
 }
 
 /// The bytes of the file of this name, or of the standard input.
 fn read(rt: &HostRuntime, file: &str) -> io::Result<Vec<u8>> {
     if file == INPUT {
-        return read_all(rt.alloc(), rt.stdin());
+        return read_all(rt.alloc(), rt.stdin(), 0);
     }
-    read_all(rt.alloc(), fs::open(rt, file)?)
+    let file = fs::open(rt, file)?;
+    // a byte more, for the read that finds the end
+    let expected = (file.metadata()?.len() as usize).saturating_add(1);
+    read_all(rt.alloc(), file, expected)
 }
 
 /// Writes the help or the version. The result is the exit status.
@@ -145,6 +283,8 @@ fn tell_no_words(rt: &HostRuntime, error: &io::Error) -> u8 {
     if error.kind() == ErrorKind::OutOfMemory {
         return tell_bad_words(rt, &NotAsked::HostFull);
     }
-    let _ = rt.eprintln("error: a word of the command line is no UTF-8 text");
+    let _ = rt.eprintln(
+        "error: a word of the command line is no UTF-8 text; of a file with such a name: resfork ls - < FILE",
+    );
     BAD_WORDS
 }

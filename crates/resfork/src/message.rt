@@ -4,6 +4,8 @@ use crate::answer::Failure;
 use crate::asked::NotAsked;
 use crate::damage::Damage;
 use crate::source::{NoFork, name_of_container};
+use crate::unpack::NotUnpacked;
+use crate::view::NotShown;
 use fork_bytes::fault::ForkFault;
 use mac_files::archive::Archive;
 use mac_files::{archive_of, container_of};
@@ -46,8 +48,17 @@ pub enum Problem {
     #[error("{0}")]
     Archive(Archive),
     /// Its fork is damaged: what is told of that.
-    #[error("{0}")]
-    Damaged(String),
+    #[error("{told}")]
+    Damaged {
+        told: String,
+        is_readable: bool,
+    },
+    /// Nothing can be read of its fork.
+    #[error("no resource can be read")]
+    Nothing,
+    /// Too much can be read for one fork.
+    #[error("more can be read than one fork holds, 8192 resources and 4194304 bytes with its map: nothing is written; resfork salvage --list shows what there is")]
+    TooMuch,
     /// It is nothing that is known.
     #[error("neither a resource fork nor a file that has one in it: {0}")]
     Unknown(String),
@@ -57,6 +68,12 @@ pub enum Problem {
     /// The standard output takes no more.
     #[error("the output can't be written: {0}")]
     Print(io::Error),
+    /// Its resources can't be shown so.
+    #[error("{0}")]
+    View(NotShown),
+    /// Not all of its resources are written to a folder.
+    #[error("{0}")]
+    Unpack(NotUnpacked),
     /// The standard output is a terminal.
     #[error("the bytes of a resource aren't for a terminal: name a file with -o OUT, or pipe them on")]
     Terminal,
@@ -87,28 +104,43 @@ impl Problem {
             return Problem::Show(Failure::HostFull);
         };
         if damage.is_in_container() || container_of(file).is_some() {
-            return Problem::Damaged(told);
+            return Problem::damaged(told, damage);
         }
         match archive_of(file) {
             Some(archive) => Problem::Archive(archive),
-            None if damage.is_of_fork() => Problem::Damaged(told),
+            None if damage.is_of_fork() => Problem::damaged(told, damage),
             None => Problem::Unknown(told),
+        }
+    }
+
+    /// That a fork is damaged.
+    fn damaged(told: String, damage: Damage) -> Problem {
+        Problem::Damaged {
+            told,
+            is_readable: damage.is_readable(),
         }
     }
 
     /// The exit status that says so.
     pub fn status(&self) -> u8 {
         match self {
-            Problem::Show(Failure::NotFound) => NOT_FOUND,
-            Problem::Terminal => BAD_WORDS,
+            Problem::Show(Failure::NotFound) | Problem::View(NotShown::NotFound) => NOT_FOUND,
+            Problem::Terminal
+            | Problem::View(NotShown::NoPicture)
+            | Problem::View(NotShown::NoText)
+            | Problem::View(NotShown::ManyPictures) => BAD_WORDS,
             Problem::Show(Failure::Fork(_))
             | Problem::Show(Failure::NoFork(_))
             | Problem::Container { .. }
             | Problem::Archive(_)
-            | Problem::Damaged(_)
+            | Problem::Damaged { .. }
+            | Problem::Nothing
+            | Problem::TooMuch
             | Problem::Unknown(_) => NO_FORK,
             Problem::Read(_)
             | Problem::Save(_)
+            | Problem::Unpack(_)
+            | Problem::View(NotShown::HostFull)
             | Problem::Print(_)
             | Problem::Show(Failure::HostFull)
             | Problem::Show(Failure::Write(_)) => CANT_GO_ON,
@@ -133,6 +165,10 @@ pub fn tell_problem(rt: &HostRuntime, file: &str, problem: &Problem) {
     }
     let _ = match problem {
         Problem::Archive(archive) => tell_archive(rt, file, *archive),
+        Problem::Damaged {
+            told,
+            is_readable: true,
+        } => eprintln!(rt; "{file}: {told}: resfork salvage {file} -o OUT"),
         problem => eprintln!(rt; "{file}: {problem}"),
     };
 }

@@ -1,7 +1,9 @@
 //! What is asked about a resource fork.
 
-use crate::letters::Letters;
+use fork_json::Bytes;
+use fork_list::find::Wanted;
 use mac_base::resource::ResType;
+use mac_text::letters::Letters;
 
 /// What to show of a fork.
 #[derive(Drop)]
@@ -14,6 +16,36 @@ pub enum Request {
     Get(Wanted),
 }
 
+/// In which form something is told.
+#[derive(Clone, Copy)]
+pub enum Form {
+    /// Lines for people.
+    Text,
+    /// One line of JSON for each file.
+    Json,
+}
+
+/// What is told about files.
+#[derive(Drop)]
+pub enum Report {
+    /// What each is.
+    Info(Form),
+    /// All faults of its fork.
+    Check(Form),
+    /// A list of its resources as JSON, those of these types, or all where none are named.
+    List { kinds: Vec<ResType>, shown: Bytes },
+}
+
+impl Report {
+    /// The form in which it is told.
+    pub fn form(&self) -> Form {
+        match self {
+            Report::Info(form) | Report::Check(form) => *form,
+            Report::List { .. } => Form::Json,
+        }
+    }
+}
+
 /// Which types a list has, and how it shows them.
 #[derive(Drop)]
 pub struct Choice {
@@ -21,23 +53,6 @@ pub struct Choice {
     pub letters: Letters,
     /// The types of the resources; none for all types.
     pub kinds: Vec<ResType>,
-}
-
-/// What a resource of a type is called by.
-#[derive(Drop)]
-pub enum Key {
-    /// Its id.
-    Id(i16),
-    /// Its name, in MacRoman.
-    Name(Vec<u8>),
-}
-
-/// A resource of a type with an id or a name: of several such ones this one, where the first is 0.
-#[derive(Drop)]
-pub struct Wanted {
-    pub kind: ResType,
-    pub key: Key,
-    pub nth: usize,
 }
 
 impl Request {

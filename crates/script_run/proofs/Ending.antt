@@ -5,7 +5,7 @@ use Rattle.std.specs.List.{concat}
 use Rattle.std.proofs.lemmas.List.{append-nil, take_more, take-append-drop}
 use Rattle.std.proofs.lemmas.Option.{get_or_from_slice_get, slice_get_within}
 use Rattle.fork_disk.specs.declared.store.ForkStore.{Ghosts}
-use Rattle.script_lines.specs.declared.line.Line.{Line}
+use Rattle.script_lang.specs.declared.line.Line.{Line}
 use Rattle.script_text.specs.Script.{IsScript, IsFaultAt}
 use Rattle.reply_text.specs.Text.{fault_text, no_memory_text}
 use Rattle.script_run.specs.declared.end.RunEnd.{RunEnd}

@@ -1,5 +1,5 @@
 -- Opening a file, and a call that has no host memory, keep every fork.
-use Rattle.std.proofs.Common.{◌≡◌, ℕ, List, Option, Some, None, Result, Ok, Err, Bool, true, false, refl, sym, ap, subst, inl}
+use Rattle.std.proofs.Common.{◌≡◌, ◌∙◌, ℕ, ◌-◌, ◌≤◌, slice_get, unwrap_or, List, Option, Some, None, Result, Ok, Err, Bool, true, false, refl, sym, ap, subst, inl}
 use Rattle.std.specs.Prelude.{[], OnOk, OnErr, if◌then◌else◌}
 use Rattle.mac_base.specs.declared.error.OsErr.{OsErr}
 use Rattle.mac_calls.specs.declared.call.Call.{Call}
@@ -11,10 +11,12 @@ use Rattle.fork_disk.specs.declared.store.ForkStore.{Ghosts}
 use Rattle.fork_disk.specs.Crash.{at_first}
 use Rattle.res_table.specs.OpenFiles.{is_open}
 use Rattle.res_calls.specs.Changes.{FileTable}
-use Rattle.res_calls.specs.Device.{Device, DiskRelations, read_truly}
-use Rattle.res_calls.proofs.Answering.{honest_step}
-use Rattle.res_files.specs.FilesOn.{FailedAt, NoneFailed}
-use Rattle.res_calls.specs.Files.{ResState, ResourceEnd}
+use Rattle.res_calls.specs.Device.{Device, Disk, DiskRelations}
+use Rattle.res_calls.specs.Answered.{IsAnswered, answered_disks}
+use Rattle.res_calls.proofs.Answering.{disk_answered}
+use Rattle.res_files.specs.FilesOn.{fork_of}
+use Rattle.res_files.proofs.Stores.{fork_or}
+use Rattle.res_calls.specs.Files.{ResState, ResourceEnd, disk_of}
 use Rattle.res_calls.specs.Steps.{MemoryRelation, Opens, Quiet, ResourceStepBy, StepsUnless, Works, opened_end, work_of, Memory as MayStep, update_in}
 use Rattle.res_calls.specs.Tests.{resource_refusal}
 use Rattle.res_calls.specs.Updates.{Update}
@@ -24,7 +26,7 @@ use Rattle.toolbox.specs.ToolState.{IsHonest, ToolState, resource_state}
 use Rattle.script_run.specs.declared.machine.Machine.{Machine}
 use Rattle.script_run.specs.Line.{OpensFirst, SameForks, opening_text}
 
-module _ (One : MemoryRelation) (disks : DiskRelations) (device : Device) (old : ResState) (k : ℕ) (asks : List Ask) (end : ResourceEnd) where
+module _ (One : MemoryRelation) (disks : ℕ → DiskRelations) (device : Device) (old : ResState) (k : ℕ) (asks : List Ask) (end : ResourceEnd) where
   by_read : (read : Result FileTable OsErr) → end ≡ opened_end k old read → end.state.disks ≡ old.disks
   by_read (Ok table) is = ap (λ (e : ResourceEnd). e.state.disks) is
   by_read (Err code) is = ap (λ (e : ResourceEnd). e.state.disks) is
@@ -44,26 +46,43 @@ module _ (One : MemoryRelation) (disks : DiskRelations) (device : Device) (old :
 opening_updates_none : (old : ResState) (k : ℕ) → update_in (work_of old (call.OpenResFile k)) ≡ None
 opening_updates_none old k = elim (is_open k old.files) as (λ (b : Bool). update_in (if b then Quiet else Opens k) ≡ None) [ true ↦ refl | false ↦ refl ]
 
+-- the fork of a file whose device is honest, by its disk
+fork-answered : {S : Type 0} (store : Ghosts S) (new : ToolState S) (answered : ResState) → IsAnswered (IsHonest store new) (resource_state store new) answered
+    → (k : ℕ) → 1 ≤ k → IsHonest store new k → fork_of store.fork k new.resources.stores ≡ disk_of k answered
+fork-answered store new answered is k low honest =
+    sym (fork_or store.fork new.resources.stores (k - 1)) ∙ sym (disk_answered (IsHonest store new) (resource_state store new) answered is k low honest)
+
 -- whatever it gives
 pub opening_keeps_forks : {S : Type 0} (store : Ghosts S) (old new : ToolState S) (k : ℕ) (asks : List Ask) (outcome : Outcome) → Gives store old (Resource (call.OpenResFile k)) asks outcome new → SameForks store old.resources.stores new.resources.stores
-opening_keeps_forks store old new k asks outcome gives = λ honest. (
-  gives.2 honest,
-  opening_keeps_disks MayStep (read_truly store.may_leave) (gives.0).device (resource_state store old) k asks (record { outcome = outcome; state = resource_state store new })
-      (honest_step (IsHonest store new) (NoneFailed store.failures old.resources.stores new.resources.stores) (λ k. FailedAt store.failures k old.resources.stores new.resources.stores) MayStep store.may_leave
-      (resource_state store old) (call.OpenResFile k) asks outcome (resource_state store new) honest gives.0),
-  subst (λ (update : Option Update). CrashLeaves store update old.resources.stores new.resources.stores) (opening_updates_none (resource_state store old) k) (gives.5 honest),
-)
+opening_keeps_forks store old new k asks outcome gives =
+    let given = gives.0 in
+    let end : ResourceEnd = record { outcome = outcome; state = given.after } in
+    let kept = opening_keeps_disks MayStep (answered_disks (IsHonest store new) store.may_leave) given.device given.before k asks end given.step in
+    let disks = kept ∙ ap (λ (s : ResState). s.disks) given.was in (
+      gives.2,
+      gives.3,
+      λ n low honest.
+          fork-answered store new given.after given.becomes n low honest
+          ∙ ap (λ (ds : List Disk). unwrap_or (slice_get ds (n - 1)) []) disks
+          ∙ fork_or store.fork old.resources.stores (n - 1),
+      subst (λ (update : Option Update). CrashLeaves store update old.resources.stores new.resources.stores) (opening_updates_none (resource_state store old) k) gives.5,
+    )
 
 -- stores that weren't touched have the same forks
 pub same_forks : {S : Type 0} (store : Ghosts S) (old left : List S) → left ≡ old → SameForks store old left
-same_forks {S = S} store old left same = subst (λ (l : List S). SameForks store old l) (sym same) (λ honest. (honest, refl, λ number _. at_first (λ found may. inl may)))
+same_forks {S = S} store old left same = subst (λ (l : List S). SameForks store old l) (sym same) ((λ k h. h), refl, (λ k low h. refl), λ number low h. at_first (λ found may. inl may))
 
 untouched : {S : Type 0} (store : Ghosts S) (old new : ToolState S) → new ≡ old → SameForks store old.resources.stores new.resources.stores
 untouched {S = S} store old new same = same_forks store old.resources.stores new.resources.stores (ap (λ (t : ToolState S). t.resources.stores) same)
 
 -- a call that has no host memory
 pub unchanged_keeps_forks : {S : Type 0} (store : Ghosts S) (old new : ToolState S) (one : Call) → Unchanged store old one new → SameForks store old.resources.stores new.resources.stores
-unchanged_keeps_forks store old new (Resource made) same = λ honest. (same.2 honest, ap (λ (s : ResState). s.disks) (sym (same.1.1 honest)), same.4 honest)
+unchanged_keeps_forks store old new (Resource made) same = (
+  same.2,
+  same.3,
+  (λ k low honest. fork-answered store new (resource_state store old) same.1 k low honest ∙ fork_or store.fork old.resources.stores (k - 1)),
+  same.4,
+)
 unchanged_keeps_forks store old new (Memory made) same = untouched store old new same
 unchanged_keeps_forks store old new (Loan made) same = untouched store old new same
 unchanged_keeps_forks store old new MemError same = untouched store old new same

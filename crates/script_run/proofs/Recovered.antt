@@ -7,12 +7,12 @@ use Rattle.fork_disk.specs.declared.store.ForkStore.{Ghosts}
 use Rattle.res_laws.specs.Tools.{Called}
 use Rattle.toolbox.specs.Headline.{Stepped, calls_of, left_by}
 use Rattle.toolbox.specs.Recovery.{AreGiven}
-use Rattle.toolbox.specs.ToolState.{IsHonest, ToolState}
+use Rattle.toolbox.specs.ToolState.{ToolState}
 use Rattle.toolbox.proofs.Recovery.{toolbox-recovers}
-use Rattle.script_lines.specs.declared.line.Line.{Line}
-use Rattle.script_lines.specs.declared.line.Statement.{Statement}
-use Rattle.script_lines.specs.declared.line.Statement.TheVariants.{Call as CallStatement, Answer}
-use Rattle.script_vars.specs.Variables.{Variables, call_of}
+use Rattle.script_lang.specs.declared.line.Line.{Line}
+use Rattle.script_lang.specs.declared.line.Statement.{Statement}
+use Rattle.script_lang.specs.declared.line.Statement.TheVariants.{Call as CallStatement, Answer}
+use Rattle.script_lang.specs.Variables.{Variables, call_of}
 use Rattle.script_run.specs.declared.machine.Machine.{Machine}
 use Rattle.script_run.specs.Headline.{PrintReplies, PrintsReply}
 use Rattle.script_run.specs.Line.{StatementDoes, start_of}
@@ -59,8 +59,8 @@ module _ {S : Type 0} (store : Ghosts S) where
 
 -- so it is of the calls that a whole script makes
 pub run-recovers : {S : Type 0} (store : Ghosts S) → RunRecovers store
-run-recovers store sizes stores lines [] last journal honest run = absurd run
-run-recovers {S} store sizes stores lines (text ∷ texts) last journal honest run =
+run-recovers store sizes stores lines [] last journal run = absurd run
+run-recovers {S} store sizes stores lines (text ∷ texts) last journal run =
     let start = start_of sizes stores in
     let opened = run.0 in
     let opens = run.1 in
@@ -69,4 +69,4 @@ run-recovers {S} store sizes stores lines (text ∷ texts) last journal honest r
     let given : AreGiven store start.toolbox steps = (opens.1, made.given) in
     let left : left_by start.toolbox steps ≡ last.toolbox = made.left in
     let prints = subst (λ v. PrintReplies v lines texts (calls_of store made.steps)) opens.5 made.prints in
-    (steps, (refl, opens.7, prints), given, left, toolbox-recovers store start.toolbox steps journal (subst (IsHonest store) (sym left) honest) given)
+    (steps, (refl, opens.7, prints), given, left, toolbox-recovers store start.toolbox steps journal given)

@@ -5,9 +5,9 @@ use Rattle.mac_base.specs.HeadKind.{Shape}
 use Rattle.mac_base.specs.ZoneSizes.{ZoneSizes, shape_of}
 use Rattle.res_table.specs.OpenFiles.{no_files}
 use Rattle.res_files.specs.FilesOn.{FilesOn}
-use Rattle.made_calls.specs.Answers.{Queue, no_answers}
+use Rattle.held_calls.specs.Answers.{Queue, no_answers}
 use Rattle.toolbox.specs.ToolState.{ToolState}
-use Rattle.script_vars.specs.Variables.{Variables}
+use Rattle.script_lang.specs.Variables.{Variables}
 use Rattle.script_run.specs.declared.machine.Machine.{Machine}
 use Rattle.script_run.specs.Line.{start_of}
 

@@ -28,8 +28,8 @@ passed_by (Ok n) buffer = take n buffer
 passed_by (Err e) buffer = []
 
 -- the count rose by one, so one call failed, and no other was made after it that might have failed as well; at its last value it stays
-abbrev pub Rose : ℕ → ℕ → Type 0
-Rose before now = now ≡ counted true before
+abbrev pub RoseByOne : ℕ → ℕ → Type 0
+RoseByOne before now = now ≡ counted true before
 
 -- a reader gave these bytes, so it has them no more where it tells its bytes
 pub record Gave {R : Type 0} (remaining : R → Option (List ℕ)) (old : Counting R) (given : List ℕ) (new : Counting R) : Type 0 where

@@ -4,7 +4,7 @@ use Rattle.mac_base.specs.ZoneSizes.{ZoneSizes}
 use Rattle.fork_disk.specs.declared.store.ForkStore.{Ghosts}
 use Rattle.res_files.specs.FilesOn.{SomeFailed}
 use Rattle.toolbox.specs.Headline.{tools_of}
-use Rattle.script_lines.specs.declared.line.Line.{Line}
+use Rattle.script_lang.specs.declared.line.Line.{Line}
 use Rattle.script_run.specs.declared.machine.Machine.{Machine}
 use Rattle.script_run.specs.Line.{start_of}
 use Rattle.script_run.specs.Run.{AreRun, IsRun}

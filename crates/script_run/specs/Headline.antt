@@ -1,18 +1,19 @@
 -- What the lines of a script print, told of the calls that were made.
-use Rattle.std.specs.Prelude.{◌≡◌, ℕ, List, [], ◌∷◌, All}
+use Rattle.std.specs.Prelude.{◌≡◌, ℕ, List, [], ◌∷◌}
 use Rattle.mac_base.specs.ZoneSizes.{ArePossible, ZoneSizes}
 use Rattle.mac_calls.specs.declared.call.Call.TheVariants.{Resource}
 use Rattle.mac_calls.specs.declared.resource_call.ResourceCall.TheVariants.{OpenResFile}
 use Rattle.mac_calls.specs.GrowZone.{answered}
 use Rattle.fork_disk.specs.declared.store.ForkStore.{Ghosts}
 use Rattle.toolbox.specs.Headline.{tools_of}
-use Rattle.script_lines.specs.declared.line.Line.{Line}
-use Rattle.script_lines.specs.declared.line.Statement.{Statement}
-use Rattle.script_lines.specs.declared.line.Statement.TheVariants.{Call as CallStatement, Answer}
+use Rattle.toolbox.specs.ToolState.{IsHonest}
+use Rattle.script_lang.specs.declared.line.Line.{Line}
+use Rattle.script_lang.specs.declared.line.Statement.{Statement}
+use Rattle.script_lang.specs.declared.line.Statement.TheVariants.{Call as CallStatement, Answer}
 use Rattle.reply_text.specs.Text.{reply_text}
 use Rattle.script_run.specs.declared.machine.Machine.{Machine}
-use Rattle.script_vars.specs.Taken.{first_number}
-use Rattle.script_vars.specs.Variables.{Variables, call_of}
+use Rattle.script_lang.specs.Taken.{first_number}
+use Rattle.script_lang.specs.Variables.{Variables, call_of}
 use Rattle.script_run.specs.Line.{assigned, opening_text, start_of}
 use Rattle.script_run.specs.Run.{IsRun}
 use Rattle.res_laws.specs.Tools.{Called, Headline, IsToolRun}
@@ -40,9 +41,9 @@ PrintAllReplies lines [] calls = ⊥
 PrintAllReplies lines (text ∷ texts) [] = ⊥
 
 -- Whatever the lines of a script print is the replies of calls that were made, and this is what is promised of these calls: of the zone for
--- any stores, and of the forks where the devices of the stores that they leave are honest.
+-- any stores, and of each fork where the device of its store is honest, as they leave it.
 abbrev pub RunShows : {S : Type 0} → Ghosts S → Type 0
 RunShows {S = S} store = (sizes : ZoneSizes) (stores : List S) (lines : List Line) (texts : List (List ℕ)) (last : Machine S)
     → ArePossible sizes → IsRun store (start_of sizes stores) lines texts last
-    → (let start = tools_of store (start_of sizes stores).toolbox in let honest = All store.is_honest last.toolbox.resources.stores in
+    → (let start = tools_of store (start_of sizes stores).toolbox in let honest = IsHonest store last.toolbox in
     (calls : List Called) × PrintAllReplies lines texts calls × IsToolRun honest start calls × Headline honest start calls)

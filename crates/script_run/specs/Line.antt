@@ -1,5 +1,5 @@
 -- What one line of a script does.
-use Rattle.std.specs.Prelude.{◌≡◌, ◌<◌, ◌⊎◌, ℕ, IsTrue, true, List, [], ◌∷◌, ◌++◌, length, map, All, Option, None, Some, Ok, Err}
+use Rattle.std.specs.Prelude.{◌≡◌, ◌<◌, ◌≤◌, ◌⊎◌, ℕ, IsTrue, true, List, [], ◌∷◌, ◌++◌, length, Option, None, Some, Ok, Err}
 use Rattle.mac_base.specs.Heap.{new_heap}
 use Rattle.mac_base.specs.ZoneSizes.{ZoneSizes, shape_of}
 use Rattle.mac_calls.specs.declared.call.Call.TheVariants.{Resource}
@@ -9,19 +9,20 @@ use Rattle.mac_calls.specs.declared.table.CallName.TheVariants as call_name
 use Rattle.mac_calls.specs.GrowZone.{Ask, answered}
 use Rattle.mac_calls.specs.Outcomes.{Outcome}
 use Rattle.fork_disk.specs.declared.store.ForkStore.{Ghosts}
+use Rattle.res_files.specs.FilesOn.{HonestAt, WereHonest, fork_of}
 use Rattle.res_manager.specs.Crash.{CrashLeaves}
 use Rattle.res_table.specs.OpenFiles.{no_files}
-use Rattle.made_calls.specs.Answers.{no_answers}
+use Rattle.held_calls.specs.Answers.{no_answers}
 use Rattle.toolbox.specs.Steps.{Gives, LeavesAnswers, Steps, Unchanged, takes_memory}
-use Rattle.script_lines.specs.declared.line.CallLine.{CallLine}
-use Rattle.script_lines.specs.declared.line.Line.{Line}
-use Rattle.script_lines.specs.declared.line.Statement.{Statement}
-use Rattle.script_lines.specs.declared.line.Statement.TheVariants.{Call, Answer}
-use Rattle.script_lines.specs.declared.line.WrittenAnswer.{WrittenAnswer}
+use Rattle.script_lang.specs.declared.line.CallLine.{CallLine}
+use Rattle.script_lang.specs.declared.line.Line.{Line}
+use Rattle.script_lang.specs.declared.line.Statement.{Statement}
+use Rattle.script_lang.specs.declared.line.Statement.TheVariants.{Call, Answer}
+use Rattle.script_lang.specs.declared.line.WrittenAnswer.{WrittenAnswer}
 use Rattle.reply_text.specs.Text.{reply_room, reply_text}
-use Rattle.script_vars.specs.Answers.{answer_with}
-use Rattle.script_vars.specs.Taken.{first_number}
-use Rattle.script_vars.specs.Variables.{Variables, call_of, with_value}
+use Rattle.script_lang.specs.Answers.{answer_with}
+use Rattle.script_lang.specs.Taken.{first_number}
+use Rattle.script_lang.specs.Variables.{Variables, call_of, with_value}
 use Rattle.script_run.specs.declared.machine.Machine.{Machine}
 
 -- before file 1 is opened: a new zone, these stores, no refusal, no variables, and no answers
@@ -86,9 +87,11 @@ StatementDoes store old number (Answer line) text new = AnswerDoes old line text
 abbrev pub LineDoes : {S : Type 0} → Ghosts S → Machine S → Line → List ℕ → Machine S → Type 0
 LineDoes store old line text new = StatementDoes store old line.number line.statement text new
 
--- where the devices of the new stores are honest, so were those of the old ones, and the forks are the same, also as a start finds them behind a crash
+-- There are as many stores, and of each whose device is honest, it was so before, and the fork is the same, also as a start finds it after a
+-- crash.
 abbrev pub SameForks : {S : Type 0} → Ghosts S → List S → List S → Type 0
-SameForks store old new = All store.is_honest new → All store.is_honest old × (map store.fork new ≡ map store.fork old) × CrashLeaves store None old new
+SameForks store old new = WereHonest store.is_honest old new × (length new ≡ length old)
+    × ((k : ℕ) → 1 ≤ k → HonestAt store.is_honest new k → fork_of store.fork k new ≡ fork_of store.fork k old) × CrashLeaves store None old new
 
 -- From old, the call of a line isn't made for want of host memory: all is as it was, and it is a call that takes some.
 abbrev pub IsUnmade : {S : Type 0} → Ghosts S → Machine S → CallLine → Machine S → Type 0

@@ -2,7 +2,7 @@
 use Rattle.std.specs.Prelude.{◌≡◌, ◌≢◌, ◌⊎◌, ℕ, List, [], ◌∷◌, ◌++◌}
 use Rattle.std.specs.List.{concat}
 use Rattle.fork_disk.specs.declared.store.ForkStore.{Ghosts}
-use Rattle.script_lines.specs.declared.line.Line.{Line}
+use Rattle.script_lang.specs.declared.line.Line.{Line}
 use Rattle.script_text.specs.Script.{IsScript, IsFaultAt}
 use Rattle.reply_text.specs.Text.{fault_text}
 pub use Rattle.reply_text.specs.Text.{no_memory_text}

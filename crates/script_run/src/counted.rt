@@ -5,7 +5,7 @@ ghost use Rattle.std.specs.Io.{ReadsAtMost, WritesAtMost};
 ghost use Rattle.std.specs.Io.KnownBytes.{Keeps, ReadConsumes, WriteAppends};
 ghost use Rattle.script_run.specs.Counting.{counted, passed_by, takes_nothing};
 
-use crate::passed::Passed;
+use fork_disk::Record;
 use std::io;
 use std::io::{Read, Write};
 use std::marker::Model;
@@ -16,7 +16,7 @@ use std::marker::Model;
 pub struct Counted<T> {
     inner: T,
     failures: u64,
-    passed: Passed,
+    passed: Record<u8>,
 }
 
 impl<T> Model for Counted<T> {
@@ -24,7 +24,7 @@ impl<T> Model for Counted<T> {
 
     ghost Value = { Counting T };
 
-    ghost view = { λ c. record { inner = c.inner; failures = c.failures; passed = c.passed.bytes } };
+    ghost view = { λ c. record { inner = c.inner; failures = c.failures; passed = c.passed.events } };
 }
 
 impl<T> Counted<T> {
@@ -37,7 +37,7 @@ impl<T> Counted<T> {
         Counted {
             inner,
             failures: 0,
-            passed: Passed::new(),
+            passed: Record::new(),
         }
     }
 
@@ -63,6 +63,13 @@ impl<T> Counted<T> {
     }
 }
 
+/// Notes that these bytes passed.
+fn note(passed: &mut Record<u8>, bytes: &[u8])
+    ensures { passed.new.events ≡ passed.old.events ++ bytes.now }
+{
+    *passed = Record::of_events_beside(passed, &bytes, &());
+}
+
 /// A read that fails counts once, and no other does.
 impl<R: Read> Read for Counted<R> {
     ghost remaining = { λ c. R.remaining c.inner };
@@ -75,7 +82,7 @@ impl<R: Read> Read for Counted<R> {
     {
         let result = self.inner.read(buf);
         match &result {
-            Ok(count) => self.passed.note(&buf[..*count]),
+            Ok(count) => note(&mut self.passed, &buf[..*count]),
             Err(_) => self.failures = self.failures.saturating_add(1),
         }
         result
@@ -94,7 +101,7 @@ impl<W: Write> Write for Counted<W> {
     {
         let result = self.inner.write(buf);
         if let Ok(count) = &result {
-            self.passed.note(&buf[..*count]);
+            note(&mut self.passed, &buf[..*count]);
         }
         let has_failed = match &result {
             Ok(count) => *count == 0 && !buf.is_empty(),

@@ -4,7 +4,6 @@
 mod counted;
 mod end;
 mod machine;
-mod passed;
 mod reading;
 mod ready;
 mod running;

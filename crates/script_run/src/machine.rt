@@ -3,6 +3,7 @@
 ghost use Rattle.std.specs.Prelude.{◌≡◌, ◌≤◌, ◌⊎◌, [], length, OnOk, OnErr};
 ghost use Rattle.mac_base.specs.Heap.{new_heap};
 ghost use Rattle.mac_base.specs.ZoneSizes.{ZoneSizes, shape_of};
+ghost use Rattle.res_files.specs.Standing.{most_files};
 ghost use Rattle.script_run.specs.Line.{start_of, assigned, CallDoes, IsTooLong, IsUnmade, LineDoes, OpensFirst, SameForks, StopsAt};
 
 use fork_disk::store::ForkStore;
@@ -12,8 +13,7 @@ use mac_calls::{CallName, Outcome, Reply};
 use mem_calls::MemoryManager;
 use reply_text::ReplyText;
 use res_files::ResourceFiles;
-use script_lines::{CallLine, Line, Name, Statement};
-use script_vars::{Vars, answer_of, first_number, resolve};
+use script_lang::{CallLine, Line, Name, Statement, Vars, answer_of, first_number, resolve};
 use std::alloc::Global;
 use toolbox::{AnswerQueue, Toolbox};
 
@@ -27,7 +27,7 @@ pub struct Machine<S: ForkStore> {
 impl<S: ForkStore> Machine<S> {
     /// A toolbox over a new zone and these stores, of which no file is open, no variables, and no answers.
     pub fn new(alloc: Global, memory: MemoryManager, variables: Vars, stores: Vec<S>) -> Machine<S>
-        requires few { length stores.items ≤ 8 }
+        requires few { length stores.items ≤ most_files }
         requires nothing_lent { memory.heap.table.lent ≡ [] }
         requires no_variables { variables ≡ [] }
         ensures zone { (spec : ZoneSizes) → memory.shape ≡ shape_of spec → memory.heap ≡ new_heap (shape_of spec) spec.size → result ≡ start_of spec stores.items }

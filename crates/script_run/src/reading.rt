@@ -1,7 +1,7 @@
 //! Reading a script.
 
 ghost use Rattle.std.specs.Prelude.{◌≡◌, ◌≢◌, ℕ, List, Err, IsErrOf, unwrap_or};
-ghost use Rattle.script_run.specs.Counting.{Gave, Rose};
+ghost use Rattle.script_run.specs.Counting.{Gave, RoseByOne};
 ghost use Rattle.script_run.specs.Starting.{Reads};
 ghost use Rattle.script_run.specs.declared.reading.NoScript.TheVariants as why;
 
@@ -43,7 +43,7 @@ pub fn read_script<R: Read>(alloc: Global, reader: &mut Counted<R>) -> Result<Ve
     // The input is the bytes that the reader tells; of one that doesn't tell, those that it gave.
     ensures read { (given : List ℕ) × Gave R.remaining reader.old given reader.new
         × Reads (unwrap_or (R.remaining reader.old.inner) given) result }
-    ensures fault { IsErrOf result NoScript.ReadFault → Rose reader.old.failures reader.new.failures }
+    ensures fault { IsErrOf result NoScript.ReadFault → RoseByOne reader.old.failures reader.new.failures }
     ensures no_fault { result ≢ Err NoScript.ReadFault → reader.new.failures ≡ reader.old.failures }
 {
     let mut text = Vec::new(alloc);

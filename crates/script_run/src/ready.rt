@@ -1,15 +1,14 @@
 //! What stands ready before the first line of a script is run.
 
 ghost use Rattle.std.specs.Prelude.{◌≡◌, ◌≢◌, ℕ, List, [], Err, IfOk, IsErrOf, unwrap_or};
-ghost use Rattle.script_run.specs.Counting.{Gave, Rose};
+ghost use Rattle.script_run.specs.Counting.{Gave, RoseByOne};
 ghost use Rattle.script_run.specs.Starting.{IsReady};
 
 use crate::counted::Counted;
 use crate::reading::{NoScript, read_script};
 use reply_text::ReplyText;
-use script_lines::Script;
+use script_lang::{Script, Vars};
 use script_text::{Fault, parse_script};
-use script_vars::Vars;
 use std::alloc::Global;
 use std::io::Read;
 
@@ -26,7 +25,7 @@ pub fn make_ready<R: Read>(alloc: Global, reader: &mut Counted<R>) -> Result<Rea
     ensures ready { (given : List ℕ) × Gave R.remaining reader.old given reader.new
         × IsReady (unwrap_or (R.remaining reader.old.inner) given) result }
     ensures variables { IfOk result (λ ready. ready.variables ≡ []) }
-    ensures fault { IsErrOf result NoScript.ReadFault → Rose reader.old.failures reader.new.failures }
+    ensures fault { IsErrOf result NoScript.ReadFault → RoseByOne reader.old.failures reader.new.failures }
     ensures no_fault { result ≢ Err NoScript.ReadFault → reader.new.failures ≡ reader.old.failures }
 {
     let mut text = read_script(alloc, reader)?;

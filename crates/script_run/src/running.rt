@@ -3,7 +3,8 @@
 ghost use Rattle.std.specs.Prelude.{◌≡◌, ◌≢◌, ◌≤◌, ◌⊎◌, ◌↔◌, ℕ, List, length, unwrap_or};
 ghost use Rattle.script_text.specs.Script.{IsScript};
 ghost use Rattle.reply_text.specs.Text.{fault_text, no_memory_text};
-ghost use Rattle.script_run.specs.Counting.{Gave, Rose, Took};
+ghost use Rattle.res_files.specs.Standing.{most_files};
+ghost use Rattle.script_run.specs.Counting.{Gave, RoseByOne, Took};
 ghost use Rattle.script_run.specs.Exact.{RunsAgree};
 ghost use Rattle.script_run.specs.Headline.{RunShows};
 ghost use Rattle.script_run.specs.Line.{start_of};
@@ -21,7 +22,7 @@ use fork_disk::store::ForkStore;
 use mac_base::zone_spec::ZoneSpec;
 use mem_calls::MemoryManager;
 use reply_text::{NO_MEMORY, ReplyText, fault_line};
-use script_lines::Script;
+use script_lang::Script;
 use std::alloc::Global;
 use std::io::{Read, Write};
 
@@ -34,7 +35,7 @@ pub fn run<S: ForkStore, R: Read, W: Write>(
     spec: ZoneSpec,
     stores: Vec<S>,
 ) -> (RunEnd, Vec<S>)
-    requires { length stores.items ≤ 8 }
+    requires { length stores.items ≤ most_files }
     // The input is the bytes that the reader tells; of one that doesn't tell, those that it gave. What was written is what the input's
     // lines print from a new zone on, as far as the run came, and the stores are as they left them.
     ensures ends { (given : List ℕ) × (written : List ℕ) × Gave R.remaining reader.old given reader.new × Took W.contents writer.old written writer.new
@@ -53,9 +54,9 @@ pub fn run<S: ForkStore, R: Read, W: Write>(
     ensures exact { RunsAgree S.ForkStore }
 
     // A read that failed ends the run with ReadFault, which comes of nothing else; and so with a write.
-    ensures read_fault { result.0 ≡ RunEnd.ReadFault → Rose reader.old.failures reader.new.failures }
+    ensures read_fault { result.0 ≡ RunEnd.ReadFault → RoseByOne reader.old.failures reader.new.failures }
     ensures no_read_failed { result.0 ≢ RunEnd.ReadFault → reader.new.failures ≡ reader.old.failures }
-    ensures write_fault { result.0 ≡ RunEnd.WriteFault → Rose writer.old.failures writer.new.failures }
+    ensures write_fault { result.0 ≡ RunEnd.WriteFault → RoseByOne writer.old.failures writer.new.failures }
     ensures no_write_failed { result.0 ≢ RunEnd.WriteFault → writer.new.failures ≡ writer.old.failures }
 {
     let ready = match make_ready(alloc, reader) {
@@ -85,7 +86,7 @@ fn run_lines<S: ForkStore, W: Write>(
     ensures ends { (written : List ℕ) × Took W.contents writer.old written writer.new
         × ((input : List ℕ) → IsScript input script.now → Ends S.ForkStore machine.old input result written (stores_of machine.new)) }
     ensures no_read_fault { result ≢ RunEnd.ReadFault }
-    ensures write_fault { result ≡ RunEnd.WriteFault → Rose writer.old.failures writer.new.failures }
+    ensures write_fault { result ≡ RunEnd.WriteFault → RoseByOne writer.old.failures writer.new.failures }
     ensures no_write_failed { result ≢ RunEnd.WriteFault → writer.new.failures ≡ writer.old.failures }
 {
     let Ok(()) = machine.open_first(reply) else {
@@ -110,7 +111,7 @@ fn run_lines<S: ForkStore, W: Write>(
 fn tell_no_script<W: Write>(alloc: Global, writer: &mut Counted<W>, why: NoScript) -> RunEnd
     ensures ends { (written : List ℕ) × Took W.contents writer.old written writer.new × TellsNoScript why result written }
     ensures read_fault { (result ≡ RunEnd.ReadFault) ↔ (why ≡ NoScript.ReadFault) }
-    ensures write_fault { result ≡ RunEnd.WriteFault → Rose writer.old.failures writer.new.failures }
+    ensures write_fault { result ≡ RunEnd.WriteFault → RoseByOne writer.old.failures writer.new.failures }
     ensures no_write_failed { result ≢ RunEnd.WriteFault → writer.new.failures ≡ writer.old.failures }
 {
     match why {
@@ -125,7 +126,7 @@ fn tell_fault<W: Write>(alloc: Global, writer: &mut Counted<W>, line: u32) -> Ru
     ensures ends { (written : List ℕ) × Took W.contents writer.old written writer.new
         × (Tells (RunEnd.ScriptFault line) (fault_text line) result written ⊎ Tells RunEnd.NoMemory no_memory_text result written) }
     ensures no_read_fault { result ≢ RunEnd.ReadFault }
-    ensures write_fault { result ≡ RunEnd.WriteFault → Rose writer.old.failures writer.new.failures }
+    ensures write_fault { result ≡ RunEnd.WriteFault → RoseByOne writer.old.failures writer.new.failures }
     ensures no_write_failed { result ≢ RunEnd.WriteFault → writer.new.failures ≡ writer.old.failures }
 {
     let Ok(text) = fault_line(alloc, line) else {
@@ -143,7 +144,7 @@ pub fn tell_no_memory<W: Write>(writer: &mut Counted<W>) -> RunEnd
     ensures ends { (written : List ℕ) × Took W.contents writer.old written writer.new
         × Tells RunEnd.NoMemory no_memory_text result written }
     ensures no_read_fault { result ≢ RunEnd.ReadFault }
-    ensures write_fault { result ≡ RunEnd.WriteFault → Rose writer.old.failures writer.new.failures }
+    ensures write_fault { result ≡ RunEnd.WriteFault → RoseByOne writer.old.failures writer.new.failures }
     ensures no_write_failed { result ≢ RunEnd.WriteFault → writer.new.failures ≡ writer.old.failures }
 {
     if write_whole(writer, NO_MEMORY) {

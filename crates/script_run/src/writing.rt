@@ -1,7 +1,7 @@
 //! Writing replies.
 
 ghost use Rattle.std.specs.Prelude.{◌≡◌, ℕ, List, MatchBool};
-ghost use Rattle.script_run.specs.Counting.{Rose, Took};
+ghost use Rattle.script_run.specs.Counting.{RoseByOne, Took};
 ghost use Rattle.script_run.specs.Run.{IsProperFront};
 
 use crate::counted::Counted;
@@ -11,7 +11,7 @@ use std::io::Write;
 pub fn write_whole<W: Write>(writer: &mut Counted<W>, text: &[u8]) -> bool
     ensures written { (written : List ℕ) × Took W.contents writer.old written writer.new
         × MatchBool result (written ≡ text.now) (IsProperFront written text.now) }
-    ensures failures { MatchBool result (writer.new.failures ≡ writer.old.failures) (Rose writer.old.failures writer.new.failures) }
+    ensures failures { MatchBool result (writer.new.failures ≡ writer.old.failures) (RoseByOne writer.old.failures writer.new.failures) }
 {
     let mut rest = text;
     while !rest.is_empty() {

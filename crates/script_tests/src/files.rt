@@ -1,6 +1,7 @@
 //! The theorem of a run, read at files of the host.
 
 ghost use Rattle.std.specs.Prelude.{◌≤◌, ℕ, List, length, unwrap_or};
+ghost use Rattle.res_files.specs.Standing.{most_files};
 ghost use Rattle.script_run.specs.Counting.{Gave, Took};
 ghost use Rattle.script_run.specs.Exact.{RunsAgree};
 ghost use Rattle.script_run.specs.Headline.{RunShows};
@@ -27,7 +28,7 @@ pub fn run_over_files<W: World, R: Read, T: Write>(
     spec: ZoneSpec,
     stores: Vec<PlainStore<FileDisk<W>>>,
 ) -> (RunEnd, Vec<PlainStore<FileDisk<W>>>)
-    requires { length stores.items ≤ 8 }
+    requires { length stores.items ≤ most_files }
     ensures ends { (given : List ℕ) × (written : List ℕ) × Gave R.remaining reader.old given reader.new × Took T.contents writer.old written writer.new
         × Ends (file_store W.World) (start_of spec stores.items) (unwrap_or (R.remaining reader.old.inner) given) result.0 written result.1.items }
     ensures headline { RunShows (file_store W.World) }
@@ -45,7 +46,7 @@ pub fn run_over_journalled_files<W: PairWorld, R: Read, T: Write>(
     spec: ZoneSpec,
     stores: Vec<Journal<FilePair<W>>>,
 ) -> (RunEnd, Vec<Journal<FilePair<W>>>)
-    requires { length stores.items ≤ 8 }
+    requires { length stores.items ≤ most_files }
     ensures ends { (given : List ℕ) × (written : List ℕ) × Gave R.remaining reader.old given reader.new × Took T.contents writer.old written writer.new
         × Ends (journalled_store W.PairWorld) (start_of spec stores.items) (unwrap_or (R.remaining reader.old.inner) given) result.0 written result.1.items }
     ensures headline { RunShows (journalled_store W.PairWorld) }

@@ -1,6 +1,7 @@
 //! Runs over a reader, a writer and one resource file, each of which may fail.
 
 ghost use Rattle.std.specs.Prelude.{◌≤◌, length, IfOk};
+ghost use Rattle.res_files.specs.Standing.{most_files};
 
 use fork_disk::store::PlainStore;
 use fork_disk::{FailAt, MemDisk};
@@ -110,7 +111,7 @@ impl Seen {
 
 /// One disk with these bytes, whose call of this number fails. With 0 none does.
 fn one_disk(alloc: Global, bytes: Vec<u8>, turn: u64) -> Result<Vec<TestStore>, AllocError>
-    ensures { IfOk result (λ stores. length stores.items ≤ 8) }
+    ensures { IfOk result (λ stores. length stores.items ≤ most_files) }
 {
     let mut stores = Vec::new(alloc);
     stores.push(PlainStore {

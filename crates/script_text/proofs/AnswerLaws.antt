@@ -5,13 +5,13 @@ use Rattle.std.proofs.lemmas.Bool.{eqb-true, eqb-false}
 use Rattle.std.specs.Str.{bytes_eq}
 use Rattle.std.proofs.lemmas.List.{take_rest, nil_from_length}
 use Rattle.std.proofs.lemmas.Slice.Eq.{bytes_eq-Decides}
-use Rattle.script_lines.specs.declared.line.NumberOperand.{NumberOperand}
-use Rattle.script_lines.specs.Numbers.{as_operand}
-use Rattle.script_lines.specs.declared.line.WrittenAnswer.{WrittenAnswer}
-use Rattle.script_lines.specs.declared.line.WrittenCall.{WrittenCall}
+use Rattle.script_lang.specs.declared.line.NumberOperand.{NumberOperand}
+use Rattle.script_lang.specs.Numbers.{as_operand}
+use Rattle.script_lang.specs.declared.line.WrittenAnswer.{WrittenAnswer}
+use Rattle.script_lang.specs.declared.line.WrittenCall.{WrittenCall}
 use Rattle.script_text.specs.Tokens.{Token, Word}
 use Rattle.script_text.specs.Answers.{IsWrittenCall, AreCalls, AreFewCalls, IsAnswer, MayFollow}
-use Rattle.script_lines.specs.Calls.{most_calls}
+use Rattle.script_lang.specs.Calls.{most_calls}
 use Rattle.script_text.specs.Operands.{IsNumberOperand}
 use Rattle.script_text.proofs.OneAnswer.{one_written, one_calls}
 

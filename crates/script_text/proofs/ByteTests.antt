@@ -1,36 +1,8 @@
 -- Tests of bytes.
 use Rattle.std.proofs.Common.{◌≡◌, ℕ, Bool, true, false, eqb, List, [], ◌∷◌, refl, sym, ap, ◌∙◌}
-use Rattle.std.specs.Prelude.{not, ◌||◌, ◌&&◌}
+use Rattle.std.specs.Prelude.{not}
 use Rattle.std.specs.List.{list_all}
-use Rattle.std.proofs.lemmas.Bool.{eqb-true}
-
--- neither part passes where the whole fails
-pub or_false : (a b : Bool) → (a || b) ≡ false → (a ≡ false) × (b ≡ false)
-or_false true b e = absurd cc
-or_false false b e = (refl, e)
-
--- a denied test that passes
-pub not_true : (a : Bool) → not a ≡ true → a ≡ false
-not_true true e = absurd cc
-not_true false e = refl
-
--- both parts pass where the whole does
-pub and_true : (a b : Bool) → (a && b) ≡ true → (a ≡ true) × (b ≡ true)
-and_true true b e = (refl, e)
-and_true false b e = absurd cc
-
--- two parts that fail
-pub or_true : (a b : Bool) → a ≡ false → b ≡ false → (a || b) ≡ false
-or_true a b p q = rw (p, q) refl
-
--- the denial of a test that fails
-pub not_of : (a : Bool) → a ≡ false → not a ≡ true
-not_of a e = rw e refl
-
--- a part that fails
-pub and_false : (a b : Bool) → b ≡ false → (a && b) ≡ false
-and_false true b e = e
-and_false false b e = refl
+use Rattle.std.proofs.lemmas.Bool.{eqb-true, and_parts as and_true}
 
 -- a test that passes, denied twice
 pub not_not : (a : Bool) → a ≡ true → not (not a) ≡ true

@@ -2,8 +2,8 @@
 use Rattle.std.proofs.Common.{◌≡◌, ℕ, List, ◌∷◌, ◌++◌, Option, Some, None, sym, ap, subst, ◌∙◌}
 use Rattle.std.specs.Prelude.{IfSome, IsTrue}
 use Rattle.mac_calls.specs.declared.table.CallName.{CallName}
-use Rattle.script_lines.specs.declared.line.CallLine.{CallLine}
-use Rattle.script_lines.specs.declared.line.Operand.{Operand}
+use Rattle.script_lang.specs.declared.line.CallLine.{CallLine}
+use Rattle.script_lang.specs.declared.line.Operand.{Operand}
 use Rattle.script_text.specs.Tokens.{Token, Equals, Word}
 use Rattle.mac_calls.specs.Calls.{signature}
 use Rattle.script_text.specs.Operands.{AreOperands, is_name}

@@ -2,9 +2,8 @@
 use Rattle.std.proofs.Common.{◌≡◌, ℕ, zero, suc, ◌+◌, ◌<◌, ◌≤◌, Bool, true, false, cond, eqb, List, [], ◌∷◌, length, get_or, refl, arith, ◌∙◌, ap, subst}
 use Rattle.std.specs.Prelude.{◌&&◌, nat_lt}
 use Rattle.std.specs.Char.{digit_value}
-use Rattle.std.proofs.lemmas.Bool.{eqb-true, ltb-true, ltb-false}
+use Rattle.std.proofs.lemmas.Bool.{eqb-true, ltb-true, ltb-false, and_parts}
 use Rattle.script_text.specs.declared.operand.TheConstants.{DIGIT_VALUES}
-use Rattle.script_text.proofs.ByteTests.{and_true}
 
 -- the value of a hexadecimal digit, and 255 where a byte is none
 abbrev pub value_or_none : ℕ → ℕ
@@ -21,11 +20,11 @@ all_fit = refl
 value_in : (byte : ℕ) (values : List ℕ) (i d : ℕ) → fits byte values ≡ true → i < length values → get_or values i d ≡ value_or_none (byte + i)
 value_in byte [] i d all lt = absurd (omega arith)
 value_in byte (value ∷ values) zero d all lt =
-    let both = and_true (eqb value (value_or_none byte)) (fits (byte + 1) values) all in
+    let both = and_parts (eqb value (value_or_none byte)) (fits (byte + 1) values) all in
     let same : byte ≡ byte + 0 = omega arith in
     subst (λ (n : ℕ). value ≡ value_or_none n) same (eqb-true value (value_or_none byte) both.0)
 value_in byte (value ∷ values) (suc i) d all lt =
-    let both = and_true (eqb value (value_or_none byte)) (fits (byte + 1) values) all in
+    let both = and_parts (eqb value (value_or_none byte)) (fits (byte + 1) values) all in
     let same : byte + 1 + i ≡ byte + suc i = omega arith in
     subst (λ (n : ℕ). get_or values i d ≡ value_or_none n) same (value_in (byte + 1) values i d both.1 (omega arith))
 

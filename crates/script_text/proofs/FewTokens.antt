@@ -4,9 +4,9 @@ use Rattle.std.proofs.lemmas.List.{length-append}
 use Rattle.mac_calls.specs.declared.table.CallName.{CallName}
 use Rattle.mac_calls.specs.declared.table.CallName.TheVariants as call_name
 use Rattle.mac_calls.specs.Calls.{signature}
-use Rattle.script_lines.specs.declared.line.Statement.{Statement}
-use Rattle.script_lines.specs.declared.line.Statement.TheVariants.{Call, Answer}
-use Rattle.script_lines.specs.declared.line.WrittenCall.{WrittenCall}
+use Rattle.script_lang.specs.declared.line.Statement.{Statement}
+use Rattle.script_lang.specs.declared.line.Statement.TheVariants.{Call, Answer}
+use Rattle.script_lang.specs.declared.line.WrittenCall.{WrittenCall}
 use Rattle.script_text.specs.Answers.{AreCalls}
 use Rattle.script_text.specs.Script.{assignment, IsStatement, IsNoLine, MayStand, max_lines}
 use Rattle.script_text.specs.Tokens.{Token, HasNoFewTokens, most_tokens}

@@ -3,8 +3,8 @@ use Rattle.std.proofs.Common.{◌≡◌, ℕ, ◌+◌, Bool, true, false, List, 
 use Rattle.std.specs.Prelude.{not}
 use Rattle.std.specs.List.{list_all, position_or_len}
 use Rattle.std.proofs.lemmas.List.{take-append-drop}
+use Rattle.std.proofs.lemmas.Bool.{not-true, and_parts}
 use Rattle.script_text.specs.Front.{front, behind}
-use Rattle.script_text.proofs.ByteTests.{and_true, not_true}
 
 -- nothing, or a byte that stops
 abbrev pub halts : (ℕ → Bool) → List ℕ → Bool
@@ -36,15 +36,15 @@ behind-stop stops (byte ∷ bytes) e = rw e refl
 pub front-append : (stops : ℕ → Bool) (passed rest : List ℕ) → list_all (λ byte. not (stops byte)) passed ≡ true → halts stops rest ≡ true → front stops (passed ++ rest) ≡ passed
 front-append stops [] rest all halt = front-stop stops rest halt
 front-append stops (byte ∷ passed) rest all halt =
-    let both = and_true _ _ all in
-    front-pass stops byte (passed ++ rest) (not_true _ both.0) ∙ ap (λ (t : List ℕ). byte ∷ t) (front-append stops passed rest both.1 halt)
+    let both = and_parts _ _ all in
+    front-pass stops byte (passed ++ rest) (not-true _ both.0) ∙ ap (λ (t : List ℕ). byte ∷ t) (front-append stops passed rest both.1 halt)
 
 -- what stands behind them
 pub behind-append : (stops : ℕ → Bool) (passed rest : List ℕ) → list_all (λ byte. not (stops byte)) passed ≡ true → halts stops rest ≡ true → behind stops (passed ++ rest) ≡ rest
 behind-append stops [] rest all halt = behind-stop stops rest halt
 behind-append stops (byte ∷ passed) rest all halt =
-    let both = and_true _ _ all in
-    behind-pass stops byte (passed ++ rest) (not_true _ both.0) ∙ behind-append stops passed rest both.1 halt
+    let both = and_parts _ _ all in
+    behind-pass stops byte (passed ++ rest) (not-true _ both.0) ∙ behind-append stops passed rest both.1 halt
 
 -- the front passes, and what is behind it stops
 front-passes-at : (stops : ℕ → Bool) (byte : ℕ) (bytes : List ℕ) (b : Bool) → stops byte ≡ b → list_all (λ x. not (stops x)) (front stops bytes) ≡ true → list_all (λ x. not (stops x)) (front stops (byte ∷ bytes)) ≡ true

@@ -2,7 +2,7 @@
 use Rattle.std.proofs.Common.{◌≡◌, ℕ, ◌≤◌, ◌<◌, Bool, true, false, cond, ltb, lt-ltb, le-ltb, List, Option, length, get_or, Some, None, refl, arith}
 use Rattle.std.specs.Prelude.{unwrap_or, position}
 use Rattle.std.specs.List.{position_or_len}
-use Rattle.std.proofs.lemmas.Bool.{ltb-false, ltb-true}
+use Rattle.std.proofs.lemmas.Bool.{ltb-false, ltb-true, false_from_ne_true}
 use Rattle.std.proofs.lemmas.List.Sums.{prefix_len-le-length, position_or_len_is}
 use Rattle.memchr.specs.Find.{IsFirstByte}
 
@@ -34,10 +34,6 @@ none_by false at len lt e = ltb-false at len lt
 pub position_none : (stops : ℕ → Bool) (bytes : List ℕ) → position stops bytes ≡ None → length bytes ≤ position_or_len stops bytes
 position_none stops bytes e = none_by (ltb (position_or_len stops bytes) (length bytes)) (position_or_len stops bytes) (length bytes) refl e
 
-not_passing : (b : Bool) → (b ≡ true → ⊥) → b ≡ false
-not_passing true fails = absurd (fails refl)
-not_passing false fails = refl
-
 pub found_at : (at len k : ℕ) → at ≡ k → k < len → Some k ≡ cond (ltb at len) (Some at) None
 found_at at len k e lt = let inside : at < len = omega arith in rw (lt-ltb at len inside, e) refl
 
@@ -47,10 +43,10 @@ none_at at len e = let past : len ≤ at = omega arith in rw (le-ltb at len past
 -- the first place that a search finds is the position
 pub first_is_position : (test : ℕ → Bool) (bytes : List ℕ) (r : Option ℕ) → IsFirstByte test bytes r → r ≡ position test bytes
 first_is_position test bytes None none =
-    let fails : (k : ℕ) → k < length bytes → test (get_or bytes k 0) ≡ false = λ k lt. not_passing (test (get_or bytes k 0)) (none k (omega arith) lt) in
+    let fails : (k : ℕ) → k < length bytes → test (get_or bytes k 0) ≡ false = λ k lt. false_from_ne_true (test (get_or bytes k 0)) (none k (omega arith) lt) in
     none_at (position_or_len test bytes) (length bytes) (position_or_len_is test bytes (length bytes) 0 (omega arith) fails (λ lt. absurd (omega arith)))
 first_is_position test bytes (Some k) found =
     let first = found.0 in
-    let fails : (j : ℕ) → j < k → test (get_or bytes j 0) ≡ false = λ j lt. not_passing (test (get_or bytes j 0)) (first.before j (omega arith) lt) in
+    let fails : (j : ℕ) → j < k → test (get_or bytes j 0) ≡ false = λ j lt. false_from_ne_true (test (get_or bytes j 0)) (first.before j (omega arith) lt) in
     let within : k < length bytes = first.high in
     found_at (position_or_len test bytes) (length bytes) k (position_or_len_is test bytes k 0 (omega arith) fails (λ lt. found.1)) within

@@ -1,7 +1,7 @@
 -- No two names have one place, and a name keeps its place.
-use Rattle.std.proofs.Common.{◌≡◌, ℕ, suc, ◌+◌, ◌<◌, Bool, true, false, cond, eqb, List, [], ◌∷◌, ◌++◌, length, get_or, Some, refl, sym, ap, ◌∙◌, arith}
+use Rattle.std.proofs.Common.{◌≡◌, ℕ, suc, ◌+◌, ◌<◌, ◌≤◌, Bool, true, false, cond, eqb, List, [], ◌∷◌, ◌++◌, length, get_or, Some, refl, sym, ap, ◌∙◌, arith}
 use Rattle.std.specs.Borrow.{Bor}
-use Rattle.std.specs.Prelude.{not, ◌||◌}
+use Rattle.std.specs.Prelude.{not, ◌||◌, if◌then◌else◌}
 use Rattle.std.specs.List.{list_any, position_or_len}
 use Rattle.std.specs.Str.{bytes_eq}
 use Rattle.std.proofs.lemmas.Bool.{ne_eqb, eq-eqb}
@@ -88,3 +88,11 @@ stays_named names a place e = stays_by names a place (is_named names a) refl e
 -- a name that is assigned now is the last
 pub last_taken : (names : List (List ℕ)) (a : Bor (List ℕ)) (place : ℕ) → place ≡ place_for names a.now → IsLast (with_name names a.now) (Some (a, place))
 last_taken names a place e = takes_place names a.now ∙ ap (λ (n : ℕ). Some n) (sym e)
+
+few_by : (names : List (List ℕ)) (name : List ℕ) (b : Bool) → length (if b then names else names ++ name ∷ []) ≤ length names + 1
+few_by names name true = omega arith
+few_by names name false = let long = length_push names name in omega (arith, long)
+
+-- a name that is assigned is one more at most
+pub with_name-few : (names : List (List ℕ)) (name : List ℕ) → length (with_name names name) ≤ length names + 1
+with_name-few names name = few_by names name (is_named names name)

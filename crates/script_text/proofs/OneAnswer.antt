@@ -3,15 +3,15 @@ use Rattle.std.proofs.Common.{◌≡◌, ◌≢◌, ℕ, List, [], ◌∷◌, �
 use Rattle.mac_calls.specs.Calls.{signature}
 use Rattle.mac_calls.specs.declared.table.CallName.{CallName}
 use Rattle.mac_calls.specs.declared.table.CallName.TheVariants.{NewHandle}
-use Rattle.script_lines.specs.declared.line.CallLine.{CallLine}
-use Rattle.script_lines.specs.declared.line.NumberOperand.{NumberOperand}
-use Rattle.script_lines.specs.declared.line.NumberOperand.TheVariants.{Number, Variable}
-use Rattle.script_lines.specs.declared.line.Operand.{Operand}
-use Rattle.script_lines.specs.Numbers.{as_operand}
-use Rattle.script_lines.specs.declared.line.ReleasingName.{ReleasingName}
-use Rattle.script_lines.specs.declared.line.ReleasingName.TheVariants.{DisposeHandle, DisposePtr, EmptyHandle}
-use Rattle.script_lines.specs.declared.line.WrittenAnswer.{WrittenAnswer}
-use Rattle.script_lines.specs.declared.line.WrittenCall.{WrittenCall}
+use Rattle.script_lang.specs.declared.line.CallLine.{CallLine}
+use Rattle.script_lang.specs.declared.line.NumberOperand.{NumberOperand}
+use Rattle.script_lang.specs.declared.line.NumberOperand.TheVariants.{Number, Variable}
+use Rattle.script_lang.specs.declared.line.Operand.{Operand}
+use Rattle.script_lang.specs.Numbers.{as_operand}
+use Rattle.script_lang.specs.declared.line.ReleasingName.{ReleasingName}
+use Rattle.script_lang.specs.declared.line.ReleasingName.TheVariants.{DisposeHandle, DisposePtr, EmptyHandle}
+use Rattle.script_lang.specs.declared.line.WrittenAnswer.{WrittenAnswer}
+use Rattle.script_lang.specs.declared.line.WrittenCall.{WrittenCall}
 use Rattle.script_text.specs.Tokens.{Token, Equals, Word}
 use Rattle.script_text.specs.Answers.{releasing_text, IsWrittenCall, AreCalls, IsAnswer}
 use Rattle.script_text.specs.Operands.{IsNumberOperand}

@@ -4,7 +4,7 @@ use Rattle.std.specs.Prelude.{slice_get}
 use Rattle.std.specs.Str.Lines.{lines}
 use Rattle.std.proofs.lemmas.List.{take-take}
 use Rattle.std.proofs.lemmas.Bool.{cases_lt}
-use Rattle.script_lines.specs.declared.line.Line.{Line}
+use Rattle.script_lang.specs.declared.line.Line.{Line}
 use Rattle.script_text.specs.Tokens.{Token, AreTokens}
 use Rattle.script_text.specs.Script.{AreLines, AreParted, MayStand, IsNoLine, IsFaultAt, OneFault, NoFault, names_after, names_of}
 use Rattle.script_text.proofs.OneScript.{one_parted}

@@ -5,8 +5,8 @@ use Rattle.std.specs.Char.{is_ascii_alphabetic, digit_value}
 use Rattle.std.proofs.lemmas.Bool.Decides.{nat_tests}
 use Rattle.mac_calls.specs.declared.table.OperandKind.{OperandKind}
 use Rattle.mac_calls.specs.declared.table.OperandKind.TheVariants.{Number, Bytes, Id, «Type» as TypeKind, OptionalBytes, OptionalNumber}
-use Rattle.script_lines.specs.declared.line.Operand.{Operand}
-use Rattle.script_lines.specs.declared.line.Operand.TheVariants as operand
+use Rattle.script_lang.specs.declared.line.Operand.{Operand}
+use Rattle.script_lang.specs.declared.line.Operand.TheVariants as operand
 use Rattle.script_text.specs.Tokens.{Token, Equals, Word, Single, Double, Hexadecimal}
 use Rattle.script_text.specs.Operands.{IsDecimal, IsNumber, AreDigitsOf, is_name, IsId, IsVariable, IsNumberOperand, IsBytesOperand, IsIdOperand, IsTypeOfBytes, IsTypeOperand, IsOperand, AreOperands}
 

@@ -3,12 +3,12 @@ use Rattle.std.proofs.Common.{◌≡◌, ℕ, ◌+◌, List, [], ◌∷◌, ◌+
 use Rattle.std.specs.Prelude.{option_map}
 use Rattle.std.specs.Str.Lines.{lines}
 use Rattle.mac_calls.specs.declared.table.CallName.{CallName}
-use Rattle.script_lines.specs.declared.line.Name.{Name}
-use Rattle.script_lines.specs.declared.line.Operand.{Operand}
-use Rattle.script_lines.specs.declared.line.CallLine.{CallLine}
-use Rattle.script_lines.specs.declared.line.Line.{Line}
-use Rattle.script_lines.specs.declared.line.Statement.{Statement}
-use Rattle.script_lines.specs.declared.line.Statement.TheVariants.{Call, Answer}
+use Rattle.script_lang.specs.declared.line.Name.{Name}
+use Rattle.script_lang.specs.declared.line.Operand.{Operand}
+use Rattle.script_lang.specs.declared.line.CallLine.{CallLine}
+use Rattle.script_lang.specs.declared.line.Line.{Line}
+use Rattle.script_lang.specs.declared.line.Statement.{Statement}
+use Rattle.script_lang.specs.declared.line.Statement.TheVariants.{Call, Answer}
 use Rattle.script_text.specs.Tokens.{Token, Equals, Word}
 use Rattle.mac_calls.specs.Calls.{signature}
 use Rattle.script_text.specs.Operands.{AreOperands}

@@ -2,11 +2,11 @@
 use Rattle.std.proofs.Common.{◌≡◌, inl, inr, ℕ, ◌+◌, ◌<◌, ◌≤◌, List, [], ◌∷◌, ◌++◌, length, get_or, zero, suc, Option, Some, None, take, refl, subst, arith}
 use Rattle.std.specs.Prelude.{slice_get, ℤ}
 use Rattle.mac_calls.specs.declared.table.OperandKind.{OperandKind}
-use Rattle.script_lines.specs.declared.line.NumberOperand.{NumberOperand}
-use Rattle.script_lines.specs.declared.line.NumberOperand.TheVariants as number
-use Rattle.script_lines.specs.Numbers.{as_operand}
-use Rattle.script_lines.specs.declared.line.Operand.{Operand}
-use Rattle.script_lines.specs.declared.line.Operand.TheVariants as operand
+use Rattle.script_lang.specs.declared.line.NumberOperand.{NumberOperand}
+use Rattle.script_lang.specs.declared.line.NumberOperand.TheVariants as number
+use Rattle.script_lang.specs.Numbers.{as_operand}
+use Rattle.script_lang.specs.declared.line.Operand.{Operand}
+use Rattle.script_lang.specs.declared.line.Operand.TheVariants as operand
 use Rattle.script_text.specs.Tokens.{Token, Word, Hexadecimal}
 use Rattle.script_text.specs.Found.{Finds}
 use Rattle.script_text.specs.Operands.{IsNumber, AreDigitsOf, IsPositiveId, IsNegativeId, IsId, IsVariable, IsNumberOperand, IsIdOperand, IsTypeOfBytes, IsTypeOperand, IsOperandAt, AreOperands}

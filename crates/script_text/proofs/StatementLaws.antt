@@ -1,9 +1,9 @@
 -- What the tokens of a line say.
 use Rattle.std.proofs.Common.{◌≡◌, ◌≢◌, ℕ, ◌≤◌, List, [], ◌∷◌, Some, refl, subst}
-use Rattle.script_lines.specs.declared.line.CallLine.{CallLine}
-use Rattle.script_lines.specs.declared.line.Statement.{Statement}
-use Rattle.script_lines.specs.declared.line.Statement.TheVariants.{Call, Answer}
-use Rattle.script_lines.specs.declared.line.WrittenAnswer.{WrittenAnswer}
+use Rattle.script_lang.specs.declared.line.CallLine.{CallLine}
+use Rattle.script_lang.specs.declared.line.Statement.{Statement}
+use Rattle.script_lang.specs.declared.line.Statement.TheVariants.{Call, Answer}
+use Rattle.script_lang.specs.declared.line.WrittenAnswer.{WrittenAnswer}
 use Rattle.script_text.specs.Answers.{IsAnswer}
 use Rattle.script_text.specs.Tokens.{Token, AreTokens}
 use Rattle.script_text.specs.Script.{IsCall, IsStatement, MayStand, IsNoLine, names_after, max_lines}

@@ -2,10 +2,10 @@
 use Rattle.std.proofs.Common.{◌≡◌, ℕ, Bool, true, false, cond, eqb, List, [], ◌∷◌, ◌++◌, refl, sym, ap, subst, ◌∙◌, append_assoc}
 use Rattle.std.specs.Prelude.{IsTrue, not, ◌||◌, ◌&&◌}
 use Rattle.std.specs.List.{list_all}
-use Rattle.std.proofs.lemmas.Bool.{eqb-true}
+use Rattle.std.proofs.lemmas.Bool.{eqb-true, not-true, and_parts, or_parts, not_from_false, and_right}
 use Rattle.script_text.specs.Tokens.{Token, Equals, Semicolon, Word, Single, Double, Hexadecimal, is_blank, is_boundary, is_word_byte, is_at_boundary, is_comment, spelled, ends, IsToken}
 use Rattle.script_text.specs.Front.{Front, End, Taken, front, behind, bounded, closed_at, is_quote, is_no_blank, is_no_word_byte, starts_quote, token_front}
-use Rattle.script_text.proofs.ByteTests.{or_false, not_true, not_of, and_true, and_false, at_number, passes_twice}
+use Rattle.script_text.proofs.ByteTests.{at_number, passes_twice}
 use Rattle.script_text.proofs.FrontParts.{halts, front-append, behind-append}
 
 -- at a boundary a word stops, and no double quote opens
@@ -20,7 +20,7 @@ boundary_halts (byte ∷ rest) e = boundary_stops (is_boundary byte) (eqb byte 3
 no_quote_behind : (bytes rest : List ℕ) → list_all is_word_byte bytes ≡ true → is_at_boundary rest ≡ true → starts_quote (bytes ++ rest) ≡ false
 no_quote_behind [] [] all bound = refl
 no_quote_behind [] (byte ∷ rest) all bound = at_number is_boundary byte 34 refl bound
-no_quote_behind (byte ∷ bytes) rest all bound = at_number is_word_byte byte 34 refl (and_true _ _ all).0
+no_quote_behind (byte ∷ bytes) rest all bound = at_number is_word_byte byte 34 refl (and_parts _ _ all).0
 
 -- a text in quotes, read from behind the first quote
 closed_again : (token : Token) (quote : ℕ) (inner rest : List ℕ) → eqb quote quote ≡ true → list_all (λ byte. not (eqb byte quote)) inner ≡ true → is_at_boundary rest ≡ true
@@ -49,7 +49,7 @@ token_again (Hexadecimal inner) rest is ended =
     ap (λ (t : List ℕ). closed_at (Hexadecimal t) (behind (is_quote 34) ((inner ++ 34 ∷ []) ++ rest))) both.0 ∙ both.1
 token_again (Word []) rest is ended = absurd (is.0 refl)
 token_again (Word (byte ∷ bytes)) rest is ended =
-    let first : is_word_byte byte ≡ true = (and_true (is_word_byte byte) _ is.1).0 in
+    let first : is_word_byte byte ≡ true = (and_parts (is_word_byte byte) _ is.1).0 in
     let all = passes_twice is_word_byte (byte ∷ bytes) is.1 in
     let halt = boundary_halts rest ended in
     let comment : eqb byte 35 ≡ false = at_number is_word_byte byte 35 refl first in
@@ -57,7 +57,7 @@ token_again (Word (byte ∷ bytes)) rest is ended =
     let semicolon : eqb byte 59 ≡ false = at_number is_word_byte byte 59 refl first in
     let single : eqb byte 39 ≡ false = at_number is_word_byte byte 39 refl first in
     let double : eqb byte 34 ≡ false = at_number is_word_byte byte 34 refl first in
-    let no_digits : (eqb byte 36 && starts_quote (bytes ++ rest)) ≡ false = and_false (eqb byte 36) (starts_quote (bytes ++ rest)) (no_quote_behind bytes rest (and_true (is_word_byte byte) _ is.1).1 ended) in
+    let no_digits : (eqb byte 36 && starts_quote (bytes ++ rest)) ≡ false = and_right (eqb byte 36) (starts_quote (bytes ++ rest)) (no_quote_behind bytes rest (and_parts (is_word_byte byte) _ is.1).1 ended) in
     six_false _ _ _ _ _ _ _ _ _ _ _ _ _ comment equals semicolon single double no_digits ∙
     (ap (λ (t : List ℕ). bounded (Word t) (behind is_no_word_byte ((byte ∷ bytes) ++ rest))) (front-append is_no_word_byte (byte ∷ bytes) rest all halt)
     ∙ ap (bounded (Word (byte ∷ bytes))) (behind-append is_no_word_byte (byte ∷ bytes) rest all halt) ∙ rw ended refl)
@@ -70,12 +70,12 @@ end_again (byte ∷ rest) e = rw e refl
 -- a byte of a word is no blank
 word_no_blank : (byte : ℕ) → is_word_byte byte ≡ true → is_no_blank byte ≡ true
 word_no_blank byte e =
-    let all = not_true (is_boundary byte || eqb byte 39 || eqb byte 34) e in
-    let one = (or_false (is_boundary byte || eqb byte 39) (eqb byte 34) all).0 in
-    let two = (or_false (is_boundary byte) (eqb byte 39) one).0 in
-    let three = (or_false (is_blank byte || eqb byte 61 || eqb byte 59) (eqb byte 35) two).0 in
-    let four = (or_false (is_blank byte || eqb byte 61) (eqb byte 59) three).0 in
-    not_of (is_blank byte) (or_false (is_blank byte) (eqb byte 61) four).0
+    let all = not-true (is_boundary byte || eqb byte 39 || eqb byte 34) e in
+    let one = (or_parts (is_boundary byte || eqb byte 39) (eqb byte 34) all).0 in
+    let two = (or_parts (is_boundary byte) (eqb byte 39) one).0 in
+    let three = (or_parts (is_blank byte || eqb byte 61 || eqb byte 59) (eqb byte 35) two).0 in
+    let four = (or_parts (is_blank byte || eqb byte 61) (eqb byte 59) three).0 in
+    not_from_false (is_blank byte) (or_parts (is_blank byte) (eqb byte 61) four).0
 
 -- neither a token nor a comment begins with a blank
 pub token_halts : (token : Token) (rest : List ℕ) → IsToken token → halts is_no_blank (spelled token ++ rest) ≡ true
@@ -85,7 +85,7 @@ token_halts (Single inner) rest is = refl
 token_halts (Double inner) rest is = refl
 token_halts (Hexadecimal inner) rest is = refl
 token_halts (Word []) rest is = absurd (is.0 refl)
-token_halts (Word (byte ∷ bytes)) rest is = word_no_blank byte (and_true (is_word_byte byte) _ is.1).0
+token_halts (Word (byte ∷ bytes)) rest is = word_no_blank byte (and_parts (is_word_byte byte) _ is.1).0
 
 -- a comment does not begin with a blank
 pub comment_halts : (comment : List ℕ) → is_comment comment ≡ true → halts is_no_blank comment ≡ true

@@ -1,10 +1,10 @@
 -- What is read as a token begins with that token.
 use Rattle.std.proofs.Common.{◌≡◌, ◌≢◌, ℕ, Bool, true, false, cond, eqb, List, [], ◌∷◌, ◌++◌, drop, refl, sym, ap, subst, ◌∙◌, append_assoc, ◌⊎◌, inl, inr}
 use Rattle.std.specs.Prelude.{◌||◌, ◌&&◌}
-use Rattle.std.proofs.lemmas.Bool.{eqb-true}
+use Rattle.std.proofs.lemmas.Bool.{eqb-true, not-true, and_parts, or_from, not_from_false}
 use Rattle.script_text.specs.Tokens.{Token, Equals, Semicolon, Word, Single, Double, Hexadecimal, is_blank, is_boundary, is_word_byte, is_at_boundary, is_comment, spelled, ends, IsToken}
 use Rattle.script_text.specs.Front.{End, Taken, Fault, front, behind, bounded, closed_at, is_quote, is_no_blank, is_no_word_byte, starts_quote, token_front}
-use Rattle.script_text.proofs.ByteTests.{not_true, or_true, not_of, and_true, passes_back}
+use Rattle.script_text.proofs.ByteTests.{passes_back}
 use Rattle.script_text.proofs.FrontParts.{halts, front-pass, front-passes, behind-halts, front-behind}
 
 -- which way a test went
@@ -71,12 +71,12 @@ word_found byte tail token rest first e =
 -- a byte that is none of the others is one of a word
 is_word : (byte : ℕ) → is_blank byte ≡ false → eqb byte 61 ≡ false → eqb byte 59 ≡ false → eqb byte 35 ≡ false → eqb byte 39 ≡ false → eqb byte 34 ≡ false → is_word_byte byte ≡ true
 is_word byte blank equals semicolon comment single double =
-    not_of (is_boundary byte || eqb byte 39 || eqb byte 34)
-    (or_true (is_boundary byte || eqb byte 39) (eqb byte 34)
-    (or_true (is_boundary byte) (eqb byte 39)
-    (or_true (is_blank byte || eqb byte 61 || eqb byte 59) (eqb byte 35)
-    (or_true (is_blank byte || eqb byte 61) (eqb byte 59)
-    (or_true (is_blank byte) (eqb byte 61) blank equals) semicolon) comment) single) double)
+    not_from_false (is_boundary byte || eqb byte 39 || eqb byte 34)
+    (or_from (is_boundary byte || eqb byte 39) (eqb byte 34)
+    (or_from (is_boundary byte) (eqb byte 39)
+    (or_from (is_blank byte || eqb byte 61 || eqb byte 59) (eqb byte 35)
+    (or_from (is_blank byte || eqb byte 61) (eqb byte 59)
+    (or_from (is_blank byte) (eqb byte 61) blank equals) semicolon) comment) single) double)
 
 -- the token that was read stands at the front
 pub token_found : (line : List ℕ) (token : Token) (rest : List ℕ) → halts is_no_blank line ≡ true → token_front line ≡ Taken token rest → Reads line token rest
@@ -93,8 +93,8 @@ token_found (byte ∷ tail) token rest no_blank e =
             | inr h39 ↦ elim (chosen (eqb byte 34) _ _ _ h39.1) [
               | inl h ↦ double_found byte tail token rest h.0 h.1
               | inr h34 ↦ elim (chosen (eqb byte 36 && starts_quote tail) _ _ _ h34.1) [
-                | inl h ↦ let both = and_true (eqb byte 36) (starts_quote tail) h.0 in hexadecimal_found byte tail token rest both.0 both.1 h.1
-                | inr h36 ↦ word_found byte tail token rest (is_word byte (not_true (is_blank byte) no_blank) h61.0 h59.0 h35.0 h39.0 h34.0) h36.1
+                | inl h ↦ let both = and_parts (eqb byte 36) (starts_quote tail) h.0 in hexadecimal_found byte tail token rest both.0 both.1 h.1
+                | inr h36 ↦ word_found byte tail token rest (is_word byte (not-true (is_blank byte) no_blank) h61.0 h59.0 h35.0 h39.0 h34.0) h36.1
               ]
             ]
           ]

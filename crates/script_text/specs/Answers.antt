@@ -1,11 +1,11 @@
 -- What a line says that queues an answer of the grow-zone procedure.
 use Rattle.std.specs.Prelude.{◌≡◌, ◌≢◌, ℕ, ◌≤◌, List, [], ◌∷◌, length, codes}
-use Rattle.script_lines.specs.declared.line.ReleasingName.{ReleasingName}
-use Rattle.script_lines.specs.declared.line.ReleasingName.TheVariants.{DisposeHandle, DisposePtr, EmptyHandle}
-use Rattle.script_lines.specs.declared.line.WrittenAnswer.{WrittenAnswer}
-use Rattle.script_lines.specs.declared.line.WrittenCall.{WrittenCall}
-use Rattle.script_lines.specs.Calls.{most_calls}
-use Rattle.script_lines.specs.Numbers.{as_operand}
+use Rattle.script_lang.specs.declared.line.ReleasingName.{ReleasingName}
+use Rattle.script_lang.specs.declared.line.ReleasingName.TheVariants.{DisposeHandle, DisposePtr, EmptyHandle}
+use Rattle.script_lang.specs.declared.line.WrittenAnswer.{WrittenAnswer}
+use Rattle.script_lang.specs.declared.line.WrittenCall.{WrittenCall}
+use Rattle.script_lang.specs.Calls.{most_calls}
+use Rattle.script_lang.specs.Numbers.{as_operand}
 use Rattle.script_text.specs.Tokens.{Token, Semicolon, Word}
 use Rattle.script_text.specs.Operands.{IsNumberOperand}
 

@@ -6,8 +6,8 @@ use Rattle.std.specs.Str.Parse.{AllDigits, digits_value}
 use Rattle.mac_calls.specs.declared.table.OperandKind.{OperandKind}
 use Rattle.mac_calls.specs.declared.table.OperandKind.TheVariants.{Number, Bytes, Id, «Type» as TypeKind, OptionalBytes, OptionalNumber}
 use Rattle.mac_calls.specs.Calls.{may_be_missing}
-use Rattle.script_lines.specs.declared.line.Operand.{Operand}
-use Rattle.script_lines.specs.declared.line.Operand.TheVariants as operand
+use Rattle.script_lang.specs.declared.line.Operand.{Operand}
+use Rattle.script_lang.specs.declared.line.Operand.TheVariants as operand
 use Rattle.script_text.specs.Tokens.{Token, Word, Single, Double, Hexadecimal}
 use Rattle.script_text.specs.Names.{place_of}
 

@@ -1,10 +1,10 @@
 -- The lines of a script.
 use Rattle.std.specs.Prelude.{◌≡◌, ◌≢◌, ℕ, zero, suc, ◌+◌, ◌^◌, ◌<◌, ◌≤◌, Bool, IsTrue, List, [], ◌∷◌, ◌++◌, length, take, Option, None, Some, IfSome, option_map, slice_get}
 use Rattle.std.specs.Str.Lines.{lines}
-use Rattle.script_lines.specs.declared.line.CallLine.{CallLine}
-use Rattle.script_lines.specs.declared.line.Line.{Line}
-use Rattle.script_lines.specs.declared.line.Statement.{Statement}
-use Rattle.script_lines.specs.declared.line.Statement.TheVariants.{Call, Answer}
+use Rattle.script_lang.specs.declared.line.CallLine.{CallLine}
+use Rattle.script_lang.specs.declared.line.Line.{Line}
+use Rattle.script_lang.specs.declared.line.Statement.{Statement}
+use Rattle.script_lang.specs.declared.line.Statement.TheVariants.{Call, Answer}
 use Rattle.script_text.specs.declared.script.Fault.{Fault}
 use Rattle.script_text.specs.declared.script.Fault.TheVariants as fault
 use Rattle.script_text.specs.Tokens.{Token, Equals, Word, AreTokens}

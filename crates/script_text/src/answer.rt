@@ -2,7 +2,7 @@
 
 ghost use Rattle.std.specs.Prelude.{◌≡◌, ◌≢◌, List, [], ◌∷◌, map, codes, IfOk, IfSome, IfNone, MatchBool};
 ghost use Rattle.script_text.specs.Answers.{IsAnswer, AreCalls, AreFewCalls, IsNamed, IsWrittenCall, MayFollow, releasing_text};
-ghost use Rattle.script_lines.specs.declared.line.WrittenCall.{WrittenCall};
+ghost use Rattle.script_lang.specs.declared.line.WrittenCall.{WrittenCall};
 ghost use Rattle.script_text.specs.Found.{Finds};
 ghost use Rattle.script_text.specs.Front.{view};
 ghost use Rattle.script_text.specs.Tokens as tokens;
@@ -14,9 +14,7 @@ use crate::token::Token;
 use bumpalo::Bump;
 use bumpalo::collections::into_bump_slice;
 use mac_base::error::HostFull;
-use script_lines::{
-    AnswerLine, MAX_CALLS, ReleasingName, WrittenAnswer, WrittenCall, WrittenCalls,
-};
+use script_lang::{AnswerLine, MAX_CALLS, ReleasingName, WrittenAnswer, WrittenCall, WrittenCalls};
 
 /// The call of an answer that has this name.
 fn releasing_name(word: &[u8]) -> Option<ReleasingName>
@@ -44,20 +42,15 @@ fn name_of_token(token: Token<'_>) -> Option<ReleasingName>
 }
 
 /// The call that two tokens are: a name and an operand.
-fn written_call(
-    name: Token<'_>,
-    operand: Token<'_>,
-    names: &Names<'_>,
-) -> Result<Option<WrittenCall>, HostFull>
-    ensures { IfOk result (λ found.
-        Finds found (IsWrittenCall names.now (view name.entry) (view operand.entry))) }
+fn written_call(name: Token<'_>, operand: Token<'_>, names: &Names<'_>) -> Option<WrittenCall>
+    ensures { Finds result (IsWrittenCall names.now (view name.entry) (view operand.entry)) }
 {
     let Some(call) = name_of_token(name) else {
-        return Ok(None);
+        return None;
     };
-    match number_or_variable(operand, names)? {
-        Some(operand) => Ok(Some(WrittenCall { call, operand })),
-        None => Ok(None),
+    match number_or_variable(operand, names) {
+        Some(operand) => Some(WrittenCall { call, operand }),
+        None => None,
     }
 }
 
@@ -89,7 +82,7 @@ fn read_calls<'a>(
             return Ok(false);
         }
         // The call is taken apart so that its operand's type, of another crate, is named here.
-        let Some(WrittenCall { call, operand }) = written_call(*name, *operand, names)? else {
+        let Some(WrittenCall { call, operand }) = written_call(*name, *operand, names) else {
             return Ok(false);
         };
         calls.push(WrittenCall { call, operand })?;
@@ -141,7 +134,7 @@ pub fn answer_line<'a>(
     let Some((value, calls)) = value_and_calls(line) else {
         return Ok(None);
     };
-    let Some(value) = number_or_variable(value, names)? else {
+    let Some(value) = number_or_variable(value, names) else {
         return Ok(None);
     };
     let Some(calls) = written_calls(arena, calls, names)? else {

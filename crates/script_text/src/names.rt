@@ -5,7 +5,7 @@ ghost use Rattle.script_text.specs.Names.{OnePlace, KeepsPlace, TakesPlace};
 use crate::hashing::NameHasher;
 use indexmap::IndexSet;
 use mac_base::error::HostFull;
-use script_lines::Name;
+use script_lang::Name;
 use std::alloc::Global;
 use std::marker::Model;
 
@@ -18,18 +18,20 @@ pub struct Names<'a> {
 }
 
 impl<'a> Model for Names<'a> {
-    ghost use Rattle.std.specs.Prelude.{List, ℕ, map};
+    ghost use Rattle.std.specs.Prelude.{◌≤◌, List, ℕ, length, map};
+    ghost use Rattle.script_lang.specs.Names.{most_names};
     ghost use Rattle.script_text.specs.Names.{IsLast};
 
     ghost Value = { List (List ℕ) };
 
     ghost view = { λ n. map (λ name. name.now) n.names.keys };
 
-    ghost invariant = { λ n. IsLast (map (λ name. name.now) n.names.keys) n.last };
+    ghost invariant = { λ n. IsLast (map (λ name. name.now) n.names.keys) n.last × (length n.names.keys ≤ most_names) };
 }
 
 impl<'a> Names<'a> {
-    ghost use Rattle.std.specs.Prelude.{◌≡◌, [], Some, IfOk, IfSome, OnOk};
+    ghost use Rattle.std.specs.Prelude.{◌≡◌, ◌<◌, [], Some, IfOk, IfSome, OnOk, length};
+    ghost use Rattle.script_lang.specs.Names.{most_names};
     ghost use Rattle.script_text.specs.Names.{place_of, place_for, with_name};
 
     /// No names of a script with this text.
@@ -53,20 +55,21 @@ impl<'a> Names<'a> {
     }
 
     /// The name that a word is, if it has been assigned.
-    pub fn find(&self, word: &[u8]) -> Result<Option<Name>, HostFull>
-        ensures { IfOk result (λ found. found ≡ place_of self.now word.now) }
+    pub fn find(&self, word: &[u8]) -> Option<Name>
+        ensures { result ≡ place_of self.now word.now }
     {
         if let Some(name) = self.last_of(word) {
-            return Ok(Some(name));
+            return Some(name);
         }
         match self.names.get_index_of(word) {
-            Some(place) => Ok(Some(Name::at(place)?)),
-            None => Ok(None),
+            Some(place) => Some(Name::at(place)),
+            None => None,
         }
     }
 
     /// The name that a word is. It is added if it is new.
     pub fn add(&mut self, word: &'a [u8]) -> Result<Name, HostFull>
+        requires { length self.old < most_names }
         ensures place { IfOk result (λ name. name ≡ place_for self.old word.now) }
         ensures names { OnOk result (self.new ≡ with_name self.old word.now) }
     {
@@ -74,7 +77,7 @@ impl<'a> Names<'a> {
             return Ok(name);
         }
         let (place, _) = self.names.insert_full(word)?;
-        let name = Name::at(place)?;
+        let name = Name::at(place);
         self.last = Some((word, name));
         Ok(name)
     }

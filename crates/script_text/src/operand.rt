@@ -5,7 +5,7 @@ ghost use Rattle.std.specs.Char.{digit_value};
 ghost use Rattle.std.specs.List.{list_all};
 ghost use Rattle.std.specs.Option.{option_copied};
 ghost use Rattle.mac_calls.specs.declared.table.OperandKind.TheVariants as kind;
-ghost use Rattle.script_lines.specs.Numbers.{as_operand};
+ghost use Rattle.script_lang.specs.Numbers.{as_operand};
 ghost use Rattle.script_text.specs.Found.{Finds};
 ghost use Rattle.script_text.specs.Tokens.{Word, Single, Double, Hexadecimal};
 ghost use Rattle.script_text.specs.Front.{view};
@@ -17,7 +17,7 @@ use bumpalo::Bump;
 use bumpalo::collections::into_bump_slice;
 use mac_base::error::HostFull;
 use mac_calls::OperandKind;
-use script_lines::{Name, NumberOperand, Operand, OperandBytes, Operands, ReadOperands};
+use script_lang::{Name, NumberOperand, Operand, OperandBytes, Operands, ReadOperands};
 
 /// The number of digits in a base, if it has at most 32 bits.
 fn numeral(word: &[u8], base: u32) -> Option<u32>
@@ -132,65 +132,58 @@ fn are_printable(bytes: &[u8]) -> bool
 }
 
 /// The variable of this name, if it has been assigned.
-fn variable(word: &[u8], names: &Names<'_>) -> Result<Option<Name>, HostFull>
-    ensures { IfOk result (λ found. Finds found (IsVariable names.now word.now)) }
+fn variable(word: &[u8], names: &Names<'_>) -> Option<Name>
+    ensures { Finds result (IsVariable names.now word.now) }
 {
     if !is_name(word) {
-        return Ok(None);
+        return None;
     }
     names.find(word)
 }
 
 /// A number, or the name of a variable that has been assigned.
-fn number_word(word: &[u8], names: &Names<'_>) -> Result<Option<NumberOperand>, HostFull>
-    ensures { IfOk result (λ found.
-        Finds found (λ x. IsNumberOperand names.now (Word word.now) (as_operand x))) }
+fn number_word(word: &[u8], names: &Names<'_>) -> Option<NumberOperand>
+    ensures { Finds result (λ x. IsNumberOperand names.now (Word word.now) (as_operand x)) }
 {
     if let Some(number) = number(word) {
-        return Ok(Some(NumberOperand::Number(number)));
+        return Some(NumberOperand::Number(number));
     }
-    match variable(word, names)? {
-        Some(name) => Ok(Some(NumberOperand::Variable(name))),
-        None => Ok(None),
+    match variable(word, names) {
+        Some(name) => Some(NumberOperand::Variable(name)),
+        None => None,
     }
 }
 
 /// The number or the variable that a token is.
-pub(crate) fn number_or_variable(
-    token: Token<'_>,
-    names: &Names<'_>,
-) -> Result<Option<NumberOperand>, HostFull>
-    ensures { IfOk result (λ found.
-        Finds found (λ x. IsNumberOperand names.now (view token.entry) (as_operand x))) }
+pub(crate) fn number_or_variable(token: Token<'_>, names: &Names<'_>) -> Option<NumberOperand>
+    ensures { Finds result (λ x. IsNumberOperand names.now (view token.entry) (as_operand x)) }
 {
     match token {
         Token::Word(word) => number_word(word, names),
-        _ => Ok(None),
+        _ => None,
     }
 }
 
 /// The operand that is a number or a variable.
-fn number_operand<'a>(word: &[u8], names: &Names<'_>) -> Result<Option<Operand<'a>>, HostFull>
-    ensures { IfOk result (λ found.
-        Finds found (IsNumberOperand names.now (Word word.now))) }
+fn number_operand<'a>(word: &[u8], names: &Names<'_>) -> Option<Operand<'a>>
+    ensures { Finds result (IsNumberOperand names.now (Word word.now)) }
 {
-    match number_word(word, names)? {
-        Some(number) => Ok(Some(number.as_operand())),
-        None => Ok(None),
+    match number_word(word, names) {
+        Some(number) => Some(number.as_operand()),
+        None => None,
     }
 }
 
 /// An id, or the name of a variable that has been assigned.
-fn id_operand<'a>(word: &[u8], names: &Names<'_>) -> Result<Option<Operand<'a>>, HostFull>
-    ensures { IfOk result (λ found.
-        Finds found (IsIdOperand names.now (Word word.now))) }
+fn id_operand<'a>(word: &[u8], names: &Names<'_>) -> Option<Operand<'a>>
+    ensures { Finds result (IsIdOperand names.now (Word word.now)) }
 {
     if let Some(id) = id(word) {
-        return Ok(Some(Operand::Id(id)));
+        return Some(Operand::Id(id));
     }
-    match variable(word, names)? {
-        Some(name) => Ok(Some(Operand::Variable(name))),
-        None => Ok(None),
+    match variable(word, names) {
+        Some(name) => Some(Operand::Variable(name)),
+        None => None,
     }
 }
 
@@ -310,10 +303,10 @@ fn operand<'a>(
 {
     use OperandKind::{Bytes, Id, Number, OptionalBytes, OptionalNumber, Type};
     match (kind, token) {
-        (Number | OptionalNumber, Token::Word(word)) => number_operand(word, names),
+        (Number | OptionalNumber, Token::Word(word)) => Ok(number_operand(word, names)),
         (Bytes | OptionalBytes, Token::Double(inner)) => Ok(quoted_bytes(inner)),
         (Bytes | OptionalBytes, Token::Hexadecimal(digits)) => hexadecimal_bytes(arena, digits),
-        (Id, Token::Word(word)) => id_operand(word, names),
+        (Id, Token::Word(word)) => Ok(id_operand(word, names)),
         (Type, Token::Single(inner)) => Ok(quoted_type(inner)),
         (Type, Token::Hexadecimal(digits)) => hexadecimal_type(arena, digits),
         _ => Ok(None),
@@ -350,7 +343,7 @@ fn one_number<'a>(
     if let Some(number) = number(word) {
         return Ok(Some(Operands::one(arena, Operand::Number(number))?));
     }
-    match variable(word, names)? {
+    match variable(word, names) {
         Some(name) => Ok(Some(Operands::one(arena, Operand::Variable(name))?)),
         None => Ok(None),
     }

@@ -12,7 +12,7 @@ use crate::token::{Token, read_tokens};
 use bumpalo::{Bump, ResetError};
 use mac_base::error::HostFull;
 use memchr::memchr;
-use script_lines::{Line, Script};
+use script_lang::{Line, Script};
 use std::alloc::{AllocFailed, Global};
 use thiserror::Error;
 
@@ -103,6 +103,8 @@ fn add_line<'a>(
     names: &mut Names<'a>,
     script: &mut Script,
 ) -> Result<(), Fault>
+    requires few { length names.old < number }
+    ensures few { OnOk result (length names.new ≤ number) }
     ensures line { OnOk result (Adds number names.old text.now script.old names.new script.new) }
     ensures fault { IfErr result (Fails number names.old text.now) }
 {

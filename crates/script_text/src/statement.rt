@@ -1,7 +1,8 @@
 //! What a line says, from its tokens.
 
-ghost use Rattle.std.specs.Prelude.{◌≡◌, List, ℕ, ◌++◌, ◌∷◌, map, option_map, IfOk, IfSome, IfNone, OnOk, MatchBool};
+ghost use Rattle.std.specs.Prelude.{◌≡◌, ◌<◌, List, ℕ, length, ◌++◌, ◌∷◌, map, option_map, IfOk, IfSome, IfNone, OnOk, MatchBool};
 ghost use Rattle.std.specs.Option.{option_copied};
+ghost use Rattle.script_lang.specs.Names.{most_names};
 ghost use Rattle.script_text.specs.Found.{Finds};
 ghost use Rattle.script_text.specs.Tokens as tokens;
 ghost use Rattle.script_text.specs.Front.{view};
@@ -16,7 +17,7 @@ use crate::token::Token;
 use bumpalo::Bump;
 use mac_base::error::HostFull;
 use mac_calls::CallName;
-use script_lines::{CallLine, Name, Statement};
+use script_lang::{CallLine, Name, Statement};
 
 /// The name that a line assigns, if it begins so, and the tokens behind `name =`.
 fn assigned_name<'a, 'b>(line: &'b [Token<'a>]) -> (Option<&'a [u8]>, &'b [Token<'a>])
@@ -44,6 +45,7 @@ pub(crate) fn first_word<'a, 'b>(line: &'b [Token<'a>]) -> Option<(&'a [u8], &'b
 
 /// The name that a line assigns, which is added to the names.
 fn add_assigned<'a>(names: &mut Names<'a>, word: Option<&'a [u8]>) -> Result<Option<Name>, HostFull>
+    requires { length names.old < most_names }
     ensures name { IfOk result (λ name. name ≡ option_map (place_for names.old) (option_copied word.entry)) }
     ensures names { OnOk result (names.new ≡ with_assigned names.old (option_copied word.entry)) }
 {
@@ -79,6 +81,7 @@ fn call_line<'a, 't: 'a>(
     line: &[Token<'t>],
     names: &mut Names<'t>,
 ) -> Result<Option<CallLine<'a>>, HostFull>
+    requires { length names.old < most_names }
     ensures line { IfOk result (λ found. Finds found (IsCall names.old (map view line.now))) }
     ensures names { IfOk result (λ found. IfSome found (λ _.
         names.new ≡ names_after names.old (map view line.now))) }
@@ -109,6 +112,7 @@ pub fn statement<'a, 't: 'a>(
     line: &[Token<'t>],
     names: &mut Names<'t>,
 ) -> Result<Option<Statement<'a>>, HostFull>
+    requires { length names.old < most_names }
     ensures line { IfOk result (λ found. Finds found (IsStatement names.old (map view line.now))) }
     ensures names { IfOk result (λ found. IfSome found (λ _.
         names.new ≡ names_after names.old (map view line.now))) }

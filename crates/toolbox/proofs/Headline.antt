@@ -1,6 +1,5 @@
 -- What is promised of the calls that are made of a toolbox.
-use Rattle.std.proofs.Common.{◌≡◌, List, [], ◌∷◌, map, ap, subst, ◌∙◌}
-use Rattle.std.specs.Prelude.{All}
+use Rattle.std.proofs.Common.{◌≡◌, ℕ, List, [], ◌∷◌, map, ap, subst, ◌∙◌}
 use Rattle.mac_base.specs.HeadKind.{Shape}
 use Rattle.mac_base.specs.Heap.{Heap}
 use Rattle.mac_calls.specs.declared.call.Call.{Call}
@@ -13,8 +12,8 @@ use Rattle.fork_disk.specs.declared.store.ForkStore.{Ghosts}
 use Rattle.heap_laws.specs.Act.{Moment}
 use Rattle.res_calls.specs.Files.{ResState}
 use Rattle.res_calls.specs.Steps.{Memory as MayStep}
-use Rattle.res_calls.proofs.Answering.{fewer_honest}
-use Rattle.res_files.specs.FilesOn.{FailedAt, FilesOn, NoneFailed}
+use Rattle.res_calls.proofs.Answering.{fewer_honest, reads_fewer}
+use Rattle.res_files.specs.FilesOn.{FailedAt, FilesOn, HonestAt, NoneFailed}
 use Rattle.res_laws.specs.Tools.{IsToolRun, ToolDoes}
 use Rattle.res_laws.proofs.Tools.{tools-show}
 use Rattle.toolbox.specs.Headline.{AreSteps, Stepped, ToolboxShows, calls_of, left_by, tools_of}
@@ -30,7 +29,7 @@ module _ {S : Type 0} (store : Ghosts S) where
   states old new on shape resources = ap (λ s. state s new.heap new.resources) shape ∙ ap (state old.shape new.heap) resources
 
   -- a step of the toolbox is one of its zone, resource files and loans
-  pub tool-does : (honest : Type 0) (old : ToolState S) (call : Call) (asks : List Ask) (outcome : Outcome) (new : ToolState S) → Gives store old call asks outcome new → new.shape ≡ old.shape → (honest → IsHonest store new)
+  pub tool-does : (honest : ℕ → Type 0) (old : ToolState S) (call : Call) (asks : List Ask) (outcome : Outcome) (new : ToolState S) → Gives store old call asks outcome new → new.shape ≡ old.shape → ((k : ℕ) → honest k → IsHonest store new k)
       → ToolDoes honest (tools_of store old) call asks outcome (tools_of store new)
   unfolding state
   tool-does honest old (MemoryCalls call) asks outcome new g shape all = (g.1, g.2, states old new (without_handles (disposed_of call asks outcome) old.resources) shape g.3)
@@ -40,33 +39,33 @@ module _ {S : Type 0} (store : Ghosts S) where
         (resource_state store old) call asks outcome (resource_state store new) all g.0,
     g.1,
     shape,
-    λ h. g.4 (all h),
+    reads_fewer (IsHonest store new) honest all (resource_state store old) call outcome (resource_state store new) g.4,
   )
   tool-does honest old MemError asks outcome new g shape all = (states old new old.resources shape g.4 ∙ ap (λ h. state old.shape h old.resources) g.2, g.3)
   tool-does honest old ResError asks outcome new g shape all = (states old new old.resources shape g.4 ∙ ap (λ h. state old.shape h old.resources) g.2, g.3)
 
-  -- devices that are honest behind a call were so before it
-  same-stores : (old new : FilesOn S) → new.stores ≡ old.stores → All store.is_honest new.stores → All store.is_honest old.stores
-  same-stores old new same honest = subst (All store.is_honest) same honest
+  -- a device that is honest behind a call was so before it
+  same-stores : (old new : FilesOn S) (k : ℕ) → new.stores ≡ old.stores → HonestAt store.is_honest new.stores k → HonestAt store.is_honest old.stores k
+  same-stores old new k same honest = subst (λ stores. HonestAt store.is_honest stores k) same honest
 
-  pub was-honest : (old : ToolState S) (call : Call) (asks : List Ask) (outcome : Outcome) (new : ToolState S) → Gives store old call asks outcome new → IsHonest store new → IsHonest store old
-  was-honest old (MemoryCalls call) asks outcome new g honest = same-stores old.resources new.resources (ap (λ (on : FilesOn S). on.stores) g.3) honest
-  was-honest old (Loan call) asks outcome new g honest = same-stores old.resources new.resources (ap (λ (on : FilesOn S). on.stores) g.2) honest
-  was-honest old (Resource call) asks outcome new g honest = g.2 honest
-  was-honest old MemError asks outcome new g honest = same-stores old.resources new.resources (ap (λ (on : FilesOn S). on.stores) g.4) honest
-  was-honest old ResError asks outcome new g honest = same-stores old.resources new.resources (ap (λ (on : FilesOn S). on.stores) g.4) honest
+  pub was-honest : (old : ToolState S) (call : Call) (asks : List Ask) (outcome : Outcome) (new : ToolState S) → Gives store old call asks outcome new → (k : ℕ) → IsHonest store new k → IsHonest store old k
+  was-honest old (MemoryCalls call) asks outcome new g k honest = same-stores old.resources new.resources k (ap (λ (on : FilesOn S). on.stores) g.3) honest
+  was-honest old (Loan call) asks outcome new g k honest = same-stores old.resources new.resources k (ap (λ (on : FilesOn S). on.stores) g.2) honest
+  was-honest old (Resource call) asks outcome new g k honest = g.2 k honest
+  was-honest old MemError asks outcome new g k honest = same-stores old.resources new.resources k (ap (λ (on : FilesOn S). on.stores) g.4) honest
+  was-honest old ResError asks outcome new g k honest = same-stores old.resources new.resources k (ap (λ (on : FilesOn S). on.stores) g.4) honest
 
   -- and so before many
-  were-honest : (old : ToolState S) (steps : List (Stepped S)) → AreSteps store old steps → IsHonest store (left_by old steps) → IsHonest store old
-  were-honest old [] are honest = honest
-  were-honest old (step ∷ later) are honest = let one = are.0 in was-honest old step.call step.asks step.outcome step.left one.0 (were-honest step.left later are.1 honest)
+  were-honest : (old : ToolState S) (steps : List (Stepped S)) → AreSteps store old steps → (k : ℕ) → IsHonest store (left_by old steps) k → IsHonest store old k
+  were-honest old [] are k honest = honest
+  were-honest old (step ∷ later) are k honest = let one = are.0 in was-honest old step.call step.asks step.outcome step.left one.0 k (were-honest step.left later are.1 k honest)
 
   -- the same of a list of calls
-  are-run : (honest : Type 0) (old : ToolState S) (steps : List (Stepped S)) → (honest → IsHonest store (left_by old steps)) → AreSteps store old steps → IsToolRun honest (tools_of store old) (calls_of store steps)
+  are-run : (honest : ℕ → Type 0) (old : ToolState S) (steps : List (Stepped S)) → ((k : ℕ) → honest k → IsHonest store (left_by old steps) k) → AreSteps store old steps → IsToolRun honest (tools_of store old) (calls_of store steps)
   are-run honest old [] all are = tt
   are-run honest old (step ∷ later) all are =
       let one = are.0 in
-      (tool-does honest old step.call step.asks step.outcome step.left one.0 one.1 (λ h. were-honest step.left later are.1 (all h)), are-run honest step.left later all are.1)
+      (tool-does honest old step.call step.asks step.outcome step.left one.0 one.1 (λ k h. were-honest step.left later are.1 k (all k h)), are-run honest step.left later all are.1)
 
 moment : Heap → Loans → Moment
 moment heap loans = record { heap = heap; loans = loans }
@@ -76,5 +75,5 @@ pub toolbox-shows : {S : Type 0} (store : Ghosts S) → ToolboxShows store
 unfolding moment
 toolbox-shows store sizes start steps possible new are =
     let honest = IsHonest store (left_by start steps) in
-    let run = are-run store honest start steps (λ h. h) are in
+    let run = are-run store honest start steps (λ k h. h) are in
     (run, tools-show honest sizes (tools_of store start) (calls_of store steps) possible new.shape (ap (λ heap. moment heap start.loans) new.heap ∙ ap (moment _) new.loans) new.files run)

@@ -8,10 +8,10 @@ use Rattle.mac_calls.specs.declared.memory_call.MemoryCall.{MemoryCall}
 use Rattle.mac_calls.specs.GrowZone.{Ask}
 use Rattle.mac_calls.specs.Outcomes.{Outcome}
 use Rattle.call_laws.proofs.LentSteps.{step_keeps_lent}
-use Rattle.held_loans.specs.Holding.{Holds}
-use Rattle.held_loans.specs.declared.loans.Held.{Held}
-use Rattle.held_loans.proofs.Holding.{Holds-kept}
-use Rattle.made_calls.specs.Making.{MemorySteps}
+use Rattle.held_calls.specs.Holding.{Holds}
+use Rattle.held_calls.specs.declared.loans.Held.{Held}
+use Rattle.held_calls.proofs.Holding.{Holds-kept}
+use Rattle.held_calls.specs.Making.{MemorySteps}
 
 -- what is lent stays what is held over a call of the Memory Manager
 pub Holds-stepped : (old new : ZoneState) (held : List Held) (call : MemoryCall) (asks : List Ask) (result : Result Outcome HostFull) → IfOk result (λ outcome. MemorySteps old call asks outcome new) → OnErr result (new ≡ old) → KeepsLoans old new → Holds old held → Holds new held

@@ -9,8 +9,8 @@ use Rattle.mac_calls.specs.declared.resource_call.ResourceCall.{ResourceCall}
 use Rattle.mac_calls.specs.GrowZone.{Answer, Ask}
 use Rattle.mac_calls.specs.Outcomes.{Outcome}
 use Rattle.fork_disk.specs.declared.store.ForkStore.{Ghosts}
-use Rattle.made_calls.specs.Answers.{OutOfAnswers, taken}
-use Rattle.made_calls.proofs.Steps.{exact-queued}
+use Rattle.held_calls.specs.Answers.{OutOfAnswers, taken}
+use Rattle.held_calls.proofs.Steps.{exact-queued}
 use Rattle.res_calls.specs.Answered.{answered_disks}
 use Rattle.res_calls.specs.Steps.{Memory as MayStep}
 use Rattle.toolbox.specs.Steps.{LeavesAnswers, ResourceGives, Steps, StepsFrom}

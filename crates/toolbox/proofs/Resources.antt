@@ -1,5 +1,5 @@
 -- Steps of the Resource Manager over those of the Memory Manager.
-use Rattle.std.proofs.Common.{◌≡◌, ℕ, List, [], ◌∷◌, ◌++◌, length, Option, Some, None, Result, Ok, Err, Bool, true, false, refl, sym, ap, subst}
+use Rattle.std.proofs.Common.{◌≡◌, ℕ, List, [], length, Option, Some, None, Result, Ok, Err, Bool, true, false, refl, ap, subst}
 use Rattle.std.specs.Prelude.{IfOk, OnOk, OnErr, if◌then◌else◌}
 use Rattle.mac_base.specs.declared.error.HostFull.{HostFull}
 use Rattle.mac_base.specs.declared.error.OsErr.{OsErr}
@@ -23,13 +23,13 @@ use Rattle.res_calls.specs.Files.{ResState, ResourceEnd}
 use Rattle.res_calls.specs.Loads.{loads_bytes, placing}
 use Rattle.res_calls.specs.Steps.{GetsPlace, GetsRow, Gets, MemoryRelation, Opens, Quiet, ResourceStepBy, StepsUnless, Updates, Work, Works, work_of, Memory as MayStep, ReadsBack, update_in}
 use Rattle.res_calls.specs.Tests.{resource_refusal}
-use Rattle.res_files.specs.FilesOn.{FilesOn}
+use Rattle.res_files.specs.FilesOn.{FilesOn, WereHonest}
 use Rattle.res_manager.specs.Crash.{CrashLeaves, IsSettled, file_settled}
 use Rattle.fork_disk.specs.declared.store.ForkStore.{Ghosts}
 use Rattle.toolbox.specs.Steps.{Gives, ResourceGives, Unchanged}
 use Rattle.toolbox.specs.ToolState.{ToolState, IsHonest, resource_state}
 
-module _ (One Other : MemoryRelation) (disks : DiskRelations) (device : Device) (old : ResState) (call : ResourceCall) (asks : List Ask) (end : ResourceEnd)
+module _ (One Other : MemoryRelation) (disks : ℕ → DiskRelations) (device : Device) (old : ResState) (call : ResourceCall) (asks : List Ask) (end : ResourceEnd)
     (same : (s : Shape) (heap : Heap) (inner : MemoryCall) (outcome : Outcome) (new : Heap) → One s heap inner asks outcome new → Other s heap inner asks outcome new) where
   row_by : (p : RowPlace) (r : FileRow) (inner : Option MemoryCall) → GetsRow One disks device old call asks end p r inner → GetsRow Other disks device old call asks end p r inner
   row_by p r None gets = gets
@@ -60,10 +60,10 @@ tool zone loans refused on resource_refused = record { shape = zone.shape; heap 
 -- what a call of the Resource Manager gives, where it had its host memory
 pub resource_gives : {S : Type 0} (store : Ghosts S) (old new : ZoneState) (loans : Loans) (refused : Option OsErr) (on new_on : FilesOn S) (resource_refused : Option OsErr) (call : ResourceCall) (asks : List Ask) (result : Result Outcome HostFull)
     → IfOk result (λ outcome. ResourceGives store MayStep (tool old loans refused on resource_refused) call asks outcome (tool new loans refused new_on resource_refused))
-    → (IsHonest store (tool new loans refused new_on resource_refused) → IfOk result (λ outcome. ReadsBack (resource_state store (tool old loans refused on resource_refused)) call outcome (resource_state store (tool new loans refused new_on resource_refused))))
-    → (IsHonest store (tool new loans refused new_on resource_refused) → IfOk result (λ outcome. CrashLeaves store (update_in (work_of (resource_state store (tool old loans refused on resource_refused)) call)) on.stores new_on.stores))
-    → (IsHonest store (tool new loans refused new_on resource_refused) → IfOk result (λ outcome. OnOk outcome (IsSettled store (file_settled (work_of (resource_state store (tool old loans refused on resource_refused)) call)) new_on.stores)))
-    → (IsHonest store (tool new loans refused new_on resource_refused) → IsHonest store (tool old loans refused on resource_refused)) → length new_on.stores ≡ length on.stores
+    → IfOk result (λ outcome. ReadsBack (IsHonest store (tool new loans refused new_on resource_refused)) (resource_state store (tool old loans refused on resource_refused)) call outcome (resource_state store (tool new loans refused new_on resource_refused)))
+    → IfOk result (λ outcome. CrashLeaves store (update_in (work_of (resource_state store (tool old loans refused on resource_refused)) call)) on.stores new_on.stores)
+    → IfOk result (λ outcome. OnOk outcome (IsSettled store (file_settled (work_of (resource_state store (tool old loans refused on resource_refused)) call)) new_on.stores))
+    → WereHonest store.is_honest on.stores new_on.stores → length new_on.stores ≡ length on.stores
     → IfOk result (λ outcome. Gives store (tool old loans refused on resource_refused) (Resource call) asks outcome (tool new loans refused new_on resource_refused))
 resource_gives store old new loans refused on new_on resource_refused call asks (Ok outcome) step reads crash settled honest count = (step, refl, honest, count, reads, crash, settled)
 resource_gives store old new loans refused on new_on resource_refused call asks (Err full) step reads crash settled honest count = tt
@@ -71,8 +71,8 @@ resource_gives store old new loans refused on new_on resource_refused call asks 
 -- a call of the Resource Manager that has no host memory changes nothing
 pub resource_unchanged : {S : Type 0} (store : Ghosts S) (old new : ZoneState) (loans : Loans) (refused : Option OsErr) (on new_on : FilesOn S) (resource_refused : Option OsErr) (call : ResourceCall) (result : Result Outcome HostFull) → OnErr result (new ≡ old)
     → OnErr result (IsAnswered (IsHonest store (tool new loans refused new_on resource_refused)) (resource_state store (tool new loans refused new_on resource_refused)) (resource_state store (tool old loans refused on resource_refused)))
-    → (IsHonest store (tool new loans refused new_on resource_refused) → OnErr result (CrashLeaves store None on.stores new_on.stores))
-    → (IsHonest store (tool new loans refused new_on resource_refused) → IsHonest store (tool old loans refused on resource_refused)) → length new_on.stores ≡ length on.stores
+    → OnErr result (CrashLeaves store None on.stores new_on.stores)
+    → WereHonest store.is_honest on.stores new_on.stores → length new_on.stores ≡ length on.stores
     → OnErr result (Unchanged store (tool old loans refused on resource_refused) (Resource call) (tool new loans refused new_on resource_refused))
 resource_unchanged store old new loans refused on new_on resource_refused call (Ok outcome) same state crash honest count = tt
 resource_unchanged store old new loans refused on new_on resource_refused call (Err full) same state crash honest count = (ap (λ (z : ZoneState). tool z loans refused new_on resource_refused) same, state, honest, count, crash)
@@ -86,7 +86,7 @@ gives_noted store old mid refused resource_refused MemError asks outcome gives =
 gives_noted store old mid refused resource_refused ResError asks outcome gives = gives
 
 -- the opening of a file asks nothing
-opening_asks_nothing : (One : MemoryRelation) (disks : DiskRelations) (device : Device) (old : ResState) (k : ℕ) (asks : List Ask) (end : ResourceEnd) → ResourceStepBy One disks device old (call.OpenResFile k) asks end → asks ≡ []
+opening_asks_nothing : (One : MemoryRelation) (disks : ℕ → DiskRelations) (device : Device) (old : ResState) (k : ℕ) (asks : List Ask) (end : ResourceEnd) → ResourceStepBy One disks device old (call.OpenResFile k) asks end → asks ≡ []
 opening_asks_nothing One disks device old k asks end step = by_refusal (resource_refusal old (call.OpenResFile k)) step
   where
     by_refusal : (refusal : Option OsErr) → StepsUnless One disks refusal device old (call.OpenResFile k) asks end → asks ≡ []

@@ -43,8 +43,8 @@ pub record IsNew {S : Type 0} (sizes : ZoneSizes) (t : ToolState S) : Type 0 whe
   pub loans : t.loans ≡ []
   pub files : t.resources.files ≡ no_files
 
--- This is promised of the calls that are made of a toolbox over a new zone: of the zone for any stores, and of the forks where the devices of
--- the stores that they leave are honest.
+-- This is promised of the calls that are made of a toolbox over a new zone: of the zone for any stores, and of each fork where the device of
+-- its store is honest, as the calls leave it.
 abbrev pub ToolboxShows : {S : Type 0} → Ghosts S → Type 0
 ToolboxShows {S = S} store = (sizes : ZoneSizes) (start : ToolState S) (steps : List (Stepped S)) → ArePossible sizes → IsNew sizes start → AreSteps store start steps
     → (let honest = IsHonest store (left_by start steps) in IsToolRun honest (tools_of store start) (calls_of store steps) × Headline honest (tools_of store start) (calls_of store steps))

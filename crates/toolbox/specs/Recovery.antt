@@ -44,15 +44,15 @@ abbrev pub Settles : {S : Type 0} → Ghosts S → ToolState S → Stepped S →
 Settles store old step number fork = IsOk step.outcome × (Saves store old step.call number fork
     ⊎ ((work_by store old step.call ≡ Opens number) × (fork ≡ fork_of store.fork number step.left.resources.stores)))
 
--- What is promised of crashes in these calls, of the file of each number.
+-- What is promised of crashes in these calls, of the file of each number whose device is honest, as the calls leave it.
 pub record Recovers {S : Type 0} (store : Ghosts S) (start : ToolState S) (steps : List (Stepped S)) : Type 0 where
   -- Whenever a crash comes, the next start finds what it might have found at an earlier moment, or what an update since then saves.
   pub any_moment : (first part later : List (Stepped S)) (number : ℕ) → steps ≡ first ++ (part ++ later) → 1 ≤ number
-      → (let from = left_by start first in AlwaysFindsFile store number
+      → IsHonest store (left_by start steps) number → (let from = left_by start first in AlwaysFindsFile store number
       (λ found. MayFind store from number found ⊎ SavedIn store from part number found) from (left_by from part))
   -- Once a call settled a file, the next start finds the fork that it settled, or what a later update saves.
   pub settled : (first part later : List (Stepped S)) (step : Stepped S) (number : ℕ) (fork : List ℕ)
-      → steps ≡ first ++ (step ∷ (part ++ later)) → 1 ≤ number → Settles store (left_by start first) step number fork
+      → steps ≡ first ++ (step ∷ (part ++ later)) → 1 ≤ number → IsHonest store (left_by start steps) number → Settles store (left_by start first) step number fork
       → AlwaysFindsFile store number
       (λ found. (found ≡ fork) ⊎ SavedIn store step.left part number found) step.left (left_by step.left part)
 
@@ -61,8 +61,7 @@ abbrev pub AreGiven : {S : Type 0} → Ghosts S → ToolState S → List (Steppe
 AreGiven store old [] = ⊤
 AreGiven store old (step ∷ later) = Gives store old step.call step.asks step.outcome step.left × AreGiven store step.left later
 
--- This is promised of the calls that are made of a toolbox over stores with journals, where the devices of the stores that they
--- leave are honest.
+-- This is promised of the calls that are made of a toolbox over stores with journals.
 abbrev pub ToolboxRecovers : {S : Type 0} → Ghosts S → Type 0
 ToolboxRecovers {S = S} store = (start : ToolState S) (steps : List (Stepped S))
-    → store.has_journal → IsHonest store (left_by start steps) → AreGiven store start steps → Recovers store start steps
+    → store.has_journal → AreGiven store start steps → Recovers store start steps

@@ -16,11 +16,11 @@ use Rattle.mac_calls.specs.Outcomes.{Outcome}
 use Rattle.mac_calls.specs.Released.{disposed_of}
 use Rattle.mac_calls.specs.Tests.{refusal}
 use Rattle.fork_disk.specs.declared.store.ForkStore.{Ghosts}
-use Rattle.made_calls.specs.Making.{copies}
+use Rattle.held_calls.specs.Making.{copies}
 use Rattle.res_calls.specs.Answered.{AnswersStep, IsAnswered}
 use Rattle.res_calls.specs.Steps.{MemoryRelation, work_of, Memory as MayStep, ReadsBack, update_in}
 use Rattle.res_calls.specs.Tests.{resource_refusal}
-use Rattle.res_files.specs.FilesOn.{FailedAt, NoneFailed}
+use Rattle.res_files.specs.FilesOn.{FailedAt, NoneFailed, WereHonest}
 use Rattle.res_manager.specs.Crash.{CrashLeaves, IsSettled, file_settled}
 use Rattle.res_manager.specs.Steps.{takes_memory as resource_takes_memory}
 use Rattle.toolbox.specs.ToolState.{ToolState, IsHonest, resource_state, without_handles}
@@ -32,18 +32,18 @@ ResourceGives store Inner old call asks outcome new = AnswersStep (IsHonest stor
     Inner store.may_leave (resource_state store old) call asks outcome (resource_state store new)
 
 -- What a call gives and does to the heap, the loans and the resource files. MemError gives the code of the last call of the Memory
--- Manager, ResError that of the last one of the Resource Manager, and both do nothing. What is said of the bytes on disks rests on devices
--- that are honest after the call: then they were so before it. A file that was updated with success reads back as the table that was saved.
--- Whenever a crash comes, each file is found as before the call, or as the call saves it; once an update or an opening succeeded, as it is read.
+-- Manager, ResError that of the last one of the Resource Manager, and both do nothing. What is said of the bytes of a file rests on its own
+-- device, if that is honest after the call: then it was so before it. A file that was updated with success reads back as the table that was
+-- saved. Whenever a crash comes, each file is found as before the call, or as the call saves it; once an update or an opening succeeded, as it is read.
 abbrev pub Gives : {S : Type 0} → Ghosts S → ToolState S → Call → List Ask → Outcome → ToolState S → Type 0
 Gives store old (Memory call) asks outcome new = MemoryStep old.shape old.heap call asks outcome new.heap × IsExactStep old.shape old.heap call asks outcome new.heap × (new.loans ≡ old.loans)
     × (new.resources ≡ without_handles (disposed_of call asks outcome) old.resources)
 Gives store old (Loan call) asks outcome new = (asks ≡ []) × LoanStep old.shape old.loans old.heap call outcome new.loans new.heap × (new.resources ≡ old.resources)
 Gives store old (Resource call) asks outcome new = ResourceGives store MayStep old call asks outcome new × (new.loans ≡ old.loans)
-    × (IsHonest store new → IsHonest store old) × (length new.resources.stores ≡ length old.resources.stores)
-    × (IsHonest store new → ReadsBack (resource_state store old) call outcome (resource_state store new))
-    × (IsHonest store new → CrashLeaves store (update_in (work_of (resource_state store old) call)) old.resources.stores new.resources.stores)
-    × (IsHonest store new → OnOk outcome (IsSettled store (file_settled (work_of (resource_state store old) call)) new.resources.stores))
+    × WereHonest store.is_honest old.resources.stores new.resources.stores × (length new.resources.stores ≡ length old.resources.stores)
+    × ReadsBack (IsHonest store new) (resource_state store old) call outcome (resource_state store new)
+    × CrashLeaves store (update_in (work_of (resource_state store old) call)) old.resources.stores new.resources.stores
+    × OnOk outcome (IsSettled store (file_settled (work_of (resource_state store old) call)) new.resources.stores)
 Gives store old MemError asks outcome new = (asks ≡ []) × (outcome ≡ Ok (Code old.refused)) × (new.heap ≡ old.heap) × (new.loans ≡ old.loans) × (new.resources ≡ old.resources)
 Gives store old ResError asks outcome new = (asks ≡ []) × (outcome ≡ Ok (Code old.resource_refused)) × (new.heap ≡ old.heap) × (new.loans ≡ old.loans) × (new.resources ≡ old.resources)
 
@@ -82,11 +82,11 @@ LeavesAnswers store old answers (Resource call) asks outcome new left = (answers
 LeavesAnswers store old answers call asks outcome new left = left ≡ answers
 
 -- A call that has no host memory has changed nothing. For a call of the Resource Manager, the stores may have been read, so that is said of
--- the files, and where the devices are honest after the call, of the forks, as they are read and as they are found after a crash.
+-- the files, and of each fork whose device is honest after the call, as it is read and as it is found after a crash.
 abbrev pub Unchanged : {S : Type 0} → Ghosts S → ToolState S → Call → ToolState S → Type 0
 Unchanged store old (Resource call) new = (new ≡ record old { resources = new.resources }) × IsAnswered (IsHonest store new) (resource_state store new) (resource_state store old)
-    × (IsHonest store new → IsHonest store old) × (length new.resources.stores ≡ length old.resources.stores)
-    × (IsHonest store new → CrashLeaves store None old.resources.stores new.resources.stores)
+    × WereHonest store.is_honest old.resources.stores new.resources.stores × (length new.resources.stores ≡ length old.resources.stores)
+    × CrashLeaves store None old.resources.stores new.resources.stores
 Unchanged store old call new = new ≡ old
 
 -- whether a call on a loan gives a copy of its bytes

@@ -1,5 +1,5 @@
 -- What stays of the toolbox from one call to the next.
-use Rattle.std.specs.Prelude.{ℕ, List, map, All, Option}
+use Rattle.std.specs.Prelude.{ℕ, List, map, Option}
 use Rattle.mac_base.specs.declared.error.OsErr.{OsErr}
 use Rattle.mac_base.specs.HeadKind.{Shape}
 use Rattle.mac_base.specs.Heap.{Heap}
@@ -7,7 +7,7 @@ use Rattle.mac_calls.specs.Loans.{Loans}
 use Rattle.fork_disk.specs.declared.store.ForkStore.{Ghosts}
 use Rattle.res_calls.specs.Changes.{handles_forgotten}
 use Rattle.res_calls.specs.Files.{ResState}
-use Rattle.res_files.specs.FilesOn.{FilesOn}
+use Rattle.res_files.specs.FilesOn.{FilesOn, HonestAt}
 
 -- where the zone lies, its heap, the blocks that are lent with what was written to them, and the code of the last call of the
 -- Memory Manager or on a loan; the resource files with their stores, and the code of the last call of the Resource Manager. There
@@ -24,9 +24,10 @@ pub record ToolState (S : Type 0) : Type 0 where
 abbrev pub resource_state : {S : Type 0} → Ghosts S → ToolState S → ResState
 resource_state store t = record { shape = t.shape; heap = t.heap; files = t.resources.files; loads = t.resources.loads; disks = map store.fork t.resources.stores }
 
--- all devices return what was written, and nobody else writes them: what is said of disks rests on it
-abbrev pub IsHonest : {S : Type 0} → Ghosts S → ToolState S → Type 0
-IsHonest store t = All store.is_honest t.resources.stores
+-- The device of the file of a number returns what was written, and nobody else writes it: what is said of the bytes of a file rests on the
+-- honesty of its own device.
+abbrev pub IsHonest : {S : Type 0} → Ghosts S → ToolState S → ℕ → Type 0
+IsHonest store t = HonestAt store.is_honest t.resources.stores
 
 -- the files, in which no row has any of these handles
 abbrev pub without_handles : {S : Type 0} → List ℕ → FilesOn S → FilesOn S

@@ -1,13 +1,13 @@
 //! The calls on blocks that are lent, each with what it gives.
 
 ghost use Rattle.std.specs.Prelude.{◌≡◌, None, IfOk, OnErr, IsTrue};
-ghost use Rattle.held_loans.specs.Holding.{Holds, LoanSteps};
+ghost use Rattle.held_calls.specs.Holding.{Holds, LoanSteps};
 ghost use Rattle.mac_calls.specs.declared.loan_call.LoanCall.TheVariants as call;
 ghost use Rattle.mac_calls.specs.Loans.{loan_refusal};
 ghost use Rattle.toolbox.specs.Steps.{shows};
 
-use held_loans::lending;
-use held_loans::loans::Loans;
+use held_calls::lending;
+use held_calls::loans::Loans;
 use mac_base::bytes::Bytes;
 use mac_base::error::HostFull;
 use mac_calls::{LoanCall, Outcome, Results};

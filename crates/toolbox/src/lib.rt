@@ -7,4 +7,4 @@ mod toolbox;
 pub use toolbox::Toolbox;
 
 /// The answers of the grow-zone procedure that a script has queued.
-pub type AnswerQueue = made_calls::answers::AnswerQueue<0>;
+pub type AnswerQueue = held_calls::answers::AnswerQueue<0>;

@@ -4,17 +4,17 @@ ghost use Rattle.std.specs.Prelude.{◌≡◌, [], None, IfOk, OnErr, IsTrue};
 ghost use Rattle.linked_zone.specs.Loans.{KeepsLoans};
 ghost use Rattle.mac_calls.specs.Tests.{refusal};
 ghost use Rattle.mac_calls.specs.Released.{disposed_itself};
-ghost use Rattle.made_calls.specs.Making.{MemorySteps, copies};
+ghost use Rattle.held_calls.specs.Making.{MemorySteps, copies};
 ghost use Rattle.toolbox.specs.Steps.{refused_after, resource_refused_after};
 
 use crate::{AnswerQueue, lending};
 use fork_disk::store::ForkStore;
-use held_loans::loans::Loans;
+use held_calls::answers::MOST_ASKS;
+use held_calls::loans::Loans;
+use held_calls::making;
 use mac_base::error::{HostFull, OsErr};
 use mac_base::handle::Handle;
 use mac_calls::{Call, GrowZone, MemoryCall, Outcome, Reply, ResourceCall, Results};
-use made_calls::answers::MOST_ASKS;
-use made_calls::making;
 use mem_calls::MemoryManager;
 use res_files::ResourceFiles;
 use res_manager::watch::Watched;
@@ -36,7 +36,7 @@ pub struct Toolbox<S: ForkStore> {
 }
 
 impl<S: ForkStore> Model for Toolbox<S> {
-    ghost use Rattle.held_loans.specs.Holding.{Holds, loans_of};
+    ghost use Rattle.held_calls.specs.Holding.{Holds, loans_of};
     ghost use Rattle.toolbox.specs.ToolState.{ToolState};
 
     ghost Value = { ToolState S };
@@ -228,7 +228,7 @@ impl<S: ForkStore> Toolbox<S> {
             files,
             resource_refused: _,
         } = self;
-        (held_loans::lending::finish(memory, loans), files)
+        (held_calls::lending::finish(memory, loans), files)
     }
 }
 

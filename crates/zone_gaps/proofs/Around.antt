@@ -10,14 +10,14 @@ use Rattle.mac_base.specs.HandleTable.{HandleTable}
 use Rattle.mac_base.specs.ZoneMap.{ZoneMap, address_behind, free_block, free_bytes, total_size}
 use Rattle.mac_base.specs.ZoneState.{ZoneState}
 use Rattle.zone_laws.proofs.Arranging.{down-IsArrangement, used_blocks-down}
-use Rattle.zone_laws.proofs.GapAppend.{total_size-append}
 use Rattle.zone_laws.proofs.GapParts.{IsGap, first_gap, first_gap-before, first_gap-IsGap}
+use Rattle.zone_laws.proofs.Maps.{total_size-append}
 use Rattle.linked_zone.specs.Changes.{with_map}
 use Rattle.linked_zone.specs.Loans.{KeepsLoans}
 use Rattle.linked_zone.specs.Places.{EntryAt}
 use Rattle.fixed_index.specs.Runs.{FrontAt, RestAt, begins_fixed, ends_fixed, none_fixed}
+use Rattle.fixed_index.proofs.Sizes.{all_parts}
 use Rattle.page_sums.specs.Weights.{in_order, weights}
-use Rattle.page_sums.proofs.Sizes.{all_parts}
 use Rattle.zone_gaps.specs.Gaps.{AroundAt, Settled}
 use Rattle.zone_gaps.specs.Runs.{RunAt, has_owner}
 use Rattle.zone_gaps.proofs.Arranged.{order-all_down}

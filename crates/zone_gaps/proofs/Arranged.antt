@@ -14,7 +14,7 @@ use Rattle.mac_base.specs.HeadKind.{Shape}
 use Rattle.mac_base.specs.Suits.{is_block_size}
 use Rattle.mac_base.specs.ZoneMap.{ZoneMap, block, free_block, free_bytes, free_size, is_free}
 use Rattle.zone_laws.proofs.GapApart.{sizes_possible}
-use Rattle.zone_laws.proofs.Arranging.{free_bytes-all_used, used_blocks-same}
+use Rattle.zone_laws.proofs.Arranging.{free_bytes-all_used, used_blocks-same, free_is}
 use Rattle.linked_zone.specs.Places.{none_free}
 use Rattle.page_sums.specs.Weights.{in_order, weights}
 use Rattle.page_sums.proofs.Sizes.{all_both, some_bytes}
@@ -25,18 +25,11 @@ abbrev Ends : Bool → ZoneMap → Type 0
 Ends false run = none_free run ≡ true
 Ends true run = (used : ZoneMap) × (e : Entry) × (run ≡ used ++ e ∷ []) × (none_free used ≡ true) × (is_free e.kind ≡ true) × (0 < e.size)
 
--- a kind that is free is that of free blocks
-free_kind : (k : Kind) → is_free k ≡ true → k ≡ Free
-free_kind Free is = refl
-free_kind Master is = absurd (cc is)
-free_kind (Ptr p) is = absurd (cc is)
-free_kind (Rel h) is = absurd (cc is)
-
 -- a free block of so many bytes is the block
 free_block-of : (e : Entry) → is_free e.kind ≡ true → 0 < e.size → free_block e.size ≡ e ∷ []
 free_block-of e free some =
     let large : (e.size == 0) ≡ false = grind (arith, nat_tests) in
-    ap (λ c. cond c [] (block Free e.size ∷ [])) large ∙ ap (λ k. block k e.size ∷ []) (sym (free_kind e.kind free))
+    ap (λ c. cond c [] (block Free e.size ∷ [])) large ∙ ap (λ k. block k e.size ∷ []) (sym (free_is e.kind free))
 
 -- such blocks are arranged down
 down-ends : (free : Bool) (run : ZoneMap) → Ends free run → down run ≡ run

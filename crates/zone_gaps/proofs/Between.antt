@@ -10,10 +10,9 @@ use Rattle.zone_laws.proofs.GapApart.{sizes_possible}
 use Rattle.linked_zone.specs.Fit.{HasSizes}
 use Rattle.linked_zone.specs.Places.{EntryAt, ParcelAt, ParcelUpTo}
 use Rattle.fixed_index.specs.Runs.{none_fixed}
-use Rattle.page_sums.proofs.Sizes.{all_parts, first_bytes, total_size-push}
-
-heads : (d g : Entry) (a b : ZoneMap) → d ∷ a ≡ g ∷ b → (d ≡ g) × (a ≡ b)
-heads d g a b h = (cc h, cc h)
+use Rattle.fixed_index.proofs.Sizes.{all_parts, first_bytes}
+use Rattle.page_sums.proofs.Sizes.{total_size-push}
+use Rattle.zone_gaps.proofs.Owning.{heads}
 
 -- two blocks of a map that end at one place are one
 pub same_block : (s : Shape) (a : ZoneMap) (e : Entry) (b : ZoneMap) (c : ZoneMap) (f : Entry) (d : ZoneMap) → a ++ e ∷ b ≡ c ++ f ∷ d → sizes_possible s (a ++ e ∷ b) ≡ true

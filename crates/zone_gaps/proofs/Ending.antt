@@ -4,14 +4,14 @@ use Rattle.mac_base.specs.declared.block.Entry.{Entry}
 use Rattle.mac_base.specs.declared.block.Kind.TheVariants.{Free}
 use Rattle.mac_base.specs.ZoneMap.{ZoneMap, block, is_free, total_size, address_behind}
 use Rattle.mac_base.specs.ZoneState.{ZoneState}
-use Rattle.zone_laws.proofs.GapAppend.{total_size-append}
 use Rattle.linked_zone.specs.Fit.{HasSizes}
 use Rattle.linked_zone.specs.Places as places
 use Rattle.linked_zone.specs.Places.{EntryAt, SplitAt, none_free}
 use Rattle.zone_gaps.specs.Runs.{RunAt, UsedFrom, LastFree}
 use Rattle.page_sums.proofs.Entries.{entry_size}
 use Rattle.zone_gaps.proofs.Lasts.{same_last}
-use Rattle.page_sums.proofs.Sizes.{all_parts}
+use Rattle.fixed_index.proofs.Sizes.{all_parts}
+use Rattle.zone_laws.proofs.Maps.{total_size-append}
 
 -- the last free one of some blocks and others, where it isn't below the others
 last_among : (from : ℕ) (low blocks front : ZoneMap) (n : ℕ) (passed : ZoneMap) → low ++ blocks ≡ front ++ block Free n ∷ passed → none_free passed ≡ true → 0 < n → total_size low ≤ total_size front

@@ -8,17 +8,20 @@ use Rattle.mac_base.specs.Suits.{is_block_size}
 use Rattle.mac_base.specs.ZoneMap.{ZoneMap, block, free_block, is_free, total_size, free_bytes, address_behind}
 use Rattle.mac_base.specs.ZoneState.{ZoneState}
 use Rattle.zone_laws.proofs.Arranging.{free_bytes-all_used, used_blocks-same, up-IsArrangement}
-use Rattle.zone_laws.proofs.GapAppend.{total_size-append, free_bytes-append}
+use Rattle.zone_laws.proofs.GapAppend.{free_bytes-append}
 use Rattle.zone_laws.proofs.GapApart.{sizes_possible, free_bytes-possible}
+use Rattle.zone_laws.proofs.Maps.{total_size-append}
+use Rattle.zone_laws.proofs.Fitting.{free_block-some}
 use Rattle.linked_zone.specs.Changes.{with_map, joined_pair, sunk}
 use Rattle.linked_zone.specs.Fit.{HasSizes}
 use Rattle.linked_zone.specs.Places.{EntryAt, FreePair, ParcelUpTo, all_can_move, none_free}
 use Rattle.fixed_index.specs.Runs.{none_fixed}
+use Rattle.fixed_index.proofs.Sizes.{all_parts, first_bytes}
 use Rattle.zone_gaps.specs.Runs.{RunAt, UsedFrom, LastFree, arranged}
 use Rattle.zone_gaps.proofs.Between.{parcel_up_loose, previous_block}
 use Rattle.zone_gaps.proofs.Lasts.{Last, some_last}
-use Rattle.zone_gaps.proofs.Pressing.{free_entry, some_free, used-front, free-front, run_sizes}
-use Rattle.page_sums.proofs.Sizes.{all_parts, all_both, first_bytes, no_bytes}
+use Rattle.zone_gaps.proofs.Pressing.{free_entry, used-front, free-front, run_sizes}
+use Rattle.page_sums.proofs.Sizes.{all_both, no_bytes}
 
 -- up with a free block more
 up-free : (e : Entry) (m : ZoneMap) → is_free e.kind ≡ true → up (e ∷ m) ≡ free_block (e.size + free_bytes m) ++ used_blocks m
@@ -37,7 +40,7 @@ up-first : (n : ℕ) (used : ZoneMap) → 0 < n → none_free used ≡ true → 
 up-first n used some none =
     let no = free_bytes-all_used used none in
     let all : n + free_bytes used ≡ n = omega arith in
-    up-free (block Free n) used refl ∙ ap (λ n. free_block n ++ used_blocks used) all ∙ ap (λ b. b ++ used_blocks used) (some_free n some) ∙ ap (λ u. block Free n ∷ u) (used_blocks-same used none)
+    up-free (block Free n) used refl ∙ ap (λ n. free_block n ++ used_blocks used) all ∙ ap (λ b. b ++ used_blocks used) (free_block-some n some) ∙ ap (λ u. block Free n ∷ u) (used_blocks-same used none)
 
 -- The last blocks of a run are pressed up, some free ones among them, and the others are to come.
 pub record Lifting {start end : ℕ} (z : ZoneState) (run : RunAt z start end) (new : ZoneState) (low : ℕ) : Type 0 where
@@ -88,7 +91,7 @@ module _ {start end : ℕ} (z : ZoneState) (run : RunAt z start end) where
     map_low = ap (λ (w : ZoneState). w.heap.map) l.zone
 
     pub map_free : new.heap.map ≡ run.before ++ (l.rest ++ block Free bytes ∷ tail)
-    map_free = map_low ∙ ap (λ b. run.before ++ (l.rest ++ ((b ++ used_blocks l.done) ++ run.behind))) (some_free bytes l.some)
+    map_free = map_low ∙ ap (λ b. run.before ++ (l.rest ++ ((b ++ used_blocks l.done) ++ run.behind))) (free_block-some bytes l.some)
 
     pub place_start : start ≡ address_behind new.shape run.before
     place_start = run.place ∙ ap (λ (w : ZoneState). address_behind w.shape run.before) (sym l.zone)
@@ -180,7 +183,7 @@ module _ {start end : ℕ} (z : ZoneState) (run : RunAt z start end) where
           let b : ZoneMap = block Free bytes ∷ [] in
           let same : (run.before ++ u.rest) ++ (b ++ (u.used ++ tail)) ≡ run.before ++ (u.rest ++ ((b ++ (u.used ++ used_blocks l.done)) ++ run.behind)) = simp append_assoc in
           further u.rest u.used u.parts after at _ (is parcel_low)
-          (same ∙ ap (λ b. run.before ++ (u.rest ++ ((b ++ (u.used ++ used_blocks l.done)) ++ run.behind))) (sym (some_free bytes l.some)) ∙ ap (λ u'. run.before ++ (u.rest ++ (u' ++ run.behind))) (sym (up-used u.used l.done u.none))) u.place
+          (same ∙ ap (λ b. run.before ++ (u.rest ++ ((b ++ (u.used ++ used_blocks l.done)) ++ run.behind))) (sym (free_block-some bytes l.some)) ∙ ap (λ u'. run.before ++ (u.rest ++ (u' ++ run.behind))) (sym (up-used u.used l.done u.none))) u.place
 
       -- where there are none a free block lies below
       pub under : HasSizes z → start < low → low ≤ at → Under l.rest
@@ -228,5 +231,5 @@ module _ {start end : ℕ} (z : ZoneState) (run : RunAt z start end) where
           let here = place_under in
           let low = total_size-append run.before f.front in
           further f.front (f.here ∷ []) f.is after below _ (is pair_under)
-          (append_assoc run.before f.front (block Free all ∷ tail) ∙ ap (λ b. run.before ++ (f.front ++ ((b ++ used_blocks l.done) ++ run.behind))) (sym (some_free all (omega arith)))
+          (append_assoc run.before f.front (block Free all ∷ tail) ∙ ap (λ b. run.before ++ (f.front ++ ((b ++ used_blocks l.done) ++ run.behind))) (sym (free_block-some all (omega arith)))
           ∙ ap (λ u. run.before ++ (f.front ++ (u ++ run.behind))) (sym (up-free f.here l.done f.unused))) (omega arith)

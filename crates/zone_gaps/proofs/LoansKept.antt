@@ -1,5 +1,5 @@
 -- What is lent keeps its place where a map is rearranged, so its loan can come back.
-use Rattle.std.proofs.Common.{◌≡◌, ℕ, ◌+◌, true, false, cond, List, [], ◌∷◌, ◌++◌, length, refl, ap, sym, ◌∙◌, inl, inr, Option, Some, None}
+use Rattle.std.proofs.Common.{◌≡◌, ℕ, ◌+◌, true, false, cond, [], ◌∷◌, ◌++◌, length, refl, ap, sym, ◌∙◌, inl, inr, Option, Some, None}
 use Rattle.std.specs.Prelude.{◌⊎◌, map, slice_index}
 use Rattle.std.proofs.lemmas.Bool.{or_cases}
 use Rattle.mac_base.specs.declared.block.Kind.{Kind}
@@ -13,12 +13,13 @@ use Rattle.mac_base.specs.Suits.{Coherent, is_handle_block, is_pointer_block}
 use Rattle.mac_base.specs.ZoneMap.{ZoneMap, Rearranged, address_behind, addresses, addresses_from, contents_of, is_named, sizes}
 use Rattle.mac_base.specs.ZoneState.{ZoneState}
 use Rattle.std.specs.Option.{option_map_or}
+use Rattle.std.proofs.lemmas.List.{nil_from_length}
 use Rattle.zone_laws.proofs.Arranging.{IsArrangement}
 use Rattle.zone_laws.proofs.ArrangingNamed.{open_at-IsArrangement}
 use Rattle.zone_laws.proofs.GapParts.{IsGap, own_gap-is}
 use Rattle.zone_laws.proofs.Rearranging.{Rearranged-refl, gap-Rearranged}
 use Rattle.zone_laws.proofs.GapAppend.{length-addresses_from}
-use Rattle.zone_laws.proofs.Owners.{nothing_passes, no_length}
+use Rattle.zone_laws.proofs.Owners.{nothing_passes, no_map}
 use Rattle.zone_laws.proofs.SuitsNamed.{full-no_pointer}
 use Rattle.gap_laws.proofs.RearrangedSuits.{handle_block-kind, pointer_block-kind}
 use Rattle.gap_laws.proofs.RearrangingAll.{all_down-Rearranged, moved_high-Rearranged}
@@ -55,20 +56,15 @@ addresses-pointer at x (e ∷ es) none =
     ap (λ c. cond c (at ∷ []) [] ++ addresses_from (at + e.size) (is_named x) es) (named-pointer x e.kind parts.0)
     ∙ ap (λ found. cond (is_pointer_block x e.kind) (at ∷ []) [] ++ found) (addresses-pointer (at + e.size) x es parts.1)
 
--- only an empty list maps to one
-no_map : (f : ℕ → ℕ) (xs : List ℕ) → map f xs ≡ [] → xs ≡ []
-no_map f [] h = refl
-no_map f (x ∷ xs) h = absurd (cc h)
-
 -- a number that is no pointer has no block as one
 no_pointer : (s : Shape) (t : HandleTable) (m : ZoneMap) (x : ℕ) → Coherent s t m → is_pointer t x ≡ false → sizes (is_pointer_block x) m ≡ []
 no_pointer s t m x c other =
     let none = no_map _ _ (c.pointers x ∙ ap (λ b. cond b (x ∷ []) []) other) in
-    no_length _ (sym (length-addresses_from (address_behind s []) (is_pointer_block x) m) ∙ ap length none)
+    nil_from_length _ (sym (length-addresses_from (address_behind s []) (is_pointer_block x) m) ∙ ap length none)
 
 -- and one that is no handle with a block none as a handle
 pub no_handle : (s : Shape) (t : HandleTable) (m : ZoneMap) (x : ℕ) → Coherent s t m → is_full t x ≡ false → sizes (is_handle_block x) m ≡ []
-no_handle s t m x c other = no_length _ (sym (length-addresses_from (address_behind s []) (is_handle_block x) m) ∙ c.handles x ∙ ap (λ b. cond b 1 0) other)
+no_handle s t m x c other = nil_from_length _ (sym (length-addresses_from (address_behind s []) (is_handle_block x) m) ∙ c.handles x ∙ ap (λ b. cond b 1 0) other)
 
 -- a pointer is no handle
 pub pointer-no_full : (o : Option Live) → live_pointer o ≡ true → live_full o ≡ false

@@ -9,8 +9,9 @@ use Rattle.mac_base.specs.Gap.{Gap, filled, is_fixed}
 use Rattle.mac_base.specs.ZoneMap.{ZoneMap, free_block, free_bytes, is_free, total_size, address_behind}
 use Rattle.mac_base.specs.ZoneState.{ZoneState}
 use Rattle.zone_laws.proofs.Arranging.{named-used, free_bytes-free_block, used_blocks-free_block, list_all-free_block, total_size-free_block, total_size-used}
-use Rattle.zone_laws.proofs.GapAppend.{total_size-append, free_bytes-append}
+use Rattle.zone_laws.proofs.GapAppend.{free_bytes-append}
 use Rattle.zone_laws.proofs.NamedPlace.{used_blocks-around, open_at-parts}
+use Rattle.zone_laws.proofs.Maps.{total_size-append}
 use Rattle.linked_zone.specs.Changes.{with_map}
 use Rattle.linked_zone.specs.Fit.{HasSizes}
 use Rattle.zone_gaps.specs.Gaps.{Settled, opened_after}

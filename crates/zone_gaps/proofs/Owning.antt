@@ -18,12 +18,12 @@ use Rattle.gap_laws.proofs.FittingResize.{own_gap-found, one_size}
 use Rattle.linked_zone.specs.Places.{BlockOf, EntryAt, all_can_move}
 use Rattle.zone_gaps.specs.Gaps.{Settled}
 use Rattle.fixed_index.specs.Runs.{FrontAt, RestAt, none_fixed}
+use Rattle.fixed_index.proofs.Sizes.{all_parts}
 use Rattle.zone_gaps.specs.Runs.{has_owner}
 use Rattle.zone_gaps.proofs.Settling.{owners-settled, all_move-unfixed}
 use Rattle.page_sums.proofs.Naming.{named_alone}
-use Rattle.page_sums.proofs.Sizes.{all_parts}
 
-heads : (d g : Entry) (a b : ZoneMap) → d ∷ a ≡ g ∷ b → (d ≡ g) × (a ≡ b)
+pub heads : (d g : Entry) (a b : ZoneMap) → d ∷ a ≡ g ∷ b → (d ≡ g) × (a ≡ b)
 heads d g a b h = (cc h, cc h)
 
 -- the first block of a number stands at one place

@@ -1,8 +1,7 @@
 -- A run pressed down, run of used blocks by run of used blocks.
 use Rattle.std.proofs.Common.{◌≡◌, ℕ, ◌+◌, ◌-◌, ◌<◌, ◌≤◌, true, false, not, cond, [], ◌∷◌, ◌++◌, refl, ap, sym, ◌∙◌, subst, append_assoc, append-nil, arith, IsTrue}
-use Rattle.std.specs.Prelude.{Bool, ◌==◌}
+use Rattle.std.specs.Prelude.{Bool}
 use Rattle.std.specs.List.{list_all}
-use Rattle.std.proofs.lemmas.Bool.Decides.{nat_tests}
 use Rattle.std.proofs.lemmas.List.Elements.{filter-append}
 use Rattle.mac_base.specs.declared.block.Entry.{Entry}
 use Rattle.mac_base.specs.declared.block.Kind.{Kind}
@@ -11,27 +10,23 @@ use Rattle.mac_base.specs.ZoneMap.{ZoneMap, block, free_block, is_free, total_si
 use Rattle.mac_base.specs.ZoneState.{ZoneState}
 use Rattle.mac_base.specs.Arrangement.{used_blocks, down}
 use Rattle.mac_base.specs.Suits.{is_block_size}
-use Rattle.zone_laws.proofs.GapAppend.{total_size-append, free_bytes-append}
+use Rattle.zone_laws.proofs.GapAppend.{free_bytes-append}
 use Rattle.zone_laws.proofs.Arranging.{free_is, free_bytes-all_used, total_size-used, used_blocks-same, down-IsArrangement}
 use Rattle.zone_laws.proofs.GapApart.{sizes_possible, free_bytes-possible}
+use Rattle.zone_laws.proofs.Fitting.{free_block-some}
+use Rattle.zone_laws.proofs.Maps.{total_size-append}
 use Rattle.linked_zone.specs.Changes.{with_map, joined_pair, carried_up}
 use Rattle.linked_zone.specs.Fit.{HasSizes}
 use Rattle.linked_zone.specs.Places.{none_free, EntryAt, FreePair, ParcelAt, all_can_move}
 use Rattle.fixed_index.specs.Runs.{none_fixed}
+use Rattle.fixed_index.proofs.Sizes.{all_parts, first_bytes}
 use Rattle.zone_gaps.specs.Runs.{RunAt, arranged, UsedUpTo, begins_unused}
 use Rattle.zone_gaps.proofs.Between.{parcel_loose}
-use Rattle.page_sums.proofs.Sizes.{all_both, all_parts, first_bytes, no_bytes}
+use Rattle.page_sums.proofs.Sizes.{all_both, no_bytes}
 
 -- a free block is one of its size
 pub free_entry : (e : Entry) → is_free e.kind ≡ true → e ≡ block Free e.size
 free_entry e h = ap (λ (kind : Kind). block kind e.size) (free_is e.kind h)
-
--- some free bytes are a block
-pub some_free : (n : ℕ) → 0 < n → free_block n ≡ block Free n ∷ []
-some_free n some = ap (λ c. cond c [] (block Free n ∷ [])) not_none
-  where
-    not_none : (n == 0) ≡ false
-    not_none = grind (arith, nat_tests)
 
 -- none are none
 pub no_free : (n : ℕ) → n ≡ 0 → free_block n ≡ []
@@ -211,7 +206,7 @@ module _ {start end : ℕ} (z : ZoneState) (run : RunAt z start end) where
 
       -- by the block of free bytes
       map_free : free < next → new.heap.map ≡ (run.before ++ used) ++ block Free bytes ∷ tail
-      map_free less = map_whole ∙ ap (λ f. run.before ++ ((used ++ f) ++ tail)) (some_free bytes (some_before less)) ∙ simp append_assoc
+      map_free less = map_whole ∙ ap (λ f. run.before ++ ((used ++ f) ++ tail)) (free_block-some bytes (some_before less)) ∙ simp append_assoc
 
       -- or without any
       map_none : next ≤ free → new.heap.map ≡ run.before ++ (used ++ tail)
@@ -277,7 +272,7 @@ module _ {start end : ℕ} (z : ZoneState) (run : RunAt z start end) where
             let rest = u.rest ++ run.behind in
             let same : (run.before ++ used) ++ (u.used ++ (b ++ rest)) ≡ run.before ++ (((used ++ u.used) ++ b) ++ rest) = simp append_assoc in
             further u.used u.rest u.parts after (free + (at - next)) at _ (is (parcel_next less))
-            (same ∙ ap (λ f. run.before ++ (((used ++ u.used) ++ f) ++ rest)) (sym (some_free bytes (some_before less))) ∙ ap (λ d. run.before ++ (d ++ rest)) (sym (down-behind p.done u.used u.none))) low_used u.place
+            (same ∙ ap (λ f. run.before ++ (((used ++ u.used) ++ f) ++ rest)) (sym (free_block-some bytes (some_before less))) ∙ ap (λ d. run.before ++ (d ++ rest)) (sym (down-behind p.done u.used u.none))) low_used u.place
 
         -- or where there are none they stay
         pub stayed : next ≤ free → Pressing z run new (free + (at - next)) at
@@ -333,7 +328,7 @@ module _ {start end : ℕ} (z : ZoneState) (run : RunAt z start end) where
         -- down with a free block more
         down_free : 0 < bytes + (a.here).size → used ++ block Free (bytes + (a.here).size) ∷ [] ≡ down (p.done ++ a.here ∷ [])
         down_free some =
-            ap (λ b. used ++ b) (sym (some_free (bytes + (a.here).size) some) ∙ ap free_block (sym (free-push_free p.done a.here a.unused)))
+            ap (λ b. used ++ b) (sym (free_block-some (bytes + (a.here).size) some) ∙ ap free_block (sym (free-push_free p.done a.here a.unused)))
             ∙ ap (λ b. b ++ free_block (free_bytes (p.done ++ a.here ∷ []))) (sym (used-push_free p.done a.here a.unused))
 
         -- they are joined

@@ -15,20 +15,23 @@ use Rattle.mac_base.specs.Suits.{is_block_size}
 use Rattle.mac_base.specs.ZoneMap.{ZoneMap, block, free_block, free_bytes, is_free, is_named, sizes, total_size, address_behind}
 use Rattle.mac_base.specs.ZoneState.{ZoneState}
 use Rattle.zone_laws.proofs.Arranging.{named-used, sizes-used, free_bytes-free_block, list_all-used, total_size-used, used_blocks-free_block}
-use Rattle.zone_laws.proofs.GapAppend.{total_size-append, free_bytes-append}
+use Rattle.zone_laws.proofs.GapAppend.{free_bytes-append}
 use Rattle.zone_laws.proofs.NamedPlace.{At, used_blocks-around}
 use Rattle.zone_laws.proofs.Owners.{nothing_passes}
+use Rattle.zone_laws.proofs.Maps.{total_size-append}
+use Rattle.zone_laws.proofs.Fitting.{free_block-some}
 use Rattle.linked_zone.specs.Changes.{with_map, carried_up, sunk}
 use Rattle.linked_zone.specs.Fit.{HasSizes}
 use Rattle.zone_gaps.specs.Gaps.{Settled}
 use Rattle.linked_zone.specs.Places.{ParcelAt, ParcelUpTo, all_can_move, can_move}
 use Rattle.fixed_index.specs.Runs.{none_fixed}
+use Rattle.fixed_index.proofs.Sizes.{all_parts}
 use Rattle.zone_gaps.specs.Runs.{RunAt, PackedAt, arranged, topped}
 use Rattle.zone_gaps.proofs.Opening.{used_here, free_lower, sizes_lower, run_upper, arranged_upper, used_upper}
 use Rattle.zone_gaps.proofs.Owning.{Owned, here_owned, moves_owned, can_move_owned}
 use Rattle.zone_gaps.proofs.Between.{parcel_loose, parcel_up_loose}
-use Rattle.zone_gaps.proofs.Pressing.{some_free, no_free, free-push_used, sizes-pressed}
-use Rattle.page_sums.proofs.Sizes.{all_both, all_parts}
+use Rattle.zone_gaps.proofs.Pressing.{no_free, free-push_used, sizes-pressed}
+use Rattle.page_sums.proofs.Sizes.{all_both}
 
 -- of blocks that x doesn't name none is left by one filter
 those_none : (x : ℕ) (a : ZoneMap) → sizes (is_named x) a ≡ [] → filter (λ (e : Entry). is_named x e.kind) a ≡ []
@@ -243,7 +246,7 @@ module _ (z : ZoneState) (at free end : ℕ) (sizes : HasSizes z) (packed : Pack
 
       map_carried : new.heap.map ≡ (packed.before ++ packed.blocks) ++ (packed.here ∷ [] ++ block Free packed.bytes ∷ packed.behind)
       map_carried =
-          ap (λ (w : ZoneState). w.heap.map) zone_carried ∙ ap (λ f. packed.before ++ (packed.blocks ++ packed.here ∷ (f ++ packed.behind))) (some_free packed.bytes some_bytes)
+          ap (λ (w : ZoneState). w.heap.map) zone_carried ∙ ap (λ f. packed.before ++ (packed.blocks ++ packed.here ∷ (f ++ packed.behind))) (free_block-some packed.bytes some_bytes)
           ∙ sym (append_assoc packed.before packed.blocks (packed.here ∷ block Free packed.bytes ∷ packed.behind))
 
       place_carried : high ≡ address_behind new.shape (packed.before ++ packed.blocks)
@@ -281,7 +284,7 @@ module _ (z : ZoneState) (at free end : ℕ) (sizes : HasSizes z) (packed : Pack
       topped_some after is =
           is parcel_carried ∙ ap (with_map ((packed.before ++ packed.blocks) ++ (block Free packed.bytes ∷ packed.here ∷ packed.behind))) zone_carried
           ∙ ap (λ m. with_map m z) (append_assoc packed.before packed.blocks (block Free packed.bytes ∷ packed.here ∷ packed.behind)
-          ∙ ap (λ f. packed.before ++ (packed.blocks ++ (f ++ packed.here ∷ packed.behind))) (sym (some_free packed.bytes some_bytes)))
+          ∙ ap (λ f. packed.before ++ (packed.blocks ++ (f ++ packed.here ∷ packed.behind))) (sym (free_block-some packed.bytes some_bytes)))
 
     -- or there are none
     pub topped_none : end ≤ free → new ≡ topped z packed

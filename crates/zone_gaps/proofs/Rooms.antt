@@ -13,10 +13,12 @@ use Rattle.mac_base.specs.Request.{stays}
 use Rattle.mac_base.specs.Suits.{Coherent, is_handle_block, is_pointer_block}
 use Rattle.mac_base.specs.ZoneMap.{ZoneMap, block, addresses, address_behind, is_named, sizes, total_size}
 use Rattle.mac_base.specs.ZoneState.{ZoneState}
-use Rattle.zone_laws.proofs.GapAppend.{length-addresses_from, sizes-append, total_size-append}
+use Rattle.zone_laws.proofs.GapAppend.{length-addresses_from, sizes-append}
 use Rattle.zone_laws.proofs.GapParts.{IsGap, gap-IsGap, gap_behind-is, ends_fixed as ends_in_fixed}
 use Rattle.zone_laws.proofs.GapRoom.{gap_behind-found}
 use Rattle.zone_laws.proofs.NamedPlace.{At-from, BeforeGap, gap_behind-parts, nil-append}
+use Rattle.zone_laws.proofs.SuitsNamed.{length-sizes_named}
+use Rattle.zone_laws.proofs.Maps.{total_size-append}
 use Rattle.gap_laws.proofs.FittingResize.{one_size}
 use Rattle.linked_zone.specs.Places.{EntryAt, NamedAt}
 use Rattle.gap_index.specs.Gaps.{GapAt as IndexedGap}
@@ -26,7 +28,7 @@ use Rattle.zone_gaps.proofs.Laws.{find-contains}
 use Rattle.zone_gaps.proofs.LoansKept.{no_handle, pointer-no_full, locked-full}
 use Rattle.zone_gaps.proofs.Owning.{Owned, same_named}
 use Rattle.zone_gaps.proofs.Settling.{rest_of_gap}
-use Rattle.page_sums.proofs.Naming.{length-named, named_alone}
+use Rattle.page_sums.proofs.Naming.{named_alone}
 use Rattle.page_sums.proofs.Sizes.{total_size-push}
 
 -- a gap that a search finds, between its addresses
@@ -78,7 +80,7 @@ stays-once s t m x coherent fixed = by_owner (or_cases (is_pointer t x) (is_lock
     by_owner : (is_pointer t x ≡ true) ⊎ (is_locked t x ≡ true) → length (sizes (is_named x) m) ≡ 1
     by_owner (inr locked) = named_alone s t m x coherent (locked-full (live_at t x) locked)
     by_owner (inl pointer) =
-        let all = length-named x m in
+        let all = length-sizes_named x m in
         let handles = ap length (no_handle s t m x coherent (pointer-no_full (live_at t x) pointer)) in
         let pointers : length (sizes (is_pointer_block x) m) ≡ 1 =
         sym (length-addresses_from (address_behind s []) (is_pointer_block x) m) ∙ sym (length-map (addresses s (is_pointer_block x) m) _) ∙ ap length (coherent.pointers x) ∙ ap (λ c. length (cond c (x ∷ []) [])) pointer in

@@ -8,7 +8,7 @@ use Rattle.mac_base.specs.declared.block.Entry.{Entry}
 use Rattle.mac_base.specs.declared.block.Kind.{Kind}
 use Rattle.mac_base.specs.declared.block.Kind.TheVariants.{Free, Master, Ptr, Rel}
 use Rattle.mac_base.specs.Gap.{Gap, is_fixed}
-use Rattle.mac_base.specs.HandleTable.{HandleTable, Live, EmptyHandle, FullHandle, Pointer, live_at, live_full, live_handle, live_pointer, is_full, is_handle, is_lent, is_locked}
+use Rattle.mac_base.specs.HandleTable.{HandleTable, Live, EmptyHandle, FullHandle, Pointer, live_at, live_handle, live_pointer, is_full, is_handle, is_lent, is_locked}
 use Rattle.mac_base.specs.Heap.{Heap}
 use Rattle.mac_base.specs.Loans.{LoansAreFixed}
 use Rattle.mac_base.specs.Suits.{is_handle_block}
@@ -19,15 +19,9 @@ use Rattle.zone_laws.proofs.GapParts.{IsGap, gap-IsGap}
 use Rattle.zone_gaps.specs.Gaps.{Settled, GapAt}
 use Rattle.linked_zone.specs.Places.{can_move, all_can_move}
 use Rattle.fixed_index.specs.Runs.{RestAt, none_fixed}
+use Rattle.fixed_index.proofs.Sizes.{all_parts}
 use Rattle.zone_gaps.specs.Runs.{HasOwners, RunAt, has_owner}
-use Rattle.page_sums.proofs.Sizes.{all_parts}
-
--- a handle with a block is live
-live_full-handle : (o : Option Live) → live_full o ≡ true → live_handle o ≡ true
-live_full-handle None h = absurd (cc h)
-live_full-handle (Some EmptyHandle) h = refl
-live_full-handle (Some (FullHandle flags bytes)) h = refl
-live_full-handle (Some (Pointer bytes)) h = absurd (cc h)
+use Rattle.page_sums.proofs.Owners.{live_full-handle}
 
 -- and no pointer
 live_handle-pointer : (o : Option Live) → live_handle o ≡ true → live_pointer o ≡ false

@@ -7,17 +7,18 @@ use Rattle.mac_base.specs.Gap.{Gap, filled}
 use Rattle.mac_base.specs.Suits.{is_block_size}
 use Rattle.mac_base.specs.ZoneMap.{ZoneMap, block, address_behind, total_size}
 use Rattle.mac_base.specs.ZoneState.{ZoneState}
-use Rattle.zone_laws.proofs.GapAppend.{total_size-append}
 use Rattle.zone_laws.proofs.GapParts.{IsGap, gap-IsGap}
 use Rattle.zone_laws.proofs.GapApart.{sizes_possible}
+use Rattle.zone_laws.proofs.Maps.{total_size-append}
 use Rattle.linked_zone.specs.Changes.{with_map}
 use Rattle.linked_zone.specs.Fit.{HasSizes}
 use Rattle.zone_gaps.specs.Gaps.{Settled, GapFrom, with_gap}
 use Rattle.fixed_index.specs.Runs.{FrontAt, RestAt, none_fixed}
+use Rattle.fixed_index.proofs.Sizes.{all_parts}
 use Rattle.zone_gaps.specs.Runs.{arranged}
 use Rattle.zone_gaps.proofs.Pressing.{used-front, down-front}
 use Rattle.zone_gaps.proofs.Settling.{run_of_rest}
-use Rattle.page_sums.proofs.Sizes.{all_parts, no_bytes}
+use Rattle.page_sums.proofs.Sizes.{no_bytes}
 
 module _ (z : ZoneState) (at : ℕ) (from : GapFrom z at) where
   abbrev g : Gap

@@ -11,17 +11,18 @@ use Rattle.mac_base.specs.Suits.{is_block_size}
 use Rattle.mac_base.specs.ZoneMap.{ZoneMap, total_size, address_behind}
 use Rattle.mac_base.specs.ZoneState.{ZoneState}
 use Rattle.zone_laws.proofs.Arranging.{down-IsArrangement}
-use Rattle.zone_laws.proofs.GapAppend.{total_size-append}
 use Rattle.zone_laws.proofs.GapApart.{sizes_possible, free_bytes-possible}
 use Rattle.zone_laws.proofs.GapParts.{IsGap, first_gap, first_gap-before, first_gap-IsGap}
+use Rattle.zone_laws.proofs.Maps.{total_size-append}
 use Rattle.linked_zone.specs.Changes.{with_map}
 use Rattle.linked_zone.specs.Fit.{HasSizes}
 use Rattle.linked_zone.specs.Places.{EntryAt, all_can_move}
 use Rattle.zone_gaps.specs.Gaps.{Settled}
 use Rattle.fixed_index.specs.Runs.{RestAt, none_fixed, begins_fixed}
+use Rattle.fixed_index.proofs.Sizes.{all_parts, first_bytes}
 use Rattle.zone_gaps.specs.Runs.{RunAt, has_owner, arranged}
 use Rattle.zone_gaps.proofs.Settling.{owners-settled, all_move-unfixed}
-use Rattle.page_sums.proofs.Sizes.{all_parts, all_both, first_bytes, no_bytes}
+use Rattle.page_sums.proofs.Sizes.{all_both, no_bytes}
 
 -- whether the owners of these blocks are live
 abbrev owned : HandleTable → ZoneMap → Bool

@@ -4,6 +4,7 @@ use Rattle.std.specs.Prelude.{nat_le, option_map, option_and_then}
 use Rattle.std.specs.Option.{option_or}
 use Rattle.std.proofs.lemmas.Bool.Decides.{nat_tests}
 use Rattle.std.proofs.lemmas.List.Folds.{list_all-append}
+use Rattle.std.proofs.lemmas.Bool.{and_from}
 use Rattle.mac_base.specs.declared.block.Entry.{Entry}
 use Rattle.mac_base.specs.declared.block.Kind.{Kind}
 use Rattle.mac_base.specs.declared.block.Kind.TheVariants.{Free}
@@ -12,11 +13,10 @@ use Rattle.mac_base.specs.Gap.{Gap, gaps, filled, lowest_gap, room}
 use Rattle.mac_base.specs.Serve.{begins_free, taken, take_lowest, placed_relocatable}
 use Rattle.mac_base.specs.ZoneMap.{ZoneMap, block, free_bytes, has_free, address_behind, total_size}
 use Rattle.mac_base.specs.ZoneState.{ZoneState}
-use Rattle.zone_laws.proofs.GapAppend.{total_size-append}
 use Rattle.zone_laws.proofs.Arranging.{IsArrangement, down-IsArrangement, up-IsArrangement}
 use Rattle.zone_laws.proofs.Fitting.{free_block-some}
 use Rattle.zone_laws.proofs.GapParts.{IsGap, lowest_gap-is}
-use Rattle.zone_laws.proofs.Maps.{true_both}
+use Rattle.zone_laws.proofs.Maps.{total_size-append}
 use Rattle.gap_laws.proofs.RearrangedSuits.{Sound-arranged}
 use Rattle.linked_zone.specs.Changes.{with_map}
 use Rattle.linked_zone.specs.Fit.{HasSizes}
@@ -52,7 +52,7 @@ opened_taken z new k at o kind =
 
 -- no free block has room in blocks where none has in two parts of them
 both_none : (k : ℕ) (a b : ZoneMap) → NoneHas k a → NoneHas k b → NoneHas k (a ++ b)
-both_none k a b none others = list_all-append (λ e. not (has_free k e)) a b ∙ true_both _ _ none others
+both_none k a b none others = list_all-append (λ e. not (has_free k e)) a b ∙ and_from _ _ none others
 
 module _ (z : ZoneState) (k at : ℕ) (some : 0 < k) (is : IsLowestGap z k at) where
   abbrev g : Gap

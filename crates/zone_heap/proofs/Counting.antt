@@ -1,6 +1,9 @@
 -- Room for a handle's new block, where its old one counts as free.
-use Rattle.std.proofs.Common.{◌≡◌, ℕ, ◌+◌, Bool, true, false, not, cond, List, [], ◌∷◌, length, refl, ap, sym, ◌∙◌, arith, Option, Some, None, MatchOption}
+use Rattle.std.proofs.Common.{◌≡◌, ℕ, ◌+◌, Bool, true, false, not, cond, [], ◌∷◌, refl, ap, sym, ◌∙◌, arith, Option, Some, None, MatchOption}
 use Rattle.std.specs.Prelude.{◌&&◌, ◌||◌, is_some, nat_le}
+use Rattle.std.proofs.Math.Bool.{or-true}
+use Rattle.std.proofs.lemmas.Bool.{or_parts}
+use Rattle.std.proofs.lemmas.List.{nil_from_length}
 use Rattle.mac_base.specs.Gap.{gaps, lowest_gap, some_gap_has}
 use Rattle.mac_base.specs.HandleTable.{has_block, is_full, is_locked, is_pointer}
 use Rattle.mac_base.specs.Request.{can_grow, gap_to_grow, room_of, size_of, stays}
@@ -22,18 +25,6 @@ pub found-some : (z : ZoneState) (k : ℕ) (o : Option ℕ) → MatchOption o (l
 found-some z k None none = sym (ap is_some none) ∙ is_some-lowest_gap z.heap.table k z.heap.map
 found-some z k (Some at) low = sym (ap is_some low.lowest) ∙ is_some-lowest_gap z.heap.table k z.heap.map
 
-no_length : (xs : List ℕ) → length xs ≡ 0 → xs ≡ []
-no_length [] h = refl
-no_length (x ∷ xs) h = absurd (omega arith)
-
-neither : (a b : Bool) → (a || b) ≡ false → (a ≡ false) × (b ≡ false)
-neither true b h = absurd (cc h)
-neither false b h = (refl, h)
-
-or_true : (a : Bool) → (a || true) ≡ true
-or_true true = refl
-or_true false = refl
-
 or_false : (a : Bool) → (a || false) ≡ a
 or_false true = refl
 or_false false = refl
@@ -49,9 +40,9 @@ module _ (z : ZoneState) (h k : ℕ) (sound : SoundZone z) (counts : CanCount z 
   -- and where it has none, the gaps are as they are
   room_empty : has_block z.heap.table h ≡ false → some_gap_has k (gaps z.heap.table (released h z.heap.map)) ≡ some_gap_has k (gaps z.heap.table z.heap.map)
   room_empty none =
-      let parts = neither (is_full z.heap.table h) (is_pointer z.heap.table h) none in
+      let parts = or_parts (is_full z.heap.table h) (is_pointer z.heap.table h) none in
       let count = length-sizes_of z.shape z.heap.table z.heap.map h sound.sound.suits ∙ ap (λ b. cond b 1 0 + cond (is_pointer z.heap.table h) 1 0) parts.0 ∙ ap (λ b. 0 + cond b 1 0) parts.1 in
-      let nothing : sizes (is_named h) z.heap.map ≡ [] = no_length (sizes (is_named h) z.heap.map) count in
+      let nothing : sizes (is_named h) z.heap.map ≡ [] = nil_from_length (sizes (is_named h) z.heap.map) count in
       gap-now z.shape z.heap.table k (Some h) z.heap.map sound.sound.suits ∙ run-unnamed z.heap.table h k 0 z.heap.map nothing ∙ sym (some-gap_run z.heap.table k z.heap.map)
 
   -- a gap that has room has it still
@@ -62,7 +53,7 @@ module _ (z : ZoneState) (h k : ℕ) (sound : SoundZone z) (counts : CanCount z 
       by_block false none = sym (room_empty none ∙ found)
       by_block true has =
           let own : Bool = nat_le k (size_of h z.heap.map + room_of (gap_to_grow z.heap.table h z.heap.map)) in
-          sym (ap (λ s. own || (not s && some_gap_has k (gaps z.heap.table z.heap.map))) moves ∙ ap (λ c. own || c) found ∙ or_true own) ∙ room_full has
+          sym (ap (λ s. own || (not s && some_gap_has k (gaps z.heap.table z.heap.map))) moves ∙ ap (λ c. own || c) found ∙ or-true own) ∙ room_full has
 
   -- where none has and the handle has no block, there is no room
   pub room-none : has_block z.heap.table h ≡ false → some_gap_has k (gaps z.heap.table z.heap.map) ≡ false → false ≡ some_gap_has k (gaps z.heap.table (released h z.heap.map))

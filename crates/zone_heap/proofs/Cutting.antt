@@ -1,12 +1,12 @@
 -- A free block cut to its front.
 use Rattle.std.proofs.Common.{◌≡◌, ℕ, ◌-◌, ◌<◌, ◌≤◌, true, false, cond, [], ◌∷◌, ◌++◌, ap, sym, ◌∙◌, arith}
-use Rattle.std.specs.Prelude.{◌&&◌, ◌==◌, ◌%◌, nat_le, nat_lt}
+use Rattle.std.specs.Prelude.{nat_lt}
 use Rattle.std.proofs.lemmas.Bool.Decides.{nat_tests}
 use Rattle.mac_base.specs.declared.block.Kind.TheVariants.{Free}
 use Rattle.mac_base.specs.HeadKind.{smallest_block}
 use Rattle.mac_base.specs.ZoneMap.{block}
 use Rattle.mac_base.specs.ZoneState.{ZoneState}
-use Rattle.zone_laws.proofs.Taken.{head-below_smallest}
+use Rattle.zone_laws.proofs.Taken.{head-below_smallest, rest_size}
 use Rattle.linked_zone.specs.Changes.{with_map, cut_in_two}
 use Rattle.linked_zone.specs.Places.{EntryAt, CanCut}
 use Rattle.zone_heap.specs.Joins.{CanTake, with_front}
@@ -14,10 +14,6 @@ use Rattle.zone_heap.specs.Joins.{CanTake, with_front}
 -- the block that can be taken
 abbrev pub entry_taken : {z : ZoneState} {at size : ℕ} → CanTake z at size → EntryAt z at
 entry_taken take = record { before = take.free.before; here = block Free take.free.size; behind = take.free.behind; map = take.free.map; place = take.free.place }
-
--- what is over is a block if it is as large as the smallest
-pub rest_size : (small k n : ℕ) → ((k % 4 == 0) && nat_le small k) ≡ true → ((n % 4 == 0) && nat_le small n) ≡ true → k ≤ n → small ≤ n - k → (((n - k) % 4 == 0) && nat_le small (n - k)) ≡ true
-rest_size small k n a b le h = grind (arith, nat_tests)
 
 -- where enough is over, the block can be cut
 abbrev pub cut_taken : {z : ZoneState} {at size : ℕ} (take : CanTake z at size) → smallest_block z.shape.heads ≤ take.free.size - size → CanCut z at size

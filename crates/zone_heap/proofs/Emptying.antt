@@ -1,10 +1,11 @@
 -- A handle that becomes empty, or is so already.
-use Rattle.std.proofs.Common.{◌≡◌, ℕ, ◌+◌, Bool, true, false, cond, T, eqb, List, [], ◌∷◌, length, Some, None, Option, refl, ap, sym, ◌∙◌, arith, subst, IsTrue}
+use Rattle.std.proofs.Common.{◌≡◌, ℕ, ◌+◌, Bool, true, false, cond, eqb, List, [], ◌∷◌, length, Some, None, Option, refl, ap, sym, ◌∙◌, arith, subst, IsTrue}
 use Rattle.std.specs.Ordering.{nat_cmp}
 use Rattle.std.specs.declared.cmp.Ordering.TheVariants.{Equal}
 use Rattle.std.specs.Cmp.{nat_cmp_total}
 use Rattle.std.specs.FinMap.Entries.{is_sorted, same_entries}
 use Rattle.std.proofs.lemmas.Bool.Decides.{nat_tests}
+use Rattle.std.proofs.lemmas.Bool.{eqb-true}
 use Rattle.mac_base.specs.HeadKind.{Shape}
 use Rattle.mac_base.specs.ZoneMap.{ZoneMap, is_named, joined, released, sizes}
 use Rattle.mac_base.specs.HandleTable.{HandleTable, Live, EmptyHandle, FullHandle, Pointer, live_at, live_full, live_handle, live_pointer, is_full, is_handle, is_lent, is_pointer, with_live, without}
@@ -19,7 +20,7 @@ use Rattle.zone_laws.proofs.Lent.{KeepsLent, keeps-others}
 use Rattle.zone_laws.proofs.ReleasedBlocks.{marked-none}
 use Rattle.zone_laws.proofs.SoundReleased.{sound-disposed}
 use Rattle.zone_laws.proofs.SuitsNamed.{length-sizes_of}
-use Rattle.zone_laws.proofs.Tables.{live_at-with_live, in_order-with_live, eqb-true-is, without_agrees}
+use Rattle.zone_laws.proofs.Tables.{live_at-with_live, in_order-with_live, without_agrees, tested}
 use Rattle.linked_zone.specs.Changes.{given_back}
 use Rattle.zone_heap.proofs.Twice.{without-with_live}
 
@@ -27,19 +28,15 @@ use Rattle.zone_heap.proofs.Twice.{without-with_live}
 tied : (x y : ℕ) → nat_cmp x y ≡ Equal → x ≡ y
 tied x y h = grind (arith, nat_tests)
 
--- what passes is so
-passed : (b : Bool) → b ≡ true → T b
-passed b h = subst T (sym h) tt
-
 -- what x is already may be said again
 pub with_live-again : (x : ℕ) (l : Live) (t : HandleTable) → IsTrue (is_sorted nat_cmp t.live) → live_at t x ≡ Some l → with_live x l t ≡ t
 with_live-again x l t rise is =
     let new = with_live x l t in
     ap (λ live. record { live = live; lent = t.lent })
-    (same_entries nat_cmp nat_cmp_total tied new.live t.live (passed _ (in_order-with_live x l t rise)) (passed _ rise) (λ y. live_at-with_live x l t y ∙ by_test y (eqb y x) refl))
+    (same_entries nat_cmp nat_cmp_total tied new.live t.live (tested _ (in_order-with_live x l t rise)) (tested _ rise) (λ y. live_at-with_live x l t y ∙ by_test y (eqb y x) refl))
   where
     by_test : (y : ℕ) (b : Bool) → eqb y x ≡ b → cond b (Some l) (live_at t y) ≡ live_at t y
-    by_test y true h = sym is ∙ ap (live_at t) (sym (eqb-true-is y x h))
+    by_test y true h = sym is ∙ ap (live_at t) (sym (eqb-true y x h))
     by_test y false h = refl
 
 -- a handle without a block is empty

@@ -1,7 +1,7 @@
 -- A walk over blocks by which those that may be purged become free, and their handles empty.
 use Rattle.std.proofs.Common.{◌≡◌, ℕ, ◌+◌, ◌<◌, ◌≤◌, Bool, true, false, not, cond, List, [], ◌∷◌, ◌++◌, refl, ap, sym, ◌∙◌, arith, append_assoc, append-nil, subst, Some, None}
 use Rattle.std.specs.Prelude.{◌&&◌, ◌||◌, ◌==◌}
-use Rattle.std.proofs.lemmas.Bool.{or_parts}
+use Rattle.std.proofs.lemmas.Bool.{or_parts, and_parts, and_from}
 use Rattle.std.proofs.lemmas.List.{map-append}
 use Rattle.mac_base.specs.declared.block.Entry.{Entry}
 use Rattle.mac_base.specs.declared.block.Kind.{Kind}
@@ -13,16 +13,15 @@ use Rattle.mac_base.specs.Suits.{is_block_size}
 use Rattle.mac_base.specs.Request.{candidates_in, is_among}
 use Rattle.mac_base.specs.ZoneMap.{ZoneMap, block, is_named, address_behind, sizes, total_size}
 use Rattle.mac_base.specs.ZoneState.{ZoneState, with_heap}
-use Rattle.zone_laws.proofs.GapAppend.{total_size-append}
 use Rattle.zone_laws.proofs.GapApart.{sizes_possible}
-use Rattle.zone_laws.proofs.Maps.{both_true, true_both}
 use Rattle.zone_laws.proofs.NamedPlace.{nil-append}
 use Rattle.zone_laws.proofs.GapAppend.{sizes-append}
 use Rattle.zone_laws.proofs.Owners.{nothing_passes}
 use Rattle.zone_laws.proofs.Tables.{eqb_same, eqb_swap, with_live_agrees}
+use Rattle.zone_laws.proofs.Maps.{total_size-append}
 use Rattle.linked_zone.specs.Changes.{freed, without_block}
 use Rattle.linked_zone.specs.Fit.{HasSizes}
-use Rattle.page_sums.proofs.Sizes.{all_both, all_parts, first_bytes, total_size-push}
+use Rattle.page_sums.proofs.Sizes.{all_both, total_size-push}
 use Rattle.zone_heap.specs.Attempts.{SoundZone}
 use Rattle.zone_heap.specs.Joins.{all_joined}
 use Rattle.zone_heap.specs.Purge.{AllStay, BlocksAt, FirstToPurge, all_emptied, freed_where, handle_to_purge, may_purge, purged_between}
@@ -30,6 +29,7 @@ use Rattle.zone_heap.specs.declared.purge.Candidate.{Candidate}
 use Rattle.zone_heap.proofs.FreedBlocks.{Once, once-suits, once-At, once-free, candidate_here, candidates-append, candidates-cons, released-candidates, emptied-parts, total_size-freed}
 use Rattle.zone_heap.proofs.Purging.{may_purge-parts, purged-here}
 use Rattle.zone_heap.proofs.Releasing.{freed-At}
+use Rattle.fixed_index.proofs.Sizes.{all_parts, first_bytes}
 
 -- numbers that may be purged are none that names no block
 none-among : (t : HandleTable) (protected : List ℕ) (h : ℕ) (m : ZoneMap) → sizes (is_named h) m ≡ [] → is_among (candidates_in t protected m) h ≡ false
@@ -299,10 +299,10 @@ purged-none t protected (Rel g) is = elim (is_purgeable t g && not (is_among pro
 sizes-freed : (s : Shape) (test : Kind → Bool) (m : ZoneMap) → sizes_possible s m ≡ true → sizes_possible s (freed_where test m) ≡ true
 sizes-freed s test [] h = refl
 sizes-freed s test (e ∷ es) h =
-    let parts = both_true (is_block_size s e.size) (sizes_possible s es) h in
+    let parts = and_parts (is_block_size s e.size) (sizes_possible s es) h in
     elim (test e.kind) as (λ c. sizes_possible s (cond c (block Free e.size) e ∷ freed_where test es) ≡ true) [
-      | true ↦ true_both (is_block_size s e.size) (sizes_possible s (freed_where test es)) parts.0 (sizes-freed s test es parts.1)
-      | false ↦ true_both (is_block_size s e.size) (sizes_possible s (freed_where test es)) parts.0 (sizes-freed s test es parts.1)
+      | true ↦ and_from (is_block_size s e.size) (sizes_possible s (freed_where test es)) parts.0 (sizes-freed s test es parts.1)
+      | false ↦ and_from (is_block_size s e.size) (sizes_possible s (freed_where test es)) parts.0 (sizes-freed s test es parts.1)
     ]
 
 module _ {start end : ℕ} (z : ZoneState) (at : BlocksAt z start end) (protected : List ℕ) (sound : SoundZone z) where

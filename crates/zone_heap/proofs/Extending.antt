@@ -1,5 +1,5 @@
 -- A zone grown to its limit: its new free block joined to the last one.
-use Rattle.std.proofs.Common.{◌≡◌, ℕ, ◌+◌, ◌-◌, ◌<◌, Bool, true, false, ◌||◌, eqb, [], ◌++◌, refl, ap, sym, ◌∙◌, arith, append-nil}
+use Rattle.std.proofs.Common.{◌≡◌, ℕ, ◌+◌, ◌-◌, ◌<◌, false, eqb, [], ◌++◌, refl, ap, sym, ◌∙◌, arith, append-nil}
 use Rattle.std.proofs.lemmas.Bool.Decides.{nat_tests}
 use Rattle.mac_base.specs.declared.block.Entry.{Entry}
 use Rattle.mac_base.specs.HeadKind.{Shape, zone_header}
@@ -11,7 +11,7 @@ use Rattle.mac_base.specs.ZoneState.{ZoneState, with_heap}
 use Rattle.zone_laws.proofs.Fitting.{free_block-some}
 use Rattle.zone_laws.proofs.Joined.{joined-apart}
 use Rattle.zone_laws.proofs.Lent.{KeepsLent, contents_of-same}
-use Rattle.gap_laws.proofs.SoundGrown.{addresses-at_limit}
+use Rattle.gap_laws.proofs.SoundGrown.{addresses-at_limit, or_rest}
 use Rattle.linked_zone.specs.Changes.{extended, with_map}
 use Rattle.linked_zone.proofs.ChangeExtended.{passes-behind}
 use Rattle.zone_heap.specs.Joins.{NewlyFree}
@@ -24,11 +24,6 @@ keeps-grown s heap = record {
   long = λ x _. refl;
   fixed = λ x _ fixed. fixed;
 }
-
--- one of two tests passes, and the first doesn't
-or_rest : (a b : Bool) → (a || b) ≡ true → a ≡ false → b ≡ true
-or_rest true b h is = absurd (cc is)
-or_rest false b h is = h
 
 not_zero : (n : ℕ) → 0 < n → eqb n 0 ≡ false
 not_zero n some = grind (arith, nat_tests)

@@ -2,7 +2,7 @@
 use Rattle.std.proofs.Common.{◌≡◌, ℕ, ◌+◌, ◌<◌, Bool, true, false, not, cond, List, [], ◌∷◌, ◌++◌, Some, None, refl, ap, sym, ◌∙◌, subst, arith, IsTrue}
 use Rattle.std.specs.Prelude.{◌&&◌, nat_le, find, map, option_map}
 use Rattle.std.specs.List.{list_all}
-use Rattle.std.proofs.lemmas.Bool.{and_parts, not-true}
+use Rattle.std.proofs.lemmas.Bool.{and_parts, not-true, and_from}
 use Rattle.std.proofs.lemmas.Bool.Decides.{nat_tests}
 use Rattle.mac_base.specs.declared.block.Entry.{Entry}
 use Rattle.mac_base.specs.declared.block.Kind.{Kind}
@@ -13,7 +13,6 @@ use Rattle.mac_base.specs.HandleTable.{HandleTable}
 use Rattle.mac_base.specs.Serve.{begins_free}
 use Rattle.mac_base.specs.ZoneMap.{ZoneMap, free_bytes, has_free, is_free, total_size}
 use Rattle.zone_laws.proofs.GapParts.{first_gap, first_gap-before, later_gaps, gaps-first}
-use Rattle.zone_laws.proofs.Maps.{true_both}
 use Rattle.zone_laws.proofs.PlacedParts.{option_map-Some}
 use Rattle.linked_zone.specs.Places.{none_free}
 
@@ -48,7 +47,7 @@ further_none : (k : ℕ) (e : Entry) (gs : List Gap) (g : Gap) → not (has_free
 further_none k e gs g here before h =
     let found = option_map-Some (further e) (find (has_room k) gs) g (sym (find_further k e gs) ∙ h) in
     let f : Gap = found.0 in
-    subst (λ (g : Gap). NoneHas k g.before) found.2 (true_both (not (has_free k e)) (list_all (λ e. not (has_free k e)) f.before) here (before f found.1))
+    subst (λ (g : Gap). NoneHas k g.before) found.2 (and_from (not (has_free k e)) (list_all (λ e. not (has_free k e)) f.before) here (before f found.1))
 
 -- a gap without room has no free block with room in it
 few_none : (k rest : ℕ) (e : Entry) → nat_le k (cond (is_free e.kind) e.size 0 + rest) ≡ false → not (has_free k e) ≡ true
@@ -95,7 +94,7 @@ pub used_none : (k : ℕ) (m : ZoneMap) → NoneHas k (used_blocks m)
 used_none k [] = refl
 used_none k (e ∷ es) = elim (is_free e.kind) as (λ c. is_free e.kind ≡ c → NoneHas k (cond (not c) (e ∷ used_blocks es) (used_blocks es))) [
   | true ↦ λ _. used_none k es
-  | false ↦ λ used. true_both (not (has_free k e)) (list_all (λ e. not (has_free k e)) (used_blocks es)) (ap (λ c. not (c && nat_le k e.size)) used) (used_none k es)
+  | false ↦ λ used. and_from (not (has_free k e)) (list_all (λ e. not (has_free k e)) (used_blocks es)) (ap (λ c. not (c && nat_le k e.size)) used) (used_none k es)
 ] refl
 
 -- blocks that begin with one in use don't begin with free bytes

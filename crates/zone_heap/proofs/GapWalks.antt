@@ -1,22 +1,23 @@
 -- Walks by which the room of gaps is counted.
 use Rattle.std.proofs.Common.{◌≡◌, ℕ, ◌+◌, ◌<◌, ◌≤◌, Bool, true, false, not, cond, eqb, List, [], ◌∷◌, ◌++◌, append-nil, append_assoc, refl, ap, sym, ◌∙◌, arith, subst, inl, inr, Some, None, Option}
 use Rattle.std.specs.Prelude.{◌&&◌, ◌||◌, ◌⊎◌, nat_le}
-use Rattle.std.proofs.lemmas.Bool.{and_parts, not-true, true≢false}
-use Rattle.std.proofs.lemmas.Bool.Decides.{nat_tests}
+use Rattle.std.proofs.lemmas.Bool.{and_parts, not-true, true≢false, eqb-true}
 use Rattle.mac_base.specs.declared.block.Kind.{Kind}
 use Rattle.mac_base.specs.declared.block.Kind.TheVariants.{Free, Master, Ptr, Rel}
 use Rattle.mac_base.specs.Gap.{is_fixed}
 use Rattle.mac_base.specs.HandleTable.{HandleTable, is_locked}
 use Rattle.mac_base.specs.Request.{is_among}
 use Rattle.mac_base.specs.declared.block.Entry.{Entry}
-use Rattle.mac_base.specs.ZoneMap.{ZoneMap, block, is_free, is_named, total_size}
+use Rattle.mac_base.specs.ZoneMap.{ZoneMap, block, is_named, total_size}
 use Rattle.mac_base.specs.ZoneState.{ZoneState}
 use Rattle.fixed_index.specs.Runs.{begins_fixed, ends_fixed, none_fixed}
-use Rattle.zone_laws.proofs.GapAppend.{total_size-append}
+use Rattle.fixed_index.proofs.Sizes.{all_parts}
 use Rattle.zone_laws.proofs.SuitsNamed.{stays-fixed}
-use Rattle.zone_laws.proofs.Tables.{eqb-true-is, handle_no_pointer}
+use Rattle.zone_laws.proofs.Tables.{handle_no_pointer}
+use Rattle.zone_laws.proofs.GapRoom.{ends_fixed-push}
+use Rattle.zone_laws.proofs.Rearranging.{fixed-used}
+use Rattle.zone_laws.proofs.Maps.{total_size-append}
 use Rattle.zone_gaps.proofs.Lasts.{last_of}
-use Rattle.page_sums.proofs.Sizes.{all_parts}
 use Rattle.zone_heap.specs.Attempts.{SoundZone}
 use Rattle.zone_heap.specs.Purge.{AllStay, BlocksAt, CanCount, FirstToPurge, GapAround, IsLimit, MovesAt, Spanned, bounds_gap, bytes_before, bytes_of_kind, counts, is_kept, may_purge, run_has, run_past, size_if}
 use Rattle.zone_heap.specs.declared.purge.Candidate.{Candidate}
@@ -46,10 +47,6 @@ bounds-moving t counted kind moves = ap (λ f. not (counts counted kind) && f) m
     none true = refl
     none false = refl
 
--- more bytes than there are
-pub too-many : (k n : ℕ) → n < k → nat_le k n ≡ false
-too-many k n h = grind (arith, nat_tests)
-
 -- one that may be purged doesn't count where the handle that counts is protected
 pub purged-apart : (t : HandleTable) (protected : List ℕ) (counted : Option ℕ) (kind : Kind) → is_kept protected counted ≡ true → may_purge t protected kind ≡ true → counts counted kind ≡ false
 purged-apart t protected counted Free kept may = absurd (cc may)
@@ -60,7 +57,7 @@ purged-apart t protected (Some h) (Rel g) kept may = by_test (eqb g h) refl
   where
     by_test : (c : Bool) → eqb g h ≡ c → c ≡ false
     by_test false is = refl
-    by_test true is = absurd (cc (sym (ap (is_among protected) (eqb-true-is g h is)) ∙ (may_purge-parts t protected g may).apart, kept))
+    by_test true is = absurd (cc (sym (ap (is_among protected) (eqb-true g h is)) ∙ (may_purge-parts t protected g may).apart, kept))
 
 -- and bounds no gap
 pub purged-moves : (t : HandleTable) (protected : List ℕ) (counted : Option ℕ) (kind : Kind) → is_kept protected counted ≡ true → may_purge t protected kind ≡ true → bounds_gap t counted kind ≡ false
@@ -91,13 +88,6 @@ pub past-append : (bounds counted : Kind → Bool) (r : ℕ) (a b : ZoneMap) →
 past-append bounds counted r [] b = refl
 past-append bounds counted r (e ∷ es) b = past-append bounds counted (cond (bounds e.kind) 0 (r + size_if counted e)) es b
 
--- a fixed block isn't free
-fixed-used : (t : HandleTable) (kind : Kind) → is_fixed t kind ≡ true → is_free kind ≡ false
-fixed-used t Free fixed = absurd (cc fixed)
-fixed-used t Master fixed = refl
-fixed-used t (Ptr p) fixed = refl
-fixed-used t (Rel g) fixed = refl
-
 -- in a zone where a handle that isn't locked counts it bounds its gaps
 fixed-bounds : (z : ZoneState) (counted : Option ℕ) → SoundZone z → CanCount z counted → (a : ZoneMap) (e : Entry) (c : ZoneMap) → z.heap.map ≡ a ++ e ∷ c → is_fixed z.heap.table e.kind ≡ true → bounds_gap z.heap.table counted e.kind ≡ true
 fixed-bounds z counted sound can a e c map fixed = ap (λ b. not b && is_fixed z.heap.table e.kind) (apart counted can) ∙ fixed
@@ -113,12 +103,6 @@ fixed-bounds z counted sound can a e c map fixed = ap (λ b. not b && is_fixed z
             let one = once-At h z.heap.map a e c (once-suits z.shape z.heap.table z.heap.map suits) map named in
             let loose = ap (λ c. c || is_locked z.heap.table h) (handle_no_pointer z.heap.table h can.0) ∙ can.1 in
             absurd (true≢false (sym fixed ∙ sym (stays-fixed z.shape z.heap.table z.heap.map h e.size a e.kind c suits one) ∙ loose))
-
--- the last of some blocks that end with a fixed one is fixed
-ends-last : (t : HandleTable) (a : ZoneMap) (e : Entry) → ends_fixed t (a ++ e ∷ []) ≡ is_fixed t e.kind
-ends-last t [] e = refl
-ends-last t (d ∷ []) e = refl
-ends-last t (d ∷ f ∷ a) e = ends-last t (f ∷ a) e
 
 -- a block that begins before some blocks end is one of them
 among : (blocks behind front : ZoneMap) (e : Entry) (back : ZoneMap) → blocks ++ behind ≡ front ++ e ∷ back → total_size front < total_size blocks → (far : ZoneMap) × (blocks ≡ front ++ e ∷ far) × (back ≡ far ++ behind)
@@ -258,7 +242,7 @@ module _ {start end : ℕ} (z : ZoneState) (b : BlocksAt z start end) (k : ℕ) 
           ]
           fresh high (e ∷ es) near parts ends moves =
               let l = last_of e es in
-              let fixed = sym (ends-last z.heap.table l.front l.here) ∙ ap (ends_fixed z.heap.table) (sym l.is) ∙ ends in
+              let fixed = sym (ends_fixed-push z.heap.table l.front l.here) ∙ ap (ends_fixed z.heap.table) (sym l.is) ∙ ends in
               let split : z.heap.map ≡ ((b.before ++ (s.walked).done) ++ l.front) ++ l.here ∷ (near ++ here ∷ (f.back ++ b.behind)) =
               map_rest z b at s.walked ∙ ap (λ m. (b.before ++ (s.walked).done) ++ (m ++ b.behind)) (f.parts ∙ ap (λ m. m ++ here ∷ f.back) (parts ∙ ap (λ m. m ++ near) l.is)) ∙ simp append_assoc in
               let r = run_past (bounds_gap z.heap.table counted) (counts counted) s.reached l.front in

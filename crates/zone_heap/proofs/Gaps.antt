@@ -6,13 +6,13 @@ use Rattle.mac_base.specs.declared.block.Entry.{Entry}
 use Rattle.mac_base.specs.HandleTable.{HandleTable}
 use Rattle.mac_base.specs.ZoneMap.{ZoneMap, address_behind, total_size}
 use Rattle.mac_base.specs.ZoneState.{ZoneState}
-use Rattle.zone_laws.proofs.GapAppend.{total_size-append}
 use Rattle.linked_zone.specs.Places.{SplitAt}
 use Rattle.fixed_index.specs.Runs.{FrontAt, RestAt, begins_fixed, ends_fixed, none_fixed}
 use Rattle.gap_index.proofs.Splits.{FirstRun, LastRun, first_run, last_run}
 use Rattle.page_sums.proofs.Sizes.{all_both}
 use Rattle.zone_heap.specs.Purge.{BlocksAt, GapAround, MovesAt}
 use Rattle.zone_heap.specs.declared.purge.Stretch.{Stretch}
+use Rattle.zone_laws.proofs.Maps.{total_size-append}
 
 -- some blocks end with a fixed one whatever stands before them
 ends-behind : (t : HandleTable) (a : ZoneMap) (e : Entry) (es : ZoneMap) → ends_fixed t (e ∷ es) ≡ true → ends_fixed t (a ++ e ∷ es) ≡ true

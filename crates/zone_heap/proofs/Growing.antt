@@ -3,6 +3,7 @@ use Rattle.std.proofs.Common.{◌≡◌, ℕ, ◌+◌, ◌-◌, ◌<◌, ◌≤�
 use Rattle.std.specs.Prelude.{◌&&◌, ◌==◌, ◌%◌, nat_le, nat_lt}
 use Rattle.std.specs.List.{list_all}
 use Rattle.std.proofs.lemmas.Bool.Decides.{nat_tests}
+use Rattle.std.proofs.lemmas.Bool.{le-leb, lt-leb}
 use Rattle.mac_base.specs.declared.block.Entry.{Entry}
 use Rattle.mac_base.specs.declared.block.Kind.TheVariants.{Free}
 use Rattle.mac_base.specs.HeadKind.{smallest_block}
@@ -17,9 +18,10 @@ use Rattle.zone_laws.proofs.ResizedBlocks.{free_in_front-is}
 use Rattle.linked_zone.specs.Changes.{enlarged}
 use Rattle.linked_zone.specs.Places.{EntryAt, CanGrow}
 use Rattle.zone_heap.specs.Placed.{resized_there}
-use Rattle.zone_heap.proofs.Places.{total_size-behind, large-size}
+use Rattle.zone_heap.proofs.Places.{large-size}
 use Rattle.zone_heap.proofs.Sizing.{Standing, resized_zone, resized-there, can-front, free-rest, here-size}
 use Rattle.zone_heap.proofs.Taking.{front_size, taken-parts, all-there}
+use Rattle.page_sums.proofs.Sizes.{total_size-push}
 
 -- what stands behind a block by its address are the free bytes in front of those behind it
 pub free-behind : (z : ZoneState) (at next : ℕ) (e : EntryAt z at) (entry : Entry) → IsTrue (list_all (λ (e : Entry). is_block_size z.shape e.size) z.heap.map) → next ≡ at + e.here.size → EntryAt z next
@@ -41,7 +43,7 @@ free-behind z at next e entry sizes there other read = by_behind e.behind refl
       here = f;
       behind = fs;
       map = e.map ∙ ap (λ m. e.before ++ e.here ∷ m) is ∙ sym (append_assoc e.before (e.here ∷ []) (f ∷ fs));
-      place = (let all = total_size-behind e.before e.here in let start = e.place in omega arith);
+      place = (let all = total_size-push e.before e.here in let start = e.place in omega arith);
     })))
 
 -- the free bytes in front are among all
@@ -53,16 +55,8 @@ free-within (e ∷ es) = elim (is_free e.kind) as (λ c. cond c e.size 0 ≤ e.s
 ]
 
 -- two possible sizes make one
-sum_size : (small m n : ℕ) → ((m % 4 == 0) && nat_le small m) ≡ true → ((n % 4 == 0) && nat_le small n) ≡ true → (((m + n) % 4 == 0) && nat_le small (m + n)) ≡ true
+pub sum_size : (small m n : ℕ) → ((m % 4 == 0) && nat_le small m) ≡ true → ((n % 4 == 0) && nat_le small n) ≡ true → (((m + n) % 4 == 0) && nat_le small (m + n)) ≡ true
 sum_size small m n a b = grind (arith, nat_tests)
-
--- a number is not at most a smaller one
-not_least : (k m : ℕ) → m < k → nat_le k m ≡ false
-not_least k m h = grind (arith, nat_tests)
-
--- and at most a larger one
-least : (k m : ℕ) → k ≤ m → nat_le k m ≡ true
-least k m h = grind (arith, nat_tests)
 
 module _ (z : ZoneState) (x n k at : ℕ) (b : Standing z x n k at) (more : b.named.here.size < k) where
   -- the bytes of the block and the free ones right behind it
@@ -123,5 +117,5 @@ module _ (z : ZoneState) (x n k at : ℕ) (b : Standing z x n k at) (more : b.na
     grown-there new is =
         let es = b.named.behind in
         resized-there z x n k at b grown_blocks new
-        (ap (λ c. cond c (Some (cut z.shape k b.named.here es)) (cond (nat_le k whole) (Some grown_blocks) None)) (not_least k b.named.here.size more) ∙ ap (λ c. cond c (Some grown_blocks) None) (least k whole enough))
+        (ap (λ c. cond c (Some (cut z.shape k b.named.here es)) (cond (nat_le k whole) (Some grown_blocks) None)) (lt-leb k b.named.here.size more) ∙ ap (λ c. cond c (Some grown_blocks) None) (le-leb k whole enough))
         is

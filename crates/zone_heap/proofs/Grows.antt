@@ -3,7 +3,7 @@ use Rattle.std.proofs.Common.{◌≡◌, ℕ, ◌+◌, ◌-◌, ◌≤◌, Bool,
 use Rattle.std.specs.Prelude.{◌&&◌, ◌||◌, nat_le, map, find, Option, Some, None}
 use Rattle.std.specs.Option.{option_map_or}
 use Rattle.std.specs.List.{list_any}
-use Rattle.std.proofs.lemmas.Bool.{le-leb, leb-true}
+use Rattle.std.proofs.lemmas.Bool.{le-leb, leb-true, not-true, and_parts, and_from}
 use Rattle.std.proofs.lemmas.Bool.Decides.{nat_tests}
 use Rattle.mac_base.specs.declared.block.Entry.{Entry}
 use Rattle.mac_base.specs.declared.block.Kind.{Kind}
@@ -16,7 +16,6 @@ use Rattle.mac_base.specs.Suits.{free_apart, starts_free}
 use Rattle.zone_laws.proofs.GapAppend.{sizes-append}
 use Rattle.zone_laws.proofs.GapParts.{all_move, first_gap, first_gap-before, gaps-first, later_gaps, starts_fixed}
 use Rattle.zone_laws.proofs.JoinedBlocks.{joined-apart, joined_to-apart, join_cases, sizes-joined}
-use Rattle.zone_laws.proofs.Maps.{both_true, true_both, true_not}
 use Rattle.zone_laws.proofs.NamedPlace.{At, size_of-At}
 use Rattle.zone_laws.proofs.Owners.{nothing_passes}
 use Rattle.zone_laws.proofs.Rearranging.{fixed-used}
@@ -247,20 +246,20 @@ bytes-front t (e ∷ a) b fixed = ap (λ n. cond (is_fixed t e.kind) 0 (free_siz
 run-open : (t : HandleTable) (k r : ℕ) (m : ZoneMap) → all_move t m ≡ true → run_has (is_fixed t) is_free k r m ≡ nat_le k (r + bytes_before (is_fixed t) is_free m)
 run-open t k r [] moves = ap (nat_le k) (let e : r ≡ r + 0 = omega arith in e)
 run-open t k r (e ∷ es) moves =
-    let parts = both_true (not (is_fixed t e.kind)) (all_move t es) moves in
+    let parts = and_parts (not (is_fixed t e.kind)) (all_move t es) moves in
     let n : ℕ = bytes_before (is_fixed t) is_free es in
-    ap (λ c. cond c (nat_le k r || run_has (is_fixed t) is_free k 0 es) (run_has (is_fixed t) is_free k (r + free_size e) es)) (true_not (is_fixed t e.kind) parts.0)
+    ap (λ c. cond c (nat_le k r || run_has (is_fixed t) is_free k 0 es) (run_has (is_fixed t) is_free k (r + free_size e) es)) (not-true (is_fixed t e.kind) parts.0)
     ∙ run-open t k (r + free_size e) es parts.1 ∙ ap (nat_le k) (let s : r + free_size e + n ≡ r + (free_size e + n) = omega arith in s)
-    ∙ sym (ap (λ c. nat_le k (r + cond c 0 (free_size e + n))) (true_not (is_fixed t e.kind) parts.0))
+    ∙ sym (ap (λ c. nat_le k (r + cond c 0 (free_size e + n))) (not-true (is_fixed t e.kind) parts.0))
 
 all_move-freed : (t : HandleTable) (test : Kind → Bool) (a b : ZoneMap) → all_move t (a ++ b) ≡ true → all_move t (freed_where test a ++ b) ≡ true
 all_move-freed t test [] b moves = moves
 all_move-freed t test (e ∷ a) b moves =
-    let parts = both_true (not (is_fixed t e.kind)) (all_move t (a ++ b)) moves in
+    let parts = and_parts (not (is_fixed t e.kind)) (all_move t (a ++ b)) moves in
     let rest = all_move-freed t test a b parts.1 in
     elim (test e.kind) as (λ c. all_move t (cond c (block Free e.size) e ∷ (freed_where test a ++ b)) ≡ true) [
       | true ↦ rest
-      | false ↦ true_both (not (is_fixed t e.kind)) (all_move t (freed_where test a ++ b)) parts.0 rest
+      | false ↦ and_from (not (is_fixed t e.kind)) (all_move t (freed_where test a ++ b)) parts.0 rest
     ]
 
 less_whole : (k n r : ℕ) → n ≤ k → nat_le k (n + r) ≡ nat_le (k - n) (0 + r)

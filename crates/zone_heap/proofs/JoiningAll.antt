@@ -1,8 +1,8 @@
 -- A walk by which free neighbours are joined.
-use Rattle.std.proofs.Common.{◌≡◌, ℕ, ◌+◌, ◌<◌, ◌≤◌, Bool, true, false, not, [], ◌∷◌, ◌++◌, length, refl, ap, sym, ◌∙◌, arith, append_assoc, append-nil, subst, IsTrue, length-append}
-use Rattle.std.specs.Prelude.{◌&&◌, ◌==◌, ◌%◌, nat_le, nat_lt}
-use Rattle.std.proofs.lemmas.Bool.Decides.{nat_tests}
+use Rattle.std.proofs.Common.{◌≡◌, ℕ, ◌+◌, ◌<◌, ◌≤◌, true, false, not, [], ◌∷◌, ◌++◌, length, refl, ap, sym, ◌∙◌, arith, append_assoc, append-nil, subst, IsTrue, length-append}
+use Rattle.std.specs.Prelude.{◌&&◌, nat_lt}
 use Rattle.std.proofs.lemmas.List.Folds.{list_all-append}
+use Rattle.std.proofs.lemmas.Bool.{not-true, and_left, and_parts, and_from}
 use Rattle.mac_base.specs.declared.block.Entry.{Entry}
 use Rattle.mac_base.specs.declared.block.Kind.TheVariants.{Free}
 use Rattle.mac_base.specs.ZoneMap.{ZoneMap, block, is_free, joined, total_size, address_behind}
@@ -10,16 +10,18 @@ use Rattle.mac_base.specs.HeadKind.{smallest_block}
 use Rattle.mac_base.specs.Suits.{free_apart, is_block_size, starts_free}
 use Rattle.mac_base.specs.ZoneState.{ZoneState}
 use Rattle.zone_laws.proofs.GapApart.{ends_free, free_apart-append, sizes_possible}
-use Rattle.zone_laws.proofs.Joined.{free_kind}
 use Rattle.zone_laws.proofs.JoinedBlocks.{joined-apart, joined-front, joined-two, total_size-joined}
-use Rattle.zone_laws.proofs.Maps.{both_true, true_both, total_size-append}
+use Rattle.zone_laws.proofs.Maps.{total_size-append}
+use Rattle.zone_laws.proofs.Arranging.{free_is}
 use Rattle.linked_zone.specs.Changes.{with_map, joined_pair}
 use Rattle.linked_zone.specs.Fit.{HasSizes}
 use Rattle.linked_zone.specs.Places as places
 use Rattle.linked_zone.specs.Places.{EntryAt, FreePair, SplitAt}
-use Rattle.page_sums.proofs.Sizes.{all_both, all_parts, first_bytes}
+use Rattle.page_sums.proofs.Sizes.{all_both, total_size-push}
 use Rattle.zone_heap.specs.Joins.{all_joined}
-use Rattle.zone_heap.proofs.Places.{all_large, large-sizes, large-first, same-place, total_size-behind}
+use Rattle.zone_heap.proofs.Places.{all_large, large-sizes, large-first, same-place}
+use Rattle.zone_heap.proofs.Growing.{sum_size}
+use Rattle.fixed_index.proofs.Sizes.{all_parts, first_bytes}
 
 -- what follows a block by its address is the block behind it
 pub next-block : (z : ZoneState) (at next : ℕ) (e : EntryAt z at) (n : EntryAt z next) → HasSizes z → next ≡ at + (e.here).size → e.behind ≡ n.here ∷ n.behind
@@ -29,27 +31,18 @@ next-block z at next e n sizes is = by_behind e.behind refl
     by_behind [] none =
         let all : total_size e.before + ((e.here).size + 0) ≡ total_size n.before + ((n.here).size + total_size n.behind) =
         sym (total_size-append e.before (e.here ∷ [])) ∙ ap (λ m. total_size (e.before ++ e.here ∷ m)) (sym none) ∙ ap total_size (sym e.map ∙ n.map) ∙ total_size-append n.before (n.here ∷ n.behind) in
-        let large : 0 < (n.here).size = large-first n.here n.behind (both_true (all_large n.before) (all_large (n.here ∷ n.behind)) (sym (list_all-append (λ (e : Entry). nat_lt 0 e.size) n.before (n.here ∷ n.behind)) ∙ subst (λ m. IsTrue (all_large m)) n.map (large-sizes z.shape z.heap.map sizes))).1 in
+        let large : 0 < (n.here).size = large-first n.here n.behind (and_parts (all_large n.before) (all_large (n.here ∷ n.behind)) (sym (list_all-append (λ (e : Entry). nat_lt 0 e.size) n.before (n.here ∷ n.behind)) ∙ subst (λ m. IsTrue (all_large m)) n.map (large-sizes z.shape z.heap.map sizes))).1 in
         let here = e.place in
         let there = n.place in
         absurd (omega arith)
     by_behind (f ∷ fs) some =
         let parts : (e.before ++ e.here ∷ []) ++ f ∷ fs ≡ n.before ++ n.here ∷ n.behind = append_assoc e.before (e.here ∷ []) (f ∷ fs) ∙ ap (λ m. e.before ++ e.here ∷ m) (sym some) ∙ sym e.map ∙ n.map in
-        let all = total_size-behind e.before e.here in
+        let all = total_size-push e.before e.here in
         let here = e.place in
         let there = n.place in
         let same = same-place (e.before ++ e.here ∷ []) f fs n.before n.here n.behind parts
         (subst (λ m. IsTrue (all_large m)) (n.map ∙ sym parts) (large-sizes z.shape z.heap.map sizes)) (omega arith) in
         some ∙ ap (λ f. f ∷ fs) same.same_here ∙ ap (λ fs. n.here ∷ fs) same.same_behind
-
--- a test that fails fails with another
-pub used_first : (a b : Bool) → a ≡ false → (a && b) ≡ false
-used_first a b h = ap (λ c. c && b) h
-
--- and another with it
-pub none_free : (a b : Bool) → b ≡ false → (a && b) ≡ false
-none_free true b h = h
-none_free false b h = refl
 
 ends_free-push : (a : ZoneMap) (e : Entry) → ends_free (a ++ e ∷ []) ≡ is_free e.kind
 ends_free-push [] e = refl
@@ -58,9 +51,6 @@ ends_free-push (f ∷ g ∷ a) e = ends_free-push (g ∷ a) e
 
 one_apart : (e : Entry) → free_apart (e ∷ []) ≡ true
 one_apart e = elim (is_free e.kind) as (λ c. (not (c && false) && true) ≡ true) [ true ↦ refl | false ↦ refl ]
-
-sum_size : (small m n : ℕ) → ((m % 4 == 0) && nat_le small m) ≡ true → ((n % 4 == 0) && nat_le small n) ≡ true → (((m + n) % 4 == 0) && nat_le small (m + n)) ≡ true
-sum_size small m n a b = grind (arith, nat_tests)
 
 -- The zone is joined up to an address: no neighbours below are free, and to join the rest is to join all.
 pub record JoinedBelow (z new : ZoneState) (at : ℕ) : Type 0 where
@@ -146,7 +136,7 @@ module _ (z : ZoneState) where
             front = (t.so_far).front ++ t.here ∷ [];
             more = t.rest;
             is = (t.so_far).is ∙ ap (λ m. with_map m z) whole;
-            at_is = (let all = total_size-behind (t.so_far).front t.here in let here = (t.so_far).at_is in omega arith);
+            at_is = (let all = total_size-push (t.so_far).front t.here in let here = (t.so_far).at_is in omega arith);
             apart = free_apart-append (t.so_far).front (t.here ∷ []) (t.so_far).apart (one_apart t.here) (ap (λ m. ends_free (t.so_far).front && starts_free m) (sym t.some) ∙ (t.so_far).bound);
             bound = ap (λ c. c && starts_free t.rest) (ends_free-push (t.so_far).front t.here) ∙ bound;
             same = ap joined (sym whole) ∙ (t.so_far).same;
@@ -158,13 +148,13 @@ module _ (z : ZoneState) where
       two_joined free = by_rest t.rest refl free
         where
           by_rest : (m : ZoneMap) → t.rest ≡ m → (is_free (t.here).kind && starts_free m) ≡ true → TwoFree z new at t
-          by_rest [] is free = absurd (cc (both_true (is_free (t.here).kind) false free).1)
-          by_rest (f ∷ fs) is free = let both = both_true (is_free (t.here).kind) (is_free f.kind) free in record { next = f; behind = fs; is = is; first_free = both.0; second_free = both.1 }
+          by_rest [] is free = absurd (cc (and_parts (is_free (t.here).kind) false free).1)
+          by_rest (f ∷ fs) is free = let both = and_parts (is_free (t.here).kind) (is_free f.kind) free in record { next = f; behind = fs; is = is; first_free = both.0; second_free = both.1 }
 
       module _ (two : TwoFree z new at t) where
         pub map_pair : new.heap.map ≡ (t.so_far).front ++ block Free (t.here).size ∷ block Free (two.next).size ∷ two.behind
-        map_pair = map_joined ∙ ap (λ m. (t.so_far).front ++ t.here ∷ m) two.is ∙ ap (λ kind. (t.so_far).front ++ block kind (t.here).size ∷ two.next ∷ two.behind) (free_kind (t.here).kind two.first_free)
-            ∙ ap (λ kind. (t.so_far).front ++ block Free (t.here).size ∷ block kind (two.next).size ∷ two.behind) (free_kind (two.next).kind two.second_free)
+        map_pair = map_joined ∙ ap (λ m. (t.so_far).front ++ t.here ∷ m) two.is ∙ ap (λ kind. (t.so_far).front ++ block kind (t.here).size ∷ two.next ∷ two.behind) (free_is (t.here).kind two.first_free)
+            ∙ ap (λ kind. (t.so_far).front ++ block Free (t.here).size ∷ block kind (two.next).size ∷ two.behind) (free_is (two.next).kind two.second_free)
 
         abbrev pub pair_joined : FreePair new at
         pair_joined = record { before = (t.so_far).front; first = (t.here).size; second = (two.next).size; behind = two.behind; map = map_pair; place = place_joined }
@@ -185,10 +175,10 @@ module _ (z : ZoneState) where
               ∙ ap joined (sym now_pair) ∙ (t.so_far).same;
           possible =
               (let parts = all_parts (λ (e : Entry). is_block_size z.shape e.size) (t.so_far).front (block Free (t.here).size ∷ block Free (two.next).size ∷ two.behind) (subst (λ m. sizes_possible z.shape m ≡ true) now_pair (t.so_far).possible) in
-              let here = both_true (is_block_size z.shape (t.here).size) (sizes_possible z.shape (block Free (two.next).size ∷ two.behind)) parts.1 in
-              let next = both_true (is_block_size z.shape (two.next).size) (sizes_possible z.shape two.behind) here.1 in
+              let here = and_parts (is_block_size z.shape (t.here).size) (sizes_possible z.shape (block Free (two.next).size ∷ two.behind)) parts.1 in
+              let next = and_parts (is_block_size z.shape (two.next).size) (sizes_possible z.shape two.behind) here.1 in
               all_both (λ (e : Entry). is_block_size z.shape e.size) (t.so_far).front (block Free ((t.here).size + (two.next).size) ∷ two.behind) parts.0
-              (true_both (is_block_size z.shape ((t.here).size + (two.next).size)) (sizes_possible z.shape two.behind) (sum_size (smallest_block z.shape.heads) (t.here).size (two.next).size here.0 next.0) next.1));
+              (and_from (is_block_size z.shape ((t.here).size + (two.next).size)) (sizes_possible z.shape two.behind) (sum_size (smallest_block z.shape.heads) (t.here).size (two.next).size here.0 next.0) next.1));
         }
 
         -- so there are fewer blocks
@@ -197,11 +187,6 @@ module _ (z : ZoneState) where
             let one = length-append (t.so_far).front (block Free ((t.here).size + (two.next).size) ∷ two.behind) in
             let both = ap length map_pair ∙ length-append (t.so_far).front (block Free (t.here).size ∷ block Free (two.next).size ∷ two.behind) in
             omega arith
-
--- what is not so is false
-no_more : (b : Bool) → not b ≡ true → b ≡ false
-no_more true h = absurd (cc h)
-no_more false h = refl
 
 module _ (z new : ZoneState) where
   -- the blocks from the address on
@@ -222,13 +207,13 @@ module _ (z new : ZoneState) where
   unfolding joined_on
   past p ps at j is used =
       let t : JoinedTo z new at = record { so_far = j; here = p; rest = ps; some = is } in
-      record { below = joined_on z new at t (used_first (is_free p.kind) (starts_free ps) (no_more (is_free p.kind) used)); is = refl }
+      record { below = joined_on z new at t (and_left (is_free p.kind) (starts_free ps) (not-true (is_free p.kind) used)); is = refl }
 
   -- so are more, as far as a free one
   pub passed_to : (passed : ZoneMap) (n : ℕ) (behind : ZoneMap) (at free : ℕ) (j : JoinedBelow z new at) → j.more ≡ passed ++ block Free n ∷ behind → places.none_free passed ≡ true → free ≡ at + total_size passed → JoinedTo z new free
   passed_to [] n behind at free j is none there = let e : at ≡ free = omega arith in subst (JoinedTo z new) e (record { so_far = j; here = block Free n; rest = behind; some = is })
   passed_to (p ∷ ps) n behind at free j is none there =
-      let both = both_true (not (is_free p.kind)) (places.none_free ps) none in
+      let both = and_parts (not (is_free p.kind)) (places.none_free ps) none in
       let past_it = past p (ps ++ block Free n ∷ behind) at j is both.0 in
       passed_to ps n behind (at + p.size) free past_it.below past_it.is both.1 (omega arith)
 
@@ -243,6 +228,6 @@ module _ (z new : ZoneState) where
       omega arith
       )
   passed_all (p ∷ ps) at j is none =
-      let both = both_true (not (is_free p.kind)) (places.none_free ps) none in
+      let both = and_parts (not (is_free p.kind)) (places.none_free ps) none in
       let past_it = past p ps at j is both.0 in
       passed_all ps (at + p.size) past_it.below past_it.is both.1

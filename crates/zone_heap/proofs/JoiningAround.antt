@@ -9,19 +9,19 @@ use Rattle.mac_base.specs.ZoneMap.{ZoneMap, block, is_free, joined, total_size, 
 use Rattle.mac_base.specs.Suits.{free_apart, is_block_size, starts_free}
 use Rattle.mac_base.specs.ZoneState.{ZoneState}
 use Rattle.std.proofs.lemmas.Bool.{and_parts}
-use Rattle.zone_laws.proofs.GapAppend.{total_size-append}
 use Rattle.zone_laws.proofs.GapApart.{ends_free, free_apart-append, free_apart-back, free_apart-front, sizes_possible}
 use Rattle.zone_laws.proofs.JoinedBlocks.{joined-apart}
+use Rattle.zone_laws.proofs.Maps.{total_size-append}
 use Rattle.linked_zone.specs.Changes.{joined_pair, with_map}
 use Rattle.linked_zone.specs.Places.{LastFree, SplitAt, none_free}
-use Rattle.page_sums.proofs.Sizes.{all_parts, first_bytes}
 use Rattle.zone_heap.specs.Joins.{all_joined}
 use Rattle.zone_heap.specs.Attempts.{SoundZone}
 use Rattle.zone_heap.specs.Purge.{ApartBeside, BlocksAt, freed_where, may_purge, purged_between}
 use Rattle.zone_heap.proofs.EmptyingBlocks.{sizes-purged}
 use Rattle.zone_heap.proofs.FreedBlocks.{total_size-freed}
-use Rattle.zone_heap.proofs.Places.{same_head}
 use Rattle.zone_heap.proofs.JoiningAll.{JoinedBelow, JoinedTo, TwoFree, pair_joined, map_pair}
+use Rattle.fixed_index.proofs.Sizes.{all_parts, first_bytes}
+use Rattle.zone_gaps.proofs.Owning.{heads}
 
 -- where free blocks are apart, none end the first part while others begin the second
 apart-bound : (a b : ZoneMap) → free_apart (a ++ b) ≡ true → (ends_free a && starts_free b) ≡ false
@@ -40,7 +40,7 @@ left s (e ∷ es) behind [] b possible apart is long =
     let large : 0 < e.size = first_bytes s e es possible in
     absurd (omega (arith, long, large))
 left s (e ∷ es) behind (f ∷ fs) b possible apart is long =
-    let same = same_head e f (es ++ behind) (fs ++ b) is in
+    let same = heads e f (es ++ behind) (fs ++ b) is in
     let size : e.size ≡ f.size = ap (λ (e : Entry). e.size) same.0 in
     left s es behind fs b (all_parts (λ (e : Entry). is_block_size s e.size) (e ∷ []) es possible).1 apart same.1 (omega (arith, long, size))
 
@@ -63,11 +63,11 @@ record Behind (front : ZoneMap) (x : Entry) (behind a b : ZoneMap) : Type 0 wher
 behind-parts : (front : ZoneMap) (x : Entry) (behind a b : ZoneMap) → front ++ x ∷ behind ≡ a ++ b → total_size front < total_size a → Behind front x behind a b
 behind-parts [] x behind [] b is long = absurd (omega (arith, long))
 behind-parts [] x behind (y ∷ a) b is long =
-    let same = same_head x y behind (a ++ b) is in
+    let same = heads x y behind (a ++ b) is in
     record { more = a; is = ap (λ x. x ∷ a) (sym same.0); rest = same.1 }
 behind-parts (e ∷ es) x behind [] b is long = absurd (omega (arith, long))
 behind-parts (e ∷ es) x behind (y ∷ a) b is long =
-    let same = same_head e y (es ++ x ∷ behind) (a ++ b) is in
+    let same = heads e y (es ++ x ∷ behind) (a ++ b) is in
     let size : e.size ≡ y.size = ap (λ (e : Entry). e.size) same.0 in
     let others = behind-parts es x behind a b same.1 (omega (arith, long, size)) in
     record { more = others.more; is = ap (λ y. y ∷ a) (sym same.0) ∙ ap (λ a. e ∷ a) others.is; rest = others.rest }

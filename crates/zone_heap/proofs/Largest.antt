@@ -3,11 +3,11 @@ use Rattle.std.proofs.Common.{◌≡◌, ℕ, ◌+◌, ◌≤◌, Bool, true, fa
 use Rattle.std.specs.Prelude.{◌&&◌, nat_le}
 use Rattle.std.specs.List.{list_all}
 use Rattle.std.proofs.lemmas.Bool.Decides.{nat_tests}
+use Rattle.std.proofs.lemmas.Bool.{and_parts}
 use Rattle.mac_base.specs.declared.block.Entry.{Entry}
 use Rattle.mac_base.specs.declared.block.Kind.TheVariants.{Free}
 use Rattle.mac_base.specs.ZoneMap.{ZoneMap, block, has_free, is_free, largest_free, total_size}
 use Rattle.mac_base.specs.ZoneState.{ZoneState}
-use Rattle.zone_laws.proofs.Maps.{both_true}
 use Rattle.linked_zone.specs.Places.{LowestAt}
 
 -- a free block is no larger than the largest
@@ -28,7 +28,7 @@ most-within (e ∷ es) = let rest = most-within es in omega (arith, rest, here (
 pub most-none : (k : ℕ) (m : ZoneMap) → list_all (λ (e : Entry). not (has_free (k + 1) e)) m ≡ true → largest_free m ≤ k
 most-none k [] none = omega arith
 most-none k (e ∷ es) none =
-    let parts = both_true (not (has_free (k + 1) e)) (list_all (λ (e : Entry). not (has_free (k + 1) e)) es) none in
+    let parts = and_parts (not (has_free (k + 1) e)) (list_all (λ (e : Entry). not (has_free (k + 1) e)) es) none in
     let rest = most-none k es parts.1 in
     let first = here (is_free e.kind) parts.0 in
     omega (arith, rest, first)

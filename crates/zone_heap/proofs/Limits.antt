@@ -14,8 +14,7 @@ use Rattle.mac_base.specs.Request.{can_grow, candidates, candidates_in, fits, is
 use Rattle.mac_base.specs.Sound.{Sound}
 use Rattle.mac_base.specs.Suits.{Suits}
 use Rattle.gap_laws.proofs.SoundServed.{moves-full}
-use Rattle.std.proofs.lemmas.Bool.{or_parts}
-use Rattle.zone_laws.proofs.Maps.{both_true, true_not}
+use Rattle.std.proofs.lemmas.Bool.{or_parts, not-true, and_parts, eqb-true}
 use Rattle.mac_base.specs.ZoneMap.{ZoneMap, address_behind, is_named, released, sizes}
 use Rattle.mac_base.specs.ZoneState.{ZoneState}
 use Rattle.gap_laws.proofs.FittingResize.{one_size, some_named}
@@ -23,7 +22,7 @@ use Rattle.gap_laws.proofs.SoundPurged.{candidate-handle, sound-all_emptied}
 use Rattle.zone_laws.proofs.NamedPlace.{At-from, first_named}
 use Rattle.zone_laws.proofs.SlotPlaces.{Contains-here, Contains-later}
 use Rattle.zone_laws.proofs.SuitsNamed.{full-no_pointer, named_once, stays-fixed}
-use Rattle.zone_laws.proofs.Tables.{by_number, eqb-true-is, full_handle, live_at-with_live_same, with_live_agrees}
+use Rattle.zone_laws.proofs.Tables.{by_number, full_handle, live_at-with_live_same, with_live_agrees}
 use Rattle.zone_heap.specs.Attempts.{SoundZone, is_ready}
 use Rattle.zone_heap.specs.Purge.{CanCount, IsLimit, Purges, PurgesFor, all_emptied, HasBlockIf, all_released, blocks_behind, bounds_gap, counts, freed_where, is_kept, is_protected, may_purge, operand, resized, run_has, staying}
 use Rattle.zone_heap.specs.declared.purge.Limit.{Limit}
@@ -100,7 +99,7 @@ among-kept t protected x kept (e ∷ es) = ap (λ hs. is_among hs x) (candidates
       where
         other : (c : Bool) → eqb g x ≡ c → is_among protected g ≡ false → c ≡ false
         other false is apart = refl
-        other true is apart = absurd (cc (kept, sym (ap (is_among protected) (eqb-true-is g x is)) ∙ apart))
+        other true is apart = absurd (cc (kept, sym (ap (is_among protected) (eqb-true g x is)) ∙ apart))
 
 module _ (z : ZoneState) (protected : List ℕ) (sound : SoundZone z) where
   -- a block that may move can grow, once blocks are purged, where a gap has room when it counts as free
@@ -133,7 +132,7 @@ module _ (z : ZoneState) (protected : List ℕ) (sound : SoundZone z) where
   request_means NewMaster ready kept stay less a b was = gap-means z.heap.table (size_needed z.shape NewMaster) None protected z.heap.map once_z sound.sound.suits.apart a b was
   request_means (Reserve n) ready kept stay less a b was = gap-means z.heap.table (size_needed z.shape (Reserve n)) None protected z.heap.map once_z sound.sound.suits.apart a b was
   request_means (Resize x n) ready kept stay less a b was =
-      moving_means x (size_needed z.shape (Resize x n)) (both_true (has_block z.heap.table x) (not (is_lent z.heap.table x)) ready).0 kept (moves (stays z.heap.table x) stay) a
+      moving_means x (size_needed z.shape (Resize x n)) (and_parts (has_block z.heap.table x) (not (is_lent z.heap.table x)) ready).0 kept (moves (stays z.heap.table x) stay) a
       ∙ gap-means z.heap.table (size_needed z.shape (Resize x n)) (Some x) protected z.heap.map once_z sound.sound.suits.apart a b was
     where
       moves : (c : Bool) → cond c (Some x) None ≡ None → c ≡ false
@@ -191,7 +190,7 @@ ready-resized t NewEmpty ready = tt
 ready-resized t (NewPointer n) ready = tt
 ready-resized t NewMaster ready = tt
 ready-resized t (Reserve n) ready = tt
-ready-resized t (Resize x n) ready = (both_true (has_block t x) (not (is_lent t x)) ready).0
+ready-resized t (Resize x n) ready = (and_parts (has_block t x) (not (is_lent t x)) ready).0
 ready-resized t (Replace h n) ready = tt
 
 -- the handle whose block counts is live and isn't locked, where no block stays that is to grow
@@ -204,15 +203,15 @@ request-can_count z (Reserve n) ready stay = tt
 request-can_count z (Resize x n) ready stay =
     let t = z.heap.table in
     let loose = moves (stays t x) stay in
-    (full_handle t x (moves-full t x (both_true (has_block t x) (not (is_lent t x)) ready).0 loose).0, (or_parts (is_pointer t x) (is_locked t x) loose).1)
+    (full_handle t x (moves-full t x (and_parts (has_block t x) (not (is_lent t x)) ready).0 loose).0, (or_parts (is_pointer t x) (is_locked t x) loose).1)
   where
     moves : (c : Bool) → cond c (Some x) None ≡ None → c ≡ false
     moves true is = absurd (cc is)
     moves false is = refl
 request-can_count z (Replace h n) ready stay =
     let t = z.heap.table in
-    let both = both_true (is_handle t h) (not (is_locked t h) && not (is_lent t h)) ready in
-    (both.0, true_not (is_locked t h) (both_true (not (is_locked t h)) (not (is_lent t h)) both.1).0)
+    let both = and_parts (is_handle t h) (not (is_locked t h) && not (is_lent t h)) ready in
+    (both.0, not-true (is_locked t h) (and_parts (not (is_locked t h)) (not (is_lent t h)) both.1).0)
 
 -- a request whose block stays is one for another size
 pub staying-is : (t : HandleTable) (r : Request) (x : ℕ) → staying t r ≡ Some x → (n : ℕ) × (r ≡ Resize x n) × (stays t x ≡ true)

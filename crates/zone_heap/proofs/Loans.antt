@@ -2,6 +2,7 @@
 use Rattle.std.proofs.Common.{◌≡◌, ℕ, ◌+◌, Bool, true, false, eqb, length, refl, ap, sym, ◌∙◌, subst}
 use Rattle.std.specs.List.{list_any}
 use Rattle.std.specs.Prelude.{◌==◌}
+use Rattle.std.proofs.lemmas.Bool.{eqb-true}
 use Rattle.mac_base.specs.HeadKind.{Shape}
 use Rattle.mac_base.specs.HandleTable.{bytes_of, is_lent}
 use Rattle.mac_base.specs.Loans.{LoansAreFixed, lent_out, returned}
@@ -11,7 +12,6 @@ use Rattle.mac_base.specs.ZoneState.{ZoneState, with_heap}
 use Rattle.raw_region.specs.State.{Loan}
 use Rattle.zone_laws.proofs.Lent.{KeepsLent, fixed-kept}
 use Rattle.zone_laws.proofs.LentChanges.{lent_out-lent, returned-lent, returned-bytes}
-use Rattle.zone_laws.proofs.Tables.{eqb-true-is}
 use Rattle.linked_zone.specs.Loans.{IsLoanOf, KeepsLoans, KeepsOtherLoans}
 
 -- a loan of x stays one where x is still lent, in the same memory, its block where it was and as long as it was
@@ -53,5 +53,5 @@ return-keeps z x loan y other differ is =
     same-loan z (with_heap (returned x loan.bytes z.heap) z) y other is (returned-lent x loan.bytes z.heap y apart is.lent) refl refl refl (ap length (returned-bytes x loan.bytes z.heap y apart))
   where
     differs : (b : Bool) → eqb y x ≡ b → b ≡ false
-    differs true same = absurd (differ (eqb-true-is y x same))
+    differs true same = absurd (differ (eqb-true y x same))
     differs false _ = refl

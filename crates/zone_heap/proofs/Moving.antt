@@ -4,6 +4,7 @@ use Rattle.std.specs.Prelude.{◌&&◌, ◌==◌, ◌||◌, is_some, nat_lt, opt
 use Rattle.std.specs.List.{list_all}
 use Rattle.std.proofs.lemmas.List.{map-append}
 use Rattle.std.proofs.lemmas.List.Folds.{list_all-append}
+use Rattle.std.proofs.lemmas.Bool.{and_parts, and_from, eqb-true}
 use Rattle.mac_base.specs.declared.block.Entry.{Entry}
 use Rattle.mac_base.specs.declared.block.Kind.{Kind}
 use Rattle.mac_base.specs.declared.block.Kind.TheVariants.{Free, Master, Ptr, Rel}
@@ -22,14 +23,14 @@ use Rattle.mac_base.specs.ZoneState.{ZoneState}
 use Rattle.zone_laws.proofs.Fitting.{is_some-lowest_gap, is_some-placed_relocatable, size_needed-positive}
 use Rattle.zone_laws.proofs.GapAppend.{length-addresses_from, sizes-append}
 use Rattle.zone_laws.proofs.Lent.{KeepsLent, contents_of-same, fixed-kept, keeps-others, lent-apart, lent-block, other_named}
-use Rattle.zone_laws.proofs.Maps.{both_true, list_all-middle, true_both}
+use Rattle.zone_laws.proofs.Maps.{list_all-middle}
 use Rattle.zone_laws.proofs.NamedPlace.{At, At-from, nil-append}
 use Rattle.zone_laws.proofs.Owners.{nothing_passes}
 use Rattle.zone_laws.proofs.Placing.{TakenAt}
 use Rattle.zone_laws.proofs.SuitsNamed.{full-no_pointer, named_once}
 use Rattle.zone_laws.proofs.SuitsReleased.{addresses-released}
 use Rattle.zone_laws.proofs.SuitsTaken.{addresses-untaken, free_apart-kept}
-use Rattle.zone_laws.proofs.Tables.{eqb-true-is, eqb_same, eqb_swap, full_handle, with_live_agrees}
+use Rattle.zone_laws.proofs.Tables.{eqb_same, eqb_swap, full_handle, with_live_agrees}
 use Rattle.zone_laws.proofs.Taken.{free_apart-behind, need-is_size, sizes-taken}
 use Rattle.gap_laws.proofs.FittingResize.{one_size}
 use Rattle.gap_laws.proofs.SoundMoved.{sound-resized_elsewhere}
@@ -47,6 +48,7 @@ use Rattle.zone_heap.proofs.Clearing.{opened_taken}
 use Rattle.zone_heap.proofs.Loans.{keeps-both, keeps-loans}
 use Rattle.zone_heap.proofs.Releasing.{freed-At, free_apart-front}
 use Rattle.zone_heap.proofs.Taking.{front_size, front_rest, taken-parts, front-has_length, all-there}
+use Rattle.zone_gaps.proofs.Owning.{heads}
 
 -- a block, put under another handle if it is under one
 abbrev put_under : ℕ → ℕ → Entry → Entry
@@ -107,9 +109,6 @@ addresses_from-renamed at o x test (e ∷ es) new old =
       | false ↦ λ _. ap (λ found. cond (test e.kind) (at ∷ []) [] ++ found) (addresses_from-renamed (at + e.size) o x test es new old)
     ] refl
 
-heads : (d g : Entry) (a b : ZoneMap) → d ∷ a ≡ g ∷ b → (d ≡ g) × (a ≡ b)
-heads d g a b h = (cc h, cc h)
-
 -- a block stands among these, so many bytes before it
 record Again (m : ZoneMap) (f : Entry) (bytes : ℕ) : Type 0 where
   pub front : ZoneMap
@@ -143,7 +142,7 @@ nil-here s heap y sound fixed lent = by_test (eqb 0 y) refl
     by_test : (c : Bool) → eqb 0 y ≡ c → c ≡ false
     by_test false _ = refl
     by_test true same =
-        let is = eqb-true-is 0 y same in
+        let is = eqb-true 0 y same in
         let block = ap (has_block heap.table) is ∙ lent-block heap y fixed lent in
         let full = full_of (is_full heap.table 0) (is_pointer heap.table 0) block (nil-no_pointer s heap.table heap.map sound.suits) in
         absurd (cc (full_handle heap.table 0 full, nil-no_handle s heap.table heap.map sound.suits))
@@ -214,12 +213,12 @@ module _ (w : ZoneState) (h n k at : ℕ) (sound : Sound w.shape w.heap) (free :
   found-possible : list_all possible found ≡ true
   found-possible =
       let all = sym (list_all-middle possible free.before (block Free free.size ∷ []) free.behind) ∙ ap (list_all possible) (sym free.map) ∙ sound.suits.sizes in
-      let first = both_true (list_all possible free.before) (list_all possible (block Free free.size ∷ []) && list_all possible free.behind) all in
+      let first = and_parts (list_all possible free.before) (list_all possible (block Free free.size ∷ []) && list_all possible free.behind) all in
       list_all-middle possible free.before (taken w.shape k (Rel 0) free.size) free.behind
-      ∙ true_both (list_all possible free.before) _ first.0
-      (true_both (list_all possible (taken w.shape k (Rel 0) free.size)) (list_all possible free.behind)
+      ∙ and_from (list_all possible free.before) _ first.0
+      (and_from (list_all possible (taken w.shape k (Rel 0) free.size)) (list_all possible free.behind)
       (sizes-taken w.shape k (Rel 0) free.size front-possible whole-possible large)
-      (both_true (list_all possible (block Free free.size ∷ [])) (list_all possible free.behind) first.1).1)
+      (and_parts (list_all possible (block Free free.size ∷ [])) (list_all possible free.behind) first.1).1)
 
   -- no block was of nil
   none-nil : (sizes (is_named 0) free.before ≡ []) × (sizes (is_named 0) new_behind ≡ [])
@@ -235,7 +234,7 @@ module _ (w : ZoneState) (h n k at : ℕ) (sound : Sound w.shape w.heap) (free :
       where
         by_test : (c : Bool) → eqb 0 h ≡ c → c ≡ false
         by_test false _ = refl
-        by_test true same = absurd (cc (full_handle w.heap.table 0 (ap (is_full w.heap.table) (eqb-true-is 0 h same) ∙ full), nil-no_handle w.shape w.heap.table w.heap.map sound.suits))
+        by_test true same = absurd (cc (full_handle w.heap.table 0 (ap (is_full w.heap.table) (eqb-true 0 h same) ∙ full), nil-no_handle w.shape w.heap.table w.heap.map sound.suits))
 
     -- h has one block still
     once-found : length (sizes (is_named h) found) ≡ 1

@@ -1,14 +1,15 @@
 -- Blocks are found by their addresses, since each has bytes.
-use Rattle.std.proofs.Common.{◌≡◌, ℕ, ◌+◌, ◌<◌, Bool, true, [], ◌∷◌, ◌++◌, refl, ap, arith, IsTrue}
+use Rattle.std.proofs.Common.{◌≡◌, ℕ, ◌<◌, Bool, true, [], ◌∷◌, ◌++◌, refl, ap, arith, IsTrue}
 use Rattle.std.specs.Prelude.{◌&&◌, ◌==◌, ◌%◌, nat_le, nat_lt}
 use Rattle.std.specs.List.{list_all}
 use Rattle.std.proofs.lemmas.Bool.Decides.{nat_tests}
+use Rattle.std.proofs.lemmas.Bool.{and_parts, and_from}
 use Rattle.mac_base.specs.declared.block.Entry.{Entry}
 use Rattle.mac_base.specs.HeadKind.{Shape, smallest_block}
 use Rattle.mac_base.specs.ZoneMap.{ZoneMap, total_size}
 use Rattle.mac_base.specs.Suits.{is_block_size}
-use Rattle.zone_laws.proofs.Maps.{both_true, true_both, total_size-append}
 use Rattle.zone_laws.proofs.Taken.{head-below_smallest}
+use Rattle.zone_gaps.proofs.Owning.{heads as same_head}
 
 -- whether each block has bytes
 abbrev pub all_large : ZoneMap → Bool
@@ -25,8 +26,8 @@ large-size s n h = by_small (smallest_block s.heads) (let small = head-below_sma
 pub large-sizes : (s : Shape) (m : ZoneMap) → IsTrue (list_all (λ (e : Entry). is_block_size s e.size) m) → IsTrue (all_large m)
 large-sizes s [] h = refl
 large-sizes s (e ∷ es) h =
-    let hs = both_true (is_block_size s e.size) (list_all (λ (e : Entry). is_block_size s e.size) es) h in
-    true_both (nat_lt 0 e.size) (all_large es) (large-size s e.size hs.0) (large-sizes s es hs.1)
+    let hs = and_parts (is_block_size s e.size) (list_all (λ (e : Entry). is_block_size s e.size) es) h in
+    and_from (nat_lt 0 e.size) (all_large es) (large-size s e.size hs.0) (large-sizes s es hs.1)
 
 -- the test of a size is passed by one above 0
 some_bytes : (n : ℕ) → nat_lt 0 n ≡ true → 0 < n
@@ -34,17 +35,13 @@ some_bytes n h = grind (arith, nat_tests)
 
 -- the first block of a map has bytes
 pub large-first : (e : Entry) (es : ZoneMap) → IsTrue (all_large (e ∷ es)) → 0 < e.size
-large-first e es h = some_bytes e.size (both_true (nat_lt 0 e.size) (all_large es) h).0
+large-first e es h = some_bytes e.size (and_parts (nat_lt 0 e.size) (all_large es) h).0
 
 -- a map parted in two ways, by the blocks before and the block at a place
 pub record SamePlace (before : ZoneMap) (here : Entry) (behind : ZoneMap) (others : ZoneMap) (other : Entry) (rest : ZoneMap) : Type 0 where
   pub same_before : before ≡ others
   pub same_here : here ≡ other
   pub same_behind : behind ≡ rest
-
--- the head and the tail of two lists that are one
-pub same_head : (e f : Entry) (es fs : ZoneMap) → e ∷ es ≡ f ∷ fs → (e ≡ f) × (es ≡ fs)
-same_head e f es fs is = (cc is, cc is)
 
 -- as many bytes before them make it one way
 pub same-place : (before : ZoneMap) (here : Entry) (behind : ZoneMap) (others : ZoneMap) (other : Entry) (rest : ZoneMap) → before ++ here ∷ behind ≡ others ++ other ∷ rest → IsTrue (all_large (before ++ here ∷ behind))
@@ -58,9 +55,5 @@ same-place (d ∷ ds) e es [] f fs is large as_many = absurd (omega (arith, larg
 same-place (d ∷ ds) e es (g ∷ gs) f fs is large as_many =
     let same = same_head d g (ds ++ e ∷ es) (gs ++ f ∷ fs) is in
     let size : d.size ≡ g.size = ap (λ (e : Entry). e.size) same.0 in
-    let rest = same-place ds e es gs f fs same.1 (both_true (nat_lt 0 d.size) (all_large (ds ++ e ∷ es)) large).1 (omega arith) in
+    let rest = same-place ds e es gs f fs same.1 (and_parts (nat_lt 0 d.size) (all_large (ds ++ e ∷ es)) large).1 (omega arith) in
     record { same_before = cc (same.0, rest.same_before); same_here = rest.same_here; same_behind = rest.same_behind }
-
--- the bytes of a block and those before it
-pub total_size-behind : (before : ZoneMap) (e : Entry) → total_size (before ++ e ∷ []) ≡ total_size before + e.size
-total_size-behind before e = let all = total_size-append before (e ∷ []) in omega arith

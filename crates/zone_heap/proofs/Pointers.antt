@@ -2,6 +2,7 @@
 use Rattle.std.proofs.Common.{◌≡◌, ℕ, ◌+◌, ◌≤◌, Bool, cond, ◌∷◌, ◌++◌, Some, refl, ap, sym, ◌∙◌, subst, IsTrue}
 use Rattle.std.specs.Prelude.{[], not}
 use Rattle.std.specs.List.{list_all}
+use Rattle.std.proofs.lemmas.Bool.{not-true, and_parts}
 use Rattle.mac_base.specs.declared.block.Entry.{Entry}
 use Rattle.mac_base.specs.declared.block.Kind.TheVariants.{Free, Ptr}
 use Rattle.mac_base.specs.HeadKind.{need, head_size}
@@ -16,7 +17,6 @@ use Rattle.mac_base.specs.Loans.{LoansAreFixed}
 use Rattle.mac_base.specs.ZoneState.{ZoneState}
 use Rattle.zone_laws.proofs.Lent.{KeepsLent}
 use Rattle.zone_laws.proofs.LentChanges.{keeps-new_pointer}
-use Rattle.zone_laws.proofs.Maps.{both_true, true_not}
 use Rattle.zone_laws.proofs.Taken.{need-is_size}
 use Rattle.zone_laws.proofs.SoundPointer.{sound-placed_pointer}
 use Rattle.linked_zone.specs.Changes.{with_map, fixed}
@@ -28,8 +28,8 @@ use Rattle.zone_heap.proofs.Taking.{front_size, front_rest, taken-parts, front-h
 lowest_before-there : (k : ℕ) (before : ZoneMap) (n : ℕ) (behind : ZoneMap) → IsTrue (list_all (λ e. not (has_free k e)) before) → k ≤ n → lowest_before k (before ++ block Free n ∷ behind) ≡ before
 lowest_before-there k [] n behind none fits = ap (λ b. cond b [] (block Free n ∷ lowest_before k behind)) (has_free-free k n fits)
 lowest_before-there k (e ∷ es) n behind none fits =
-    let nones = both_true (not (has_free k e)) (list_all (λ e. not (has_free k e)) es) none in
-    ap (λ b. cond b [] (e ∷ lowest_before k (es ++ block Free n ∷ behind))) (true_not _ nones.0) ∙ ap (λ m. e ∷ m) (lowest_before-there k es n behind nones.1 fits)
+    let nones = and_parts (not (has_free k e)) (list_all (λ e. not (has_free k e)) es) none in
+    ap (λ b. cond b [] (e ∷ lowest_before k (es ++ block Free n ∷ behind))) (not-true _ nones.0) ∙ ap (λ m. e ∷ m) (lowest_before-there k es n behind nones.1 fits)
 
 -- the block for n bytes is chosen
 pub record ChosenBlock (z : ZoneState) (n k at : ℕ) : Type 0 where

@@ -3,6 +3,7 @@ use Rattle.std.proofs.Common.{◌≡◌, ℕ, ◌+◌, ◌-◌, ◌<◌, ◌≤�
 use Rattle.std.specs.Prelude.{find, ◌==◌, nat_lt}
 use Rattle.std.specs.Option.{option_or}
 use Rattle.std.proofs.lemmas.Bool.Decides.{nat_tests}
+use Rattle.std.proofs.lemmas.Bool.{eqb-true, and_parts}
 use Rattle.mac_base.specs.declared.block.Block.{Block}
 use Rattle.mac_base.specs.BlockReport.{block_flags, reports_from, report_at}
 use Rattle.mac_base.specs.HandleTable.{HandleTable}
@@ -11,7 +12,6 @@ use Rattle.mac_base.specs.Suits.{wanted_length}
 use Rattle.mac_base.specs.Sound.{Sound}
 use Rattle.mac_base.specs.ZoneMap.{ZoneMap, handle_of, handle_found, handle_at, address_behind}
 use Rattle.mac_base.specs.ZoneState.{ZoneState}
-use Rattle.zone_laws.proofs.Maps.{both_true}
 use Rattle.zone_heap.proofs.Places.{all_large, large-sizes, large-first}
 
 -- the handle whose block a report is of
@@ -26,10 +26,6 @@ other at a below = grind (arith, nat_tests)
 -- the same number added to two leaves a test of them
 test-added : (head at x : ℕ) → (at + head == x + head) ≡ (at == x)
 test-added head at x = grind (arith, nat_tests)
-
--- a number that passes is the same
-same_number : (at x : ℕ) → (at == x) ≡ true → at ≡ x
-same_number at x is = grind (arith, nat_tests)
 
 -- nothing has contents below the first block
 found-below : (at a : ℕ) (m : ZoneMap) → a < at → handle_found at a m ≡ None
@@ -47,9 +43,9 @@ found-reported t head x at (e ∷ es) large =
     ap (λ c. option_or (cond c (handle_of e.kind) None) (handle_found (at + head + e.size) (x + head) es)) (test-added head at x)
     ∙ (elim (at == x) as (λ c. (at == x) ≡ c → option_or (cond c (handle_of e.kind) None) (handle_found (at + head + e.size) (x + head) es)
     ≡ reported (cond c (Some (record { address = at; entry = e; length = wanted_length t e.kind; flags = block_flags t e.kind })) (find (λ (b : Block). b.address == x) (reports_from t (at + e.size) es)))) [
-      | true ↦ λ is. let same = same_number at x is in
+      | true ↦ λ is. let same = eqb-true at x is in
           ap (option_or (handle_of e.kind)) (found-below (at + head + e.size) (x + head) es (omega (arith, same, large-first e es large))) ∙ option_or-None (handle_of e.kind)
-      | false ↦ λ is. ap (λ a. handle_found a (x + head) es) (regroup at head e.size) ∙ found-reported t head x (at + e.size) es (both_true (nat_lt 0 e.size) (all_large es) large).1
+      | false ↦ λ is. ap (λ a. handle_found a (x + head) es) (regroup at head e.size) ∙ found-reported t head x (at + e.size) es (and_parts (nat_lt 0 e.size) (all_large es) large).1
     ] refl)
   where
     regroup : (a b c : ℕ) → a + b + c ≡ a + c + b

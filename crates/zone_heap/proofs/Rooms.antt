@@ -9,9 +9,10 @@ use Rattle.mac_base.specs.ZoneMap.{ZoneMap, block, free_bytes, is_free, is_named
 use Rattle.mac_base.specs.ZoneState.{ZoneState}
 use Rattle.gap_laws.proofs.SuitsNil.{named_none}
 use Rattle.zone_laws.proofs.Arranging.{free_bytes-all_used, total_size-used}
-use Rattle.zone_laws.proofs.GapAppend.{free_bytes-append, sizes-append, total_size-append}
+use Rattle.zone_laws.proofs.GapAppend.{free_bytes-append, sizes-append}
 use Rattle.zone_laws.proofs.NamedPlace.{At, nil-append}
 use Rattle.zone_laws.proofs.Owners.{nothing_passes}
+use Rattle.zone_laws.proofs.Maps.{total_size-append}
 use Rattle.std.proofs.lemmas.Bool.{or_parts}
 use Rattle.linked_zone.specs.Fit.{HasSizes}
 use Rattle.linked_zone.specs.Places.{EntryAt, FirstFree, FreeAt, NamedAt, SplitAt, none_free}

@@ -2,7 +2,7 @@
 use Rattle.std.proofs.Common.{◌≡◌, ℕ, zero, suc, append_assoc, ◌+◌, ◌<◌, ◌≤◌, Bool, true, false, not, cond, List, [], ◌∷◌, ◌++◌, append-nil, refl, ap, sym, ◌∙◌, arith, subst, None, Some, Option, max}
 use Rattle.std.specs.Prelude.{◌&&◌, ◌||◌, ◌==◌, nat_le, is_some, IfSome, IfNone}
 use Rattle.std.specs.List.{list_all}
-use Rattle.std.proofs.lemmas.Bool.{le-leb, leb-true, true≢false}
+use Rattle.std.proofs.lemmas.Bool.{le-leb, leb-true, true≢false, not-true, and_parts, lt-leb}
 use Rattle.std.proofs.lemmas.Bool.Decides.{nat_tests}
 use Rattle.mac_base.specs.declared.block.Entry.{Entry}
 use Rattle.mac_base.specs.declared.block.Kind.TheVariants.{Free, Rel}
@@ -15,23 +15,24 @@ use Rattle.mac_base.specs.ZoneState.{ZoneState, with_heap}
 use Rattle.mac_base.specs.Heap.{with_all_emptied}
 use Rattle.mac_base.specs.Purging.{purged_for}
 use Rattle.linked_zone.specs.Places.{EntryAt, LowestAt}
-use Rattle.zone_laws.proofs.GapAppend.{total_size-append}
 use Rattle.zone_laws.proofs.Joined.{free_apart-joined}
 use Rattle.zone_laws.proofs.GapApart.{free_apart-back, free_apart-front, sizes_possible}
+use Rattle.zone_laws.proofs.Maps.{total_size-append}
 use Rattle.zone_gaps.proofs.Between.{previous_block}
 use Rattle.zone_gaps.proofs.Lasts.{Last, last_of, some_last}
-use Rattle.page_sums.proofs.Sizes.{all_parts, no_bytes}
-use Rattle.zone_laws.proofs.Maps.{both_true, true_not}
+use Rattle.page_sums.proofs.Sizes.{no_bytes}
 use Rattle.zone_heap.specs.Attempts.{SoundZone}
 use Rattle.zone_heap.specs.Purge.{AllStay, BlocksAt, FirstToPurge, IsLimit, PurgesTo, all_released, bounds_free, bytes_before, counts, freed_where, may_purge, run_has, run_past}
 use Rattle.zone_heap.specs.declared.purge.Candidate.{Candidate}
 use Rattle.zone_heap.specs.declared.purge.Limit.{Limit}
 use Rattle.zone_heap.proofs.FreedBlocks.{Once, once-suits, released-candidates}
-use Rattle.zone_heap.proofs.GapWalks.{past-append, too-many}
+use Rattle.zone_heap.proofs.GapWalks.{past-append}
 use Rattle.zone_heap.proofs.Grows.{absorb}
 use Rattle.zone_heap.proofs.Runs.{Swept, bytes-within, limit_here, limit_last, more-run, none_behind, none_swept, purge_swept, spanned_all, stay_swept}
-use Rattle.zone_heap.proofs.Until.{limit-blocks, limit-candidates, run-joined, until-enough, until-limit, until-enough_then}
+use Rattle.zone_heap.proofs.Until.{limit-blocks, limit-candidates, run-joined, until-limit, until-enough_then}
 use Rattle.zone_heap.proofs.Walks.{Walked, Facing, end_walked, map_rest, none_walked, place_rest, walked_end, walked_on, walked_over}
+use Rattle.fixed_index.proofs.Sizes.{all_parts}
+use Rattle.gap_laws.proofs.Emptied.{purged_until-none}
 
 run_apart : (k r : ℕ) (m : ZoneMap) → starts_free m ≡ false → run_has bounds_free (counts None) k r m ≡ (nat_le k r || run_has bounds_free (counts None) k 0 m)
 run_apart k r [] used = more (nat_le k r) (nat_le k 0) (λ fits. let le = leb-true k 0 fits in le-leb k r (omega arith))
@@ -53,9 +54,9 @@ most k a b = grind (arith, nat_tests)
 largest-run : (k : ℕ) (m : ZoneMap) → free_apart m ≡ true → run_has bounds_free (counts None) k 0 m ≡ nat_le k (largest_free m)
 largest-run k [] apart = refl
 largest-run k (e ∷ es) apart =
-    let parts = both_true (not (is_free e.kind && starts_free es)) (free_apart es) apart in
+    let parts = and_parts (not (is_free e.kind && starts_free es)) (free_apart es) apart in
     let rest = largest-run k es parts.1 in
-    by_free (is_free e.kind) (true_not (is_free e.kind && starts_free es) parts.0) rest
+    by_free (is_free e.kind) (not-true (is_free e.kind && starts_free es) parts.0) rest
   where
     by_free : (c : Bool) → (c && starts_free es) ≡ false → run_has bounds_free (counts None) k 0 es ≡ nat_le k (largest_free es)
         → cond (not c) (nat_le k 0 || run_has bounds_free (counts None) k 0 es) (run_has bounds_free (counts None) k (0 + cond c e.size 0) es) ≡ nat_le k (max (cond c e.size 0) (largest_free es))
@@ -101,8 +102,8 @@ module _ {start end : ℕ} (z : ZoneState) (b : BlocksAt z start end) (sound : S
     -- a free block in front
     pub front_free : is_free e.kind ≡ true → e.size ≡ bytes_before bounds_free (counts None) b.blocks
     front_free free =
-        let parts = both_true (not (is_free e.kind && starts_free es)) (free_apart es) (ap free_apart (sym is) ∙ apart_here) in
-        let used : starts_free es ≡ false = sym (ap (λ c. c && starts_free es) free) ∙ true_not (is_free e.kind && starts_free es) parts.0 in
+        let parts = and_parts (not (is_free e.kind && starts_free es)) (free_apart es) (ap free_apart (sym is) ∙ apart_here) in
+        let used : starts_free es ≡ false = sym (ap (λ c. c && starts_free es) free) ∙ not-true (is_free e.kind && starts_free es) parts.0 in
         sym (ap (bytes_before bounds_free (counts None)) is ∙ ap (λ c. cond (not c) 0 (cond c e.size 0 + bytes_before bounds_free (counts None) es)) free ∙ ap (λ n. e.size + n) (none_front es used) ∙ (let s : e.size + 0 ≡ e.size = omega arith in s))
 
     -- or another
@@ -177,8 +178,8 @@ module _ {start at : ℕ} (z : ZoneState) (b : BlocksAt z start at) (sound : Sou
         by_front (x ∷ xs) is =
             let d = last_of x xs in
             let whole : b.blocks ≡ d.front ++ d.here ∷ l.here ∷ [] = l.is ∙ ap (λ m. m ++ l.here ∷ []) (is ∙ d.is) ∙ append_assoc d.front (d.here ∷ []) (l.here ∷ []) in
-            let two = both_true (not (is_free (d.here).kind && is_free (l.here).kind)) (free_apart (l.here ∷ [])) (free_apart-back d.front (d.here ∷ l.here ∷ []) (ap free_apart (sym whole) ∙ apart_here z b sound)) in
-            let used = first_used (is_free (d.here).kind) (is_free (l.here).kind) (true_not (is_free (d.here).kind && is_free (l.here).kind) two.0) (ap (λ (f : Entry). is_free f.kind) (sym same_here.0) ∙ free) in
+            let two = and_parts (not (is_free (d.here).kind && is_free (l.here).kind)) (free_apart (l.here ∷ [])) (free_apart-back d.front (d.here ∷ l.here ∷ []) (ap free_apart (sym whole) ∙ apart_here z b sound)) in
+            let used = first_used (is_free (d.here).kind) (is_free (l.here).kind) (not-true (is_free (d.here).kind && is_free (l.here).kind) two.0) (ap (λ (f : Entry). is_free f.kind) (sym same_here.0) ∙ free) in
             let n = run_past bounds_free (counts None) r d.front in
             ap (run_past bounds_free (counts None) r) (is ∙ d.is) ∙ past-append bounds_free (counts None) r d.front (d.here ∷ []) ∙ ap (λ c. cond (not c) 0 (n + cond c (d.here).size 0)) used
 
@@ -277,17 +278,17 @@ large-found z k None found some = absurd (cc some)
 large-found z k (Some at) found some = ap (λ m. nat_le k (largest_free m)) found.free.map ∙ largest-some k found.free.size found.free.before found.free.behind found.large
 
 largest-none : (k : ℕ) (m : ZoneMap) → 0 < k → list_all (λ (e : Entry). not (has_free k e)) m ≡ true → nat_le k (largest_free m) ≡ false
-largest-none k [] some none = too-many k 0 some
+largest-none k [] some none = lt-leb k 0 some
 largest-none k (e ∷ es) some none =
-    let parts = both_true (not (has_free k e)) (list_all (λ (e : Entry). not (has_free k e)) es) none in
+    let parts = and_parts (not (has_free k e)) (list_all (λ (e : Entry). not (has_free k e)) es) none in
     by_free (is_free e.kind) parts.0 (largest-none k es some parts.1)
   where
     both_small : (k m n : ℕ) → nat_le k m ≡ false → nat_le k n ≡ false → nat_le k (max m n) ≡ false
     both_small k m n h g = grind (arith, nat_tests)
 
     by_free : (c : Bool) → not (c && nat_le k e.size) ≡ true → nat_le k (largest_free es) ≡ false → nat_le k (max (cond c e.size 0) (largest_free es)) ≡ false
-    by_free true small rest = both_small k e.size (largest_free es) (true_not (nat_le k e.size) small) rest
-    by_free false small rest = both_small k 0 (largest_free es) (too-many k 0 some) rest
+    by_free true small rest = both_small k e.size (largest_free es) (not-true (nat_le k e.size) small) rest
+    by_free false small rest = both_small k 0 (largest_free es) (lt-leb k 0 some) rest
 
 -- and where none is
 pub large-none : (z : ZoneState) (k : ℕ) (o : Option ℕ) → 0 < k → IfNone o (list_all (λ (e : Entry). not (has_free k e)) z.heap.map ≡ true) → is_some o ≡ false → nat_le k (largest_free z.heap.map) ≡ false
@@ -296,7 +297,7 @@ large-none z k (Some at) some none is = absurd (cc is)
 
 -- where a block is large enough, none is purged
 pub purged-already : (z : ZoneState) (k : ℕ) → nat_le k (largest_free z.heap.map) ≡ true → z ≡ with_heap (purged_for k z.heap) z
-purged-already z k enough = ap (λ hs. with_heap (with_all_emptied hs z.heap) z) (sym (until-enough (λ (m : ZoneMap). nat_le k (largest_free m)) (candidates_in z.heap.table [] z.heap.map) z.heap.map enough))
+purged-already z k enough = ap (λ hs. with_heap (with_all_emptied hs z.heap) z) (sym (purged_until-none (λ (m : ZoneMap). nat_le k (largest_free m)) (candidates_in z.heap.table [] z.heap.map) z.heap.map enough))
 
 -- no bytes are always there
 pub none-needed : (k n : ℕ) → k ≡ 0 → (k == 0) ≡ nat_le k n

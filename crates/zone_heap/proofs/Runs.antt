@@ -7,10 +7,11 @@ use Rattle.mac_base.specs.declared.block.Entry.{Entry}
 use Rattle.mac_base.specs.declared.block.Kind.{Kind}
 use Rattle.mac_base.specs.declared.block.Kind.TheVariants.{Free}
 use Rattle.mac_base.specs.ZoneMap.{ZoneMap, block, total_size}
-use Rattle.zone_laws.proofs.GapAppend.{total_size-append}
 use Rattle.page_sums.proofs.Sizes.{total_size-push}
 use Rattle.zone_heap.specs.Purge.{AllStay, IsLimit, Spanned, bytes_before, freed_where, run_has, run_past, size_if}
 use Rattle.zone_heap.specs.declared.purge.Limit.{Limit}
+use Rattle.zone_heap.proofs.Until.{no_bytes_more}
+use Rattle.zone_laws.proofs.Maps.{total_size-append}
 
 -- a list that ends with an element, in two parts: what holds where the second begins with it, and where it begins before, holds
 split_push : (P : ZoneMap → Entry → ZoneMap → Type 0) (done : ZoneMap) (e : Entry) (a : ZoneMap) (f : Entry) (b : ZoneMap) → done ++ e ∷ [] ≡ a ++ f ∷ b
@@ -30,9 +31,6 @@ split_push P (d ∷ ds) e (g ∷ a) f b is last before =
     let rest : ds ++ e ∷ [] ≡ a ++ f ∷ b = cc is in
     subst (λ g. P (g ∷ a) f b) first (split_push (λ a f b. P (d ∷ a) f b) ds e a f b rest last (λ c was. subst (λ g. P (g ∷ a) f (c ++ e ∷ [])) (sym first) (before c (ap (λ ds. d ∷ ds) was ∙ ap (λ g. g ∷ (a ++ f ∷ c)) first))))
 
-no_more : (k n : ℕ) → nat_le k n ≡ nat_le k (n + 0)
-no_more k n = ap (nat_le k) (let e : n ≡ n + 0 = omega arith in e)
-
 or_none : (a b : Bool) → b ≡ false → (a || b) ≡ a
 or_none true b h = refl
 or_none false b h = h
@@ -40,12 +38,12 @@ or_none false b h = h
 module _ (bounds counted : Kind → Bool) (k : ℕ) where
   -- where k bytes count nowhere with r more before the first block, they count where the first bytes and s more are so many
   pub more-run : (r s : ℕ) (es : ZoneMap) → run_has bounds counted k r es ≡ false → run_has bounds counted k s es ≡ nat_le k (s + bytes_before bounds counted es)
-  more-run r s [] none = no_more k s
+  more-run r s [] none = no_bytes_more k s
   more-run r s (e ∷ es) none =
       let rest = more-run (r + size_if counted e) (s + size_if counted e) es in
       elim (bounds e.kind) as (λ c. cond c (nat_le k r || run_has bounds counted k 0 es) (run_has bounds counted k (r + size_if counted e) es) ≡ false
       → cond c (nat_le k s || run_has bounds counted k 0 es) (run_has bounds counted k (s + size_if counted e) es) ≡ nat_le k (s + cond c 0 (size_if counted e + bytes_before bounds counted es))) [
-        | true ↦ λ none. or_none (nat_le k s) _ (or_parts (nat_le k r) (run_has bounds counted k 0 es) none).1 ∙ no_more k s
+        | true ↦ λ none. or_none (nat_le k s) _ (or_parts (nat_le k r) (run_has bounds counted k 0 es) none).1 ∙ no_bytes_more k s
         | false ↦ λ none. rest none ∙ ap (nat_le k) (let e : s + size_if counted e + bytes_before bounds counted es ≡ s + (size_if counted e + bytes_before bounds counted es) = omega arith in e)
       ] none
 

@@ -3,6 +3,7 @@ use Rattle.std.proofs.Common.{◌≡◌, ℕ, ◌+◌, ◌-◌, ◌<◌, ◌≤�
 use Rattle.std.specs.Prelude.{◌&&◌, nat_le, nat_lt}
 use Rattle.std.specs.List.{list_all}
 use Rattle.std.proofs.lemmas.Bool.Decides.{nat_tests}
+use Rattle.std.proofs.lemmas.Bool.{and_parts, and_from}
 use Rattle.mac_base.specs.declared.block.Entry.{Entry}
 use Rattle.mac_base.specs.declared.block.Kind.TheVariants.{Free}
 use Rattle.mac_base.specs.HeadKind.{smallest_block}
@@ -14,15 +15,15 @@ use Rattle.mac_base.specs.Suits.{free_apart, starts_free, is_block_size}
 use Rattle.mac_base.specs.ZoneState.{ZoneState}
 use Rattle.zone_laws.proofs.Joined.{joined-apart, free_apart-joined, starts_free-joined}
 use Rattle.zone_laws.proofs.JoinedBlocks.{joined-front}
-use Rattle.zone_laws.proofs.Maps.{both_true, true_both, list_all-middle}
+use Rattle.zone_laws.proofs.Maps.{list_all-middle}
 use Rattle.zone_laws.proofs.Taken.{need-is_size, free_apart-behind, free_apart-replaced, starts_free-taken, sizes-taken, head-below_smallest}
 use Rattle.linked_zone.specs.Changes.{held_there}
 use Rattle.linked_zone.specs.Places.{CanHold}
 use Rattle.zone_heap.specs.Joins.{NewlyFree, all_joined}
 use Rattle.zone_heap.specs.Placed.{resized_there}
-use Rattle.zone_heap.proofs.Places.{total_size-behind}
 use Rattle.zone_heap.proofs.Sizing.{Standing, resized_zone, resized-there, can-front, free-rest, here-size}
 use Rattle.zone_heap.proofs.Taking.{front_size, taken-parts}
+use Rattle.page_sums.proofs.Sizes.{total_size-push}
 
 module _ (z : ZoneState) (x n k at : ℕ) (b : Standing z x n k at) (fits : k ≤ b.named.here.size) where
   -- how many bytes of the block stay with its owner
@@ -92,13 +93,13 @@ module _ (z : ZoneState) (x n k at : ℕ) (b : Standing z x n k at) (fits : k �
   sizes-cut =
       let possible : Entry → Bool = λ e. is_block_size z.shape e.size in
       let all = sym (list_all-middle possible b.named.before (b.named.here ∷ []) b.named.behind) ∙ subst (λ m. IsTrue (list_all possible m)) b.named.map b.sound.suits.sizes in
-      let first = both_true (list_all possible b.named.before) (list_all possible (b.named.here ∷ []) && list_all possible b.named.behind) all in
+      let first = and_parts (list_all possible b.named.before) (list_all possible (b.named.here ∷ []) && list_all possible b.named.behind) all in
       let needed = subst (λ j. IsTrue (is_block_size z.shape j)) (sym b.size) (need-is_size z.shape n) in
       list_all-middle possible b.named.before (taken z.shape k b.named.here.kind b.named.here.size) b.named.behind
-      ∙ true_both (list_all possible b.named.before) _ first.0
-      (true_both (list_all possible (taken z.shape k b.named.here.kind b.named.here.size)) (list_all possible b.named.behind)
+      ∙ and_from (list_all possible b.named.before) _ first.0
+      (and_from (list_all possible (taken z.shape k b.named.here.kind b.named.here.size)) (list_all possible b.named.behind)
       (sizes-taken z.shape k b.named.here.kind b.named.here.size needed (here-size z x n k at b) fits)
-      (both_true (list_all possible (b.named.here ∷ [])) (list_all possible b.named.behind) first.1).1)
+      (and_parts (list_all possible (b.named.here ∷ [])) (list_all possible b.named.behind) first.1).1)
 
   -- what is over is free, and may have a free neighbour behind it
   pub rest-free : kept < b.named.here.size → NewlyFree (resized_zone z x n k at b cut_blocks) (at + kept)
@@ -115,10 +116,10 @@ module _ (z : ZoneState) (x n k at : ℕ) (b : Standing z x n k at) (fits : k �
             size = whole - k;
             behind = b.named.behind;
             map = sym (append_assoc b.named.before (block kind k ∷ []) (block Free (whole - k) ∷ b.named.behind));
-            place = (let all = total_size-behind b.named.before (block kind k) in let start = b.named.place in omega arith);
+            place = (let all = total_size-push b.named.before (block kind k) in let start = b.named.place in omega arith);
           };
           before = free_apart-replaced b.named.before (b.named.here ∷ b.named.behind) (block kind k ∷ []) (λ h. h) (alone (is_free kind)) apart;
-          behind = (both_true (not (is_free kind && starts_free b.named.behind)) (free_apart b.named.behind) (free_apart-behind b.named.before (b.named.here ∷ b.named.behind) apart)).1;
+          behind = (and_parts (not (is_free kind && starts_free b.named.behind)) (free_apart b.named.behind) (free_apart-behind b.named.before (b.named.here ∷ b.named.behind) apart)).1;
           sizes = sizes;
         }
       ] less sizes-cut

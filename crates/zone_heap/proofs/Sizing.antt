@@ -24,10 +24,9 @@ use Rattle.zone_laws.proofs.OpenedGap.{resized_in_place-At}
 use Rattle.zone_laws.proofs.PlacedParts.{option_map-Some}
 use Rattle.zone_laws.proofs.SoundResized.{sound-resized}
 use Rattle.zone_laws.proofs.SuitsNamed.{named_once}
-use Rattle.zone_laws.proofs.Taken.{need-is_size, head-below_smallest}
+use Rattle.zone_laws.proofs.Taken.{need-is_size, head-below_smallest, rest_size}
 use Rattle.linked_zone.specs.Places.{EntryAt, NamedAt, CanFront}
 use Rattle.zone_heap.specs.Placed.{resized_there}
-use Rattle.zone_heap.proofs.Cutting.{rest_size}
 use Rattle.zone_heap.proofs.Taking.{front_size, front_rest, front-has_length, all-there}
 
 -- what is the only element of a list

@@ -8,6 +8,7 @@ use Rattle.std.specs.FinMap.{put}
 use Rattle.std.specs.FinMap.Entries.{by_order}
 use Rattle.std.proofs.lemmas.Bool.Decides.{nat_tests}
 use Rattle.mac_base.specs.HandleTable.{HandleTable, Live, with_live, without}
+use Rattle.block_bytes.proofs.Spans.{same_number}
 
 -- a number ties with itself
 same : (k : ℕ) → nat_cmp k k ≡ Equal
@@ -16,10 +17,6 @@ same k = grind (arith, nat_tests)
 -- numbers that tie test as equal
 tie : (k x : ℕ) → nat_cmp k x ≡ Equal → (x == k) ≡ true
 tie k x h = grind (arith, nat_tests)
-
--- a number tests as equal to itself
-tested_same : (k : ℕ) → (k == k) ≡ true
-tested_same k = grind (arith, nat_tests)
 
 -- a number put in front of what it is already in front of
 put-front : (k : ℕ) (v w : Live) (es : List (ℕ × Live)) (x : ℕ) → nat_cmp k x ≡ Equal → put nat_cmp k v ((x, w) ∷ es) ≡ (x, v) ∷ es
@@ -46,9 +43,9 @@ skipped k x v es h = ap (λ b. cond (not b) ((x, v) ∷ others k es) (others k e
 
 -- what is taken out need not be put before
 others-put : (k : ℕ) (v : Live) (es : List (ℕ × Live)) → others k (put nat_cmp k v es) ≡ others k es
-others-put k v [] = skipped k k v [] (tested_same k)
+others-put k v [] = skipped k k v [] (same_number k)
 others-put k v (e ∷ es) = elim (nat_cmp k e.0) as (λ o. nat_cmp k e.0 ≡ o → others k (by_order o ((k, v) ∷ e ∷ es) ((e.0, v) ∷ es) (e ∷ put nat_cmp k v es)) ≡ others k (e ∷ es)) [
-  | Less ↦ λ h. skipped k k v (e ∷ es) (tested_same k)
+  | Less ↦ λ h. skipped k k v (e ∷ es) (same_number k)
   | Equal ↦ λ h. skipped k e.0 v es (tie k e.0 h) ∙ sym (skipped k e.0 e.1 es (tie k e.0 h))
   | Greater ↦ λ h. ap (λ rest. cond (not (e.0 == k)) (e ∷ rest) rest) (others-put k v es)
 ] refl

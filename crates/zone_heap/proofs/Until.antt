@@ -12,19 +12,15 @@ use Rattle.mac_base.specs.Request.{candidates_in, is_among, purged_until}
 use Rattle.mac_base.specs.Suits.{Suits, free_apart}
 use Rattle.mac_base.specs.ZoneMap.{ZoneMap, address_behind, block, free_size, is_free, is_named, joined, released}
 use Rattle.mac_base.specs.ZoneState.{ZoneState}
-use Rattle.zone_laws.proofs.GapAppend.{total_size-append}
 use Rattle.zone_laws.proofs.GapParts.{first_gap, later_gaps}
 use Rattle.zone_laws.proofs.GapRoom.{list_any-gaps}
 use Rattle.zone_laws.proofs.JoinedBlocks.{join_cases}
+use Rattle.zone_laws.proofs.Maps.{total_size-append}
 use Rattle.linked_zone.specs.Changes.{freed}
 use Rattle.zone_heap.specs.Purge.{AllStay, BlocksAt, IsLimit, all_released, bounds_gap, counts, freed_where, may_purge, released_if, run_has, size_if}
 use Rattle.zone_heap.specs.declared.purge.Limit.{Limit}
 use Rattle.zone_heap.proofs.FreedBlocks.{Once, once-suits, candidate_here, candidates-append, candidates-cons, joined-freed, released-candidates}
-
--- where it is enough, no more is purged
-pub until-enough : (test : ZoneMap → Bool) (hs : List ℕ) (m : ZoneMap) → test m ≡ true → purged_until test hs m ≡ []
-until-enough test [] m enough = refl
-until-enough test (h ∷ hs) m enough = ap (λ c. cond c [] (h ∷ purged_until test hs (released h m))) enough
+use Rattle.gap_laws.proofs.Emptied.{purged_until-none}
 
 -- one more handle is released
 released-append : (hs : List ℕ) (h : ℕ) (m : ZoneMap) → all_released (hs ++ h ∷ []) m ≡ released h (all_released hs m)
@@ -72,7 +68,7 @@ module _ (bounds counted : Kind → Bool) (k : ℕ) (t : HandleTable) (protected
       whole = is ∙ append-nil a
 
       by_end : (limit.enough ≡ true) ⊎ (l.above ≡ []) → purged_until test (candidates_in t protected l.above) (all_released (candidates_in t protected a) m) ≡ []
-      by_end (inl enough) = until-enough test (candidates_in t protected l.above) (all_released (candidates_in t protected a) m)
+      by_end (inl enough) = purged_until-none test (candidates_in t protected l.above) (all_released (candidates_in t protected a) m)
           (means a l.above (l.parts ∙ ap (λ b. b ++ l.above) whole) ∙ ap (λ b. run_has bounds counted k 0 (freed_where (may_purge t protected) b ++ l.above)) (sym whole) ∙ sym l.enough ∙ enough)
       by_end (inr none) = ap (λ b. purged_until test (candidates_in t protected b) (all_released (candidates_in t protected a) m)) none
   until_from a (e ∷ es) is =
@@ -138,7 +134,7 @@ module _ (bounds counted : Kind → Bool) (k : ℕ) (free_counts : counted Free 
         | false ↦ on_rest
       ])
 
-no_bytes_more : (k n : ℕ) → nat_le k n ≡ nat_le k (n + 0)
+pub no_bytes_more : (k n : ℕ) → nat_le k n ≡ nat_le k (n + 0)
 no_bytes_more k n = ap (nat_le k) (let e : n ≡ n + 0 = omega arith in e)
 
 any_further : (k : ℕ) (e : Entry) (gs : List Gap) → list_any (λ g. nat_le k (room g)) (map (further e) gs) ≡ list_any (λ g. nat_le k (room g)) gs

@@ -5,7 +5,7 @@ use Rattle.std.proofs.lemmas.List.{length-take}
 use Rattle.mac_base.specs.declared.block.Status.TheVariants.{NotLive, Empty, Lent, Full}
 use Rattle.mac_base.specs.BlockStatus.{status_of}
 use Rattle.mac_base.specs.HandleTable.{HandleTable, has_block, is_handle, is_lent, is_pointer}
-use Rattle.mac_base.specs.ZoneState.{overwritten, written}
+use Rattle.mac_base.specs.ZoneState.{written}
 
 -- what is full has a block
 pub full-has_block : (t : HandleTable) (x : ℕ) → status_of t x ≡ Full → has_block t x ≡ true
@@ -26,10 +26,6 @@ full-here t x is = by_tests (is_handle t x || is_pointer t x) (has_block t x) (i
     by_tests true true false is = refl
     by_tests true false lent is = absurd (cc is)
     by_tests false has lent is = absurd (cc is)
-
--- there are as many bytes as before
-pub length-overwritten : (old others : List ℕ) → length (overwritten old others) ≡ length old
-length-overwritten old others = length-append (take (length old) others) (drop (length others) old) ∙ omega (arith, length-take (length old) others, length-drop (length others) old)
 
 -- also where bytes of others are written over those from an offset on
 pub length-copied : (start offset n : ℕ) (source target : List ℕ) → start + n ≤ length source → offset + n ≤ length target → length (written offset (take n (drop start source)) target) ≡ length target

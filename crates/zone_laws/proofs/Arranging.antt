@@ -12,7 +12,8 @@ use Rattle.mac_base.specs.ZoneMap.{ZoneMap, block, free_block, is_free, is_kind,
 use Rattle.mac_base.specs.Suits.{free_apart, starts_free}
 use Rattle.mac_base.specs.Gap.{has_named}
 use Rattle.mac_base.specs.Arrangement.{used_blocks, down, up}
-use Rattle.zone_laws.proofs.GapAppend.{total_size-append, free_bytes-append, sizes-append}
+use Rattle.zone_laws.proofs.GapAppend.{free_bytes-append, sizes-append}
+use Rattle.zone_laws.proofs.Maps.{total_size-append}
 
 -- a free block's kind
 pub free_is : (k : Kind) → is_free k ≡ true → k ≡ Free

@@ -11,8 +11,9 @@ use Rattle.mac_base.specs.ZoneMap.{ZoneMap, free_block, is_free, is_kind, is_nam
 use Rattle.mac_base.specs.Suits.{free_apart}
 use Rattle.mac_base.specs.Gap.{has_named}
 use Rattle.mac_base.specs.Arrangement.{used_blocks, put_behind, open_at, high}
-use Rattle.zone_laws.proofs.GapAppend.{total_size-append, free_bytes-append, sizes-append}
+use Rattle.zone_laws.proofs.GapAppend.{free_bytes-append, sizes-append}
 use Rattle.zone_laws.proofs.Arranging.{free_is, named-used, is_kind-free, all_used, used_blocks-all_used, list_all-used, has_named-used, sizes-used, total_size-used, free_bytes-all_used, total_size-free_block, free_bytes-free_block, sizes-free_block, list_all-free_block, free_apart-behind_used, free_apart-around, IsArrangement}
+use Rattle.zone_laws.proofs.Maps.{total_size-append}
 
 -- what is put behind the first block that x names, where x names one
 total_size-put_behind : (x : ℕ) (f b : ZoneMap) → has_named x b ≡ true → total_size (put_behind x f b) ≡ total_size f + total_size b

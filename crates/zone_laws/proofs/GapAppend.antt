@@ -1,16 +1,11 @@
 -- What is counted and listed of blocks, over two lists of blocks one behind the other.
-use Rattle.std.proofs.Common.{◌≡◌, ℕ, suc, ◌+◌, Bool, true, false, not, cond, List, [], ◌∷◌, ◌++◌, length, refl, ap, sym, ◌∙◌, add_assoc, append_assoc, arith}
+use Rattle.std.proofs.Common.{◌≡◌, ℕ, suc, ◌+◌, Bool, true, false, not, cond, List, [], ◌∷◌, ◌++◌, length, refl, ap, sym, ◌∙◌, append_assoc, arith}
 use Rattle.std.specs.Prelude.{IsTrue, if◌then◌else◌}
 use Rattle.std.specs.List.{list_all}
 use Rattle.std.proofs.lemmas.Bool.{and_parts, not-true}
 use Rattle.mac_base.specs.declared.block.Entry.{Entry}
 use Rattle.mac_base.specs.declared.block.Kind.{Kind}
-use Rattle.mac_base.specs.ZoneMap.{ZoneMap, total_size, free_bytes, addresses_from, sizes}
-
--- the bytes of two lists of blocks
-pub total_size-append : (a b : ZoneMap) → total_size (a ++ b) ≡ total_size a + total_size b
-total_size-append [] b = omega arith
-total_size-append (e ∷ es) b = let rest = total_size-append es b in omega arith
+use Rattle.mac_base.specs.ZoneMap.{ZoneMap, free_bytes, addresses_from, sizes}
 
 -- the free bytes of two lists of blocks
 pub free_bytes-append : (a b : ZoneMap) → free_bytes (a ++ b) ≡ free_bytes a + free_bytes b
@@ -22,14 +17,6 @@ pub sizes-append : (test : Kind → Bool) (a b : ZoneMap) → sizes test (a ++ b
 sizes-append test [] b = refl
 sizes-append test (e ∷ es) b = let first : List ℕ = if test e.kind then e.size ∷ [] else [] in
     ap (λ ns. first ++ ns) (sizes-append test es b) ∙ sym (append_assoc first (sizes test es) (sizes test b))
-
--- the addresses of the blocks that pass a test, in two lists of blocks
-pub addresses_from-append : (at : ℕ) (test : Kind → Bool) (a b : ZoneMap) → addresses_from at test (a ++ b) ≡ addresses_from at test a ++ addresses_from (at + total_size a) test b
-addresses_from-append at test [] b = let same : at ≡ at + 0 = omega arith in ap (λ n. addresses_from n test b) same
-addresses_from-append at test (e ∷ es) b = let first : List ℕ = if test e.kind then at ∷ [] else [] in
-    ap (λ ns. first ++ ns) (addresses_from-append (at + e.size) test es b)
-    ∙ sym (append_assoc first (addresses_from (at + e.size) test es) (addresses_from (at + e.size + total_size es) test b))
-    ∙ ap (λ n. first ++ addresses_from (at + e.size) test es ++ addresses_from n test b) (add_assoc at e.size (total_size es))
 
 -- two tests that agree at each kind are one
 pub same_test : {p q : Kind → Bool} → ((k : Kind) → p k ≡ q k) → p ≡ q

@@ -1,69 +1,44 @@
 -- What joining neighbouring free blocks keeps, and that none are left.
-use Rattle.std.proofs.Common.{◌≡◌, ℕ, ◌+◌, ◌%◌, Bool, true, false, not, ◌&&◌, cond, [], ◌∷◌, ◌++◌, refl, ap, sym, ◌∙◌, arith, IsTrue, ◌==◌, nat_le}
+use Rattle.std.proofs.Common.{◌≡◌, ℕ, ◌+◌, ◌%◌, Bool, true, false, not, ◌&&◌, cond, [], ◌∷◌, refl, ap, sym, ◌∙◌, arith, IsTrue, ◌==◌, nat_le}
 use Rattle.std.specs.List.{list_all}
 use Rattle.std.proofs.lemmas.Bool.Decides.{nat_tests}
+use Rattle.std.proofs.lemmas.Bool.{not-true, and_parts, not_from_false, and_from}
 use Rattle.mac_base.specs.declared.block.Entry.{Entry}
 use Rattle.mac_base.specs.declared.block.Kind.{Kind}
-use Rattle.mac_base.specs.declared.block.Kind.TheVariants.{Free, Master, Ptr, Rel}
+use Rattle.mac_base.specs.declared.block.Kind.TheVariants.{Free}
 use Rattle.mac_base.specs.HeadKind.{Shape, smallest_block}
-use Rattle.mac_base.specs.ZoneMap.{ZoneMap, block, is_free, total_size, addresses_from, joined, joined_to}
+use Rattle.mac_base.specs.ZoneMap.{ZoneMap, block, is_free, addresses_from, joined, joined_to}
 use Rattle.mac_base.specs.HandleTable.{HandleTable}
 use Rattle.mac_base.specs.Suits.{free_apart, starts_free, is_block_size, has_owners_length}
-use Rattle.zone_laws.proofs.Maps.{both_true, true_both, not_true, true_not, addresses_from-skip}
-
--- a kind that passes as free is free
-pub free_kind : (kind : Kind) → is_free kind ≡ true → kind ≡ Free
-free_kind Free h = refl
-free_kind Master h = absurd (cc h)
-free_kind (Ptr p) h = absurd (cc h)
-free_kind (Rel g) h = absurd (cc h)
+use Rattle.zone_laws.proofs.Maps.{addresses_from-skip}
+use Rattle.zone_laws.proofs.Arranging.{free_is}
+use Rattle.zone_laws.proofs.JoinedBlocks.{joined_to-apart}
 
 -- what a block joined to the map behind it is, where both are free, and where not
 by_joined : (P : ZoneMap → Type 0) (e f : Entry) (es : ZoneMap) → (is_free e.kind ≡ true → is_free f.kind ≡ true → P (block Free (e.size + f.size) ∷ es)) → P (e ∷ f ∷ es) → P (joined_to e (f ∷ es))
 by_joined P e f es both other = elim (is_free e.kind && is_free f.kind) as (λ b. (is_free e.kind && is_free f.kind) ≡ b → P (cond b (block Free (e.size + f.size) ∷ es) (e ∷ f ∷ es))) [
-  | true ↦ λ h. let hs = both_true (is_free e.kind) (is_free f.kind) h in both hs.0 hs.1
+  | true ↦ λ h. let hs = and_parts (is_free e.kind) (is_free f.kind) h in both hs.0 hs.1
   | false ↦ λ h. other
 ] refl
-
-total_size-joined_to : (e : Entry) (m : ZoneMap) → total_size (joined_to e m) ≡ e.size + total_size m
-total_size-joined_to e [] = refl
-total_size-joined_to e (f ∷ es) = by_joined (λ m. total_size m ≡ e.size + (f.size + total_size es)) e f es (λ p q. omega arith) refl
-
--- joining keeps the sum of the sizes
-pub total_size-joined : (m : ZoneMap) → total_size (joined m) ≡ total_size m
-total_size-joined [] = refl
-total_size-joined (e ∷ es) = total_size-joined_to e (joined es) ∙ ap (λ n. e.size + n) (total_size-joined es)
-
-addresses_from-joined_to : (at : ℕ) (test : Kind → Bool) (e : Entry) (m : ZoneMap) → test Free ≡ false → addresses_from at test (joined_to e m) ≡ addresses_from at test (e ∷ m)
-addresses_from-joined_to at test e [] h = refl
-addresses_from-joined_to at test e (f ∷ es) h = by_joined (λ m. addresses_from at test m ≡ addresses_from at test (e ∷ f ∷ es)) e f es (λ p q.
-    let same : at + (e.size + f.size) ≡ (at + e.size) + f.size = omega arith in
-    addresses_from-skip at test (block Free (e.size + f.size)) es h ∙ ap (λ a. addresses_from a test es) same
-    ∙ sym (addresses_from-skip at test e (f ∷ es) (ap test (free_kind e.kind p) ∙ h) ∙ addresses_from-skip (at + e.size) test f es (ap test (free_kind f.kind q) ∙ h))) refl
-
--- joining keeps the addresses of blocks that aren't free
-pub addresses_from-joined : (at : ℕ) (test : Kind → Bool) (m : ZoneMap) → test Free ≡ false → addresses_from at test (joined m) ≡ addresses_from at test m
-addresses_from-joined at test [] h = refl
-addresses_from-joined at test (e ∷ es) h = addresses_from-joined_to at test e (joined es) h ∙ ap (λ found. cond (test e.kind) (at ∷ []) [] ++ found) (addresses_from-joined (at + e.size) test es h)
 
 -- what each block passes, each joined one does, where two that pass make one that passes
 pub list_all-joined : (p : Entry → Bool) → ((m n : ℕ) → p (block Free m) ≡ true → p (block Free n) ≡ true → p (block Free (m + n)) ≡ true)
     → (m : ZoneMap) → list_all p m ≡ true → list_all p (joined m) ≡ true
 list_all-joined p joins [] h = refl
 list_all-joined p joins (e ∷ es) h =
-    let hs = both_true (p e) (list_all p es) h in
+    let hs = and_parts (p e) (list_all p es) h in
     one_more (joined es) hs.0 (list_all-joined p joins es hs.1)
   where
     is_block : (e : Entry) → is_free e.kind ≡ true → e ≡ block Free e.size
-    is_block e h = ap (λ (kind : Kind). block kind e.size) (free_kind e.kind h)
+    is_block e h = ap (λ (kind : Kind). block kind e.size) (free_is e.kind h)
 
     one_more : (m : ZoneMap) → p e ≡ true → list_all p m ≡ true → list_all p (joined_to e m) ≡ true
-    one_more [] here rest = true_both (p e) true here refl
+    one_more [] here rest = and_from (p e) true here refl
     one_more (f ∷ fs) here rest =
-        let hs = both_true (p f) (list_all p fs) rest in
+        let hs = and_parts (p f) (list_all p fs) rest in
         by_joined (λ m. list_all p m ≡ true) e f fs
-        (λ a b. true_both (p (block Free (e.size + f.size))) (list_all p fs) (joins e.size f.size (ap p (sym (is_block e a)) ∙ here) (ap p (sym (is_block f b)) ∙ hs.0)) hs.1)
-        (true_both (p e) (p f && list_all p fs) here rest)
+        (λ a b. and_from (p (block Free (e.size + f.size))) (list_all p fs) (joins e.size f.size (ap p (sym (is_block e a)) ∙ here) (ap p (sym (is_block f b)) ∙ hs.0)) hs.1)
+        (and_from (p e) (p f && list_all p fs) here rest)
 
 sum_size : (heads : ℕ) (m n : ℕ) → ((m % 4 == 0) && nat_le heads m) ≡ true → ((n % 4 == 0) && nat_le heads n) ≡ true → (((m + n) % 4 == 0) && nat_le heads (m + n)) ≡ true
 sum_size heads m n a b = grind (arith, nat_tests)
@@ -93,11 +68,11 @@ free_apart-joined_to e [] h = by_test (is_free e.kind)
     by_test true = refl
     by_test false = refl
 free_apart-joined_to e (f ∷ es) h =
-    let hs = both_true (not (is_free f.kind && starts_free es)) (free_apart es) h in
+    let hs = and_parts (not (is_free f.kind && starts_free es)) (free_apart es) h in
     elim (is_free e.kind && is_free f.kind) as (λ b. (is_free e.kind && is_free f.kind) ≡ b → IsTrue (free_apart (cond b (block Free (e.size + f.size) ∷ es) (e ∷ f ∷ es)))) [
-      | true ↦ λ both. let ends = both_true (is_free e.kind) (is_free f.kind) both in
-          true_both (not (starts_free es)) (free_apart es) (sym (ap (λ b. not (b && starts_free es)) ends.1) ∙ hs.0) hs.1
-      | false ↦ λ both. true_both (not (is_free e.kind && is_free f.kind)) _ (not_true _ both) h
+      | true ↦ λ both. let ends = and_parts (is_free e.kind) (is_free f.kind) both in
+          and_from (not (starts_free es)) (free_apart es) (sym (ap (λ b. not (b && starts_free es)) ends.1) ∙ hs.0) hs.1
+      | false ↦ λ both. and_from (not (is_free e.kind && is_free f.kind)) _ (not_from_false _ both) h
     ] refl
 
 -- no two neighbours are free once they are joined
@@ -105,13 +80,9 @@ pub free_apart-joined : (m : ZoneMap) → IsTrue (free_apart (joined m))
 free_apart-joined [] = refl
 free_apart-joined (e ∷ es) = free_apart-joined_to e (joined es) (free_apart-joined es)
 
-joined_to-apart : (e : Entry) (es : ZoneMap) → (is_free e.kind && starts_free es) ≡ false → joined_to e es ≡ e ∷ es
-joined_to-apart e [] h = refl
-joined_to-apart e (f ∷ es) h = ap (λ b. cond b (block Free (e.size + f.size) ∷ es) (e ∷ f ∷ es)) h
-
 -- what is joined already stays
 pub joined-apart : (m : ZoneMap) → IsTrue (free_apart m) → joined m ≡ m
 joined-apart [] h = refl
 joined-apart (e ∷ es) h =
-    let hs = both_true (not (is_free e.kind && starts_free es)) (free_apart es) h in
-    ap (joined_to e) (joined-apart es hs.1) ∙ joined_to-apart e es (true_not _ hs.0)
+    let hs = and_parts (not (is_free e.kind && starts_free es)) (free_apart es) h in
+    ap (joined_to e) (joined-apart es hs.1) ∙ joined_to-apart e es (not-true _ hs.0)

@@ -4,6 +4,7 @@ use Rattle.std.specs.Prelude.{◌||◌, ◌&&◌, ◌==◌, filter, slice_index}
 use Rattle.std.specs.List.{list_any}
 use Rattle.std.proofs.lemmas.Bool.Decides.{nat_tests}
 use Rattle.std.proofs.lemmas.Map.Views.{any-filter_same}
+use Rattle.std.proofs.lemmas.Bool.{eqb-true}
 use Rattle.mac_base.specs.declared.block.Kind.{Kind}
 use Rattle.mac_base.specs.declared.block.Kind.TheVariants.{Free, Master, Ptr, Rel}
 use Rattle.mac_base.specs.HeadKind.{Shape, head_size}
@@ -13,7 +14,7 @@ use Rattle.mac_base.specs.Heap.{Heap}
 use Rattle.mac_base.specs.Loans.{LoansAreFixed, owners, owner_of}
 use Rattle.mac_base.specs.Suits.{Suits}
 use Rattle.zone_laws.proofs.SuitsNamed.{named_once}
-use Rattle.zone_laws.proofs.Tables.{AgreeBut, eqb-true-is}
+use Rattle.zone_laws.proofs.Tables.{AgreeBut}
 
 -- a pointer or a locked handle has a block
 pub fixed-block : (t : HandleTable) (x : ℕ) → (is_pointer t x || is_locked t x) ≡ true → has_block t x ≡ true
@@ -60,7 +61,7 @@ block-owner s t m x suits block = elim (list_any (λ y. y == x) (owners m)) as (
 
 -- which of some numbers are lent, once those that pass a test are
 pub lent-filtered : (p : ℕ → Bool) (x : ℕ) (xs : List ℕ) → list_any (λ y. y == x) (filter p xs) ≡ (p x && list_any (λ y. y == x) xs)
-lent-filtered p x xs = any-filter_same (λ y. y == x) p (p x) (λ y same. ap p (eqb-true-is y x same)) xs
+lent-filtered p x xs = any-filter_same (λ y. y == x) p (p x) (λ y same. ap p (eqb-true y x same)) xs
 
 -- where a block of x stands in the new map as in the old one, its contents do
 pub contents_of-same : (s : Shape) (x : ℕ) (old new : ZoneMap) → addresses s (is_named x) new ≡ addresses s (is_named x) old → contents_of s x new ≡ contents_of s x old
@@ -89,7 +90,7 @@ fixed-kept s old new keeps fixed x lent =
 -- what is lent is none that isn't
 pub lent-apart : (t : HandleTable) (x y : ℕ) → is_lent t x ≡ false → is_lent t y ≡ true → eqb y x ≡ false
 lent-apart t x y here lent = elim (eqb y x) as (λ b. eqb y x ≡ b → b ≡ false) [
-  | true ↦ λ same. absurd (cc (ap (is_lent t) (eqb-true-is y x same), here, lent))
+  | true ↦ λ same. absurd (cc (ap (is_lent t) (eqb-true y x same), here, lent))
   | false ↦ λ _. refl
 ] refl
 

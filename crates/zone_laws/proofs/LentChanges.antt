@@ -2,6 +2,7 @@
 use Rattle.std.proofs.Common.{◌≡◌, ℕ, Bool, true, false, not, eqb, List, [], ◌∷◌, length, Some, refl, ap, sym, ◌∙◌, subst}
 use Rattle.std.specs.Prelude.{◌||◌, ◌&&◌, ◌==◌, filter}
 use Rattle.std.specs.List.{list_any}
+use Rattle.std.proofs.lemmas.Bool.{not-true, and_parts, not_from_false, and_from, eqb-true}
 use Rattle.mac_base.specs.declared.block.Flags.{Flags}
 use Rattle.mac_base.specs.declared.block.Kind.TheVariants.{Ptr, Rel}
 use Rattle.mac_base.specs.HeadKind.{Shape, need}
@@ -16,15 +17,15 @@ use Rattle.mac_base.specs.declared.request.Request.TheVariants.{NewBlock, NewEmp
 use Rattle.mac_base.specs.Serve.{take_lowest, lowest_contents, resized_in_place}
 use Rattle.mac_base.specs.Sound.{Sound}
 use Rattle.zone_laws.proofs.Lent.{KeepsLent, keeps-others, no_block-here, lent-block, block-owner, lent-filtered, other_named}
-use Rattle.zone_laws.proofs.Maps.{both_true, true_both, not_true, true_not}
 use Rattle.zone_laws.proofs.Resized.{resized_in_place-at}
-use Rattle.zone_laws.proofs.SoundPlaced.{front_slot-free, take_lowest-taken}
+use Rattle.zone_laws.proofs.SoundPlaced.{front_slot-free}
 use Rattle.zone_laws.proofs.SoundPointer.{new_pointer-not_live}
 use Rattle.zone_laws.proofs.SoundWritten.{sound-same_shape, sound-written}
 use Rattle.zone_laws.proofs.SuitsReleased.{addresses-released}
 use Rattle.zone_laws.proofs.SuitsResized.{addresses_from-resized}
 use Rattle.zone_laws.proofs.SuitsTaken.{addresses-untaken}
-use Rattle.zone_laws.proofs.Tables.{by_number, eqb-true-is, eqb_swap, live_at-with_live_same, with_live_agrees, without_agrees}
+use Rattle.zone_laws.proofs.Tables.{by_number, eqb_swap, live_at-with_live_same, with_live_agrees, without_agrees}
+use Rattle.zone_laws.proofs.PlacedParts.{taken-parts}
 
 -- a new handle of n bytes takes the lowest free block that has room for them
 pub keeps-new_handle : (s : Shape) (heap : Heap) (h : ℕ) (hs : List ℕ) (n : ℕ) (m : ZoneMap) → Sound s heap → LoansAreFixed heap → heap.free_slots ≡ h ∷ hs → take_lowest s (need s.heads n) (Rel h) heap.map ≡ Some m
@@ -32,7 +33,7 @@ pub keeps-new_handle : (s : Shape) (heap : Heap) (h : ℕ) (hs : List ℕ) (n : 
 keeps-new_handle s heap h hs n m sound fixed front is =
     let slot = front_slot-free s heap h hs sound front in
     keeps-others s heap (granted (NewBlock n) h m heap) h (no_block-here heap h fixed slot.not_full slot.no_pointer) (with_live_agrees h (FullHandle no_flags (zeros n)) heap.table) refl
-    (λ y apart. addresses-untaken s (need s.heads n) (Rel h) heap.map m (take_lowest-taken s (need s.heads n) (Rel h) heap.map m is) (is_named y) refl (eqb_swap h y ∙ apart))
+    (λ y apart. addresses-untaken s (need s.heads n) (Rel h) heap.map m (taken-parts s (need s.heads n) (Rel h) heap.map m is) (is_named y) refl (eqb_swap h y ∙ apart))
 
 -- a new empty handle takes the front slot
 pub keeps-new_empty : (s : Shape) (heap : Heap) (h : ℕ) (hs : List ℕ) → Sound s heap → LoansAreFixed heap → heap.free_slots ≡ h ∷ hs → KeepsLent s heap (granted NewEmpty h heap.map heap)
@@ -46,7 +47,7 @@ pub keeps-new_pointer : (s : Shape) (heap : Heap) (n p : ℕ) (m : ZoneMap) → 
 keeps-new_pointer s heap n p m sound fixed is at =
     let none = new_pointer-not_live s heap n p m sound is at in
     keeps-others s heap (granted (NewPointer n) p m heap) p (no_block-here heap p fixed (ap live_full none) (ap live_pointer none)) (with_live_agrees p (Pointer (zeros n)) heap.table) refl
-    (λ y apart. addresses-untaken s (need s.heads n) (Ptr p) heap.map m (take_lowest-taken s (need s.heads n) (Ptr p) heap.map m is) (is_named y) refl (eqb_swap p y ∙ apart))
+    (λ y apart. addresses-untaken s (need s.heads n) (Ptr p) heap.map m (taken-parts s (need s.heads n) (Ptr p) heap.map m is) (is_named y) refl (eqb_swap p y ∙ apart))
 
 -- the block of a number that isn't lent is free, and joined to its free neighbours
 pub keeps-released : (s : Shape) (heap : Heap) (c : ReleasingCall) → is_lent heap.table (operand_of c) ≡ false → KeepsLent s heap (heap_released c heap)
@@ -109,8 +110,8 @@ pub lent_out-fixed : (heap : Heap) (x : ℕ) → LoansAreFixed heap → (is_poin
 lent_out-fixed heap x fixed here y lent = by_test (y == x) refl (sym (is_lent-lent_out x heap y) ∙ lent)
   where
     by_test : (b : Bool) → (y == x) ≡ b → ((b || is_lent heap.table y) && list_any (λ z. z == y) (owners heap.map)) ≡ true → (is_pointer heap.table y || is_locked heap.table y) ≡ true
-    by_test true is h = subst (λ v. (is_pointer heap.table v || is_locked heap.table v) ≡ true) (sym (eqb-true-is y x is)) here
-    by_test false is h = fixed y (both_true (is_lent heap.table y) (list_any (λ z. z == y) (owners heap.map)) h).0
+    by_test true is h = subst (λ v. (is_pointer heap.table v || is_locked heap.table v) ≡ true) (sym (eqb-true y x is)) here
+    by_test false is h = fixed y (and_parts (is_lent heap.table y) (list_any (λ z. z == y) (owners heap.map)) h).0
 
 -- the heap in which other numbers are lent is as sound
 pub sound-lent : (s : Shape) (heap : Heap) (xs : List ℕ) → Sound s heap → Sound s (with_table (with_lent xs heap.table) heap)
@@ -122,7 +123,7 @@ is_lent-returned x bytes heap y = lent-filtered (λ z. not (z == x)) y heap.tabl
 
 -- so another that was lent still is
 pub returned-lent : (x : ℕ) (bytes : List ℕ) (heap : Heap) (y : ℕ) → eqb y x ≡ false → is_lent heap.table y ≡ true → is_lent (returned x bytes heap).table y ≡ true
-returned-lent x bytes heap y apart lent = is_lent-returned x bytes heap y ∙ true_both (not (y == x)) (is_lent heap.table y) (not_true (y == x) apart) lent
+returned-lent x bytes heap y apart lent = is_lent-returned x bytes heap y ∙ and_from (not (y == x)) (is_lent heap.table y) (not_from_false (y == x) apart) lent
 
 -- with its own bytes
 pub returned-bytes : (x : ℕ) (bytes : List ℕ) (heap : Heap) (y : ℕ) → eqb y x ≡ false → bytes_of (returned x bytes heap).table y ≡ bytes_of heap.table y
@@ -131,8 +132,8 @@ returned-bytes x bytes heap y apart = ap live_bytes ((with_live_agrees x (refill
 -- and each of these is fixed as before
 pub returned-fixed : (x : ℕ) (bytes : List ℕ) (heap : Heap) → LoansAreFixed heap → LoansAreFixed (returned x bytes heap)
 returned-fixed x bytes heap fixed y lent =
-    let was = both_true (not (y == x)) (is_lent heap.table y) (sym (is_lent-returned x bytes heap y) ∙ lent) in
-    ap (λ o. live_pointer o || (live_flags o).lock) ((with_live_agrees x (refilled bytes (live_at heap.table x)) heap.table).others y (true_not (y == x) was.0)) ∙ fixed y was.1
+    let was = and_parts (not (y == x)) (is_lent heap.table y) (sym (is_lent-returned x bytes heap y) ∙ lent) in
+    ap (λ o. live_pointer o || (live_flags o).lock) ((with_live_agrees x (refilled bytes (live_at heap.table x)) heap.table).others y (not-true (y == x) was.0)) ∙ fixed y was.1
 
 -- a block has as many bytes when it comes back
 pub sound-returned : (s : Shape) (heap : Heap) (x : ℕ) (bytes : List ℕ) → Sound s heap → LoansAreFixed heap → is_lent heap.table x ≡ true → length bytes ≡ length (bytes_of heap.table x) → Sound s (returned x bytes heap)

@@ -1,30 +1,11 @@
 -- The words on a map, where some of its blocks are put in place of others.
-use Rattle.std.proofs.Common.{◌≡◌, ℕ, ◌+◌, Bool, true, false, not, ◌&&◌, cond, [], ◌∷◌, ◌++◌, refl, ap, sym, ◌∙◌, append_assoc, arith}
+use Rattle.std.proofs.Common.{◌≡◌, ℕ, ◌+◌, Bool, true, false, ◌&&◌, cond, [], ◌∷◌, ◌++◌, ap, sym, ◌∙◌, append_assoc, arith}
 use Rattle.std.specs.List.{list_all}
 use Rattle.std.proofs.lemmas.List.Folds.{list_all-append}
+use Rattle.std.proofs.lemmas.Bool.{and_parts, and_from}
 use Rattle.mac_base.specs.declared.block.Entry.{Entry}
 use Rattle.mac_base.specs.declared.block.Kind.{Kind}
 use Rattle.mac_base.specs.ZoneMap.{ZoneMap, total_size, addresses_from}
-
--- both tests pass where their conjunction does
-pub both_true : (a b : Bool) → (a && b) ≡ true → (a ≡ true) × (b ≡ true)
-both_true true b h = (refl, h)
-both_true false b h = absurd (cc h)
-
--- and their conjunction where both do
-pub true_both : (a b : Bool) → a ≡ true → b ≡ true → (a && b) ≡ true
-true_both true b p q = q
-true_both false b p q = absurd (cc p)
-
--- a test that fails passes when negated
-pub not_true : (b : Bool) → b ≡ false → not b ≡ true
-not_true true h = absurd (cc h)
-not_true false h = refl
-
--- and one that passes negated fails
-pub true_not : (b : Bool) → not b ≡ true → b ≡ false
-true_not true h = absurd (cc h)
-true_not false h = refl
 
 -- the sizes of two parts add up
 pub total_size-append : (xs ys : ZoneMap) → total_size (xs ++ ys) ≡ total_size xs + total_size ys
@@ -93,6 +74,6 @@ module _ (old new : ZoneMap) (x : Exchanged old new) where
   -- what each block passes, where the new ones pass it
   pub list_all-exchanged : (p : Entry → Bool) → list_all p x.right ≡ true → list_all p old ≡ true → list_all p new ≡ true
   list_all-exchanged p right h =
-      let all = both_true (list_all p x.before) (list_all p x.left && list_all p x.behind) (sym (ap (list_all p) x.was ∙ list_all-middle p x.before x.left x.behind) ∙ h) in
-      let rest = both_true (list_all p x.left) (list_all p x.behind) all.1 in
-      ap (list_all p) x.is ∙ list_all-middle p x.before x.right x.behind ∙ true_both (list_all p x.before) _ all.0 (true_both (list_all p x.right) _ right rest.1)
+      let all = and_parts (list_all p x.before) (list_all p x.left && list_all p x.behind) (sym (ap (list_all p) x.was ∙ list_all-middle p x.before x.left x.behind) ∙ h) in
+      let rest = and_parts (list_all p x.left) (list_all p x.behind) all.1 in
+      ap (list_all p) x.is ∙ list_all-middle p x.before x.right x.behind ∙ and_from (list_all p x.before) _ all.0 (and_from (list_all p x.right) _ right rest.1)

@@ -2,6 +2,8 @@
 use Rattle.std.proofs.Common.{◌≡◌, ℕ, ◌+◌, Bool, true, false, not, ◌||◌, cond, eqb, List, [], ◌∷◌, ◌++◌, length, refl, ap, ◌∙◌, arith, IsTrue, map}
 use Rattle.std.specs.List.{list_all}
 use Rattle.std.proofs.lemmas.Bool.Decides.{nat_tests}
+use Rattle.std.proofs.lemmas.List.{nil_from_length}
+use Rattle.std.proofs.lemmas.Bool.{not-true, and_parts, not_from_false, and_from}
 use Rattle.mac_base.specs.declared.block.Entry.{Entry}
 use Rattle.mac_base.specs.declared.block.Kind.{Kind}
 use Rattle.mac_base.specs.declared.block.Kind.TheVariants.{Free, Master, Ptr, Rel}
@@ -9,7 +11,6 @@ use Rattle.mac_base.specs.HeadKind.{Shape}
 use Rattle.mac_base.specs.ZoneMap.{ZoneMap, is_free, is_named, addresses_from, addresses, address_behind}
 use Rattle.mac_base.specs.HandleTable.{HandleTable, live_bytes, is_full, is_pointer}
 use Rattle.mac_base.specs.Suits.{Suits, is_handle_block, is_pointer_block, has_length, has_owners_length, wanted_length}
-use Rattle.zone_laws.proofs.Maps.{both_true, true_both, not_true, true_not}
 use Rattle.zone_laws.proofs.Tables.{AgreeBut}
 
 -- whether x names no block of a map
@@ -48,21 +49,16 @@ none_named-from at x [] h p = refl
 none_named-from at x (e ∷ es) h p =
     let hs = nothing_passes (is_handle_block x e.kind) at (addresses_from (at + e.size) (is_handle_block x) es) h in
     let ps = nothing_passes (is_pointer_block x e.kind) at (addresses_from (at + e.size) (is_pointer_block x) es) p in
-    true_both _ _ (not_true _ (not_named x e.kind hs.0 ps.0)) (none_named-from (at + e.size) x es hs.1 ps.1)
-
--- a list without length is empty
-pub no_length : (xs : List ℕ) → length xs ≡ 0 → xs ≡ []
-no_length [] h = refl
-no_length (x ∷ xs) h = absurd (omega arith)
+    and_from _ _ (not_from_false _ (not_named x e.kind hs.0 ps.0)) (none_named-from (at + e.size) x es hs.1 ps.1)
 
 -- only an empty list maps to one
-no_map : (f : ℕ → ℕ) (xs : List ℕ) → map f xs ≡ [] → xs ≡ []
+pub no_map : (f : ℕ → ℕ) (xs : List ℕ) → map f xs ≡ [] → xs ≡ []
 no_map f [] h = refl
 no_map f (x ∷ xs) h = absurd (cc h)
 
 -- no block of a handle or a pointer that has none
 pub no_handle_block : (s : Shape) (t : HandleTable) (m : ZoneMap) → Suits s t m → (x : ℕ) → is_full t x ≡ false → addresses s (is_handle_block x) m ≡ []
-no_handle_block s t m suits x h = no_length _ (suits.coherent.handles x ∙ ap (λ b. cond b 1 0) h)
+no_handle_block s t m suits x h = nil_from_length _ (suits.coherent.handles x ∙ ap (λ b. cond b 1 0) h)
 
 -- and a number that is no pointer has none as a pointer
 pub no_pointer_block : (s : Shape) (t : HandleTable) (m : ZoneMap) → Suits s t m → (x : ℕ) → is_pointer t x ≡ false → addresses s (is_pointer_block x) m ≡ []
@@ -87,9 +83,9 @@ has_owners_length-agree s x old new a e h = ap (λ n. is_free e.kind || has_leng
 pub lengths-agree : (s : Shape) (x : ℕ) (old new : HandleTable) → AgreeBut x old new → (m : ZoneMap) → none_named x m ≡ true → IsTrue (list_all (has_owners_length s old) m) → IsTrue (list_all (has_owners_length s new) m)
 lengths-agree s x old new a [] none h = refl
 lengths-agree s x old new a (e ∷ es) none h =
-    let nones = both_true (not (is_named x e.kind)) (none_named x es) none in
-    let hs = both_true (has_owners_length s old e) (list_all (has_owners_length s old) es) h in
-    true_both (has_owners_length s new e) _ (has_owners_length-agree s x old new a e (true_not _ nones.0) ∙ hs.0) (lengths-agree s x old new a es nones.1 hs.1)
+    let nones = and_parts (not (is_named x e.kind)) (none_named x es) none in
+    let hs = and_parts (has_owners_length s old e) (list_all (has_owners_length s old) es) h in
+    and_from (has_owners_length s new e) _ (has_owners_length-agree s x old new a e (not-true _ nones.0) ∙ hs.0) (lengths-agree s x old new a es nones.1 hs.1)
 
 -- the block of another handle is not named x
 pub other_handle : (x g : ℕ) → eqb g x ≡ false → (kind : Kind) → is_handle_block g kind ≡ true → is_named x kind ≡ false

@@ -9,10 +9,11 @@ use Rattle.mac_base.specs.HeadKind.{Shape}
 use Rattle.mac_base.specs.ZoneMap.{ZoneMap, Rearranged, is_free, is_kind, total_size, sizes, address_behind, addresses_from}
 use Rattle.mac_base.specs.HandleTable.{HandleTable}
 use Rattle.mac_base.specs.Gap.{Gap, filled, is_fixed}
-use Rattle.zone_laws.proofs.GapAppend.{total_size-append, sizes-append, addresses_from-append, addresses_from-none}
+use Rattle.zone_laws.proofs.GapAppend.{sizes-append, addresses_from-none}
 use Rattle.zone_laws.proofs.GapParts.{all_move, IsGap}
 use Rattle.zone_laws.proofs.Arranging.{IsArrangement}
 use Rattle.zone_laws.proofs.ArrangingNamed.{is_kind-same}
+use Rattle.zone_laws.proofs.Maps.{total_size-append, addresses_from-append}
 
 -- a map is a rearrangement of itself
 pub Rearranged-refl : (s : Shape) (stays : Kind → Bool) (m : ZoneMap) → Rearranged s stays m m

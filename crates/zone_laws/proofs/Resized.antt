@@ -3,12 +3,12 @@ use Rattle.std.proofs.Common.{◌≡◌, ℕ, ◌+◌, ◌≤◌, true, false, n
 use Rattle.std.specs.Prelude.{⊤}
 use Rattle.std.specs.List.{list_all}
 use Rattle.std.proofs.lemmas.Bool.Decides.{nat_tests}
+use Rattle.std.proofs.lemmas.Bool.{leb-true, not-true, and_parts, and_from}
 use Rattle.mac_base.specs.declared.block.Entry.{Entry}
 use Rattle.mac_base.specs.HeadKind.{Shape}
 use Rattle.mac_base.specs.ZoneMap.{ZoneMap, is_free, is_named, total_size, joined}
 use Rattle.mac_base.specs.Suits.{free_apart, starts_free}
 use Rattle.mac_base.specs.Serve.{taken, cut, sized, resized_in_place, free_in_front, behind_free}
-use Rattle.zone_laws.proofs.Maps.{both_true, true_both, true_not}
 
 -- A map in which the block of x is k bytes long in place. Before any joining, it and the free blocks right behind it, which may be none, are exchanged for what is taken of them.
 pub record ResizedAt (s : Shape) (k x : ℕ) (old new : ZoneMap) : Type 0 where
@@ -41,9 +41,6 @@ resized_further s k x e es (Some new) h = record {
   joins = h.joins;
 }
 
-le_of : (a b : ℕ) → nat_le a b ≡ true → a ≤ b
-le_of a b h = grind (arith, nat_tests)
-
 -- the first block, cut
 resized_cut : (s : Shape) (k x : ℕ) (e : Entry) (es : ZoneMap) → is_named x e.kind ≡ true → nat_le k e.size ≡ true → ResizedAt s k x (e ∷ es) (cut s k e es)
 resized_cut s k x e es named le = record {
@@ -52,7 +49,7 @@ resized_cut s k x e es named le = record {
   room = [];
   behind = es;
   was = refl;
-  fits = (let fits = le_of k e.size le in omega arith);
+  fits = (let fits = leb-true k e.size le in omega arith);
   named = named;
   all_free = refl;
   tail = cut s k e es;
@@ -72,9 +69,9 @@ resized_grown s k x e f es named free le apart = record {
   room = f ∷ [];
   behind = es;
   was = refl;
-  fits = (let fits = le_of k (e.size + f.size) le in omega arith);
+  fits = (let fits = leb-true k (e.size + f.size) le in omega arith);
   named = named;
-  all_free = true_both (is_free f.kind) true free refl;
+  all_free = and_from (is_free f.kind) true free refl;
   tail = taken s k e.kind (e.size + f.size) ++ es;
   is = refl;
   joins = inr (ap (λ n. taken s k e.kind n ++ es) same, apart);
@@ -99,19 +96,19 @@ sized_parts s k x e es apart named =
     by_room (f ∷ fs) apart more =
         elim (is_free f.kind) as (λ b. is_free f.kind ≡ b → MatchOption (cond (nat_le k (e.size + cond b f.size 0)) (Some (taken s k e.kind (e.size + cond b f.size 0) ++ cond b fs (f ∷ fs))) None) ⊤ (λ new. ResizedAt s k x (e ∷ f ∷ fs) new)) [
           | true ↦ λ free. elim (nat_le k (e.size + f.size)) as (λ b. nat_le k (e.size + f.size) ≡ b → MatchOption (cond b (Some (taken s k e.kind (e.size + f.size) ++ fs)) None) ⊤ (λ new. ResizedAt s k x (e ∷ f ∷ fs) new)) [
-            | true ↦ λ le. resized_grown s k x e f fs named free le (ends free (both_true (not (is_free f.kind && starts_free fs)) (free_apart fs) apart).0)
+            | true ↦ λ le. resized_grown s k x e f fs named free le (ends free (and_parts (not (is_free f.kind && starts_free fs)) (free_apart fs) apart).0)
             | false ↦ λ _. tt
           ] refl
           | false ↦ λ used. subst (λ b. MatchOption (cond b (Some (taken s k e.kind (e.size + 0) ++ (f ∷ fs))) None) ⊤ (λ new. ResizedAt s k x (e ∷ f ∷ fs) new)) (sym (too_large more 0 refl)) tt
         ] refl
       where
         ends : is_free f.kind ≡ true → not (is_free f.kind && starts_free fs) ≡ true → starts_free fs ≡ false
-        ends free h = true_not (starts_free fs) (sym (ap (λ b. not (b && starts_free fs)) free) ∙ h)
+        ends free h = not-true (starts_free fs) (sym (ap (λ b. not (b && starts_free fs)) free) ∙ h)
 
 resized_parts : (s : Shape) (k x : ℕ) (m : ZoneMap) → IsTrue (free_apart m) → MatchOption (resized_in_place s k x m) ⊤ (λ new. ResizedAt s k x m new)
 resized_parts s k x [] apart = tt
 resized_parts s k x (e ∷ es) apart =
-    let rest = (both_true (not (is_free e.kind && starts_free es)) (free_apart es) apart).1 in
+    let rest = (and_parts (not (is_free e.kind && starts_free es)) (free_apart es) apart).1 in
     elim (is_named x e.kind) as (λ b. is_named x e.kind ≡ b → MatchOption (cond b (sized s k e es) (option_map (λ m. e ∷ m) (resized_in_place s k x es))) ⊤ (λ new. ResizedAt s k x (e ∷ es) new)) [
       | true ↦ λ named. sized_parts s k x e es rest named
       | false ↦ λ _. resized_further s k x e es (resized_in_place s k x es) (resized_parts s k x es rest)

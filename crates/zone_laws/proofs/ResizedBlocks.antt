@@ -8,13 +8,13 @@ use Rattle.mac_base.specs.declared.block.Kind.TheVariants.{Free, Rel}
 use Rattle.mac_base.specs.HeadKind.{Shape, head_size, smallest_block}
 use Rattle.mac_base.specs.ZoneMap.{ZoneMap, block, is_free, is_named, joined, joined_to, released, total_size, address_behind, addresses_from, contents_of, sizes}
 use Rattle.mac_base.specs.Serve.{taken, cut, sized, free_in_front, behind_free, resized_in_place, renamed}
-use Rattle.zone_laws.proofs.GapAppend.{addresses_from-append}
 use Rattle.zone_laws.proofs.Arranging.{free_is, named-used}
 use Rattle.zone_laws.proofs.NamedPlace.{At}
 use Rattle.zone_laws.proofs.JoinedBlocks.{joined_to-apart, joined-front, joined-two, join_cases}
 use Rattle.zone_laws.proofs.ReleasedBlocks.{marked_block, marked, marked-append, joined-marked_taken, sizes-released}
 use Rattle.zone_laws.proofs.OpenedGap.{resized_in_place-At}
 use Rattle.zone_laws.proofs.PlacedParts.{option_map-Some}
+use Rattle.zone_laws.proofs.Maps.{addresses_from-append}
 
 marked-free : (x : ℕ) (e : Entry) → e.kind ≡ Free → marked_block x e ≡ block Free e.size
 marked-free x e free = ap (λ kind. marked_block x (record { size = e.size; kind = kind })) free

@@ -1,8 +1,9 @@
 -- Where a map suits its table, no slot is a pointer, and no free block's contents begin where a live block's do.
-use Rattle.std.proofs.Common.{◌≡◌, ℕ, ◌+◌, ◌*◌, ◌≤◌, ◌%◌, ◌==◌, Bool, true, false, ◌&&◌, nat_le, nat_lt, cond, List, [], ◌∷◌, ◌++◌, map, refl, ap, sym, ◌∙◌, arith, IsTrue, Contains, subst}
+use Rattle.std.proofs.Common.{◌≡◌, ℕ, ◌+◌, ◌*◌, ◌≤◌, ◌%◌, ◌==◌, true, false, ◌&&◌, nat_le, nat_lt, cond, List, [], ◌∷◌, ◌++◌, map, refl, ap, sym, ◌∙◌, arith, IsTrue, Contains, subst}
 use Rattle.std.specs.List.{list_all}
 use Rattle.std.proofs.lemmas.List.Elements.{Contains-append_right}
 use Rattle.std.proofs.lemmas.Bool.Decides.{nat_tests}
+use Rattle.std.proofs.lemmas.Bool.{false_from_ne_true, and_parts, and_from}
 use Rattle.mac_base.specs.declared.block.Entry.{Entry}
 use Rattle.mac_base.specs.declared.block.HeadKind.{HeadKind}
 use Rattle.mac_base.specs.declared.block.HeadKind.TheVariants.{Bits24, Bits32}
@@ -12,7 +13,7 @@ use Rattle.mac_base.specs.HeadKind.{Shape, need, head_size, smallest_block, slot
 use Rattle.mac_base.specs.ZoneMap.{ZoneMap, block, is_free, is_master, total_size, address_behind, addresses, addresses_from}
 use Rattle.mac_base.specs.HandleTable.{HandleTable, is_pointer, is_handle}
 use Rattle.mac_base.specs.Suits.{Suits, is_block_size, is_pointer_block, has_owners_length, slots}
-use Rattle.zone_laws.proofs.Maps.{both_true, true_both, addresses_from-append}
+use Rattle.zone_laws.proofs.Maps.{addresses_from-append}
 use Rattle.zone_laws.proofs.SlotPlaces.{has_room, slot_no_contents, one_block_at, Contains-here}
 
 large_master : (heads : HeadKind) → head_size heads + 4 * 64 ≤ need heads master_length
@@ -31,53 +32,48 @@ has_room-suits s t e size long = by_kind e.kind e.size size long
     by_master head k n more large h = grind (arith, nat_tests)
 
     by_kind : (kind : Kind) (n : ℕ) → is_block_size s n ≡ true → has_owners_length s t (block kind n) ≡ true → has_room (head_size s.heads) slot_count (block kind n) ≡ true
-    by_kind Free n size long = true_both _ true (by_size s.heads n size) refl
-    by_kind Master n size long = true_both _ _ (by_size s.heads n size) (by_master (head_size s.heads) (need s.heads master_length) n _ (large_master s.heads) long)
-    by_kind (Ptr p) n size long = true_both _ true (by_size s.heads n size) refl
-    by_kind (Rel h) n size long = true_both _ true (by_size s.heads n size) refl
+    by_kind Free n size long = and_from _ true (by_size s.heads n size) refl
+    by_kind Master n size long = and_from _ _ (by_size s.heads n size) (by_master (head_size s.heads) (need s.heads master_length) n _ (large_master s.heads) long)
+    by_kind (Ptr p) n size long = and_from _ true (by_size s.heads n size) refl
+    by_kind (Rel h) n size long = and_from _ true (by_size s.heads n size) refl
 
 rooms_from : (s : Shape) (t : HandleTable) (m : ZoneMap) → IsTrue (list_all (λ (e : Entry). is_block_size s e.size) m) → IsTrue (list_all (has_owners_length s t) m) → list_all (has_room (head_size s.heads) slot_count) m ≡ true
 rooms_from s t [] sizes lengths = refl
 rooms_from s t (e ∷ es) sizes lengths =
-    let size = both_true (is_block_size s e.size) (list_all (λ (e : Entry). is_block_size s e.size) es) sizes in
-    let long = both_true (has_owners_length s t e) (list_all (has_owners_length s t) es) lengths in
-    true_both (has_room (head_size s.heads) slot_count e) _ (has_room-suits s t e size.0 long.0) (rooms_from s t es size.1 long.1)
+    let size = and_parts (is_block_size s e.size) (list_all (λ (e : Entry). is_block_size s e.size) es) sizes in
+    let long = and_parts (has_owners_length s t e) (list_all (has_owners_length s t) es) lengths in
+    and_from (has_room (head_size s.heads) slot_count e) _ (has_room-suits s t e size.0 long.0) (rooms_from s t es size.1 long.1)
 
 -- each block of such a map has that room
 pub rooms-suits : (s : Shape) (t : HandleTable) (m : ZoneMap) → Suits s t m → list_all (has_room (head_size s.heads) slot_count) m ≡ true
 rooms-suits s t m suits = rooms_from s t m suits.sizes suits.lengths
 
 -- where the block of a pointer is
-address_from_contents : (f : ℕ → ℕ) (xs : List ℕ) (y : ℕ) → map f xs ≡ y ∷ [] → (x : ℕ) × Contains xs x × (f x ≡ y)
+pub address_from_contents : (f : ℕ → ℕ) (xs : List ℕ) (y : ℕ) → map f xs ≡ y ∷ [] → (x : ℕ) × Contains xs x × (f x ≡ y)
 address_from_contents f [] y h = absurd (cc h)
 address_from_contents f (x ∷ xs) y h = (x, Contains-here x xs, cc h)
 
-pointer_not_master : (p : ℕ) (kind : Kind) → is_pointer_block p kind ≡ true → is_master kind ≡ false
+pub pointer_not_master : (p : ℕ) (kind : Kind) → is_pointer_block p kind ≡ true → is_master kind ≡ false
 pointer_not_master p Free h = refl
 pointer_not_master p Master h = absurd (cc h)
 pointer_not_master p (Ptr q) h = refl
 pointer_not_master p (Rel g) h = refl
 
-pointer_not_free : (p : ℕ) (kind : Kind) → is_pointer_block p kind ≡ true → is_free kind ≡ false
+pub pointer_not_free : (p : ℕ) (kind : Kind) → is_pointer_block p kind ≡ true → is_free kind ≡ false
 pointer_not_free p Free h = absurd (cc h)
 pointer_not_free p Master h = refl
 pointer_not_free p (Ptr q) h = refl
 pointer_not_free p (Rel g) h = refl
 
-free_not_master : (kind : Kind) → is_free kind ≡ true → is_master kind ≡ false
+pub free_not_master : (kind : Kind) → is_free kind ≡ true → is_master kind ≡ false
 free_not_master Free h = refl
 free_not_master Master h = absurd (cc h)
 free_not_master (Ptr q) h = refl
 free_not_master (Rel g) h = refl
 
--- a test that can't pass fails
-pub false_from : (b : Bool) → (b ≡ true → ⊥) → b ≡ false
-false_from true h = absurd (h refl)
-false_from false h = refl
-
 -- no slot is a pointer
 pub slot_no_pointer : (s : Shape) (t : HandleTable) (m : ZoneMap) → Suits s t m → (h : ℕ) → Contains (slots s m) h → is_pointer t h ≡ false
-slot_no_pointer s t m suits h slot = false_from (is_pointer t h) (λ live.
+slot_no_pointer s t m suits h slot = false_from_ne_true (is_pointer t h) (λ live.
     let there = address_from_contents (λ a. a + head_size s.heads) (addresses s (is_pointer_block h) m) h (suits.coherent.pointers h ∙ ap (λ b. cond b (h ∷ []) []) live) in
     slot_no_contents (head_size s.heads) slot_count (address_behind s []) (is_pointer_block h) (pointer_not_master h) m there.0 (rooms-suits s t m suits) there.1
     (subst (λ a. Contains (slots s m) a) (sym there.2) slot))
@@ -99,7 +95,7 @@ module _ (s : Shape) (t : HandleTable) (before behind : ZoneMap) (n p : ℕ) (su
 
   -- nor at a live pointer
   pub free_contents_no_pointer : is_pointer t p ≡ false
-  free_contents_no_pointer = false_from (is_pointer t p) (λ live.
+  free_contents_no_pointer = false_from_ne_true (is_pointer t p) (λ live.
       let found = address_from_contents (λ a. a + head_size s.heads) (addresses s (is_pointer_block p) (before ++ block Free n ∷ behind)) p (suits.coherent.pointers p ∙ ap (λ b. cond b (p ∷ []) []) live) in
       let same : found.0 ≡ address_behind s [] + total_size before = (let is = found.2 in omega arith) in
       one_block_at (head_size s.heads) slot_count (address_behind s []) (is_pointer_block p) is_free (pointer_not_free p) (before ++ block Free n ∷ behind) (address_behind s [] + total_size before)
@@ -107,4 +103,4 @@ module _ (s : Shape) (t : HandleTable) (before behind : ZoneMap) (n p : ℕ) (su
 
   -- nor at a live handle
   pub free_contents_no_handle : is_handle t p ≡ false
-  free_contents_no_handle = false_from (is_handle t p) (λ live. free_contents_no_slot (suits.coherent.in_slots p live))
+  free_contents_no_handle = false_from_ne_true (is_handle t p) (λ live. free_contents_no_slot (suits.coherent.in_slots p live))

@@ -3,11 +3,11 @@ use Rattle.std.proofs.Common.{◌≡◌, ℕ, zero, suc, ◌+◌, ◌*◌, ◌<�
 use Rattle.std.specs.List.{list_all}
 use Rattle.std.proofs.lemmas.Bool.Decides.{nat_tests}
 use Rattle.std.proofs.lemmas.List.Elements.{Contains-append_cases}
+use Rattle.std.proofs.lemmas.Bool.{and_parts}
 use Rattle.mac_base.specs.declared.block.Entry.{Entry}
 use Rattle.mac_base.specs.declared.block.Kind.{Kind}
 use Rattle.mac_base.specs.ZoneMap.{ZoneMap, is_master, addresses_from}
 use Rattle.mac_base.specs.Suits.{slots_from}
-use Rattle.zone_laws.proofs.Maps.{both_true}
 
 -- an element is the first one or among the others
 pub Contains-cons_cases : (x : ℕ) (xs : List ℕ) (y : ℕ) → Contains (x ∷ xs) y → (x ≡ y) ⊎ Contains xs y
@@ -46,7 +46,7 @@ slots_from-bounds (suc n) at h c = elim (Contains-cons_cases at (slots_from n (a
 abbrev pub slots_at : ℕ → ℕ → ℕ → ZoneMap → List ℕ
 slots_at head n at m = flat_map (slots_from n) (map (λ a. a + head) (addresses_from at is_master m))
 
-slots_at-cons : (head n at : ℕ) (e : Entry) (es : ZoneMap) → slots_at head n at (e ∷ es) ≡ cond (is_master e.kind) (slots_from n (at + head)) [] ++ slots_at head n (at + e.size) es
+pub slots_at-cons : (head n at : ℕ) (e : Entry) (es : ZoneMap) → slots_at head n at (e ∷ es) ≡ cond (is_master e.kind) (slots_from n (at + head)) [] ++ slots_at head n (at + e.size) es
 slots_at-cons head n at e es = by_test (is_master e.kind)
   where
     by_test : (b : Bool) → flat_map (slots_from n) (map (λ a. a + head) (cond b (at ∷ []) [] ++ addresses_from (at + e.size) is_master es)) ≡ cond b (slots_from n (at + head)) [] ++ slots_at head n (at + e.size) es
@@ -80,21 +80,21 @@ slot_cases head n at e es h room c = elim (Contains-append_cases _ _ h (subst (�
 pub slots_at-above : (head n at : ℕ) (m : ZoneMap) (h : ℕ) → list_all (has_room head n) m ≡ true → Contains (slots_at head n at m) h → at + head ≤ h
 slots_at-above head n at [] h room c = absurd (Contains-none h c)
 slots_at-above head n at (e ∷ es) h room c =
-    let rooms = both_true (has_room head n e) (list_all (has_room head n) es) room in
+    let rooms = and_parts (has_room head n e) (list_all (has_room head n) es) room in
     elim (slot_cases head n at e es h rooms.0 c) [
       | inl first ↦ first.1
       | inr later ↦ let rest = slots_at-above head n (at + e.size) es h rooms.1 later in omega arith
     ]
 
 -- what passes lies at the first block or behind
-addresses_from-above : (at : ℕ) (test : Kind → Bool) (m : ZoneMap) (a : ℕ) → Contains (addresses_from at test m) a → at ≤ a
+pub addresses_from-above : (at : ℕ) (test : Kind → Bool) (m : ZoneMap) (a : ℕ) → Contains (addresses_from at test m) a → at ≤ a
 addresses_from-above at test [] a c = absurd (Contains-none a c)
 addresses_from-above at test (e ∷ es) a c = elim (first_or_rest (test e.kind) at (addresses_from (at + e.size) test es) a c) [
   | inl first ↦ (let same = first.1 in omega arith)
   | inr later ↦ let rest = addresses_from-above (at + e.size) test es a later in omega arith
 ]
 
-some_size : (head n : ℕ) (e : Entry) → has_room head n e ≡ true → head < e.size
+pub some_size : (head n : ℕ) (e : Entry) → has_room head n e ≡ true → head < e.size
 some_size head n e h = grind (arith, nat_tests)
 
 -- the contents of a block that is no master block don't begin at a slot
@@ -102,7 +102,7 @@ pub slot_no_contents : (head n at : ℕ) (test : Kind → Bool) → ((kind : Kin
     → Contains (addresses_from at test m) a → Contains (slots_at head n at m) (a + head) → ⊥
 slot_no_contents head n at test other [] a room c d = Contains-none a c
 slot_no_contents head n at test other (e ∷ es) a room c d =
-    let rooms = both_true (has_room head n e) (list_all (has_room head n) es) room in
+    let rooms = and_parts (has_room head n e) (list_all (has_room head n) es) room in
     let large = some_size head n e rooms.0 in
     let in_block = first_or_rest (test e.kind) at (addresses_from (at + e.size) test es) a c in
     let in_slot = slot_cases head n at e es (a + head) rooms.0 d in
@@ -122,7 +122,7 @@ pub one_block_at : (head n at : ℕ) (test other : Kind → Bool) → ((kind : K
     → Contains (addresses_from at test m) a → Contains (addresses_from at other m) a → ⊥
 one_block_at head n at test other apart [] a room c d = Contains-none a c
 one_block_at head n at test other apart (e ∷ es) a room c d =
-    let rooms = both_true (has_room head n e) (list_all (has_room head n) es) room in
+    let rooms = and_parts (has_room head n e) (list_all (has_room head n) es) room in
     let large = some_size head n e rooms.0 in
     let one = first_or_rest (test e.kind) at (addresses_from (at + e.size) test es) a c in
     let two = first_or_rest (other e.kind) at (addresses_from (at + e.size) other es) a d in

@@ -1,12 +1,11 @@
 -- A sound heap stays sound where a new handle takes the front slot.
-use Rattle.std.proofs.Common.{◌≡◌, ℕ, ◌+◌, ◌-◌, ◌≤◌, ◌↔◌, Bool, true, false, eqb, List, ◌∷◌, drop, Some, None, MatchOption, refl, ap, sym, ◌∙◌, arith, IsTrue, IsFalse, Contains, subst, inl, inr, nat_eq}
-use Rattle.std.specs.Prelude.{⊤}
+use Rattle.std.proofs.Common.{◌≡◌, ℕ, ◌+◌, ◌-◌, ◌≤◌, ◌↔◌, Bool, true, false, eqb, List, ◌∷◌, drop, Some, None, refl, ap, sym, ◌∙◌, arith, IsTrue, IsFalse, Contains, subst, inl, inr, nat_eq}
 use Rattle.std.specs.List.{IsDistinct}
 use Rattle.std.proofs.lemmas.Bool.Decides.{nat_tests}
 use Rattle.std.proofs.lemmas.List.{length-replicate}
 use Rattle.std.proofs.lemmas.List.Elements.{All-contains, All-from_recursion}
 use Rattle.std.proofs.lemmas.Map.Keys.{IsDistinct-head, IsDistinct-tail}
-use Rattle.mac_base.specs.declared.block.Kind.{Kind}
+use Rattle.std.proofs.lemmas.Bool.{eqb-true}
 use Rattle.mac_base.specs.declared.block.Kind.TheVariants.{Rel}
 use Rattle.mac_base.specs.HeadKind.{Shape, need, zone_header}
 use Rattle.mac_base.specs.ZoneMap.{ZoneMap, total_size, is_master}
@@ -16,17 +15,13 @@ use Rattle.mac_base.specs.declared.request.Request.TheVariants.{NewBlock}
 use Rattle.mac_base.specs.Serve.{take_lowest}
 use Rattle.mac_base.specs.Heap.{Heap, granted}
 use Rattle.mac_base.specs.Sound.{Sound, is_growth}
-use Rattle.zone_laws.proofs.Placing.{TakenAt, take_lowest-parts}
 use Rattle.zone_laws.proofs.Maps.{total_size-exchanged}
-use Rattle.zone_laws.proofs.Tables.{AgreeBut, live_at-with_live_same, with_live_agrees, in_order-with_live, not_live, eqb-true-is}
+use Rattle.zone_laws.proofs.Tables.{AgreeBut, live_at-with_live_same, with_live_agrees, in_order-with_live, not_live}
 use Rattle.zone_laws.proofs.Taken.{taken_exchange}
 use Rattle.zone_laws.proofs.SuitsTaken.{Suits-new_handle, addresses-untaken, slots-same}
 use Rattle.zone_laws.proofs.SlotPlaces.{Contains-cons_cases, Contains-here, Contains-later}
 use Rattle.zone_laws.proofs.SlotOwners.{slot_no_pointer}
-
--- what taking gives is the map in three parts
-pub take_lowest-taken : (s : Shape) (k : ℕ) (kind : Kind) (m new : ZoneMap) → take_lowest s k kind m ≡ Some new → TakenAt s k kind m new
-take_lowest-taken s k kind m new is = subst (λ o. MatchOption o ⊤ (λ x. TakenAt s k kind m x)) is (take_lowest-parts s k kind m)
+use Rattle.zone_laws.proofs.PlacedParts.{taken-parts}
 
 -- a slot that no live handle or pointer has
 pub record IsFreeSlot (s : Shape) (heap : Heap) (h : ℕ) : Type 0 where
@@ -49,7 +44,7 @@ pub front_slot-free : (s : Shape) (heap : Heap) (h : ℕ) (hs : List ℕ) → So
 front_slot-free s heap h hs sound front = free_slot s heap sound h (subst (λ xs. Contains xs h) (sym front) (Contains-here h hs))
 
 -- the other free slots are just those that aren't live once the front one is
-front_slot-taken : (h : ℕ) (hs all : List ℕ) (t u : HandleTable) → IsDistinct nat_eq (h ∷ hs) → ((x : ℕ) → Contains (h ∷ hs) x ↔ (Contains all x × IsFalse (is_handle t x))) → AgreeBut h t u → is_handle u h ≡ true
+pub front_slot-taken : (h : ℕ) (hs all : List ℕ) (t u : HandleTable) → IsDistinct nat_eq (h ∷ hs) → ((x : ℕ) → Contains (h ∷ hs) x ↔ (Contains all x × IsFalse (is_handle t x))) → AgreeBut h t u → is_handle u h ≡ true
     → (x : ℕ) → Contains hs x ↔ (Contains all x × IsFalse (is_handle u x))
 front_slot-taken h hs all t u once free agree live x = (
   (λ c. let fact = (free x).0 (Contains-later h hs x c) in
@@ -64,7 +59,7 @@ front_slot-taken h hs all t u once free agree live x = (
     others same no_handle = cc (ap (is_handle u) same, live, no_handle)
 
     by_case : Contains all x × IsFalse (is_handle u x) → (b : Bool) → eqb x h ≡ b → Contains hs x
-    by_case c true is = absurd (others (sym (eqb-true-is x h is)) c.1)
+    by_case c true is = absurd (others (sym (eqb-true x h is)) c.1)
     by_case c false is = elim (Contains-cons_cases h hs x ((free x).1 (c.0, sym (ap live_handle (agree.others x is)) ∙ c.1))) [
       | inl same ↦ absurd (others same c.1)
       | inr later ↦ later
@@ -96,7 +91,7 @@ module _ (s : Shape) (heap : Heap) (h : ℕ) (hs : List ℕ) (sound : Sound s he
   -- a new handle of n bytes takes the lowest free block that has room for them
   pub sound-placed : (n : ℕ) (m : ZoneMap) → take_lowest s (need s.heads n) (Rel h) heap.map ≡ Some m → Sound s (granted (NewBlock n) h m heap)
   sound-placed n m is =
-      let at = take_lowest-taken s (need s.heads n) (Rel h) heap.map m is in
+      let at = taken-parts s (need s.heads n) (Rel h) heap.map m is in
       let slot = front_slot-free s heap h hs sound front in
       let u = with_live h (FullHandle no_flags (zeros n)) heap.table in
       let agree = with_live_agrees h (FullHandle no_flags (zeros n)) heap.table in

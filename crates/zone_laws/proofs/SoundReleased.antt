@@ -2,6 +2,7 @@
 use Rattle.std.proofs.Common.{◌≡◌, ℕ, ◌+◌, ◌-◌, ◌≤◌, ◌↔◌, true, false, eqb, List, [], ◌∷◌, refl, ap, sym, ◌∙◌, IsTrue, IsFalse, Contains, subst, inl, inr, nat_eq}
 use Rattle.std.specs.List.{IsDistinct, AllByRecursion}
 use Rattle.std.proofs.lemmas.Map.Keys.{IsDistinct-cons}
+use Rattle.std.proofs.lemmas.Bool.{eqb-true}
 use Rattle.mac_base.specs.HeadKind.{Shape, zone_header}
 use Rattle.mac_base.specs.ZoneMap.{total_size, released}
 use Rattle.mac_base.specs.HandleTable.{HandleTable, EmptyHandle, live_full, live_handle, live_pointer, is_handle, is_pointer, with_live, without}
@@ -10,7 +11,7 @@ use Rattle.mac_base.specs.Heap.{Heap}
 use Rattle.mac_base.specs.declared.releasing.ReleasingCall.TheVariants.{DisposesHandle, DisposesPtr, Empties}
 use Rattle.mac_base.specs.Releasing.{heap_released}
 use Rattle.mac_base.specs.Sound.{Sound, is_growth}
-use Rattle.zone_laws.proofs.Tables.{AgreeBut, live_at-with_live_same, live_at-without_same, with_live_agrees, without_agrees, in_order-with_live, in_order-without, by_number, eqb-true-is, eqb_same, pointer_no_handle}
+use Rattle.zone_laws.proofs.Tables.{AgreeBut, live_at-with_live_same, live_at-without_same, with_live_agrees, without_agrees, in_order-with_live, in_order-without, by_number, eqb_same, pointer_no_handle}
 use Rattle.zone_laws.proofs.SlotPlaces.{Contains-cons_cases, Contains-here, Contains-later}
 use Rattle.zone_laws.proofs.SuitsReleased.{Suits-released, total_size-released, slots-released}
 
@@ -24,7 +25,7 @@ IsDistinct-more x xs new once = IsDistinct-cons nat_eq x xs (others xs (λ y c. 
       where
         apart : Contains xs y → nat_eq x y ≡ false
         apart c = elim (eqb x y) as (λ b. eqb x y ≡ b → nat_eq x y ≡ false) [
-          | true ↦ λ same. absurd (new (subst (λ z. Contains xs z) (sym (eqb-true-is x y same)) c))
+          | true ↦ λ same. absurd (new (subst (λ z. Contains xs z) (sym (eqb-true x y same)) c))
           | false ↦ λ other. other
         ] refl
 

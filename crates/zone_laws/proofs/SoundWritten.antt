@@ -3,6 +3,7 @@ use Rattle.std.proofs.Common.{◌≡◌, ℕ, true, false, ◌||◌, cond, List,
 use Rattle.std.specs.List.{list_all}
 use Rattle.std.specs.Ordering.{nat_cmp}
 use Rattle.std.specs.FinMap.{is_sorted}
+use Rattle.std.proofs.lemmas.Bool.{and_parts, and_from}
 use Rattle.mac_base.specs.declared.block.Flags.{Flags}
 use Rattle.mac_base.specs.declared.block.Kind.{Kind}
 use Rattle.mac_base.specs.declared.block.Kind.TheVariants.{Free, Master, Ptr, Rel}
@@ -13,7 +14,6 @@ use Rattle.mac_base.specs.Suits.{Suits, has_length, has_owners_length, wanted_le
 use Rattle.mac_base.specs.declared.request.Request.TheVariants.{NewEmpty}
 use Rattle.mac_base.specs.Heap.{Heap, granted, with_table}
 use Rattle.mac_base.specs.Sound.{Sound}
-use Rattle.zone_laws.proofs.Maps.{both_true, true_both}
 use Rattle.zone_laws.proofs.Tables.{live_at-with_live_same, with_live_agrees, in_order-with_live, by_number}
 use Rattle.zone_laws.proofs.SoundPlaced.{front_slot-free, sound-slot_taken}
 
@@ -32,8 +32,8 @@ wanted_length-same t u same (Rel h) = same.long h
 lengths-same : (s : Shape) (t u : HandleTable) → SameShape t u → (m : ZoneMap) → IsTrue (list_all (has_owners_length s t) m) → IsTrue (list_all (has_owners_length s u) m)
 lengths-same s t u same [] h = refl
 lengths-same s t u same (e ∷ es) h =
-    let hs = both_true (has_owners_length s t e) (list_all (has_owners_length s t) es) h in
-    true_both (has_owners_length s u e) _ (ap (λ n. is_free e.kind || has_length s e.size n) (wanted_length-same t u same e.kind) ∙ hs.0) (lengths-same s t u same es hs.1)
+    let hs = and_parts (has_owners_length s t e) (list_all (has_owners_length s t) es) h in
+    and_from (has_owners_length s u e) _ (ap (λ n. is_free e.kind || has_length s e.size n) (wanted_length-same t u same e.kind) ∙ hs.0) (lengths-same s t u same es hs.1)
 
 -- the map suits such a table too
 pub Suits-same_shape : (s : Shape) (t u : HandleTable) (m : ZoneMap) → Suits s t m → SameShape t u → ((h : ℕ) → IsTrue (is_handle u h) → Contains (slots s m) h) → IsTrue (is_sorted nat_cmp u.live) → Suits s u m

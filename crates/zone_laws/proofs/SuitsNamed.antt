@@ -16,7 +16,7 @@ use Rattle.zone_laws.proofs.GapAppend.{sizes-append, length-addresses_from}
 use Rattle.zone_laws.proofs.NamedPlace.{At}
 
 -- the blocks of a number are those of its handle and those of its pointer
-length-sizes_named : (x : ℕ) (m : ZoneMap) → length (sizes (is_named x) m) ≡ length (sizes (is_handle_block x) m) + length (sizes (is_pointer_block x) m)
+pub length-sizes_named : (x : ℕ) (m : ZoneMap) → length (sizes (is_named x) m) ≡ length (sizes (is_handle_block x) m) + length (sizes (is_pointer_block x) m)
 length-sizes_named x [] = refl
 length-sizes_named x (e ∷ es) = by_kind e.kind (length-sizes_named x es)
   where

@@ -3,6 +3,7 @@ use Rattle.std.proofs.Common.{◌≡◌, ℕ, ◌+◌, Bool, true, false, cond, 
 use Rattle.std.specs.List.{list_all}
 use Rattle.std.specs.Ordering.{nat_cmp}
 use Rattle.std.specs.FinMap.{is_sorted}
+use Rattle.std.proofs.lemmas.Bool.{false_from_ne_true, and_parts, and_from}
 use Rattle.mac_base.specs.declared.block.Entry.{Entry}
 use Rattle.mac_base.specs.declared.block.Kind.{Kind}
 use Rattle.mac_base.specs.declared.block.Kind.TheVariants.{Free, Master, Ptr, Rel}
@@ -10,18 +11,19 @@ use Rattle.mac_base.specs.HeadKind.{Shape}
 use Rattle.mac_base.specs.ZoneMap.{ZoneMap, block, is_master, is_named, total_size, address_behind, addresses, addresses_from, contents_addresses, released}
 use Rattle.mac_base.specs.HandleTable.{HandleTable, live_full, live_handle, live_pointer, is_full, is_handle, is_pointer}
 use Rattle.mac_base.specs.Suits.{Suits, is_block_size, is_handle_block, is_pointer_block, has_owners_length, slots}
-use Rattle.zone_laws.proofs.Maps.{both_true, true_both, addresses_from-skip}
+use Rattle.zone_laws.proofs.Maps.{addresses_from-skip}
 use Rattle.zone_laws.proofs.Tables.{AgreeBut, by_number}
-use Rattle.zone_laws.proofs.Joined.{total_size-joined, addresses_from-joined, sizes-joined, lengths-joined, free_apart-joined}
+use Rattle.zone_laws.proofs.Joined.{sizes-joined, lengths-joined, free_apart-joined}
 use Rattle.zone_laws.proofs.Owners.{named_handle, named_pointer, other_handle, other_pointer, has_owners_length-agree}
 use Rattle.zone_laws.proofs.SuitsTaken.{slots-same, contents-same}
+use Rattle.zone_laws.proofs.JoinedBlocks.{total_size-joined, addresses_from-joined}
 
 -- the map in which what x names is free, not yet joined
 abbrev pub freed : ℕ → ZoneMap → ZoneMap
 freed x m = map (λ (e : Entry). cond (is_named x e.kind) (block Free e.size) e) m
 
 -- freeing keeps the sum of the sizes
-total_size-freed : (x : ℕ) (m : ZoneMap) → total_size (freed x m) ≡ total_size m
+pub total_size-freed : (x : ℕ) (m : ZoneMap) → total_size (freed x m) ≡ total_size m
 total_size-freed x [] = refl
 total_size-freed x (e ∷ es) = by_test (is_named x e.kind) (total_size-freed x es)
   where
@@ -33,11 +35,6 @@ total_size-freed x (e ∷ es) = by_test (is_named x e.kind) (total_size-freed x 
 pub total_size-released : (x : ℕ) (m : ZoneMap) → total_size (released x m) ≡ total_size m
 total_size-released x m = total_size-joined (freed x m) ∙ total_size-freed x m
 
--- a test that can't pass fails
-none_passes : (b : Bool) → (b ≡ true → ⊥) → b ≡ false
-none_passes true h = absurd (h refl)
-none_passes false h = refl
-
 -- what x doesn't name stays
 addresses_from-freed_others : (x at : ℕ) (test : Kind → Bool) → test Free ≡ false → ((kind : Kind) → test kind ≡ true → is_named x kind ≡ false) → (m : ZoneMap) → addresses_from at test (freed x m) ≡ addresses_from at test m
 addresses_from-freed_others x at test free others [] = refl
@@ -45,7 +42,7 @@ addresses_from-freed_others x at test free others (e ∷ es) = by_test (is_named
   where
     by_test : (b : Bool) → is_named x e.kind ≡ b → addresses_from at test (cond b (block Free e.size) e ∷ freed x es) ≡ cond (test e.kind) (at ∷ []) [] ++ addresses_from (at + e.size) test (freed x es)
     by_test true is = addresses_from-skip at test (block Free e.size) (freed x es) free
-        ∙ sym (ap (λ b. cond b (at ∷ []) [] ++ addresses_from (at + e.size) test (freed x es)) (none_passes (test e.kind) (λ h. cc (others e.kind h, is))))
+        ∙ sym (ap (λ b. cond b (at ∷ []) [] ++ addresses_from (at + e.size) test (freed x es)) (false_from_ne_true (test e.kind) (λ h. cc (others e.kind h, is))))
     by_test false is = refl
 
 -- and what it names is gone
@@ -55,27 +52,27 @@ addresses_from-freed_same x at test free named (e ∷ es) = by_test (is_named x 
   where
     by_test : (b : Bool) → is_named x e.kind ≡ b → addresses_from at test (cond b (block Free e.size) e ∷ freed x es) ≡ addresses_from (at + e.size) test (freed x es)
     by_test true is = addresses_from-skip at test (block Free e.size) (freed x es) free
-    by_test false is = addresses_from-skip at test e (freed x es) (none_passes (test e.kind) (λ h. cc (named e.kind h, is)))
+    by_test false is = addresses_from-skip at test e (freed x es) (false_from_ne_true (test e.kind) (λ h. cc (named e.kind h, is)))
 
 sizes-freed : (s : Shape) (x : ℕ) (m : ZoneMap) → IsTrue (list_all (λ (e : Entry). is_block_size s e.size) m) → IsTrue (list_all (λ (e : Entry). is_block_size s e.size) (freed x m))
 sizes-freed s x [] h = refl
 sizes-freed s x (e ∷ es) h =
-    let hs = both_true (is_block_size s e.size) (list_all (λ (e : Entry). is_block_size s e.size) es) h in
+    let hs = and_parts (is_block_size s e.size) (list_all (λ (e : Entry). is_block_size s e.size) es) h in
     by_test (is_named x e.kind) hs.0 (sizes-freed s x es hs.1)
   where
     by_test : (b : Bool) → is_block_size s e.size ≡ true → IsTrue (list_all (λ (e : Entry). is_block_size s e.size) (freed x es)) → IsTrue (list_all (λ (e : Entry). is_block_size s e.size) (cond b (block Free e.size) e ∷ freed x es))
-    by_test true here rest = true_both (is_block_size s e.size) _ here rest
-    by_test false here rest = true_both (is_block_size s e.size) _ here rest
+    by_test true here rest = and_from (is_block_size s e.size) _ here rest
+    by_test false here rest = and_from (is_block_size s e.size) _ here rest
 
 lengths-freed : (s : Shape) (x : ℕ) (t u : HandleTable) → AgreeBut x t u → (m : ZoneMap) → IsTrue (list_all (has_owners_length s t) m) → IsTrue (list_all (has_owners_length s u) (freed x m))
 lengths-freed s x t u agree [] h = refl
 lengths-freed s x t u agree (e ∷ es) h =
-    let hs = both_true (has_owners_length s t e) (list_all (has_owners_length s t) es) h in
+    let hs = and_parts (has_owners_length s t e) (list_all (has_owners_length s t) es) h in
     by_test (is_named x e.kind) refl hs.0 (lengths-freed s x t u agree es hs.1)
   where
     by_test : (b : Bool) → is_named x e.kind ≡ b → has_owners_length s t e ≡ true → IsTrue (list_all (has_owners_length s u) (freed x es)) → IsTrue (list_all (has_owners_length s u) (cond b (block Free e.size) e ∷ freed x es))
     by_test true is here rest = rest
-    by_test false is here rest = true_both (has_owners_length s u e) _ (has_owners_length-agree s x t u agree e is ∙ here) rest
+    by_test false is here rest = and_from (has_owners_length s u e) _ (has_owners_length-agree s x t u agree e is ∙ here) rest
 
 -- what x doesn't name keeps its address when x is released
 pub addresses-released : (s : Shape) (x : ℕ) (test : Kind → Bool) (m : ZoneMap) → test Free ≡ false → ((kind : Kind) → test kind ≡ true → is_named x kind ≡ false) → addresses s test (released x m) ≡ addresses s test m

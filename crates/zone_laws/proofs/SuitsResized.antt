@@ -5,6 +5,8 @@ use Rattle.std.specs.Ordering.{nat_cmp}
 use Rattle.std.specs.FinMap.{is_sorted}
 use Rattle.std.proofs.lemmas.List.Folds.{list_all-append}
 use Rattle.std.proofs.lemmas.Bool.Decides.{nat_tests}
+use Rattle.std.proofs.lemmas.Bool.{and_parts, not_from_false, and_from, eqb-true}
+use Rattle.std.proofs.lemmas.List.{nil_from_length}
 use Rattle.mac_base.specs.declared.block.Entry.{Entry}
 use Rattle.mac_base.specs.declared.block.Kind.{Kind}
 use Rattle.mac_base.specs.declared.block.Kind.TheVariants.{Free, Master, Ptr, Rel}
@@ -13,13 +15,15 @@ use Rattle.mac_base.specs.ZoneMap.{ZoneMap, block, is_free, is_master, is_named,
 use Rattle.mac_base.specs.HandleTable.{HandleTable, bytes_of, is_full, is_handle, is_pointer}
 use Rattle.mac_base.specs.Suits.{Suits, free_apart, starts_free, is_block_size, is_handle_block, is_pointer_block, has_owners_length, wanted_length}
 use Rattle.mac_base.specs.Serve.{taken}
-use Rattle.zone_laws.proofs.Maps.{Exchanged, both_true, true_both, not_true, addresses_from-append, addresses_from-exchanged, addresses_from-old, addresses_from-skip, list_all-middle, total_size-append, total_size-exchanged}
-use Rattle.zone_laws.proofs.Tables.{AgreeBut, full_handle, handle_no_pointer, eqb-true-is}
-use Rattle.zone_laws.proofs.Joined.{free_kind, total_size-joined, addresses_from-joined, free_apart-joined, starts_free-joined, sizes-joined, lengths-joined}
-use Rattle.zone_laws.proofs.Owners.{none_named, lengths-agree, no_length, nothing_passes, no_handle_block, no_pointer_block}
+use Rattle.zone_laws.proofs.Maps.{Exchanged, addresses_from-append, addresses_from-exchanged, addresses_from-old, addresses_from-skip, list_all-middle, total_size-append, total_size-exchanged}
+use Rattle.zone_laws.proofs.Tables.{AgreeBut, full_handle, handle_no_pointer}
+use Rattle.zone_laws.proofs.Joined.{free_apart-joined, starts_free-joined, sizes-joined, lengths-joined}
+use Rattle.zone_laws.proofs.Owners.{none_named, lengths-agree, nothing_passes, no_handle_block, no_pointer_block}
 use Rattle.zone_laws.proofs.Taken.{need-is_size, total_size-taken, addresses_from-taken, free_apart-behind, free_apart-replaced, free_apart-taken, starts_free-taken, sizes-taken, lengths-taken}
 use Rattle.zone_laws.proofs.SuitsTaken.{slots-same, contents-same}
 use Rattle.zone_laws.proofs.Resized.{ResizedAt}
+use Rattle.zone_laws.proofs.Arranging.{named-used, free_is}
+use Rattle.zone_laws.proofs.JoinedBlocks.{total_size-joined, addresses_from-joined}
 
 -- ---- how many blocks a number names
 
@@ -38,7 +42,7 @@ count_named at x (e ∷ es) = by_kind e.kind (count_named (at + e.size) x es)
     by_kind (Rel g) rest = elim (eqb g x) as (λ b. length (cond b (at ∷ []) [] ++ addresses_from (at + e.size) (is_named x) es)
         ≡ length (cond b (at ∷ []) [] ++ addresses_from (at + e.size) (is_handle_block x) es) + length (addresses_from (at + e.size) (is_pointer_block x) es)) [ true ↦ omega arith | false ↦ rest ]
 
-length_of_map : (f : ℕ → ℕ) (xs : List ℕ) → length (map f xs) ≡ length xs
+pub length_of_map : (f : ℕ → ℕ) (xs : List ℕ) → length (map f xs) ≡ length xs
 length_of_map f [] = refl
 length_of_map f (x ∷ xs) = let rest = length_of_map f xs in omega arith
 
@@ -59,31 +63,24 @@ none_named-empty : (at x : ℕ) (m : ZoneMap) → addresses_from at (is_named x)
 none_named-empty at x [] h = refl
 none_named-empty at x (e ∷ es) h =
     let hs = nothing_passes (is_named x e.kind) at (addresses_from (at + e.size) (is_named x) es) h in
-    true_both (not (is_named x e.kind)) _ (not_true _ hs.0) (none_named-empty (at + e.size) x es hs.1)
+    and_from (not (is_named x e.kind)) _ (not_from_false _ hs.0) (none_named-empty (at + e.size) x es hs.1)
 
 -- ---- what is named is neither free nor a master block
-
--- what x names is not free
-named_used : (x : ℕ) (kind : Kind) → is_named x kind ≡ true → is_free kind ≡ false
-named_used x Free h = absurd (cc h)
-named_used x Master h = refl
-named_used x (Ptr p) h = refl
-named_used x (Rel g) h = refl
 
 -- its owner is x
 named_length : (x : ℕ) (t : HandleTable) (kind : Kind) → is_named x kind ≡ true → wanted_length t kind ≡ length (bytes_of t x)
 named_length x t Free h = absurd (cc h)
 named_length x t Master h = absurd (cc h)
-named_length x t (Ptr p) h = ap (λ y. length (bytes_of t y)) (eqb-true-is p x h)
-named_length x t (Rel g) h = ap (λ y. length (bytes_of t y)) (eqb-true-is g x h)
+named_length x t (Ptr p) h = ap (λ y. length (bytes_of t y)) (eqb-true p x h)
+named_length x t (Rel g) h = ap (λ y. length (bytes_of t y)) (eqb-true g x h)
 
-free_only : (at : ℕ) (test : Kind → Bool) (m : ZoneMap) → test Free ≡ false → list_all (λ (e : Entry). is_free e.kind) m ≡ true → addresses_from at test m ≡ []
+pub free_only : (at : ℕ) (test : Kind → Bool) (m : ZoneMap) → test Free ≡ false → list_all (λ (e : Entry). is_free e.kind) m ≡ true → addresses_from at test m ≡ []
 free_only at test [] free h = refl
 free_only at test (e ∷ es) free h =
-    let hs = both_true (is_free e.kind) (list_all (λ (e : Entry). is_free e.kind) es) h in
-    addresses_from-skip at test e es (ap test (free_kind e.kind hs.0) ∙ free) ∙ free_only (at + e.size) test es free hs.1
+    let hs = and_parts (is_free e.kind) (list_all (λ (e : Entry). is_free e.kind) es) h in
+    addresses_from-skip at test e es (ap test (free_is e.kind hs.0) ∙ free) ∙ free_only (at + e.size) test es free hs.1
 
-no_rest : (xs : List ℕ) → xs ++ [] ≡ xs
+pub no_rest : (xs : List ℕ) → xs ++ [] ≡ xs
 no_rest [] = refl
 no_rest (x ∷ xs) = ap (λ ys. x ∷ ys) (no_rest xs)
 
@@ -124,18 +121,18 @@ module _ (s : Shape) (k x : ℕ) (old new : ZoneMap) (r : ResizedAt s k x old ne
   -- what each block passes, also once two that pass are joined
   list_all-resized : (p : Entry → Bool) → ((m : ZoneMap) → list_all p m ≡ true → list_all p (joined m) ≡ true) → list_all p r.before ≡ true → list_all p piece ≡ true → list_all p r.behind ≡ true → list_all p new ≡ true
   list_all-resized p join before here behind = by_join (λ m. list_all p m ≡ true)
-      (list_all-middle p r.before piece r.behind ∙ true_both (list_all p r.before) _ before (true_both (list_all p piece) _ here behind))
-      (λ _. list_all-append p r.before (joined (piece ++ r.behind)) ∙ true_both (list_all p r.before) _ before (join (piece ++ r.behind) (list_all-append p piece r.behind ∙ true_both (list_all p piece) _ here behind)))
+      (list_all-middle p r.before piece r.behind ∙ and_from (list_all p r.before) _ before (and_from (list_all p piece) _ here behind))
+      (λ _. list_all-append p r.before (joined (piece ++ r.behind)) ∙ and_from (list_all p r.before) _ before (join (piece ++ r.behind) (list_all-append p piece r.behind ∙ and_from (list_all p piece) _ here behind)))
 
   -- what each block of the old map passes: those before, the changed one with its room, those behind
   parts_pass : (p : Entry → Bool) → list_all p old ≡ true → (list_all p r.before ≡ true) × (list_all p (r.changed ∷ r.room) ≡ true) × (list_all p r.behind ≡ true)
   parts_pass p h =
-      let all = both_true (list_all p r.before) (list_all p (r.changed ∷ r.room) && list_all p r.behind) (sym (ap (list_all p) r.was ∙ list_all-middle p r.before (r.changed ∷ r.room) r.behind) ∙ h) in
-      let rest = both_true (list_all p (r.changed ∷ r.room)) (list_all p r.behind) all.1 in
+      let all = and_parts (list_all p r.before) (list_all p (r.changed ∷ r.room) && list_all p r.behind) (sym (ap (list_all p) r.was ∙ list_all-middle p r.before (r.changed ∷ r.room) r.behind) ∙ h) in
+      let rest = and_parts (list_all p (r.changed ∷ r.room)) (list_all p r.behind) all.1 in
       (all.0, rest.0, rest.1)
 
   used : is_free (r.changed).kind ≡ false
-  used = named_used x (r.changed).kind r.named
+  used = named-used x (r.changed).kind r.named
 
   -- and no two neighbours are free
   free_apart-resized : IsTrue (free_apart old) → IsTrue (free_apart new)
@@ -166,14 +163,14 @@ module _ (s : Shape) (k x : ℕ) (old new : ZoneMap) (r : ResizedAt s k x old ne
       let room = addresses_from (place + (r.changed).size) (is_named x) r.room in
       let back = addresses_from (place + ((r.changed).size + total_size r.room)) (is_named x) r.behind in
       let all : length (front ++ ((place ∷ room) ++ back)) ≡ 1 = sym (ap length (addresses_from-old old unjoined exchange at (is_named x) ∙ ap (λ b. front ++ ((cond b (place ∷ []) [] ++ room) ++ back)) r.named)) ∙ one in (
-        none_named-empty at x r.before (no_length front (omega (arith, all, length-append front ((place ∷ room) ++ back)))),
-        none_named-empty (place + ((r.changed).size + total_size r.room)) x r.behind (no_length back (omega (arith, all, length-append front ((place ∷ room) ++ back), length-append (place ∷ room) back))),
+        none_named-empty at x r.before (nil_from_length front (omega (arith, all, length-append front ((place ∷ room) ++ back)))),
+        none_named-empty (place + ((r.changed).size + total_size r.room)) x r.behind (nil_from_length back (omega (arith, all, length-append front ((place ∷ room) ++ back), length-append (place ∷ room) back))),
       )
 
   sizes-room : (room : ZoneMap) (n : ℕ) → is_block_size s n ≡ true → list_all (λ (e : Entry). is_block_size s e.size) room ≡ true → is_block_size s (n + total_size room) ≡ true
   sizes-room [] n h all = let same : n ≡ n + 0 = omega arith in sym (ap (is_block_size s) same) ∙ h
   sizes-room (e ∷ es) n h all =
-      let hs = both_true (is_block_size s e.size) (list_all (λ (e : Entry). is_block_size s e.size) es) all in
+      let hs = and_parts (is_block_size s e.size) (list_all (λ (e : Entry). is_block_size s e.size) es) all in
       let same : (n + e.size) + total_size es ≡ n + (e.size + total_size es) = omega arith in
       sym (ap (is_block_size s) same) ∙ sizes-room es (n + e.size) (sum_size (smallest_block s.heads) n e.size h hs.0) hs.1
     where
@@ -183,7 +180,7 @@ module _ (s : Shape) (k x : ℕ) (old new : ZoneMap) (r : ResizedAt s k x old ne
   sizes-resized : is_block_size s k ≡ true → IsTrue (list_all (λ (e : Entry). is_block_size s e.size) old) → IsTrue (list_all (λ (e : Entry). is_block_size s e.size) new)
   sizes-resized size h =
       let parts = parts_pass (λ (e : Entry). is_block_size s e.size) h in
-      let here = both_true (is_block_size s (r.changed).size) (list_all (λ (e : Entry). is_block_size s e.size) r.room) parts.1 in
+      let here = and_parts (is_block_size s (r.changed).size) (list_all (λ (e : Entry). is_block_size s e.size) r.room) parts.1 in
       list_all-resized (λ (e : Entry). is_block_size s e.size) (sizes-joined s) parts.0
       (sizes-taken s k (r.changed).kind ((r.changed).size + total_size r.room) size (sizes-room r.room (r.changed).size here.0 here.1) r.fits) parts.2
 

@@ -3,6 +3,7 @@ use Rattle.std.proofs.Common.{◌≡◌, ℕ, ◌+◌, Bool, true, false, not, c
 use Rattle.std.specs.List.{list_all}
 use Rattle.std.specs.Ordering.{nat_cmp}
 use Rattle.std.specs.FinMap.{is_sorted}
+use Rattle.std.proofs.lemmas.Bool.{not-true, and_parts}
 use Rattle.mac_base.specs.declared.block.Entry.{Entry}
 use Rattle.mac_base.specs.declared.block.Flags.{Flags}
 use Rattle.mac_base.specs.declared.block.Kind.{Kind}
@@ -12,10 +13,11 @@ use Rattle.mac_base.specs.ZoneMap.{ZoneMap, block, is_free, is_master, total_siz
 use Rattle.mac_base.specs.HandleTable.{HandleTable, FullHandle, Pointer, live_at, live_bytes, live_full, live_handle, live_pointer, is_full, is_handle, is_pointer}
 use Rattle.mac_base.specs.Suits.{Suits, free_apart, starts_free, is_block_size, is_handle_block, is_pointer_block, has_owners_length, slots, slots_from, wanted_length}
 use Rattle.zone_laws.proofs.Placing.{TakenAt}
-use Rattle.zone_laws.proofs.Maps.{both_true, true_not, addresses_from-exchanged, addresses_from-new, addresses_from-old, addresses_from-skip, list_all-exchanged}
+use Rattle.zone_laws.proofs.Maps.{addresses_from-exchanged, addresses_from-new, addresses_from-old, addresses_from-skip, list_all-exchanged}
 use Rattle.zone_laws.proofs.Tables.{AgreeBut, by_number, eqb_same, eqb_swap}
 use Rattle.zone_laws.proofs.Owners.{lengths-agree, no_handle_block, no_pointer_block, none_named-suits}
 use Rattle.zone_laws.proofs.Taken.{need-is_size, free_apart-behind, free_apart-replaced, free_apart-taken, taken_exchange, addresses_from-taken, sizes-taken, lengths-taken}
+use Rattle.zone_laws.proofs.NamedPlace.{nil-append}
 
 -- the slots are where the master blocks are
 pub slots-same : (s : Shape) (old new : ZoneMap) → addresses s is_master new ≡ addresses s is_master old → slots s new ≡ slots s old
@@ -24,10 +26,6 @@ slots-same s old new same = ap (λ found. flat_map (slots_from slot_count) (map 
 -- the contents are where the blocks are
 pub contents-same : (s : Shape) (test : Kind → Bool) (old new : ZoneMap) → addresses s test new ≡ addresses s test old → contents_addresses s test new ≡ contents_addresses s test old
 contents-same s test old new same = ap (map (λ a. a + head_size s.heads)) same
-
-nothing_left : (xs ys : List ℕ) → xs ++ ys ≡ [] → (xs ≡ []) × (ys ≡ [])
-nothing_left [] ys h = (refl, h)
-nothing_left (x ∷ xs) ys h = absurd (cc h)
 
 module _ (s : Shape) (k : ℕ) (kind : Kind) (old new : ZoneMap) (t : TakenAt s k kind old new) where
   -- what the new block doesn't pass stays
@@ -39,8 +37,8 @@ module _ (s : Shape) (k : ℕ) (kind : Kind) (old new : ZoneMap) (t : TakenAt s 
   pub addresses-taken : (test : Kind → Bool) → test Free ≡ false → test kind ≡ true → addresses s test old ≡ [] → addresses s test new ≡ (address_behind s [] + total_size t.before) ∷ []
   addresses-taken test free passes none =
       let x = taken_exchange s k kind old new t in
-      let parts = nothing_left _ _ (sym (addresses_from-old old new x (address_behind s []) test) ∙ none) in
-      let rest = nothing_left _ _ parts.1 in
+      let parts = nil-append _ _ (sym (addresses_from-old old new x (address_behind s []) test) ∙ none) in
+      let rest = nil-append _ _ parts.1 in
       addresses_from-new old new x (address_behind s []) test
       ∙ ap (λ found. found ++ (addresses_from (address_behind s [] + total_size t.before) test x.right ++ addresses_from ((address_behind s [] + total_size t.before) + total_size x.left) test t.behind)) parts.0
       ∙ ap (λ found. addresses_from (address_behind s [] + total_size t.before) test x.right ++ found) rest.1
@@ -54,10 +52,10 @@ module _ (s : Shape) (k : ℕ) (kind : Kind) (old new : ZoneMap) (t : TakenAt s 
       ap free_apart t.is ∙ free_apart-replaced t.before (block Free t.size ∷ t.behind) _ (λ _. refl) (free_apart-taken s k kind t.size t.behind used (λ _. ends t.behind here) (tail t.behind here)) apart
     where
       ends : (m : ZoneMap) → IsTrue (free_apart (block Free t.size ∷ m)) → starts_free m ≡ false
-      ends m h = true_not _ (both_true (not (starts_free m)) (free_apart m) h).0
+      ends m h = not-true _ (and_parts (not (starts_free m)) (free_apart m) h).0
 
       tail : (m : ZoneMap) → IsTrue (free_apart (block Free t.size ∷ m)) → IsTrue (free_apart m)
-      tail m h = (both_true (not (starts_free m)) (free_apart m) h).1
+      tail m h = (and_parts (not (starts_free m)) (free_apart m) h).1
 
   -- each size is possible
   pub sizes-kept : is_block_size s k ≡ true → IsTrue (list_all (λ (e : Entry). is_block_size s e.size) old) → IsTrue (list_all (λ (e : Entry). is_block_size s e.size) new)
@@ -67,8 +65,8 @@ module _ (s : Shape) (k : ℕ) (kind : Kind) (old new : ZoneMap) (t : TakenAt s 
       here m h is = at_block t.before t.behind (sym (ap (list_all (λ (e : Entry). is_block_size s e.size)) is) ∙ h)
         where
           at_block : (before behind : ZoneMap) → list_all (λ (e : Entry). is_block_size s e.size) (before ++ block Free t.size ∷ behind) ≡ true → is_block_size s t.size ≡ true
-          at_block [] behind h = (both_true (is_block_size s t.size) _ h).0
-          at_block (e ∷ es) behind h = at_block es behind (both_true (is_block_size s e.size) _ h).1
+          at_block [] behind h = (and_parts (is_block_size s t.size) _ h).0
+          at_block (e ∷ es) behind h = at_block es behind (and_parts (is_block_size s e.size) _ h).1
 
 -- The lowest free block that n bytes need is given to x, which had none: a table that agrees with the old one but at x.
 module _ (s : Shape) (n x : ℕ) (kind : Kind) (old new : ZoneMap) (t u : HandleTable) (at : TakenAt s (need s.heads n) kind old new) (suits : Suits s t old) (agree : AgreeBut x t u)

@@ -5,6 +5,7 @@ use Rattle.std.specs.declared.cmp.Ordering.TheVariants.{Equal}
 use Rattle.std.specs.Cmp.{nat_cmp_total}
 use Rattle.std.specs.FinMap.Entries.{find-put, find-where_key, is_sorted, is_sorted-put, is_sorted-where_key}
 use Rattle.std.proofs.lemmas.Bool.Decides.{nat_tests}
+use Rattle.std.proofs.lemmas.Bool.{eqb-true}
 use Rattle.mac_base.specs.HandleTable.{HandleTable, Live, EmptyHandle, FullHandle, Pointer, live_at, with_live, without, live_full, live_handle, live_pointer, is_full, is_handle, is_pointer}
 
 -- the two tests of numbers are one
@@ -14,10 +15,6 @@ same_test a b = grind (arith, nat_tests)
 -- a number equals itself
 pub eqb_same : (a : ℕ) → eqb a a ≡ true
 eqb_same a = grind (arith, nat_tests)
-
--- numbers that test as equal are one
-pub eqb-true-is : (a b : ℕ) → eqb a b ≡ true → a ≡ b
-eqb-true-is a b h = grind (arith, nat_tests)
 
 -- the test of two numbers goes both ways
 pub eqb_swap : (a b : ℕ) → eqb a b ≡ eqb b a
@@ -38,7 +35,7 @@ other_way false o = refl
 pub live_at-without : (x : ℕ) (t : HandleTable) (y : ℕ) → live_at (without x t) y ≡ cond (eqb y x) None (live_at t y)
 live_at-without x t y = find-where_key nat_cmp (λ k. not (eqb k x)) y (λ k h. ap (λ n. not (eqb n x)) (tie y k h)) t.live ∙ other_way (eqb y x) (live_at t y)
 
-tested : (b : Bool) → b ≡ true → T b
+pub tested : (b : Bool) → b ≡ true → T b
 tested b h = subst T (sym h) tt
 
 true_of : (b : Bool) → T b → b ≡ true
@@ -75,7 +72,7 @@ live_at-without_same x t = live_at-without x t x ∙ ap (λ b. cond b None (live
 
 -- what holds at x and at each other number holds at each
 pub by_number : (P : ℕ → Type 0) (x : ℕ) → P x → ((y : ℕ) → eqb y x ≡ false → P y) → (y : ℕ) → P y
-by_number P x here others y = elim (eqb y x) as (λ b. eqb y x ≡ b → P y) [ true ↦ λ h. subst P (sym (eqb-true-is y x h)) here | false ↦ λ h. others y h ] refl
+by_number P x here others y = elim (eqb y x) as (λ b. eqb y x ≡ b → P y) [ true ↦ λ h. subst P (sym (eqb-true y x h)) here | false ↦ λ h. others y h ] refl
 
 -- a number that is not live is neither handle nor pointer, and one that is neither is not live
 pub not_live : (t : HandleTable) (x : ℕ) → is_handle t x ≡ false → is_pointer t x ≡ false → live_at t x ≡ None

@@ -2,6 +2,7 @@
 use Rattle.std.proofs.Common.{◌≡◌, ℕ, ◌+◌, ◌-◌, ◌%◌, ◌<◌, ◌≤◌, Bool, true, false, not, ◌&&◌, ◌||◌, ◌==◌, nat_le, nat_lt, cond, [], ◌∷◌, ◌++◌, refl, ap, ◌∙◌, arith, IsTrue}
 use Rattle.std.specs.List.{list_all}
 use Rattle.std.proofs.lemmas.Bool.Decides.{nat_tests}
+use Rattle.std.proofs.lemmas.Bool.{or_right, and_parts, not_from_false, and_from}
 use Rattle.mac_base.specs.declared.block.Entry.{Entry}
 use Rattle.mac_base.specs.declared.block.HeadKind.{HeadKind}
 use Rattle.mac_base.specs.declared.block.HeadKind.TheVariants.{Bits24, Bits32}
@@ -13,7 +14,7 @@ use Rattle.mac_base.specs.HandleTable.{HandleTable}
 use Rattle.mac_base.specs.Suits.{free_apart, starts_free, is_block_size, has_length, has_owners_length, wanted_length}
 use Rattle.mac_base.specs.Serve.{taken}
 use Rattle.zone_laws.proofs.Placing.{TakenAt}
-use Rattle.zone_laws.proofs.Maps.{Exchanged, both_true, true_both, not_true, addresses_from-skip}
+use Rattle.zone_laws.proofs.Maps.{Exchanged, addresses_from-skip}
 
 -- a block is larger than its header
 pub head-below_smallest : (heads : HeadKind) → head_size heads < smallest_block heads
@@ -31,7 +32,7 @@ need-is_size s n = by_heads s.heads
 -- a map goes on apart behind some blocks
 pub free_apart-behind : (before m : ZoneMap) → IsTrue (free_apart (before ++ m)) → IsTrue (free_apart m)
 free_apart-behind [] m h = h
-free_apart-behind (e ∷ es) m h = free_apart-behind es m (both_true (not (is_free e.kind && starts_free (es ++ m))) (free_apart (es ++ m)) h).1
+free_apart-behind (e ∷ es) m h = free_apart-behind es m (and_parts (not (is_free e.kind && starts_free (es ++ m))) (free_apart (es ++ m)) h).1
 
 starts_free-replaced : (before m n : ZoneMap) → (starts_free n ≡ true → starts_free m ≡ true) → starts_free (before ++ n) ≡ true → starts_free (before ++ m) ≡ true
 starts_free-replaced [] m n h is = h is
@@ -47,8 +48,8 @@ still_apart false b c h is = refl
 pub free_apart-replaced : (before m n : ZoneMap) → (starts_free n ≡ true → starts_free m ≡ true) → IsTrue (free_apart n) → IsTrue (free_apart (before ++ m)) → IsTrue (free_apart (before ++ n))
 free_apart-replaced [] m n starts here h = here
 free_apart-replaced (e ∷ es) m n starts here h =
-    let hs = both_true (not (is_free e.kind && starts_free (es ++ m))) (free_apart (es ++ m)) h in
-    true_both (not (is_free e.kind && starts_free (es ++ n))) _ (still_apart (is_free e.kind) _ _ (starts_free-replaced es m n starts) hs.0) (free_apart-replaced es m n starts here hs.1)
+    let hs = and_parts (not (is_free e.kind && starts_free (es ++ m))) (free_apart (es ++ m)) h in
+    and_from (not (is_free e.kind && starts_free (es ++ n))) _ (still_apart (is_free e.kind) _ _ (starts_free-replaced es m n starts) hs.0) (free_apart-replaced es m n starts here hs.1)
 
 -- what is taken, whole or the front of it
 pub by_taken : (P : ZoneMap → Type 0) (s : Shape) (k : ℕ) (kind : Kind) (n : ℕ) → (n - k < smallest_block s.heads → P (block kind n ∷ []))
@@ -78,15 +79,15 @@ addresses_from-taken s k kind n at test h = by_taken (λ m. addresses_from at te
     (λ _. ap (λ found. cond (test kind) (at ∷ []) [] ++ found) (addresses_from-skip (at + k) test (block Free (n - k)) [] h) ∙ no_more (test kind) at)
 
 whole_size : (small n : ℕ) → ((n % 4 == 0) && nat_le small n) ≡ true → (((n % 4 == 0) && nat_le small n) && true) ≡ true
-whole_size small n h = true_both _ true h refl
+whole_size small n h = and_from _ true h refl
 
-rest_size : (small k n : ℕ) → ((k % 4 == 0) && nat_le small k) ≡ true → ((n % 4 == 0) && nat_le small n) ≡ true → k ≤ n → small ≤ n - k → (((n - k) % 4 == 0) && nat_le small (n - k)) ≡ true
+pub rest_size : (small k n : ℕ) → ((k % 4 == 0) && nat_le small k) ≡ true → ((n % 4 == 0) && nat_le small n) ≡ true → k ≤ n → small ≤ n - k → (((n - k) % 4 == 0) && nat_le small (n - k)) ≡ true
 rest_size small k n a b le h = grind (arith, nat_tests)
 
 -- the sizes of what is taken are possible
 pub sizes-taken : (s : Shape) (k : ℕ) (kind : Kind) (n : ℕ) → is_block_size s k ≡ true → is_block_size s n ≡ true → k ≤ n → IsTrue (list_all (λ (e : Entry). is_block_size s e.size) (taken s k kind n))
 sizes-taken s k kind n size is le = by_taken (λ m. IsTrue (list_all (λ (e : Entry). is_block_size s e.size) m)) s k kind n (λ _. whole_size (smallest_block s.heads) n is)
-    (λ h. true_both (is_block_size s k) _ size (whole_size (smallest_block s.heads) (n - k) (rest_size (smallest_block s.heads) k n size is le h)))
+    (λ h. and_from (is_block_size s k) _ size (whole_size (smallest_block s.heads) (n - k) (rest_size (smallest_block s.heads) k n size is le h)))
 
 -- a block that is taken has the length for which it was taken
 has_length-whole : (s : Shape) (n size : ℕ) → need s.heads n ≤ size → size - need s.heads n < smallest_block s.heads → has_length s size n ≡ true
@@ -99,22 +100,18 @@ has_length-whole s n size le small = lengthy (need s.heads n) size (smallest_blo
 has_length-exact : (s : Shape) (n : ℕ) → has_length s (need s.heads n) n ≡ true
 has_length-exact s n = has_length-whole s n (need s.heads n) (omega arith) (let small = head-below_smallest s.heads in omega arith)
 
-or_true : (a b : Bool) → b ≡ true → (a || b) ≡ true
-or_true true b h = refl
-or_true false b h = h
-
 -- what is taken has the length that its owner wants
 pub lengths-taken : (s : Shape) (t : HandleTable) (n : ℕ) (kind : Kind) (size : ℕ) → wanted_length t kind ≡ n → need s.heads n ≤ size → IsTrue (list_all (has_owners_length s t) (taken s (need s.heads n) kind size))
 lengths-taken s t n kind size wants le = by_taken (λ m. IsTrue (list_all (has_owners_length s t) m)) s (need s.heads n) kind size
-    (λ small. true_both (is_free kind || has_length s size (wanted_length t kind)) true (or_true (is_free kind) _ (ap (has_length s size) wants ∙ has_length-whole s n size le small)) refl)
-    (λ _. true_both (is_free kind || has_length s (need s.heads n) (wanted_length t kind)) true (or_true (is_free kind) _ (ap (has_length s (need s.heads n)) wants ∙ has_length-exact s n)) refl)
+    (λ small. and_from (is_free kind || has_length s size (wanted_length t kind)) true (or_right (is_free kind) _ (ap (has_length s size) wants ∙ has_length-whole s n size le small)) refl)
+    (λ _. and_from (is_free kind || has_length s (need s.heads n) (wanted_length t kind)) true (or_right (is_free kind) _ (ap (has_length s (need s.heads n)) wants ∙ has_length-exact s n)) refl)
 
 -- what is taken of a free block, with what stands behind, is apart
 pub free_apart-taken : (s : Shape) (k : ℕ) (kind : Kind) (n : ℕ) (behind : ZoneMap) → is_free kind ≡ false → (smallest_block s.heads ≤ n - k → starts_free behind ≡ false) → IsTrue (free_apart behind)
     → IsTrue (free_apart (taken s k kind n ++ behind))
 free_apart-taken s k kind n behind used starts h = by_taken (λ m. IsTrue (free_apart (m ++ behind))) s k kind n
-    (λ _. true_both (not (is_free kind && starts_free behind)) _ (ap (λ b. not (b && starts_free behind)) used) h)
-    (λ large. true_both (not (is_free kind && true)) _ (ap (λ b. not (b && true)) used) (true_both (not (starts_free behind)) _ (not_true _ (starts large)) h))
+    (λ _. and_from (not (is_free kind && starts_free behind)) _ (ap (λ b. not (b && starts_free behind)) used) h)
+    (λ large. and_from (not (is_free kind && true)) _ (ap (λ b. not (b && true)) used) (and_from (not (starts_free behind)) _ (not_from_false _ (starts large)) h))
 
 -- it starts with the block
 pub starts_free-taken : (s : Shape) (k : ℕ) (kind : Kind) (n : ℕ) (behind : ZoneMap) → starts_free (taken s k kind n ++ behind) ≡ is_free kind

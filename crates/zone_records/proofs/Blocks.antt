@@ -1,16 +1,16 @@
 -- When a block of bytes that is made of others is sound, and how large it is.
-use Rattle.std.proofs.Common.{◌≡◌, ℕ, ◌+◌, ◌-◌, ◌<◌, ◌≤◌, ◌%◌, Bool, true, not, ◌&&◌, ◌||◌, nat_le, List, length, take, drop, refl, ap, sym, ◌∙◌, arith, length-append, length-take-le, length-drop}
+use Rattle.std.proofs.Common.{◌≡◌, ℕ, ◌+◌, ◌-◌, ◌<◌, ◌≤◌, ◌%◌, Bool, true, not, ◌&&◌, ◌||◌, nat_le, List, length, take, drop, refl, ap, sym, ◌∙◌, arith, length-take-le, length-drop}
 use Rattle.std.specs.Prelude.{◌==◌}
 use Rattle.std.proofs.lemmas.Bool.Decides.{nat_tests}
+use Rattle.std.proofs.lemmas.Bool.{and_parts, and_from}
 use Rattle.mac_base.specs.declared.block.HeadKind.{HeadKind}
 use Rattle.mac_base.specs.declared.block.HeadKind.TheVariants.{Bits24, Bits32}
 use Rattle.mac_base.specs.HeadKind.{Shape, head_size, smallest_block}
 use Rattle.mac_base.specs.Suits.{is_block_size}
-use Rattle.zone_laws.proofs.Maps.{both_true, true_both}
 use Rattle.block_bytes.specs.declared.header.Role.{Role}
 use Rattle.block_bytes.specs.declared.header.Role.TheVariants as role
 use Rattle.block_bytes.specs.Head as head
-use Rattle.block_bytes.specs.Layout.{RawBlock, body, raw_block, free_raw_block, size_of, can_be_told, has_owner, is_possible}
+use Rattle.block_bytes.specs.Layout.{RawBlock, raw_block, free_raw_block, size_of, can_be_told, has_owner, is_possible}
 use Rattle.zone_records.specs.Places.{most_over, can_have}
 use Rattle.zone_records.specs.Reading.{has_use, is_sound}
 
@@ -30,7 +30,7 @@ sized-head Bits32 size h = grind (arith, nat_tests)
 
 -- two such sizes make another
 pub sized-sum : (heads : HeadKind) (m n : ℕ) → sized heads m ≡ true → sized heads n ≡ true → sized heads (m + n) ≡ true
-sized-sum heads m n first second = true_both _ _ (even m n (both_true _ _ first).0 (both_true _ _ second).0) (large m n (smallest_block heads) (both_true _ _ first).1)
+sized-sum heads m n first second = and_from _ _ (even m n (and_parts _ _ first).0 (and_parts _ _ second).0) (large m n (smallest_block heads) (and_parts _ _ first).1)
   where
     even : (m n : ℕ) → (m % 4 == 0) ≡ true → (n % 4 == 0) ≡ true → ((m + n) % 4 == 0) ≡ true
     even m n p q = grind (arith, nat_tests)
@@ -41,17 +41,13 @@ sized-sum heads m n first second = true_both _ _ (even m n (both_true _ _ first)
 -- what a size that can have n bytes is known to be
 pub have-parts : (s : Shape) (size n : ℕ) → can_have s size n ≡ true → (sized s.heads size ≡ true) × (head_size s.heads + n ≤ size) × (size ≤ head_size s.heads + n + head.most_over s.heads)
 have-parts s size n h =
-    let a = both_true (is_block_size s size) (nat_le (head_size s.heads + n) size && nat_le size (head_size s.heads + n + most_over s.heads)) h in
-    let b = both_true (nat_le (head_size s.heads + n) size) (nat_le size (head_size s.heads + n + most_over s.heads)) a.1 in
+    let a = and_parts (is_block_size s size) (nat_le (head_size s.heads + n) size && nat_le size (head_size s.heads + n + most_over s.heads)) h in
+    let b = and_parts (nat_le (head_size s.heads + n) size) (nat_le size (head_size s.heads + n + most_over s.heads)) a.1 in
     let most = most_same s.heads in
     (a.0, low (head_size s.heads + n) size b.0, low size _ (ap (λ k. nat_le size (head_size s.heads + n + k)) (sym most) ∙ b.1))
   where
     low : (m n : ℕ) → nat_le m n ≡ true → m ≤ n
     low m n h = grind (arith, nat_tests)
-
--- the size of a block by its body
-pub size-body : (heads : HeadKind) (b : RawBlock) → size_of heads b ≡ head_size heads + length (body b)
-size-body heads b = let sum = length-append b.contents b.slack in omega arith
 
 -- the parts of a block with this body
 pub raw-parts : (heads : HeadKind) (r : Role) (n : ℕ) (bytes : List ℕ) → n ≤ length bytes
@@ -65,16 +61,16 @@ raw-parts heads r n bytes few =
 pub sound-made : (heads : HeadKind) (base : ℕ) (b : RawBlock) (size : ℕ) → size_of heads b ≡ size → sized heads size ≡ true → length b.slack ≤ head.most_over heads → can_be_told heads b.role (length b.slack) ≡ true → (not b.lent || has_owner b.role) ≡ true
     → has_use base b.role (length b.contents) ≡ true → is_sound heads base b ≡ true
 sound-made heads base b size is possible few told owned use_is =
-    let parts = both_true (size % 4 == 0) (nat_le (smallest_block heads) size) possible in
-    true_both _ _ (true_both _ _ (ap (λ k. k % 4 == 0) is ∙ parts.0) (true_both _ _ (ap (λ k. nat_le (smallest_block heads) k) is ∙ parts.1)
-    (true_both _ _ (le (length b.slack) (head.most_over heads) few) (true_both _ _ told owned)))) use_is
+    let parts = and_parts (size % 4 == 0) (nat_le (smallest_block heads) size) possible in
+    and_from _ _ (and_from _ _ (ap (λ k. k % 4 == 0) is ∙ parts.0) (and_from _ _ (ap (λ k. nat_le (smallest_block heads) k) is ∙ parts.1)
+    (and_from _ _ (le (length b.slack) (head.most_over heads) few) (and_from _ _ told owned)))) use_is
   where
     le : (m n : ℕ) → m ≤ n → nat_le m n ≡ true
     le m n h = grind (arith, nat_tests)
 
 -- so it is possible
 pub sound-possible : (heads : HeadKind) (base : ℕ) (b : RawBlock) → is_sound heads base b ≡ true → is_possible heads b ≡ true
-sound-possible heads base b h = (both_true (is_possible heads b) (has_use base b.role (length b.contents)) h).0
+sound-possible heads base b h = (and_parts (is_possible heads b) (has_use base b.role (length b.contents)) h).0
 
 -- a block of this body with so many bytes of contents
 pub sound-raw : (heads : HeadKind) (base : ℕ) (r : Role) (n : ℕ) (bytes : List ℕ) (size : ℕ) → n ≤ length bytes → head_size heads + length bytes ≡ size → sized heads size ≡ true → size ≤ head_size heads + n + head.most_over heads

@@ -3,10 +3,10 @@ use Rattle.std.proofs.Common.{◌≡◌, ℕ, ◌+◌, ◌%◌, ◌≤◌, true,
 use Rattle.std.specs.Prelude.{◌==◌}
 use Rattle.std.specs.List.{list_all}
 use Rattle.std.proofs.lemmas.Bool.Decides.{nat_tests}
+use Rattle.std.proofs.lemmas.Bool.{and_parts}
 use Rattle.mac_base.specs.declared.block.HeadKind.{HeadKind}
 use Rattle.mac_base.specs.declared.block.HeadKind.TheVariants.{Bits24, Bits32}
 use Rattle.mac_base.specs.HeadKind.{head_size, slot_count, master_length}
-use Rattle.zone_laws.proofs.Maps.{both_true}
 use Rattle.block_bytes.specs.declared.header.Role.TheVariants as role
 use Rattle.block_bytes.specs.Layout as raw
 use Rattle.block_bytes.specs.Layout.{RawBlock, Layout, BlockAt, UnlentAt, CanBe, CanTurn, with_blocks, in_role, size_of}
@@ -29,7 +29,7 @@ use Rattle.zone_records.proofs.Placing.{free_one, free-place, free-size, place-f
 total-even : (heads : HeadKind) (base : ℕ) (bs : List RawBlock) → list_all (is_sound heads base) bs ≡ true → raw.total_of heads bs % 4 ≡ 0
 total-even heads base [] sound = refl
 total-even heads base (b ∷ bs) sound =
-    let parts = both_true (is_sound heads base b) (list_all (is_sound heads base) bs) sound in
+    let parts = and_parts (is_sound heads base b) (list_all (is_sound heads base) bs) sound in
     let rest = total-even heads base bs parts.1 in
     let here = four (size_of heads b) (sound-parts heads base b parts.0).even in
     omega arith
@@ -37,7 +37,7 @@ total-even heads base (b ∷ bs) sound =
     four : (n : ℕ) → (n % 4 == 0) ≡ true → n % 4 ≡ 0
     four n h = grind (arith, nat_tests)
 
-head-even : (heads : HeadKind) → head_size heads % 4 ≡ 0
+pub head-even : (heads : HeadKind) → head_size heads % 4 ≡ 0
 head-even Bits24 = refl
 head-even Bits32 = refl
 

@@ -1,7 +1,7 @@
 -- How the call ends that copies bytes of one block over those of another, or over its own.
 use Rattle.std.proofs.Common.{◌≡◌, ℕ, ◌+◌, ◌≤◌, List, [], ◌∷◌, ◌++◌, length, take, drop, refl, ap, sym, ◌∙◌, subst, arith, length-append, length-take, length-drop}
+use Rattle.std.proofs.lemmas.Bool.{and_from}
 use Rattle.mac_base.specs.ZoneState.{written}
-use Rattle.zone_laws.proofs.Maps.{true_both}
 use Rattle.block_bytes.specs.Copying as raw
 use Rattle.block_bytes.specs.Copying.{copied_over}
 use Rattle.block_bytes.specs.Layout.{RawBlock, Layout, size_of, with_blocks}
@@ -61,5 +61,5 @@ module _ (l : Layout) (z : ZoneRecords) (held : Held l z) (from start to offset 
       subst (λ m. Held m (copied z can)) (sym (ends copy_can))
       (changed l z held o.first (target ∷ []) (now ∷ []) o.rest t.before (block_record (with_bytes bytes t.content) t.size ∷ []) t.behind o.blocks o.lower o.upper
       (λ i. record { size = size i; content = content i; lent = (held-block l z held to t).unlent i } ∷ []) (omega arith)
-      (true_both _ _ (sound-same l.heads l.base target now.contents long (sound-one l o.first target o.rest held.sound o.blocks)) refl)
+      (and_from _ _ (sound-same l.heads l.base target now.contents long (sound-one l o.first target o.rest held.sound o.blocks)) refl)
       (words-one l.heads now (words-none l.heads l.base now target.contents (held-has l z held to t))))

@@ -4,7 +4,7 @@ use Rattle.std.specs.List.{All, list_all}
 use Rattle.std.proofs.lemmas.Bool.Decides.{nat_tests}
 use Rattle.std.proofs.lemmas.List.Elements.{All-append, All-nil}
 use Rattle.std.proofs.lemmas.List.Folds.{list_all-append}
-use Rattle.zone_laws.proofs.Maps.{true_both}
+use Rattle.std.proofs.lemmas.Bool.{and_from}
 use Rattle.mac_base.specs.declared.block.HeadKind.{HeadKind}
 use Rattle.mac_base.specs.declared.block.HeadKind.TheVariants.{Bits24, Bits32}
 use Rattle.mac_base.specs.HeadKind.{head_size, zone_header}
@@ -61,7 +61,7 @@ module _ (heads : HeadKind) (base : ℕ) where
       let rest = length-drop (head_size heads) (x ∷ xs) in
       let few = head-few heads in
       let large = can.some (omega arith) in
-      true_both _ _ (sound-free heads base (drop (head_size heads) (x ∷ xs)) (length (x ∷ xs)) (omega arith) (grown-sized heads (length (x ∷ xs)) can.even large)) refl
+      and_from _ _ (sound-free heads base (drop (head_size heads) (x ∷ xs)) (length (x ∷ xs)) (omega arith) (grown-sized heads (length (x ∷ xs)) can.even large)) refl
 
   added-words : (xs : List ℕ) → All (HasWords heads) (free_block_of heads xs)
   added-words [] = All-nil (HasWords heads)
@@ -103,7 +103,7 @@ module _ (l : Layout) (z : ZoneRecords) (held : Held l z) (s : ZoneSizes) (possi
       subst (λ m. Held m (extended z)) (sym is) (record {
         shows = shows;
         sound = record {
-          blocks = list_all-append (is_sound l.heads l.base) l.blocks (free_block_of l.heads l.spare) ∙ true_both _ _ sound.blocks (added-sound l.heads l.base l.spare can);
+          blocks = list_all-append (is_sound l.heads l.base) l.blocks (free_block_of l.heads l.spare) ∙ and_from _ _ sound.blocks (added-sound l.heads l.base l.spare can);
           words = All-append (HasWords l.heads) l.blocks (free_block_of l.heads l.spare) sound.words (added-words l.heads l.base l.spare);
           even = sound.even;
           high = omega arith;

@@ -4,7 +4,7 @@ use Rattle.mac_base.specs.declared.block.HeadKind.{HeadKind}
 use Rattle.block_bytes.specs.Layout as raw
 use Rattle.block_bytes.specs.Layout.{RawBlock, Layout, size_of}
 use Rattle.block_bytes.specs.Finding as finding
-use Rattle.zone_records.specs.Records.{BlockRecord, ZoneRecords, total_of, address_behind}
+use Rattle.zone_records.specs.Records.{BlockRecord, ZoneRecords, address_behind}
 use Rattle.zone_records.specs.Places.{SplitAt, FirstFree, LastFree, none_free, free_total}
 use Rattle.zone_records.proofs.Apart.{read, read-append, total-read, InTwo, in-two}
 use Rattle.zone_records.proofs.Held.{Held, address-is, sound-one}

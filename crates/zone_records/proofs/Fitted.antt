@@ -1,18 +1,20 @@
 -- How the calls end that give a block another number of bytes where it stands.
-use Rattle.std.proofs.Common.{◌≡◌, ℕ, ◌+◌, ◌-◌, ◌<◌, ◌≤◌, nat_lt, Bool, true, false, cond, eqb, List, [], ◌∷◌, ◌++◌, length, take, drop, refl, ap, sym, ◌∙◌, subst, arith, append_assoc, length-append, length-take, length-take-le, length-drop, inl, inr, ◌⊎◌}
+use Rattle.std.proofs.Common.{◌≡◌, ℕ, ◌+◌, ◌-◌, ◌<◌, ◌≤◌, nat_lt, Bool, true, false, cond, eqb, List, [], ◌∷◌, ◌++◌, length, take, drop, refl, ap, sym, ◌∙◌, subst, arith, append_assoc, length-take-le, length-drop, inl, inr, ◌⊎◌}
 use Rattle.std.specs.List.{All, list_all}
 use Rattle.std.proofs.lemmas.Bool.Decides.{nat_tests}
 use Rattle.std.proofs.lemmas.List.Elements.{All-cons, All-nil}
-use Rattle.std.proofs.lemmas.List.{length-replicate, take_all, take-append-le}
+use Rattle.std.proofs.lemmas.List.{take_all, take-append-le}
+use Rattle.std.proofs.lemmas.Bool.{and_from}
 use Rattle.mac_base.specs.declared.block.HeadKind.{HeadKind}
 use Rattle.mac_base.specs.HeadKind.{head_size}
-use Rattle.mac_base.specs.HandleTable.{resized, zeros}
-use Rattle.zone_laws.proofs.Maps.{true_both}
+use Rattle.mac_base.specs.HandleTable.{resized}
+use Rattle.zone_laws.proofs.SoundResized.{length-resized}
 use Rattle.block_bytes.specs.declared.header.Role.{Role}
 use Rattle.block_bytes.specs.declared.header.Role.TheVariants as role
 use Rattle.block_bytes.specs.Head as head
 use Rattle.block_bytes.specs.Layout as raw
 use Rattle.block_bytes.specs.Layout.{RawBlock, Layout, BlockAt, body, raw_block, free_raw_block, size_of, with_blocks, is_possible, can_be_told}
+use Rattle.block_bytes.proofs.Changes.{size-body}
 use Rattle.zone_records.specs.Records as records
 use Rattle.zone_records.specs.Records.{Content, Free, Fixed, Master, Relocatable, BlockRecord, block_record, ZoneRecords, with_bytes, bytes_of, length_of}
 use Rattle.zone_records.specs.Places.{RecordAt, HeldAt, CanHold, has_bytes}
@@ -24,12 +26,8 @@ use Rattle.zone_records.proofs.Held.{Held, heads-is, sound-one, words-one, words
 use Rattle.zone_records.proofs.Looking.{sound-parts}
 use Rattle.zone_records.proofs.Headers.{words-none}
 use Rattle.zone_records.proofs.Holding.{held_one, held-block, held-size, held-has, held-bytes, held-with, sound-same}
-use Rattle.zone_records.proofs.Blocks.{sized, sized-head, have-parts, size-body, raw-parts, sound-raw, sound-free, sound-possible}
+use Rattle.zone_records.proofs.Blocks.{sized, sized-head, have-parts, raw-parts, sound-raw, sound-free, sound-possible}
 use Rattle.zone_records.proofs.Fitting.{CanFit, fitted_front, fitted_rest, raw_fitted}
-
--- there are so many bytes where there are to be n
-pub length-resized : (n : ℕ) (bytes : List ℕ) → length (resized n bytes) ≡ n
-length-resized n bytes = length-append (take n bytes) (zeros (n - length bytes)) ∙ omega (arith, length-take n bytes, length-replicate {A = ℕ} (n - length bytes) 0)
 
 -- a block that has bytes is somebody's: its header tells of any number of bytes over, and of any contents
 pub told-any : (heads : HeadKind) (base : ℕ) (r : Role) (bytes : List ℕ) (k n : ℕ) → has_bytes (content_in heads base r bytes) ≡ true → can_be_told heads r k ≡ true → can_be_told heads r n ≡ true
@@ -138,7 +136,7 @@ module _ (l : Layout) (z : ZoneRecords) (held : Held l z) (at size n : ℕ) (can
       let total : size_of l.heads (free_raw_block (drop size (body b))) ≡ h.size - size = omega arith in (
         (λ i. record { size = total i; content = Free; lent = false } ∷ []) ∙ ap (λ t. cond t [] (block_record Free (h.size - size) ∷ [])) (sym some),
         omega arith,
-        true_both _ _ (fit-behind smaller) refl,
+        and_from _ _ (fit-behind smaller) refl,
         words-one l.heads (free_raw_block (drop size (body b))) (words-free l.heads (free_raw_block (drop size (body b))) refl),
       )
   rest-made false is =
@@ -176,7 +174,7 @@ module _ (l : Layout) (z : ZoneRecords) (held : Held l z) (at size n : ℕ) (can
       (subst (λ bs. Held (raw_fitted l fit-can kept) (records.with_blocks bs z)) (sym (append_assoc h.before recs h.behind))
       (changed l z held o.first (b ∷ []) (now ∷ fitted_rest l fit-can) o.rest h.before recs h.behind o.blocks o.lower o.upper
       (λ i. record { size = now_size i; content = content i; lent = false } ∷ rest.0 i) (omega arith)
-      (true_both _ _ (sound-same l.heads l.base front now.contents same fit-front) rest.2)
+      (and_from _ _ (sound-same l.heads l.base front now.contents same fit-front) rest.2)
       (All-cons (HasWords l.heads) now (fitted_rest l fit-can) (words-none l.heads l.base now b.contents (held-has l z held at h)) rest.3)))
 
 -- all bytes are kept where as many are as there were

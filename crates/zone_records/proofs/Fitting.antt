@@ -6,7 +6,8 @@ use Rattle.std.proofs.lemmas.List.{take_all, take-take}
 use Rattle.mac_base.specs.HeadKind.{head_size}
 use Rattle.mac_base.specs.HandleTable.{resized}
 use Rattle.block_bytes.specs.Layout.{RawBlock, Layout, BlockAt, CanClear, CanResize, CanSplit, body, raw_block, free_raw_block, size_of, front_of, rest_of, cleared_from, is_possible, with_blocks}
-use Rattle.zone_records.proofs.Blocks.{size-body}
+use Rattle.block_bytes.proofs.Changes.{size-body}
+use Rattle.zone_laws.proofs.SuitsResized.{no_rest}
 
 -- the block at an address can be its first bytes, so many with n of contents; what is over can be a free block
 pub record CanFit (l : Layout) (at size n : ℕ) : Type 0 where
@@ -35,11 +36,6 @@ fitted_rest {size = size} l can = if nat_lt size (size_of l.heads can.block.here
 abbrev pub raw_fitted : {at size n : ℕ} → (l : Layout) → CanFit l at size n → ℕ → Layout
 raw_fitted l can kept = with_blocks (can.block.before ++ fitted_front l can kept ∷ (fitted_rest l can ++ can.block.behind)) l
 
--- nothing behind a list is that list
-no_more : (xs : List ℕ) → xs ++ [] ≡ xs
-no_more [] = refl
-no_more (x ∷ xs) = ap (λ ys. x ∷ ys) (no_more xs)
-
 -- of so many bytes the first few are kept, and the others zero
 few_kept : (n kept : ℕ) (bytes : List ℕ) → kept ≤ n → n ≤ length bytes → take kept (take n bytes) ++ replicate (n - kept) 0 ≡ resized n (take kept bytes)
 few_kept n kept bytes few long =
@@ -53,7 +49,7 @@ all_kept : (n kept : ℕ) (bytes : List ℕ) → n ≤ kept → n ≤ length byt
 all_kept n kept bytes many long =
     let some = length-take kept bytes in
     let none : 0 ≡ n - length (take kept bytes) = omega arith in
-    sym (take-take n kept bytes many) ∙ sym (no_more (take n (take kept bytes))) ∙ ap (λ k. take n (take kept bytes) ++ replicate k 0) none
+    sym (take-take n kept bytes many) ∙ sym (no_rest (take n (take kept bytes))) ∙ ap (λ k. take n (take kept bytes) ++ replicate k 0) none
 
 module _ (l : Layout) (at size n : ℕ) (can : CanFit l at size n) where
   -- how long the body is

@@ -1,11 +1,10 @@
 -- Flags that are written in the header of a handle's block.
-use Rattle.std.proofs.Common.{◌≡◌, ℕ, ◌+◌, ◌≤◌, ◌^◌, not, ◌||◌, nat_le, nat_lt, true, [], ◌∷◌, ◌++◌, length, refl, ap, sym, ◌∙◌, subst, arith}
+use Rattle.std.proofs.Common.{◌≡◌, ℕ, ◌+◌, ◌^◌, not, ◌||◌, nat_lt, true, [], ◌∷◌, ◌++◌, length, refl, ap, sym, ◌∙◌, subst, arith}
 use Rattle.std.specs.Prelude.{IsTrue}
-use Rattle.std.proofs.lemmas.Bool.Decides.{nat_tests}
+use Rattle.std.proofs.lemmas.Bool.{leb-true, and_parts, and_from}
 use Rattle.mac_base.specs.declared.block.HeadKind.{HeadKind}
 use Rattle.mac_base.specs.declared.block.HeadKind.TheVariants.{Bits24, Bits32}
 use Rattle.mac_base.specs.declared.block.Flags.{Flags}
-use Rattle.zone_laws.proofs.Maps.{both_true, true_both}
 use Rattle.block_bytes.specs.declared.header.Role.{Role}
 use Rattle.block_bytes.specs.declared.header.Role.TheVariants as role
 use Rattle.block_bytes.specs.Head.{most_over}
@@ -24,9 +23,6 @@ use Rattle.zone_records.proofs.Freeing.{sound-sized}
 flag-same : (heads : HeadKind) (flags : Flags) → can_flag heads flags ≡ can_say heads flags
 flag-same Bits24 flags = refl
 flag-same Bits32 flags = refl
-
-few_is : (m n : ℕ) → nat_le m n ≡ true → m ≤ n
-few_is m n h = grind (arith, nat_tests)
 
 module _ (l : Layout) (z : ZoneRecords) (held : Held l z) (at : ℕ) (b : HandleBlockAt z at) (flags : Flags) (sayable : IsTrue (can_flag z.shape.heads flags)) where
   -- the block of bytes
@@ -50,8 +46,8 @@ module _ (l : Layout) (z : ZoneRecords) (held : Held l z) (at : ℕ) (b : Handle
       let told : can_be_told l.heads (role.Relocatable flag-said.0 b.flags) (length r.slack) ≡ true = ap (λ k. can_be_told l.heads k (length r.slack)) (sym flag-said.1) ∙ s.told in
       let said : can_say l.heads flags ≡ true = sym (flag-same l.heads flags) ∙ ap (λ k. can_flag k flags) (heads-is l z held) ∙ sayable in
       let owned : (not r.lent || has_owner (role.Relocatable flag-said.0 b.flags)) ≡ true = ap (λ k. not r.lent || has_owner k) (sym flag-said.1) ∙ s.owned in
-      sound-made l.heads l.base now (size_of l.heads r) refl (sound-sized l.heads l.base r old) (few_is (length r.slack) (most_over l.heads) s.few)
-      (true_both _ _ (both_true (nat_lt flag-said.0 (2 ^ 32)) (can_say l.heads b.flags) told).0 said) owned (ap (λ k. has_use l.base k (length r.contents)) (sym flag-said.1) ∙ s.use_is)
+      sound-made l.heads l.base now (size_of l.heads r) refl (sound-sized l.heads l.base r old) (leb-true (length r.slack) (most_over l.heads) s.few)
+      (and_from _ _ (and_parts (nat_lt flag-said.0 (2 ^ 32)) (can_say l.heads b.flags) told).0 said) owned (ap (λ k. has_use l.base k (length r.contents)) (sym flag-said.1) ∙ s.use_is)
 
   flag_can : CanTurn l at (role.Relocatable flag-said.0 flags)
   flag_can = record {
@@ -78,4 +74,4 @@ module _ (l : Layout) (z : ZoneRecords) (held : Held l z) (at : ℕ) (b : Handle
       subst (λ m. Held m (flagged flags z b)) (sym (one flag_can))
       (changed l z held o.block.before (r ∷ []) (now ∷ []) o.block.behind b.before (handle_record b.handle flags b.bytes b.size b.lent ∷ []) b.behind o.block.blocks o.lower o.upper
       (λ i. handle_record (handle i) flags (bytes i) (size i) (lent i) ∷ []) (omega arith)
-      (true_both _ _ flag-sound refl) (words-one l.heads now (λ is. absurd (cc is))))
+      (and_from _ _ flag-sound refl) (words-one l.heads now (λ is. absurd (cc is))))

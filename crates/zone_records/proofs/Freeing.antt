@@ -1,17 +1,15 @@
 -- Blocks that become free, free ones that are cut in two or made one, and zones of which nothing is lent.
-use Rattle.std.proofs.Common.{◌≡◌, ℕ, suc, ◌+◌, ◌-◌, ◌<◌, ◌≤◌, Bool, true, false, not, cond, List, [], ◌∷◌, ◌++◌, length, take, drop, refl, ap, sym, ◌∙◌, subst, arith, append_assoc, length-append, length-take-le, length-drop}
+use Rattle.std.proofs.Common.{◌≡◌, ℕ, suc, ◌+◌, ◌-◌, ◌<◌, ◌≤◌, Bool, true, false, not, cond, List, [], ◌∷◌, ◌++◌, length, take, drop, refl, ap, sym, ◌∙◌, subst, arith, append_assoc, length-take-le, length-drop}
 use Rattle.std.specs.List.{list_all}
+use Rattle.std.proofs.lemmas.Bool.{and_parts, and_from}
 use Rattle.mac_base.specs.declared.block.HeadKind.{HeadKind}
-use Rattle.mac_base.specs.declared.block.HeadKind.TheVariants.{Bits24, Bits32}
 use Rattle.mac_base.specs.HeadKind.{head_size}
-use Rattle.zone_laws.proofs.Maps.{both_true, true_both}
-use Rattle.byteorder.specs.Endian.{big_bytes}
-use Rattle.raw_region.proofs.Numbers.{length-big_bytes}
 use Rattle.block_bytes.specs.declared.header.Header.{Header}
 use Rattle.block_bytes.specs.declared.header.Role.TheVariants as role
-use Rattle.block_bytes.specs.Head.{head_bytes, first_word, word_of}
 use Rattle.block_bytes.specs.Layout as raw
 use Rattle.block_bytes.specs.Layout.{RawBlock, Layout, BlockAt, PairAt, CanSplit, CanMerge, body, raw_block, free_raw_block, size_of, header_of, front_of, rest_of, joint_body, with_blocks, lent_count}
+use Rattle.block_bytes.proofs.Here.{size-joint}
+use Rattle.block_bytes.proofs.Changes.{size-body}
 use Rattle.zone_records.specs.Records.{Free, BlockRecord, block_record, ZoneRecords}
 use Rattle.zone_records.specs.Places.{FreeAt, HeldAt, CanCut, FreePair}
 use Rattle.zone_records.specs.Changes.{emptied, cut_in_two, joined_pair}
@@ -20,48 +18,23 @@ use Rattle.zone_records.proofs.Apart.{read, Two, total-append}
 use Rattle.zone_records.proofs.Held.{Held, heads-is, address-is, two, sound-one, sound-other, range-one, words-one, words-two, words-free, changed}
 use Rattle.zone_records.proofs.Looking.{sound-parts}
 use Rattle.zone_records.proofs.Holding.{held_one, held-block, held-size}
-use Rattle.zone_records.proofs.Blocks.{sized, sized-head, sized-sum, size-body, raw-parts, sound-raw, sound-free, sound-possible, free-told}
+use Rattle.zone_records.proofs.Blocks.{sized, sized-head, sized-sum, raw-parts, sound-raw, sound-free, sound-possible, free-told}
 use Rattle.zone_records.proofs.Placing.{free_one, free-block, free-size, free-is, free-long, free-role}
 
 -- where nothing of the list is lent, no block of bytes is
 pub none-lent : (heads : HeadKind) (base : ℕ) (bs : List RawBlock) → list_all (λ b. not b.lent) (read heads base bs) ≡ true → lent_count bs ≡ 0
 none-lent heads base [] none = refl
 none-lent heads base (b ∷ bs) none =
-    let parts = both_true (not b.lent) (list_all (λ b. not b.lent) (read heads base bs)) none in
+    let parts = and_parts (not b.lent) (list_all (λ b. not b.lent) (read heads base bs)) none in
     ap (λ t. cond t (suc (lent_count bs)) (lent_count bs)) (unlent b.lent parts.0) ∙ none-lent heads base bs parts.1
   where
     unlent : (t : Bool) → not t ≡ true → t ≡ false
     unlent true h = absurd (cc h)
     unlent false h = refl
 
--- how long a header is
-pub length-head : (heads : HeadKind) (base : ℕ) (h : Header) → length (head_bytes heads base h) ≡ head_size heads
-length-head Bits24 base h =
-    let first = length-big_bytes 4 (first_word Bits24 h) in
-    let last = length-big_bytes 4 (word_of base h.role) in
-    let all = length-append (big_bytes 4 (first_word Bits24 h)) (big_bytes 4 (word_of base h.role)) in
-    omega arith
-length-head Bits32 base h =
-    let first = length-big_bytes 4 (first_word Bits32 h) in
-    let size = length-big_bytes 4 h.size in
-    let last = length-big_bytes 4 (word_of base h.role) in
-    let rest = length-append (big_bytes 4 h.size) (big_bytes 4 (word_of base h.role)) in
-    let all = length-append (big_bytes 4 (first_word Bits32 h)) (big_bytes 4 h.size ++ big_bytes 4 (word_of base h.role)) in
-    omega arith
-
--- the bytes of two neighbours behind the first header
-pub size-joint : (l : Layout) (b c : RawBlock) → head_size l.heads + length (joint_body l b c) ≡ size_of l.heads b + size_of l.heads c
-size-joint l b c =
-    let head = length-head l.heads l.base (header_of l.heads c) in
-    let first = size-body l.heads b in
-    let second = size-body l.heads c in
-    let sum = length-append (body b) (head_bytes l.heads l.base (header_of l.heads c) ++ body c) in
-    let rest = length-append (head_bytes l.heads l.base (header_of l.heads c)) (body c) in
-    omega arith
-
 -- the sizes of a sound block
 pub sound-sized : (heads : HeadKind) (base : ℕ) (b : RawBlock) → is_sound heads base b ≡ true → sized heads (size_of heads b) ≡ true
-sound-sized heads base b sound = let s = sound-parts heads base b sound in true_both _ _ s.even s.large
+sound-sized heads base b sound = let s = sound-parts heads base b sound in and_from _ _ s.even s.large
 
 module _ (l : Layout) (z : ZoneRecords) (held : Held l z) (at : ℕ) where
   -- a block becomes free
@@ -76,7 +49,7 @@ module _ (l : Layout) (z : ZoneRecords) (held : Held l z) (at : ℕ) where
       subst (λ m. Held m (emptied z h)) (sym (ends (held-block l z held at h).block))
       (changed l z held o.first (b ∷ []) (now ∷ []) o.rest h.before (block_record Free h.size ∷ []) h.behind o.blocks o.lower o.upper
       (λ i. record { size = (size ∙ held-size l z held at h) i; content = Free; lent = false } ∷ []) (omega arith)
-      (true_both _ _ (sound-free l.heads l.base (body b) (size_of l.heads b) (sym long) (sound-sized l.heads l.base b sound)) refl) (words-one l.heads now (words-free l.heads now refl)))
+      (and_from _ _ (sound-free l.heads l.base (body b) (size_of l.heads b) (sym long) (sound-sized l.heads l.base b sound)) refl) (words-one l.heads now (words-free l.heads now refl)))
 
   -- a free block is cut in two
   module _ (size n : ℕ) (can : CanCut z at size) (is : n ≡ size - head_size l.heads) where
@@ -157,7 +130,7 @@ module _ (l : Layout) (z : ZoneRecords) (held : Held l z) (at : ℕ) where
         subst (λ m. Held m (cut_in_two size z can.free)) (sym (ends cut-can))
         (changed l z held o.first (b ∷ []) (front ∷ rest ∷ []) o.rest f.before (block_record Free size ∷ block_record Free (f.size - size) ∷ []) f.behind o.blocks o.lower o.upper
         (λ i. record { size = front_size i; content = ap (λ r. content_in l.heads l.base r front.contents) free i; lent = false } ∷ record { size = rest_size i; content = Free; lent = false } ∷ []) (omega arith)
-        (true_both _ _ front-sound (true_both _ _ rest-sound refl)) (words-two l.heads front rest (words-free l.heads front free) (words-free l.heads rest refl)))
+        (and_from _ _ front-sound (and_from _ _ rest-sound refl)) (words-two l.heads front rest (words-free l.heads front free) (words-free l.heads rest refl)))
 
   -- two free neighbours become one
   module _ (pair : FreePair z at) where
@@ -274,4 +247,4 @@ module _ (l : Layout) (z : ZoneRecords) (held : Held l z) (at : ℕ) where
           subst (λ m. Held m (joined_pair z pair)) (sym (ends merge_can))
           (changed l z held pair_two.first (pair_two.block ∷ pair_two.other ∷ []) (joined ∷ []) pair_two.rest pair.before (block_record Free (pair.first + pair.second) ∷ []) pair.behind pair_two.blocks pair_two.lower pair_two.upper
           (λ i. record { size = size i; content = ap (λ r. content_in l.heads l.base r joined.contents) joined-role i; lent = false } ∷ []) (omega arith)
-          (true_both _ _ joined-sound refl) (words-one l.heads joined (words-free l.heads joined joined-role)))
+          (and_from _ _ joined-sound refl) (words-one l.heads joined (words-free l.heads joined joined-role)))

@@ -1,13 +1,14 @@
 -- How the call ends that gives a block bytes of the free one behind it.
 use Rattle.std.proofs.Common.{◌≡◌, ℕ, ◌+◌, ◌-◌, ◌≤◌, true, false, List, [], ◌∷◌, ◌++◌, length, take, refl, ap, sym, ◌∙◌, subst, arith, append_assoc, take_at}
 use Rattle.std.proofs.lemmas.List.{take_all}
+use Rattle.std.proofs.lemmas.Bool.{and_from}
 use Rattle.mac_base.specs.HeadKind.{head_size}
 use Rattle.mac_base.specs.HandleTable.{resized}
-use Rattle.zone_laws.proofs.Maps.{true_both}
 use Rattle.block_bytes.specs.declared.header.Header.{Header}
 use Rattle.block_bytes.specs.Head.{head_bytes}
 use Rattle.block_bytes.specs.Layout as raw
 use Rattle.block_bytes.specs.Layout.{RawBlock, Layout, BlockAt, CanMerge, body, raw_block, size_of, header_of, joint_body, with_blocks}
+use Rattle.block_bytes.proofs.Here.{size-joint}
 use Rattle.zone_records.specs.Records as records
 use Rattle.zone_records.specs.Records.{Content, Free, Fixed, Master, Relocatable, BlockRecord, block_record, ZoneRecords, with_bytes, bytes_of, length_of}
 use Rattle.zone_records.specs.Places.{RecordAt, CanHold, CanGrow, has_bytes}
@@ -19,7 +20,7 @@ use Rattle.zone_records.proofs.Held.{Held, heads-is, address-is, two, sound-one,
 use Rattle.zone_records.proofs.Looking.{sound-parts}
 use Rattle.zone_records.proofs.Headers.{bytes-same, words-none, with-same}
 use Rattle.zone_records.proofs.Blocks.{sized, sized-sum, raw-parts, sound-raw, sound-possible}
-use Rattle.zone_records.proofs.Freeing.{size-joint, sound-sized}
+use Rattle.zone_records.proofs.Freeing.{sound-sized}
 use Rattle.zone_records.proofs.Fitted.{told-any, use-any, length-held}
 
 -- other bytes in a block that has some
@@ -169,7 +170,7 @@ module _ (l : Layout) (z : ZoneRecords) (held : Held l z) (at size n : ℕ) (can
         subst (λ m. Held m merged_zone) (sym (ends can_merge))
         (changed l z held t.first (t.block ∷ t.other ∷ []) (joined ∷ []) t.rest can.before (block_record (with_bytes joint can.content) (can.first + can.second) ∷ []) can.behind t.blocks t.lower t.upper
         (λ i. record { size = size i; content = content i; lent = false } ∷ []) (omega arith)
-        (true_both _ _ joined-sound refl) (words-one l.heads joined (words-none l.heads l.base joined t.block.contents grow-has)))
+        (and_from _ _ joined-sound refl) (words-one l.heads joined (words-none l.heads l.base joined t.block.contents grow-has)))
 
   -- the one block can be cut
   abbrev pub grown : CanHold merged_zone at size n

@@ -3,8 +3,8 @@ use Rattle.std.proofs.Common.{◌≡◌, ◌+◌, ◌≤◌, true, List, [], ◌
 use Rattle.std.specs.List.{All, list_all}
 use Rattle.std.proofs.lemmas.List.Elements.{All-append, All-cons, All-head, All-nil, All-same, All-tail}
 use Rattle.std.proofs.lemmas.List.Folds.{list_all-append}
+use Rattle.std.proofs.lemmas.Bool.{and_parts, and_from}
 use Rattle.mac_base.specs.HeadKind.{zone_header}
-use Rattle.zone_laws.proofs.Maps.{both_true, true_both}
 use Rattle.mac_base.specs.declared.block.HeadKind.{HeadKind}
 use Rattle.block_bytes.specs.declared.header.Role.TheVariants as role
 use Rattle.block_bytes.specs.Layout as raw
@@ -30,11 +30,11 @@ fields l z held = record { sound = held.sound }
 
 -- the parts of the blocks are sound where all are
 pub sound-two : (l : Layout) (xs ys : List RawBlock) → AreSound l → l.blocks ≡ xs ++ ys → (list_all (is_sound l.heads l.base) xs ≡ true) × (list_all (is_sound l.heads l.base) ys ≡ true)
-sound-two l xs ys sound is = both_true _ _ (sym (list_all-append (is_sound l.heads l.base) xs ys) ∙ sym (ap (list_all (is_sound l.heads l.base)) is) ∙ sound.blocks)
+sound-two l xs ys sound is = and_parts _ _ (sym (list_all-append (is_sound l.heads l.base) xs ys) ∙ sym (ap (list_all (is_sound l.heads l.base)) is) ∙ sound.blocks)
 
 -- so is each block
 pub sound-one : (l : Layout) (xs : List RawBlock) (b : RawBlock) (ys : List RawBlock) → AreSound l → l.blocks ≡ xs ++ b ∷ ys → is_sound l.heads l.base b ≡ true
-sound-one l xs b ys sound is = (both_true _ _ (sound-two l xs (b ∷ ys) sound is).1).0
+sound-one l xs b ys sound is = (and_parts _ _ (sound-two l xs (b ∷ ys) sound is).1).0
 
 -- what holds of all blocks holds of the first, and of those behind
 pub words-first : (heads : HeadKind) (xs ys : List RawBlock) → All (HasWords heads) (xs ++ ys) → All (HasWords heads) xs
@@ -62,7 +62,7 @@ words-at l xs b ys sound is = All-head (HasWords l.heads) b ys (words-rest l.hea
 
 -- and two neighbours
 pub sound-other : (l : Layout) (xs : List RawBlock) (a b : RawBlock) (ys : List RawBlock) → AreSound l → l.blocks ≡ xs ++ a ∷ b ∷ ys → is_sound l.heads l.base b ≡ true
-sound-other l xs a b ys sound is = (both_true _ _ (both_true _ _ (sound-two l xs (a ∷ b ∷ ys) sound is).1).1).0
+sound-other l xs a b ys sound is = (and_parts _ _ (and_parts _ _ (sound-two l xs (a ∷ b ∷ ys) sound is).1).1).0
 
 -- where a block ends at the highest
 pub range-one : (l : Layout) (xs : List RawBlock) (b : RawBlock) (ys : List RawBlock) → AreSound l → l.blocks ≡ xs ++ b ∷ ys → raw.address_behind l xs + size_of l.heads b ≤ 0x100_0000
@@ -100,7 +100,7 @@ module _ (l : Layout) (z : ZoneRecords) (held : Held l z) where
       → Held (with_blocks (first ++ (news ++ rest)) l) (records.with_blocks (before ++ (recs ++ behind)) z)
   changed first olds news rest before recs behind is lower upper same total sound words =
       let all = sound-two l first (olds ++ rest) held.sound is in
-      let high = both_true _ _ (sym (list_all-append (is_sound l.heads l.base) olds rest) ∙ all.1) in
+      let high = and_parts _ _ (sym (list_all-append (is_sound l.heads l.base) olds rest) ∙ all.1) in
       let have = All-same (HasWords l.heads) (first ++ (olds ++ rest)) l.blocks (sym is) held.sound.words in
       let old-total = ap (raw.total_of l.heads) is ∙ total-append l.heads first (olds ++ rest) in
       let old-rest = total-append l.heads olds rest in
@@ -118,7 +118,7 @@ module _ (l : Layout) (z : ZoneRecords) (held : Held l z) where
           blocks = blocks i;
         }) ∙ ap (records.with_blocks (before ++ (recs ++ behind))) held.shows;
         sound = record {
-          blocks = list_all-append (is_sound l.heads l.base) first (news ++ rest) ∙ true_both _ _ all.0 (list_all-append (is_sound l.heads l.base) news rest ∙ true_both _ _ sound high.1);
+          blocks = list_all-append (is_sound l.heads l.base) first (news ++ rest) ∙ and_from _ _ all.0 (list_all-append (is_sound l.heads l.base) news rest ∙ and_from _ _ sound high.1);
           words = All-append (HasWords l.heads) first (news ++ rest) (words-first l.heads first (olds ++ rest) have)
               (All-append (HasWords l.heads) news rest words (words-rest l.heads olds rest (words-rest l.heads first (olds ++ rest) have)));
           even = held.sound.even;

@@ -1,13 +1,12 @@
 -- The block of a handle or a pointer, and its bytes.
-use Rattle.std.proofs.Common.{◌≡◌, ℕ, ◌+◌, ◌<◌, ◌%◌, Bool, true, false, cond, not, ◌&&◌, ◌||◌, nat_le, List, [], ◌∷◌, ◌++◌, length, take, drop, refl, ap, sym, ◌∙◌, subst, arith, append-nil, length-append, length-take, length-drop}
+use Rattle.std.proofs.Common.{◌≡◌, ℕ, ◌+◌, ◌%◌, Bool, true, cond, not, ◌&&◌, ◌||◌, nat_le, List, [], ◌∷◌, ◌++◌, length, take, drop, refl, ap, sym, ◌∙◌, subst, arith, append-nil, length-append, length-take, length-drop}
 use Rattle.std.specs.Prelude.{◌==◌}
-use Rattle.std.proofs.lemmas.Bool.Decides.{nat_tests}
 use Rattle.std.proofs.lemmas.List.{take_all, drop_all}
+use Rattle.std.proofs.lemmas.Bool.{eq-eqb, and_from}
 use Rattle.mac_base.specs.declared.block.HeadKind.{HeadKind}
 use Rattle.mac_base.specs.declared.block.Flags.{Flags}
 use Rattle.mac_base.specs.HeadKind.{head_size, smallest_block}
 use Rattle.mac_base.specs.ZoneState.{overwritten}
-use Rattle.zone_laws.proofs.Maps.{true_both}
 use Rattle.block_bytes.specs.declared.header.Header.{Header}
 use Rattle.block_bytes.specs.declared.header.Role.{Role}
 use Rattle.block_bytes.specs.declared.header.Role.TheVariants as role
@@ -15,6 +14,8 @@ use Rattle.block_bytes.specs.Layout as raw
 use Rattle.block_bytes.specs.Layout.{RawBlock, Layout, BlockAt, UnlentAt, size_of, header_of, with_blocks, can_be_told}
 use Rattle.block_bytes.specs.Head.{most_over}
 use Rattle.block_bytes.specs.WritingBack as back
+use Rattle.block_bytes.proofs.WrittenBack.{further}
+use Rattle.block_bytes.proofs.ReadBlocks.{head_size-positive}
 use Rattle.zone_records.specs.Records as records
 use Rattle.zone_records.specs.Records.{Content, Relocatable, BlockRecord, block_record, handle_record, ZoneRecords, bytes_of, with_bytes, address_behind, total_of}
 use Rattle.zone_records.specs.Places.{RecordAt, HeldAt, HandleBlockAt, has_bytes}
@@ -22,7 +23,6 @@ use Rattle.zone_records.specs.WritingBack.{overwritten_at, with_contents_at}
 use Rattle.zone_records.specs.Reading.{content_in, record_in, has_use, is_sound}
 use Rattle.zone_records.proofs.Apart.{read, One}
 use Rattle.zone_records.proofs.Held.{Held, base-is, address-is, one, sound-one, words-one, changed}
-use Rattle.zone_records.proofs.Ranked.{head-some}
 use Rattle.zone_records.proofs.Looking.{of-record}
 use Rattle.zone_records.proofs.Headers.{bytes-same, words-none, with-same}
 
@@ -45,20 +45,13 @@ pub overwritten-all : (old others : List ℕ) → length others ≡ length old �
 overwritten-all old others long = (λ i. take (sym long i) others ++ drop (long i) old)
     ∙ (λ i. take_all (length others) others (omega arith) i ++ drop_all (length old) old (omega arith) i) ∙ append-nil others
 
--- equal numbers test as equal, and numbers that differ by one above 0 don't
-at_once : (x y : ℕ) → x ≡ y → (x == y) ≡ true
-at_once x y same = grind (arith, nat_tests)
-
-further : (x y k : ℕ) → 0 < k → y ≡ x + k → (x == y) ≡ false
-further x y k some is = grind (arith, nat_tests)
-
 -- of the blocks of bytes, the one at this address is written
 pub raw-overwritten : (heads : HeadKind) (at x : ℕ) (bytes : List ℕ) (before : List RawBlock) (here : RawBlock) (behind : List RawBlock) → x ≡ at + raw.total_of heads before
     → back.overwritten_at heads at x bytes (before ++ here ∷ behind) ≡ before ++ with_contents here (overwritten here.contents bytes) ∷ behind
 raw-overwritten heads at x bytes [] here behind is =
-    ap (λ (t : Bool). cond t (with_contents here (overwritten here.contents bytes) ∷ behind) (here ∷ back.overwritten_at heads (at + size_of heads here) x bytes behind)) (at_once at x (omega arith))
+    ap (λ (t : Bool). cond t (with_contents here (overwritten here.contents bytes) ∷ behind) (here ∷ back.overwritten_at heads (at + size_of heads here) x bytes behind)) (eq-eqb at x (omega arith))
 raw-overwritten heads at x bytes (b ∷ before) here behind is =
-    let some = head-some heads in
+    let some = head_size-positive heads in
     ap (λ (t : Bool). cond t (with_contents b (overwritten b.contents bytes) ∷ (before ++ here ∷ behind)) (b ∷ back.overwritten_at heads (at + size_of heads b) x bytes (before ++ here ∷ behind)))
     (further at x (size_of heads b + raw.total_of heads before) (omega arith) (omega arith))
     ∙ ap (λ (bs : List RawBlock). b ∷ bs) (raw-overwritten heads (at + size_of heads b) x bytes before here behind (omega arith))
@@ -71,9 +64,9 @@ rewritten r bytes = record r { content = with_bytes (overwritten (bytes_of r.con
 overwritten-there : (heads : HeadKind) (base at x : ℕ) (bytes : List ℕ) (before : List RawBlock) (here : BlockRecord) (behind : List BlockRecord) → x ≡ at + raw.total_of heads before
     → overwritten_at at x bytes (read heads base before ++ here ∷ behind) ≡ read heads base before ++ rewritten here bytes ∷ behind
 overwritten-there heads base at x bytes [] here behind is =
-    ap (λ (t : Bool). cond t (rewritten here bytes ∷ behind) (here ∷ overwritten_at (at + here.size) x bytes behind)) (at_once at x (omega arith))
+    ap (λ (t : Bool). cond t (rewritten here bytes ∷ behind) (here ∷ overwritten_at (at + here.size) x bytes behind)) (eq-eqb at x (omega arith))
 overwritten-there heads base at x bytes (b ∷ before) here behind is =
-    let some = head-some heads in
+    let some = head_size-positive heads in
     ap (λ (t : Bool). cond t (rewritten (record_in heads base b) bytes ∷ (read heads base before ++ here ∷ behind)) (record_in heads base b ∷ overwritten_at (at + size_of heads b) x bytes (read heads base before ++ here ∷ behind)))
     (further at x (size_of heads b + raw.total_of heads before) (omega arith) (omega arith))
     ∙ ap (λ (rs : List BlockRecord). record_in heads base b ∷ rs) (overwritten-there heads base (at + size_of heads b) x bytes before here behind (omega arith))
@@ -134,7 +127,7 @@ module _ (l : Layout) (z : ZoneRecords) (held : Held l z) (at : ℕ) where
           lent = held-block.unlent i;
         }) in
         let all = changed l z held o.first (b ∷ []) (now ∷ []) o.rest h.before (rewritten (block_record h.content h.size) ws ∷ []) h.behind o.blocks o.lower o.upper (ap (λ r. r ∷ []) rec) (omega arith)
-        (true_both _ _ (sound-same l.heads l.base b (overwritten b.contents ws) long (sound-one l o.first b o.rest held.sound o.blocks)) refl) (words-one l.heads now (words-none l.heads l.base now b.contents held-has)) in
+        (and_from _ _ (sound-same l.heads l.base b (overwritten b.contents ws) long (sound-one l o.first b o.rest held.sound o.blocks)) refl) (words-one l.heads now (words-none l.heads l.base now b.contents held-has)) in
         let base = base-is l z held in
         let low : o.first ++ now ∷ o.rest ≡ back.overwritten_at l.heads (raw.address_behind l []) at ws l.blocks =
         sym (ap (back.overwritten_at l.heads (raw.address_behind l []) at ws) o.blocks ∙ raw-overwritten l.heads (raw.address_behind l []) at ws o.first b o.rest (omega arith)) in

@@ -1,10 +1,9 @@
 -- A block whose bytes are lent, and one that comes back.
-use Rattle.std.proofs.Common.{◌≡◌, ℕ, suc, ◌+◌, ◌<◌, ◌≤◌, Bool, true, false, cond, not, ◌||◌, nat_le, List, [], ◌∷◌, ◌++◌, length, refl, ap, sym, ◌∙◌, subst, arith}
-use Rattle.std.proofs.lemmas.Bool.Decides.{nat_tests}
+use Rattle.std.proofs.Common.{◌≡◌, ℕ, suc, ◌+◌, ◌<◌, Bool, true, false, cond, not, ◌||◌, List, [], ◌∷◌, ◌++◌, length, refl, ap, sym, ◌∙◌, subst, arith}
+use Rattle.std.proofs.lemmas.Bool.{leb-true, and_from}
 use Rattle.mac_base.specs.Loans.{most_loans}
 use Rattle.mac_base.specs.declared.block.HeadKind.{HeadKind}
 use Rattle.mac_base.specs.HeadKind.{head_size, zone_header}
-use Rattle.zone_laws.proofs.Maps.{true_both}
 use Rattle.raw_region.specs.State.{Loan}
 use Rattle.block_bytes.specs.declared.header.Role.{Role}
 use Rattle.block_bytes.specs.declared.header.Role.TheVariants as role
@@ -35,15 +34,12 @@ owner-has heads base role.Fixed bytes h = refl
 owner-has heads base role.Master bytes h = absurd (cc h)
 owner-has heads base (role.Relocatable offset flags) bytes h = refl
 
-few_is : (m n : ℕ) → nat_le m n ≡ true → m ≤ n
-few_is m n h = grind (arith, nat_tests)
-
 -- a sound block is sound with as many other bytes, lent or not, where it is somebody's
 sound-lent : (heads : HeadKind) (base : ℕ) (b : RawBlock) (contents : List ℕ) (lent : Bool) → length contents ≡ length b.contents → has_owner b.role ≡ true → is_sound heads base b ≡ true
     → is_sound heads base (record b { contents = contents; lent = lent }) ≡ true
 sound-lent heads base b contents lent long owned sound =
     let s = sound-parts heads base b sound in
-    sound-made heads base (record b { contents = contents; lent = lent }) (size_of heads b) (omega arith) (sound-sized heads base b sound) (few_is (length b.slack) (most_over heads) s.few) s.told
+    sound-made heads base (record b { contents = contents; lent = lent }) (size_of heads b) (omega arith) (sound-sized heads base b sound) (leb-true (length b.slack) (most_over heads) s.few) s.told
     (either lent) (ap (has_use base b.role) long ∙ s.use_is)
   where
     either : (t : Bool) → (not t || has_owner b.role) ≡ true
@@ -70,7 +66,7 @@ module _ (l : Layout) (z : ZoneRecords) (held : Held l z) (at : ℕ) where
         subst (λ m. Held m (lent_out z h)) (sym ends)
         (changed l z held o.first (o.block ∷ []) (lent_block o.block ∷ []) o.rest h.before (lent_record h.content h.size ∷ []) h.behind o.blocks o.lower o.upper
         (λ i. lent_record (content i) (size i) ∷ []) (omega arith)
-        (true_both _ _ (sound-lent l.heads l.base o.block o.block.contents true refl lend-owner (sound-one l o.first o.block o.rest held.sound o.blocks)) refl)
+        (and_from _ _ (sound-lent l.heads l.base o.block o.block.contents true refl lend-owner (sound-one l o.first o.block o.rest held.sound o.blocks)) refl)
         (words-one l.heads (lent_block o.block) (words-none l.heads l.base (lent_block o.block) o.block.contents (held-has l z held at h))))
 
     -- and this is its loan
@@ -153,5 +149,5 @@ module _ (l : Layout) (z : ZoneRecords) (held : Held l z) (at : ℕ) where
         subst (λ m. Held m (taken_back z is)) (sym (ends back_is))
         (changed l z held o.before (b ∷ []) (now ∷ []) o.behind is.before (block_record (with_bytes loan.bytes is.content) is.size ∷ []) is.behind o.blocks t.lower t.upper
         (λ i. block_record (content i) (size i) ∷ []) (omega arith)
-        (true_both _ _ (sound-lent l.heads l.base b loan.bytes false long (owner-has l.heads l.base b.role b.contents back-has) (sound-one l o.before b o.behind held.sound o.blocks)) refl)
+        (and_from _ _ (sound-lent l.heads l.base b loan.bytes false long (owner-has l.heads l.base b.role b.contents back-has) (sound-one l o.before b o.behind held.sound o.blocks)) refl)
         (words-one l.heads now (words-none l.heads l.base now b.contents back-has)))

@@ -4,7 +4,7 @@ mod Words
 mod Apart
 mod Held
 mod Ranked
-mod Looking
+pub mod Looking
 mod FirstFree
 mod Headers
 mod Holding
@@ -20,5 +20,5 @@ mod Carrying
 mod Flagging
 mod Lending
 mod Copied
-mod Chaining
+pub mod Chaining
 pub mod Extending

@@ -1,21 +1,22 @@
 -- What the calls that look for a block find.
 use Rattle.std.proofs.Common.{◌≡◌, ℕ, ◌+◌, ◌-◌, ◌%◌, ◌==◌, Bool, not, ◌&&◌, ◌||◌, true, false, nat_le, List, [], ◌∷◌, ◌++◌, length, refl, ap, sym, ◌∙◌, arith, inl, inr, IsTrue, Option, Some, None, IfNone}
 use Rattle.std.specs.List.{list_all}
+use Rattle.std.proofs.lemmas.Bool.{and_parts}
 use Rattle.mac_base.specs.HeadKind.{smallest_block}
 use Rattle.mac_base.specs.declared.block.HeadKind.{HeadKind}
-use Rattle.zone_laws.proofs.Maps.{both_true}
 use Rattle.block_bytes.specs.declared.header.Role.{Role}
 use Rattle.block_bytes.specs.declared.header.Role.TheVariants as role
 use Rattle.block_bytes.specs.Layout as raw
 use Rattle.block_bytes.specs.Head.{most_over}
 use Rattle.block_bytes.specs.Layout.{RawBlock, Layout, BlockAt, size_of, is_possible, can_be_told}
 use Rattle.block_bytes.specs.Finding.{HoldsByte, LiesOutside, LowestFree, NoneFree, has_room}
+use Rattle.block_bytes.proofs.ReadBlocks.{head_size-positive}
 use Rattle.zone_records.specs.Records.{Free, BlockRecord, ZoneRecords}
 use Rattle.zone_records.specs.Places.{RecordAt, LowestAt, is_free, has_free}
 use Rattle.zone_records.specs.Reading.{content_in, record_in, has_use, is_sound}
 use Rattle.zone_records.proofs.Apart.{read, read-append}
 use Rattle.zone_records.proofs.Held.{Held, address-is, one, sound-one}
-use Rattle.zone_records.proofs.Ranked.{head-some, rank, one-block, within, none_before}
+use Rattle.zone_records.proofs.Ranked.{rank, one-block, within, none_before}
 
 -- what follows from what a clause says of `None`
 pub IfNone_then : {P Q : Type 0} (r : Option ℕ) → IfNone r P → (P → Q) → IfNone r Q
@@ -51,12 +52,12 @@ pub record Sound (heads : HeadKind) (base : ℕ) (b : RawBlock) : Type 0 where
 
 pub sound-parts : (heads : HeadKind) (base : ℕ) (b : RawBlock) → is_sound heads base b ≡ true → Sound heads base b
 sound-parts heads base b sound =
-    let a = both_true (is_possible heads b) (has_use base b.role (length b.contents)) sound in
-    let c = both_true (size_of heads b % 4 == 0) (nat_le (smallest_block heads) (size_of heads b)
+    let a = and_parts (is_possible heads b) (has_use base b.role (length b.contents)) sound in
+    let c = and_parts (size_of heads b % 4 == 0) (nat_le (smallest_block heads) (size_of heads b)
     && (nat_le (length b.slack) (most_over heads) && (can_be_told heads b.role (length b.slack) && (not b.lent || raw.has_owner b.role)))) a.0 in
-    let d = both_true (nat_le (smallest_block heads) (size_of heads b)) (nat_le (length b.slack) (most_over heads) && (can_be_told heads b.role (length b.slack) && (not b.lent || raw.has_owner b.role))) c.1 in
-    let e = both_true (nat_le (length b.slack) (most_over heads)) (can_be_told heads b.role (length b.slack) && (not b.lent || raw.has_owner b.role)) d.1 in
-    let f = both_true (can_be_told heads b.role (length b.slack)) (not b.lent || raw.has_owner b.role) e.1 in
+    let d = and_parts (nat_le (smallest_block heads) (size_of heads b)) (nat_le (length b.slack) (most_over heads) && (can_be_told heads b.role (length b.slack) && (not b.lent || raw.has_owner b.role))) c.1 in
+    let e = and_parts (nat_le (length b.slack) (most_over heads)) (can_be_told heads b.role (length b.slack) && (not b.lent || raw.has_owner b.role)) d.1 in
+    let f = and_parts (can_be_told heads b.role (length b.slack)) (not b.lent || raw.has_owner b.role) e.1 in
     record { even = c.0; large = d.0; few = e.0; told = f.0; owned = f.1; use_is = a.1 }
 
 -- a block of nobody isn't lent
@@ -112,7 +113,7 @@ module _ (l : Layout) (z : ZoneRecords) (held : Held l z) where
       let mine = of-record at next in
       let own = of-record start r in
       let b = holds.block in
-      let some = head-some l.heads in
+      let some = head_size-positive l.heads in
       let one = one-block l start start start b own.block (omega arith) (omega arith) (omega arith) (omega arith) in
       let size = ap (size_of l.heads) one.1 ∙ size-of start r in
       let low = holds.low in
@@ -132,7 +133,7 @@ module _ (l : Layout) (z : ZoneRecords) (held : Held l z) where
       let inside = within l at b in
       let low = inside.0 in
       let high = inside.1 in
-      let some = head-some l.heads in
+      let some = head_size-positive l.heads in
       let place = b.place in
       sym mine.lower ∙ none-read l.heads l.base b.before (elim outside [
         | inl below ↦ none_before l b.before (omega arith)

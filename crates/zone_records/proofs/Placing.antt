@@ -2,15 +2,16 @@
 use Rattle.std.proofs.Common.{◌≡◌, ℕ, ◌+◌, ◌-◌, ◌<◌, ◌≤◌, ◌^◌, nat_lt, true, false, List, [], ◌∷◌, ◌++◌, length, replicate, refl, ap, sym, ◌∙◌, subst, arith}
 use Rattle.std.proofs.lemmas.Bool.Decides.{nat_tests}
 use Rattle.std.proofs.lemmas.List.{length-replicate}
+use Rattle.std.proofs.lemmas.Bool.{and_from}
 use Rattle.mac_base.specs.declared.block.HeadKind.{HeadKind}
 use Rattle.mac_base.specs.HeadKind.{head_size}
 use Rattle.mac_base.specs.declared.block.HeadKind.TheVariants.{Bits24, Bits32}
 use Rattle.mac_base.specs.HandleTable.{zeros, no_flags}
-use Rattle.zone_laws.proofs.Maps.{true_both}
 use Rattle.block_bytes.specs.declared.header.Role.{Role}
 use Rattle.block_bytes.specs.declared.header.Role.TheVariants as role
 use Rattle.block_bytes.specs.Head as head
 use Rattle.block_bytes.specs.Layout.{RawBlock, Layout, BlockAt, UnlentAt, CanBe, body, raw_block, cleared, size_of, with_blocks, can_be_told, can_say}
+use Rattle.block_bytes.proofs.Changes.{size-body}
 use Rattle.zone_records.specs.Records.{Free, Relocatable, BlockRecord, block_record, ZoneRecords}
 use Rattle.zone_records.specs.Places.{FreeAt, RoomFor}
 use Rattle.zone_records.specs.Changes.{filled}
@@ -18,7 +19,7 @@ use Rattle.zone_records.specs.Reading.{content_in, has_use, is_sound, HasWords}
 use Rattle.zone_records.proofs.Apart.{One}
 use Rattle.zone_records.proofs.Held.{Held, heads-is, base-is, address-is, one, words-one, changed}
 use Rattle.zone_records.proofs.Holding.{sound-same}
-use Rattle.zone_records.proofs.Blocks.{sized, have-parts, size-body, raw-parts, sound-raw, sound-possible}
+use Rattle.zone_records.proofs.Blocks.{sized, have-parts, raw-parts, sound-raw, sound-possible}
 
 -- a role that says a free block
 pub free-role : (heads : HeadKind) (base : ℕ) (r : Role) (bytes : List ℕ) → content_in heads base r bytes ≡ Free → r ≡ role.Free
@@ -85,7 +86,7 @@ module _ (l : Layout) (z : ZoneRecords) (held : Held l z) (at : ℕ) where
         let old = free-size r.free in
         changed l z held o.first (b ∷ []) (now ∷ []) o.rest r.free.before (block_record (content_in l.heads l.base use_for contents) r.free.size ∷ []) r.free.behind o.blocks o.lower o.upper
         (λ i. record { size = size i; content = content_in l.heads l.base use_for contents; lent = false } ∷ []) (omega arith)
-        (true_both _ _ (sound-same l.heads l.base placed contents long place-sound) refl) (words-one l.heads now words)
+        (and_from _ _ (sound-same l.heads l.base placed contents long place-sound) refl) (words-one l.heads now words)
 
     -- once it is, it can be cleared
     abbrev placed_at : UnlentAt (with_blocks ((free_one r.free).first ++ placed ∷ (free_one r.free).rest) l) at
@@ -118,7 +119,7 @@ module _ (l : Layout) (z : ZoneRecords) (held : Held l z) (at n : ℕ) (r : Room
   handle_is = let base = base-is l z held in omega arith
 
   handle_told : (k : ℕ) → can_be_told l.heads (role.Relocatable offset no_flags) k ≡ true
-  handle_told k = true_both _ _ (small offset (let same = handle_is in omega arith)) (unmarked l.heads)
+  handle_told k = and_from _ _ (small offset (let same = handle_is in omega arith)) (unmarked l.heads)
 
   handle_use : has_use l.base (role.Relocatable offset no_flags) n ≡ true
   handle_use = small (l.base + offset) (let same = handle_is in omega arith)

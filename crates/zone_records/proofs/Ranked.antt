@@ -1,15 +1,9 @@
 -- Two blocks of bytes of one list, by their addresses.
 use Rattle.std.proofs.Common.{◌≡◌, ℕ, ◌+◌, ◌≤◌, ◌<◌, List, [], ◌∷◌, ◌++◌, refl, ap, sym, ◌∙◌, arith, ◌⊎◌, inl, inr}
 use Rattle.mac_base.specs.declared.block.HeadKind.{HeadKind}
-use Rattle.mac_base.specs.declared.block.HeadKind.TheVariants.{Bits24, Bits32}
-use Rattle.mac_base.specs.HeadKind.{head_size}
 use Rattle.block_bytes.specs.Layout.{RawBlock, Layout, BlockAt, size_of, total_of, address_behind}
+use Rattle.block_bytes.proofs.ReadBlocks.{head_size-positive}
 use Rattle.zone_records.proofs.Apart.{total-append}
-
--- every block has a header
-pub head-some : (heads : HeadKind) → 0 < head_size heads
-head-some Bits24 = omega arith
-head-some Bits32 = omega arith
 
 -- of two places of a list, the first block ends at or below the second, or the second at or below the first, or they are one
 ranked : (heads : HeadKind) (xs : List RawBlock) (a : RawBlock) (bs cs : List RawBlock) (c : RawBlock) (ds : List RawBlock) → xs ++ a ∷ bs ≡ cs ++ c ∷ ds
@@ -55,4 +49,4 @@ within l at b =
 -- no block before the first has a byte
 pub none_before : (l : Layout) (bs : List RawBlock) → total_of l.heads bs ≡ 0 → bs ≡ []
 none_before l [] none = refl
-none_before l (b ∷ bs) none = let some = head-some l.heads in absurd (omega arith)
+none_before l (b ∷ bs) none = let some = head_size-positive l.heads in absurd (omega arith)

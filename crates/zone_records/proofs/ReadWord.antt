@@ -2,12 +2,12 @@
 use Rattle.std.proofs.Common.{◌≡◌, ◌≢◌, ℕ, ◌+◌, ◌-◌, ◌*◌, ◌/◌, ◌%◌, ◌^◌, ◌<◌, Bool, true, false, not, ◌&&◌, nat_lt, cond, eqb, refl, ap, sym, ◌∙◌, arith}
 use Rattle.std.specs.Prelude.{IsTrue}
 use Rattle.std.proofs.lemmas.Bool.Decides.{nat_tests}
+use Rattle.std.proofs.lemmas.Bool.{ltb-true as below, and_parts}
 use Rattle.mac_base.specs.declared.block.HeadKind.{HeadKind}
 use Rattle.mac_base.specs.declared.block.HeadKind.TheVariants.{Bits24, Bits32}
 use Rattle.mac_base.specs.declared.block.Flags.{Flags}
 use Rattle.mac_base.specs.FlagState.{state_of, flags_from}
 use Rattle.mac_base.specs.HandleTable.{no_flags}
-use Rattle.zone_laws.proofs.Maps.{both_true}
 use Rattle.zone_records.specs.declared.slot.Slot.{Slot}
 use Rattle.zone_records.specs.declared.slot.Slot.TheVariants.{Free, Empty, Full}
 use Rattle.zone_records.specs.Places.{can_say, is_unmarked}
@@ -100,23 +100,20 @@ even_four n h = grind (arith, nat_tests)
 not_none : (n : ℕ) → not (eqb n 0) ≡ true → n ≢ 0
 not_none n h zero = grind (arith, nat_tests)
 
-below : (n m : ℕ) → nat_lt n m ≡ true → n < m
-below n m h = grind (arith, nat_tests)
-
 -- a slot's word says the slot
 pub slot_in-word : (heads : HeadKind) (s : Slot) → IsTrue (can_say heads s) → slot_in heads (slot_word heads s) ≡ s
 slot_in-word Bits24 (Free next) h = said_free24 (0x100_0000 + next) next refl (below next 0x100_0000 h)
 slot_in-word Bits24 Empty h = refl
 slot_in-word Bits24 (Full flags contents) h =
-    let parts = both_true (nat_lt contents 0x100_0000) (not (eqb contents 0)) h in
+    let parts = and_parts (nat_lt contents 0x100_0000) (not (eqb contents 0)) h in
     said_full24 (0x100_0000 * state_of flags + contents) (state_of flags) contents refl (state-range flags).0 (below contents 0x100_0000 parts.0) (not_none contents parts.1)
     ∙ ap (λ f. Full f contents) (flags_from-state flags)
-slot_in-word Bits32 (Free next) h = said_free32 next (even_four next (both_true (nat_lt next (2 ^ 32)) (eqb (next % 4) 0) h).1)
+slot_in-word Bits32 (Free next) h = said_free32 next (even_four next (and_parts (nat_lt next (2 ^ 32)) (eqb (next % 4) 0) h).1)
 slot_in-word Bits32 Empty h = refl
 slot_in-word Bits32 (Full flags contents) h =
-    let parts = both_true (nat_lt contents (2 ^ 32) && eqb (contents % 4) 0) (not (eqb contents 0) && is_unmarked flags) h in
-    let place = both_true (nat_lt contents (2 ^ 32)) (eqb (contents % 4) 0) parts.0 in
-    let said = both_true (not (eqb contents 0)) (is_unmarked flags) parts.1 in
+    let parts = and_parts (nat_lt contents (2 ^ 32) && eqb (contents % 4) 0) (not (eqb contents 0) && is_unmarked flags) h in
+    let place = and_parts (nat_lt contents (2 ^ 32)) (eqb (contents % 4) 0) parts.0 in
+    let said = and_parts (not (eqb contents 0)) (is_unmarked flags) parts.1 in
     said_full32 contents (even_four contents place.1) (not_none contents said.0) ∙ ap (λ f. Full f contents) (sym (unmarked-is flags said.1))
 
 -- it has four bytes
@@ -124,16 +121,16 @@ pub slot_word-below : (heads : HeadKind) (s : Slot) → IsTrue (can_say heads s)
 slot_word-below Bits24 (Free next) h = let small = below next 0x100_0000 h in let sum : 0x100_0000 + next < 0x1_0000_0000 = omega arith in sum
 slot_word-below Bits24 Empty h = let none : 0 < 0x1_0000_0000 = omega arith in none
 slot_word-below Bits24 (Full flags contents) h =
-    let parts = both_true (nat_lt contents 0x100_0000) (not (eqb contents 0)) h in
+    let parts = and_parts (nat_lt contents 0x100_0000) (not (eqb contents 0)) h in
     let low = below contents 0x100_0000 parts.0 in
     let high = (state-range flags).1 in
     let sum : 0x100_0000 * state_of flags + contents < 0x1_0000_0000 = omega arith in sum
 slot_word-below Bits32 (Free next) h =
-    let parts = both_true (nat_lt next (2 ^ 32)) (eqb (next % 4) 0) h in
+    let parts = and_parts (nat_lt next (2 ^ 32)) (eqb (next % 4) 0) h in
     let low : next < 0x1_0000_0000 = below next (2 ^ 32) parts.0 in
     let even = even_four next parts.1 in
     let sum : next + 1 < 0x1_0000_0000 = omega arith in sum
 slot_word-below Bits32 Empty h = let none : 0 < 0x1_0000_0000 = omega arith in none
 slot_word-below Bits32 (Full flags contents) h =
-    let parts = both_true (nat_lt contents (2 ^ 32) && eqb (contents % 4) 0) (not (eqb contents 0) && is_unmarked flags) h in
-    below contents (2 ^ 32) (both_true (nat_lt contents (2 ^ 32)) (eqb (contents % 4) 0) parts.0).0
+    let parts = and_parts (nat_lt contents (2 ^ 32) && eqb (contents % 4) 0) (not (eqb contents 0) && is_unmarked flags) h in
+    below contents (2 ^ 32) (and_parts (nat_lt contents (2 ^ 32)) (eqb (contents % 4) 0) parts.0).0

@@ -2,11 +2,11 @@
 use Rattle.std.proofs.Common.{◌≡◌, ℕ, ◌+◌, ◌-◌, ◌*◌, ◌/◌, ◌%◌, ◌<◌, ◌≤◌, true, List, [], ◌∷◌, ◌++◌, length, refl, ap, sym, ◌∙◌, subst, arith, inl, inr}
 use Rattle.std.specs.Prelude.{IsTrue}
 use Rattle.std.proofs.lemmas.Bool.Decides.{nat_tests}
+use Rattle.std.proofs.lemmas.Bool.{and_from}
 use Rattle.byteorder.specs.Endian.{big_bytes, big_number}
 use Rattle.raw_region.specs.Bytes.{part, written, length-written}
 use Rattle.mac_base.specs.declared.block.HeadKind.{HeadKind}
 use Rattle.mac_base.specs.HeadKind.{head_size, slot_count}
-use Rattle.zone_laws.proofs.Maps.{true_both}
 use Rattle.block_bytes.specs.declared.header.Role.{Role}
 use Rattle.block_bytes.specs.declared.header.Role.TheVariants as role
 use Rattle.block_bytes.specs.Layout.{RawBlock, Layout, BlockAt, WordAt, size_of, with_blocks, with_word, address_behind, has_owner}
@@ -104,7 +104,7 @@ module _ (l : Layout) (z : ZoneRecords) (held : Held l z) where
         }) in
         subst (λ m. Held m (with_slot new z s)) (sym (ends slot-word ∙ ap (λ n. with_blocks (o.first ++ with_word b (4 * length s.slots_before) n ∷ o.rest) l) is))
         (changed l z held o.first (b ∷ []) (now ∷ []) o.rest s.before (block_record (Master (s.slots_before ++ new ∷ s.slots_behind)) s.size ∷ []) s.behind o.blocks o.lower o.upper (ap (λ r. r ∷ []) rec) (omega arith)
-        (true_both _ _ (sound-same l.heads l.base b contents long slot-sound) refl) (words-one l.heads now (λ is. words)))
+        (and_from _ _ (sound-same l.heads l.base b contents long slot-sound) refl) (words-one l.heads now (λ is. words)))
 
     -- no slot lies outside all blocks
     pub no-slot_outside : LiesOutside l x → ⊥

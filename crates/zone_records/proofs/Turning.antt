@@ -3,8 +3,8 @@ use Rattle.std.proofs.Common.{◌≡◌, ℕ, true, false, List, [], ◌∷◌, 
 use Rattle.std.specs.List.{All, list_all}
 use Rattle.std.proofs.lemmas.List.Elements.{All-append, All-head, All-same}
 use Rattle.std.proofs.lemmas.List.Folds.{list_all-append}
+use Rattle.std.proofs.lemmas.Bool.{and_parts, and_from}
 use Rattle.mac_base.specs.declared.block.HeadKind.{HeadKind}
-use Rattle.zone_laws.proofs.Maps.{both_true, true_both}
 use Rattle.block_bytes.specs.declared.header.Role.{Role}
 use Rattle.block_bytes.specs.declared.header.Role.TheVariants as role
 use Rattle.block_bytes.specs.Layout as raw
@@ -61,7 +61,7 @@ kept-same heads base bs = record { same = refl; sound = λ h. h; words = λ h. h
 pub kept-moved : (heads : HeadKind) (base : ℕ) (old new : RawBlock) → IsMoved old new → Kept heads base (old ∷ []) (new ∷ [])
 kept-moved heads base old new m = record {
   same = λ i. moved-record heads base old new m i ∷ [];
-  sound = λ h. true_both _ true (moved-sound heads base old new m (both_true _ true h).0) refl;
+  sound = λ h. and_from _ true (moved-sound heads base old new m (and_parts _ true h).0) refl;
   words = λ h. words-one heads new (moved-words heads old new m (All-head (HasWords heads) old [] h));
 }
 
@@ -73,8 +73,8 @@ kept-total heads base olds news kept = sym (total-read heads base news) ∙ ap r
 sound-turned : (heads : HeadKind) (base : ℕ) (low high news_low news_high : List RawBlock) → Kept heads base low news_low → Kept heads base high news_high
     → list_all (is_sound heads base) (low ++ high) ≡ true → list_all (is_sound heads base) (news_high ++ news_low) ≡ true
 sound-turned heads base low high news_low news_high kept_low kept_high sound =
-    let parts = both_true _ _ (sym (list_all-append (is_sound heads base) low high) ∙ sound) in
-    list_all-append (is_sound heads base) news_high news_low ∙ true_both _ _ (kept_high.sound parts.1) (kept_low.sound parts.0)
+    let parts = and_parts _ _ (sym (list_all-append (is_sound heads base) low high) ∙ sound) in
+    list_all-append (is_sound heads base) news_high news_low ∙ and_from _ _ (kept_high.sound parts.1) (kept_low.sound parts.0)
 
 words-turned : (heads : HeadKind) (base : ℕ) (low high news_low news_high : List RawBlock) → Kept heads base low news_low → Kept heads base high news_high
     → All (HasWords heads) (low ++ high) → All (HasWords heads) (news_high ++ news_low)
@@ -89,7 +89,7 @@ module _ (l : Layout) (z : ZoneRecords) (held : Held l z) where
       → Held (raw.with_blocks (first ++ (news_high ++ (news_low ++ rest))) l) (records.with_blocks (before ++ (higher ++ (lower ++ behind))) z)
   turned first low high news_low news_high rest before lower higher behind is same_first same_low same_high same_rest kept_low kept_high =
       let whole : l.blocks ≡ first ++ ((low ++ high) ++ rest) = is ∙ ap (λ (bs : List RawBlock). first ++ bs) (sym (append_assoc low high rest)) in
-      let sound = (both_true _ _ (sym (list_all-append (is_sound l.heads l.base) (low ++ high) rest) ∙ (sound-two l first ((low ++ high) ++ rest) held.sound whole).1)).0 in
+      let sound = (and_parts _ _ (sym (list_all-append (is_sound l.heads l.base) (low ++ high) rest) ∙ (sound-two l first ((low ++ high) ++ rest) held.sound whole).1)).0 in
       let words = words-first l.heads (low ++ high) rest (words-rest l.heads first ((low ++ high) ++ rest) (All-same (HasWords l.heads) (first ++ ((low ++ high) ++ rest)) l.blocks (sym whole) held.sound.words)) in
       let same_news : read l.heads l.base (news_high ++ news_low) ≡ higher ++ lower =
       read-append l.heads l.base news_high news_low ∙ (λ i. (kept_high.same ∙ same_high) i ++ (kept_low.same ∙ same_low) i) in

@@ -4,11 +4,11 @@ use Rattle.std.specs.Prelude.{◌==◌}
 use Rattle.std.specs.List.{list_all}
 use Rattle.std.proofs.lemmas.Bool.Decides.{nat_tests}
 use Rattle.std.proofs.lemmas.List.{take_all, drop_all, take-take, take-append-le}
+use Rattle.std.proofs.lemmas.Bool.{and_parts, and_from}
 use Rattle.byteorder.specs.Endian.{big_bytes, big_number}
 use Rattle.mac_base.specs.declared.block.HeadKind.{HeadKind}
 use Rattle.mac_base.specs.declared.block.HeadKind.TheVariants.{Bits24, Bits32}
 use Rattle.mac_base.specs.HeadKind.{slot_count}
-use Rattle.zone_laws.proofs.Maps.{both_true, true_both}
 use Rattle.raw_region.specs.Bytes.{written}
 use Rattle.raw_region.proofs.Numbers.{length-big_bytes, number-bytes}
 use Rattle.block_bytes.proofs.Rendered.{written-middle}
@@ -49,7 +49,7 @@ pub slots-words : (heads : HeadKind) (ss : List Slot) → list_all (can_say head
 unfolding slots_in
 slots-words heads [] sayable = refl
 slots-words heads (s ∷ ss) sayable =
-    let parts = both_true (can_say heads s) (list_all (can_say heads) ss) sayable in
+    let parts = and_parts (can_say heads s) (list_all (can_say heads) ss) sayable in
     let word = big_bytes 4 (slot_word heads s) in
     let four : length word ≡ 4 = length-big_bytes 4 (slot_word heads s) in
     ap (λ xs. slot_in heads (big_number 4 xs) ∷ slots_in heads (length ss) (drop 4 (word ++ words_of heads ss))) (take_at word (words_of heads ss) 4 four)
@@ -66,7 +66,7 @@ length-chained (suc (suc n)) at last = ap suc (length-chained (suc n) (at + 4) l
 -- an address with 24 bits at a multiple of four can be said
 pub sayable-at : (heads : HeadKind) (x : ℕ) → x < 0x100_0000 → x % 4 ≡ 0 → can_say heads (Free x) ≡ true
 sayable-at Bits24 x low even = grind (arith, nat_tests)
-sayable-at Bits32 x low even = true_both _ _ (below x low) (four x even)
+sayable-at Bits32 x low even = and_from _ _ (below x low) (four x even)
   where
     below : (x : ℕ) → x < 0x100_0000 → nat_lt x (2 ^ 32) ≡ true
     below x low = grind (arith, nat_tests)
@@ -77,8 +77,8 @@ sayable-at Bits32 x low even = true_both _ _ (below x low) (four x even)
 -- so can chained slots within 24 bits
 pub sayable-chain : (heads : HeadKind) (n at last : ℕ) → at % 4 ≡ 0 → at + 4 * n ≤ 0x100_0000 → can_say heads (Free last) ≡ true → list_all (can_say heads) (chained n at last) ≡ true
 sayable-chain heads zero at last even low end = refl
-sayable-chain heads (suc zero) at last even low end = true_both _ _ end refl
-sayable-chain heads (suc (suc n)) at last even low end = true_both _ _ (sayable-at heads (at + 4) (omega arith) (omega arith)) (sayable-chain heads (suc n) (at + 4) last (omega arith) (omega arith) end)
+sayable-chain heads (suc zero) at last even low end = and_from _ _ end refl
+sayable-chain heads (suc (suc n)) at last even low end = and_from _ _ (sayable-at heads (at + 4) (omega arith) (omega arith)) (sayable-chain heads (suc n) (at + 4) last (omega arith) (omega arith) end)
 
 -- those of a master block have 256 bytes
 pub length-chain : (heads : HeadKind) (ws : List ℕ) (at last : ℕ) → ws ≡ words_of heads (chained slot_count at last) → length ws ≡ 256

@@ -2,7 +2,6 @@ use Rattle.std.proofs.Common.{ℕ, ◌≤◌, ◌==◌, ◌&&◌, length, ap, sy
 use Rattle.std.proofs.lemmas.List.{drop_more}
 use Rattle.fork_c.proofs.Parts.{all_given, given_more, left_over, parts_fit, parts_missing}
 use Rattle.fork_c.proofs.given.rows_given.Goals as goal
-use Rattle.fork_c.proofs.given.rows_given.Goals.{else-is_empty-via-then-is_empty+else-is_empty-2, else-is_empty-via-else-is_empty}
 
 pub loop-row-preserved : goal.loop-row-preserved
 loop-row-preserved c =
@@ -11,18 +10,20 @@ loop-row-preserved c =
     c.push.new.self.items c.in_ok-row_given.field-0 c.split_at.result.0.now c.split_at-in-loop-row.result.0.now c.split_at.result.1.now c.split_at-in-loop-row.result.1.now
     c.in_ok-push.ensures.items c.in_ok-row_given.ensures c.split_at.ensures.front c.split_at-in-loop-row.ensures.front c.split_at.ensures.back c.split_at-in-loop-row.ensures.back
 
-pub returns-then-is_empty-2 : goal.returns-then-is_empty-2
-returns-then-is_empty-2 c =
+pub returns : goal.returns
+returns c =
     all_given _ c.args.rows.now c.loop-row.row-index c.loop-row.given.items c.new.result c.loop-row.names_left.now c.loop-row.data_left.now c.loop-row-test.false c.loop-row.invariant
-    (sym c.is_empty.ensures ∙ c.if-is_empty.true) (sym c.is_empty-then-is_empty.ensures ∙ c.if-is_empty-2.true) c.new.ensures
+    (sym c.is_empty.ensures ∙ c.if-not-is_empty.false) (sym c.is_empty-2.ensures ∙ c.if-not-is_empty-2.false) c.new.ensures
 
-pub returns-else-is_empty : goal.returns-else-is_empty
-returns-else-is_empty c =
-    let over = left_over _ c.args.rows.now c.loop-row.row-index c.loop-row.given.items c.loop-row.names_left.now c.loop-row.data_left.now c.loop-row-test.false c.loop-row.invariant in
-    elim c.else-is_empty.branch [
-      | else-is_empty-via-then-is_empty+else-is_empty-2 w ↦ over (ap (λ a. a && (length c.loop-row.data_left.now == 0)) (sym c.is_empty.ensures ∙ w.if-is_empty.true) ∙ (sym w.is_empty-then-is_empty.ensures ∙ w.if-is_empty-2.false))
-      | else-is_empty-via-else-is_empty w ↦ over (ap (λ a. a && (length c.loop-row.data_left.now == 0)) (sym c.is_empty.ensures ∙ w.if-is_empty.false))
-    ]
+pub returns-then-not-is_empty : goal.returns-then-not-is_empty
+returns-then-not-is_empty c =
+    left_over _ c.args.rows.now c.loop-row.row-index c.loop-row.given.items c.loop-row.names_left.now c.loop-row.data_left.now c.loop-row-test.false c.loop-row.invariant
+    (ap (λ a. a && (length c.loop-row.data_left.now == 0)) (sym c.is_empty.ensures ∙ c.if-not-is_empty.true))
+
+pub returns-then-not-is_empty-2 : goal.returns-then-not-is_empty-2
+returns-then-not-is_empty-2 c =
+    left_over _ c.args.rows.now c.loop-row.row-index c.loop-row.given.items c.loop-row.names_left.now c.loop-row.data_left.now c.loop-row-test.false c.loop-row.invariant
+    (ap (λ a. a && (length c.loop-row.data_left.now == 0)) (sym c.is_empty.ensures ∙ c.if-not-is_empty.false) ∙ (sym c.is_empty-2.ensures ∙ c.if-not-is_empty-2.true))
 
 pub returns-then-not-has_parts : goal.returns-then-not-has_parts
 returns-then-not-has_parts c =

@@ -14,7 +14,7 @@ loop-i-init c =
     let m = c.args.map.now in
     let start = references_start m c.args.list c.requires.list in
     let P : List Reference → Type 0 = AllByRecursion (Ends (length m)) in
-    let none = ap (λ (xs : List MapRow). xs ++ map (map_row m) (references_rest m (c.args.list.count - 0) (c.args.list.offset + 2 + 0))) c.new-rows.ensures.items in
+    let none = ap (λ (xs : List MapRow). xs ++ map (map_row m) (references_rest m (c.args.list.count - 0) (c.args.list.offset + 2 + 0))) c.in-Ok-with_capacity.ensures.items in
     (none ∙ ap (map (map_row m)) start, all_start (HasName m) _ _ start, subst P (sym start) c.requires.references)
 
 pub push_rows-requires-clause-inside : goal.push_rows-requires-clause-inside

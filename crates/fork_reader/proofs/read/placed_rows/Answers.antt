@@ -4,48 +4,48 @@ use Rattle.fork_bytes.specs.declared.fault.Condition.TheVariants.{Places, ByteCo
 use Rattle.fork_bytes.specs.declared.fault.ForkFault.TheVariants.{BadMap}
 use Rattle.fork_bytes.specs.declared.fault.ForkFault.{ForkFault}
 use Rattle.fork_bytes.specs.Rows.{MapRow}
-use Rattle.fork_bytes.specs.Fork.{data_of, map_of, map_rows, HasData, Refuses}
-use Rattle.fork_reader.specs.Reading.{PlacedRow, placed_row, IsMap, RefusesMap, FaultsAt, AreFewBytes}
+use Rattle.fork_bytes.specs.Fork.{data_of, map_of, map_rows, HasData, RefusesWithin}
+use Rattle.fork_reader.specs.Reading.{PlacedRow, placed_row, IsMapWithin, RefusesMapWithin, FaultsAt, AreFewBytesWithin}
 use Rattle.fork_reader.proofs.Faults.{map_refuses, places_refuse, bytes_refuse, is_fork}
 use Rattle.fork_reader.proofs.Placing.{few_from_placed, few_to_placed}
 use Rattle.fork_reader.proofs.Whole.{parts_of_fork, map_is, map_is_long}
 use Rattle.fork_reader.proofs.read.placed_rows.Goals as goal
 
 pub read_map-requires : goal.read_map-requires
-read_map-requires c = map_is_long c.args.fork.now c.args.header c.requires.header c.requires.parts c.map_bytes.result.now c.map_bytes.ensures
+read_map-requires c = map_is_long c.args.limits c.args.fork.now c.args.header c.requires.header c.requires.parts c.map_bytes.result.now c.map_bytes.ensures
 
 pub returns-in_err-rows-clause-refuses : goal.returns-in_err-rows-clause-refuses
 returns-in_err-rows-clause-refuses c =
-    let fork = c.args.fork.now in let parts = parts_of_fork fork c.args.header c.requires.header c.requires.parts in
+    let fork = c.args.fork.now in let parts = parts_of_fork c.args.limits fork c.args.header c.requires.header c.requires.parts in
     let same = map_is fork c.args.header c.requires.header c.map_bytes.result.now c.map_bytes.ensures in
-    IfErr-weaker c.from_residual.result (RefusesMap c.map_bytes.result.now) _
-    (λ fault told. (let P : List ℕ → Type 0 = λ m. RefusesMap m fault in map_refuses fork c.requires.whole parts fault (subst P same told))) (search rules)
+    IfErr-weaker c.from_residual.result (RefusesMapWithin c.args.limits c.map_bytes.result.now) _
+    (λ fault told. (let P : List ℕ → Type 0 = λ m. RefusesMapWithin c.args.limits m fault in map_refuses c.args.limits fork c.requires.whole parts fault (subst P same told))) (search rules)
 
 pub returns-in_err-rows-2-clause-refuses : goal.returns-in_err-rows-2-clause-refuses
 returns-in_err-rows-2-clause-refuses c =
-    let fork = c.args.fork.now in let parts = parts_of_fork fork c.args.header c.requires.header c.requires.parts in
+    let fork = c.args.fork.now in let parts = parts_of_fork c.args.limits fork c.args.header c.requires.header c.requires.parts in
     let same = map_is fork c.args.header c.requires.header c.map_bytes.result.now c.map_bytes.ensures in
-    let Q : List ℕ → Type 0 = IsMap in
+    let Q : List ℕ → Type 0 = IsMapWithin c.args.limits in
     let holds = subst Q same c.in_ok-rows.ensures.holds in
     let rows = c.in_ok-rows.ensures.rows ∙ ap map_rows same in
     IfErr-weaker c.from_residual-in_err-rows-2.result (FaultsAt Places (HasData (data_of fork) c.in_ok-rows.rows.items → ⊥)) _
     (λ fault told. (let P : List MapRow → Type 0 = λ r. FaultsAt Places (HasData (data_of fork) r → ⊥) fault in
-    places_refuse fork c.requires.whole parts holds fault (subst P rows told)))
+    places_refuse c.args.limits fork c.requires.whole parts holds fault (subst P rows told)))
     (search rules)
 
 pub returns-in_err-check_bytes-clause-refuses : goal.returns-in_err-check_bytes-clause-refuses
 returns-in_err-check_bytes-clause-refuses c =
-    let fork = c.args.fork.now in let parts = parts_of_fork fork c.args.header c.requires.header c.requires.parts in
+    let fork = c.args.fork.now in let parts = parts_of_fork c.args.limits fork c.args.header c.requires.header c.requires.parts in
     let same = map_is fork c.args.header c.requires.header c.map_bytes.result.now c.map_bytes.ensures in
     let read = c.in_ok-rows.ensures.rows ∙ ap map_rows same in
-    let Q : List ℕ → Type 0 = IsMap in
+    let Q : List ℕ → Type 0 = IsMapWithin c.args.limits in
     let holds = subst Q same c.in_ok-rows.ensures.holds in
     let P : List MapRow → Type 0 = HasData (data_of fork) in
     let places = subst P read c.in_ok-rows-2.ensures.has in
     let rows = c.deref.ensures.value ∙ c.in_ok-rows-2.ensures.rows ∙ ap (map (placed_row fork)) read in
-    let R : List PlacedRow → Type 0 = AreFewBytes in
-    let refuses = bytes_refuse fork c.requires.whole parts holds places (λ few. c.in_err-check_bytes.ensures.fails (subst R (sym rows) (few_to_placed fork (map_rows (map_of fork)) few))) in
-    IfErr-weaker c.from_residual-in_err-check_bytes.result (λ fault. fault ≡ BadMap ByteCount) _ (λ fault is. (let S : ForkFault → Type 0 = Refuses fork in subst S (sym is) refuses)) (search rules)
+    let R : List PlacedRow → Type 0 = AreFewBytesWithin c.args.limits in
+    let refuses = bytes_refuse c.args.limits fork c.requires.whole parts holds places (λ few. c.in_err-check_bytes.ensures.fails (subst R (sym rows) (few_to_placed c.args.limits fork (map_rows (map_of fork)) few))) in
+    IfErr-weaker c.from_residual-in_err-check_bytes.result (λ fault. fault ≡ BadMap ByteCount) _ (λ fault is. (let S : ForkFault → Type 0 = RefusesWithin c.args.limits fork in subst S (sym is) refuses)) (search rules)
 
 pub returns-clause-rows : goal.returns-clause-rows
 returns-clause-rows c =
@@ -55,13 +55,13 @@ returns-clause-rows c =
 
 pub returns-clause-fork : goal.returns-clause-fork
 returns-clause-fork c =
-    let fork = c.args.fork.now in let parts = parts_of_fork fork c.args.header c.requires.header c.requires.parts in
+    let fork = c.args.fork.now in let parts = parts_of_fork c.args.limits fork c.args.header c.requires.header c.requires.parts in
     let same = map_is fork c.args.header c.requires.header c.map_bytes.result.now c.map_bytes.ensures in
     let read = c.in_ok-rows.ensures.rows ∙ ap map_rows same in
-    let Q : List ℕ → Type 0 = IsMap in
+    let Q : List ℕ → Type 0 = IsMapWithin c.args.limits in
     let holds = subst Q same c.in_ok-rows.ensures.holds in
     let P : List MapRow → Type 0 = HasData (data_of fork) in
     let places = subst P read c.in_ok-rows-2.ensures.has in
     let rows = c.deref.ensures.value ∙ c.in_ok-rows-2.ensures.rows ∙ ap (map (placed_row fork)) read in
-    let R : List PlacedRow → Type 0 = AreFewBytes in
-    is_fork fork c.requires.whole parts holds places (few_from_placed fork (map_rows (map_of fork)) (subst R rows c.in_ok-check_bytes.ensures.few))
+    let R : List PlacedRow → Type 0 = AreFewBytesWithin c.args.limits in
+    is_fork c.args.limits fork c.requires.whole parts holds places (few_from_placed c.args.limits fork (map_rows (map_of fork)) (subst R rows c.in_ok-check_bytes.ensures.few))

@@ -1,6 +1,7 @@
 use Rattle.std.proofs.Common.{◌-◌, ◌<◌, true, arith}
-use Rattle.mem_calls.proofs.Again.{keeps-again, can_ask-again, slot-again}
+use Rattle.mem_calls.proofs.Again.{keeps-again, can_ask-again}
 use Rattle.mem_calls.proofs.Running.{may_ask-again}
+use Rattle.mem_calls.proofs.Keeping.{slot-kept}
 use Rattle.mem_calls.proofs.request.+run.Goals as goal
 
 pub returns-then-not-turn-clause-loans : goal.returns-then-not-turn-clause-loans
@@ -21,7 +22,7 @@ run-requires g t c κs within =
           (
             c.requires.protects,
             (
-              slot-again c.args.protected.now c.args.request.now c.args.zone.now.heap c.turn.new.zone.heap keeps c.requires.slot,
+              slot-kept c.args.protected.now c.args.request.now c.args.zone.now.heap c.turn.new.zone.heap keeps c.requires.slot,
               may_ask-again c.trial.new.zone.shape c.args.protected.now c.args.request.now c.args.allowed.now c.trial.new.zone.heap before after c.turn.new.zone.heap c.requires.may c.if-allowed-eq0.false c.if-not-turn.ensures.turn,
             ),
           ),

@@ -1,4 +1,5 @@
-use Rattle.std.proofs.Common.{◌≡◌, ◌+◌, ◌∙◌, ap, sym, subst, true, false, not, Bool, refl, [], arith}
+use Rattle.std.proofs.Common.{◌≡◌, ◌+◌, ◌∙◌, ap, sym, subst, true, [], arith}
+use Rattle.std.proofs.lemmas.Bool.{not-false}
 use Rattle.mac_base.specs.ZoneMap.{address_behind}
 use Rattle.mac_base.specs.ZoneSizes.{ZoneSizes}
 use Rattle.page_sums.specs.declared.order.Passed.{Passed}
@@ -17,10 +18,6 @@ coming c =
     let test = c.loop-at-test.true in
     let p : Passing z c.loop-at.at c.loop-at.free = c.loop-at.invariant.0 in
     walked-turn z c.loop-at.at p.sums p.walked (omega arith)
-
-told : (b : Bool) → not b ≡ false → b ≡ true
-told true h = refl
-told false h = absurd (cc h)
 
 pub loop-at-init : goal.loop-at-init
 loop-at-init c =
@@ -60,7 +57,7 @@ loop-at-preserved c =
     let n = coming (goal.at.loop-at-preserved c).In-loop-at in
     let q = c.page_sums-here.result in
     let behind = c.behind-behind.ensures in
-    let arranged : (behind_of q.order c.loop-at.free).arranged ≡ true = ap (λ (p : Passed). p.arranged) (sym behind) ∙ told c.behind-behind.result.arranged c.if-not-behind.false in (
+    let arranged : (behind_of q.order c.loop-at.free).arranged ≡ true = ap (λ (p : Passed). p.arranged) (sym behind) ∙ not-false c.behind-behind.result.arranged c.if-not-behind.false in (
       subst (λ (p : Passed). Passing z (c.loop-at.at + q.bytes) p.free) (sym behind)
           (passing_on z c.loop-at.at c.loop-at.free c.loop-at.invariant.0 c.spec-spec.ensures.possible n q c.page_sums-here.ensures.sums arranged),
       c.page_sums-here.ensures.pages,

@@ -1,5 +1,7 @@
-use Rattle.std.proofs.Common.{◌≡◌, ◌+◌, ◌∙◌, ap, sym, subst, Bool, true, false, not, refl, arith}
+use Rattle.std.proofs.Common.{◌≡◌, ◌+◌, ◌∙◌, ap, sym, subst, true, false, not, arith}
 use Rattle.std.specs.Prelude.{◌||◌, nat_lt}
+use Rattle.std.proofs.lemmas.Bool.{not-true, not-false}
+use Rattle.std.proofs.Math.Bool.{or-true}
 use Rattle.mac_base.specs.declared.block.Entry.{Entry}
 use Rattle.mac_base.specs.ZoneSizes.{ZoneSizes}
 use Rattle.linked_zone.specs.Places.{HasOwner}
@@ -30,16 +32,12 @@ weigh-weight-requires c =
     let here = entry_coming z c.loop-at.at c.loop-at.behind_free c.loop-at.invariant (next (goal.at.weigh-weight-requires c).In-loop-at) in
     subst (λ (e : Entry). HasOwner z e.kind) (sym (c.entry_at-here.ensures here)) (entry-owner z c.loop-at.at here c.spec-spec.ensures.fits)
 
-moves : (b : Bool) → not b ≡ true → b ≡ false
-moves true h = absurd (cc h)
-moves false h = refl
-
 pub returns-then-not-weight : goal.returns-then-not-weight
 returns-then-not-weight c =
     let z = c.args.zone.now in
     let n = next (goal.at.returns-then-not-weight c).In-loop-at in
     let e = c.entry_at-here.result in
-    let fixed : (weigh z.heap.table e).fixed ≡ false = ap (λ (w : Weight). w.fixed) (sym c.weigh-weight.ensures) ∙ moves c.weigh-weight.result.fixed c.if-not-weight.true in
+    let fixed : (weigh z.heap.table e).fixed ≡ false = ap (λ (w : Weight). w.fixed) (sym c.weigh-weight.ensures) ∙ not-true c.weigh-weight.result.fixed c.if-not-weight.true in
     out_of_order z c.loop-at.at c.loop-at.behind_free c.loop-at.invariant n e (c.entry_at-here.ensures (entry_coming z c.loop-at.at c.loop-at.behind_free c.loop-at.invariant n)) c.if-behind_free.true fixed
 
 pub overflow_add-at : goal.overflow_add-at
@@ -63,14 +61,6 @@ loop-at-smaller c =
     let test = c.loop-at-test.true in
     omega arith
 
-fixes : (b : Bool) → not b ≡ false → b ≡ true
-fixes true h = refl
-fixes false h = absurd (cc h)
-
-or_true : (b : Bool) → (b || true) ≡ true
-or_true true = refl
-or_true false = refl
-
 pub loop-at-preserved : goal.loop-at-preserved
 loop-at-preserved c =
     let z = c.args.zone.now in
@@ -78,7 +68,7 @@ loop-at-preserved c =
     let e = c.entry_at-here.result in
     let weight = ap (λ (w : Weight). w.fixed) c.weigh-weight.ensures in
     let order : (not c.loop-at.behind_free || (weigh z.heap.table e).fixed) ≡ true = elim c.else-behind_free.branch [
-      | else-behind_free-via-then-behind_free+else-not-weight w ↦ ap (λ f. not c.loop-at.behind_free || f) (sym weight ∙ fixes c.weigh-weight.result.fixed w.if-not-weight.false) ∙ or_true (not c.loop-at.behind_free)
+      | else-behind_free-via-then-behind_free+else-not-weight w ↦ ap (λ f. not c.loop-at.behind_free || f) (sym weight ∙ not-false c.weigh-weight.result.fixed w.if-not-weight.false) ∙ or-true (not c.loop-at.behind_free)
       | else-behind_free-via-else-behind_free w ↦ ap (λ f. not f || (weigh z.heap.table e).fixed) w.if-behind_free.false
     ] in
     subst (λ (w : Weight). OrderedTo z (c.loop-at.at + e.size) (nat_lt 0 w.free)) (sym c.weigh-weight.ensures)

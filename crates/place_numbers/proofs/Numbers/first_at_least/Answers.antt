@@ -1,6 +1,6 @@
-use Rattle.std.proofs.Common.{◌≤◌, ◌<◌, arith}
+use Rattle.std.proofs.Common.{arith}
 use Rattle.std.proofs.lemmas.Option.{IfSome_then}
-use Rattle.place_numbers.proofs.Parts.{long, none-then, first-mark, no-first-mark, first-size, no-first-size}
+use Rattle.place_numbers.proofs.Parts.{none-then, first-mark, no-first-mark, first-size, no-first-size}
 use Rattle.place_numbers.proofs.Numbers.first_at_least.Goals as goal
 
 pub returns-then-least-clause-first : goal.returns-then-least-clause-first

@@ -1,4 +1,4 @@
-use Rattle.std.proofs.Common.{◌≤◌, ◌<◌, arith}
+use Rattle.std.proofs.Common.{arith}
 use Rattle.std.proofs.lemmas.Option.{IfSome_then}
 use Rattle.place_numbers.proofs.Parts.{long, none-then, last-mark, no-last-mark, last-size, no-last-size}
 use Rattle.place_numbers.proofs.Numbers.last_at_least.Goals as goal

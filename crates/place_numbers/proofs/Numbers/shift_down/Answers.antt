@@ -1,6 +1,6 @@
-use Rattle.std.proofs.Common.{◌+◌, length, arith}
+use Rattle.std.proofs.Common.{arith}
 use Rattle.place_numbers.proofs.Parts.{long}
-use Rattle.place_numbers.proofs.Moved.{down-parts, down-view}
+use Rattle.place_numbers.proofs.MovedParts.{down-parts, down-view}
 use Rattle.place_numbers.proofs.Numbers.shift_down.Goals as goal
 
 pub shift_down-requires-clause-inside : goal.shift_down-requires-clause-inside

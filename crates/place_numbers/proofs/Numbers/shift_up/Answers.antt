@@ -1,6 +1,6 @@
-use Rattle.std.proofs.Common.{◌+◌, length, arith}
+use Rattle.std.proofs.Common.{arith}
 use Rattle.place_numbers.proofs.Parts.{long}
-use Rattle.place_numbers.proofs.Moved.{up-parts, up-view}
+use Rattle.place_numbers.proofs.MovedParts.{up-parts, up-view}
 use Rattle.place_numbers.proofs.Numbers.shift_up.Goals as goal
 
 pub shift_up-requires-clause-inside : goal.shift_up-requires-clause-inside

@@ -1,10 +1,10 @@
-use Rattle.std.proofs.Common.{◌≡◌, ◌∙◌, List, length, sym, refl, ap, subst, map, All, IsSome, Some}
+use Rattle.std.proofs.Common.{◌≡◌, ◌∙◌, List, length, sym, refl, ap, subst, IsSome, Some}
 use Rattle.std.proofs.lemmas.Result.{err_from_is_err_and}
 use Rattle.std.specs.Prelude.{if◌then◌else◌}
 use Rattle.mac_base.specs.Heap.{with_emptied}
 use Rattle.mac_base.specs.Releasing.{heap_released}
 use Rattle.mac_base.specs.declared.releasing.ReleasingCall.TheVariants.{DisposesHandle}
-use Rattle.res_files.specs.FilesOn.{FilesOn}
+use Rattle.res_files.specs.FilesOn.{FilesOn, HonestAt, fork_of}
 use Rattle.res_files.specs.Stores.{KeepsStores}
 use Rattle.res_calls.specs.Answered.{AnswersFor}
 use Rattle.res_calls.specs.Changes.{row_changed}
@@ -57,7 +57,7 @@ returns-in_err-load_bytes-clause-step g c =
     let step = c.make_place.ensures.step in
     let ends = err_from_is_err_and c.from_residual-in_err-load_bytes.result c.from_residual-in_err-load_bytes.ensures.1 in
     let load = c.in_err-load_bytes.ensures in
-    rw (ends.1, ends.2, load.code) (failed_load g.S.ForkStore c.args.memory.now c.args.files.now c.args.place c.args.loads c.match-own.own c.unwrap-row.result.now.resource.datum.length shown.0 got (g.G.GrowZone.asks c.make_place.new.procedure) c.make_place.new.memory c.make_place.new.files c.make_place.ensures.forgotten c.make_place.ensures.shape step.0 step.1 c.in_ok-handle.handle (sym c.in_ok-handle.was ∙ step.2) c.load_bytes.new.memory c.load_bytes.new.files load.shape load.files (λ h. (load.keeps h).forks) load.loads load.count c.if-loads.true load.some
+    rw (ends.1, ends.2, load.code) (failed_load g.S.ForkStore c.args.memory.now c.args.files.now c.args.place c.args.loads c.match-own.own c.unwrap-row.result.now.resource.datum.length shown.0 got (g.G.GrowZone.asks c.make_place.new.procedure) c.make_place.new.memory c.make_place.new.files c.make_place.ensures.forgotten c.make_place.ensures.shape step.0 step.1 c.in_ok-handle.handle (sym c.in_ok-handle.was ∙ step.2) c.load_bytes.new.memory c.load_bytes.new.files load.shape load.files (λ k h. (load.keeps k h).fork) load.loads load.count c.if-loads.true load.some
     (load.undone ∙ ap (λ b. if b then with_emptied c.make_place.new.memory.heap c.in_ok-handle.handle else heap_released (DisposesHandle c.in_ok-handle.handle) c.make_place.new.memory.heap) c.is_some.ensures) load.cause)
 
 pub returns-in_err-load_bytes-clause-loans : goal.returns-in_err-load_bytes-clause-loans
@@ -76,12 +76,12 @@ returns-clause-step g c =
     let step = c.make_place.ensures.step in
     elim c.if-loads.branch [
       | else-loads w ↦ rw w.memory-is (empty_load g.S.ForkStore c.args.memory.now c.args.files.now c.args.place c.args.loads c.match-own.own c.unwrap-row.result.now.resource.datum.length shown.0 got (g.G.GrowZone.asks c.make_place.new.procedure) c.make_place.new.memory c.make_place.new.files c.make_place.ensures.forgotten c.make_place.ensures.shape step.0 step.1 c.in_ok-handle.handle (sym c.in_ok-handle.was ∙ step.2) c.make_place.new.memory c.if-loads.files refl
-          (subst (λ (f : FilesOn g.row.S.Denot). AnswersFor (All g.S.ForkStore.is_honest c.if-loads.files.stores) c.make_place.new.files.files f.files) (sym w.files-is) (refl, λ all. refl))
-          (λ all. ap (λ (f : FilesOn g.row.S.Denot). map g.S.ForkStore.fork f.stores) w.files-is) (ap (λ (f : FilesOn g.row.S.Denot). f.loads) w.files-is) (ap (λ (f : FilesOn g.row.S.Denot). length f.stores) w.files-is)
+          (subst (λ (f : FilesOn g.row.S.Denot). AnswersFor (HonestAt g.S.ForkStore.is_honest c.if-loads.files.stores) c.make_place.new.files.files f.files) (sym w.files-is) (λ known are. refl))
+          (λ k honest. ap (λ (f : FilesOn g.row.S.Denot). fork_of g.S.ForkStore.fork k f.stores) w.files-is) (ap (λ (f : FilesOn g.row.S.Denot). f.loads) w.files-is) (ap (λ (f : FilesOn g.row.S.Denot). length f.stores) w.files-is)
           w.if-loads.false refl w.files-is c.attach.new.files c.attach.ensures.attached)
       | then-loads+in_ok-load_bytes w ↦
           let load = w.in_ok-load_bytes.ensures in
-          rw w.memory-is (given_load g.S.ForkStore c.args.memory.now c.args.files.now c.args.place c.args.loads c.match-own.own c.unwrap-row.result.now.resource.datum.length shown.0 got (g.G.GrowZone.asks c.make_place.new.procedure) c.make_place.new.memory c.make_place.new.files c.make_place.ensures.forgotten c.make_place.ensures.shape step.0 step.1 c.in_ok-handle.handle (sym c.in_ok-handle.was ∙ step.2) w.load_bytes.new.memory w.load_bytes.new.files load.shape load.files (λ h. (load.keeps h).forks) load.loads load.count
+          rw w.memory-is (given_load g.S.ForkStore c.args.memory.now c.args.files.now c.args.place c.args.loads c.match-own.own c.unwrap-row.result.now.resource.datum.length shown.0 got (g.G.GrowZone.asks c.make_place.new.procedure) c.make_place.new.memory c.make_place.new.files c.make_place.ensures.forgotten c.make_place.ensures.shape step.0 step.1 c.in_ok-handle.handle (sym c.in_ok-handle.was ∙ step.2) w.load_bytes.new.memory w.load_bytes.new.files load.shape load.files (λ k h. (load.keeps k h).fork) load.loads load.count
           c.unwrap-row.result.now.resource.attributes load.loaded.0 w.if-loads.true row.attributes load.loaded.1 load.loaded.2 load.cause c.attach.new.files
           (subst (λ (f : FilesOn g.row.S.Denot). IsSome (row_at c.args.place f.files) → c.attach.new.files ≡ record f { files = row_changed c.args.place (with_handle (Some c.in_ok-handle.handle)) f.files }) w.files-is c.attach.ensures.attached))
     ]
@@ -135,22 +135,18 @@ pub returns-in_err-handle-clause-keeps : goal.returns-in_err-handle-clause-keeps
 returns-in_err-handle-clause-keeps g c = kept_same g.S.ForkStore _ _ (ap (λ (f : FilesOn g.row.S.Denot). f.stores) c.make_place.ensures.forgotten)
 
 pub returns-in_err-load_bytes-clause-keeps : goal.returns-in_err-load_bytes-clause-keeps
-returns-in_err-load_bytes-clause-keeps g c = λ honest.
-    let load = c.load_bytes.ensures.keeps honest in
-    kept_then g.S.ForkStore _ _ _ (kept_same g.S.ForkStore _ _ (ap (λ (f : FilesOn g.row.S.Denot). f.stores) c.make_place.ensures.forgotten) load.honest) load
+returns-in_err-load_bytes-clause-keeps g c =
+    kept_then g.S.ForkStore _ _ _ (kept_same g.S.ForkStore _ _ (ap (λ (f : FilesOn g.row.S.Denot). f.stores) c.make_place.ensures.forgotten)) c.load_bytes.ensures.keeps
 
 pub returns-clause-keeps : goal.returns-clause-keeps
-returns-clause-keeps g c = λ honest.
+returns-clause-keeps g c =
     let S = g.S.ForkStore in
     let placed = kept_same S c.args.files.now.stores c.make_place.new.files.stores (ap (λ (f : FilesOn g.row.S.Denot). f.stores) c.make_place.ensures.forgotten) in
-    let here = subst (All S.is_honest) c.attach.ensures.stores honest in
     let loaded : KeepsStores S c.args.files.now.stores c.if-loads.files.stores =
     elim c.if-loads.branch [
       | then-loads+in_ok-load_bytes w ↦
-          let load = w.load_bytes.ensures.keeps (subst (λ (f : FilesOn g.row.S.Denot). All S.is_honest f.stores) w.files-is here) in
-          subst (λ (f : FilesOn g.row.S.Denot). KeepsStores S c.args.files.now.stores f.stores) (sym w.files-is) (kept_then S _ _ _ (placed load.honest) load)
-      | else-loads w ↦
-          subst (λ (f : FilesOn g.row.S.Denot). KeepsStores S c.args.files.now.stores f.stores) (sym w.files-is) (placed (subst (λ (f : FilesOn g.row.S.Denot). All S.is_honest f.stores) w.files-is here))
+          subst (λ (f : FilesOn g.row.S.Denot). KeepsStores S c.args.files.now.stores f.stores) (sym w.files-is) (kept_then S _ _ _ placed w.load_bytes.ensures.keeps)
+      | else-loads w ↦ subst (λ (f : FilesOn g.row.S.Denot). KeepsStores S c.args.files.now.stores f.stores) (sym w.files-is) placed
     ]
     in
-    kept_then S _ _ _ loaded (kept_same S _ _ c.attach.ensures.stores honest)
+    kept_then S _ _ _ loaded (kept_same S _ _ c.attach.ensures.stores)

@@ -1,6 +1,5 @@
 use Rattle.std.proofs.Common.{List, ℕ, ◌<◌, ap, ◌∙◌, length, arith}
-use Rattle.std.specs.Prelude.{All}
-use Rattle.res_files.specs.FilesOn.{FailedAt, NoneFailed}
+use Rattle.res_files.specs.FilesOn.{FailedAt, HonestAt, NoneFailed}
 use Rattle.res_manager.proofs.Crash.{err_anyhow}
 use Rattle.res_manager.proofs.Filling.{answered-read, filled-contents, loans-filled}
 use Rattle.res_manager.proofs.Stepping.{told_so}
@@ -11,7 +10,7 @@ returns-clause-filled g c =
     let long = c.read.ensures.length ∙ ap (λ (l : List ℕ). length l) c.contents_mut.ensures.value in (
       c.read.new.buffer,
       filled-contents _ _ _ _ _ c.requires.placed c.number.ensures long,
-      answered-read (All g.S.ForkStore.is_honest c.read.new.self.stores) _ _ _ _ _ c.requires.placed c.number.ensures long _ _ _ c.map_err.ensures.variant (λ h. (c.read.ensures.reads h).read),
+      answered-read (HonestAt g.S.ForkStore.is_honest c.read.new.self.stores c.args.place.file) _ _ _ _ _ c.requires.placed c.number.ensures long _ _ _ c.map_err.ensures.variant c.read.ensures.reads,
     )
 
 pub returns-clause-loans : goal.returns-clause-loans

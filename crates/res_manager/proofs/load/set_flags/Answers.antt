@@ -10,6 +10,6 @@ pub returns-clause-heap : goal.returns-clause-heap
 returns-clause-heap c =
     let old = c.args.memory.now in
     let new = c.hset_state.new.self in
-    let passes = state-passes old.shape c.args.handle c.requires.0 old.heap old.heap c.requires.1 c.state_for.result c.state_for.ensures.possible in
-    quiet-heap old.shape old.heap new.heap (HSetState c.args.handle c.state_for.result) [] (done_outcome c.hset_state.result) passes refl c.hset_state.ensures.exact
-    ∙ ap (λ f. with_table (with_flags c.args.handle f old.heap.table) old.heap) c.state_for.ensures.flags
+    let passes = state-passes old.shape c.args.handle c.requires.0 old.heap old.heap c.requires.1 c.state_of.result c.state_of.ensures.possible in
+    quiet-heap old.shape old.heap new.heap (HSetState c.args.handle c.state_of.result) [] (done_outcome c.hset_state.result) passes refl c.hset_state.ensures.exact
+    ∙ ap (λ f. with_table (with_flags c.args.handle f old.heap.table) old.heap) (c.state_of.ensures.flags ∙ c.flags_for.ensures)

@@ -12,6 +12,6 @@ returns-in-Err-clause-step g c =
     subst P (sym c.requires.unasked) (refused_steps g.S.ForkStore c.args.memory.now c.args.files.now c.args.call.now c.in-Err.code c.in-Err.ensures)
 
 pub returns-in-Err-clause-leaves : goal.returns-in-Err-clause-leaves
-returns-in-Err-clause-leaves g c = λ honest.
+returns-in-Err-clause-leaves g c =
     let work = work_of (state_of g.S.ForkStore.fork c.args.memory.now c.args.files.now) c.args.call.now in
-    record { honest = honest; reads_back = tt; any_moment = calm_leaves g.S.ForkStore c.args.files.now.stores c.args.files.now.stores (update_in work) refl; settled = tt; crash_full = tt }
+    record { honest = λ k honest. honest; reads_back = tt; any_moment = calm_leaves g.S.ForkStore c.args.files.now.stores c.args.files.now.stores (update_in work) (λ k honest. refl); settled = tt; crash_full = tt }

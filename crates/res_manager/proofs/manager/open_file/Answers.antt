@@ -6,6 +6,7 @@ use Rattle.res_calls.specs.Steps.{Opens, Quiet, work_of, update_in}
 use Rattle.res_manager.specs.Crash.{CrashLeaves, file_settled}
 use Rattle.res_manager.specs.Steps.{state_of}
 use Rattle.res_manager.proofs.Crash.{calm_leaves, err_anyhow, opening_reads, opening_saves, work_leaves, work_settles}
+use Rattle.res_files.specs.FilesOn.{HonestAt}
 use Rattle.res_manager.proofs.Refusals.{passed-early}
 use Rattle.mac_calls.specs.declared.reply.Results.TheVariants.{Number}
 use Rattle.res_manager.proofs.OpenedFiles.{opens_full}
@@ -28,16 +29,16 @@ returns-then-is_open-clause-step g c =
 
 pub returns-clause-same : goal.returns-clause-same
 returns-clause-same g c =
-    opens_full g.S.ForkStore c.args.memory.now c.args.files.now c.open.new.files c.args.number (λ h. (c.open.ensures.opens h).forks) c.open.ensures.loads c.open.ensures.count c.open.result c.open.ensures.full
+    opens_full g.S.ForkStore c.args.memory.now c.args.files.now c.open.new.files c.args.number c.open.ensures.opens.forks c.open.ensures.loads c.open.ensures.count c.open.result c.open.ensures.full
 
 pub returns-clause-leaves : goal.returns-clause-leaves
-returns-clause-leaves g c = λ honest.
+returns-clause-leaves g c =
     let old = state_of g.S.ForkStore.fork c.args.memory.now c.args.files.now in
     let work = work_of old (OpenResFile c.args.number) in
-    let done = (c.open.ensures.opens honest).works in
+    let done = c.open.ensures.opens.works in
     record {
       honest = done.honest;
-      reads_back = opening_reads old (state_of g.S.ForkStore.fork c.args.memory.now c.open.new.files) c.args.number c.open.result;
+      reads_back = opening_reads (HonestAt g.S.ForkStore.is_honest c.open.new.files.stores) old (state_of g.S.ForkStore.fork c.args.memory.now c.open.new.files) c.args.number c.open.result;
       any_moment = work_leaves g.S.ForkStore c.args.files.now.stores c.open.new.files.stores work None c.open.result (opening_saves old c.args.number) done.any_moment;
       settled = work_settles g.S.ForkStore c.open.new.files.stores work (Some c.args.number) c.open.result
           (ap (λ b. file_settled (cond b Quiet (Opens c.args.number))) (sym c.is_open.ensures ∙ c.if-is_open.false)) done.settled;
@@ -45,14 +46,14 @@ returns-clause-leaves g c = λ honest.
     }
 
 pub returns-then-is_open-clause-leaves : goal.returns-then-is_open-clause-leaves
-returns-then-is_open-clause-leaves g c = λ honest.
+returns-then-is_open-clause-leaves g c =
     let old = state_of g.S.ForkStore.fork c.args.memory.now c.args.files.now in
     let work = work_of old (OpenResFile c.args.number) in
     let result : Result Outcome HostFull = Ok (Ok (Number c.args.number)) in
     record {
-      honest = honest;
-      reads_back = opening_reads old old c.args.number result;
-      any_moment = calm_leaves g.S.ForkStore c.args.files.now.stores c.args.files.now.stores (update_in work) refl;
+      honest = λ k honest. honest;
+      reads_back = opening_reads (HonestAt g.S.ForkStore.is_honest c.args.files.now.stores) old old c.args.number result;
+      any_moment = calm_leaves g.S.ForkStore c.args.files.now.stores c.args.files.now.stores (update_in work) (λ k honest. refl);
       settled = work_settles g.S.ForkStore c.args.files.now.stores work None result
           (ap (λ b. file_settled (cond b Quiet (Opens c.args.number))) (sym c.is_open.ensures ∙ c.if-is_open.true)) (λ journal. tt);
       crash_full = tt;

@@ -1,11 +1,11 @@
-use Rattle.std.proofs.Common.{◌≡◌, ◌∙◌, All, Result, Ok, sym, ap, subst}
+use Rattle.std.proofs.Common.{◌≡◌, ◌∙◌, Result, Ok, sym, ap, subst}
 use Rattle.std.specs.Prelude.{OnOk}
 use Rattle.mac_base.specs.declared.error.HostFull.{HostFull}
 use Rattle.mac_base.specs.Heap.{Heap}
 use Rattle.mac_calls.specs.Outcomes.{Outcome}
 use Rattle.res_calls.specs.Changes.{rows_of}
 use Rattle.res_calls.specs.Updates.{Update, disposed, handles_of, update_of}
-use Rattle.res_files.specs.FilesOn.{FilesOn}
+use Rattle.res_files.specs.FilesOn.{FilesOn, HonestAt}
 use Rattle.res_table.specs.OpenFiles.{file_closed}
 use Rattle.res_update.specs.Selected.{updated}
 use Rattle.res_update.specs.declared.selection.Selection.TheVariants.{AllChanged}
@@ -37,12 +37,12 @@ pub returns-then-is_err-clause-written : goal.returns-then-is_err-clause-written
 returns-then-is_err-clause-written g c = λ u is. closes_refused g.S.ForkStore c.args.memory.now c.args.files.now c.write_file.new.files u c.in_ok-outcome.outcome (sym c.is_err.ensures.value ∙ c.if-is_err.true) (c.in_ok-outcome.ensures.written u is)
 
 pub returns-clause-saves : goal.returns-clause-saves
-returns-clause-saves g c = λ honest.
+returns-clause-saves g c =
     let S = g.S.ForkStore in
     let update = update_of c.args.number (updated c.args.memory.now.heap.table AllChanged) c.args.files.now.files in
-    let saves = c.in_ok-outcome.ensures.saves (subst (λ (f : FilesOn g.row.S.Denot). All S.is_honest f.stores) c.close.ensures honest) in
+    let saves = c.in_ok-outcome.ensures.saves in
     let result : Result Outcome HostFull = Ok c.in_ok-outcome.outcome in
     record {
       works = subst (λ (f : FilesOn g.row.S.Denot). WorksOnFile S c.args.number update c.args.files.now.stores f.stores result) (sym c.close.ensures) saves.works;
-      saved = subst (λ (f : FilesOn g.row.S.Denot). OnOk c.in_ok-outcome.outcome (IsSaved update (state_of S.fork c.dispose_all.new.memory f))) (sym c.close.ensures) saves.saved;
+      saved = subst (λ (f : FilesOn g.row.S.Denot). OnOk c.in_ok-outcome.outcome (IsSaved (HonestAt S.is_honest f.stores) update (state_of S.fork c.dispose_all.new.memory f))) (sym c.close.ensures) saves.saved;
     }

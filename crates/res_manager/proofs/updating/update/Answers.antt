@@ -27,13 +27,13 @@ returns-in-Ok-clause-step g c =
     (writes_as g.S.ForkStore zone new on after o.0 (UpdateResFile None) c.args.call.now outcome (λ k state. ap (λ (d : ResourceCall). behind_update d k state) c.in-UpdateResFile.is) (written o.0 o.1))) (c.write_file.ensures.written)
 
 pub returns-in-Ok-clause-leaves : goal.returns-in-Ok-clause-leaves
-returns-in-Ok-clause-leaves g c = λ honest.
+returns-in-Ok-clause-leaves g c =
     let fork = g.S.ForkStore.fork in
     let zone = c.args.memory.now in
     let on = c.args.files.now in
     let o = open_update c.in-Ok.number (updated zone.heap.table AllChanged) on.files c.in-Ok.ensures.value.1 in
     let made = makes_file fork zone on c.args.call.now c.in-UpdateResFile.named c.in-Ok.number o.0 c.in-UpdateResFile.is c.requires.passed c.in-Ok.ensures.value.0 o.1 in
-    made_leaves g.S.ForkStore zone zone on c.write_file.new.files c.args.call.now c.in-Ok.number (updated zone.heap.table AllChanged) o.0 c.write_file.result o.1 made c.write_file.ensures.same (c.write_file.ensures.saves honest)
+    made_leaves g.S.ForkStore zone zone on c.write_file.new.files c.args.call.now c.in-Ok.number (updated zone.heap.table AllChanged) o.0 c.write_file.result o.1 made c.write_file.ensures.same c.write_file.ensures.saves
 
 pub returns-in-Ok-clause-late : goal.returns-in-Ok-clause-late
 returns-in-Ok-clause-late g c =
@@ -66,13 +66,13 @@ returns-in-Ok-test_open-clause-step g c =
     (writes_as g.S.ForkStore zone new on after o.0 (CloseResFile None) c.args.call.now outcome (λ k state. ap (λ (d : ResourceCall). behind_update d k state) c.in-CloseResFile.is) (written o.0 o.1))) (c.close.ensures.written)
 
 pub returns-in-Ok-test_open-clause-leaves : goal.returns-in-Ok-test_open-clause-leaves
-returns-in-Ok-test_open-clause-leaves g c = λ honest.
+returns-in-Ok-test_open-clause-leaves g c =
     let fork = g.S.ForkStore.fork in
     let zone = c.args.memory.now in
     let on = c.args.files.now in
     let o = open_update c.in-Ok-test_open.number (updated zone.heap.table AllChanged) on.files c.in-Ok-test_open.ensures.value.1 in
     let made = makes_closed fork zone on c.args.call.now c.in-CloseResFile.named c.in-Ok-test_open.number o.0 c.in-CloseResFile.is c.requires.passed c.in-Ok-test_open.ensures.value.0 o.1 in
-    made_leaves g.S.ForkStore zone c.close.new.memory on c.close.new.files c.args.call.now c.in-Ok-test_open.number (updated zone.heap.table AllChanged) o.0 c.close.result o.1 made c.close.ensures.same (c.close.ensures.saves honest)
+    made_leaves g.S.ForkStore zone c.close.new.memory on c.close.new.files c.args.call.now c.in-Ok-test_open.number (updated zone.heap.table AllChanged) o.0 c.close.result o.1 made c.close.ensures.same c.close.ensures.saves
 
 pub returns-in-Ok-test_open-clause-late : goal.returns-in-Ok-test_open-clause-late
 returns-in-Ok-test_open-clause-late g c =

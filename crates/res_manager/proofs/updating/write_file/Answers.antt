@@ -3,6 +3,7 @@ use Rattle.std.proofs.Common.{◌≡◌, true, subst, sym, ap, refl, Ok, Err, So
 use Rattle.mac_base.specs.ZoneState.{ZoneState}
 use Rattle.fork_disk.specs.declared.store.ReplaceFault.{ReplaceFault}
 use Rattle.mac_base.specs.declared.error.OsErr.TheVariants.{DskFulErr, IoErr}
+use Rattle.res_files.specs.FilesOn.{HonestAt}
 use Rattle.res_manager.specs.Ends.{WritesFile}
 use Rattle.res_manager.specs.Steps.{state_of}
 use Rattle.res_calls.specs.Steps.{IsSaved}
@@ -24,7 +25,7 @@ returns-in-Ok-clause-written g c = λ u is.
     let big = rw f.there at c.in-Ok.ensures.too_big in
     let v : Update = record { file = c.args.number; table = updated t c.args.selection f.table } in
     let P : Update → Type 0 = λ w. WritesFile g.S.ForkStore c.args.memory.now c.args.files.now (UpdateResFile None) w (Ok Nothing) c.args.memory.now c.update.new.self in
-    subst P f.is (writes_all g.S.ForkStore c.args.memory.now c.args.files.now c.update.new.self v c.update.ensures.loads c.update.ensures.count (true_unless (fits_fork v.table) (λ h. absurd (cc (big.1 h)))) rows (λ honest. rw f.there at ((c.in-Ok.ensures.updates honest).replaced)) c.in-Ok.ensures.none)
+    subst P f.is (writes_all g.S.ForkStore c.args.memory.now c.args.files.now c.update.new.self v c.update.ensures.loads c.update.ensures.count c.update.ensures.others (true_unless (fits_fork v.table) (λ h. absurd (cc (big.1 h)))) rows (λ honest. rw f.there at ((c.in-Ok.ensures.updates honest).replaced)) c.in-Ok.ensures.none)
 
 pub returns-in-Err-Device-clause-written : goal.returns-in-Err-Device-clause-written
 returns-in-Err-Device-clause-written g c = λ u is.
@@ -35,9 +36,9 @@ returns-in-Err-Device-clause-written g c = λ u is.
     let big = rw f.there at all.too_big in
     let v : Update = record { file = c.args.number; table = updated t c.args.selection f.table } in
     let P : Update → Type 0 = λ w. WritesFile g.S.ForkStore c.args.memory.now c.args.files.now (UpdateResFile None) w (Err IoErr) c.args.memory.now c.update.new.self in
-    subst P f.is (writes_faulted g.S.ForkStore c.args.memory.now c.args.files.now c.update.new.self v c.update.ensures.loads c.update.ensures.count c.in-Err-Device.field-0-0 (true_unless (fits_fork v.table) (λ h. absurd (cc (big.1 h))))
+    subst P f.is (writes_faulted g.S.ForkStore c.args.memory.now c.args.files.now c.update.new.self v c.update.ensures.loads c.update.ensures.count c.update.ensures.others c.in-Err-Device.field-0-0 (true_unless (fits_fork v.table) (λ h. absurd (cc (big.1 h))))
     (λ is. all.before (ap (λ (f : ReplaceFault). Err (Device f)) is))
-    (λ honest is. ((all.updates honest).before (ap (λ (f : ReplaceFault). Err (Device f)) is)).forks)
+    (λ honest is. ((all.updates honest).before (ap (λ (f : ReplaceFault). Err (Device f)) is)).fork)
     (λ is. all.closed (ap (λ (f : ReplaceFault). Err (Device f)) is))
     (λ honest is. rw f.there at ((all.updates honest).later (ap (λ (f : ReplaceFault). Err (Device f)) is)))
     (λ is. all.cause (ap (λ (f : ReplaceFault). Err (Device f)) is)) (λ is. all.cause_later (ap (λ (f : ReplaceFault). Err (Device f)) is)))
@@ -51,7 +52,7 @@ returns-in-Err-TooBig-clause-written g c = λ u is.
     let big = rw f.there at all.too_big in
     let v : Update = record { file = c.args.number; table = updated t c.args.selection f.table } in
     let P : Update → Type 0 = λ w. WritesFile g.S.ForkStore c.args.memory.now c.args.files.now (UpdateResFile None) w (Err DskFulErr) c.args.memory.now c.update.new.self in
-    subst P f.is (writes_nothing g.S.ForkStore c.args.memory.now c.args.files.now c.update.new.self v c.update.ensures.loads c.update.ensures.count (big.0 refl) (all.untouched refl))
+    subst P f.is (writes_nothing g.S.ForkStore c.args.memory.now c.args.files.now c.update.new.self v c.update.ensures.loads c.update.ensures.count c.update.ensures.others (big.0 refl) (all.untouched refl))
 
 pub returns-in-Err-HostFull-clause-fits : goal.returns-in-Err-HostFull-clause-fits
 returns-in-Err-HostFull-clause-fits g c = λ u is.
@@ -63,17 +64,19 @@ returns-in-Err-HostFull-clause-fits g c = λ u is.
     subst (λ (w : Update). fits_fork w.table ≡ true) f.is (true_unless (fits_fork (updated t c.args.selection f.table)) (λ h. absurd (cc (big.1 h))))
 
 pub returns-in-Ok-clause-saves : goal.returns-in-Ok-clause-saves
-returns-in-Ok-clause-saves g c = λ honest.
-    let done = c.in-Ok.ensures.updates honest in
-    let Q : ZoneState → Type 0 = λ z. IsSaved (update_of c.args.number (updated z.heap.table c.args.selection) c.args.files.now.files) (state_of g.S.ForkStore.fork c.args.memory.now c.update.new.self) in
-    saves_fork g.S.ForkStore c.new-contents.result c.args.memory.now c.args.selection c.args.number c.args.files.now.files c.args.files.now.stores c.update.new.self _ _ c.new-contents.ensures c.requires.open (c.update.ensures.updates honest) done.settled
-    (subst Q c.new-contents.ensures (saved_update g.S.ForkStore.fork c.args.memory.now c.update.new.self c.args.number (updated c.new-contents.result.heap.table c.args.selection) c.args.files.now.files done.stands))
+returns-in-Ok-clause-saves g c =
+    let S = g.S.ForkStore in
+    let honest = HonestAt S.is_honest c.update.new.self.stores in
+    let done = c.in-Ok.ensures.updates in
+    let Q : ZoneState → Type 0 = λ z. IsSaved honest (update_of c.args.number (updated z.heap.table c.args.selection) c.args.files.now.files) (state_of S.fork c.args.memory.now c.update.new.self) in
+    saves_fork S c.new-contents.result c.args.memory.now c.args.selection c.args.number c.args.files.now.files c.args.files.now.stores c.update.new.self _ _ c.new-contents.ensures c.requires.open c.update.ensures.updates c.update.ensures.others (λ journal h. (done h).settled journal)
+    (subst Q c.new-contents.ensures (saved_update honest S.fork c.args.memory.now c.update.new.self c.args.number (updated c.new-contents.result.heap.table c.args.selection) c.args.files.now.files (λ h. (done h).stands)))
 
 pub returns-in-Err-TooBig-clause-saves : goal.returns-in-Err-TooBig-clause-saves
-returns-in-Err-TooBig-clause-saves g c = λ honest. saves_fork g.S.ForkStore c.new-contents.result c.args.memory.now c.args.selection c.args.number c.args.files.now.files c.args.files.now.stores c.update.new.self _ _ c.new-contents.ensures c.requires.open (c.update.ensures.updates honest) tt tt
+returns-in-Err-TooBig-clause-saves g c = saves_fork g.S.ForkStore c.new-contents.result c.args.memory.now c.args.selection c.args.number c.args.files.now.files c.args.files.now.stores c.update.new.self _ _ c.new-contents.ensures c.requires.open c.update.ensures.updates c.update.ensures.others tt tt
 
 pub returns-in-Err-HostFull-clause-saves : goal.returns-in-Err-HostFull-clause-saves
-returns-in-Err-HostFull-clause-saves g c = λ honest. saves_fork g.S.ForkStore c.new-contents.result c.args.memory.now c.args.selection c.args.number c.args.files.now.files c.args.files.now.stores c.update.new.self _ _ c.new-contents.ensures c.requires.open (c.update.ensures.updates honest) tt tt
+returns-in-Err-HostFull-clause-saves g c = saves_fork g.S.ForkStore c.new-contents.result c.args.memory.now c.args.selection c.args.number c.args.files.now.files c.args.files.now.stores c.update.new.self _ _ c.new-contents.ensures c.requires.open c.update.ensures.updates c.update.ensures.others tt tt
 
 pub returns-in-Err-Device-clause-saves : goal.returns-in-Err-Device-clause-saves
-returns-in-Err-Device-clause-saves g c = λ honest. saves_fork g.S.ForkStore c.new-contents.result c.args.memory.now c.args.selection c.args.number c.args.files.now.files c.args.files.now.stores c.update.new.self _ _ c.new-contents.ensures c.requires.open (c.update.ensures.updates honest) tt tt
+returns-in-Err-Device-clause-saves g c = saves_fork g.S.ForkStore c.new-contents.result c.args.memory.now c.args.selection c.args.number c.args.files.now.files c.args.files.now.stores c.update.new.self _ _ c.new-contents.ensures c.requires.open c.update.ensures.updates c.update.ensures.others tt tt

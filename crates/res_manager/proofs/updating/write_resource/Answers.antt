@@ -11,6 +11,7 @@ use Rattle.res_manager.specs.Steps.{state_of, work_takes_memory}
 use Rattle.res_manager.proofs.CalmCalls.{calm_reads, calm_settles, unchanged_passes, unchanged_quiet, unchanged_work}
 use Rattle.res_manager.proofs.Crash.{calm_leaves}
 use Rattle.res_manager.proofs.LeavingForks.{made_leaves}
+use Rattle.res_files.specs.FilesOn.{HonestAt}
 use Rattle.res_manager.proofs.RowUpdates.{row_open}
 use Rattle.res_manager.proofs.Stepping.{if_ok, quiet_steps}
 use Rattle.res_manager.proofs.UpdatingCalls.{made_late, made_steps, makes_row, on_err, open_update}
@@ -33,14 +34,14 @@ returns-clause-step g c =
     (writes_as g.S.ForkStore zone zone on after o.0 (UpdateResFile None) (WriteResource c.args.handle) outcome (λ k state. refl) (written o.0 o.1))) (c.write_file.ensures.written)
 
 pub returns-clause-leaves : goal.returns-clause-leaves
-returns-clause-leaves g c = λ honest.
+returns-clause-leaves g c =
     let fork = g.S.ForkStore.fork in
     let zone = c.args.memory.now in
     let on = c.args.files.now in
     let changed : row_passes is_changed c.args.handle c.args.files.now.files ≡ true = search rules in
     let o = open_update c.in-Some.place.file (updated zone.heap.table (RowAt c.in-Some.place.index)) on.files (row_open c.in-Some.place on.files (λ (r : FileRow). r.handle ≡ Some c.args.handle) c.in-Some.ensures.there) in
     let made = makes_row fork zone on c.args.handle c.in-Some.place o.0 c.requires (sym c.row_of_handle.ensures.value ∙ c.in-Some.is) changed o.1 in
-    made_leaves g.S.ForkStore zone zone on c.write_file.new.files (WriteResource c.args.handle) c.in-Some.place.file (updated zone.heap.table (RowAt c.in-Some.place.index)) o.0 c.write_file.result o.1 made c.write_file.ensures.same (c.write_file.ensures.saves honest)
+    made_leaves g.S.ForkStore zone zone on c.write_file.new.files (WriteResource c.args.handle) c.in-Some.place.file (updated zone.heap.table (RowAt c.in-Some.place.index)) o.0 c.write_file.result o.1 made c.write_file.ensures.same c.write_file.ensures.saves
 
 pub returns-clause-late : goal.returns-clause-late
 returns-clause-late g c =
@@ -63,16 +64,16 @@ returns-clause-full g c =
     on_err _ _ c.write_file.result (λ fits. ap work_takes_memory made.work) (c.write_file.ensures.fits)
 
 pub returns-then-not-is_changed-clause-leaves : goal.returns-then-not-is_changed-clause-leaves
-returns-then-not-is_changed-clause-leaves g c = λ honest.
+returns-then-not-is_changed-clause-leaves g c =
     let S = g.S.ForkStore in
     let state = state_of S.fork c.args.memory.now c.args.files.now in
     let work = work_of state (WriteResource c.args.handle) in
     let unchanged : row_passes is_changed c.args.handle c.args.files.now.files ≡ false = search rules in
     let idle = unchanged_work state c.args.handle unchanged in
     record {
-      honest = honest;
-      reads_back = calm_reads state state (WriteResource c.args.handle) idle (Ok Nothing);
-      any_moment = calm_leaves S c.args.files.now.stores c.args.files.now.stores (update_in work) refl;
+      honest = λ k honest. honest;
+      reads_back = calm_reads (HonestAt S.is_honest c.args.files.now.stores) state state (WriteResource c.args.handle) idle (Ok Nothing);
+      any_moment = calm_leaves S c.args.files.now.stores c.args.files.now.stores (update_in work) (λ k honest. refl);
       settled = calm_settles S c.args.files.now.stores work idle (Ok Nothing);
       crash_full = tt;
     }

@@ -1,5 +1,5 @@
 use Rattle.std.proofs.Common.{inl}
-use Rattle.resfork.proofs.Reading.{empty_if}
+use Rattle.fork_list.proofs.Reading.{empty_if}
 use Rattle.resfork.proofs.answer.read_table.Goals as goal
 
 pub returns-then-is_empty : goal.returns-then-is_empty

@@ -8,11 +8,11 @@ use Rattle.script_text.proofs.AnswerLaws.{Calling, calling_none, calling_more, c
 use Rattle.script_text.proofs.Lists.{two_and_rest}
 use Rattle.script_text.proofs.answer.read_calls.Goals as goal
 
-pub returns-in_default-2 : goal.returns-in_default-2
-returns-in_default-2 c =
+pub returns-in_default-written_call : goal.returns-in_default-written_call
+returns-in_default-written_call c =
     let whole = two_and_rest c.loop-rest.rest.now _ _ c.in-len2-up.len_at_least in
     let before = subst (λ (t : List Read). Calling c.args.names.now (map view c.args.tokens.now) (map view t) c.loop-rest.calls.items) whole c.loop-rest.invariant in
-    calling_fails _ _ _ _ _ _ before (rw c.in_default-2.is at c.in_ok-call.ensures)
+    calling_fails _ _ _ _ _ _ before (rw c.in_default-written_call.is at c.written_call.ensures)
 
 pub returns-then-not-may_follow : goal.returns-then-not-may_follow
 returns-then-not-may_follow c =
@@ -24,7 +24,7 @@ pub loop-rest-preserved : goal.loop-rest-preserved
 loop-rest-preserved c =
     let whole = two_and_rest c.loop-rest.rest.now _ _ c.in-len2-up.len_at_least in
     let before = subst (λ (t : List Read). Calling c.args.names.now (map view c.args.tokens.now) (map view t) c.loop-rest.calls.items) whole c.loop-rest.invariant in
-    let more = calling_more _ _ _ _ _ _ _ before (rw c.in-Some.is at c.in_ok-call.ensures) c.if-not-may_follow.ensures in
+    let more = calling_more _ _ _ _ _ _ _ before c.in-Some.ensures c.if-not-may_follow.ensures in
     rw c.in_ok-push.ensures.items
     (subst (λ (t : List Token). Calling c.args.names.now (map view c.args.tokens.now) t (c.loop-rest.calls.items ++ c.in-Some.field-0 ∷ [])) (next_tokens view _ c.min.result c.min.ensures) more)
 

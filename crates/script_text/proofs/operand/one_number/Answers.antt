@@ -6,5 +6,5 @@ use Rattle.script_text.proofs.operand.one_number.Goals as goal
 
 pub returns-in-None : goal.returns-in-None
 returns-in-None c =
-    let none = no_number c.args.names.now c.args.word.now c.in_default.ensures (rw c.in-None.is at c.in_ok-name.ensures) in
+    let none = no_number c.args.names.now c.args.word.now c.in_default.ensures (rw c.in-None.is at c.variable.ensures) in
     λ x. AreOperands-at c.args.names.now (Number ∷ []) (Word c.args.word.now ∷ []) x 0 Number (omega arith) none

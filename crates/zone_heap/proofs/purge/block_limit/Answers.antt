@@ -1,8 +1,7 @@
 use Rattle.std.proofs.Common.{◌≡◌, ◌+◌, ◌∙◌, sym, ap, arith, None}
 use Rattle.std.specs.Prelude.{nat_le}
-use Rattle.std.proofs.lemmas.Bool.{le-leb}
+use Rattle.std.proofs.lemmas.Bool.{le-leb, lt-leb}
 use Rattle.zone_heap.specs.Purge.{BlocksAt, FirstToPurge, ShortBlocks, bounds_free, counts, run_past}
-use Rattle.zone_heap.proofs.GapWalks.{too-many}
 use Rattle.zone_heap.proofs.RunWalks.{blocks_next, facing_next, measured_all, measured_found, measured_more, none_measured, run_low, walked_next, within_measured}
 use Rattle.zone_heap.proofs.Walks.{bytes_facing, entry_facing, rest_walked, walked_on, within_facing}
 use Rattle.zone_heap.proofs.purge.block_limit.Goals as goal
@@ -106,7 +105,7 @@ loop-next-preserved c short =
     let f = found (goal.at.loop-next-preserved c).In-Some short in
     let v = (goal.at.loop-next-preserved c).After-run_up_to in
     measured_more c.args.zone.now short.at c.args.needed c.args.protected.now l.at l.run (l.invariant short) c.in-Some.next f c.run_up_to.result (runs v short f)
-    (ap (λ n. nat_le c.args.needed (c.run_up_to.result + c.in-Some.next.size + n)) (sym ((rw c.linked-linked.ensures at c.free_at.ensures) (rest v short f))) ∙ too-many c.args.needed (c.run_up_to.result + c.in-Some.next.size + c.free_at.result) c.if-needed-run.false)
+    (ap (λ n. nat_le c.args.needed (c.run_up_to.result + c.in-Some.next.size + n)) (sym ((rw c.linked-linked.ensures at c.free_at.ensures) (rest v short f))) ∙ lt-leb c.args.needed (c.run_up_to.result + c.in-Some.next.size + c.free_at.result) c.if-needed-run.false)
 
 pub returns : goal.returns
 returns c short =

@@ -7,6 +7,7 @@ use Rattle.place_numbers.specs.Shifted.{shifted_down}
 use Rattle.raw_region.specs.Bytes.{part}
 use Rattle.raw_region.specs.State.{State, with_bytes}
 use Rattle.raw_region.proofs.Places.{by_case}
+use Rattle.block_bytes.specs.ZoneHead.{CanCount}
 use Rattle.block_bytes.specs.declared.header.Header.{Header}
 use Rattle.block_bytes.specs.declared.blocks.Blocks.TheInside.{Inside}
 use Rattle.block_bytes.specs.Head.{most_over, head_bytes}
@@ -18,7 +19,7 @@ use Rattle.block_bytes.proofs.Rendered.{total_of-append}
 use Rattle.block_bytes.proofs.Parts.{IsRead}
 use Rattle.block_bytes.proofs.Settled.{counted}
 use Rattle.block_bytes.proofs.Changes.{mark-unlent}
-use Rattle.block_bytes.proofs.Counting.{IsKept, CanCount, can-count, none-lower, set-behind}
+use Rattle.block_bytes.proofs.Counting.{IsKept, can-count, none-lower, set-behind}
 use Rattle.block_bytes.proofs.Carrying.{HasMoved, AreUnlent, LiesFrom, with-last, unlent-first, lies-from, carried-used, carried-free, carried-marks, carried-read}
 use Rattle.block_bytes.proofs.Rotated.{length-shifted_down, shifted-before}
 use Rattle.block_bytes.proofs.blocks.Blocks.carry.Goals as goal
@@ -163,17 +164,8 @@ counts c = let lie = lies c.self.inside c.self.invariant c.args.self.now c.self.
     (record { heads_is = c.heads-heads.ensures; base_is = base_is; free = c.carry.ensures.free; used = c.carry.ensures.used }) c.args.self.now c.self.view_is c.requires c.entry_at-header.ensures)
     (ap length c.set.ensures ∙ length-set c.shift_down.new.self _ _ ∙ shifted ∙ same) base_is (omega arith) (omega arith)
 
-pub count_free-requires-clause-inside : goal.count_free-requires-clause-inside
-count_free-requires-clause-inside c = (counts (goal.at.count_free-requires-clause-inside c).After-set).inside
-
-pub count_free-requires-clause-unlent : goal.count_free-requires-clause-unlent
-count_free-requires-clause-unlent c = (counts (goal.at.count_free-requires-clause-unlent c).After-set).unlent
-
-pub count_free-requires-clause-few : goal.count_free-requires-clause-few
-count_free-requires-clause-few c = (counts (goal.at.count_free-requires-clause-few c).After-set).few
-
-pub count_free-requires-clause-small : goal.count_free-requires-clause-small
-count_free-requires-clause-small c = (counts (goal.at.count_free-requires-clause-small c).After-set).small
+pub count_free-requires-clause-count : goal.count_free-requires-clause-count
+count_free-requires-clause-count c = counts (goal.at.count_free-requires-clause-count c).After-set
 
 -- the index is as before up to the block's place
 same_before : (z : Inside) (start : ℕ) (header : Header) (count base : ℕ) (index : List ℕ) → LiesFrom z start header count → base ≡ z.spec.base

@@ -6,7 +6,7 @@ use Rattle.block_bytes.specs.Layout.{Layout, extended}
 use Rattle.block_bytes.specs.Starts.{first_marked}
 use Rattle.block_bytes.specs.ZoneHead.{end_field}
 use Rattle.block_bytes.proofs.Parts.{IsRead}
-use Rattle.block_bytes.proofs.Counting.{CanCount}
+use Rattle.block_bytes.specs.ZoneHead.{CanCount}
 use Rattle.block_bytes.proofs.Settled.{counted}
 use Rattle.block_bytes.proofs.Extending.{AreRead, below, headed-read, marked-read, can-extend, low-extend, extended-same, spare-free, end-free, room-marked, extends}
 use Rattle.block_bytes.proofs.blocks.Blocks.extend.Goals as goal
@@ -35,17 +35,8 @@ can c = can-extend c.self.inside c.heads-heads.result c.base-base.result c.size-
     (record { heads_is = c.heads-heads.ensures; base_is = c.base-base.ensures.value; size_is = c.size-size.ensures.value; limit_is = c.limit-limit.ensures.value; possible = c.base-base.ensures.possible; other = c.if-size-limit.false })
     c.self.invariant c.set_header.new.self c.set.new.self c.set_header.ensures c.set.ensures
 
-pub count_free-requires-clause-inside : goal.count_free-requires-clause-inside
-count_free-requires-clause-inside c = (can c).inside
-
-pub count_free-requires-clause-unlent : goal.count_free-requires-clause-unlent
-count_free-requires-clause-unlent c = (can c).unlent
-
-pub count_free-requires-clause-few : goal.count_free-requires-clause-few
-count_free-requires-clause-few c = (can c).few
-
-pub count_free-requires-clause-small : goal.count_free-requires-clause-small
-count_free-requires-clause-small c = (can c).small
+pub count_free-requires-clause-count : goal.count_free-requires-clause-count
+count_free-requires-clause-count c = can c
 
 pub count_free-requires-clause-low : goal.count_free-requires-clause-low
 count_free-requires-clause-low c = low-extend c.self.inside c.heads-heads.result c.base-base.result c.size-size.result c.limit-limit.result

@@ -86,8 +86,8 @@ set-requires-2 c =
     let h' = IsHere-from c.self.inside c.self.invariant c.args.self.now c.self.view_is (c.args.at + c.entry_at-first.result.size) c.entry_at-second.result next two in
     let some = head_size-positive c.self.inside.spec.heads in omega arith
 
-pub count_free-requires-clause-inside : goal.count_free-requires-clause-inside
-count_free-requires-clause-inside c = (let z = c.self.inside in let small = c.base-base.ensures.possible in let r = c.entry_at-first.result in let s = c.entry_at-second.result in
+pub count_free-requires-clause-count : goal.count_free-requires-clause-count
+count_free-requires-clause-count c = let z = c.self.inside in let small = c.base-base.ensures.possible in let r = c.entry_at-first.result in let s = c.entry_at-second.result in
     let first = first-block c.args.self.now c.args.at c.requires.pair in let one = c.entry_at-first.ensures first in
     let h = IsHere-from z c.self.invariant c.args.self.now c.self.view_is c.args.at c.entry_at-first.result first one in
     let next = next-block c.args.self.now c.args.at (c.args.at + c.entry_at-first.result.size) c.requires.pair (ap (λ (h : Header). c.args.at + h.size) one) in let two = c.entry_at-second.ensures next in
@@ -97,59 +97,7 @@ count_free-requires-clause-inside c = (let z = c.self.inside in let small = c.ba
     let among = (ArePair-from z c.self.invariant c.args.self.now c.self.view_is c.args.at r s c.requires.pair one two).counted in
     can-count z c.self.invariant small c.set_header.new.self c.set-2.new.self c.base-base.result c.free_bytes.result (c.free_bytes-2.result + c.free_bytes-3.result)
     (kept-written z z.memory c.set_header.new.self (c.args.at - c.base-base.result) (head_bytes c.heads-heads.result c.base-base.result header) (kept-first z c.self.invariant small) c.set_header.ensures (omega arith))
-    (ap length c.set-2.ensures ∙ length-set c.set.new.self _ _ ∙ ap length c.set.ensures ∙ length-set z.index _ _) c.base-base.ensures.value (omega arith) (omega arith)).inside
-
-pub count_free-requires-clause-unlent : goal.count_free-requires-clause-unlent
-count_free-requires-clause-unlent c = (let z = c.self.inside in let small = c.base-base.ensures.possible in let r = c.entry_at-first.result in let s = c.entry_at-second.result in
-    let first = first-block c.args.self.now c.args.at c.requires.pair in let one = c.entry_at-first.ensures first in
-    let h = IsHere-from z c.self.invariant c.args.self.now c.self.view_is c.args.at c.entry_at-first.result first one in
-    let next = next-block c.args.self.now c.args.at (c.args.at + c.entry_at-first.result.size) c.requires.pair (ap (λ (h : Header). c.args.at + h.size) one) in let two = c.entry_at-second.ensures next in
-    let h' = IsHere-from z c.self.invariant c.args.self.now c.self.view_is (c.args.at + c.entry_at-first.result.size) c.entry_at-second.result next two in
-    let header : Header = record { size = r.size + s.size; role = r.role; correction = r.size + s.size - c.head_size.result - c.args.length } in
-    let gained = c.free_bytes.ensures in let lost = c.free_bytes-2.ensures in let lost' = c.free_bytes-3.ensures in let few = free_in-small header in
-    let among = (ArePair-from z c.self.invariant c.args.self.now c.self.view_is c.args.at r s c.requires.pair one two).counted in
-    can-count z c.self.invariant small c.set_header.new.self c.set-2.new.self c.base-base.result c.free_bytes.result (c.free_bytes-2.result + c.free_bytes-3.result)
-    (kept-written z z.memory c.set_header.new.self (c.args.at - c.base-base.result) (head_bytes c.heads-heads.result c.base-base.result header) (kept-first z c.self.invariant small) c.set_header.ensures (omega arith))
-    (ap length c.set-2.ensures ∙ length-set c.set.new.self _ _ ∙ ap length c.set.ensures ∙ length-set z.index _ _) c.base-base.ensures.value (omega arith) (omega arith)).unlent
-
-pub count_free-requires-clause-few : goal.count_free-requires-clause-few
-count_free-requires-clause-few c = (let z = c.self.inside in let small = c.base-base.ensures.possible in let r = c.entry_at-first.result in let s = c.entry_at-second.result in
-    let first = first-block c.args.self.now c.args.at c.requires.pair in let one = c.entry_at-first.ensures first in
-    let h = IsHere-from z c.self.invariant c.args.self.now c.self.view_is c.args.at c.entry_at-first.result first one in
-    let next = next-block c.args.self.now c.args.at (c.args.at + c.entry_at-first.result.size) c.requires.pair (ap (λ (h : Header). c.args.at + h.size) one) in let two = c.entry_at-second.ensures next in
-    let h' = IsHere-from z c.self.invariant c.args.self.now c.self.view_is (c.args.at + c.entry_at-first.result.size) c.entry_at-second.result next two in
-    let header : Header = record { size = r.size + s.size; role = r.role; correction = r.size + s.size - c.head_size.result - c.args.length } in
-    let gained = c.free_bytes.ensures in let lost = c.free_bytes-2.ensures in let lost' = c.free_bytes-3.ensures in let few = free_in-small header in
-    let among = (ArePair-from z c.self.invariant c.args.self.now c.self.view_is c.args.at r s c.requires.pair one two).counted in
-    can-count z c.self.invariant small c.set_header.new.self c.set-2.new.self c.base-base.result c.free_bytes.result (c.free_bytes-2.result + c.free_bytes-3.result)
-    (kept-written z z.memory c.set_header.new.self (c.args.at - c.base-base.result) (head_bytes c.heads-heads.result c.base-base.result header) (kept-first z c.self.invariant small) c.set_header.ensures (omega arith))
-    (ap length c.set-2.ensures ∙ length-set c.set.new.self _ _ ∙ ap length c.set.ensures ∙ length-set z.index _ _) c.base-base.ensures.value (omega arith) (omega arith)).few
-
-pub count_free-requires-clause-counted : goal.count_free-requires-clause-counted
-count_free-requires-clause-counted c = (let z = c.self.inside in let small = c.base-base.ensures.possible in let r = c.entry_at-first.result in let s = c.entry_at-second.result in
-    let first = first-block c.args.self.now c.args.at c.requires.pair in let one = c.entry_at-first.ensures first in
-    let h = IsHere-from z c.self.invariant c.args.self.now c.self.view_is c.args.at c.entry_at-first.result first one in
-    let next = next-block c.args.self.now c.args.at (c.args.at + c.entry_at-first.result.size) c.requires.pair (ap (λ (h : Header). c.args.at + h.size) one) in let two = c.entry_at-second.ensures next in
-    let h' = IsHere-from z c.self.invariant c.args.self.now c.self.view_is (c.args.at + c.entry_at-first.result.size) c.entry_at-second.result next two in
-    let header : Header = record { size = r.size + s.size; role = r.role; correction = r.size + s.size - c.head_size.result - c.args.length } in
-    let gained = c.free_bytes.ensures in let lost = c.free_bytes-2.ensures in let lost' = c.free_bytes-3.ensures in let few = free_in-small header in
-    let among = (ArePair-from z c.self.invariant c.args.self.now c.self.view_is c.args.at r s c.requires.pair one two).counted in
-    can-count z c.self.invariant small c.set_header.new.self c.set-2.new.self c.base-base.result c.free_bytes.result (c.free_bytes-2.result + c.free_bytes-3.result)
-    (kept-written z z.memory c.set_header.new.self (c.args.at - c.base-base.result) (head_bytes c.heads-heads.result c.base-base.result header) (kept-first z c.self.invariant small) c.set_header.ensures (omega arith))
-    (ap length c.set-2.ensures ∙ length-set c.set.new.self _ _ ∙ ap length c.set.ensures ∙ length-set z.index _ _) c.base-base.ensures.value (omega arith) (omega arith)).counted
-
-pub count_free-requires-clause-small : goal.count_free-requires-clause-small
-count_free-requires-clause-small c = (let z = c.self.inside in let small = c.base-base.ensures.possible in let r = c.entry_at-first.result in let s = c.entry_at-second.result in
-    let first = first-block c.args.self.now c.args.at c.requires.pair in let one = c.entry_at-first.ensures first in
-    let h = IsHere-from z c.self.invariant c.args.self.now c.self.view_is c.args.at c.entry_at-first.result first one in
-    let next = next-block c.args.self.now c.args.at (c.args.at + c.entry_at-first.result.size) c.requires.pair (ap (λ (h : Header). c.args.at + h.size) one) in let two = c.entry_at-second.ensures next in
-    let h' = IsHere-from z c.self.invariant c.args.self.now c.self.view_is (c.args.at + c.entry_at-first.result.size) c.entry_at-second.result next two in
-    let header : Header = record { size = r.size + s.size; role = r.role; correction = r.size + s.size - c.head_size.result - c.args.length } in
-    let gained = c.free_bytes.ensures in let lost = c.free_bytes-2.ensures in let lost' = c.free_bytes-3.ensures in let few = free_in-small header in
-    let among = (ArePair-from z c.self.invariant c.args.self.now c.self.view_is c.args.at r s c.requires.pair one two).counted in
-    can-count z c.self.invariant small c.set_header.new.self c.set-2.new.self c.base-base.result c.free_bytes.result (c.free_bytes-2.result + c.free_bytes-3.result)
-    (kept-written z z.memory c.set_header.new.self (c.args.at - c.base-base.result) (head_bytes c.heads-heads.result c.base-base.result header) (kept-first z c.self.invariant small) c.set_header.ensures (omega arith))
-    (ap length c.set-2.ensures ∙ length-set c.set.new.self _ _ ∙ ap length c.set.ensures ∙ length-set z.index _ _) c.base-base.ensures.value (omega arith) (omega arith)).small
+    (ap length c.set-2.ensures ∙ length-set c.set.new.self _ _ ∙ ap length c.set.ensures ∙ length-set z.index _ _) c.base-base.ensures.value (omega arith) (omega arith)
 
 pub count_free-requires-clause-low : goal.count_free-requires-clause-low
 count_free-requires-clause-low c = let z = c.self.inside in let small = c.base-base.ensures.possible in let r = c.entry_at-first.result in let s = c.entry_at-second.result in

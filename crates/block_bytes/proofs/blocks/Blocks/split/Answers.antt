@@ -49,8 +49,8 @@ set-requires c = let h = IsHere-from c.self.inside c.self.invariant c.args.self.
 pub set-requires-2 : goal.set-requires-2
 set-requires-2 c = let long : length c.set.new.self ≡ length c.self.inside.index = ap length c.set.ensures ∙ length-set c.self.inside.index _ _ in let h = IsHere-from c.self.inside c.self.invariant c.args.self.now c.self.view_is c.args.at c.entry_at-whole.result c.requires.block (c.entry_at-whole.ensures c.requires.block) in let some = head_size-positive c.self.inside.spec.heads in omega arith
 
-pub count_free-requires-clause-inside : goal.count_free-requires-clause-inside
-count_free-requires-clause-inside c = (let z = c.self.inside in let small = c.base-base.ensures.possible in let r = c.entry_at-whole.result in
+pub count_free-requires-clause-count : goal.count_free-requires-clause-count
+count_free-requires-clause-count c = let z = c.self.inside in let small = c.base-base.ensures.possible in let r = c.entry_at-whole.result in
     let h = IsHere-from c.self.inside c.self.invariant c.args.self.now c.self.view_is c.args.at c.entry_at-whole.result c.requires.block (c.entry_at-whole.ensures c.requires.block) in let size : c.entry_at-whole.result.size ≡ size_of c.args.self.now.heads c.requires.block.here = ap (λ (h : Header). h.size) (c.entry_at-whole.ensures c.requires.block) in let smaller = c.requires.smaller in let large = c.requires.large in let heads = c.heads-heads.ensures ∙ ap (λ (l : Layout). l.heads) c.self.view_is in let e = ap head_size heads in let e' = ap head_size c.heads-heads.ensures in let e'' = ap head_size (ap (λ (l : Layout). l.heads) c.self.view_is) in let some = head_size-positive c.args.self.now.heads in
     let front : Header = record { size = c.args.size; role = r.role; correction = c.args.size - c.head_size.result - c.args.length } in
     let rest : Header = record { size = r.size - c.args.size; role = Free; correction = 0 } in
@@ -59,55 +59,7 @@ count_free-requires-clause-inside c = (let z = c.self.inside in let small = c.ba
     (kept-written z c.set_header.new.self c.set_header-2.new.self (c.args.at - c.base-base.result + c.args.size) (head_bytes c.heads-heads.result c.base-base.result rest)
     (kept-written z z.memory c.set_header.new.self (c.args.at - c.base-base.result) (head_bytes c.heads-heads.result c.base-base.result front) (kept-first z c.self.invariant small) c.set_header.ensures (omega arith))
     c.set_header-2.ensures (omega arith))
-    (ap length c.set-2.ensures ∙ length-set c.set.new.self _ _ ∙ ap length c.set.ensures ∙ length-set z.index _ _) c.base-base.ensures.value (omega arith) (omega arith)).inside
-
-pub count_free-requires-clause-unlent : goal.count_free-requires-clause-unlent
-count_free-requires-clause-unlent c = (let z = c.self.inside in let small = c.base-base.ensures.possible in let r = c.entry_at-whole.result in
-    let h = IsHere-from c.self.inside c.self.invariant c.args.self.now c.self.view_is c.args.at c.entry_at-whole.result c.requires.block (c.entry_at-whole.ensures c.requires.block) in let size : c.entry_at-whole.result.size ≡ size_of c.args.self.now.heads c.requires.block.here = ap (λ (h : Header). h.size) (c.entry_at-whole.ensures c.requires.block) in let smaller = c.requires.smaller in let large = c.requires.large in let heads = c.heads-heads.ensures ∙ ap (λ (l : Layout). l.heads) c.self.view_is in let e = ap head_size heads in let e' = ap head_size c.heads-heads.ensures in let e'' = ap head_size (ap (λ (l : Layout). l.heads) c.self.view_is) in let some = head_size-positive c.args.self.now.heads in
-    let front : Header = record { size = c.args.size; role = r.role; correction = c.args.size - c.head_size.result - c.args.length } in
-    let rest : Header = record { size = r.size - c.args.size; role = Free; correction = 0 } in
-    let gained = c.free_bytes.ensures in let lost = c.free_bytes-2.ensures in let few = free_in-small front in let among = h.counted in
-    can-count z c.self.invariant small c.set_header-2.new.self c.set-2.new.self c.base-base.result (c.free_bytes.result + (r.size - c.args.size)) c.free_bytes-2.result
-    (kept-written z c.set_header.new.self c.set_header-2.new.self (c.args.at - c.base-base.result + c.args.size) (head_bytes c.heads-heads.result c.base-base.result rest)
-    (kept-written z z.memory c.set_header.new.self (c.args.at - c.base-base.result) (head_bytes c.heads-heads.result c.base-base.result front) (kept-first z c.self.invariant small) c.set_header.ensures (omega arith))
-    c.set_header-2.ensures (omega arith))
-    (ap length c.set-2.ensures ∙ length-set c.set.new.self _ _ ∙ ap length c.set.ensures ∙ length-set z.index _ _) c.base-base.ensures.value (omega arith) (omega arith)).unlent
-
-pub count_free-requires-clause-few : goal.count_free-requires-clause-few
-count_free-requires-clause-few c = (let z = c.self.inside in let small = c.base-base.ensures.possible in let r = c.entry_at-whole.result in
-    let h = IsHere-from c.self.inside c.self.invariant c.args.self.now c.self.view_is c.args.at c.entry_at-whole.result c.requires.block (c.entry_at-whole.ensures c.requires.block) in let size : c.entry_at-whole.result.size ≡ size_of c.args.self.now.heads c.requires.block.here = ap (λ (h : Header). h.size) (c.entry_at-whole.ensures c.requires.block) in let smaller = c.requires.smaller in let large = c.requires.large in let heads = c.heads-heads.ensures ∙ ap (λ (l : Layout). l.heads) c.self.view_is in let e = ap head_size heads in let e' = ap head_size c.heads-heads.ensures in let e'' = ap head_size (ap (λ (l : Layout). l.heads) c.self.view_is) in let some = head_size-positive c.args.self.now.heads in
-    let front : Header = record { size = c.args.size; role = r.role; correction = c.args.size - c.head_size.result - c.args.length } in
-    let rest : Header = record { size = r.size - c.args.size; role = Free; correction = 0 } in
-    let gained = c.free_bytes.ensures in let lost = c.free_bytes-2.ensures in let few = free_in-small front in let among = h.counted in
-    can-count z c.self.invariant small c.set_header-2.new.self c.set-2.new.self c.base-base.result (c.free_bytes.result + (r.size - c.args.size)) c.free_bytes-2.result
-    (kept-written z c.set_header.new.self c.set_header-2.new.self (c.args.at - c.base-base.result + c.args.size) (head_bytes c.heads-heads.result c.base-base.result rest)
-    (kept-written z z.memory c.set_header.new.self (c.args.at - c.base-base.result) (head_bytes c.heads-heads.result c.base-base.result front) (kept-first z c.self.invariant small) c.set_header.ensures (omega arith))
-    c.set_header-2.ensures (omega arith))
-    (ap length c.set-2.ensures ∙ length-set c.set.new.self _ _ ∙ ap length c.set.ensures ∙ length-set z.index _ _) c.base-base.ensures.value (omega arith) (omega arith)).few
-
-pub count_free-requires-clause-counted : goal.count_free-requires-clause-counted
-count_free-requires-clause-counted c = (let z = c.self.inside in let small = c.base-base.ensures.possible in let r = c.entry_at-whole.result in
-    let h = IsHere-from c.self.inside c.self.invariant c.args.self.now c.self.view_is c.args.at c.entry_at-whole.result c.requires.block (c.entry_at-whole.ensures c.requires.block) in let size : c.entry_at-whole.result.size ≡ size_of c.args.self.now.heads c.requires.block.here = ap (λ (h : Header). h.size) (c.entry_at-whole.ensures c.requires.block) in let smaller = c.requires.smaller in let large = c.requires.large in let heads = c.heads-heads.ensures ∙ ap (λ (l : Layout). l.heads) c.self.view_is in let e = ap head_size heads in let e' = ap head_size c.heads-heads.ensures in let e'' = ap head_size (ap (λ (l : Layout). l.heads) c.self.view_is) in let some = head_size-positive c.args.self.now.heads in
-    let front : Header = record { size = c.args.size; role = r.role; correction = c.args.size - c.head_size.result - c.args.length } in
-    let rest : Header = record { size = r.size - c.args.size; role = Free; correction = 0 } in
-    let gained = c.free_bytes.ensures in let lost = c.free_bytes-2.ensures in let few = free_in-small front in let among = h.counted in
-    can-count z c.self.invariant small c.set_header-2.new.self c.set-2.new.self c.base-base.result (c.free_bytes.result + (r.size - c.args.size)) c.free_bytes-2.result
-    (kept-written z c.set_header.new.self c.set_header-2.new.self (c.args.at - c.base-base.result + c.args.size) (head_bytes c.heads-heads.result c.base-base.result rest)
-    (kept-written z z.memory c.set_header.new.self (c.args.at - c.base-base.result) (head_bytes c.heads-heads.result c.base-base.result front) (kept-first z c.self.invariant small) c.set_header.ensures (omega arith))
-    c.set_header-2.ensures (omega arith))
-    (ap length c.set-2.ensures ∙ length-set c.set.new.self _ _ ∙ ap length c.set.ensures ∙ length-set z.index _ _) c.base-base.ensures.value (omega arith) (omega arith)).counted
-
-pub count_free-requires-clause-small : goal.count_free-requires-clause-small
-count_free-requires-clause-small c = (let z = c.self.inside in let small = c.base-base.ensures.possible in let r = c.entry_at-whole.result in
-    let h = IsHere-from c.self.inside c.self.invariant c.args.self.now c.self.view_is c.args.at c.entry_at-whole.result c.requires.block (c.entry_at-whole.ensures c.requires.block) in let size : c.entry_at-whole.result.size ≡ size_of c.args.self.now.heads c.requires.block.here = ap (λ (h : Header). h.size) (c.entry_at-whole.ensures c.requires.block) in let smaller = c.requires.smaller in let large = c.requires.large in let heads = c.heads-heads.ensures ∙ ap (λ (l : Layout). l.heads) c.self.view_is in let e = ap head_size heads in let e' = ap head_size c.heads-heads.ensures in let e'' = ap head_size (ap (λ (l : Layout). l.heads) c.self.view_is) in let some = head_size-positive c.args.self.now.heads in
-    let front : Header = record { size = c.args.size; role = r.role; correction = c.args.size - c.head_size.result - c.args.length } in
-    let rest : Header = record { size = r.size - c.args.size; role = Free; correction = 0 } in
-    let gained = c.free_bytes.ensures in let lost = c.free_bytes-2.ensures in let few = free_in-small front in let among = h.counted in
-    can-count z c.self.invariant small c.set_header-2.new.self c.set-2.new.self c.base-base.result (c.free_bytes.result + (r.size - c.args.size)) c.free_bytes-2.result
-    (kept-written z c.set_header.new.self c.set_header-2.new.self (c.args.at - c.base-base.result + c.args.size) (head_bytes c.heads-heads.result c.base-base.result rest)
-    (kept-written z z.memory c.set_header.new.self (c.args.at - c.base-base.result) (head_bytes c.heads-heads.result c.base-base.result front) (kept-first z c.self.invariant small) c.set_header.ensures (omega arith))
-    c.set_header-2.ensures (omega arith))
-    (ap length c.set-2.ensures ∙ length-set c.set.new.self _ _ ∙ ap length c.set.ensures ∙ length-set z.index _ _) c.base-base.ensures.value (omega arith) (omega arith)).small
+    (ap length c.set-2.ensures ∙ length-set c.set.new.self _ _ ∙ ap length c.set.ensures ∙ length-set z.index _ _) c.base-base.ensures.value (omega arith) (omega arith)
 
 pub count_free-requires-clause-low : goal.count_free-requires-clause-low
 count_free-requires-clause-low c = let z = c.self.inside in let small = c.base-base.ensures.possible in let r = c.entry_at-whole.result in

@@ -1,6 +1,6 @@
 use Rattle.std.proofs.Common.{rules, ◌≡◌, [], List, sym, subst}
-use Rattle.held_loans.specs.Holding.{Holds}
-use Rattle.held_loans.specs.declared.loans.Held.{Held}
+use Rattle.held_calls.specs.Holding.{Holds}
+use Rattle.held_calls.specs.declared.loans.Held.{Held}
 use Rattle.held_zone.proofs.Written.{Holds-none}
 use Rattle.held_zone.proofs.session.Session.create.Goals as goal
 

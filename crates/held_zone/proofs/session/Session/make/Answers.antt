@@ -1,7 +1,7 @@
 use Rattle.std.proofs.Common.{◌≡◌, ◌∙◌, ap, refl, subst}
 use Rattle.std.specs.Prelude.{IfNone, IfSome}
-use Rattle.held_loans.specs.Holding.{loans_of}
-use Rattle.made_calls.specs.Answers.{Queue, taken}
+use Rattle.held_calls.specs.Holding.{loans_of}
+use Rattle.held_calls.specs.Answers.{Queue, taken}
 use Rattle.held_zone.specs.State.{State, with_no_asks}
 use Rattle.held_zone.specs.Told.{Makes}
 use Rattle.held_zone.proofs.Made.{holds-made, made-queued, not-made}

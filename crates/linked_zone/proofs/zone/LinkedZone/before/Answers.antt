@@ -2,9 +2,10 @@ use Rattle.std.proofs.Common.{[], ◌+◌, ◌∙◌, sym, ap}
 use Rattle.std.proofs.lemmas.Option.{IfSome_then}
 use Rattle.mac_base.specs.ZoneMap.{address_behind}
 use Rattle.zone_records.specs.Records.{BlockRecord}
+use Rattle.zone_records.proofs.Looking.{IfNone_then}
 use Rattle.linked_zone.specs.Owned.{owners_of}
 use Rattle.linked_zone.proofs.Standing.{stands-now}
-use Rattle.linked_zone.proofs.Located.{of-entry, of-record, no-records, IfNone_then}
+use Rattle.linked_zone.proofs.Located.{of-entry, of-record, no-records}
 use Rattle.linked_zone.proofs.zone.LinkedZone.before.Goals as goal
 
 pub before-requires : goal.before-requires

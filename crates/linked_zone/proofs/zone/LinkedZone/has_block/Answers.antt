@@ -1,7 +1,7 @@
 use Rattle.std.proofs.Common.{refl, ap, sym, ◌∙◌, Contains, subst}
+use Rattle.std.proofs.lemmas.Bool.{false_from_ne_true}
 use Rattle.mac_base.specs.HandleTable.{is_pointer, is_full}
 use Rattle.mac_base.specs.Suits.{slots}
-use Rattle.zone_laws.proofs.SlotOwners.{false_from}
 use Rattle.zone_laws.proofs.Tables.{full_handle}
 use Rattle.linked_zone.proofs.Standing.{stands-now}
 use Rattle.linked_zone.proofs.Found.{slot-is, slot-there, slot-full, full-other, says_full, other-full}
@@ -34,5 +34,5 @@ returns-else-is_slot c =
     let z = c.args.self.now in
     let stands = stands-now c.self.inside c.args.self.now c.self.invariant c.self.view_is in
     let other = ap (is_pointer z.heap.table) (sym c.new.ensures) ∙ sym c.is_pointer.ensures ∙ c.if-is_pointer.false in
-    c.if-is_slot.false ∙ sym (full-other z c.args.block other ∙ false_from (is_full z.heap.table c.args.block) (λ full.
+    c.if-is_slot.false ∙ sym (full-other z c.args.block other ∙ false_from_ne_true (is_full z.heap.table c.args.block) (λ full.
     cc (c.is_slot.ensures.1 (subst (Contains (slots z.shape z.heap.map)) (sym c.new-else-is_pointer.ensures) (stands.fits.coherent.in_slots c.args.block (full_handle z.heap.table c.args.block full))), c.if-is_slot.false)))

@@ -1,6 +1,6 @@
 use Rattle.std.proofs.Common.{◌≡◌, ◌∙◌, sym, ap, not}
+use Rattle.std.proofs.lemmas.Bool.{false_from_ne_true}
 use Rattle.mac_base.specs.HandleTable.{is_handle}
-use Rattle.zone_laws.proofs.SlotOwners.{false_from}
 use Rattle.linked_zone.proofs.Standing.{stands-now}
 use Rattle.linked_zone.proofs.ReadBack.{slot_no_pointer}
 use Rattle.linked_zone.proofs.Found.{slot-is, slot-there, slot-live, says_live, other-live}
@@ -26,4 +26,4 @@ returns-after-matches c =
 pub returns-else-is_slot : goal.returns-else-is_slot
 returns-else-is_slot c =
     let stands = stands-now c.self.inside c.args.self.now c.self.invariant c.self.view_is in
-    c.if-is_slot.false ∙ sym (false_from (is_handle c.args.self.now.heap.table c.args.handle) (λ live. cc (c.is_slot.ensures.1 (stands.fits.coherent.in_slots c.args.handle live), c.if-is_slot.false)))
+    c.if-is_slot.false ∙ sym (false_from_ne_true (is_handle c.args.self.now.heap.table c.args.handle) (λ live. cc (c.is_slot.ensures.1 (stands.fits.coherent.in_slots c.args.handle live), c.if-is_slot.false)))

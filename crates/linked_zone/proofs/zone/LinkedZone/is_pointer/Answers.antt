@@ -1,9 +1,9 @@
 use Rattle.std.proofs.Common.{◌-◌, ◌∙◌, sym, ap, arith}
 use Rattle.std.proofs.lemmas.Bool.Decides.{nat_tests}
+use Rattle.std.proofs.lemmas.Bool.{false_from_ne_true}
 use Rattle.mac_base.specs.declared.block.Entry.{Entry}
 use Rattle.mac_base.specs.ZoneSizes.{ZoneSizes}
 use Rattle.mac_base.specs.HandleTable.{is_pointer}
-use Rattle.zone_laws.proofs.SlotOwners.{false_from}
 use Rattle.linked_zone.proofs.Standing.{stands-now}
 use Rattle.linked_zone.proofs.Found.{head-read, pointer-made, pointer-said}
 use Rattle.linked_zone.proofs.zone.LinkedZone.is_pointer.Goals as goal
@@ -27,7 +27,7 @@ returns-in_default c =
     let stands = stands-now c.self.inside c.args.self.now c.self.invariant c.self.view_is in
     let head = head-read c.self.inside.records z stands c.heads.result c.head_size-head_size.result (c.heads.ensures ∙ ap (λ (s : ZoneSizes). s.heads) c.spec.ensures) c.head_size-head_size.ensures in
     let number = c.number-number.ensures in
-    sym (false_from (is_pointer z.heap.table c.args.pointer) (λ live.
+    sym (false_from_ne_true (is_pointer z.heap.table c.args.pointer) (λ live.
     let said = pointer-said c.self.inside.records z stands (c.number-number.result - c.head_size-head_size.result) c.args.pointer live (λ i. number i - head i) in
     c.in_default.not-Ptr c.args.pointer (ap (λ (e : Entry). e.kind) (c.entry_at.ensures said.1.0) ∙ said.1.1)))
 
@@ -37,7 +37,7 @@ returns-else-is_block c =
     let stands = stands-now c.self.inside c.args.self.now c.self.invariant c.self.view_is in
     let head = head-read c.self.inside.records z stands c.heads.result c.head_size-head_size.result (c.heads.ensures ∙ ap (λ (s : ZoneSizes). s.heads) c.spec.ensures) c.head_size-head_size.ensures in
     let number = c.number-number.ensures in
-    c.if-is_block.false ∙ sym (false_from (is_pointer z.heap.table c.args.pointer) (λ live.
+    c.if-is_block.false ∙ sym (false_from_ne_true (is_pointer z.heap.table c.args.pointer) (λ live.
     let said = pointer-said c.self.inside.records z stands (c.number-number.result - c.head_size-head_size.result) c.args.pointer live (λ i. number i - head i) in
     let large = said.0 in
     elim c.if-number-head_size.branch [

@@ -1,6 +1,7 @@
 use Rattle.std.proofs.lemmas.Option.{IfSome_then}
 use Rattle.linked_zone.proofs.Standing.{stands-now}
-use Rattle.linked_zone.proofs.Located.{split-at, last-free, no-free-before, IfNone_then}
+use Rattle.linked_zone.proofs.Located.{split-at, last-free, no-free-before}
+use Rattle.zone_records.proofs.Looking.{IfNone_then}
 use Rattle.linked_zone.proofs.zone.LinkedZone.last_free.Goals as goal
 
 pub last_free-requires : goal.last_free-requires

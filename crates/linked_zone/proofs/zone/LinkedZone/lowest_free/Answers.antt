@@ -4,9 +4,10 @@ use Rattle.std.proofs.lemmas.Option.{IfSome_then}
 use Rattle.mac_base.specs.ZoneMap.{address_behind}
 use Rattle.zone_records.specs.Records.{ZoneRecords}
 use Rattle.zone_records.specs.Places.{has_free}
+use Rattle.zone_records.proofs.Looking.{IfNone_then}
 use Rattle.linked_zone.specs.Owned.{owners_of}
 use Rattle.linked_zone.proofs.Standing.{stands-now}
-use Rattle.linked_zone.proofs.Located.{lowest-at, rooms-same, IfNone_then}
+use Rattle.linked_zone.proofs.Located.{lowest-at, rooms-same}
 use Rattle.linked_zone.proofs.zone.LinkedZone.lowest_free.Goals as goal
 
 pub returns-clause-lowest : goal.returns-clause-lowest

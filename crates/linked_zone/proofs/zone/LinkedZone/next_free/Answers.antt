@@ -1,6 +1,7 @@
 use Rattle.std.proofs.lemmas.Option.{IfSome_then}
 use Rattle.linked_zone.proofs.Standing.{stands-now}
-use Rattle.linked_zone.proofs.Located.{split-at, first-free, no-free, IfNone_then}
+use Rattle.linked_zone.proofs.Located.{split-at, first-free, no-free}
+use Rattle.zone_records.proofs.Looking.{IfNone_then}
 use Rattle.linked_zone.proofs.zone.LinkedZone.next_free.Goals as goal
 
 pub next_free-requires : goal.next_free-requires

@@ -1,5 +1,4 @@
 use Rattle.std.proofs.Common.{◌+◌, ap, arith}
-use Rattle.mac_base.specs.HeadKind.{head_size}
 use Rattle.linked_zone.specs.Changes.{pointed}
 use Rattle.linked_zone.specs.Places.{RoomFor}
 use Rattle.linked_zone.proofs.Standing.{Kept, stands-now}

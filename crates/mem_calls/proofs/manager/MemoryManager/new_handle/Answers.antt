@@ -1,37 +1,22 @@
-use Rattle.std.proofs.Common.{refl, ap, sym, ◌∙◌, Ok, None}
+use Rattle.std.proofs.Common.{refl, ap, ◌∙◌, None}
 use Rattle.std.specs.Option.{option_or}
 use Rattle.mac_calls.specs.declared.memory_call.MemoryCall.TheVariants.{NewHandle}
 use Rattle.mac_base.specs.declared.request.Request.TheVariants.{NewBlock}
-use Rattle.mac_calls.specs.declared.reply.Results.TheVariants.{Handle}
 use Rattle.mac_calls.specs.Outcomes.{handle_outcome}
 use Rattle.mem_calls.proofs.KeptLoans.{kept}
-use Rattle.mem_calls.proofs.Stepping.{request_outcome, refused_outcome, exact-requested, step-exact}
+use Rattle.mem_calls.proofs.Stepping.{exact-requested, step-exact, handle_ends, mapped}
 use Rattle.mem_calls.proofs.manager.MemoryManager.new_handle.Goals as goal
-
-pub returns-in_err-handle-clause-exact : goal.returns-in_err-handle-clause-exact
-returns-in_err-handle-clause-exact g c = let end = c.from_residual-in_err-handle in
-    exact-requested c.args.self.now c.self.inside.zone c.request.new.zone c.self.view_is c.request.ensures.sound (NewHandle c.args.size) (ap (λ o. option_or o None) c.in_ok-test_size.ensures)
-    (NewBlock c.args.size) (g.G.GrowZone.asks c.request.new.procedure) c.request.result (handle_outcome end.result) refl (λ x t. refl) c.request.ensures.run
-    (refused_outcome handle_outcome (λ code. refl) end.result c.in_err-handle.field-0.0 end.ensures.1 ∙ ap (request_outcome (NewHandle c.args.size)) (sym c.in_err-handle.was))
-
-pub returns-in_err-handle-clause-step : goal.returns-in_err-handle-clause-step
-returns-in_err-handle-clause-step g c =
-    step-exact c.args.self.now c.self.inside.zone c.request.new.zone c.self.view_is c.request.ensures.sound (NewHandle c.args.size) (ap (λ o. option_or o None) c.in_ok-test_size.ensures)
-    (g.G.GrowZone.asks c.request.new.procedure) (handle_outcome c.from_residual-in_err-handle.result) (returns-in_err-handle-clause-exact g c)
-
-pub returns-in_err-handle-clause-loans : goal.returns-in_err-handle-clause-loans
-returns-in_err-handle-clause-loans g c = kept c.request.ensures.loans c.self.view_is
 
 pub returns-clause-exact : goal.returns-clause-exact
 returns-clause-exact g c =
     exact-requested c.args.self.now c.self.inside.zone c.request.new.zone c.self.view_is c.request.ensures.sound (NewHandle c.args.size) (ap (λ o. option_or o None) c.in_ok-test_size.ensures)
-    (NewBlock c.args.size) (g.G.GrowZone.asks c.request.new.procedure) c.request.result (Ok (Handle c.new.result)) refl (λ x t. refl) c.request.ensures.run
-    (ap (λ x. Ok (Handle x)) c.new.ensures ∙ ap (request_outcome (NewHandle c.args.size)) (sym c.in_ok-handle.was))
+    (NewBlock c.args.size) (g.G.GrowZone.asks c.request.new.procedure) c.request.result (handle_outcome c.map.result) refl (λ x t. refl) c.request.ensures.run
+    (ap handle_outcome (mapped c.request.result c.map.result c.map.ensures.cases) ∙ handle_ends (NewHandle c.args.size) (λ x. refl) c.request.result)
 
 pub returns-clause-step : goal.returns-clause-step
 returns-clause-step g c =
     step-exact c.args.self.now c.self.inside.zone c.request.new.zone c.self.view_is c.request.ensures.sound (NewHandle c.args.size) (ap (λ o. option_or o None) c.in_ok-test_size.ensures)
-    (g.G.GrowZone.asks c.request.new.procedure) (Ok (Handle c.new.result)) (returns-clause-exact g c)
+    (g.G.GrowZone.asks c.request.new.procedure) (handle_outcome c.map.result) (returns-clause-exact g c)
 
 pub returns-clause-loans : goal.returns-clause-loans
 returns-clause-loans g c = kept c.request.ensures.loans c.self.view_is

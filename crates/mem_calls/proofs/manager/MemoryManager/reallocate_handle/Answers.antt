@@ -1,43 +1,26 @@
-use Rattle.std.proofs.Common.{[], ◌∷◌, refl, ap, sym, ◌∙◌, Ok}
+use Rattle.std.proofs.Common.{[], ◌∷◌, refl}
 use Rattle.mem_calls.proofs.Passing.{passed-reallocate_handle, refused-first, refused-later}
 use Rattle.mac_calls.specs.declared.memory_call.MemoryCall.TheVariants.{ReallocateHandle}
 use Rattle.mac_base.specs.declared.request.Request.TheVariants.{Replace}
-use Rattle.mac_calls.specs.declared.reply.Results.TheVariants.{Nothing}
 use Rattle.mac_calls.specs.Outcomes.{done_outcome}
 use Rattle.mac_base.specs.declared.error.OsErr.TheVariants.{MemPurErr}
 use Rattle.mac_calls.specs.Tests.{IsHandle, NotLent, NotLocked, IsSize}
 use Rattle.mem_calls.proofs.KeptLoans.{kept}
-use Rattle.mem_calls.proofs.Stepping.{request_outcome, refused_outcome, exact-refused, exact-requested, step-exact, step-refused}
+use Rattle.mem_calls.proofs.Stepping.{refused_outcome, exact-refused, exact-requested, step-exact, step-refused, done_ends, mapped_done}
 use Rattle.mem_calls.proofs.manager.MemoryManager.reallocate_handle.Goals as goal
-
-pub returns-in_err-request-clause-exact : goal.returns-in_err-request-clause-exact
-returns-in_err-request-clause-exact g c = let end = c.from_residual-in_err-request in
-    exact-requested c.args.self.now c.self.inside.zone c.request.new.zone c.self.view_is c.request.ensures.sound (ReallocateHandle c.args.handle c.args.size) (passed-reallocate_handle c.self.inside.zone.shape c.self.inside.zone.heap c.args.handle c.args.size c.in_ok-test_handle_here.ensures c.in_ok-test_unlocked.ensures
-    c.in_ok-test_size.ensures)
-    (Replace c.args.handle c.args.size) (g.G.GrowZone.asks c.request.new.procedure) c.request.result (done_outcome end.result) refl (λ x t. refl) (rw c.number.ensures at c.request.ensures.run)
-    (refused_outcome done_outcome (λ code. refl) end.result c.in_err-request.field-0.0 end.ensures.1 ∙ ap (request_outcome (ReallocateHandle c.args.handle c.args.size)) (sym c.in_err-request.was))
-
-pub returns-in_err-request-clause-step : goal.returns-in_err-request-clause-step
-returns-in_err-request-clause-step g c =
-    step-exact c.args.self.now c.self.inside.zone c.request.new.zone c.self.view_is c.request.ensures.sound (ReallocateHandle c.args.handle c.args.size) (passed-reallocate_handle c.self.inside.zone.shape c.self.inside.zone.heap c.args.handle c.args.size c.in_ok-test_handle_here.ensures c.in_ok-test_unlocked.ensures
-    c.in_ok-test_size.ensures)
-    (g.G.GrowZone.asks c.request.new.procedure) (done_outcome c.from_residual-in_err-request.result) (returns-in_err-request-clause-exact g c)
-
-pub returns-in_err-request-clause-loans : goal.returns-in_err-request-clause-loans
-returns-in_err-request-clause-loans g c = kept c.request.ensures.loans c.self.view_is
 
 pub returns-clause-exact : goal.returns-clause-exact
 returns-clause-exact g c =
     exact-requested c.args.self.now c.self.inside.zone c.request.new.zone c.self.view_is c.request.ensures.sound (ReallocateHandle c.args.handle c.args.size) (passed-reallocate_handle c.self.inside.zone.shape c.self.inside.zone.heap c.args.handle c.args.size c.in_ok-test_handle_here.ensures c.in_ok-test_unlocked.ensures
     c.in_ok-test_size.ensures)
-    (Replace c.args.handle c.args.size) (g.G.GrowZone.asks c.request.new.procedure) c.request.result (Ok Nothing) refl (λ x t. refl) (rw c.number.ensures at c.request.ensures.run)
-    (ap (request_outcome (ReallocateHandle c.args.handle c.args.size)) (sym c.in_ok-request.was))
+    (Replace c.args.handle c.args.size) (g.G.GrowZone.asks c.request.new.procedure) c.request.result (done_outcome c.map.result) refl (λ x t. refl) (rw c.number.ensures at c.request.ensures.run)
+    (done_ends (ReallocateHandle c.args.handle c.args.size) (λ x. refl) c.map.result c.request.result (mapped_done c.request.result c.map.result _ c.map.ensures.cases))
 
 pub returns-clause-step : goal.returns-clause-step
 returns-clause-step g c =
     step-exact c.args.self.now c.self.inside.zone c.request.new.zone c.self.view_is c.request.ensures.sound (ReallocateHandle c.args.handle c.args.size) (passed-reallocate_handle c.self.inside.zone.shape c.self.inside.zone.heap c.args.handle c.args.size c.in_ok-test_handle_here.ensures c.in_ok-test_unlocked.ensures
     c.in_ok-test_size.ensures)
-    (g.G.GrowZone.asks c.request.new.procedure) (Ok Nothing) (returns-clause-exact g c)
+    (g.G.GrowZone.asks c.request.new.procedure) (done_outcome c.map.result) (returns-clause-exact g c)
 
 pub returns-clause-loans : goal.returns-clause-loans
 returns-clause-loans g c = kept c.request.ensures.loans c.self.view_is

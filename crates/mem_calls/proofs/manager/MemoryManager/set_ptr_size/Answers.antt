@@ -1,38 +1,23 @@
-use Rattle.std.proofs.Common.{[], ◌∷◌, refl, ap, sym, ◌∙◌, Ok}
+use Rattle.std.proofs.Common.{[], ◌∷◌, refl}
 use Rattle.mem_calls.proofs.Passing.{passed-set_ptr_size, refused-first, refused-later}
 use Rattle.mac_calls.specs.declared.memory_call.MemoryCall.TheVariants.{SetPtrSize}
 use Rattle.mac_base.specs.declared.request.Request.TheVariants.{Resize}
-use Rattle.mac_calls.specs.declared.reply.Results.TheVariants.{Nothing}
 use Rattle.mac_calls.specs.Outcomes.{done_outcome}
 use Rattle.mac_calls.specs.Tests.{IsPointer, NotLent, IsSize}
 use Rattle.mem_calls.proofs.KeptLoans.{kept}
-use Rattle.mem_calls.proofs.Stepping.{request_outcome, refused_outcome, exact-refused, exact-requested, step-exact, step-refused}
+use Rattle.mem_calls.proofs.Stepping.{refused_outcome, exact-refused, exact-requested, step-exact, step-refused, done_ends, mapped_done}
 use Rattle.mem_calls.proofs.manager.MemoryManager.set_ptr_size.Goals as goal
-
-pub returns-in_err-request-clause-exact : goal.returns-in_err-request-clause-exact
-returns-in_err-request-clause-exact g c = let end = c.from_residual-in_err-request in
-    exact-requested c.args.self.now c.self.inside.zone c.request.new.zone c.self.view_is c.request.ensures.sound (SetPtrSize c.args.pointer c.args.size) (passed-set_ptr_size c.self.inside.zone.shape c.self.inside.zone.heap c.args.pointer c.args.size c.in_ok-test_pointer.ensures (rw c.number-block.ensures at c.in_ok-test_new_size.ensures))
-    (Resize c.args.pointer c.args.size) (g.G.GrowZone.asks c.request.new.procedure) c.request.result (done_outcome end.result) refl (λ x t. refl) (rw c.number-block.ensures at c.request.ensures.run)
-    (refused_outcome done_outcome (λ code. refl) end.result c.in_err-request.field-0.0 end.ensures.1 ∙ ap (request_outcome (SetPtrSize c.args.pointer c.args.size)) (sym c.in_err-request.was))
-
-pub returns-in_err-request-clause-step : goal.returns-in_err-request-clause-step
-returns-in_err-request-clause-step g c =
-    step-exact c.args.self.now c.self.inside.zone c.request.new.zone c.self.view_is c.request.ensures.sound (SetPtrSize c.args.pointer c.args.size) (passed-set_ptr_size c.self.inside.zone.shape c.self.inside.zone.heap c.args.pointer c.args.size c.in_ok-test_pointer.ensures (rw c.number-block.ensures at c.in_ok-test_new_size.ensures))
-    (g.G.GrowZone.asks c.request.new.procedure) (done_outcome c.from_residual-in_err-request.result) (returns-in_err-request-clause-exact g c)
-
-pub returns-in_err-request-clause-loans : goal.returns-in_err-request-clause-loans
-returns-in_err-request-clause-loans g c = kept c.request.ensures.loans c.self.view_is
 
 pub returns-clause-exact : goal.returns-clause-exact
 returns-clause-exact g c =
     exact-requested c.args.self.now c.self.inside.zone c.request.new.zone c.self.view_is c.request.ensures.sound (SetPtrSize c.args.pointer c.args.size) (passed-set_ptr_size c.self.inside.zone.shape c.self.inside.zone.heap c.args.pointer c.args.size c.in_ok-test_pointer.ensures (rw c.number-block.ensures at c.in_ok-test_new_size.ensures))
-    (Resize c.args.pointer c.args.size) (g.G.GrowZone.asks c.request.new.procedure) c.request.result (Ok Nothing) refl (λ x t. refl) (rw c.number-block.ensures at c.request.ensures.run)
-    (ap (request_outcome (SetPtrSize c.args.pointer c.args.size)) (sym c.in_ok-request.was))
+    (Resize c.args.pointer c.args.size) (g.G.GrowZone.asks c.request.new.procedure) c.request.result (done_outcome c.map.result) refl (λ x t. refl) (rw c.number-block.ensures at c.request.ensures.run)
+    (done_ends (SetPtrSize c.args.pointer c.args.size) (λ x. refl) c.map.result c.request.result (mapped_done c.request.result c.map.result _ c.map.ensures.cases))
 
 pub returns-clause-step : goal.returns-clause-step
 returns-clause-step g c =
     step-exact c.args.self.now c.self.inside.zone c.request.new.zone c.self.view_is c.request.ensures.sound (SetPtrSize c.args.pointer c.args.size) (passed-set_ptr_size c.self.inside.zone.shape c.self.inside.zone.heap c.args.pointer c.args.size c.in_ok-test_pointer.ensures (rw c.number-block.ensures at c.in_ok-test_new_size.ensures))
-    (g.G.GrowZone.asks c.request.new.procedure) (Ok Nothing) (returns-clause-exact g c)
+    (g.G.GrowZone.asks c.request.new.procedure) (done_outcome c.map.result) (returns-clause-exact g c)
 
 pub returns-clause-loans : goal.returns-clause-loans
 returns-clause-loans g c = kept c.request.ensures.loans c.self.view_is

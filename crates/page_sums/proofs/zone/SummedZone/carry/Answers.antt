@@ -1,12 +1,12 @@
 use Rattle.std.proofs.Common.{◌≡◌, ◌∷◌, ◌++◌, IsTrue, sym, subst, ◌∙◌, arith}
 use Rattle.mac_base.specs.ZoneState.{ZoneState}
-use Rattle.zone_laws.proofs.GapAppend.{total_size-append}
 use Rattle.linked_zone.specs.Changes.{carried_up}
 use Rattle.linked_zone.specs.Places.{ParcelAt}
 use Rattle.fixed_index.specs.Runs.{none_fixed}
 use Rattle.page_sums.proofs.Kept.{forgets-read, pages-kept, part-ends}
 use Rattle.page_sums.proofs.Parts.{pages-carry}
 use Rattle.page_sums.proofs.Measured.{lengths-of}
+use Rattle.zone_laws.proofs.Maps.{total_size-append}
 use Rattle.page_sums.proofs.zone.SummedZone.carry.Goals as goal
 
 pub page-first-requires-clause-high : goal.page-first-requires-clause-high

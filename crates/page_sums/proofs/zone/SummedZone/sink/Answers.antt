@@ -1,7 +1,6 @@
 use Rattle.std.proofs.Common.{◌≡◌, ◌+◌, [], ◌∷◌, ◌++◌, IsTrue, ap, sym, subst, ◌∙◌, arith}
 use Rattle.mac_base.specs.declared.block.Entry.{Entry}
 use Rattle.mac_base.specs.ZoneState.{ZoneState}
-use Rattle.zone_laws.proofs.GapAppend.{total_size-append}
 use Rattle.linked_zone.specs.Changes.{sunk}
 use Rattle.linked_zone.specs.Places.{EntryAt, ParcelUpTo}
 use Rattle.fixed_index.specs.Runs.{none_fixed}
@@ -9,6 +8,7 @@ use Rattle.page_sums.specs.Pages.{page}
 use Rattle.page_sums.proofs.Kept.{forgets-read, pages-kept, part-ends}
 use Rattle.page_sums.proofs.Parts.{last_entry, pages-sink}
 use Rattle.page_sums.proofs.Measured.{lengths-of}
+use Rattle.zone_laws.proofs.Maps.{total_size-append}
 use Rattle.page_sums.proofs.zone.SummedZone.sink.Goals as goal
 
 pub page-first-requires-clause-high : goal.page-first-requires-clause-high

@@ -1,8 +1,12 @@
-use Rattle.std.proofs.Common.{◌≡◌, sym, ap, ◌∙◌, subst, map, arith, Some, ℤ, w16, to_z, of_z}
+use Rattle.std.proofs.Common.{◌≡◌, ◌<◌, [], length, sym, ap, ◌∙◌, subst, map, arith, Option, None, Some, ℤ, w16, to_z, of_z}
+use Rattle.std.specs.Option.{option_map_or}
+use Rattle.std.specs.Prelude.{IfSome}
+use Rattle.fork_bytes.specs.Fork.{max_rows}
 use Rattle.std.proofs.lemmas.Int.{to_z-of_z}
 use Rattle.fork_reader.specs.declared.place.Place.{Place}
+use Rattle.res_table.specs.declared.chain.ResourceTable.{ResourceTable}
 use Rattle.res_table.specs.declared.row.Row.{Row}
-use Rattle.res_table.specs.OpenFiles.{OpenFiles, rows_changed}
+use Rattle.res_table.specs.OpenFiles.{OpenFiles, rows_changed, table_of}
 use Rattle.res_table.specs.Rows.{added}
 use Rattle.res_files.proofs.Mapped.{added-mapped, rows_changed-mapped}
 use Rattle.res_files.proofs.Stands.{stand_added}
@@ -11,8 +15,18 @@ use Rattle.res_calls.specs.Updates.{new_row}
 use Rattle.res_files.proofs.On.{bytes_in, open_there, room, changed, ok_then, either_way}
 use Rattle.res_files.proofs.files.ResourceFiles.add.Goals as goal
 
-pub add-requires : goal.add-requires
-add-requires g c = open_there g.S.ForkStore.fork c.self.inside.chain c.self.inside.loads c.self.inside.stores.items c.args.self.now c.self.view_is c.args.number c.requires.open
+-- the file of a number has room where its rows are few
+in_table : (found : Option (ResourceTable Place)) → length (option_map_or (λ (table : ResourceTable Place). table.rows) found []) < max_rows → IfSome found (λ table. length table.rows < max_rows)
+in_table None few = tt
+in_table (Some table) few = few
+
+pub add-requires-clause-room : goal.add-requires-clause-room
+add-requires-clause-room g c =
+    in_table (table_of c.args.number c.self.inside.chain)
+    (room g.S.ForkStore.fork c.self.inside.chain c.self.inside.loads c.self.inside.stores.items c.args.self.now c.self.view_is c.args.number (new_row c.args.handle c.args.kind c.args.id c.args.name) c.requires.fits)
+
+pub add-requires-clause-open : goal.add-requires-clause-open
+add-requires-clause-open g c = open_there g.S.ForkStore.fork c.self.inside.chain c.self.inside.loads c.self.inside.stores.items c.args.self.now c.self.view_is c.args.number c.requires.open
 
 pub invariant_of-self : goal.invariant_of-self
 invariant_of-self g c =

@@ -3,6 +3,7 @@ use Rattle.fork_reader.specs.declared.place.Place.{Place}
 use Rattle.res_table.specs.OpenFiles.{OpenFiles}
 use Rattle.res_files.specs.Standing.{StandOn, files_on}
 use Rattle.res_files.proofs.Opened.{within, stand_kept, stand_more, closed_there, files_kept, seen_more, seen_refused, found_as_read, opens_store, on_err}
+use Rattle.res_files.proofs.Crash.{others_stay}
 use Rattle.res_files.proofs.Using.{none_failed}
 use Rattle.std.proofs.lemmas.List.{length-set}
 use Rattle.res_files.specs.FilesOn.{FilesOn}
@@ -72,3 +73,15 @@ returns-in_err-open-clause-opens g c = opens_store g.S.ForkStore c.self.inside.c
 
 pub returns-clause-opens : goal.returns-clause-opens
 returns-clause-opens g c = opens_store g.S.ForkStore c.self.inside.chain c.self.inside.loads c.self.inside.stores.items c.args.self.now c.self.view_is c.args.number c.requires.there.0 c.requires.there.1 c.index_mut-store.result.now c.read_table.new.store c.index_mut-store.ensures.value c.read_table.result c.read_table.ensures.reads _ (found_as_read g.S.ForkStore c.self.inside.chain c.self.inside.loads c.self.inside.stores.items c.args.self.now c.self.view_is c.args.number c.requires.there.0 c.requires.there.1 c.index_mut-store.result.now c.read_table.new.store c.index_mut-store.ensures.value c.read_table.result c.read_table.ensures.reads (λ h. (c.in-Ok.ensures.reads h).ready))
+
+pub returns-in_err-code_of-in-Err-clause-others : goal.returns-in_err-code_of-in-Err-clause-others
+returns-in_err-code_of-in-Err-clause-others g c = others_stay g.S.ForkStore.fork g.S.ForkStore.is_honest g.S.ForkStore.history c.self.inside.chain c.self.inside.loads c.self.inside.stores.items c.args.self.now c.self.view_is c.args.number (within g.S.ForkStore c.self.inside.chain c.self.inside.loads c.self.inside.stores.items c.args.self.now c.self.view_is c.args.number c.requires.there.0 c.requires.there.1 c.index_mut-store.result.now c.read_table.new.store c.index_mut-store.ensures.value c.read_table.result c.read_table.ensures.reads) c.index_mut-store.result.now c.read_table.new.store c.index_mut-store.ensures.value c.requires.there.0
+
+pub returns-in-Err-clause-others : goal.returns-in-Err-clause-others
+returns-in-Err-clause-others g c = others_stay g.S.ForkStore.fork g.S.ForkStore.is_honest g.S.ForkStore.history c.self.inside.chain c.self.inside.loads c.self.inside.stores.items c.args.self.now c.self.view_is c.args.number (within g.S.ForkStore c.self.inside.chain c.self.inside.loads c.self.inside.stores.items c.args.self.now c.self.view_is c.args.number c.requires.there.0 c.requires.there.1 c.index_mut-store.result.now c.read_table.new.store c.index_mut-store.ensures.value c.read_table.result c.read_table.ensures.reads) c.index_mut-store.result.now c.read_table.new.store c.index_mut-store.ensures.value c.requires.there.0
+
+pub returns-in_err-open-clause-others : goal.returns-in_err-open-clause-others
+returns-in_err-open-clause-others g c = others_stay g.S.ForkStore.fork g.S.ForkStore.is_honest g.S.ForkStore.history c.self.inside.chain c.self.inside.loads c.self.inside.stores.items c.args.self.now c.self.view_is c.args.number (within g.S.ForkStore c.self.inside.chain c.self.inside.loads c.self.inside.stores.items c.args.self.now c.self.view_is c.args.number c.requires.there.0 c.requires.there.1 c.index_mut-store.result.now c.read_table.new.store c.index_mut-store.ensures.value c.read_table.result c.read_table.ensures.reads) c.index_mut-store.result.now c.read_table.new.store c.index_mut-store.ensures.value c.requires.there.0
+
+pub returns-clause-others : goal.returns-clause-others
+returns-clause-others g c = others_stay g.S.ForkStore.fork g.S.ForkStore.is_honest g.S.ForkStore.history c.self.inside.chain c.self.inside.loads c.self.inside.stores.items c.args.self.now c.self.view_is c.args.number (within g.S.ForkStore c.self.inside.chain c.self.inside.loads c.self.inside.stores.items c.args.self.now c.self.view_is c.args.number c.requires.there.0 c.requires.there.1 c.index_mut-store.result.now c.read_table.new.store c.index_mut-store.ensures.value c.read_table.result c.read_table.ensures.reads) c.index_mut-store.result.now c.read_table.new.store c.index_mut-store.ensures.value c.requires.there.0

@@ -9,7 +9,7 @@ use Rattle.res_update.specs.Selected.{updated}
 use Rattle.res_update.specs.declared.fault.UpdateFault.{UpdateFault}
 use Rattle.res_update.specs.declared.fault.UpdateFault.TheVariants.{Device, HostFull, TooBig}
 use Rattle.res_files.specs.Updating.{rows_placed}
-use Rattle.res_files.proofs.Crash.{no_table}
+use Rattle.res_files.proofs.Crash.{no_table, others_stay}
 use Rattle.res_files.proofs.Rewritten.{low, within, small, unlent, held, fits_ok, fits_err, rows_seen, closed_seen, stand_written, stand_left, stand_unwritten, updates_ok, updates_err, of_none, fault_as, rose}
 use Rattle.res_files.proofs.Using.{files_answer, none_failed, this_failed}
 use Rattle.std.proofs.lemmas.List.{length-set}
@@ -132,3 +132,12 @@ returns-then-later-clause-updates g c = updates_err g.S.ForkStore c.self.inside.
 
 pub returns-else-later-clause-updates : goal.returns-else-later-clause-updates
 returns-else-later-clause-updates g c = updates_err g.S.ForkStore c.self.inside.chain c.self.inside.loads c.self.inside.stores.items c.args.self.now c.self.view_is c.self.invariant c.args.number c.in-Some.table.now c.in-Some.ensures.some c.index_mut-store.result.now c.index_mut-store.ensures.value c.write_table.new.store (g.C.Contents.table c.args.contents.now) c.args.selection c.in-Err.fault c.in-Err.ensures.writes
+
+pub returns-in-Ok-clause-others : goal.returns-in-Ok-clause-others
+returns-in-Ok-clause-others g c = others_stay g.S.ForkStore.fork g.S.ForkStore.is_honest g.S.ForkStore.history c.self.inside.chain c.self.inside.loads c.self.inside.stores.items c.args.self.now c.self.view_is c.args.number (within g.S.ForkStore c.self.inside.chain c.self.inside.loads c.self.inside.stores.items c.args.self.now c.self.view_is c.self.invariant c.args.number c.in-Some.table.now c.in-Some.ensures.some) c.index_mut-store.result.now c.write_table.new.store c.index_mut-store.ensures.value (low g.S.ForkStore c.self.inside.chain c.self.inside.loads c.self.inside.stores.items c.args.self.now c.self.view_is c.self.invariant c.args.number c.in-Some.table.now c.in-Some.ensures.some)
+
+pub returns-then-later-clause-others : goal.returns-then-later-clause-others
+returns-then-later-clause-others g c = others_stay g.S.ForkStore.fork g.S.ForkStore.is_honest g.S.ForkStore.history c.self.inside.chain c.self.inside.loads c.self.inside.stores.items c.args.self.now c.self.view_is c.args.number (within g.S.ForkStore c.self.inside.chain c.self.inside.loads c.self.inside.stores.items c.args.self.now c.self.view_is c.self.invariant c.args.number c.in-Some.table.now c.in-Some.ensures.some) c.index_mut-store.result.now c.write_table.new.store c.index_mut-store.ensures.value (low g.S.ForkStore c.self.inside.chain c.self.inside.loads c.self.inside.stores.items c.args.self.now c.self.view_is c.self.invariant c.args.number c.in-Some.table.now c.in-Some.ensures.some)
+
+pub returns-else-later-clause-others : goal.returns-else-later-clause-others
+returns-else-later-clause-others g c = others_stay g.S.ForkStore.fork g.S.ForkStore.is_honest g.S.ForkStore.history c.self.inside.chain c.self.inside.loads c.self.inside.stores.items c.args.self.now c.self.view_is c.args.number (within g.S.ForkStore c.self.inside.chain c.self.inside.loads c.self.inside.stores.items c.args.self.now c.self.view_is c.self.invariant c.args.number c.in-Some.table.now c.in-Some.ensures.some) c.index_mut-store.result.now c.write_table.new.store c.index_mut-store.ensures.value (low g.S.ForkStore c.self.inside.chain c.self.inside.loads c.self.inside.stores.items c.args.self.now c.self.view_is c.self.invariant c.args.number c.in-Some.table.now c.in-Some.ensures.some)

@@ -1,7 +1,7 @@
 use Rattle.std.proofs.Common.{w16, ap, ◌∙◌, rules}
 use Rattle.std.proofs.lemmas.Int.{to_z-of_z}
 use mir.Val.{SFits}
-use Rattle.row_index.specs.Keyed.{key_of_resource}
+use Rattle.res_table.specs.Keyed.{key_of_resource}
 use Rattle.res_table.proofs.Resources.{told_by_key}
 use Rattle.res_table.proofs.row.Row.has_key_of.Goals as goal
 

@@ -3,7 +3,7 @@ use Rattle.std.specs.Prelude.{◌/◌, ◌%◌}
 use Rattle.std.specs.Int.{w32, cast_signed, to_be_bytes}
 use Rattle.std.proofs.lemmas.Int.{to_z-of_z}
 use mir.Val.{SFits}
-use Rattle.row_index.specs.Keyed.{key_of_resource}
+use Rattle.res_table.specs.Keyed.{key_of_resource}
 use Rattle.res_table.proofs.row.Row.resource_key.Goals as goal
 
 pub returns-clause-told : goal.returns-clause-told

@@ -3,16 +3,16 @@ use Rattle.std.specs.Prelude.{insert, vec_len, vec_capacity, is_ok, All}
 use Rattle.std.proofs.lemmas.List.Edits.{length-insert}
 use Rattle.std.proofs.lemmas.List.Sums.{sum_by-insert}
 use Rattle.res_table.specs.declared.row.Row.{Row}
-use Rattle.row_index.specs.declared.keyed.Pair.{Pair}
-use Rattle.res_table.specs.Indexed.{handle_key, resource_key, pairs_of, IsTold, kinds_of}
-use Rattle.row_index.specs.Keyed.{pushed_back, with_key, AreInOrder}
+use Rattle.res_table.specs.declared.keyed.Pair.{Pair}
+use Rattle.res_table.specs.Indexed.{handle_key, resource_key, pairs_of, IsKept, kinds_of}
+use Rattle.res_table.specs.Keyed.{pushed_back, with_key, AreInOrder}
 use Rattle.res_table.proofs.RowPairs.{places_below, order_pushed, pushed_is, few_pairs}
-use Rattle.res_table.proofs.Resources.{told_inserted}
+use Rattle.res_table.proofs.Resources.{names_few, told_inserted}
 use Rattle.res_table.specs.Behind.{end_of_type}
 use Rattle.res_table.specs.Rows.{name_size, names_size, changed_handle}
 use Rattle.res_table.proofs.Adding.{insert-at-end, end-within}
 use Rattle.fork_bytes.specs.declared.layout.TypeCount.{TypeCount}
-use Rattle.row_index.specs.Kinds.{expanded, with_kind}
+use Rattle.res_table.specs.Kinds.{expanded, with_kind}
 use Rattle.res_table.proofs.RowKinds.{added_are, as_many}
 use Rattle.res_table.proofs.ChangedHandles.{handles_inserted, as_many_handles}
 use Rattle.res_table.proofs.rows.Rows.add.Goals as goal
@@ -98,8 +98,8 @@ invariant_of-self-2 g c =
           ∙ ap (λ (k : List ℕ). with_kind k (kinds_of rows)) c.kind-kind.ensures ∙ added_are r rows
           ∙ ap kinds_of (sym (new ∙ ap (λ (i : ℕ). insert rows i r) (c.end_of_type-at.ensures ∙ ap (λ (k : List ℕ). end_of_type k c.args.self.now) c.kind-kind.ensures ∙ ap (end_of_type r.resource.kind) (sym c.self.view_is)) ∙ insert-at-end r rows)),
       c.add-3.ensures.pairs ∙ keyed ∙ ap (pairs_of resource_key) (sym new),
-      c.in_ok-names.ensures ∙ ap (λ (n : ℕ). n + name_size r) c.self.invariant.4 ∙ sym (sum_by-insert name_size rows at r) ∙ ap names_size (sym new),
-      subst (λ (rs : List (Row _)). All IsTold rs) (sym new) (told_inserted at r rows c.resource_key-key.ensures.told c.self.invariant.5),
+      ap (λ (n : ℕ). c.self.inside.names + n) c.name_size.ensures.size ∙ ap (λ (n : ℕ). n + name_size r) c.self.invariant.4 ∙ sym (sum_by-insert name_size rows at r) ∙ ap names_size (sym new),
+      subst (λ (rs : List (Row _)). All IsKept rs) (sym new) (told_inserted at r rows (c.resource_key-key.ensures.told, c.name_size.ensures.short) c.self.invariant.5),
       handles_inserted at r rows c.self.inside.changed.items c.reserve-4.new.self.items _ c.changed_handle-changed.result c.reserve-4.ensures.items c.self.invariant.6 c.changed_handle-changed.ensures
           (rw done at c.insert-2.ensures.items) ∙ ap (map changed_handle) (sym new),
     )
@@ -121,7 +121,7 @@ invariant_of-self-in_err-insert g c =
       ap (λ (runs : List TypeCount). expanded runs) c.reserve-2.ensures.same ∙ c.self.invariant.2 ∙ ap kinds_of same,
       c.reserve-3.ensures.same ∙ c.self.invariant.3 ∙ ap (pairs_of resource_key) same,
       c.self.invariant.4 ∙ ap names_size same,
-      subst (λ (rs : List (Row _)). All IsTold rs) same c.self.invariant.5,
+      subst (λ (rs : List (Row _)). All IsKept rs) same c.self.invariant.5,
       c.reserve-4.ensures.items ∙ c.self.invariant.6 ∙ ap (map changed_handle) same,
     )
 
@@ -132,3 +132,10 @@ insert-requires-2 g c =
     let inside = within c.kind-kind.result at rows c.args.self.now c.self.view_is c.end_of_type-at.ensures in
     let many = as_many_handles rows c.self.inside.changed.items c.self.invariant.6 in
     let same = ap (λ (hs : List (Option ℕ)). length hs) c.reserve-4.ensures.items in let ok = c.reserve-4.new.self.ok.0 in omega (arith, inside, many, same, ok)
+
+-- few rows have short names
+pub overflow_add-names : goal.overflow_add-names
+overflow_add-names g c =
+    let rows = c.self.inside.rows.items in
+    let is = c.self.invariant.4 in let all = names_few rows c.self.invariant.5 in let one = c.name_size.ensures.short in let size = c.name_size.ensures.size in
+    let long = ap (λ (rs : List (Row _)). length rs) c.self.view_is in let room = c.requires in omega (arith, is, all, one, size, long, room)

@@ -1,6 +1,6 @@
 use Rattle.std.proofs.Common.{ap, ◌∙◌}
 use Rattle.res_table.specs.Rows.{count_of_type}
-use Rattle.row_index.specs.Kinds.{count_of}
+use Rattle.res_table.specs.Kinds.{count_of}
 use Rattle.res_table.proofs.RowKinds.{count_is}
 use Rattle.res_table.proofs.rows.Rows.count_of_type.Goals as goal
 

@@ -1,13 +1,13 @@
 use Rattle.std.proofs.Common.{List, length, ap, sym, ◌∙◌, arith, None}
 use Rattle.fork_bytes.specs.declared.layout.TypeCount.{TypeCount}
 use Rattle.res_table.specs.declared.row.Row.{Row}
-use Rattle.row_index.specs.Kinds.{expanded, changes}
+use Rattle.res_table.specs.Kinds.{expanded, changes}
 use Rattle.res_table.specs.Indexed.{kinds_of}
 use Rattle.res_table.specs.Saved.{row_types}
 use Rattle.res_table.proofs.RowKinds.{as_many}
 use Rattle.res_table.proofs.TypeRuns.{runs_are}
 use Rattle.res_table.proofs.Types.{types_are}
-use Rattle.row_index.proofs.RunTypes.{few_changes}
+use Rattle.res_table.proofs.RunTypes.{few_changes}
 use Rattle.res_table.proofs.rows.Rows.count_types.Goals as goal
 
 pub returns-in-None-clause-types : goal.returns-in-None-clause-types

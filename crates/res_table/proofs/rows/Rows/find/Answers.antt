@@ -1,7 +1,7 @@
 use Rattle.std.proofs.Common.{w16, ◌≡◌, ◌==◌, ℕ, ℤ, position, true, false, sym, ap, ◌∙◌, arith}
 use Rattle.std.proofs.lemmas.Int.{to_z-of_z}
 use Rattle.res_table.specs.Rows.{is_resource}
-use Rattle.row_index.specs.Keyed.{key_of_resource, first_place}
+use Rattle.res_table.specs.Keyed.{key_of_resource, first_place}
 use Rattle.res_table.specs.Indexed.{resource_key, pairs_of}
 use Rattle.res_table.proofs.RowPairs.{order_kept}
 use Rattle.res_table.proofs.Resources.{none_found, one_found, found_within, key_found}

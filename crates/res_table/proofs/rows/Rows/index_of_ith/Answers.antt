@@ -1,6 +1,6 @@
 use Rattle.std.proofs.Common.{ℕ, List, ap, ◌∙◌}
 use Rattle.res_table.specs.Rows.{ith, index_of_ith}
-use Rattle.row_index.specs.Kinds.{places_of}
+use Rattle.res_table.specs.Kinds.{places_of}
 use Rattle.res_table.proofs.RowKinds.{places_are}
 use Rattle.res_table.proofs.rows.Rows.index_of_ith.Goals as goal
 

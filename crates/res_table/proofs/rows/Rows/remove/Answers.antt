@@ -1,8 +1,8 @@
 use Rattle.std.proofs.Common.{ℕ, Option, Some, remove, subst, ◌≡◌, ◌+◌, ◌-◌, ◌<◌, List, length, sym, ap, ◌∙◌, arith, map, slice_get}
 use Rattle.std.specs.Prelude.{All}
 use Rattle.res_table.specs.declared.row.Row.{Row}
-use Rattle.res_table.specs.Indexed.{handle_key, resource_key, pairs_of, IsTold, kinds_of}
-use Rattle.row_index.specs.Keyed.{pulled_up, without_key}
+use Rattle.res_table.specs.Indexed.{handle_key, resource_key, pairs_of, IsKept, kinds_of}
+use Rattle.res_table.specs.Keyed.{pulled_up, without_key}
 use Rattle.res_table.proofs.RowPairs.{order_kept, pairs_removed, row_is}
 use Rattle.res_table.specs.Rows.{name_size, names_size, changed_handle}
 use Rattle.res_table.proofs.RowKinds.{removed_are, as_many}
@@ -30,8 +30,8 @@ invariant_of-self g c =
       c.remove-2.ensures ∙ ap (λ (ks : List (List ℕ)). remove ks i) c.self.invariant.2 ∙ removed_are i rows ∙ ap kinds_of (sym c.remove-row.ensures.items),
       c.pull_up-2.ensures.pairs ∙ ap (map (pulled_up i)) (c.remove-3.ensures.pairs ∙ ap (λ (k : ℕ). without_key (Some k) i c.self.inside.resources.pairs) c.resource_key.ensures.key ∙ ap (without_key (resource_key r) i) c.self.invariant.3)
           ∙ pairs_removed resource_key i r rows within c.remove-row.ensures.value ∙ ap (pairs_of resource_key) (sym c.remove-row.ensures.items),
-      ap (λ (n : ℕ). c.self.inside.names - n) c.name_size.ensures ∙ left_over c.self.inside.names (names_size (remove rows i)) (name_size r) (c.self.invariant.4 ∙ sym (names_less i r rows within c.remove-row.ensures.value)) ∙ ap names_size (sym c.remove-row.ensures.items),
-      subst (λ (rs : List (Row _)). All IsTold rs) (sym c.remove-row.ensures.items) (told_removed i rows c.self.invariant.5),
+      ap (λ (n : ℕ). c.self.inside.names - n) c.name_size.ensures.size ∙ left_over c.self.inside.names (names_size (remove rows i)) (name_size r) (c.self.invariant.4 ∙ sym (names_less i r rows within c.remove-row.ensures.value)) ∙ ap names_size (sym c.remove-row.ensures.items),
+      subst (λ (rs : List (Row _)). All IsKept rs) (sym c.remove-row.ensures.items) (told_removed i rows c.self.invariant.5),
       c.remove-changed.ensures.items ∙ ap (λ (hs : List (Option ℕ)). remove hs i) c.self.invariant.6 ∙ handles_removed i rows ∙ ap (map changed_handle) (sym c.remove-row.ensures.items),
     )
 
@@ -41,7 +41,7 @@ overflow_sub-self g c =
     let rows = c.self.inside.rows.items in let r = c.remove-row.result in
     let long = ap (λ (rs : List (Row _)). length rs) c.self.view_is in
     let within : c.args.index < length rows = subst (λ (n : ℕ). c.args.index < n) (sym long) c.requires in
-    let less = names_less c.args.index r rows within c.remove-row.ensures.value in let all = c.self.invariant.4 in let one = c.name_size.ensures in
+    let less = names_less c.args.index r rows within c.remove-row.ensures.value in let all = c.self.invariant.4 in let one = c.name_size.ensures.size in
     omega arith
 
 pub remove-requires-2 : goal.remove-requires-2

@@ -1,6 +1,6 @@
 use Rattle.std.proofs.Common.{ℕ, ap, ◌∙◌, position}
 use Rattle.res_table.specs.Rows.{has_handle}
-use Rattle.row_index.specs.Keyed.{key_of_handle, first_place}
+use Rattle.res_table.specs.Keyed.{key_of_handle, first_place}
 use Rattle.res_table.specs.Indexed.{handle_key}
 use Rattle.res_table.proofs.RowPairs.{order_kept, by_handle}
 use Rattle.res_table.proofs.rows.Rows.row_of_handle.Goals as goal

@@ -1,15 +1,13 @@
 use Rattle.std.proofs.Common.{◌≡◌, ◌<◌, ℕ, Option, List, get_or, set, length, refl, subst, sym, ap, ◌∙◌, arith}
 use Rattle.std.proofs.lemmas.List.{length-set, get_or-set_same}
 use Rattle.res_table.specs.declared.row.Row.{Row}
-use Rattle.row_index.specs.declared.keyed.Pair.{Pair}
-use Rattle.res_table.specs.Rows.{changed_at, with_handle}
-use Rattle.row_index.specs.Keyed.{AreInOrder, with_key, without_key}
+use Rattle.res_table.specs.declared.keyed.Pair.{Pair}
+use Rattle.res_table.specs.Rows.{with_handle}
+use Rattle.res_table.specs.Keyed.{AreInOrder, with_key, without_key}
 use Rattle.res_table.specs.Indexed.{handle_key, pairs_of}
-use Rattle.res_table.proofs.RowPairs.{order_kept, replaced_is, replaced_few, resources_kept, changed_is}
-use Rattle.row_index.proofs.Pairs.{order_without}
-use Rattle.res_table.proofs.RowKinds.{kinds_kept}
-use Rattle.res_table.proofs.Resources.{told_kept}
-use Rattle.res_table.proofs.Types.{names_kept}
+use Rattle.res_table.proofs.RowPairs.{order_kept, replaced_is, replaced_few}
+use Rattle.res_table.proofs.Pairs.{order_without}
+use Rattle.res_table.proofs.KeptRows.{rest_kept, row_changed}
 use Rattle.res_table.proofs.ChangedHandles.{handles_set, index_within}
 use Rattle.res_table.proofs.rows.Rows.set_handle.Goals as goal
 
@@ -47,23 +45,19 @@ invariant_of-self g c =
     let new = with_handle c.args.handle c.index_mut.result.now in
     let is = pairs_are i c.index.result.now new c.index-2.result.now rows pairs c.remove.new.self.pairs c.handle_key-old.result c.handle_key-new.result within c.index.ensures c.index-2.ensures
     c.self.invariant.0 c.remove.ensures.pairs c.handle_key-old.ensures c.handle_key-new.ensures in
+    let rest = rest_kept c.args.index c.index_mut.result.now c.self.inside.rows.items c.args.self.now c.self.view_is c.requires c.index_mut.ensures.value new _ _ _ refl refl refl (λ told. told) c.self.invariant.2 c.self.invariant.3 c.self.invariant.4 c.self.invariant.5 in
     let room = c.remove.ensures.room in let last = c.add.ensures.room in let few = c.self.invariant.1 in let n = length-set rows i new in (
       c.add.ensures.pairs ∙ is,
       omega arith,
-      c.self.invariant.2 ∙ sym (kinds_kept i c.index_mut.result.now new rows c.index_mut.ensures.value refl),
-      resources_kept i c.index_mut.result.now new rows c.self.inside.resources.pairs c.index_mut.ensures.value refl refl c.self.invariant.3,
-      c.self.invariant.4 ∙ sym (names_kept i c.index_mut.result.now new rows within c.index_mut.ensures.value refl),
-      told_kept i c.index_mut.result.now new rows within c.index_mut.ensures.value (λ told. told) c.self.invariant.5,
+      rest.0,
+      rest.1,
+      rest.2,
+      rest.3,
       handles_set i new c.index-3.result.now rows c.self.inside.changed.items c.changed_handle.result within c.index-3.ensures c.self.invariant.6 c.changed_handle.ensures,
     )
 
 pub returns : goal.returns
-returns g c =
-    let rows = c.self.inside.rows.items in
-    let long = ap (λ (rs : List (Row _)). length rs) c.self.view_is in
-    let within : c.args.index < length rows = subst (λ (n : ℕ). c.args.index < n) (sym long) c.requires in
-    changed_is c.args.index (with_handle c.args.handle) c.index_mut.result.now rows within c.index_mut.ensures.value
-    ∙ ap (changed_at c.args.index (with_handle c.args.handle)) c.self.view_is
+returns g c = row_changed c.args.index c.index_mut.result.now c.self.inside.rows.items c.args.self.now c.self.view_is c.requires c.index_mut.ensures.value (with_handle c.args.handle)
 
 pub index_mut-requires : goal.index_mut-requires
 index_mut-requires g c = subst (λ (n : ℕ). c.args.index < n) (ap (λ (rows : List (Row _)). length rows) (sym c.self.view_is) ∙ sym c.self.inside.rows.ok.0) c.requires

@@ -1,7 +1,7 @@
 use Rattle.std.proofs.Common.{List, map, sym, ap, ◌∙◌}
 use Rattle.fork_bytes.specs.declared.layout.TypeCount.{TypeCount}
 use Rattle.res_table.specs.declared.row.Row.{Row}
-use Rattle.row_index.specs.Kinds.{expanded}
+use Rattle.res_table.specs.Kinds.{expanded}
 use Rattle.res_table.specs.Rows.{ith}
 use Rattle.res_table.specs.Saved.{kind_of, row_types}
 use Rattle.res_table.proofs.TypeRuns.{runs_are}

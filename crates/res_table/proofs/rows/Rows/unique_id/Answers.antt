@@ -1,6 +1,6 @@
 use Rattle.std.proofs.Common.{rules, ◌≡◌, ◌≤◌, ◌+◌, ◌-◌, List, pos, length, sym, ap, ◌∙◌, arith}
 use Rattle.res_table.specs.declared.row.Row.{Row}
-use Rattle.row_index.specs.declared.keyed.Pair.{Pair}
+use Rattle.res_table.specs.declared.keyed.Pair.{Pair}
 use Rattle.res_table.specs.Indexed.{resource_key}
 use Rattle.res_table.specs.Rows.{unique_id}
 use Rattle.res_table.proofs.RowPairs.{few_pairs, order_kept}

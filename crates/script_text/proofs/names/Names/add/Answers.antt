@@ -1,14 +1,15 @@
-use Rattle.std.proofs.Common.{◌≡◌, ◌∙◌, sym, ap, ℕ, List, map}
+use Rattle.std.proofs.Common.{◌≡◌, ◌∙◌, sym, ap, ℕ, List, arith, length, map}
+use Rattle.std.proofs.lemmas.List.{length-map}
 use Rattle.std.specs.Borrow.{Bor}
 use Rattle.script_text.specs.Names.{place_for, with_name}
 use Rattle.script_text.proofs.Named.{place_for-map, with_name-map}
-use Rattle.script_text.proofs.NameLaws.{stays_named, last_taken}
+use Rattle.script_text.proofs.NameLaws.{stays_named, last_taken, with_name-few}
 use Rattle.script_text.proofs.names.Names.add.Goals as goal
 
 pub returns-clause-place : goal.returns-clause-place
 returns-clause-place c =
     let spelled : Bor (List ℕ) → List ℕ = λ k. k.now in
-    c.in_ok-name.ensures.name
+    c.at-name.ensures
     ∙ c.in_ok-place.ensures.index
     ∙ sym (place_for-map spelled c.args.word.now c.self.inside.names.keys)
     ∙ ap (λ (n : List (List ℕ)). place_for n c.args.word.now) c.self.view_is
@@ -29,7 +30,12 @@ invariant_of-self-2 c =
     let names : map spelled c.insert_full.new.self.keys ≡ with_name (map spelled c.self.inside.names.keys) c.args.word.now =
     ap (λ (keys : List (Bor (List ℕ))). map spelled keys) c.in_ok-place.ensures.keys ∙ with_name-map spelled c.self.inside.names.keys c.args.word
     in
-    let place : c.in_ok-name.name ≡ place_for (map spelled c.self.inside.names.keys) c.args.word.now =
-    c.in_ok-name.ensures.name ∙ c.in_ok-place.ensures.index ∙ sym (place_for-map spelled c.args.word.now c.self.inside.names.keys)
+    let place : c.at-name.result ≡ place_for (map spelled c.self.inside.names.keys) c.args.word.now =
+    c.at-name.ensures ∙ c.in_ok-place.ensures.index ∙ sym (place_for-map spelled c.args.word.now c.self.inside.names.keys)
     in
-    rw names (last_taken (map spelled c.self.inside.names.keys) c.args.word c.in_ok-name.name place)
+    let few = with_name-few (map spelled c.self.inside.names.keys) c.args.word.now in
+    let many = ap (λ (ns : List (List ℕ)). length ns) names in
+    let was = ap (λ (ns : List (List ℕ)). length ns) c.self.view_is in
+    let now = length-map c.insert_full.new.self.keys spelled in
+    let room = c.requires in
+    (rw names (last_taken (map spelled c.self.inside.names.keys) c.args.word c.at-name.result place), omega (arith, few, many, was, now, room))

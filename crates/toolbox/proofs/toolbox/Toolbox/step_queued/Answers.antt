@@ -1,5 +1,5 @@
 use Rattle.std.proofs.Common.{ap, ◌∙◌}
-use Rattle.made_calls.specs.Answers.{Queue, taken}
+use Rattle.held_calls.specs.Answers.{Queue, taken}
 use Rattle.toolbox.proofs.Queued.{leaves_answers}
 use Rattle.toolbox.proofs.toolbox.Toolbox.step_queued.Goals as goal
 

@@ -1,24 +1,20 @@
-use Rattle.std.proofs.Common.{◌≡◌, ℕ, zero, suc, ◌+◌, ◌-◌, ◌<◌, ◌≤◌, Bool, true, IsTrue, [], ◌∷◌, length, replicate, refl, ap, sym, ◌∙◌, subst, arith, rules}
+use Rattle.std.proofs.Common.{◌≡◌, ℕ, zero, suc, ◌+◌, ◌-◌, ◌<◌, Bool, true, IsTrue, [], ◌∷◌, length, replicate, refl, ap, sym, ◌∙◌, subst, arith, rules}
 use Rattle.std.specs.Prelude.{◌&&◌}
 use Rattle.std.proofs.Math.ListN.{get_or}
 use Rattle.std.proofs.lemmas.List.{length-replicate}
 use Rattle.raw_region.specs.State.{Name}
 use Rattle.mac_base.specs.declared.block.HeadKind.{HeadKind}
-use Rattle.mac_base.specs.declared.block.HeadKind.TheVariants.{Bits24, Bits32}
-use Rattle.mac_base.specs.HeadKind.{head_size, smallest_block, zone_header}
+use Rattle.mac_base.specs.HeadKind.{head_size, zone_header}
 use Rattle.mac_base.specs.ZoneSizes.{ZoneSizes, ArePossible}
 use Rattle.block_bytes.specs.declared.header.Role.TheVariants as role
-use Rattle.block_bytes.specs.Layout.{RawBlock, Layout, free_raw_block, is_possible, size_of, total_of}
+use Rattle.block_bytes.specs.Layout.{RawBlock, free_raw_block, is_possible, size_of, total_of}
 use Rattle.block_bytes.specs.NewLayout.{new_layout}
 use Rattle.block_bytes.proofs.Walking.{is_possible-from}
+use Rattle.block_bytes.proofs.NewZone.{sizes-small}
 use Rattle.zone_records.specs.Reading.{AreSound, HasWords, records_in}
 use Rattle.zone_records.specs.Changes.{new_records}
 use Rattle.zone_records.specs.Records.{Free, block_record}
 use Rattle.zone_records.proofs.records.Records.create.Goals as goal
-
-few-bytes : (heads : HeadKind) → (head_size heads ≤ 900) × (smallest_block heads ≤ 900)
-few-bytes Bits24 = (omega arith, omega arith)
-few-bytes Bits32 = (omega arith, omega arith)
 
 -- a free block alone has no master block's words
 only-free : (heads : HeadKind) (b : RawBlock) → b.role ≡ role.Free → (k : ℕ) (d : RawBlock) → k < 1 → HasWords heads (get_or (b ∷ []) k d)
@@ -31,7 +27,7 @@ module _ (name : Name) (z : ZoneSizes) (possible : ArePossible z) where
   first = free_raw_block (replicate (z.size - zone_header - head_size z.heads) 0)
 
   size : size_of z.heads first ≡ z.size - zone_header
-  size = let few = few-bytes z.heads in let one = few.0 in let large = possible.large_enough in
+  size = let few = sizes-small z.heads in let one = few.0 in let large = possible.large_enough in
       let long = length-replicate {A = ℕ} (z.size - zone_header - head_size z.heads) 0 in omega arith
 
   limit : zone_header + total_of z.heads (first ∷ []) + length {A = ℕ} (replicate (z.limit - z.size) 0) ≡ z.limit
@@ -44,7 +40,7 @@ module _ (name : Name) (z : ZoneSizes) (possible : ArePossible z) where
   -- and sound
   new-sound : AreSound (new_layout name z)
   new-sound =
-      let s = size in let few = few-bytes z.heads in let two = few.1 in let large = possible.large_enough in let even = possible.even_size in
+      let s = size in let few = sizes-small z.heads in let two = few.1 in let large = possible.large_enough in let even = possible.even_size in
       let told : IsTrue (is_possible z.heads first) = is_possible-from z.heads first (record { even = omega arith; large = omega arith; few = omega arith; told = refl; lendable = refl }) in
       let all = limit in let end = possible.end_low_enough in
       record { blocks = ap (λ (t : Bool). (t && true) && true) told; words = only-free z.heads first refl; even = possible.even_base; high = omega arith }

@@ -1,7 +1,7 @@
 use Rattle.std.proofs.Common.{rules, ◌≡◌, ◌+◌, ◌-◌, ◌%◌, ◌≤◌, ◌<◌, ◌∙◌, sym, ap, arith, inl, inr}
 use Rattle.std.proofs.lemmas.Bool.Decides.{nat_tests}
+use Rattle.std.proofs.lemmas.Bool.{eqb-true}
 use Rattle.mac_base.specs.HeadKind.{head_size}
-use Rattle.zone_laws.proofs.Tables.{eqb-true-is}
 use Rattle.block_bytes.specs.declared.header.Header.{Header}
 use Rattle.block_bytes.specs.declared.header.Role.TheVariants.{Master}
 use Rattle.zone_records.proofs.Held.{held-now, heads-is}
@@ -49,7 +49,7 @@ returns-then-at-first c =
     let head = ap (λ n. c.in-Some.start + n) (c.head_size.ensures ∙ ap head_size (sym (heads-is l z held))) in
     let tests = passed c in
     let role = ap (λ (h : Header). h.role) (sym (c.entry_at.ensures c.in-Some.ensures.holds.block)) ∙ tests.0 in (
-      λ even. slot-made l z held c.args.at c.in-Some.start first c.in-Some.ensures.holds head role tests.1 tests.2 (eqb-true-is ((c.args.at - first) % 4) 0 even),
+      λ even. slot-made l z held c.args.at c.in-Some.start first c.in-Some.ensures.holds head role tests.1 tests.2 (eqb-true ((c.args.at - first) % 4) 0 even),
       λ s. let even = (slot-found l z held c.args.at s c.in-Some.start first c.in-Some.ensures.holds head).3 in grind (arith, nat_tests),
     )
 

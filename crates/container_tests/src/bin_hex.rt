@@ -1,0 +1,5 @@
+//! BinHex: texts that other programs wrote, cut and changed.
+
+mod faults;
+mod files;
+mod texts;

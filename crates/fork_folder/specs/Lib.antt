@@ -1,0 +1,4 @@
+pub mod Names
+pub mod Unpacked
+pub mod Counts
+pub mod Laws

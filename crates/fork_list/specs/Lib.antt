@@ -1,0 +1,5 @@
+pub mod Attributes
+pub mod Find
+pub mod Kind
+pub mod Listing
+pub mod Types

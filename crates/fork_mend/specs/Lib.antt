@@ -1,0 +1,2 @@
+pub mod Salvaged
+pub mod Lines

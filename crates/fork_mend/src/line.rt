@@ -1,0 +1,220 @@
+//! What can be read of a fork as text.
+
+ghost use Rattle.std.specs.Prelude.{◌≡◌, Some, IfOk, string_bytes};
+ghost use Rattle.fork_mend.specs.Lines.{place_text, gap_text, loss_text, id_text, name_line, found_line, lost_line, run_line, item_line, salvage_listing};
+
+use fork_list::{KindText, RowText};
+use fork_salvage::{FoundName, FoundRow, Gap, Item, Loss, LostRow, Salvage, Span};
+use mac_text::letters::Letters;
+use std::alloc::{AllocError, Global};
+use std::fmt;
+
+/// A place in a fork: a dollar sign, and six hexadecimal digits or more.
+#[derive(Clone, Copy)]
+struct Place(usize);
+
+impl fmt::Display for Place {
+    ghost output = { λ p. Some (place_text p.0) };
+
+    fn fmt<W: fmt::Write>(&self, f: &mut fmt::Formatter<W>) -> fmt::Result {
+        let place = self.0;
+        write!(f, "${place:06X}")
+    }
+}
+
+/// What is missing: how many bytes, where they should stand, and how many are left there.
+#[derive(Clone, Copy)]
+struct GapText(Gap);
+
+impl fmt::Display for GapText {
+    ghost output = { λ g. Some (gap_text g.0) };
+
+    fn fmt<W: fmt::Write>(&self, f: &mut fmt::Formatter<W>) -> fmt::Result {
+        let place = Place(self.0.place);
+        let wanted = self.0.wanted;
+        let left = self.0.left;
+        write!(f, "{wanted} bytes at {place}, where {left} are left")
+    }
+}
+
+/// Why a resource can't be read.
+#[derive(Clone, Copy)]
+struct LossText(Loss);
+
+impl fmt::Display for LossText {
+    ghost output = { λ l. Some (loss_text l.0) };
+
+    fn fmt<W: fmt::Write>(&self, f: &mut fmt::Formatter<W>) -> fmt::Result {
+        match self.0 {
+            Loss::Reference(gap) => {
+                let gap = GapText(gap);
+                write!(f, "its reference has {gap}")
+            }
+            Loss::Length(gap) => {
+                let gap = GapText(gap);
+                write!(f, "its length has {gap}")
+            }
+            Loss::Bytes(gap) => {
+                let gap = GapText(gap);
+                write!(f, "it has {gap}")
+            }
+        }
+    }
+}
+
+/// An id to the right of its column, or a question mark.
+#[derive(Clone, Copy)]
+struct IdText(Option<i16>);
+
+impl fmt::Display for IdText {
+    ghost output = { λ i. Some (id_text i.0) };
+
+    fn fmt<W: fmt::Write>(&self, f: &mut fmt::Formatter<W>) -> fmt::Result {
+        match self.0 {
+            Some(id) => write!(f, "{id:>6}"),
+            None => write!(f, "     ?"),
+        }
+    }
+}
+
+/// A line about a name that ends outside of the map; nothing about others.
+#[derive(Clone, Copy)]
+struct NameLine(FoundName);
+
+impl fmt::Display for NameLine {
+    ghost output = { λ n. Some (name_line n.0) };
+
+    fn fmt<W: fmt::Write>(&self, f: &mut fmt::Formatter<W>) -> fmt::Result {
+        match self.0 {
+            FoundName::Outside(place) => {
+                let place = Place(place);
+                writeln!(f, "  its name, at {place}, ends outside of the map")
+            }
+            FoundName::Unnamed | FoundName::Named(_) => Ok(()),
+        }
+    }
+}
+
+/// The line of a resource that can be read, as a list shows it.
+#[derive(Clone, Copy)]
+struct FoundLine<'a> {
+    letters: Letters,
+    fork: &'a [u8],
+    found: FoundRow,
+}
+
+impl fmt::Display for FoundLine<'_> {
+    ghost output = { λ l. Some (found_line l.letters l.fork.now l.found) };
+
+    fn fmt<W: fmt::Write>(&self, f: &mut fmt::Formatter<W>) -> fmt::Result {
+        let found = self.found;
+        let row = RowText {
+            letters: self.letters,
+            kind: found.kind,
+            id: found.id,
+            count: found.bytes.length,
+            attributes: found.attributes,
+            name: found.name.of(self.fork),
+        };
+        let name = NameLine(found.name);
+        write!(f, "{row}\n{name}")
+    }
+}
+
+/// The line of a resource that can't be read.
+#[derive(Clone, Copy)]
+struct LostLine {
+    letters: Letters,
+    lost: LostRow,
+}
+
+impl fmt::Display for LostLine {
+    ghost output = { λ l. Some (lost_line l.letters l.lost) };
+
+    fn fmt<W: fmt::Write>(&self, f: &mut fmt::Formatter<W>) -> fmt::Result {
+        let kind = KindText::new(self.letters, self.lost.kind);
+        let id = IdText(self.lost.id);
+        let loss = LossText(self.lost.loss);
+        let reference = Place(self.lost.reference);
+        writeln!(
+            f,
+            "{kind} {id}        ? can't be read: {loss}; its reference stands at {reference}"
+        )
+    }
+}
+
+/// The line of a run of bytes without type and id.
+#[derive(Clone, Copy)]
+struct RunLine(Span);
+
+impl fmt::Display for RunLine {
+    ghost output = { λ r. Some (run_line r.0) };
+
+    fn fmt<W: fmt::Write>(&self, f: &mut fmt::Formatter<W>) -> fmt::Result {
+        let count = self.0.length;
+        let place = Place(self.0.start);
+        writeln!(f, "-         - {count:>8} at {place}")
+    }
+}
+
+/// The line of an item.
+#[derive(Clone, Copy)]
+struct ItemLine<'a> {
+    letters: Letters,
+    fork: &'a [u8],
+    item: Item,
+}
+
+impl fmt::Display for ItemLine<'_> {
+    ghost output = { λ l. Some (item_line l.letters l.fork.now l.item) };
+
+    fn fmt<W: fmt::Write>(&self, f: &mut fmt::Formatter<W>) -> fmt::Result {
+        match self.item {
+            Item::Row(found) => {
+                let line = FoundLine {
+                    letters: self.letters,
+                    fork: self.fork,
+                    found,
+                };
+                write!(f, "{line}")
+            }
+            Item::Lost(lost) => {
+                let line = LostLine {
+                    letters: self.letters,
+                    lost,
+                };
+                write!(f, "{line}")
+            }
+            Item::Run(span) => {
+                let line = RunLine(span);
+                write!(f, "{line}")
+            }
+        }
+    }
+}
+
+/// A line for each resource of a fork, in the order of its map: as a list shows it, or what of it can't be read. Where no type is
+/// found in a damaged fork, the runs of bytes in its data. There are so many lines at most.
+pub fn salvage_listing(
+    alloc: Global,
+    letters: Letters,
+    fork: &[u8],
+    most: usize,
+) -> Result<String, AllocError>
+    ensures { IfOk result (λ text. string_bytes text ≡ salvage_listing letters fork.now most) }
+{
+    let mut text = String::new(alloc);
+    let mut salvage = Salvage::new(fork);
+    for _turn in 0..most {
+        let Some(item) = salvage.next() else {
+            return Ok(text);
+        };
+        let line = ItemLine {
+            letters,
+            fork,
+            item,
+        };
+        write!(text, "{line}")?;
+    }
+    Ok(text)
+}

@@ -1,0 +1,320 @@
+//! All faults of the header, the map and the type list of a fork.
+
+ghost use Rattle.std.specs.Prelude.{◌≡◌, ◌<◌, ◌≤◌, ◌+◌, ◌*◌, ◌++◌, ◌^◌, length, OnOk, IfOk, option_to_list, option_map, find, bytes_eq, ◌⊎◌, []};
+ghost use Rattle.fork_bytes.specs.Fork.{places, IsForkWithin, RefusesWithin, format_limits};
+ghost use Rattle.fork_salvage.specs.Plans.{IsPlan, IsTypes, IsTold, reference_of};
+ghost use Rattle.fork_salvage.specs.Salvage.{bytes_found, map_in, parts_at, told_list};
+ghost use Rattle.fork_salvage.specs.Faults.{header_fault, too_long, data_fault, map_fault, map_header_fault, parts_faults, earlier_type, same_type, list_fault, entry_faults, entries_faults, types_fault, name_fault, bytes_fault, row_faults, rows_faults, lists_faults, map_faults, found_faults, faults_with};
+ghost use Rattle.fork_salvage.specs.Fault.{IsFault, refusal_of};
+ghost use Rattle.fork_salvage.specs.declared.fault.Fault.{Fault};
+
+use crate::cursor::Cursor;
+use crate::entry::{ENTRY_LENGTH, ReferenceList, Types, told_list};
+use crate::fault::{BadList, Fault, SameType};
+use crate::first::{MAX_FORK, MAX_ROWS, bad_row, find_count, first_fault};
+use crate::number::{read_count, read_two};
+use crate::place::{Gap, Parts, Span};
+use crate::plan::{HEADER_LENGTH, MAP_HEADER_LENGTH, Plan, parts_at, told_plan};
+use crate::reference::{Loss, MapReference, NO_NAME, REFERENCE_LENGTH, find_bytes};
+use std::alloc::{AllocError, Global};
+
+/// Adds a fault, if there is one.
+fn push_fault(faults: &mut Vec<Fault>, fault: Option<Fault>) -> Result<(), AllocError>
+    ensures { OnOk result (faults.new.items ≡ faults.old.items ++ option_to_list fault) }
+{
+    if let Some(fault) = fault {
+        faults.push(fault)?;
+    }
+    Ok(())
+}
+
+/// Whether the fork ends within its header.
+fn header_fault(fork: &[u8]) -> Option<Fault>
+    ensures { result ≡ header_fault fork.now }
+{
+    let whole = Span {
+        start: 0,
+        length: fork.len(),
+    };
+    match Gap::of(whole, 0, HEADER_LENGTH) {
+        Some(gap) => Some(Fault::Header(gap)),
+        None => None,
+    }
+}
+
+/// Whether there are too many bytes.
+fn too_long(fork: &[u8]) -> Option<Fault>
+    ensures { result ≡ too_long fork.now }
+{
+    if fork.len() > MAX_FORK {
+        Some(Fault::TooLong(fork.len()))
+    } else {
+        None
+    }
+}
+
+/// Whether the data ends outside of the fork.
+fn data_fault(fork: &[u8], part: Span) -> Option<Fault>
+    requires part { part ≡ (parts_at 0 fork.now).«data» }
+    requires small { (part.start < 2 ^ 32) × (part.length < 2 ^ 32) }
+    ensures { result ≡ data_fault fork.now }
+{
+    let whole = Span {
+        start: 0,
+        length: fork.len(),
+    };
+    match Gap::of(whole, part.start, part.length) {
+        Some(gap) => Some(Fault::Data(gap)),
+        None => None,
+    }
+}
+
+/// Whether the map ends outside of the fork.
+fn map_fault(fork: &[u8], map: Span) -> Option<Fault>
+    requires map { map ≡ (parts_at 0 fork.now).map }
+    requires small { (map.start < 2 ^ 32) × (map.length < 2 ^ 32) }
+    ensures { result ≡ map_fault fork.now }
+{
+    let whole = Span {
+        start: 0,
+        length: fork.len(),
+    };
+    match Gap::of(whole, map.start, map.length) {
+        Some(gap) => Some(Fault::Map(gap)),
+        None => None,
+    }
+}
+
+/// Whether the map is shorter than its own header.
+fn map_header_fault(map: Span) -> Option<Fault>
+    requires { map.start < 2 ^ 32 }
+    ensures { result ≡ map_header_fault map }
+{
+    match Gap::of(map, 0, MAP_HEADER_LENGTH) {
+        Some(gap) => Some(Fault::MapHeader(gap)),
+        None => None,
+    }
+}
+
+/// The faults of the parts of a fork.
+fn push_parts(faults: &mut Vec<Fault>, fork: &[u8]) -> Result<(), AllocError>
+    requires { 16 ≤ length fork.now }
+    ensures { OnOk result (faults.new.items ≡ faults.old.items ++ parts_faults fork.now) }
+{
+    let Parts { map, data } = parts_at(fork, 0);
+    push_fault(faults, too_long(fork))?;
+    push_fault(faults, data_fault(fork, data))?;
+    push_fault(faults, map_fault(fork, map))?;
+    push_fault(faults, map_header_fault(map))?;
+    Ok(())
+}
+
+/// What is missing of a list of references, if there are some.
+fn list_fault(map: Span, list: ReferenceList) -> Option<Fault>
+    requires place { map.start < 2 ^ 63 }
+    requires small { (list.count < 65536) × (list.start < 131072) }
+    ensures { result ≡ list_fault map list }
+{
+    if list.count == 0 {
+        return None;
+    }
+    match Gap::of(map, list.start, REFERENCE_LENGTH * list.count) {
+        Some(gap) => {
+            let kind = list.kind;
+            Some(Fault::References(BadList { kind, gap }))
+        }
+        None => None,
+    }
+}
+
+/// Whether an entry of the type list has the type of an earlier one.
+fn same_type(part: Span, map: &[u8], types: Types, index: usize) -> Option<Fault>
+    requires types { IsTypes map.now types }
+    requires within { index < types.count }
+    requires place { part.start < 2 ^ 63 }
+    ensures { result ≡ same_type part map.now types index }
+{
+    let start = part.start + types.place + 2;
+    let kind = told_list(map, types, index).kind;
+    for i in 0..index {
+        if told_list(map, types, i).kind == kind {
+            return Some(Fault::SameType(SameType {
+                kind,
+                first: start + ENTRY_LENGTH * i,
+                second: start + ENTRY_LENGTH * index,
+            }));
+        }
+    }
+    None
+}
+
+/// Adds the faults of the entries of a type list.
+fn push_entries(
+    faults: &mut Vec<Fault>,
+    part: Span,
+    map: &[u8],
+    types: Types,
+) -> Result<(), AllocError>
+    requires types { IsTypes map.now types }
+    requires place { part.start < 2 ^ 63 }
+    ensures { OnOk result (faults.new.items ≡ faults.old.items ++ entries_faults part map.now types 0) }
+{
+    for i in 0..types.count {
+        push_fault(faults, same_type(part, map, types, i))?;
+        push_fault(faults, list_fault(part, told_list(map, types, i)))?;
+    }
+    Ok(())
+}
+
+/// What is missing of a type list that ends outside of the map.
+fn types_fault(part: Span, map: &[u8]) -> Option<Fault>
+    requires header { 28 ≤ length map.now }
+    requires part { part.length ≡ length map.now }
+    requires place { part.start < 2 ^ 63 }
+    ensures { result ≡ types_fault part map.now }
+{
+    let place = read_two(map, 24);
+    if part.length < place + 2 {
+        return match Gap::of(part, place, 2) {
+            Some(gap) => Some(Fault::TypeCount(gap)),
+            None => None,
+        };
+    }
+    match Gap::of(part, place + 2, ENTRY_LENGTH * read_count(map, place)) {
+        Some(gap) => Some(Fault::TypeList(gap)),
+        None => None,
+    }
+}
+
+/// The fault of the name of a reference that lies within the map.
+fn name_fault(fork: &[u8], plan: &Plan, reference: MapReference) -> Option<Fault>
+    requires told { IsTold fork.now plan.now }
+    requires within { reference.place + 12 ≤ length (map_in fork.now plan.now) }
+    ensures { result ≡ name_fault fork.now plan.now (reference_of reference) }
+{
+    let map = plan.map.of(fork);
+    let offset = read_two(map, reference.place + 2);
+    if offset == NO_NAME {
+        return None;
+    }
+    let start = read_two(map, 26) + offset;
+    let count = match map.get(start) {
+        Some(count) => *count as usize,
+        None => 0,
+    };
+    match Gap::of(plan.map, start, 1 + count) {
+        Some(gap) => Some(Fault::Name(bad_row(fork, plan, reference, gap))),
+        None => None,
+    }
+}
+
+/// The fault of the bytes of a reference that lies within the map.
+fn bytes_fault(fork: &[u8], plan: &Plan, reference: MapReference) -> Option<Fault>
+    requires told { IsTold fork.now plan.now }
+    requires within { reference.place + 12 ≤ length (map_in fork.now plan.now) }
+    requires small { reference.place < 2 ^ 32 }
+    ensures { result ≡ bytes_fault fork.now (reference_of reference) (bytes_found fork.now plan.now reference.place) }
+{
+    match find_bytes(fork, plan, reference.place) {
+        Ok(_) | Err(Loss::Reference(_)) => None,
+        Err(Loss::Length(gap)) => Some(Fault::Length(bad_row(fork, plan, reference, gap))),
+        Err(Loss::Bytes(gap)) => Some(Fault::Bytes(bad_row(fork, plan, reference, gap))),
+    }
+}
+
+/// Adds the faults of a reference. One that ends outside of the map has none of its own: its list has.
+fn push_row(
+    faults: &mut Vec<Fault>,
+    fork: &[u8],
+    plan: &Plan,
+    reference: &MapReference,
+) -> Result<(), AllocError>
+    requires told { IsTold fork.now plan.now }
+    requires small { reference.now.place < 2 ^ 32 }
+    ensures { OnOk result (faults.new.items ≡ faults.old.items ++ row_faults fork.now plan.now (reference_of reference.now)) }
+{
+    if plan.map.of(fork).len() < reference.place + REFERENCE_LENGTH {
+        return Ok(());
+    }
+    push_fault(faults, name_fault(fork, plan, *reference))?;
+    push_fault(faults, bytes_fault(fork, plan, *reference))?;
+    Ok(())
+}
+
+/// Adds the faults of so many references, from the first on.
+fn push_rows(
+    faults: &mut Vec<Fault>,
+    fork: &[u8],
+    plan: &Plan,
+    most: usize,
+) -> Result<(), AllocError>
+    requires { IsTold fork.now plan.now }
+    ensures { OnOk result (faults.new.items ≡ faults.old.items ++ rows_faults fork.now plan.now most) }
+{
+    let mut cursor = Cursor::new();
+    for _turn in 0..most {
+        let Some(reference) = cursor.next(fork, plan) else {
+            return Ok(());
+        };
+        push_row(faults, fork, plan, &reference)?;
+    }
+    Ok(())
+}
+
+/// Adds the faults of the lists of a map.
+fn push_lists(faults: &mut Vec<Fault>, fork: &[u8], plan: &Plan) -> Result<(), AllocError>
+    requires { IsTold fork.now plan.now }
+    ensures { OnOk result (faults.new.items ≡ faults.old.items ++ lists_faults fork.now plan.now) }
+{
+    push_entries(faults, plan.map, plan.map.of(fork), plan.types)?;
+    push_fault(faults, find_count(fork, plan))?;
+    push_rows(faults, fork, plan, MAX_ROWS)?;
+    Ok(())
+}
+
+/// The fault of a type list, if the map lies within the fork and has a header.
+fn map_faults(fork: &[u8]) -> Option<Fault>
+    requires { 16 ≤ length fork.now }
+    ensures { option_to_list result ≡ map_faults fork.now }
+{
+    let map = parts_at(fork, 0).map;
+    if map.start + map.length > fork.len() || map.length < MAP_HEADER_LENGTH {
+        return None;
+    }
+    types_fault(map, map.of(fork))
+}
+
+/// Adds the faults of all that can be looked at.
+fn push_found(faults: &mut Vec<Fault>, fork: &[u8]) -> Result<(), AllocError>
+    ensures { OnOk result (faults.new.items ≡ faults.old.items ++ found_faults fork.now) }
+{
+    if fork.len() < HEADER_LENGTH {
+        return push_fault(faults, header_fault(fork));
+    }
+    push_parts(faults, fork)?;
+    match told_plan(fork) {
+        Some(plan) => push_lists(faults, fork, &plan)?,
+        None => push_fault(faults, map_faults(fork))?,
+    }
+    Ok(())
+}
+
+/// All faults of a fork, each with its place, in the order of what they are of: the header, the parts, the type list, each entry of it
+/// and each reference. There is none exactly of a fork that is read. Of what stands behind a part that ends outside of the fork
+/// nothing is looked at, and of the references the first 4,194,304. The only error is that the host has no memory.
+pub fn all_faults(alloc: Global, fork: &[u8]) -> Result<Vec<Fault>, AllocError>
+    ensures none { IfOk result (λ faults. IsForkWithin format_limits fork.now → faults.items ≡ []) }
+    ensures fork { IfOk result (λ faults. faults.items ≡ [] → IsForkWithin format_limits fork.now) }
+    ensures all { IfOk result (λ faults. (faults.items ≡ []) ⊎ ((first : Fault) × IsFault fork.now first × RefusesWithin format_limits fork.now (refusal_of first)
+        × (faults.items ≡ faults_with first (found_faults fork.now)))) }
+{
+    let mut faults = Vec::new(alloc);
+    let Some(first) = first_fault(fork) else {
+        return Ok(faults);
+    };
+    push_found(&mut faults, fork)?;
+    if faults.as_slice().is_empty() {
+        faults.push(first)?;
+    }
+    Ok(faults)
+}

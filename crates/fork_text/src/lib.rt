@@ -1,6 +1,0 @@
-//! The words for a type or a name.
-#![tactic(auto)]
-
-mod quoted;
-
-pub use quoted::Quoted;

@@ -1,0 +1,5 @@
+pub mod Holding
+pub mod Places
+pub mod Parts
+pub mod Queued
+pub mod Steps

@@ -1,0 +1,127 @@
+//! The calls on blocks that are lent, over the Memory Manager and the loans that a program has.
+
+ghost use Rattle.std.specs.Prelude.{◌≡◌, ◌+◌, ◌≤◌, ◌∷◌, [], length, None, IfOk, OnErr, IsTrue};
+ghost use Rattle.std.specs.Result.{result_err};
+ghost use Rattle.mac_calls.specs.declared.loan_call.LoanCall.TheVariants as call;
+ghost use Rattle.mac_calls.specs.Loans.{all_returned, held_bytes, loan_refusal};
+ghost use Rattle.mac_calls.specs.Tests.{IsBlock, first_refusal};
+ghost use Rattle.held_calls.specs.Holding.{Holds, IsWindow, LoanSteps, loans_of};
+
+use crate::loans::{Held, Loans};
+use crate::window::Window;
+use mac_base::block::Status;
+use mac_base::error::OsErr;
+use mac_calls::{Outcome, Results};
+use mem_calls::MemoryManager;
+
+/// Lend: lends a nonrelocatable block or that of a locked handle.
+pub fn lend(memory: &mut MemoryManager, loans: &mut Loans, block: u32) -> Outcome
+    requires { Holds memory.old loans.old }
+    ensures step { LoanSteps memory.old loans.old (call.Lend block) result memory.new loans.new }
+    ensures memory { memory.new.memory ≡ memory.old.memory }
+    ensures holds { Holds memory.new loans.new }
+{
+    let loan = memory.lend(block)?;
+    loans.add(Held { block, loan });
+    Ok(Results::Nothing)
+}
+
+/// LentPoke: writes bytes over those of a lent block.
+pub fn lent_poke(
+    memory: &MemoryManager,
+    loans: &mut Loans,
+    block: u32,
+    offset: u32,
+    bytes: &[u8],
+) -> Outcome
+    requires { Holds memory.now loans.old }
+    ensures step { LoanSteps memory.now loans.old (call.LentPoke block offset bytes.now) result memory.now loans.new }
+    ensures holds { Holds memory.now loans.new }
+{
+    lent_bytes(memory, loans, block, offset, bytes.len())?;
+    loans.write(block, offset as usize, bytes);
+    Ok(Results::Nothing)
+}
+
+/// Return: gives a lent block back.
+pub fn take_back(memory: &mut MemoryManager, loans: &mut Loans, block: u32) -> Outcome
+    requires { Holds memory.old loans.old }
+    ensures step { LoanSteps memory.old loans.old (call.Return block) result memory.new loans.new }
+    ensures memory { memory.new.memory ≡ memory.old.memory }
+    ensures holds { Holds memory.new loans.new }
+{
+    test_live(memory, block)?;
+    let Some(loan) = loans.take_out(block) else {
+        return Err(OsErr::ParamErr);
+    };
+    memory.give_back(block, loan);
+    Ok(Results::Nothing)
+}
+
+/// The bytes of a lent block, for a call on `count` of them from an offset on. It is refused in this order:
+/// nilHandleErr where the number is 0, memWZErr where no handle or pointer of that number is live, and paramErr where
+/// it isn't lent or has too few bytes.
+pub fn lent_bytes<'a>(
+    memory: &MemoryManager,
+    loans: &'a Loans,
+    block: u32,
+    offset: u32,
+    count: usize,
+) -> Result<&'a [u8], OsErr>
+    requires { Holds memory.now loans.now }
+    ensures refusal { result_err result ≡ loan_refusal memory.now.shape memory.now.heap (call.LentPeek block offset count) }
+    ensures bytes { IfOk result (λ lent. lent.now ≡ held_bytes block (loans_of loans.now)) }
+    ensures within { IfOk result (λ lent. offset + count ≤ length lent.now) }
+{
+    test_live(memory, block)?;
+    let Some(lent) = loans.bytes(block) else {
+        return Err(OsErr::ParamErr);
+    };
+    let start = offset as usize;
+    if start <= lent.len() && count <= lent.len() - start {
+        Ok(lent)
+    } else {
+        Err(OsErr::ParamErr)
+    }
+}
+
+/// The window on a lent block's bytes. It is refused as Return is.
+pub fn window(memory: &MemoryManager, loans: &Loans, block: u32) -> Result<Window, OsErr>
+    requires { Holds memory.now loans.now }
+    ensures refusal { result_err result ≡ loan_refusal memory.now.shape memory.now.heap (call.Return block) }
+    ensures window { IfOk result (λ window. IsWindow memory.now (loans_of loans.now) block window) }
+{
+    test_live(memory, block)?;
+    let Some(window) = loans.window(block) else {
+        return Err(OsErr::ParamErr);
+    };
+    Ok(window)
+}
+
+/// Tests that a number is that of a handle or a pointer: nilHandleErr where it is 0, memWZErr where it isn't live.
+fn test_live(memory: &MemoryManager, block: u32) -> Result<(), OsErr>
+    ensures { result_err result ≡ first_refusal memory.now.shape memory.now.heap (IsBlock block ∷ []) }
+{
+    if block == 0 {
+        return Err(OsErr::NilHandleErr);
+    }
+    match memory.status(block) {
+        Status::NotLive => Err(OsErr::MemWzErr),
+        Status::Empty | Status::Lent | Status::Full => Ok(()),
+    }
+}
+
+/// Gives back the loans that are left, first to last, and hands out the memory, of which nothing is lent then.
+pub fn finish(memory: MemoryManager, loans: Loans) -> MemoryManager
+    requires { Holds memory loans }
+    ensures heap { result.heap ≡ all_returned (loans_of loans) memory.heap }
+    ensures shape { result.shape ≡ memory.shape }
+    ensures nothing_lent { result.heap.table.lent ≡ [] }
+{
+    let mut memory = memory;
+    let mut loans = loans;
+    while let Some(Held { block, loan }) = loans.take_first() {
+        memory.give_back(block, loan);
+    }
+    memory
+}

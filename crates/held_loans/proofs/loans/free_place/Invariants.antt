@@ -1,7 +1,0 @@
-use Rattle.std.proofs.Common.{◌≡◌, length, take}
-use Rattle.held_loans.specs.Holding.{held_at}
-use Rattle.held_loans.proofs.loans.free_place.Given as goal
-
--- there is a loan at each place so far
-abbrev pub invariant-loop-place : goal.invariant-loop-place
-invariant-loop-place l = length (held_at (take l.place l.places)) ≡ l.place

@@ -1,3 +1,0 @@
-pub mod Parts
-pub mod Queued
-pub mod Steps

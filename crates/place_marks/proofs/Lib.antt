@@ -1,4 +1,0 @@
-pub mod Bounds
-pub mod Copied
-pub mod Moved
-pub mod Runs

@@ -1,4 +1,0 @@
-pub mod Bounds
-pub mod Levels
-pub mod Marks
-pub mod Shifted

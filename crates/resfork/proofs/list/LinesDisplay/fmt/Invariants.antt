@@ -1,9 +1,0 @@
-use Rattle.std.proofs.Common.{take}
-use Rattle.std.specs.List.{flat_map}
-use Rattle.std.specs.Fmt.{HasWritten, IsPlainFormatter}
-use Rattle.resfork.specs.Listing.{row_line}
-use Rattle.resfork.proofs.list.LinesDisplay.fmt.Given as goal
-
-abbrev pub invariant-loop-row : goal.invariant-loop-row
-invariant-loop-row g l =
-    IsPlainFormatter l.initial.f → HasWritten g.W.Write.write_str_gives l.initial.f (flat_map (row_line l.fn.self.letters l.fn.self.kinds.now) (take l.row-index l.row-items)) l.f

@@ -1,0 +1,161 @@
+//! The bytes of a resource as text, in hexadecimal digits, and as a picture.
+
+use fork_bytes::table::Row;
+use mac_pictures::{format_of, picture_of, png_file};
+use mac_text::char_of;
+use mac_text::strings::{string_of, strings_of};
+use mac_text::version::{Stage, Version, version_of};
+use std::alloc::{AllocError, Global};
+
+/// How many bytes a line of hexadecimal digits shows.
+const LINE: usize = 16;
+
+/// Adds a byte of a text in MacRoman: a carriage return ends a line, and other control characters are shown as `\xHH`.
+fn push_letter(text: &mut String, byte: u8) -> Result<(), AllocError> {
+    match byte {
+        b'\r' | b'\n' => text.push('\n'),
+        b'\t' => text.push('\t'),
+        0..=31 | 127 => write!(text, "\\x{byte:02X}"),
+        _ => text.push(char_of(byte)),
+    }
+}
+
+/// Adds a text in MacRoman.
+fn push_letters(text: &mut String, letters: &[u8]) -> Result<(), AllocError> {
+    for byte in letters {
+        push_letter(text, *byte)?;
+    }
+    Ok(())
+}
+
+/// Adds a text in MacRoman, and the end of its last line where it has none.
+fn push_lines(text: &mut String, letters: &[u8]) -> Result<(), AllocError> {
+    push_letters(text, letters)?;
+    if !letters.is_empty() && !matches!(letters.last(), Some(b'\r' | b'\n')) {
+        text.push('\n')?;
+    }
+    Ok(())
+}
+
+/// Adds texts, each in a line of its own.
+fn push_strings(text: &mut String, strings: &[&[u8]]) -> Result<(), AllocError> {
+    for string in strings {
+        push_letters(text, string)?;
+        text.push('\n')?;
+    }
+    Ok(())
+}
+
+/// The letter that stands for a stage between the numbers of a version.
+fn letter_of(stage: Stage) -> char {
+    match stage {
+        Stage::Development => 'd',
+        Stage::Alpha => 'a',
+        Stage::Beta => 'b',
+        Stage::Final => 'f',
+        Stage::Other(_) => '?',
+    }
+}
+
+/// Adds a version, in lines.
+fn push_version(text: &mut String, version: &Version<'_>) -> Result<(), AllocError> {
+    let major = version.major;
+    let minor = version.minor;
+    let correction = version.correction;
+    let stage = letter_of(version.stage);
+    let prerelease = version.prerelease;
+    let region = version.region;
+    writeln!(
+        text,
+        "version: {major}.{minor}.{correction}{stage}{prerelease}"
+    )?;
+    writeln!(text, "region: {region}")?;
+    text.push_str("short: ")?;
+    push_strings(text, &[version.short])?;
+    text.push_str("long: ")?;
+    push_strings(text, &[version.long])
+}
+
+/// Whether the resources of a type are shown as text if nothing else is asked for.
+pub(crate) fn is_text(row: &Row) -> bool {
+    matches!(&row.kind.bytes(), b"STR " | b"STR#" | b"TEXT" | b"vers")
+}
+
+/// Adds a resource as text: its strings, its version, or all its bytes as MacRoman. False where it ends before its strings do, and
+/// nothing is added.
+pub(crate) fn push_text(alloc: Global, text: &mut String, row: &Row) -> Result<bool, AllocError> {
+    let bytes = row.datum.as_slice();
+    match &row.kind.bytes() {
+        b"STR " => match string_of(bytes) {
+            Some(string) => push_strings(text, &[string])?,
+            None => return Ok(false),
+        },
+        b"STR#" => match strings_of(alloc, bytes)? {
+            Some(strings) => push_strings(text, strings.as_slice())?,
+            None => return Ok(false),
+        },
+        b"vers" => match version_of(bytes) {
+            Some(version) => push_version(text, &version)?,
+            None => return Ok(false),
+        },
+        _ => push_lines(text, bytes)?,
+    }
+    Ok(true)
+}
+
+/// Adds the hexadecimal digits of bytes.
+fn push_digits(text: &mut String, bytes: &[u8]) -> Result<(), AllocError> {
+    for byte in bytes {
+        write!(text, " {byte:02X}")?;
+    }
+    Ok(())
+}
+
+/// Adds blanks for bytes that a line lacks.
+fn push_blanks(text: &mut String, count: usize) -> Result<(), AllocError> {
+    for _byte in 0..count {
+        text.push_str("   ")?;
+    }
+    Ok(())
+}
+
+/// Adds the characters of bytes, and a dot for each control character.
+fn push_characters(text: &mut String, bytes: &[u8]) -> Result<(), AllocError> {
+    for byte in bytes {
+        let letter = match byte {
+            0..=31 | 127 => '.',
+            _ => char_of(*byte),
+        };
+        text.push(letter)?;
+    }
+    Ok(())
+}
+
+/// Adds a line of bytes: where they are, their hexadecimal digits, and their characters.
+fn push_line(text: &mut String, at: usize, bytes: &[u8]) -> Result<(), AllocError> {
+    write!(text, "{at:06X} ")?;
+    push_digits(text, bytes)?;
+    push_blanks(text, LINE.saturating_sub(bytes.len()))?;
+    text.push_str("  ")?;
+    push_characters(text, bytes)?;
+    text.push('\n')
+}
+
+/// Adds bytes in hexadecimal digits, sixteen to a line.
+pub(crate) fn push_hex(text: &mut String, bytes: &[u8]) -> Result<(), AllocError> {
+    for (line, bytes) in bytes.chunks(LINE).enumerate() {
+        push_line(text, line.saturating_mul(LINE), bytes)?;
+    }
+    Ok(())
+}
+
+/// The PNG file of a resource, or None where it is no picture.
+pub(crate) fn png_of(alloc: Global, row: &Row) -> Result<Option<Vec<u8>>, AllocError> {
+    let Some(format) = format_of(row.kind.bytes()) else {
+        return Ok(None);
+    };
+    match picture_of(alloc, format, row.datum.as_slice())? {
+        Some(picture) => Ok(Some(png_file(alloc, &picture)?)),
+        None => Ok(None),
+    }
+}

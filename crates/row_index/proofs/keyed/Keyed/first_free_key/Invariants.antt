@@ -1,9 +1,0 @@
-use Rattle.std.proofs.Common.{◌≤◌, ◌+◌, drop, length}
-use Rattle.row_index.specs.Keyed.{AreInOrder}
-use Rattle.row_index.proofs.FreeKeys.{AreTaken}
-use Rattle.row_index.proofs.keyed.Keyed.first_free_key.Given as goal
-
--- the keys up to this one are taken, and of those behind the other pairs tell
-abbrev pub invariant-loop-pair : goal.invariant-loop-pair
-invariant-loop-pair l = AreInOrder l.pair-items × (length l.pair-items ≤ length l.self.pairs) × (l.fn.key ≤ l.free) × (l.free ≤ l.fn.key + l.pair-index)
-    × AreTaken l.fn.key l.free l.self.pairs (drop l.pair-index l.pair-items)

@@ -1,7 +1,0 @@
-use Rattle.std.proofs.Common.{◌≡◌, ◌+◌, drop}
-use Rattle.row_index.specs.Kinds.{expanded, count_of}
-use Rattle.row_index.proofs.kinds.Kinds.count.Given as goal
-
--- those so far and those of the other runs are all
-abbrev pub invariant-loop-run : goal.invariant-loop-run
-invariant-loop-run l = l.count + count_of l.kind (expanded (drop l.run-index l.run-items)) ≡ count_of l.kind (expanded l.run-items)

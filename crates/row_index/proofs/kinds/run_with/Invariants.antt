@@ -1,7 +1,0 @@
-use Rattle.std.proofs.Common.{◌≡◌, ◌+◌, length, take}
-use Rattle.row_index.specs.Kinds.{expanded}
-use Rattle.row_index.proofs.kinds.run_with.Given as goal
-
--- so many are left to pass over, behind the runs so far
-abbrev pub invariant-loop-index : goal.invariant-loop-index
-invariant-loop-index l = l.fn.place ≡ length (expanded (take l.index l.runs)) + l.left

@@ -1,0 +1,9 @@
+pub mod Calls
+pub mod Names
+pub mod Numbers
+pub mod Kept
+pub mod Lines
+pub mod Taken
+pub mod Variables
+pub mod Managers
+pub mod Answers

@@ -1,4 +1,0 @@
-pub mod Calls
-pub mod Numbers
-pub mod Kept
-pub mod Lines

@@ -1,4 +1,0 @@
-pub mod Taken
-pub mod Variables
-pub mod Managers
-pub mod Answers

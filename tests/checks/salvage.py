@@ -1,0 +1,233 @@
+"""Checks what resfork reads of damaged forks: `salvage`, `check`, and lists as JSON.
+
+Three forks of more than 100 resources are made from fixed numbers, and in each one byte of the map is changed, 300 times. Whatever `ls`
+refuses then is salvaged, and compared with the resources that were there: at least 95 of 100 are right on average. Before that come forks
+that aren't damaged, which are salvaged as they are, a type that stands twice, and what is odd about forks that can be read. The forks are
+written here, from the rules of docs/FORKS.md.
+"""
+import base64
+import collections
+import json
+import os
+import random
+import struct
+import tempfile
+
+from checks.fork_questions import Difference
+from checks.forks import Choices, run
+from model.fork import MESSAGES, NoFork, Row, listing, read_fork
+
+FORKS, CHANGES, SHARE = 3, 300, 0.95
+KINDS = [b"TEXT", b"STR ", b"CODE", b"ICN#", b"snd ", b"PAT#", b"vers", b"DITL"]
+
+
+def written(entries, extra=bytes(240), attributes=0, gap=b""):
+    """A fork of these entries, each a type and its rows, as the Resource Manager writes it. The gap stands before the last datum."""
+    rows = [row for _, rows in entries for row in rows]
+    data, data_places, names, name_places = b"", [], b"", []
+    for index, row in enumerate(rows):
+        data += gap if index == len(rows) - 1 else b""
+        data_places.append(len(data))
+        data += struct.pack(">I", len(row.data)) + row.data
+        name_places.append(0xFFFF if row.name is None else len(names))
+        names += b"" if row.name is None else bytes([len(row.name)]) + row.name
+    types, references, index = struct.pack(">H", (len(entries) - 1) % 65536), b"", 0
+    for kind, of_kind in entries:
+        types += struct.pack(">4sHH", kind, (len(of_kind) - 1) % 65536, 2 + 8 * len(entries) + len(references))
+        for row in of_kind:
+            references += struct.pack(">hHB", row.ident, name_places[index], row.attributes) + data_places[index].to_bytes(3, "big") + bytes(4)
+            index += 1
+    lists = types + references
+    header = struct.pack(">4I", 256, 256 + len(data), len(data), 28 + len(lists) + len(names))
+    return header + extra + data + header + struct.pack(">IHHHH", 0, 0, attributes, 28, 28 + len(lists)) + lists + names
+
+
+def large_fork(number):
+    """A fork of more than 100 resources, and its rows."""
+    choices = random.Random(number)
+    entries = []
+    for kind in KINDS:
+        rows = []
+        for index in range(choices.randrange(14, 24)):
+            name = choices.choice([None, f"{kind.decode().strip()} {index}".encode()])
+            rows.append(Row(kind, 128 + index, name, choices.choice([0, 32, 64]), choices.randbytes(choices.randrange(200))))
+        entries.append((kind, rows))
+    return written(entries, choices.randbytes(240), 0x80), [row for _, rows in entries for row in rows]
+
+
+def save(path, fork):
+    with open(path, "wb") as file:
+        file.write(fork)
+
+
+def key(row):
+    return row.kind, row.ident, row.name, row.attributes, row.data
+
+
+def must(holds, what):
+    if not holds:
+        raise Difference(what)
+
+
+def salvaged(program, path, fork):
+    """The rows of the fork that `salvage -o` writes, or None where nothing can be read."""
+    save(path, fork)
+    out = path + ".out"
+    if os.path.exists(out):
+        os.remove(out)
+    status, _, told = run(program, ["salvage", path, "-o", out])
+    if status == 3:
+        must("no resource can be read" in told and not os.path.exists(out), f"salvage told {told!r}")
+        return None
+    must(status == 0, f"salvage ended with {status} and told {told!r}")
+    with open(out, "rb") as file:
+        return read_fork(file.read())
+
+
+def listed(program, path):
+    """What `check --json` and `ls --json` write of a file, with their statuses."""
+    lines = []
+    for words in (["check", "--json", path], ["ls", "--json", "--data", "base64", path]):
+        status, text, _ = run(program, words)
+        must(text.count(b"\n") == 1 and text.endswith(b"\n"), f"{words}: {text[:200]!r} is no one line")
+        lines.append((status, json.loads(text)))
+    return lines
+
+
+def try_whole(program, path, fork):
+    """A fork that isn't damaged is salvaged as it is, and has no fault."""
+    rows = read_fork(fork) if fork else []
+    found = salvaged(program, path, fork)
+    must([key(row) for row in found] == [key(row) for row in rows], "salvage changed the rows of a fork that isn't damaged")
+    if fork:
+        must(run(program, ["salvage", path]) == (0, listing(rows).encode(), ""), "salvage lists other rows than ls")
+    (checked, told), (status, json_list) = listed(program, path)
+    must((checked, status, told["faults"]) == (0, 0, []), f"check ended with {checked} and told {told}")
+    shown = [(it["type"].encode("mac_roman"), it["id"], it["name"] and it["name"].encode("mac_roman"), base64.b64decode(it["data"]), it["size"])
+             for it in json_list["resources"]]
+    wanted = [(row.kind, row.ident, row.name and row.name, row.data, len(row.data)) for row in rows]
+    must([(*it[:2], it[2] or None, *it[3:]) for it in shown] == [(*it[:2], it[2] or None, *it[3:]) for it in wanted], "ls --json shows other rows")
+
+
+def try_refused(program, path, fork):
+    """Where `ls` refuses a fork, its fault is among those that check tells; and the reader's first condition is that of one of them."""
+    status, _, told = run(program, ["ls", path])
+    try:
+        read_fork(fork)
+        must(status == 0, f"ls refuses a fork that is read: {told!r}")
+        return False
+    except NoFork as fault:
+        must(status == 3, f"ls shows a fork that isn't read, for {fault.args[0]}")
+        (checked, line), (listing_status, json_list) = listed(program, path)
+        must((checked, listing_status) == (3, 3) and json_list["status"] == 3, "the status of a damaged fork isn't 3")
+        messages = [it["message"] for it in line["faults"]]
+        must(any(MESSAGES[fault.args[0]].search(it) for it in messages), f"{messages} has nothing of {fault.args[0]}")
+        must(any(it in told for it in messages), f"{told!r} has none of {messages}")
+        return True
+
+
+def try_changes(program, path, number):
+    """How many changes were refused, and which share of the rows was right after each."""
+    fork, rows = large_fork(number)
+    try_whole(program, path, fork)
+    choices, shares = random.Random(1000 + number), []
+    map_at = struct.unpack(">I", fork[4:8])[0]
+    there = collections.Counter(key(row) for row in rows)
+    for _ in range(CHANGES):
+        changed = bytearray(fork)
+        place = choices.randrange(map_at, len(fork))
+        changed[place] ^= choices.randrange(1, 256)
+        save(path, bytes(changed))
+        if not try_refused(program, path, bytes(changed)):
+            continue
+        found = salvaged(program, path, bytes(changed))
+        right = there & collections.Counter(key(row) for row in found or [])
+        shares.append(sum(right.values()) / len(rows))
+    return len(rows), shares
+
+
+def try_twice(program, path):
+    """Rows of a type that stands twice are put together, in the order of the first of each type."""
+    def row(kind, ident):
+        return Row(kind, ident, None, 0, bytes([ident]))
+
+    fork = written([(b"TEXT", [row(b"TEXT", 1), row(b"TEXT", 2)]), (b"STR ", [row(b"STR ", 3)]), (b"TEXT", [row(b"TEXT", 4)])])
+    found = salvaged(program, path, fork)
+    must([(it.kind, it.ident) for it in found] == [(b"TEXT", 1), (b"TEXT", 2), (b"TEXT", 4), (b"STR ", 3)], "the rows of a type that stands twice")
+    status, text, _ = run(program, ["check", path])
+    must(status == 3 and b"'TEXT' stands twice" in text, f"check told {text!r}")
+    status, text, _ = run(program, ["salvage", "--list", path])
+    must(status == 0 and [it.split()[1] for it in text.decode().splitlines()] == ["1", "2", "3", "4"], f"salvage --list wrote {text!r}")
+
+
+def try_several_faults(program, path):
+    """Every fault is told, not only the first: two resources that end outside, and a name."""
+    rows = [Row(b"TEXT", it, b"n", 0, b"abcd") for it in range(5)]
+    fork = bytearray(written([(b"TEXT", rows)]))
+    data_at, map_at = struct.unpack(">2I", fork[:8])
+    fork[data_at + 8 : data_at + 12] = struct.pack(">I", 1000)  # the length of the second
+    fork[data_at + 32 : data_at + 36] = struct.pack(">I", 2000)  # and of the last
+    reference = map_at + 28 + 2 + 8 + 2 * 12
+    fork[reference + 2 : reference + 4] = struct.pack(">H", 0x7000)  # the name of the third
+    save(path, bytes(fork))
+    status, text, _ = run(program, ["check", path])
+    told = text.decode()
+    places = [f"${data_at + 8:06X}", f"${data_at + 32:06X}", f"${map_at + 38 + 60 + 0x7000:06X}"]
+    must(status == 3 and told.count("fault: ") == 3 and all(it in told for it in places), f"check told {told!r}, and not {places}")
+    status, text, _ = run(program, ["salvage", path])
+    lines = text.decode().splitlines()
+    must(status == 0 and sum("can't be read" in it for it in lines) == 2 and sum("its name" in it for it in lines) == 1, f"salvage wrote {lines}")
+
+
+def try_odd(program, path):
+    """Bytes of no resource and data that overlap are told, and aren't faults."""
+    rows = [Row(b"TEXT", it, None, 0, b"abcd") for it in range(3)]
+    save(path, written([(b"TEXT", rows)], gap=bytes(10)))
+    status, text, _ = run(program, ["check", path])
+    must((status, text) == (0, f"warning: 10 bytes among the data belong to no resource\n  at ${256 + 16:06X}\n".encode()), f"check told {text!r}")
+    fork = bytearray(written([(b"TEXT", rows)]))
+    reference = struct.unpack(">I", fork[4:8])[0] + 28 + 2 + 8 + 12
+    fork[reference + 5 : reference + 8] = bytes(3)  # the second has the bytes of the first
+    save(path, bytes(fork))
+    status, text, _ = run(program, ["check", "--json", path])
+    warnings = [(it["message"].split("\n")[0], it["place"]) for it in json.loads(text)["warnings"]]
+    must((status, warnings) == (0, [("the data of two resources overlap", 256), ("8 bytes among the data belong to no resource", 264)]), f"check told {text!r}")
+
+
+def try_lost_map(program, path):
+    """Where no map can be found, the runs of bytes in the data are listed."""
+    rows = [Row(b"TEXT", it, None, 0, bytes(it + 1)) for it in range(4)]
+    fork = bytearray(written([(b"TEXT", rows)]))
+    map_at = struct.unpack(">I", fork[4:8])[0]
+    save(path, bytes(fork[:map_at]))
+    status, text, _ = run(program, ["salvage", path])
+    sizes = [int(it.split()[2]) for it in text.decode().splitlines()]
+    must(status == 0 and sizes == [1, 2, 3, 4], f"salvage wrote {text!r}")
+
+
+def main(program):
+    """Tries all of it, and prints how much of damaged forks is read."""
+    with tempfile.TemporaryDirectory() as folder:
+        path, what = os.path.join(folder, "fork"), "forks that aren't damaged"
+        try:
+            try_whole(program, path, b"")
+            for number in range(40):
+                choices = Choices(number)
+                rows = choices.rows()
+                try_whole(program, path, written(list(({kind: [Row(kind, *key(row)[1:]) for row in of_kind] for kind, of_kind in rows.items()}).items())))
+            for attempt in (try_twice, try_several_faults, try_odd, try_lost_map):
+                what = attempt.__name__
+                attempt(program, path)
+            counts, shares = [], []
+            for number in range(1, FORKS + 1):
+                what = f"large fork {number}"
+                count, some = try_changes(program, path, number)
+                counts.append(count)
+                shares += some
+        except (Difference, NoFork) as difference:
+            print(f"{what}: {difference}")
+            return 1
+    mean = sum(shares) / len(shares)
+    print(f"salvage: {FORKS * CHANGES} changes of one map byte in forks of {counts} resources; {len(shares)} were refused, and {100 * mean:.1f} of 100 resources "
+          f"were right on average, {100 * min(shares):.1f} at worst; all of them after {sum(it == 1 for it in shares)}")
+    return 0 if mean >= SHARE else 1

@@ -1,0 +1,143 @@
+"""The resource fork in AppleSingle, AppleDouble, MacBinary and BinHex 4.0, as a small model.
+
+It is written from their published formats alone, and shares nothing with the program.
+"""
+import binascii
+import re
+import struct
+
+DIGITS = {byte: value for value, byte in enumerate(b"!\"#$%&'()*+,-012345689@ABCDEFGHIJKLMNPQRSTUVXYZ[`abcdefhijklmpqr")}
+# the part of the comment that all tools have; macutils goes on otherwise than RFC 1741
+COMMENT = re.compile(rb"(?:\A|[\r\n])\(This file must be converted")
+
+# what is told of a container that is damaged, or has no such fork
+TOLD = {
+    "short": r"the file ends within the container's header: it has \d+ of \d+ bytes",
+    "version": r"the version at offset 4 is \$[0-9A-F]{8}, and only \$00010000 and \$00020000 are known",
+    "list": r"the \d+ entries that offset 24 calls for end outside the file, which has \d+ bytes",
+    "entry": r"entry \d+, listed at offset \d+, has \d+ bytes from offset \d+ on, and the file has \d+",
+    "sum": r"the checksum at offset 124 is \$[0-9A-F]{4}, and that of the header is \$[0-9A-F]{4}",
+    "fork": r"the (?:data|resource) fork, whose length is at offset (?:83|87), has \d+ bytes from offset \d+ on, and the file has \d+",
+    "no text": "no line begins with the colon that begins a BinHex text",
+    "text": r"offset \d+: (?:the character 0x.. is no BinHex digit|the text ends without a closing colon|a run-length byte has no (?:byte before|count after) it)",
+    "closed": r"offset \d+: the text is closed before the end of the (?:header|data fork|resource fork)",
+    "crc": r"offset \d+: the CRC of the (?:header|data fork|resource fork) is 0x[0-9a-f]{4}, and should be 0x[0-9a-f]{4}",
+    "absent": "it has no resource fork",
+}
+TOLD = {fault: re.compile(told) for fault, told in TOLD.items()}
+
+
+class NoContents(Exception):
+    """A container isn't read; the argument says why."""
+
+
+def must(holds, fault):
+    if not holds:
+        raise NoContents(fault)
+
+
+def in_apple(file):
+    """The fork in AppleSingle or AppleDouble: the first entry with the id 2. No entry has bytes outside the file."""
+    must(len(file) >= 26, "short")
+    must(file[4:8] in (b"\0\1\0\0", b"\0\2\0\0"), "version")
+    count = struct.unpack(">H", file[24:26])[0]
+    must(26 + 12 * count <= len(file), "list")
+    entries = [struct.unpack(">III", file[at : at + 12]) for at in range(26, 26 + 12 * count, 12)]
+    must(all(length == 0 or start + length <= len(file) for _, start, length in entries), "entry")
+    return next((file[start : start + length] for kind, start, length in entries if kind == 2), b"")
+
+
+def mac_binary_version(file):
+    """1 to 3, or None."""
+    if len(file) < 128 or file[0] or file[74] or file[82] or not 1 <= file[1] <= 63:
+        return None
+    if file[102:106] == b"mBIN":
+        return 3
+    if file[122] >= 129 and file[123] == 129:
+        return 2
+    data, resource = struct.unpack(">II", file[83:91])
+    return 1 if not any(file[101:126]) and data < 0x800000 and resource < 0x800000 else None
+
+
+def in_mac_binary(version, file):
+    """The fork after the header, a second header, and the data fork, each filled up to 128 bytes."""
+    must(version == 1 or struct.unpack(">H", file[124:126])[0] == binascii.crc_hqx(file[:124], 0), "sum")
+    data, resource = struct.unpack(">II", file[83:91])
+    start = 128 + -(-struct.unpack(">H", file[120:122])[0] // 128) * 128
+    must(data == 0 or start + data <= len(file), "fork")
+    start += -(-data // 128) * 128
+    must(resource == 0 or start + resource <= len(file), "fork")
+    return file[start : start + resource]
+
+
+def decoded(file, start):
+    """The bytes of a BinHex text from its first colon on, and the fault at which they end, if there is one."""
+    digits, fault = [], "text"
+    for byte in file[start:]:
+        if byte == 58:
+            fault = None
+            break
+        if byte in b"\r\n":
+            continue
+        if byte not in DIGITS:
+            break
+        digits.append(DIGITS[byte])
+    bits = "".join(f"{digit:06b}" for digit in digits)
+    packed = bytes(int(bits[at : at + 8], 2) for at in range(0, len(bits) - 7, 8))
+    values, at = bytearray(), 0
+    while at < len(packed):
+        if packed[at] != 0x90:
+            values.append(packed[at])
+        else:
+            at += 1
+            if at == len(packed):
+                return bytes(values), fault or "text"
+            if packed[at] == 0:
+                values.append(0x90)
+            elif not values:
+                return bytes(values), "text"
+            else:
+                values += values[-1:] * (packed[at] - 1)
+        at += 1
+    return bytes(values), fault
+
+
+def in_bin_hex(file, after):
+    """The fork in a BinHex text, whose first colon begins a line after the comment."""
+    colon = re.compile(rb"(?:(?<=[\r\n])|\A):").search(file, after)
+    must(colon, "no text")
+    values, fault = decoded(file, colon.end())
+    at = 0
+
+    def section(length):
+        nonlocal at
+        must(at + length + 2 <= len(values), fault or "closed")
+        part, stored = values[at : at + length], values[at + length : at + length + 2]
+        must(binascii.crc_hqx(part, 0) == int.from_bytes(stored, "big"), "crc")
+        at += length + 2
+        return part
+
+    must(values, fault or "closed")
+    head = section(values[0] + 20)
+    data, resource = struct.unpack(">II", head[-8:])
+    section(data)
+    fork = section(resource)
+    must(not fault, fault)
+    return fork
+
+
+def resource_fork(file):
+    """The bytes that are the file's resource fork: those in its container, or the whole file."""
+    if len(file) >= 16 and not (file[0] or file[4] or file[8] or file[12]) and struct.unpack(">I", file[12:16])[0] >= 28:
+        return file
+    fork = None
+    if file[:4] in (b"\0\5\x16\0", b"\0\5\x16\7"):
+        fork = in_apple(file)
+    elif version := mac_binary_version(file):
+        fork = in_mac_binary(version, file)
+    elif comment := COMMENT.search(file):
+        return in_bin_hex(file, comment.end())
+    else:
+        return file
+    must(fork, "absent")
+    return fork

@@ -1,0 +1,317 @@
+#!/usr/bin/env python3
+"""Compares resfork with other programs that read and write resource forks, as Debian has them:
+
+    tests/peers.py [--resfork PROGRAM] [--seconds N] [FILE..]
+
+It isn't a part of the gate, since it needs programs that a machine may lack; it says which are missing, and goes on without them:
+`apt-get install macutils hfsutils unar fontforge-nox fondu t1utils libconvert-binhex-perl python3-fonttools libimage-exiftool-perl`.
+
+Raw forks are made by t1mac, fontforge, ufond and lumper of a font of this machine, and by the model of tests/checks/forks.py; files that are
+named are added. Each is put in containers by macstream, binhex, tobin, hcopy, t1mac and Convert::BinHex, and taken out again by unar as
+AppleDouble. Of each raw fork `resfork ls` must list what fontTools and exiftool list; of each other file, what it lists of the fork that went
+into it. Each resource has to have the same bytes by `resfork get`. It stops after 120 seconds, or N.
+"""
+import argparse
+import glob
+import json
+import os
+import re
+import shutil
+import subprocess
+import sys
+import tempfile
+import time
+
+from checks.forks import Choices
+from model.fork import NoFork, read_fork
+from places import TOP
+
+# fontTools reads a fork in a process of its own, since another Python may have it
+READ = r"""
+import json, sys
+from fontTools.misc.macRes import ResourceReader
+reader, rows = ResourceReader(sys.argv[1]), []
+for kind in reader.types:
+    for row in reader[kind]:
+        name = row.name
+        if isinstance(name, str):
+            name = name.encode("mac_roman")
+        four = kind.encode("mac_roman") if isinstance(kind, str) else bytes(kind)
+        rows.append([four.hex(), row.id, row.attr, None if name is None else bytes(name).hex(), bytes(row.data).hex()])
+print(json.dumps(rows))
+"""
+CODE = {name: 1 << bit for bit, name in enumerate(["bit0", "changed", "preload", "protected", "locked", "purgeable", "sysHeap", "bit7"])}
+LINE = re.compile(r"(\S.{3}|(?:\\x..|\\.|\S).*?) +(-?\d+) +(\d+) (\S+)(?: (\".*\"))?")
+EXIF = re.compile(r"^(?:\| )*(.{4}) resource ID 0x([0-9a-f]{4}) \(offset 0x[0-9a-f]+, (\d+) bytes, name='(.*)'\):$", re.M)
+
+
+class Peers:
+    """Runs programs in a folder until time is over, and counts what was compared."""
+
+    def __init__(self, resfork, folder, seconds):
+        self.resfork, self.folder, self.end = resfork, folder, time.monotonic() + seconds
+        self.missing, self.failed, self.compared, self.faults = set(), [], {}, []
+
+    def run(self, words, **more):
+        """What a program did, or None where it isn't there, fails, or takes too long."""
+        left = self.end - time.monotonic()
+        if left <= 0:
+            return None
+        if not shutil.which(words[0]):
+            self.missing.add(words[0])
+            return None
+        environment = {**os.environ, "HOME": self.folder, "PERL_UNICODE": ""}
+        try:
+            return subprocess.run(words, cwd=self.folder, env=environment, stdin=subprocess.DEVNULL, capture_output=True, timeout=min(20, left), **more)
+        except subprocess.TimeoutExpired:
+            self.failed.append(f"{words[0]}: no answer in time")
+            return None
+
+    def made(self, words, output=None):
+        """The file that a program makes: its standard output, or a file that it was told."""
+        done = self.run(words)
+        if done is None:
+            return None
+        path = os.path.join(self.folder, output)
+        if not os.path.exists(path) and done.returncode == 0:
+            with open(path, "wb") as file:
+                file.write(done.stdout)
+        if done.returncode or not os.path.getsize(path):
+            self.failed.append(f"{' '.join(words)}: {done.stderr.decode(errors='replace').strip()[:100]}")
+            return None
+        return path
+
+    def fault(self, text):
+        self.faults.append(text)
+        print(text)
+
+    def listed(self, path):
+        """The list of a file's resources, or None."""
+        done = subprocess.run([self.resfork, "ls", path], capture_output=True, timeout=20)
+        if done.returncode:
+            self.fault(f"{os.path.basename(path)}: status {done.returncode}, {done.stderr.decode(errors='replace').strip()}")
+            return None
+        return done.stdout.decode()
+
+    def datum(self, path, kind, nth, ident):
+        words = [self.resfork, "get", path, kind, str(ident)] + (["--nth", str(nth)] if nth > 1 else [])
+        done = subprocess.run(words, capture_output=True, timeout=20)
+        return done.stdout if done.returncode == 0 else None
+
+
+def rows_listed(text):
+    """The lines of a list: type, id, length, attributes and whether there is a name."""
+    rows = []
+    for line in text.splitlines():
+        kind, ident, length, attributes, name = LINE.fullmatch(line).groups()
+        bits = 0 if attributes == "-" else sum(CODE[it] for it in attributes.split(","))
+        rows.append((kind, int(ident), int(length), bits, name is not None))
+    return rows
+
+
+def tried(peers, way):
+    peers.compared[way] = peers.compared.get(way, 0) + 1
+
+
+def python_with_font_tools():
+    for python in (sys.executable, "/usr/bin/python3"):
+        if os.path.exists(python) and subprocess.run([python, "-c", "import fontTools"], capture_output=True).returncode == 0:
+            return python
+    return None
+
+
+def beside_font_tools(peers, python, path):
+    """Compares the list and all bytes with those that fontTools reads. It is None where fontTools doesn't read the file."""
+    done = peers.run([python, "-c", READ, path])
+    if done is None or done.returncode:
+        last = done.stderr.decode(errors="replace").strip().splitlines()[-1:] if done else []
+        peers.failed.append(f"fontTools on {os.path.basename(path)}: {' '.join(last)[:100]}")
+        return
+    text = peers.listed(path)
+    if text is None:
+        return
+    theirs, ours, seen = json.loads(done.stdout), rows_listed(text), {}
+    short = [(row[1], len(row[4]) // 2, row[2], row[3] is not None) for row in theirs]
+    if [it[1:] for it in ours] != short:
+        peers.fault(f"{os.path.basename(path)}: fontTools lists {len(theirs)} resources, {short[:3]}.., and resfork {ours[:3]}..")
+        return
+    for kind, ident, _, _, data in theirs:
+        seen[kind, ident] = seen.get((kind, ident), 0) + 1
+        word = "'" + "".join(f"\\x{byte:02X}" for byte in bytes.fromhex(kind)) + "'"
+        if peers.datum(path, word, seen[kind, ident], ident) != bytes.fromhex(data):
+            peers.fault(f"{os.path.basename(path)}: the bytes of {word} {ident} are others")
+    tried(peers, "fontTools")
+
+
+def beside_exif_tool(peers, path):
+    """Compares types, ids and lengths with those that exiftool tells; it tells at most some of a long list, by type."""
+    done = peers.run(["exiftool", "-v3", "-m", path])
+    if done is None:
+        return
+    text = done.stdout.decode("latin-1")
+    theirs = [(int(ident, 16) - (65536 if int(ident, 16) > 32767 else 0), int(length)) for _, ident, length, _ in EXIF.findall(text)]
+    listed = peers.listed(path)
+    if "RSRC directory" not in text or listed is None:
+        peers.failed.append(f"exiftool on {os.path.basename(path)}: no RSRC directory")
+        return
+    if sorted(theirs) != sorted((row[1], row[2]) for row in rows_listed(listed)):
+        peers.fault(f"{os.path.basename(path)}: exiftool lists {len(theirs)} resources, and resfork {len(rows_listed(listed))}")
+    tried(peers, "exiftool")
+
+
+def beside_fork(peers, way, path, fork):
+    """Compares a container with the fork that went into it: the list, and all bytes."""
+    ours, theirs = peers.listed(path), peers.listed(fork)
+    if ours is None or theirs is None:
+        return
+    if ours != theirs:
+        peers.fault(f"{way}: {os.path.basename(path)} has another list than {os.path.basename(fork)}")
+        return
+    seen = {}
+    for kind, ident, *_ in rows_listed(theirs)[:40]:
+        seen[kind, ident] = seen.get((kind, ident), 0) + 1
+        word = kind.strip() or kind
+        if peers.datum(path, word, seen[kind, ident], ident) != peers.datum(fork, word, seen[kind, ident], ident):
+            peers.fault(f"{way}: {os.path.basename(path)}: the bytes of {kind} {ident} are others")
+    tried(peers, way)
+
+
+def some_font():
+    for path in sorted(glob.glob("/usr/share/fonts/**/*.ttf", recursive=True), key=os.path.getsize):
+        return path
+    return None
+
+
+def raw_forks(peers, named):
+    """The paths of raw forks."""
+    forks, font, folder = [], some_font(), peers.folder
+    for index, path in enumerate(named):
+        forks.append(shutil.copy(path, os.path.join(folder, f"named{index}.rsrc")))
+    if font:
+        shutil.copy(font, os.path.join(folder, "a.ttf"))
+        ff = ["fontforge", "-quiet", "-lang=ff", "-c"]
+        peers.run(ff + ['Open("a.ttf"); SelectAll(); ScaleToEm(1000); Generate("a.pfb"); Generate("ff.dfont"); Generate("ff.otf.dfont")'])
+        forks += [path for path in (os.path.join(folder, it) for it in ("ff.dfont", "ff.otf.dfont")) if os.path.exists(path)]
+        if os.path.exists(os.path.join(folder, "a.pfb")):
+            forks += [peers.made(["t1mac", "-r", "a.pfb", "t1.rsrc"], "t1.rsrc")]
+        for flag, ending in (("-dfont", "dfont"), ("-res", "res")):
+            if (done := peers.run(["ufond", flag, "a.ttf"])) and not done.returncode:
+                new = [it for it in glob.glob(os.path.join(folder, f"*.{ending}")) if os.path.basename(it).split(".")[0] not in ("ff", "uf")]
+                forks += [shutil.move(new[0], os.path.join(folder, f"uf.{ending}.rsrc"))] if new else []
+        if len(forks) > 1 and forks[0]:
+            shutil.copy(forks[0], os.path.join(folder, "lumped.rsrc"))
+            if (done := peers.run(["lumper", "lumped.rsrc", os.path.basename(forks[1])])) and not done.returncode:
+                forks.append(os.path.join(folder, "lumped.rsrc"))
+    for number in range(1, 40):
+        fork = Choices(number).fork()
+        try:
+            rows = read_fork(fork)
+        except NoFork:
+            continue
+        if rows:
+            forks.append(os.path.join(folder, f"model{number}.rsrc"))
+            with open(forks[-1], "wb") as file:
+                file.write(fork)
+    return [it for it in forks if it]
+
+
+def containers(peers, fork):
+    """A fork in the containers that tools make of it: the way, and the path. A tool that can't is told of."""
+    name = os.path.basename(fork)
+    with open(os.path.join(peers.folder, "bh.pl"), "w", encoding="ascii") as script:
+        script.write(
+            "use Convert::BinHex; local $/; open(F, '<:raw', $ARGV[0]) or die; my $r = <F>;"
+            "my $h = Convert::BinHex->new(filename => 'a file', flags => 0, type => 'APPL', creator => 'abcd');"
+            "$h->resource(Data => $r); $h->data(Data => 'some data'); open(O, '>:raw', $ARGV[1]) or die; $h->encode(\\*O); close O;"
+        )
+    ways = [
+        ("macstream", ["macstream", "-r", "-tAPPL", "-cabcd", name], name + ".ms.bin"),
+        ("binhex", ["binhex", "-r", "-tAPPL", "-cabcd", name], name + ".hqx"),
+        ("tobin", ["tobin", "-res", name, "-type", "APPL", "-creator", "abcd", "data"], "data.bin"),
+        ("Convert::BinHex", ["perl", "bh.pl", name, name + ".pl.hqx"], name + ".pl.hqx"),
+    ]
+    with open(os.path.join(peers.folder, "data"), "wb") as file:
+        file.write(b"some data")
+    for way, words, output in ways:
+        path = peers.made(words, output)
+        if path:
+            kept = shutil.move(path, os.path.join(peers.folder, f"{name}.{way[:4]}.kept"))
+            yield way, kept
+            if way == "tobin":
+                yield from by_hcopy(peers, kept, name)
+                yield from by_unar(peers, kept)
+
+
+def by_hcopy(peers, binary, name):
+    """MacBinary and BinHex by way of an HFS volume."""
+    image = os.path.join(peers.folder, "hfs.img")
+    with open(image, "wb") as file:
+        file.truncate(8000000)
+    inside = os.path.join(peers.folder, "h.bin")
+    shutil.copy(binary, inside)
+    for words in (["hformat", "-l", "Test", image], ["hmount", image], ["hcopy", "-m", "h.bin", ":it"]):
+        done = peers.run(words)
+        if done is None or done.returncode:
+            peers.failed += [f"{words[0]} of {name}: {done.stderr.decode(errors='replace').strip()[:100]}"] if done else []
+            return
+    for flag, ending in (("-m", "hc.bin"), ("-b", "hc.hqx")):
+        path = peers.made(["hcopy", flag, ":it", f"{name}.{ending}"], f"{name}.{ending}")
+        if path:
+            yield f"hcopy {flag}", path
+
+
+def by_unar(peers, binary):
+    """AppleDouble that unar makes of MacBinary."""
+    out = os.path.join(peers.folder, "unar")
+    shutil.rmtree(out, ignore_errors=True)
+    done = peers.run(["unar", "-q", "-k", "hidden", "-o", out, binary])
+    if done is None or done.returncode:
+        return
+    for path in glob.glob(out + "/**/._*", recursive=True):
+        yield "unar", path
+
+
+def of_t1mac(peers):
+    """The containers that t1mac makes of one font."""
+    for flag in ("--macbinary", "--applesingle", "--appledouble", "--binhex"):
+        if os.path.exists(os.path.join(peers.folder, "a.pfb")):
+            path = peers.made(["t1mac", flag, "a.pfb", f"t1{flag}"], f"t1{flag}")
+            if path:
+                yield f"t1mac {flag}", path
+
+
+def main():
+    words = argparse.ArgumentParser(description=__doc__, formatter_class=argparse.RawDescriptionHelpFormatter)
+    words.add_argument("--resfork", default=os.path.join(TOP, "crates/resfork/out/resfork"))
+    words.add_argument("--seconds", type=float, default=120)
+    words.add_argument("files", nargs="*", metavar="FILE", help="a raw fork")
+    asked = words.parse_args()
+    with tempfile.TemporaryDirectory() as folder:
+        peers = Peers(os.path.abspath(asked.resfork), folder, asked.seconds)
+        forks, python = raw_forks(peers, asked.files), python_with_font_tools()
+        if not python:
+            peers.missing.add("fontTools")
+        for fork in forks:
+            if not os.path.basename(fork).startswith("model"):  # these are odd in ways that fontTools and exiftool don't read
+                if python:
+                    beside_font_tools(peers, python, fork)
+                beside_exif_tool(peers, fork)
+            for way, path in containers(peers, fork):
+                beside_fork(peers, way, path, fork)
+        t1 = os.path.join(folder, "t1.rsrc")
+        for way, path in of_t1mac(peers) if os.path.exists(t1) else []:
+            beside_fork(peers, way, path, t1)
+        over = time.monotonic() > peers.end
+    for text in sorted(set(peers.failed)):
+        print(f"not compared: {text}")
+    if peers.missing:
+        print(f"missing: {', '.join(sorted(peers.missing))}")
+    print(f"{len(forks)} raw forks; compared: " + ", ".join(f"{way} {count}" for way, count in sorted(peers.compared.items())))
+    if over:
+        print("the time was over before all was tried: give more by --seconds")
+    print(f"{len(peers.faults)} differences")
+    return 1 if peers.faults else 0
+
+
+if __name__ == "__main__":
+    sys.exit(main())
