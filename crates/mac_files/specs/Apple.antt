@@ -43,9 +43,13 @@ entries_of file = entries_from file 26 (entry_count file)
 abbrev pub entry_outside : List ℕ → Option Entry
 entry_outside file = find (λ (e : Entry). not (lies_within (length file) e.part)) (entries_of file)
 
--- the bytes of the first entry with an id, if it has any
+-- the first entry with an id
+abbrev pub entry_of : ℕ → List ℕ → Option Entry
+entry_of id file = find (λ (e : Entry). e.id == id) (entries_of file)
+
+-- its bytes, if it has any
 abbrev pub part_of : ℕ → List ℕ → Option Part
-part_of id file = option_and_then (λ (e : Entry). has_bytes e.part) (find (λ (e : Entry). e.id == id) (entries_of file))
+part_of id file = option_and_then (λ (e : Entry). has_bytes e.part) (entry_of id file)
 
 -- what the Finder knows of the file: the type, the creator and the flags, in 10 bytes
 abbrev pub finder_in : List ℕ → Part → Option FinderInfo

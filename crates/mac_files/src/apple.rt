@@ -1,8 +1,8 @@
 //! AppleSingle and AppleDouble: a header, a list of entries, and the bytes of each. The entries come in any order.
 
-ghost use Rattle.std.specs.Prelude.{◌≡◌, ◌≤◌, ◌+◌, ◌*◌, length, IfOk, IfSome, OnOk, None, true};
+ghost use Rattle.std.specs.Prelude.{◌≡◌, ◌≤◌, ◌+◌, ◌*◌, ◌^◌, ◌<◌, length, IfOk, IfSome, OnOk, None, true};
 ghost use Rattle.std.specs.Result.{result_err};
-ghost use Rattle.mac_files.specs.Apple.{apple_contents, dates_in, entry_at, entry_count, entry_outside, finder_in, part_of};
+ghost use Rattle.mac_files.specs.Apple.{apple_contents, dates_in, entry_at, entry_count, entry_of, entry_outside, finder_in, part_of};
 ghost use Rattle.mac_files.specs.Parts.{lies_within, AreWithin};
 ghost use Rattle.mac_files.specs.Faults.{apple_fault, entry_fault, list_fault, version_fault};
 
@@ -30,7 +30,7 @@ const FILE_DATES: u32 = 8;
 const FINDER_INFO: u32 = 9;
 
 /// How many entries the list has.
-fn entry_count(file: &[u8]) -> u16
+pub fn entry_count(file: &[u8]) -> u16
     requires { 26 ≤ length file.now }
     ensures { result ≡ entry_count file.now }
 {
@@ -38,9 +38,11 @@ fn entry_count(file: &[u8]) -> u16
 }
 
 /// The entry at a place of the list.
-fn entry_at(file: &[u8], at: usize) -> Entry
+pub fn entry_at(file: &[u8], at: usize) -> Entry
     requires { at + 12 ≤ length file.now }
-    ensures { result ≡ entry_at file.now at }
+    ensures entry { result ≡ entry_at file.now at }
+    ensures offset { result.part.offset < 2 ^ 32 }
+    ensures length { result.part.length < 2 ^ 32 }
 {
     Entry {
         at,
@@ -97,7 +99,7 @@ fn check_entries(file: &[u8]) -> Result<(), ContainerFault>
 }
 
 /// Checks the file, and gives the first fault.
-fn check(file: &[u8]) -> Result<(), ContainerFault>
+pub fn check(file: &[u8]) -> Result<(), ContainerFault>
     ensures fault { result_err result ≡ apple_fault file.now }
     ensures header { OnOk result (26 ≤ length file.now) }
     ensures list { OnOk result (26 + 12 * entry_count file.now ≤ length file.now) }
@@ -109,8 +111,26 @@ fn check(file: &[u8]) -> Result<(), ContainerFault>
     check_entries(file)
 }
 
-/// The bytes of the first entry with an id.
+/// The first entry with an id.
 #[tactic(auto, using(crate::proofs::Steps::entries_step))]
+pub fn find_entry(file: &[u8], id: u32) -> Option<Entry>
+    requires header { 26 ≤ length file.now }
+    requires list { 26 + 12 * entry_count file.now ≤ length file.now }
+    requires entries { entry_outside file.now ≡ None }
+    ensures entry { result ≡ entry_of id file.now }
+    ensures within { IfSome result (λ entry. lies_within (length file.now) entry.part ≡ true) }
+{
+    let count = entry_count(file) as usize;
+    for index in 0..count {
+        let entry = entry_at(file, HEADER_LENGTH + ENTRY_LENGTH * index);
+        if entry.id == id {
+            return Some(entry);
+        }
+    }
+    None
+}
+
+/// The bytes of the first entry with an id.
 fn part_of(file: &[u8], id: u32) -> Option<Part>
     requires header { 26 ≤ length file.now }
     requires list { 26 + 12 * entry_count file.now ≤ length file.now }
@@ -118,14 +138,7 @@ fn part_of(file: &[u8], id: u32) -> Option<Part>
     ensures part { result ≡ part_of id file.now }
     ensures within { IfSome result (λ part. lies_within (length file.now) part ≡ true) }
 {
-    let count = entry_count(file) as usize;
-    for index in 0..count {
-        let entry = entry_at(file, HEADER_LENGTH + ENTRY_LENGTH * index);
-        if entry.id == id {
-            return entry.part.if_any();
-        }
-    }
-    None
+    find_entry(file, id)?.part.if_any()
 }
 
 /// What the Finder knows of the file, where the entry has it.

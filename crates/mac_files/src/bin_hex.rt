@@ -1,6 +1,6 @@
 //! BinHex 4.0 (RFC 1741): a file with both its forks as a text of 64 characters.
 
-mod crc;
+pub mod crc;
 mod decode;
 mod digits;
 pub mod fault;

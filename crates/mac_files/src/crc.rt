@@ -31,7 +31,7 @@ fn with_byte(crc: u16, byte: u8) -> u16
 }
 
 /// The checksum of bytes: CRC-16/XMODEM.
-pub(crate) fn crc_of(bytes: &[u8]) -> u16
+pub fn crc_of(bytes: &[u8]) -> u16
     ensures { result ≡ crc_of bytes.now }
 {
     bytes.iter().fold(0, |crc, byte| with_byte(crc, *byte))

@@ -2,17 +2,17 @@
 //! (`container_of`), and `read_contents` gives the places of its forks in it, and what the container tells of the file.
 #![tactic(auto)]
 
-mod apple;
+pub mod apple;
 pub mod archive;
 pub mod bin_hex;
 mod check;
 pub mod container;
 pub mod contents;
-mod crc;
+pub mod crc;
 pub mod fault;
 mod laws;
-mod mac_binary;
-mod number;
+pub mod mac_binary;
+pub mod number;
 pub mod part;
 mod read;
 

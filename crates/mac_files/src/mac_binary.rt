@@ -96,7 +96,7 @@ pub(crate) fn version_of(file: &[u8]) -> Option<Version>
 }
 
 /// So many bytes with those that fill the last 128.
-fn padded(length: usize) -> usize
+pub fn padded(length: usize) -> usize
     requires { length < 2 ^ 32 }
     ensures { result ≡ padded length }
 {
@@ -115,7 +115,7 @@ fn data_fork(file: &[u8]) -> Part
 }
 
 /// Where the resource fork is: after the data fork.
-fn resource_fork(file: &[u8]) -> Part
+pub fn resource_fork(file: &[u8]) -> Part
     requires { 128 ≤ length file.now }
     ensures { result ≡ resource_fork file.now }
 {
@@ -165,7 +165,7 @@ fn check_fork(fork: Fork, part: Part, file: &[u8]) -> Result<(), ContainerFault>
 }
 
 /// Checks the file, and gives the first fault.
-fn check(version: Version, file: &[u8]) -> Result<(), ContainerFault>
+pub fn check(version: Version, file: &[u8]) -> Result<(), ContainerFault>
     ensures fault { result_err result ≡ mac_binary_fault version file.now }
     ensures whole { OnOk result (128 ≤ length file.now) }
     ensures data { OnOk result (lies_within (length file.now) (data_fork file.now) ≡ true) }

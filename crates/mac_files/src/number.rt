@@ -6,7 +6,7 @@ ghost use Rattle.byteorder.specs.Endian.{big_from};
 use byteorder::{BigEndian, ByteOrder};
 
 /// The number of two bytes at a place.
-pub(crate) fn read_two(file: &[u8], at: usize) -> u16
+pub fn read_two(file: &[u8], at: usize) -> u16
     requires { at + 2 ≤ length file.now }
     ensures { result ≡ big_from at 2 file.now }
 {
@@ -14,7 +14,7 @@ pub(crate) fn read_two(file: &[u8], at: usize) -> u16
 }
 
 /// The number of four bytes at a place.
-pub(crate) fn read_four(file: &[u8], at: usize) -> u32
+pub fn read_four(file: &[u8], at: usize) -> u32
     requires { at + 4 ≤ length file.now }
     ensures { result ≡ big_from at 4 file.now }
 {
@@ -22,7 +22,7 @@ pub(crate) fn read_four(file: &[u8], at: usize) -> u32
 }
 
 /// The four bytes at a place.
-pub(crate) fn four_bytes(file: &[u8], at: usize) -> [u8; 4]
+pub fn four_bytes(file: &[u8], at: usize) -> [u8; 4]
     requires { at + 4 ≤ length file.now }
     ensures { result ≡ take 4 (drop at file.now) }
 {

@@ -3,7 +3,7 @@ use Rattle.std.specs.Prelude.{find, ◌==◌, not}
 use Rattle.mac_files.specs.declared.fault.Entry.{Entry}
 use Rattle.mac_files.specs.Parts.{lies_within}
 use Rattle.mac_files.specs.Apple.{entries_from, entries_of}
-use Rattle.mac_files.proofs.apple.part_of.Given as goal
+use Rattle.mac_files.proofs.apple.find_entry.Given as goal
 
 -- the first with the id is one of those that are left, and none of these has bytes outside the file
 abbrev pub invariant-loop-index : goal.invariant-loop-index

@@ -1,0 +1,4 @@
+pub mod Bytes
+pub mod Apple
+pub mod MacBinary
+pub mod Forks

@@ -1,0 +1,43 @@
+//! Why a container isn't written.
+
+use mac_files::fault::{ContainerFault, Entry};
+use std::alloc::AllocError;
+use thiserror::Error;
+
+/// Why a container isn't written.
+#[derive(Clone, Copy, Debug, PartialEq, Eq, Error)]
+pub enum Refusal {
+    /// The file is damaged: the first fault.
+    #[error("{0}")]
+    Damaged(ContainerFault),
+    /// An entry of AppleSingle or AppleDouble has bytes in the header or in the list, or shares some with the resource fork: the
+    /// first in the list.
+    #[error("entry {id}, listed at offset {at}, shares bytes with the list or the resource fork", id = .0.id, at = .0.at)]
+    Overlap(Entry),
+    /// The list of AppleSingle or AppleDouble has 65,535 entries, and none of a resource fork.
+    #[error("the list of entries is full, and none of them is a resource fork")]
+    ListFull,
+    /// So many bytes are more than the container's numbers can count: of the fork in MacBinary, of the whole file in AppleSingle and
+    /// AppleDouble.
+    #[error("{length} bytes are too many: the container counts {most} at most")]
+    TooLong { length: usize, most: usize },
+    /// The host has no memory for the file.
+    #[error("the host has no memory")]
+    HostFull,
+}
+
+impl From<AllocError> for Refusal {
+    ghost from_gives = { λ _ refusal. refusal ≡ HostFull };
+
+    fn from(_: AllocError) -> Refusal {
+        Refusal::HostFull
+    }
+}
+
+impl From<ContainerFault> for Refusal {
+    ghost from_gives = { λ fault refusal. refusal ≡ Damaged fault };
+
+    fn from(fault: ContainerFault) -> Refusal {
+        Refusal::Damaged(fault)
+    }
+}
