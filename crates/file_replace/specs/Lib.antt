@@ -1,0 +1,5 @@
+pub mod Place
+pub mod OnPlace
+pub mod Replacing
+pub mod Calls
+pub mod Memory

@@ -1,0 +1,242 @@
+//! A path of the host.
+
+ghost use Rattle.std.specs.Prelude.{◌≡◌, ◌∷◌, is_ok};
+ghost use Rattle.fork_disk.specs.Disk.{Counts};
+ghost use Rattle.file_replace.specs.Calls.{history_of, IsHonest};
+
+use crate::calls::{Call, Noted, PlaceCalls, note};
+use crate::links::folder_of;
+use crate::place::{FolderSync, Replaces};
+use crate::world::FolderWorld;
+use fork_disk::Record;
+use std::fs::{File, OpenOptions, Permissions};
+use std::io::{ErrorKind, Write};
+use std::marker::PhantomData;
+use std::os::unix::fs::{OpenOptionsExt, PermissionsExt};
+use std::path::PathBuf;
+use std::{fs, io};
+
+/// How many names are tried for the new file.
+const MOST_NAMES: u32 = 1000;
+
+/// What getrlimit is asked: how long a file may be that this process writes.
+const RLIMIT_FSIZE: i32 = 1;
+
+/// A file that was made beside a path.
+#[derive(Drop)]
+struct Beside {
+    file: File,
+    path: PathBuf,
+}
+
+/// A path of the host at which a file is replaced, and no link. Each call of the system is noted with its answer, in a record that only
+/// clauses read. It is honest where these answers are those of the folder that its world tells of, so that nobody else wrote there.
+#[derive(Drop)]
+pub struct FileReplacer<'a, W: FolderWorld> {
+    rt: &'a HostRuntime,
+    path: PathBuf,
+    /// None where the folder can't be read, so that it can't be synced.
+    folder: Option<File>,
+    beside: Option<Beside>,
+    failures: u64,
+    /// Which place of the world it is. Only clauses read it.
+    number: u64,
+    log: PlaceCalls,
+    world: PhantomData<W>,
+}
+
+/// How long a file may be that this process writes. A write past it would end the process.
+fn longest_file() -> u64 {
+    let mut limit = libc::types::rlimit {
+        rlim_cur: u64::MAX,
+        rlim_max: u64::MAX,
+    };
+    if libc::getrlimit(RLIMIT_FSIZE, &mut limit) == 0 {
+        limit.rlim_cur
+    } else {
+        u64::MAX
+    }
+}
+
+/// Opens the folder of a path, to sync it, if its mode lets it be read.
+fn open_folder(rt: &HostRuntime, path: &PathBuf) -> io::Result<Option<File>> {
+    let folder = folder_of(path);
+    let name = if folder.as_str() == "" { "." } else { folder.as_str() };
+    match fs::open(rt, name) {
+        Ok(folder) => Ok(Some(folder)),
+        Err(error) if error.kind() == ErrorKind::PermissionDenied => Ok(None),
+        Err(error) => Err(error),
+    }
+}
+
+/// Makes an empty file beside a path, at a name that no file has.
+fn make_beside(rt: &HostRuntime, path: &PathBuf, is_private: bool) -> io::Result<Beside> {
+    let alloc = rt.alloc();
+    let mode = if is_private { 0o600 } else { 0o666 };
+    for number in 0..MOST_NAMES {
+        let name = format!(in alloc; ".resfork-{number}.new")?;
+        let path = folder_of(path).join(alloc, &name)?;
+        let made = OpenOptions::new()
+            .write(true)
+            .create_new(true)
+            .mode(mode)
+            .open(rt, &path);
+        match made {
+            Ok(file) => return Ok(Beside { file, path }),
+            Err(error) if error.kind() == ErrorKind::AlreadyExists => {}
+            Err(error) => return Err(error),
+        }
+    }
+    Err(ErrorKind::AlreadyExists.into())
+}
+
+/// Writes all these bytes to a file, where it may be so long.
+fn write_whole(file: &mut File, bytes: &[u8]) -> io::Result<()> {
+    if bytes.len() as u64 > longest_file() {
+        return Err(io::Error::from_raw_os_error(libc::EFBIG));
+    }
+    file.write_all(bytes)
+}
+
+impl<'a, W: FolderWorld> FileReplacer<'a, W> {
+    /// The place of a path, which is no link, and beside which nothing was made so far. No other place of this world may have its
+    /// number.
+    pub fn new(rt: &'a HostRuntime, path: PathBuf, number: u64) -> io::Result<FileReplacer<'a, W>> {
+        Ok(FileReplacer {
+            rt,
+            folder: open_folder(rt, &path)?,
+            path,
+            beside: None,
+            failures: 0,
+            number,
+            log: Record::new(),
+            world: PhantomData,
+        })
+    }
+
+    /// The path of the file that was made beside and neither renamed nor removed, if there is one.
+    pub fn into_left(self) -> Option<PathBuf> {
+        let FileReplacer { beside, .. } = self;
+        match beside {
+            Some(beside) => Some(beside.path),
+            None => None,
+        }
+    }
+
+    /// Notes a call with its answer, and counts a failure.
+    fn answered<T: Drop>(&mut self, call: Call, bytes: &[u8], answer: io::Result<T>) -> io::Result<T>
+        ensures cause { Counts self.old.failures self.new.failures result }
+        ensures same { result ≡ answer }
+        ensures number { self.new.number ≡ self.old.number }
+        ensures noted { self.new.log.events ≡ (record { call = call; is_done = is_ok answer }, bytes.now) ∷ self.old.log.events }
+    {
+        let is_done = answer.is_ok();
+        note(&mut self.log, Noted { call, is_done }, bytes);
+        if !is_done {
+            self.failures = self.failures.saturating_add(1);
+        }
+        answer
+    }
+}
+
+/// Syncs a folder, if the host offers that.
+fn sync_offered(folder: &Option<File>) -> io::Result<FolderSync> {
+    let Some(folder) = folder else {
+        return Ok(FolderSync::NotOffered);
+    };
+    match folder.sync_all() {
+        Ok(()) => Ok(FolderSync::Done),
+        Err(error)
+            if error.kind() == ErrorKind::InvalidInput || error.kind() == ErrorKind::Unsupported =>
+        {
+            Ok(FolderSync::NotOffered)
+        }
+        Err(error) => Err(error),
+    }
+}
+
+/// Removes a file, if it is there.
+fn remove(rt: &HostRuntime, path: &PathBuf) -> io::Result<()> {
+    match fs::remove_file(rt, path) {
+        Err(error) if error.kind() == ErrorKind::NotFound => Ok(()),
+        answer => answer,
+    }
+}
+
+impl<'a, W: FolderWorld> Replaces for FileReplacer<'a, W> {
+    type Error = io::Error;
+
+    ghost contents = { λ place. W.held place.number place.log.events };
+
+    ghost history = { λ place. history_of (W.held place.number) place.log.events };
+
+    ghost is_honest = { λ place. IsHonest (W.held place.number) place.log.events };
+
+    ghost failures = { λ place. place.failures };
+
+    fn create(&mut self, is_private: bool) -> io::Result<()> {
+        let answer = match make_beside(self.rt, &self.path, is_private) {
+            Ok(beside) => {
+                self.beside = Some(beside);
+                Ok(())
+            }
+            Err(error) => Err(error),
+        };
+        self.answered(Call::Create, &[], answer)
+    }
+
+    fn write(&mut self, bytes: &[u8]) -> io::Result<()> {
+        let answer = match &mut self.beside {
+            Some(beside) => write_whole(&mut beside.file, bytes),
+            None => Err(ErrorKind::NotFound.into()),
+        };
+        self.answered(Call::Write, bytes, answer)
+    }
+
+    fn set_mode(&mut self, mode: u32) -> io::Result<()> {
+        let answer = match &mut self.beside {
+            Some(beside) => beside.file.set_permissions(Permissions::from_mode(mode)),
+            None => Err(ErrorKind::NotFound.into()),
+        };
+        self.answered(Call::SetMode(mode), &[], answer)
+    }
+
+    fn sync(&mut self) -> io::Result<()> {
+        let answer = match &mut self.beside {
+            Some(beside) => beside.file.sync_all(),
+            None => Err(ErrorKind::NotFound.into()),
+        };
+        self.answered(Call::Sync, &[], answer)
+    }
+
+    fn rename(&mut self) -> io::Result<()> {
+        let answer = match &self.beside {
+            Some(beside) => fs::rename(self.rt, &beside.path, &self.path),
+            None => Err(ErrorKind::NotFound.into()),
+        };
+        if answer.is_ok() {
+            self.beside = None;
+        }
+        self.answered(Call::Rename, &[], answer)
+    }
+
+    fn sync_folder(&mut self) -> io::Result<FolderSync> {
+        let answer = sync_offered(&self.folder);
+        let told = match &answer {
+            Ok(told) => *told,
+            Err(_) => FolderSync::NotOffered,
+        };
+        self.answered(Call::SyncFolder(told), &[], answer)
+    }
+
+    fn remove(&mut self) -> io::Result<()> {
+        let answer = match &self.beside {
+            Some(beside) => remove(self.rt, &beside.path),
+            None => Ok(()),
+        };
+        if answer.is_ok() {
+            self.beside = None;
+        }
+        self.answered(Call::Remove, &[], answer)
+    }
+}

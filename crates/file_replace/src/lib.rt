@@ -1,0 +1,21 @@
+//! A file is replaced safely: its path has the old file or the new one, whatever fails, and whenever the machine stops.
+#![tactic(auto)]
+
+mod calls;
+mod held;
+mod host_place;
+mod links;
+mod mem_place;
+mod place;
+mod replacement;
+mod told;
+mod world;
+
+pub use calls::{Call, Noted, PlaceCalls};
+pub use held::{Held, Outcome, save};
+pub use host_place::FileReplacer;
+pub use mem_place::{MemFile, MemPlace};
+pub use place::{Event, FolderSync, PlainFile, Replaces};
+pub use replacement::{Fault, Step, replace};
+pub use told::{NotReplaced, Stop};
+pub use world::{FolderWorld, UnknownFolder};

@@ -1,0 +1,188 @@
+//! A path in memory.
+
+ghost use Rattle.std.specs.Prelude.{◌≡◌, ⊤, [], ◌∷◌, None, is_some, IsErr, MatchOption};
+ghost use Rattle.fork_disk.specs.Disk.{Counts};
+ghost use Rattle.file_replace.specs.Memory.{seen, folder, noted};
+ghost use Rattle.file_replace.specs.declared.place.Event.TheVariants.{Found};
+
+use crate::calls::{Call, Noted};
+use crate::place::{Event, FolderSync, Replaces};
+use fork_disk::Record;
+use fork_disk::disk::DiskFault;
+use std::alloc::Global;
+
+/// A file in memory.
+#[derive(Debug, Drop)]
+pub struct MemFile {
+    pub bytes: Vec<u8>,
+    pub mode: u32,
+}
+
+/// A path in memory. It is honest. Its n-th call fails, to try what stands on it: a write has then put half of its bytes, and any other call
+/// has changed nothing. It also fails where the host refuses it memory for a write.
+#[derive(Drop)]
+pub struct MemPlace {
+    alloc: Global,
+    path: Option<MemFile>,
+    beside: Option<MemFile>,
+    turn: u64,
+    calls: u64,
+    failures: u64,
+    log: Record<Event>,
+}
+
+/// Notes what a call did, for clauses alone.
+fn note(log: &mut Record<Event>, call: Noted, beside: &Option<MemFile>)
+    ensures { log.new.events ≡ noted call beside.now log.old.events }
+{
+    *log = Record::of_events_beside(log, &call, beside);
+}
+
+/// A record that begins with what a start found.
+fn begun(path: &Option<MemFile>) -> Record<Event>
+    ensures { result.events ≡ Found (seen path.now) ∷ [] }
+{
+    Record::of_events_beside(&Record::new(), path, path)
+}
+
+impl MemPlace {
+    /// A path that has this file, or none, and whose call of this number fails, where the first is 1. With 0 none does.
+    pub fn new(alloc: Global, path: Option<MemFile>, turn: u64) -> MemPlace
+        ensures path { result.path ≡ path }
+        ensures beside { result.beside ≡ None }
+        ensures start { result.log.events ≡ Found (seen path) ∷ [] }
+        ensures turn { result.turn ≡ turn }
+        ensures calls { result.calls ≡ 0 }
+    {
+        MemPlace {
+            alloc,
+            log: begun(&path),
+            path,
+            beside: None,
+            turn,
+            calls: 0,
+            failures: 0,
+        }
+    }
+
+    /// The file at the path.
+    pub fn file(&self) -> Option<&MemFile>
+    {
+        self.path.as_ref()
+    }
+
+    /// The file beside it.
+    pub fn beside(&self) -> Option<&MemFile> {
+        self.beside.as_ref()
+    }
+
+    /// How many calls were made, the one that failed among them.
+    pub fn calls(&self) -> u64
+        ensures { result ≡ self.now.calls }
+    {
+        self.calls
+    }
+
+    /// Counts a call, and tells whether it is to fail.
+    fn is_turn(&mut self) -> bool
+        ensures path { self.new.path ≡ self.old.path }
+        ensures beside { self.new.beside ≡ self.old.beside }
+        ensures log { self.new.log ≡ self.old.log }
+        ensures failures { self.new.failures ≡ self.old.failures }
+    {
+        self.calls = self.calls.saturating_add(1);
+        self.calls == self.turn
+    }
+
+    /// Notes a call that was done, or counts the failure of one that wasn't.
+    fn answer<T: Drop>(&mut self, call: Call, done: Option<T>) -> Result<T, DiskFault>
+        ensures path { self.new.path ≡ self.old.path }
+        ensures beside { self.new.beside ≡ self.old.beside }
+        ensures noted { self.new.log.events ≡ noted (record { call = call; is_done = is_some done }) self.old.beside self.old.log.events }
+        ensures cause { Counts self.old.failures self.new.failures result }
+        ensures same { MatchOption done (IsErr result) (λ value. result ≡ Ok value) }
+    {
+        let is_done = done.is_some();
+        note(&mut self.log, Noted { call, is_done }, &self.beside);
+        match done {
+            Some(value) => Ok(value),
+            None => {
+                self.failures = self.failures.saturating_add(1);
+                Err(DiskFault)
+            }
+        }
+    }
+}
+
+impl Replaces for MemPlace {
+    type Error = DiskFault;
+
+    ghost contents = { λ place. folder place.path place.beside };
+
+    ghost history = { λ place. place.log.events };
+
+    ghost is_honest = { λ _. ⊤ };
+
+    ghost failures = { λ place. place.failures };
+
+    fn create(&mut self, _is_private: bool) -> Result<(), DiskFault> {
+        if self.is_turn() {
+            return self.answer(Call::Create, None);
+        }
+        self.beside = Some(MemFile {
+            bytes: Vec::new(self.alloc),
+            mode: 0o644,
+        });
+        self.answer(Call::Create, Some(()))
+    }
+
+    fn write(&mut self, bytes: &[u8]) -> Result<(), DiskFault> {
+        let is_turn = self.is_turn();
+        let part = if is_turn { &bytes[..bytes.len() / 2] } else { bytes };
+        let done = match &mut self.beside {
+            Some(file) => file.bytes.extend_from_slice(part).is_ok() && !is_turn,
+            None => false,
+        };
+        self.answer(Call::Write, done.then_some(()))
+    }
+
+    fn set_mode(&mut self, mode: u32) -> Result<(), DiskFault> {
+        if self.is_turn() {
+            return self.answer(Call::SetMode(mode), None);
+        }
+        if let Some(file) = &mut self.beside {
+            file.mode = mode;
+        }
+        self.answer(Call::SetMode(mode), Some(()))
+    }
+
+    fn sync(&mut self) -> Result<(), DiskFault> {
+        if self.is_turn() {
+            return self.answer(Call::Sync, None);
+        }
+        self.answer(Call::Sync, Some(()))
+    }
+
+    fn rename(&mut self) -> Result<(), DiskFault> {
+        if self.is_turn() {
+            return self.answer(Call::Rename, None);
+        }
+        self.path = self.beside.take();
+        self.answer(Call::Rename, Some(()))
+    }
+
+    fn sync_folder(&mut self) -> Result<FolderSync, DiskFault> {
+        if self.is_turn() {
+            return self.answer(Call::SyncFolder(FolderSync::NotOffered), None);
+        }
+        self.answer(Call::SyncFolder(FolderSync::Done), Some(FolderSync::Done))
+    }
+
+    fn remove(&mut self) -> Result<(), DiskFault> {
+        if self.is_turn() {
+            return self.answer(Call::Remove, None);
+        }
+        self.beside = None;
+        self.answer(Call::Remove, Some(()))
+    }
+}

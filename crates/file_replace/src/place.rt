@@ -1,0 +1,109 @@
+//! A path at which a file is replaced, and the name beside it at which the new file is made.
+
+ghost use Rattle.std.specs.Prelude.{◌≡◌, ℕ, None, IsSome};
+ghost use Rattle.fork_disk.specs.Disk.{Counts};
+ghost use Rattle.file_replace.specs.Place.{Folder, History};
+ghost use Rattle.file_replace.specs.OnPlace.{Creates, Writes, SetsMode, Syncs, Renames, SyncsFolder, Removes};
+
+use std::collections::LinkedList;
+
+/// A file as clauses see it: its bytes, and its mode, who may read, write and run it.
+#[derive(Drop)]
+pub struct PlainFile {
+    pub bytes: LinkedList<u8>,
+    pub mode: u32,
+}
+
+/// What the host answers where it is asked to sync a folder.
+#[derive(Clone, Copy, Debug, PartialEq, Eq)]
+pub enum FolderSync {
+    /// A crash leaves the folder's names as they are.
+    Done,
+    /// The file system, or the folder's mode, offers no sync of it.
+    NotOffered,
+}
+
+/// What happened at a path and beside it, of which a crash may undo some.
+#[derive(Drop)]
+pub enum Event {
+    /// A start found this file at the path, or none.
+    Found(Option<PlainFile>),
+    /// A file was made beside the path.
+    Made,
+    /// The file beside was changed, at least in part.
+    Changed,
+    /// The file beside was synced while it was this.
+    Synced(PlainFile),
+    /// A sync of the file beside failed.
+    Failed,
+    /// The file beside was renamed to the path.
+    Renamed,
+    /// It may have been renamed to the path: that failed.
+    Tried,
+    /// The folder was to be synced, and this was answered.
+    Asked(FolderSync),
+}
+
+/// A path at which a file is replaced, and the name beside it at which the new file is made. Each call may fail, and what it leaves then
+/// is said beside it.
+///
+/// What is promised of files holds of an *honest* place: one that does what it answers, and at which nobody else writes. A rename is
+/// atomic there: the path has the file that it had, or the one that was beside it. A place that is honest after a call was so before it.
+pub trait Replaces {
+    /// Why a call failed.
+    type Error: Drop;
+
+    /// What the path has, and what is beside it.
+    ghost contents: { Self → Folder };
+
+    /// What happened since a start, the last event first.
+    ghost history: { Self → History };
+
+    /// It does what it answers, and nobody else writes there.
+    ghost is_honest: { Self → Type 0 };
+
+    /// How often a call has failed.
+    ghost failures: { Self → ℕ };
+
+    /// Makes an empty file beside the path, at a name that no file has. A private one can be read by its owner alone until it gets its
+    /// mode. Where it fails, no file was made.
+    fn create(&mut self, is_private: bool) -> Result<(), Self::Error>
+        requires { is_honest self.old → (contents self.old).beside ≡ None }
+        ensures creates { is_honest self.new → Creates contents history is_honest self.old self.new result }
+        ensures cause { Counts (failures self.old) (failures self.new) result };
+
+    /// Writes all these bytes to the end of the file beside. Where it fails, that file may be any.
+    fn write(&mut self, bytes: &[u8]) -> Result<(), Self::Error>
+        requires { is_honest self.old → IsSome (contents self.old).beside }
+        ensures writes { is_honest self.new → Writes contents history is_honest self.old self.new bytes.now result }
+        ensures cause { Counts (failures self.old) (failures self.new) result };
+
+    /// Gives the file beside a mode. Where it fails, that file may be any.
+    fn set_mode(&mut self, mode: u32) -> Result<(), Self::Error>
+        requires { is_honest self.old → IsSome (contents self.old).beside }
+        ensures sets { is_honest self.new → SetsMode contents history is_honest self.old self.new mode result }
+        ensures cause { Counts (failures self.old) (failures self.new) result };
+
+    /// Makes the file beside stable, so that a crash leaves it as it is. A sync that failed makes nothing stable, and may have dropped
+    /// what waited for it: after one, none of that file counts.
+    fn sync(&mut self) -> Result<(), Self::Error>
+        requires { is_honest self.old → IsSome (contents self.old).beside }
+        ensures syncs { is_honest self.new → Syncs contents history is_honest self.old self.new result }
+        ensures cause { Counts (failures self.old) (failures self.new) result };
+
+    /// Renames the file beside to the path. The file that was there is gone. Where it fails, all of this was done or nothing.
+    fn rename(&mut self) -> Result<(), Self::Error>
+        requires { is_honest self.old → IsSome (contents self.old).beside }
+        ensures renames { is_honest self.new → Renames contents history is_honest self.old self.new result }
+        ensures cause { Counts (failures self.old) (failures self.new) result };
+
+    /// Makes the folder's names stable, so that a crash leaves the path with the file that it has.
+    fn sync_folder(&mut self) -> Result<FolderSync, Self::Error>
+        ensures syncs { is_honest self.new → SyncsFolder contents history is_honest self.old self.new result }
+        ensures cause { Counts (failures self.old) (failures self.new) result };
+
+    /// Removes the file beside. The path is as it was in any case.
+    fn remove(&mut self) -> Result<(), Self::Error>
+        ensures removes { is_honest self.new → Removes contents history is_honest self.old self.new result }
+        ensures cause { Counts (failures self.old) (failures self.new) result };
+}
