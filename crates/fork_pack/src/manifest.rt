@@ -1,0 +1,178 @@
+//! What `resources.json` says.
+
+use crate::packed::{Entry, PackFault};
+use bitflags::Flags;
+use mac_base::name::Name;
+use mac_base::resource::{ResAttrs, ResType};
+use mac_text::bytes_of;
+use serde::Deserialize;
+use std::alloc::Global;
+
+/// A resource as the manifest has it. Type and name are MacRoman, as UTF-8.
+#[derive(Debug, Drop, Deserialize)]
+struct Resource {
+    #[serde(rename = "type")]
+    kind: String,
+    id: i16,
+    name: Option<String>,
+    attributes: u8,
+    file: String,
+}
+
+/// The manifest.
+#[derive(Debug, Drop, Deserialize)]
+struct Manifest {
+    container: Option<String>,
+    #[serde(rename = "type")]
+    kind: Option<String>,
+    creator: Option<String>,
+    flags: Option<u16>,
+    created: Option<u32>,
+    modified: Option<u32>,
+    extra: String,
+    map_attributes: u16,
+    resources: Vec<Resource>,
+}
+
+/// What is packed: the resources with the paths of their files, all else of the fork, and what the container told of the file.
+#[derive(Drop)]
+pub struct Packing {
+    pub entries: Vec<Entry>,
+    /// The 112 bytes for the system and the 128 for the application.
+    pub extra: [u8; 240],
+    pub map_attributes: u16,
+    /// The container's name in words, where the fork came from one.
+    pub container: Option<String>,
+    pub kind: Option<[u8; 4]>,
+    pub creator: Option<[u8; 4]>,
+    pub flags: Option<u16>,
+    /// In seconds, as the container counts them.
+    pub created: Option<u32>,
+    pub modified: Option<u32>,
+}
+
+/// Four bytes that a text in UTF-8 shows. None where it doesn't show four, or has a character that MacRoman lacks.
+fn four_of(alloc: Global, text: &str) -> Result<Option<[u8; 4]>, PackFault> {
+    let Some(bytes) = bytes_of(alloc, text)? else {
+        return Ok(None);
+    };
+    match bytes.as_slice() {
+        [first, second, third, fourth] => Ok(Some([*first, *second, *third, *fourth])),
+        _ => Ok(None),
+    }
+}
+
+/// The name of a resource. None where MacRoman lacks a character, or it has more than 255.
+fn name_of(alloc: Global, text: &str) -> Result<Option<Name>, PackFault> {
+    match bytes_of(alloc, text)? {
+        Some(bytes) => Ok(Name::new(alloc, bytes.as_slice())?),
+        None => Ok(None),
+    }
+}
+
+/// Whether a path is a folder's name and a file's, both of which lead nowhere else.
+fn is_inside(path: &str) -> bool {
+    let bytes = path.as_bytes();
+    let slashes = bytes.iter().filter(|byte| **byte == b'/').count();
+    let slash = bytes.iter().position(|byte| *byte == b'/');
+    match slash {
+        Some(at) => {
+            let (folder, name) = (&bytes[..at], &bytes[at + 1..]);
+            slashes == 1 && is_plain(folder) && is_plain(name)
+        }
+        None => false,
+    }
+}
+
+/// Whether a part of a path names something in its folder.
+fn is_plain(part: &[u8]) -> bool {
+    !part.is_empty() && part != b".".as_slice() && part != b"..".as_slice() && !part.contains(&0)
+}
+
+/// What is bad in an entry.
+fn bad(file: String, what: &'static str) -> PackFault {
+    PackFault::BadEntry { file, what }
+}
+
+/// What the manifest says of a resource.
+fn entry_of(alloc: Global, resource: Resource) -> Result<Entry, PackFault> {
+    let file = resource.file;
+    let Some(kind) = four_of(alloc, resource.kind.as_str())? else {
+        return Err(bad(file, "its type isn't four characters of MacRoman"));
+    };
+    let mut name = None;
+    if let Some(text) = resource.name {
+        name = name_of(alloc, text.as_str())?;
+        if name.is_none() {
+            return Err(bad(file, "its name isn't at most 255 characters of MacRoman"));
+        }
+    }
+    if !is_inside(file.as_str()) {
+        return Err(bad(file, "its file isn't one in a folder of the folder"));
+    }
+    Ok(Entry {
+        kind: ResType::new(kind),
+        id: resource.id,
+        name,
+        attributes: ResAttrs::from_bits_retain(resource.attributes),
+        file,
+    })
+}
+
+/// The 240 bytes that as many pairs of hexadecimal digits are.
+fn extra_of(text: &str) -> Option<[u8; 240]> {
+    let digits = text.as_bytes();
+    if digits.len() != 480 {
+        return None;
+    }
+    let mut extra = [0; 240];
+    for i in 0..240 {
+        let high = char::from(digits[2 * i]).to_digit(16)?;
+        let low = char::from(digits[2 * i + 1]).to_digit(16)?;
+        extra[i] = (16 * high + low) as u8;
+    }
+    Some(extra)
+}
+
+/// A type or a creator, if there is one.
+fn code_of(
+    alloc: Global,
+    text: &Option<String>,
+    what: &'static str,
+) -> Result<Option<[u8; 4]>, PackFault> {
+    let Some(text) = text else {
+        return Ok(None);
+    };
+    match four_of(alloc, text.as_str())? {
+        Some(four) => Ok(Some(four)),
+        None => Err(PackFault::BadField(what)),
+    }
+}
+
+/// What a manifest says that `unpack` wrote. An error says what isn't so, and in which file's entry.
+pub fn manifest_of(alloc: Global, text: &str) -> Result<Packing, PackFault> {
+    let manifest: Manifest = match serde_json::from_str(alloc, text) {
+        Ok(manifest) => manifest,
+        Err(error) => return Err(PackFault::BadManifest(error.to_string(alloc)?)),
+    };
+    let Some(extra) = extra_of(manifest.extra.as_str()) else {
+        return Err(PackFault::BadField("`extra`, of 480 hexadecimal digits,"));
+    };
+    let kind = code_of(alloc, &manifest.kind, "the file's type")?;
+    let creator = code_of(alloc, &manifest.creator, "the file's creator")?;
+    let mut entries = Vec::new(alloc);
+    for resource in manifest.resources {
+        entries.push(entry_of(alloc, resource)?)?;
+    }
+    Ok(Packing {
+        entries,
+        extra,
+        map_attributes: manifest.map_attributes,
+        container: manifest.container,
+        kind,
+        creator,
+        flags: manifest.flags,
+        created: manifest.created,
+        modified: manifest.modified,
+    })
+}

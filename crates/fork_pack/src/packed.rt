@@ -1,0 +1,100 @@
+//! The rows of a manifest's entries.
+
+ghost use Rattle.std.specs.Prelude.{◌≡◌, IfOk, map};
+ghost use Rattle.fork_pack.specs.Packed.{Answers, folder_of, listed, packed, row_with};
+
+use fork_bytes::table::{Contents, Row, Rows};
+use mac_base::name::Name;
+use mac_base::resource::{ResAttrs, ResType, Resource};
+use std::alloc::{AllocError, AllocFailed, Global};
+use std::collections::BTreeMap;
+use thiserror::Error;
+
+/// What a manifest says of a resource: all but its bytes, which are those of a file.
+#[derive(Drop)]
+pub struct Entry {
+    pub kind: ResType,
+    pub id: i16,
+    pub name: Option<Name>,
+    pub attributes: ResAttrs,
+    /// The path of the file, below the folder.
+    pub file: String,
+}
+
+/// Why a folder's files aren't packed.
+#[derive(Debug, Drop, Error)]
+pub enum PackFault {
+    /// The manifest is no JSON of the form that `unpack` writes: what is wrong, and where.
+    #[error("it isn't what unpack writes: {0}")]
+    BadManifest(String),
+    /// What it says of the resource in this file isn't so of any.
+    #[error("what it says of the resource in {file} is bad: {what}")]
+    BadEntry { file: String, what: &'static str },
+    /// The 240 extra bytes, or the file's type or creator, are none.
+    #[error("{0} is bad")]
+    BadField(&'static str),
+    /// The file of this path, which the manifest names, isn't there.
+    #[error("the manifest names {0}, which isn't there")]
+    NoFile(String),
+    /// The host has no memory.
+    #[error("the host has no memory")]
+    HostFull,
+}
+
+impl From<AllocError> for PackFault {
+    ghost use Rattle.std.specs.Prelude.{◌≡◌};
+    ghost use Rattle.fork_pack.specs.declared.packed.PackFault.TheVariants.{HostFull};
+
+    ghost from_gives = { λ _ e. e ≡ HostFull };
+
+    fn from(_: AllocError) -> PackFault {
+        PackFault::HostFull
+    }
+}
+
+impl<T: Drop> From<AllocFailed<T>> for PackFault {
+    ghost use Rattle.std.specs.Prelude.{◌≡◌};
+    ghost use Rattle.fork_pack.specs.declared.packed.PackFault.TheVariants.{HostFull};
+
+    ghost from_gives = { λ _ e. e ≡ HostFull };
+
+    fn from(_: AllocFailed<T>) -> PackFault {
+        PackFault::HostFull
+    }
+}
+
+/// The row of an entry, with these bytes.
+fn row_with<'a>(entry: &Entry, bytes: &'a [u8]) -> Result<Row<'a>, AllocError>
+    ensures { IfOk result (λ row. row ≡ row_with (listed entry.now) bytes.now) }
+{
+    let name = match &entry.name {
+        Some(name) => Some(name.clone()?),
+        None => None,
+    };
+    Ok(Resource {
+        kind: entry.kind,
+        id: entry.id,
+        name,
+        attributes: entry.attributes,
+        datum: Contents::new(bytes),
+    })
+}
+
+/// The rows of a manifest's entries, in their order, each with the bytes that the folder's file of its path has. The first path of which
+/// there is no file is told; the other error is that the host has no memory.
+pub fn packed<'a>(
+    alloc: Global,
+    entries: &[Entry],
+    files: &'a BTreeMap<String, Vec<u8>>,
+) -> Result<Rows<'a>, PackFault>
+    ensures { Answers result (packed (folder_of files.now) (map listed entries.now)) }
+{
+    let mut rows = Vec::new(alloc);
+    for entry in entries {
+        let Some(bytes) = files.get(entry.file.as_str()) else {
+            return Err(PackFault::NoFile(entry.file.clone()?));
+        };
+        rows.push(row_with(entry, bytes.as_slice())?)?;
+    }
+    Ok(Rows::new(rows))
+}

@@ -1,0 +1,155 @@
+//! The table that a text says.
+
+ghost use Rattle.std.specs.Prelude.{◌≡◌, [], IfOk, count_by, length, map, take};
+ghost use Rattle.std.specs.List.{push};
+ghost use Rattle.fork_bytes.specs.Written.{plain_row, plain_rows};
+ghost use Rattle.fork_rez.specs.Reading.{Gives, all_of, map_at, row_at, table_at};
+ghost use Rattle.fork_rez.specs.Said.{Answers, line_at, made_table, table_of};
+ghost use Rattle.fork_rez.specs.Text.{map_word};
+
+use crate::blanks::{after_blanks, after_word, word_at};
+use crate::fault::{Expected, ReadError, Refusal, RezFault, refused};
+use crate::statement::{data_at, row_at};
+use bitflags::Flags;
+use fork_bytes::table::{Contents, Row, Rows, Table};
+use mac_base::resource::Resource;
+use std::alloc::{AllocError, Global};
+
+/// What a comment begins with that has the map's bytes.
+pub(crate) const MAP_WORD: &[u8] = b"/*resfork: the map's 240 extra bytes and its attributes\n";
+
+/// How many bytes of the map are kept.
+const MAP_LENGTH: usize = 242;
+
+/// How many of them are for the system and the application.
+const EXTRA_LENGTH: usize = 240;
+
+/// A table that was made of a text. It has its bytes, and a `Table` borrows them.
+#[derive(Drop)]
+pub struct Made {
+    pub rows: Vec<Resource<Vec<u8>>>,
+    pub extra: [u8; 240],
+    pub map_attributes: u16,
+}
+
+/// The row that borrows the bytes of this one.
+fn row_of<'a>(row: &'a Resource<Vec<u8>>) -> Result<Row<'a>, AllocError>
+    ensures { IfOk result (λ made. made ≡ plain_row (λ v. v.items) row.now) }
+{
+    let name = match &row.name {
+        Some(name) => Some(name.clone()?),
+        None => None,
+    };
+    Ok(Resource {
+        kind: row.kind,
+        id: row.id,
+        name,
+        attributes: row.attributes,
+        datum: Contents::new(row.datum.as_slice()),
+    })
+}
+
+impl Made {
+    /// The table. The only error is that the host has no memory.
+    pub fn table(&self, alloc: Global) -> Result<Table<'_>, AllocError>
+        ensures { IfOk result (λ table. table ≡ made_table self.now) }
+    {
+        let mut rows = Vec::new(alloc);
+        for row in &self.rows {
+            rows.push(row_of(row)?)?;
+        }
+        Ok(Table {
+            rows: Rows::new(rows),
+            extra: self.extra,
+            map_attributes: self.map_attributes,
+        })
+    }
+}
+
+/// The map's bytes in the first comment, if it has them, and else zeros.
+#[tactic(auto, unfolding(crate::specs::Reading::map_at))]
+fn map_at(alloc: Global, text: &[u8]) -> Result<(Vec<u8>, &[u8]), ReadError>
+    ensures bytes { Gives (λ x. (x.0.items, x.1.now)) result (map_at text.now) }
+    ensures whole { IfOk result (λ x. length x.0.items ≡ 242) }
+{
+    let Some(inner) = after_word(MAP_WORD, text) else {
+        let mut zeros = Vec::new(alloc);
+        zeros.resize(MAP_LENGTH, 0)?;
+        return Ok((zeros, text));
+    };
+    let (bytes, rest) = data_at(alloc, inner)?;
+    let rest = word_at(b"*/", Expected::CommentEnd, rest)?;
+    if bytes.len() != MAP_LENGTH {
+        return Err(refused(inner, Expected::MapBytes));
+    }
+    Ok((bytes, rest))
+}
+
+/// The rows of all statements.
+fn rows_at(alloc: Global, text: &[u8]) -> Result<(Vec<Resource<Vec<u8>>>, &[u8]), ReadError>
+    ensures { Gives (λ x. (plain_rows (λ v. v.items) x.0.items, x.1.now)) result (all_of push row_at [] text.now) }
+{
+    let mut rows = Vec::new(alloc);
+    let mut rest = text;
+    for _turn in 0..text.len() + 1 {
+        let (found, after) = match row_at(alloc, rest) {
+            Ok(read) => read,
+            Err(error) => return Err(error),
+        };
+        rest = after;
+        match found {
+            Some(row) => rows.push(row)?,
+            None => return Ok((rows, rest)),
+        }
+    }
+    Ok((rows, rest))
+}
+
+/// The table of a whole text.
+#[tactic(auto, unfolding(crate::specs::Reading::table_at))]
+fn table_at(alloc: Global, text: &[u8]) -> Result<Made, ReadError>
+    ensures { Gives made_table result (table_at text.now) }
+{
+    let (bytes, rest) = map_at(alloc, text)?;
+    let (rows, rest) = match rows_at(alloc, rest) {
+        Ok(read) => read,
+        Err(error) => return Err(error),
+    };
+    let rest = after_blanks(rest)?;
+    if !rest.is_empty() {
+        return Err(refused(rest, Expected::Statement));
+    }
+    let (front, back) = bytes.as_slice().split_at(EXTRA_LENGTH);
+    let mut extra = [0; 240];
+    extra.copy_from_slice(front);
+    let map_attributes = back[0] as u16 * 256 + back[1] as u16;
+    Ok(Made {
+        rows,
+        extra,
+        map_attributes,
+    })
+}
+
+/// The line of a text, from 1 on, where so many bytes are left.
+fn line_at(text: &[u8], left: usize) -> usize
+    ensures { result ≡ line_at text.now left }
+{
+    let before = &text[..text.len().saturating_sub(left)];
+    1 + before.iter().filter(|byte| **byte == b'\n').count()
+}
+
+/// The table that a text of `data` statements says, with blanks and comments anywhere between words. Data are strings in hexadecimal
+/// digits, `$"4869"`, or in letters, `"Hi"`, one after the other. A byte in letters that isn't printable ASCII is `\0x` and two digits.
+/// A text is refused at the first place that isn't such a text, with its line; the other error is that the host has no memory.
+pub fn rez(alloc: Global, text: &[u8]) -> Result<Made, RezFault>
+    ensures { Answers result (table_of text.now) }
+{
+    match table_at(alloc, text) {
+        Ok(made) => Ok(made),
+        Err(ReadError::HostFull) => Err(RezFault::HostFull),
+        Err(ReadError::Refused(fault)) => Err(RezFault::Refused(Refusal {
+            line: line_at(text, fault.left),
+            expected: fault.expected,
+        })),
+    }
+}
