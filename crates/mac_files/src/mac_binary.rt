@@ -106,7 +106,9 @@ pub fn padded(length: usize) -> usize
 /// Where the data fork is: after the header and the second header.
 fn data_fork(file: &[u8]) -> Part
     requires { 128 ≤ length file.now }
-    ensures { result ≡ data_fork file.now }
+    ensures part { result ≡ data_fork file.now }
+    ensures offset { result.offset < 2 ^ 17 }
+    ensures length { result.length < 2 ^ 32 }
 {
     Part {
         offset: HEADER_LENGTH + padded(read_two(file, 120) as usize),
@@ -117,7 +119,9 @@ fn data_fork(file: &[u8]) -> Part
 /// Where the resource fork is: after the data fork.
 pub fn resource_fork(file: &[u8]) -> Part
     requires { 128 ≤ length file.now }
-    ensures { result ≡ resource_fork file.now }
+    ensures part { result ≡ resource_fork file.now }
+    ensures offset { result.offset < 2 ^ 33 }
+    ensures length { result.length < 2 ^ 32 }
 {
     let data = data_fork(file);
     Part {

@@ -80,10 +80,13 @@ abbrev pub front : List ℕ → ℕ → List ℕ
 front file count =
     take 24 file ++ (big_bytes 2 (length (all_entries file)) ++ list_text (map (changed file count) (all_entries file)))
 
--- the new file: the header and the list, what came before the fork, the fork, and what came after it
+-- what comes after the list: what came before the fork, the fork, and what came after it
+abbrev pub body : List ℕ → List ℕ → List ℕ
+body file fork = slice_range file (list_end file) (room file).offset ++ (fork ++ drop (room_end file) file)
+
+-- the new file
 abbrev pub apple_with_fork : List ℕ → List ℕ → List ℕ
-apple_with_fork file fork =
-    front file (length fork) ++ (slice_range file (list_end file) (room file).offset ++ (fork ++ drop (room_end file) file))
+apple_with_fork file fork = front file (length fork) ++ body file fork
 
 -- why the list or the file has no room: two bytes count the entries, four bytes the bytes of the file
 abbrev pub room_refusal : List ℕ → ℕ → Option Refusal
@@ -92,7 +95,11 @@ room_refusal file count =
     else if nat_lt 0xFFFFFFFF (new_length file count) then Some (TooLong (new_length file count) 0xFFFFFFFF)
     else None
 
--- why the fork isn't written: an entry that can't be kept, the first of the list; no room
+-- four bytes count the bytes of the fork
+abbrev pub fork_refusal : ℕ → Option Refusal
+fork_refusal count = if nat_lt 0xFFFFFFFF count then Some (TooLong count 0xFFFFFFFF) else None
+
+-- why the fork isn't written: it is too long; an entry that can't be kept, the first of the list; no room
 abbrev pub apple_refusal : List ℕ → ℕ → Option Refusal
-apple_refusal file count =
-    option_or (option_map Overlap (find (is_in_the_way file) (entries_of file))) (room_refusal file count)
+apple_refusal file count = option_or (fork_refusal count)
+    (option_or (option_map Overlap (find (is_in_the_way file) (entries_of file))) (room_refusal file count))

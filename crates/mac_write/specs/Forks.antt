@@ -1,12 +1,10 @@
 -- A file with another resource fork in the place of its own.
-use Rattle.std.specs.Prelude.{◌≡◌, ℕ, nat_eq, if◌then◌else◌, List, [], ◌∷◌, length, map, drop, Option, None, Some, option_map, ⊤, true}
+use Rattle.std.specs.Prelude.{◌≡◌, ℕ, if◌then◌else◌, List, [], ◌∷◌, map, drop, Option, None, Some, option_map, ⊤, true}
 use Rattle.std.specs.Option.{option_or}
 use Rattle.mac_files.specs.declared.container.Container.{Container}
 use Rattle.mac_files.specs.declared.container.Container.TheVariants.{Raw, AppleSingle, AppleDouble, MacBinary}
 use Rattle.mac_files.specs.declared.container.Version.{Version}
-use Rattle.mac_files.specs.declared.contents.Contents.{Contents}
 use Rattle.mac_files.specs.declared.fault.Entry.{Entry}
-use Rattle.mac_files.specs.declared.part.Part.{Part}
 use Rattle.mac_files.specs.Apple.{entries_of}
 use Rattle.mac_files.specs.Containers.{container_of, contents_of, data_in, fault_of, fork_in, is_fork_header}
 use Rattle.mac_files.specs.Faults.{apple_fault, mac_binary_fault}

@@ -1,12 +1,13 @@
 //! AppleSingle or AppleDouble with another resource fork.
 
-ghost use Rattle.std.specs.Prelude.{◌≡◌, ◌≤◌, ◌<◌, ◌+◌, ◌^◌, ◌++◌, ∷, length, map, drop, slice_range, true, find, option_map, is_some, unwrap_or, None, IfOk, IfErr, OnOk};
+ghost use Rattle.std.specs.Prelude.{◌≡◌, ◌≤◌, ◌<◌, ◌+◌, ◌^◌, ◌++◌, length, map, drop, slice_range, true, find, option_map, is_some, unwrap_or, None, IfOk, IfErr, OnOk};
 ghost use Rattle.std.specs.Result.{result_err};
 ghost use Rattle.mac_files.specs.Apple.{entries_of, entry_outside, list_end};
 ghost use Rattle.mac_files.specs.Parts.{lies_within};
-ghost use Rattle.mac_write.specs.Apple.{all_entries, apple_with_fork, changed, entry_text, front, growth, is_in_the_way, list_text, moved, moved_place, new_length, room_end, room_refusal};
+ghost use Rattle.mac_write.specs.Apple.{all_entries, apple_with_fork, body, changed, entry_text, fork_refusal, front, growth, is_in_the_way, list_text, moved, moved_place, new_length, room_end, room_refusal};
 ghost use Rattle.mac_write.specs.Apple.{is_fork as is_fork_entry};
 ghost use Rattle.mac_write.specs.Forks.{Refuses, apple_why};
+ghost use Rattle.mac_write.specs.declared.refusal.Refusal.TheVariants.{Overlap};
 
 use crate::bytes::{push_four, push_two};
 use crate::plan::{Plan, plan_for};
@@ -30,7 +31,22 @@ const MOST_ENTRIES: usize = 0xFFFF;
 /// The most bytes of a file.
 const MOST_BYTES: usize = 0xFFFF_FFFF;
 
+/// Checks that four bytes count the bytes of the fork.
+fn check_fork(count: usize) -> Result<(), Refusal>
+    ensures refusal { result_err result ≡ fork_refusal count }
+    ensures few { OnOk result (count < 2 ^ 32) }
+{
+    if count > MOST_BYTES {
+        return Err(Refusal::TooLong {
+            length: count,
+            most: MOST_BYTES,
+        });
+    }
+    Ok(())
+}
+
 /// Checks that every entry of the list can be kept.
+#[tactic(auto, using(mac_files::proofs::Steps::entries_step))]
 fn check_entries(plan: &Plan) -> Result<(), Refusal>
     ensures { result_err result ≡ option_map Overlap (find (is_in_the_way plan.now.file.now) (entries_of plan.now.file.now)) }
 {
@@ -72,6 +88,7 @@ fn push_entry(new: &mut Vec<u8>, entry: &Entry) -> Result<(), AllocError>
 }
 
 /// Adds the entries of the file's list, as they are in the new one.
+#[tactic(auto, using(mac_files::proofs::Steps::entries_step))]
 fn push_listed(new: &mut Vec<u8>, plan: &Plan) -> Result<(), AllocError>
     requires { new_length plan.now.file.now plan.now.count < 2 ^ 32 }
     ensures { OnOk result (new.new.items ≡ new.old.items
@@ -108,19 +125,28 @@ fn push_front(new: &mut Vec<u8>, plan: &Plan) -> Result<(), AllocError>
     push_list(new, plan)
 }
 
+/// Adds what comes before the fork, the fork, and what comes after it.
+fn push_body(new: &mut Vec<u8>, plan: &Plan, fork: &[u8]) -> Result<(), AllocError>
+    requires { find (is_in_the_way plan.now.file.now) (entries_of plan.now.file.now) ≡ None }
+    ensures { OnOk result (new.new.items ≡ new.old.items ++ body plan.now.file.now fork.now) }
+{
+    new.extend_from_slice(plan.before_fork())?;
+    new.extend_from_slice(fork)?;
+    new.extend_from_slice(plan.after_fork())
+}
+
 /// The file with these bytes as its resource fork.
 pub(crate) fn apple_with_fork(alloc: Global, file: &[u8], fork: &[u8]) -> Result<Vec<u8>, Refusal>
     ensures file { IfOk result (λ new. new.items ≡ apple_with_fork file.now fork.now) }
     ensures refusal { Refuses (result_err result) (apple_why file.now (length fork.now)) }
 {
     check(file)?;
+    check_fork(fork.len())?;
     let plan = plan_for(file, fork.len());
     check_entries(&plan)?;
     check_room(&plan)?;
     let mut new = Vec::with_capacity(alloc, plan.new_length())?;
     push_front(&mut new, &plan)?;
-    new.extend_from_slice(&file[plan.entries_end..plan.place.offset])?;
-    new.extend_from_slice(fork)?;
-    new.extend_from_slice(&file[plan.place.offset + plan.place.length..])?;
+    push_body(&mut new, &plan, fork)?;
     Ok(new)
 }

@@ -1,12 +1,11 @@
 //! MacBinary with another resource fork.
 
-ghost use Rattle.std.specs.Prelude.{◌≡◌, ◌≤◌, ◌<◌, ◌+◌, ◌^◌, length, take, true, IfOk, OnOk};
+ghost use Rattle.std.specs.Prelude.{◌≡◌, ◌≤◌, [], length, drop, IfOk, OnOk};
 ghost use Rattle.std.specs.Result.{result_err};
-ghost use Rattle.mac_files.specs.MacBinary.{resource_fork};
-ghost use Rattle.mac_files.specs.Parts.{lies_within};
-ghost use Rattle.mac_write.specs.Bytes.{filled};
+ghost use Rattle.byteorder.specs.Endian.{big_bytes};
+ghost use Rattle.mac_write.specs.Bytes.{put};
 ghost use Rattle.mac_write.specs.Forks.{Refuses, binary_why};
-ghost use Rattle.mac_write.specs.MacBinary.{binary_front, binary_refusal, binary_with_fork, longest_fork, with_sum};
+ghost use Rattle.mac_write.specs.MacBinary.{binary_front, binary_refusal, binary_with_fork, comment_place, longest_fork, with_sum};
 
 use crate::bytes::push_filled;
 use crate::refusal::Refusal;
@@ -14,7 +13,6 @@ use byteorder::{BigEndian, ByteOrder};
 use mac_files::container::Version;
 use mac_files::crc::crc_of;
 use mac_files::mac_binary::{check, padded, resource_fork};
-use mac_files::part::Part;
 use std::alloc::{AllocError, Global};
 
 /// How many bytes of the header the checksum is of. It follows them.
@@ -60,6 +58,15 @@ fn write_sum(version: Version, header: &mut [u8])
     }
 }
 
+/// Writes the length of the resource fork into a header, and its checksum.
+fn write_header(version: Version, count: u32, header: &mut [u8])
+    requires { 128 ≤ length header.old }
+    ensures { header.new ≡ with_sum version (put 87 (big_bytes 4 count) header.old) }
+{
+    BigEndian::write_u32(&mut header[LENGTH_PLACE..], count);
+    write_sum(version, header);
+}
+
 /// Adds what comes before the resource fork, whose length is changed, to a file that is empty.
 fn push_front(
     new: &mut Vec<u8>,
@@ -73,16 +80,16 @@ fn push_front(
 {
     let place = resource_fork(file).offset;
     push_filled(new, &file[..place.min(file.len())], place)?;
-    BigEndian::write_u32(&mut new[LENGTH_PLACE..], count);
-    write_sum(version, new);
+    write_header(version, count, new);
     Ok(())
 }
 
 /// What follows the resource fork and the bytes that fill its last 128.
-fn after_fork(file: &[u8], fork: Part) -> &[u8]
-    requires { fork.length < 2 ^ 32 }
-    ensures { result.now ≡ drop (fork.offset + padded fork.length) file.now }
+fn after_fork(file: &[u8]) -> &[u8]
+    requires { 128 ≤ length file.now }
+    ensures { result.now ≡ drop (comment_place file.now) file.now }
 {
+    let fork = resource_fork(file);
     let start = fork.offset + padded(fork.length);
     if start < file.len() {
         &file[start..]
@@ -106,6 +113,6 @@ pub(crate) fn binary_with_fork(
     let mut new = Vec::with_capacity(alloc, file.len() + fork.len())?;
     push_front(&mut new, version, file, count)?;
     push_filled(&mut new, fork, padded(fork.len()))?;
-    new.extend_from_slice(after_fork(file, resource_fork(file)))?;
+    new.extend_from_slice(after_fork(file))?;
     Ok(new)
 }

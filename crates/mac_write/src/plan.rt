@@ -1,9 +1,9 @@
 //! How another resource fork comes into AppleSingle or AppleDouble.
 
-ghost use Rattle.std.specs.Prelude.{◌≡◌, ◌≤◌, ◌<◌, ◌+◌, ◌^◌, length, is_some, true, None};
-ghost use Rattle.mac_files.specs.Apple.{entry_outside, list_end};
+ghost use Rattle.std.specs.Prelude.{◌≡◌, ◌≤◌, ◌<◌, ◌+◌, ◌^◌, length, drop, slice_range, find, is_some, true, None};
+ghost use Rattle.mac_files.specs.Apple.{entries_of, entry_outside, list_end};
 ghost use Rattle.mac_files.specs.Parts.{lies_within};
-ghost use Rattle.mac_write.specs.Apple.{all_entries, changed, fork_entry, growth, is_fork, is_in_the_way, listed_fork, moved_place, new_length, room};
+ghost use Rattle.mac_write.specs.Apple.{all_entries, changed, fork_entry, growth, is_fork, is_in_the_way, listed_fork, moved_place, new_length, room, room_end};
 
 use mac_files::apple::{entry_count, find_entry};
 use mac_files::fault::Entry;
@@ -39,6 +39,7 @@ pub(crate) struct Plan<'a> {
     ghost listed_is: { is_listed ≡ is_some (listed_fork file.now) },
     ghost end_is: { entries_end ≡ list_end file.now },
     ghost place_is: { place ≡ room file.now },
+    ghost few: { count < 2 ^ 32 },
     ghost within: { place.offset + place.length ≤ length file.now },
 }
 
@@ -47,6 +48,7 @@ pub(crate) fn plan_for(file: &[u8], count: usize) -> Plan<'_>
     requires header { 26 ≤ length file.now }
     requires list { list_end file.now ≤ length file.now }
     requires entries { entry_outside file.now ≡ None }
+    requires few { count < 2 ^ 32 }
     ensures same_file { result.file.now ≡ file.now }
     ensures same_count { result.count ≡ count }
 {
@@ -81,12 +83,14 @@ pub(crate) fn plan_for(file: &[u8], count: usize) -> Plan<'_>
 impl Plan<'_> {
     /// By how many bytes the list grows.
     fn growth(&self) -> usize
-        ensures { result ≡ growth self.now.file.now }
+        ensures growth { result ≡ growth self.now.file.now }
+        ensures small { result ≤ 12 }
     {
         if self.is_listed { 0 } else { ENTRY_LENGTH }
     }
 
     /// How many entries the new list has.
+    #[tactic(auto, using(crate::proofs::Entries::count_listed, crate::proofs::Entries::count_added))]
     pub(crate) fn entry_count(&self) -> usize
         ensures { result ≡ length (all_entries self.now.file.now) }
     {
@@ -132,7 +136,7 @@ impl Plan<'_> {
         if at < self.place.offset {
             at + self.growth()
         } else {
-            at + self.growth() + self.count - self.place.length
+            (at + self.growth() + self.count).saturating_sub(self.place.length)
         }
     }
 
@@ -160,5 +164,21 @@ impl Plan<'_> {
             }
         };
         Entry { part, ..*entry }
+    }
+
+    /// What comes after the list and before the fork.
+    pub(crate) fn before_fork(&self) -> &[u8]
+        requires { find (is_in_the_way self.now.file.now) (entries_of self.now.file.now) ≡ None }
+        ensures { result.now ≡ slice_range self.now.file.now (list_end self.now.file.now) (room self.now.file.now).offset }
+    {
+        &self.file[self.entries_end..self.place.offset]
+    }
+
+    /// What comes after the fork.
+    pub(crate) fn after_fork(&self) -> &[u8]
+        ensures { result.now ≡ drop (room_end self.now.file.now) self.now.file.now }
+    {
+        let end = self.place.offset + self.place.length;
+        &self.file[end..]
     }
 }

@@ -1,7 +1,10 @@
 //! Why a container isn't written.
 
+ghost use Rattle.std.specs.Prelude.{◌≡◌};
+ghost use Rattle.mac_write.specs.declared.refusal.Refusal.TheVariants.{Damaged, HostFull};
+
 use mac_files::fault::{ContainerFault, Entry};
-use std::alloc::AllocError;
+use std::alloc::{AllocError, AllocFailed};
 use thiserror::Error;
 
 /// Why a container isn't written.
@@ -39,5 +42,13 @@ impl From<ContainerFault> for Refusal {
 
     fn from(fault: ContainerFault) -> Refusal {
         Refusal::Damaged(fault)
+    }
+}
+
+impl<T: Drop> From<AllocFailed<T>> for Refusal {
+    ghost from_gives = { λ _ refusal. refusal ≡ HostFull };
+
+    fn from(_: AllocFailed<T>) -> Refusal {
+        Refusal::HostFull
     }
 }
