@@ -4,17 +4,16 @@ use Rattle.std.proofs.lemmas.List.{append_assoc, length-append}
 use Rattle.byteorder.specs.Endian.{big_bytes}
 use Rattle.mac_base.specs.declared.resource.Resource.{Resource}
 use Rattle.fork_bytes.specs.Rows.{Row}
-use Rattle.fork_bytes.specs.Fork.{max_rows}
 use Rattle.fork_bytes.specs.Written.{types_of, entries_text, datum, NamesFit}
 use Rattle.fork_bytes.proofs.Steps.{drop_item, length-big_bytes}
 use Rattle.fork_bytes.proofs.Counted.{said_at}
 
 -- a count of some, less one
-count_less_one : (n : ℕ) → 0 < n → n ≤ max_rows → (n + 65535) % 65536 ≡ n - 1
+count_less_one : (n : ℕ) → 0 < n → n ≤ 65535 → (n + 65535) % 65536 ≡ n - 1
 count_less_one n some few = omega arith
 
 -- the entry of the rows from one place to another, and the entries behind it
-pub entry_step : {X : Type 0} (rows : List (Resource X)) (i j first : ℕ) (d : Resource X) → i < length rows → i < j → j ≤ length rows → length rows ≤ max_rows →
+pub entry_step : {X : Type 0} (rows : List (Resource X)) (i j first : ℕ) (d : Resource X) → i < length rows → i < j → j ≤ length rows → length rows ≤ 65535 →
     IfSome (slice_get rows i) (λ row. types_of (drop i rows) ≡ record { kind = row.kind; count = j - i } ∷ types_of (drop j rows)) →
     entries_text (first + 12 * i) (types_of (drop i rows))
     ≡ ((get_or rows i d).kind ++ (big_bytes 2 (j - i - 1) ++ big_bytes 2 (first + 12 * i))) ++ entries_text (first + 12 * j) (types_of (drop j rows))

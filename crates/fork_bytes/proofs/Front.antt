@@ -4,7 +4,7 @@ use Rattle.std.proofs.lemmas.List.{drop_at, take_at, take_all, length-append, ap
 use Rattle.byteorder.specs.Numbers.{big_number-reads_back}
 use Rattle.fork_bytes.specs.declared.layout.Header.{Header}
 use Rattle.fork_bytes.specs.declared.table.Table.{Table}
-use Rattle.fork_bytes.specs.Fork.{max_fork, max_rows, count_at, type_count, number_at, bytes_at, header_of, data_of, map_of, extra_of, attributes_of, type_list, name_list}
+use Rattle.fork_bytes.specs.Fork.{count_at, type_count, number_at, bytes_at, header_of, data_of, map_of, extra_of, attributes_of, type_list, name_list}
 use Rattle.fork_bytes.specs.Written.{types_of, data_text, names_text, names_offset, header_for, header_text, front_text, map_text, written}
 
 -- the same numbers are the same header
@@ -20,7 +20,7 @@ same_header a b c d p q r s first second third fourth =
 pub record IsSmall (table : Table) : Type 0 where
   pub extra : length table.extra ≡ 240
   pub whole : length (written table) ≡ 256 + length (data_text table.rows) + (names_offset table.rows + length (names_text table.rows))
-  pub small : length (written table) ≤ max_fork
+  pub small : length (written table) ≤ 4294967295
 
 -- the header
 pub header_is : (table : Table) → IsSmall table → header_of (written table) ≡ header_for table.rows
@@ -85,7 +85,7 @@ pub names_stand : (table : Table) → names_offset table.rows ≤ 65535 → name
 names_stand table low = big_number-reads_back 2 (names_offset table.rows) (drop 28 (map_text table)) (omega arith)
 
 -- how many types there are
-pub types_are : (table : Table) → length (types_of table.rows) ≤ max_rows → type_count (map_text table) ≡ length (types_of table.rows)
+pub types_are : (table : Table) → length (types_of table.rows) ≤ 65535 → type_count (map_text table) ≡ length (types_of table.rows)
 types_are table few =
     let n = length (types_of table.rows) in
     let count : number_at 2 28 (map_text table) ≡ (n + 65535) % 65536 = big_number-reads_back 2 ((n + 65535) % 65536) (drop 30 (map_text table)) (omega arith) in

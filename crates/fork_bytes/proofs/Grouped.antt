@@ -3,13 +3,14 @@ use Rattle.std.proofs.Common.{◌≡◌, ◌≢◌, ℕ, zero, suc, ◌+◌, ◌
 use Rattle.std.specs.List.{flat_map, AllByRecursion}
 use Rattle.std.proofs.lemmas.Bool.Decides.{not_from_Decides}
 use Rattle.std.proofs.lemmas.Slice.Eq.{bytes_eq-Decides}
+use Rattle.fork_bytes.specs.declared.layout.Limits.{Limits}
 use Rattle.fork_bytes.specs.declared.layout.TypeCount.{TypeCount}
 use Rattle.fork_bytes.specs.declared.table.Table.{Table}
 use Rattle.fork_bytes.specs.declared.fault.Condition.TheVariants.{Types}
 use Rattle.fork_bytes.specs.Rows.{Row}
 use Rattle.fork_bytes.specs.Fork.{Reference, TypeEntry, places, references_in, references_of, entries_of, map_row, map_rows, row_with, data_of, map_of}
 use Rattle.fork_bytes.specs.Written.{types_of, counted_before}
-use Rattle.fork_bytes.specs.Laws.{IsGrouped, IsReadGrouped}
+use Rattle.fork_bytes.specs.Laws.{IsGrouped, IsReadGroupedWithin}
 
 -- none of these is of this type
 abbrev pub Apart : {X : Type 0} → (X → List ℕ) → List ℕ → List X → Type 0
@@ -120,5 +121,5 @@ map_grouped parts resource_map distinct =
     subst P (sym (map_twice parts resource_map (references_of resource_map))) (distinct_at counted _ run.distinct)
 
 -- what bytes stand for is grouped
-pub read_grouped : IsReadGrouped
-read_grouped fork table stands = subst (λ (t : Table). IsGrouped t.rows) (sym stands.1) (map_grouped (data_of fork) (map_of fork) (stands.0.holds Types).distinct)
+pub read_grouped : (limits : Limits) → IsReadGroupedWithin limits
+read_grouped limits fork table stands = subst (λ (t : Table). IsGrouped t.rows) (sym stands.1) (map_grouped (data_of fork) (map_of fork) (stands.0.holds Types).distinct)

@@ -6,10 +6,10 @@ use Rattle.mac_base.specs.declared.resource.Resource.{Resource}
 use Rattle.fork_bytes.specs.declared.layout.TypeCount.{TypeCount}
 use Rattle.fork_bytes.specs.declared.table.Table.{Table}
 use Rattle.fork_bytes.specs.Rows.{Row}
-use Rattle.fork_bytes.specs.Fork.{max_fork}
+use Rattle.fork_bytes.specs.declared.layout.Limits.{Limits}
 use Rattle.fork_bytes.specs.Laws.{IsRow}
-use Rattle.fork_bytes.specs.Written.{types_of, counted_before, datum, data_text, name_text, names_text, names_offset, reference_text, references_text, header_for, count_bytes, entries_text, types_text, map_header_text, map_text, written, plain_row, plain_rows, plain_table, NamesFit, Fits, IsTooBig}
-use Rattle.fork_bytes.specs.Sizes.{text_length, data_size, map_size, sized_header, FitSizes}
+use Rattle.fork_bytes.specs.Written.{types_of, counted_before, datum, data_text, name_text, names_text, names_offset, reference_text, references_text, header_for, count_bytes, entries_text, types_text, map_header_text, map_text, plain_row, plain_rows, plain_table, NamesFit, FitsWithin, IsSmallWithin, IsTooBigWithin}
+use Rattle.fork_bytes.specs.Sizes.{text_length, data_size, map_size, sized_header, FitSizesWithin}
 use Rattle.fork_bytes.proofs.Steps.{drop_item, length-data}
 use Rattle.fork_bytes.proofs.Entries.{datum_long}
 use Rattle.fork_bytes.proofs.Front.{same_header}
@@ -58,11 +58,13 @@ plain_header text rows =
     same_header 256 (256 + many) many (map_size rows) 256 (256 + data_size own all) (data_size own all) (map_size all) refl (omega arith) (sym parts) (sym size)
     ∙ header_is all
 
-fit_plain : {X : Type 0} (text : X → List ℕ) (rows : List (Resource X)) → FitSizes (text_length text) rows ↔ FitSizes own (plain_rows text rows)
-fit_plain text rows =
+fit_plain : {X : Type 0} (limits : Limits) (text : X → List ℕ) (rows : List (Resource X)) → FitSizesWithin limits (text_length text) rows ↔ FitSizesWithin limits own (plain_rows text rows)
+fit_plain limits text rows =
     let parts = plain_data text rows in let size = plain_map text rows in let offset = plain_offset text rows in let count = plain_count text rows in let names = plain_fit text 0 rows in (
-      λ fit. let few = fit.few_rows in let low = fit.lists in let small = fit.whole in record { few_rows = omega arith; lists = omega arith; names = names.1 fit.names; whole = omega arith },
-      λ fit. let few = fit.few_rows in let low = fit.lists in let small = fit.whole in record { few_rows = omega arith; lists = omega arith; names = names.0 fit.names; whole = omega arith },
+      λ fit. let few = fit.few_rows in let low = fit.lists in let bytes = fit.few_bytes in let small = fit.whole in
+          record { few_rows = omega arith; lists = omega arith; names = names.1 fit.names; few_bytes = omega arith; whole = omega arith },
+      λ fit. let few = fit.few_rows in let low = fit.lists in let bytes = fit.few_bytes in let small = fit.whole in
+          record { few_rows = omega arith; lists = omega arith; names = names.0 fit.names; few_bytes = omega arith; whole = omega arith },
     )
 
 -- their map
@@ -76,24 +78,25 @@ plain_map_text text rows attributes =
     ∙ ap (λ (xs : List ℕ). map_header_text (header_for plain) attributes (names_offset rows) ++ (types_text rows ++ (references ++ xs))) (plain_names text rows)
 
 -- what fits
-pub plain_few : {X : Type 0} (text : X → List ℕ) (rows : List (Resource X)) → FitSizes (text_length text) rows → length (data_text (plain_rows text rows)) ≤ max_fork
-plain_few text rows fit = few_of (plain_rows text rows) ((fit_plain text rows).0 fit)
+pub plain_few : {X : Type 0} (limits : Limits) (text : X → List ℕ) (rows : List (Resource X)) → FitSizesWithin limits (text_length text) rows → length (data_text (plain_rows text rows)) ≤ limits.bytes
+plain_few limits text rows fit = few_of limits (plain_rows text rows) ((fit_plain limits text rows).0 fit)
 
-pub plain_fits : {X : Type 0} (text : X → List ℕ) (rows : List (Resource X)) (extra : List ℕ) (attributes : ℕ) → FitSizes (text_length text) rows → Fits (plain_table text rows extra attributes)
-plain_fits text rows extra attributes fit = fits_of (plain_table text rows extra attributes) ((fit_plain text rows).0 fit)
+pub plain_fits : {X : Type 0} (limits : Limits) (text : X → List ℕ) (rows : List (Resource X)) (extra : List ℕ) (attributes : ℕ) → FitSizesWithin limits (text_length text) rows →
+    FitsWithin limits (plain_table text rows extra attributes)
+plain_fits limits text rows extra attributes fit = fits_of limits (plain_table text rows extra attributes) ((fit_plain limits text rows).0 fit)
 
 plain_four : {X : Type 0} (text : X → List ℕ) (rows : List (Resource X)) → AreFour (types_of rows) → AreFour (types_of (plain_rows text rows))
 plain_four text rows four = subst AreFour (sym (plain_types text rows)) four
 
-pub plain_small : {X : Type 0} (text : X → List ℕ) (rows : List (Resource X)) (extra : List ℕ) (attributes : ℕ) → length extra ≡ 240 → AreFour (types_of rows) → FitSizes (text_length text) rows →
-    length (written (plain_table text rows extra attributes)) ≤ max_fork
-plain_small text rows extra attributes long four fit = small_of (plain_table text rows extra attributes) long (plain_four text rows four) ((fit_plain text rows).0 fit)
+pub plain_small : {X : Type 0} (limits : Limits) (text : X → List ℕ) (rows : List (Resource X)) (extra : List ℕ) (attributes : ℕ) → length extra ≡ 240 → AreFour (types_of rows) →
+    FitSizesWithin limits (text_length text) rows → IsSmallWithin limits (plain_table text rows extra attributes)
+plain_small limits text rows extra attributes long four fit = small_of limits (plain_table text rows extra attributes) long (plain_four text rows four) ((fit_plain limits text rows).0 fit)
 
 -- what doesn't
-pub plain_big : {X : Type 0} (text : X → List ℕ) (rows : List (Resource X)) (extra : List ℕ) (attributes : ℕ) → length extra ≡ 240 → AreFour (types_of rows) → ¬ FitSizes (text_length text) rows →
-    IsTooBig (plain_table text rows extra attributes)
-plain_big text rows extra attributes long four none =
-    too_big_by (plain_table text rows extra attributes) long (plain_four text rows four) (λ fit. none ((fit_plain text rows).1 fit))
+pub plain_big : {X : Type 0} (limits : Limits) (text : X → List ℕ) (rows : List (Resource X)) (extra : List ℕ) (attributes : ℕ) → length extra ≡ 240 → AreFour (types_of rows) →
+    ¬ FitSizesWithin limits (text_length text) rows → IsTooBigWithin limits (plain_table text rows extra attributes)
+plain_big limits text rows extra attributes long four none =
+    too_big_by limits (plain_table text rows extra attributes) long (plain_four text rows four) (λ fit. none ((fit_plain limits text rows).1 fit))
 
 -- each row with its bytes is a row
 pub plain_each : {X : Type 0} (text : X → List ℕ) (rows : List (Resource X)) → AllByRecursion IsRow rows → AllByRecursion IsRow (plain_rows text rows)

@@ -8,7 +8,7 @@ use Rattle.std.proofs.lemmas.List.{append_assoc, length-append}
 use Rattle.byteorder.specs.Endian.{big_bytes}
 use Rattle.mac_base.specs.declared.resource.ResAttrs.{ResAttrs}
 use Rattle.fork_bytes.specs.Rows.{Row, MapRow}
-use Rattle.fork_bytes.specs.Fork.{Reference, number_at, bytes_at, name_list, name_place, name_at, map_row, max_fork}
+use Rattle.fork_bytes.specs.Fork.{Reference, number_at, bytes_at, name_list, name_place, name_at, map_row}
 use Rattle.fork_bytes.specs.Written.{datum, data_text, name_text, names_text, name_offset, reference_text, references_text, NamesFit}
 use Rattle.fork_bytes.specs.Laws.{IsRow}
 use Rattle.fork_bytes.proofs.Steps.{length-data}
@@ -91,7 +91,7 @@ pub record Stands (resource_map before rest early late : List ℕ) (at next plac
   pub start : name_list resource_map ≡ base
   pub id : FitsSigned w16 row.id
   pub low : IfSome row.name (λ _. next ≤ 65534)
-  pub few : place ≤ max_fork
+  pub few : place < 16777216
 
 -- the offset of a row's name
 offset_is : (resource_map before rest early late : List ℕ) (at next place base : ℕ) (row : Row) → Stands resource_map before rest early late at next place base row →
@@ -140,7 +140,7 @@ pub record AllStand (resource_map before rest early late : List ℕ) (at next pl
   pub start : name_list resource_map ≡ base
   pub each : AllByRecursion IsRow rows
   pub low : NamesFit next rows
-  pub few : place + length (data_text rows) ≤ max_fork
+  pub few : place + length (data_text rows) ≤ 16777216
 
 -- of the first
 first_stands : (resource_map before rest early late : List ℕ) (at next place base : ℕ) (row : Row) (rows : List Row) →

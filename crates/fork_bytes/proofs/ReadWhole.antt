@@ -6,10 +6,11 @@ use Rattle.std.proofs.lemmas.Int.{ints}
 use Rattle.std.proofs.lemmas.Bool.{cases_lt}
 use Rattle.std.proofs.lemmas.List.{length-append, length-take, length-take-le, length-drop, get_or-take, get_or-drop, get_or_past}
 use Rattle.byteorder.specs.Numbers.{big_from-lt}
+use Rattle.fork_bytes.specs.declared.layout.Limits.{Limits}
 use Rattle.fork_bytes.specs.declared.table.Table.{Table}
 use Rattle.fork_bytes.specs.declared.fault.Condition.TheVariants.{Types}
 use Rattle.fork_bytes.specs.Fork.{Reference, TypeEntry, places, references_in, references_of, entries_of, entry_at, type_list, type_count, map_row, name_at, name_place, number_at, row_with, data_of, map_of, extra_of}
-use Rattle.fork_bytes.specs.Laws.{IsRow, AreBytes, IsReadWhole}
+use Rattle.fork_bytes.specs.Laws.{IsRow, AreBytes, IsReadWholeWithin}
 use Rattle.fork_bytes.proofs.Grouped.{read_grouped}
 
 -- parts of bytes are bytes
@@ -83,15 +84,15 @@ extra_long fork =
     length-take-le 240 (whole ++ zeros) (omega arith)
 
 -- the whole
-pub read_whole : IsReadWhole
-read_whole fork table low stands =
+pub read_whole : (limits : Limits) → IsReadWholeWithin limits
+read_whole limits fork table low stands =
     let resource_map = map_of fork in let parts = data_of fork in
     let map_low = bytes_before _ _ (bytes_behind _ fork low) in
     let types = stands.0.holds Types in
     let rows = rows_whole parts resource_map (references_of resource_map) map_low (four_in_all (entries_of resource_map) (four_entered resource_map (type_count resource_map) (type_list resource_map + 2) types.entries)) in
     record {
       rows = subst (λ (t : Table). AllByRecursion IsRow t.rows) (sym stands.1) rows;
-      grouped = read_grouped fork table stands;
+      grouped = read_grouped limits fork table stands;
       extra = ap (λ (t : Table). length t.extra) stands.1 ∙ extra_long fork;
       map_attributes = subst (λ (t : Table). t.map_attributes < 65536) (sym stands.1) (two_low 22 resource_map map_low);
     }

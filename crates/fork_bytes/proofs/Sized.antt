@@ -3,9 +3,9 @@ use Rattle.std.proofs.Common.{◌≡◌, ℕ, ◌+◌, ◌≤◌, List, [], ◌�
 use Rattle.std.proofs.lemmas.Bool.{cases_lt}
 use Rattle.fork_bytes.specs.declared.table.Table.{Table}
 use Rattle.fork_bytes.specs.Rows.{Row}
-use Rattle.fork_bytes.specs.Fork.{max_fork}
-use Rattle.fork_bytes.specs.Written.{types_of, data_text, header_for, written, Fits, IsTooBig}
-use Rattle.fork_bytes.specs.Sizes.{data_size, map_size, sized_header, FitSizes}
+use Rattle.fork_bytes.specs.declared.layout.Limits.{Limits}
+use Rattle.fork_bytes.specs.Written.{types_of, data_text, header_for, written, FitsWithin, IsSmallWithin, IsTooBigWithin}
+use Rattle.fork_bytes.specs.Sizes.{data_size, map_size, sized_header, FitSizesWithin}
 use Rattle.fork_bytes.proofs.Steps.{length-data}
 use Rattle.fork_bytes.proofs.Front.{same_header}
 use Rattle.fork_bytes.proofs.Lengths.{AreFour, length-written}
@@ -29,22 +29,28 @@ header_is rows =
     let parts = data_is rows in
     same_header 256 (256 + data_size own rows) (data_size own rows) (map_size rows) 256 (256 + length (data_text rows)) (length (data_text rows)) (map_size rows) refl (omega arith) parts refl
 
-pub fits_of : (table : Table) → FitSizes own table.rows → Fits table
-fits_of table fit = record { few_rows = fit.few_rows; lists = fit.lists; names = fit.names }
+pub fits_of : (limits : Limits) (table : Table) → FitSizesWithin limits own table.rows → FitsWithin limits table
+fits_of limits table fit = record { few_rows = fit.few_rows; lists = fit.lists; names = fit.names }
 
-pub small_of : (table : Table) → length table.extra ≡ 240 → AreFour (types_of table.rows) → FitSizes own table.rows → length (written table) ≤ max_fork
-small_of table extra four fit = let whole = length-written table four in let parts = data_is table.rows in let small = fit.whole in omega arith
+pub small_of : (limits : Limits) (table : Table) → length table.extra ≡ 240 → AreFour (types_of table.rows) → FitSizesWithin limits own table.rows → IsSmallWithin limits table
+small_of limits table extra four fit =
+    let whole = length-written table four in let parts = data_is table.rows in let small = fit.whole in let few = fit.few_bytes in
+    record { fork = omega arith; bytes = omega arith }
 
-pub few_of : (rows : List Row) → FitSizes own rows → length (data_text rows) ≤ max_fork
-few_of rows fit = let parts = data_is rows in let small = fit.whole in omega arith
+pub few_of : (limits : Limits) (rows : List Row) → FitSizesWithin limits own rows → length (data_text rows) ≤ limits.bytes
+few_of limits rows fit = let parts = data_is rows in let few = fit.few_bytes in omega arith
 
-pub too_big_by : (table : Table) → length table.extra ≡ 240 → AreFour (types_of table.rows) → ¬ FitSizes own table.rows → IsTooBig table
-too_big_by table extra four none =
+pub too_big_by : (limits : Limits) (table : Table) → length table.extra ≡ 240 → AreFour (types_of table.rows) → ¬ FitSizesWithin limits own table.rows → IsTooBigWithin limits table
+too_big_by limits table extra four none =
     let whole = length-written table four in let parts = data_is table.rows in
-    ⊎_elim {C = IsTooBig table} (λ large. inl large)
-    (λ small. inr (λ fits. none (record { few_rows = fits.few_rows; lists = fits.lists; names = fits.names; whole = omega arith })))
-    (cases_lt max_fork (length (written table)))
+    ⊎_elim {C = IsTooBigWithin limits table} (λ large. inl large)
+    (λ small. ⊎_elim {C = IsTooBigWithin limits table} (λ many. inr (inl many))
+    (λ few. inr (inr (λ fits. none (record { few_rows = fits.few_rows; lists = fits.lists; names = fits.names; few_bytes = omega arith; whole = omega arith }))))
+    (cases_lt limits.bytes (length (data_text table.rows))))
+    (cases_lt limits.fork (length (written table)))
 
 -- what fits isn't too big
-pub not_too_big : (table : Table) → length (written table) ≤ max_fork → Fits table → ¬ IsTooBig table
-not_too_big table small fits = ⊎_elim (λ large. absurd (omega arith)) (λ no. no fits)
+pub not_too_big : (limits : Limits) (table : Table) → IsSmallWithin limits table → FitsWithin limits table → ¬ IsTooBigWithin limits table
+not_too_big limits table small fits =
+    let fork = small.fork in let bytes = small.bytes in
+    ⊎_elim (λ large. absurd (omega arith)) (λ other. ⊎_elim (λ many. absurd (omega arith)) (λ no. no fits) other)

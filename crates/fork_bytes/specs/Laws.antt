@@ -2,12 +2,13 @@
 use Rattle.std.specs.Prelude.{◌≡◌, ◌≢◌, ℕ, ◌≤◌, ◌<◌, List, length, IfSome, FitsSigned, AllPairs, slice_index}
 use Rattle.std.specs.List.{AllByRecursion}
 use Rattle.std.specs.Int.{w16}
+use Rattle.fork_bytes.specs.declared.layout.Limits.{Limits}
 use Rattle.fork_bytes.specs.declared.layout.TypeCount.{TypeCount}
 use Rattle.fork_bytes.specs.declared.table.Table.{Table}
 use Rattle.mac_base.specs.declared.resource.Resource.{Resource}
 use Rattle.fork_bytes.specs.Rows.{Row}
-use Rattle.fork_bytes.specs.Fork.{max_fork, StandsFor}
-use Rattle.fork_bytes.specs.Written.{types_of, written, Fits}
+use Rattle.fork_bytes.specs.Fork.{max_fork, macheap_limits, format_limits, StandsFor, StandsForWithin}
+use Rattle.fork_bytes.specs.Written.{types_of, written, Fits, FitsWithin, IsSmallWithin}
 
 -- rows of one type stand together
 abbrev pub IsGrouped : List Row → Type 0
@@ -31,6 +32,11 @@ pub record IsTable (table : Table) : Type 0 where
 abbrev pub IsReadAgain : Type 0
 IsReadAgain = (table : Table) → IsTable table → Fits table → length (written table) ≤ max_fork → StandsFor (written table) table
 
+-- the same within any limits that the format can say
+abbrev pub IsReadAgainWithin : Type 0
+IsReadAgainWithin = (limits : Limits) (table : Table) → limits.fork ≤ format_limits.fork → limits.bytes ≤ format_limits.bytes →
+    IsTable table → FitsWithin limits table → IsSmallWithin limits table → StandsForWithin limits (written table) table
+
 -- no bytes stand for two tables
 abbrev pub StandsForOne : Type 0
 StandsForOne = (fork : List ℕ) (a b : Table) → StandsFor fork a → StandsFor fork b → a ≡ b
@@ -40,9 +46,16 @@ abbrev pub AreBytes : List ℕ → Type 0
 AreBytes bytes = (k : ℕ) → slice_index bytes k < 256
 
 -- the rows of one type stand together in what bytes stand for
-abbrev pub IsReadGrouped : Type 0
-IsReadGrouped = (fork : List ℕ) (table : Table) → StandsFor fork table → IsGrouped table.rows
+abbrev pub IsReadGroupedWithin : Limits → Type 0
+IsReadGroupedWithin limits = (fork : List ℕ) (table : Table) → StandsForWithin limits fork table → IsGrouped table.rows
 
 -- what bytes stand for is a table, which may be written again
+abbrev pub IsReadWholeWithin : Limits → Type 0
+IsReadWholeWithin limits = (fork : List ℕ) (table : Table) → AreBytes fork → StandsForWithin limits fork table → IsTable table
+
+-- the same, as macheap reads forks
+abbrev pub IsReadGrouped : Type 0
+IsReadGrouped = IsReadGroupedWithin macheap_limits
+
 abbrev pub IsReadWhole : Type 0
-IsReadWhole = (fork : List ℕ) (table : Table) → AreBytes fork → StandsFor fork table → IsTable table
+IsReadWhole = IsReadWholeWithin macheap_limits

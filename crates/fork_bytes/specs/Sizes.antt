@@ -2,7 +2,7 @@
 use Rattle.std.specs.Prelude.{ℕ, ◌+◌, ◌≤◌, List, [], ◌∷◌, length}
 use Rattle.mac_base.specs.declared.resource.Resource.{Resource}
 use Rattle.fork_bytes.specs.declared.layout.Header.{Header}
-use Rattle.fork_bytes.specs.Fork.{max_fork, max_rows}
+use Rattle.fork_bytes.specs.declared.layout.Limits.{Limits}
 use Rattle.fork_bytes.specs.Written.{names_offset, names_text, NamesFit}
 
 -- how many bytes a datum stands for
@@ -28,8 +28,9 @@ sized_header long rows = record {
 }
 
 -- the rows fit a fork: not too many, offsets that two bytes hold, and not too many bytes
-pub record FitSizes {X : Type 0} (long : X → ℕ) (rows : List (Resource X)) : Type 0 where
-  pub few_rows : length rows ≤ max_rows
+pub record FitSizesWithin {X : Type 0} (limits : Limits) (long : X → ℕ) (rows : List (Resource X)) : Type 0 where
+  pub few_rows : length rows ≤ limits.rows
   pub lists : names_offset rows ≤ 65535
   pub names : NamesFit 0 rows
-  pub whole : 256 + data_size long rows + map_size rows ≤ max_fork
+  pub few_bytes : data_size long rows ≤ limits.bytes
+  pub whole : 256 + data_size long rows + map_size rows ≤ limits.fork

@@ -8,7 +8,8 @@ use Rattle.fork_bytes.specs.declared.layout.TypeCount.{TypeCount}
 use Rattle.fork_bytes.specs.declared.table.Table.{Table}
 use Rattle.mac_base.specs.declared.resource.Resource.{Resource}
 use Rattle.fork_bytes.specs.Rows.{Row}
-use Rattle.fork_bytes.specs.Fork.{max_fork, max_rows}
+use Rattle.fork_bytes.specs.declared.layout.Limits.{Limits}
+use Rattle.fork_bytes.specs.Fork.{macheap_limits}
 
 -- so many rows of a type before others: counted with the first of these, if they have that type
 abbrev pub counted_before : List ℕ → ℕ → List TypeCount → List TypeCount
@@ -113,14 +114,26 @@ NamesFit at [] = Unit {0}
 NamesFit at (row ∷ rows) = IfSome row.name (λ _. at ≤ 65534) × NamesFit (at + length (name_text row.name)) rows
 
 -- The table fits a fork: not too many rows, and offsets that two bytes hold. Those of the references are less than the name list's.
-pub record Fits (table : Table) : Type 0 where
-  pub few_rows : length table.rows ≤ max_rows
+pub record FitsWithin (limits : Limits) (table : Table) : Type 0 where
+  pub few_rows : length table.rows ≤ limits.rows
   pub lists : names_offset table.rows ≤ 65535
   pub names : NamesFit 0 table.rows
 
+-- The fork of the table has not too many bytes, and neither have its resources, each with its four bytes of length.
+pub record IsSmallWithin (limits : Limits) (table : Table) : Type 0 where
+  pub fork : length (written table) ≤ limits.fork
+  pub bytes : length (data_text table.rows) ≤ limits.bytes
+
 -- the table is too big to be written
+abbrev pub IsTooBigWithin : Limits → Table → Type 0
+IsTooBigWithin limits table = (limits.fork < length (written table)) ⊎ (limits.bytes < length (data_text table.rows)) ⊎ ¬ FitsWithin limits table
+
+-- the same, as macheap writes forks
+abbrev pub Fits : Table → Type 0
+Fits = FitsWithin macheap_limits
+
 abbrev pub IsTooBig : Table → Type 0
-IsTooBig table = (max_fork < length (written table)) ⊎ ¬ Fits table
+IsTooBig = IsTooBigWithin macheap_limits
 
 -- a row with the bytes that its datum stands for
 abbrev pub plain_row : {X : Type 0} → (X → List ℕ) → Resource X → Row

@@ -45,7 +45,7 @@ pub enum ForkFault {
 /// Why a table isn't written.
 #[derive(Clone, Copy, Debug, Error)]
 pub enum WriteFault {
-    /// The table has no fork, or its fork has more than 4,194,304 bytes.
+    /// The table has no fork, or its fork is larger than `Limits` say.
     #[error("the table is too big for a fork")]
     TooBig,
     /// The host has no memory for the fork.

@@ -1,6 +1,7 @@
 //! What reading and writing are to each other.
 
-ghost use Rattle.fork_bytes.specs.Laws.{IsReadAgain, StandsForOne, IsReadGrouped, IsReadWhole};
+ghost use Rattle.fork_bytes.specs.declared.layout.Limits.{Limits};
+ghost use Rattle.fork_bytes.specs.Laws.{IsReadAgain, IsReadAgainWithin, StandsForOne, IsReadGrouped, IsReadGroupedWithin, IsReadWhole, IsReadWholeWithin};
 
 /// The laws of forks and tables: the written form of a table stands for it, no bytes stand for two tables, and what bytes stand for
 /// is grouped by type and may be written again. It computes nothing.
@@ -9,4 +10,7 @@ pub fn fork_laws()
     ensures one { StandsForOne }
     ensures grouped { IsReadGrouped }
     ensures whole { IsReadWhole }
+    ensures read_again_within { IsReadAgainWithin }
+    ensures grouped_within { (limits : Limits) → IsReadGroupedWithin limits }
+    ensures whole_within { (limits : Limits) → IsReadWholeWithin limits }
 {}

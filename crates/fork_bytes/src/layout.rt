@@ -8,7 +8,7 @@ pub const MAX_FORK: usize = 0x40_0000;
 /// The most resources of a fork that macheap reads or writes.
 pub const MAX_ROWS: usize = 8192;
 
-/// How much is read of a fork. A fork with more is refused.
+/// How much is read or written of a fork. A fork with more is refused.
 #[derive(Clone, Copy)]
 pub struct Limits {
     /// The most bytes of the whole fork.

@@ -10,4 +10,4 @@ pub mod table;
 mod write;
 
 pub use laws::fork_laws;
-pub use write::{write_fork, write_rows};
+pub use write::{write_fork, write_fork_within, write_rows, write_rows_within};

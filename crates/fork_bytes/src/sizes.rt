@@ -3,13 +3,12 @@
 ghost use Rattle.std.specs.Prelude.{◌≡◌, ◌<◌, ◌≤◌, ◌-◌, ◌∷◌, length, drop, slice_get, IfSome, IfNone};
 ghost use Rattle.std.specs.List.{AllByRecursion};
 ghost use Rattle.fork_bytes.specs.declared.layout.TypeCount.{TypeCount};
-ghost use Rattle.fork_bytes.specs.Fork.{max_fork};
 ghost use Rattle.fork_bytes.specs.Written.{types_of, names_text, NamesFit};
 ghost use Rattle.fork_bytes.specs.Laws.{IsRow};
-ghost use Rattle.fork_bytes.specs.Sizes.{text_length, data_size, sized_header, FitSizes};
+ghost use Rattle.fork_bytes.specs.Sizes.{text_length, data_size, sized_header, FitSizesWithin};
 
 use crate::datum::Datum;
-use crate::layout::{Header, MAX_FORK, MAX_ROWS};
+use crate::layout::{Header, Limits};
 use bitflags::Flags;
 use mac_base::resource::Resource;
 
@@ -54,20 +53,21 @@ pub(crate) fn type_count<D>(rows: &[Resource<D>]) -> usize
     count
 }
 
-/// How many bytes the data has, or None where it has more than a fork.
-fn data_length<D: Datum>(rows: &[Resource<D>]) -> Option<usize>
+/// How many bytes the data has, or None where it has more than these.
+fn data_length<D: Datum>(rows: &[Resource<D>], most: u32) -> Option<usize>
     ensures some { IfSome result (λ n. n ≡ data_size (text_length D.text) rows.now) }
-    ensures small { IfSome result (λ n. n ≤ max_fork) }
-    ensures none { IfNone result (max_fork < data_size (text_length D.text) rows.now) }
+    ensures small { IfSome result (λ n. n ≤ most) }
+    ensures none { IfNone result (most < data_size (text_length D.text) rows.now) }
 {
+    let most = most as usize;
     let mut total = 0;
     for row in rows {
         let count = row.datum.count();
-        if count > MAX_FORK {
+        if count > most {
             return None;
         }
         total += 4 + count;
-        if total > MAX_FORK {
+        if total > most {
             return None;
         }
     }
@@ -108,24 +108,24 @@ fn names_length<D>(rows: &[Resource<D>]) -> Option<usize>
 }
 
 /// The header of the fork that is written for rows, or None where they are too big for one. What each row is comes with it.
-pub(crate) fn header_of_rows<D: Datum>(rows: &[Resource<D>]) -> Option<Header>
+pub(crate) fn header_of_rows<D: Datum>(rows: &[Resource<D>], limits: Limits) -> Option<Header>
     ensures header { IfSome result (λ header. header ≡ sized_header (text_length D.text) rows.now) }
-    ensures fit { IfSome result (λ _. FitSizes (text_length D.text) rows.now) }
+    ensures fit { IfSome result (λ _. FitSizesWithin limits (text_length D.text) rows.now) }
     ensures rows { IfSome result (λ _. AllByRecursion IsRow rows.now) }
-    ensures none { IfNone result (¬ FitSizes (text_length D.text) rows.now) }
+    ensures none { IfNone result (¬ FitSizesWithin limits (text_length D.text) rows.now) }
     ensures four { AllByRecursion (λ (t : TypeCount). length t.kind ≡ 4) (types_of rows.now) }
 {
     let types = type_count(rows);
-    if rows.len() > MAX_ROWS {
+    if rows.len() > limits.rows as usize {
         return None;
     }
     let names_offset = 30 + 8 * types + 12 * rows.len();
     if names_offset > MAX_OFFSET {
         return None;
     }
-    let data = data_length(rows)?;
+    let data = data_length(rows, limits.bytes)?;
     let map = names_offset + names_length(rows)?;
-    if DATA_OFFSET as usize + data + map > MAX_FORK {
+    if DATA_OFFSET as usize + data + map > limits.fork as usize {
         return None;
     }
     Some(Header {

@@ -3,14 +3,13 @@
 ghost use Rattle.std.specs.Prelude.{◌≡◌, ◌<◌, ◌≤◌, ◌+◌, ◌*◌, ◌++◌, ◌∷◌, [], ◌^◌, ◌↔◌, length, drop, OnOk, IfOk, IsErrOf, IfSome, IfNone};
 ghost use Rattle.std.specs.Int.{w16, cast_unsigned};
 ghost use Rattle.byteorder.specs.Endian.{big_bytes};
-ghost use Rattle.fork_bytes.specs.Fork.{max_fork, max_rows, StandsFor};
+ghost use Rattle.fork_bytes.specs.Fork.{max_fork, macheap_limits, format_limits, StandsFor, StandsForWithin};
 ghost use Rattle.fork_bytes.specs.Laws.{IsGrouped};
-ghost use Rattle.fork_bytes.specs.Sizes.{text_length, FitSizes};
-ghost use Rattle.fork_bytes.specs.Written.{types_of, count_bytes, entries_text, first_references, references_text, data_text, names_text, name_text, name_offset, written, header_text, header_for, map_header_text, front_text, types_text, map_text, names_offset, plain_rows, plain_table, NamesFit, Fits, IsTooBig};
+ghost use Rattle.fork_bytes.specs.Written.{types_of, count_bytes, entries_text, first_references, references_text, data_text, names_text, name_text, name_offset, written, header_text, header_for, map_header_text, front_text, types_text, map_text, names_offset, plain_rows, plain_table, NamesFit, Fits, FitsWithin, IsSmallWithin, IsTooBig, IsTooBigWithin};
 
 use crate::datum::Datum;
 use crate::fault::WriteFault;
-use crate::layout::Header;
+use crate::layout::{Header, Limits};
 use crate::sizes::{header_of_rows, run_end, type_count};
 use crate::table::Table;
 use bitflags::Flags;
@@ -138,7 +137,7 @@ fn name_length(name: &Option<Name>) -> usize
 /// Adds the references of rows, whose bytes and names follow each other.
 fn push_references<D: Datum>(fork: &mut Vec<u8>, rows: &[Resource<D>]) -> Result<(), HostFull>
     requires names { NamesFit 0 rows.now }
-    requires small { length (data_text (plain_rows D.text rows.now)) ≤ max_fork }
+    requires small { length (data_text (plain_rows D.text rows.now)) < 2 ^ 32 }
     ensures { OnOk result (fork.new.items ≡ fork.old.items ++ references_text 0 0 (plain_rows D.text rows.now)) }
 {
     let mut name = 0;
@@ -164,7 +163,6 @@ fn push_entry(fork: &mut Vec<u8>, kind: ResType, less_one: u16, at: u16) -> Resu
 
 /// Adds the entries of the type list, where the references of the first type stand at this offset.
 fn push_entries<D>(fork: &mut Vec<u8>, rows: &[Resource<D>], first: usize) -> Result<(), HostFull>
-    requires few { length rows.now ≤ max_rows }
     requires low { first + 12 * length rows.now ≤ 65535 }
     ensures { OnOk result (fork.new.items ≡ fork.old.items ++ entries_text first (types_of rows.now)) }
 {
@@ -203,7 +201,6 @@ fn push_map_header(
 /// Adds the type list, which has so many types.
 fn push_types<D>(fork: &mut Vec<u8>, rows: &[Resource<D>], types: usize) -> Result<(), HostFull>
     requires types { types ≡ length (types_of rows.now) }
-    requires few { length rows.now ≤ max_rows }
     requires low { names_offset rows.now ≤ 65535 }
     ensures { OnOk result (fork.new.items ≡ fork.old.items ++ types_text rows.now) }
 {
@@ -220,7 +217,9 @@ fn push_map<D: Datum>(
     header: Header,
 ) -> Result<(), HostFull>
     requires header { header ≡ header_for (plain_rows D.text rows.now) }
-    requires fit { FitSizes (text_length D.text) rows.now }
+    requires low { names_offset rows.now ≤ 65535 }
+    requires names { NamesFit 0 rows.now }
+    requires small { length (data_text (plain_rows D.text rows.now)) < 2 ^ 32 }
     ensures { OnOk result (fork.new.items ≡ fork.old.items ++ map_text (plain_table D.text rows.now [] map_attributes)) }
 {
     let types = type_count(rows);
@@ -241,7 +240,9 @@ fn push_fork<D: Datum>(
     header: Header,
 ) -> Result<(), HostFull>
     requires header { header ≡ header_for (plain_rows D.text rows.now) }
-    requires fit { FitSizes (text_length D.text) rows.now }
+    requires low { names_offset rows.now ≤ 65535 }
+    requires names { NamesFit 0 rows.now }
+    requires small { length (data_text (plain_rows D.text rows.now)) < 2 ^ 32 }
     ensures { OnOk result (fork.new.items ≡ fork.old.items ++ written (plain_table D.text rows.now extra.now map_attributes)) }
 {
     push_header(fork, header)?;
@@ -249,6 +250,36 @@ fn push_fork<D: Datum>(
     push_data(fork, rows)?;
     push_map(fork, rows, map_attributes, header)?;
     Ok(())
+}
+
+/// The bytes of the fork of rows, extra bytes and the attributes of a map: those that `write_fork_within` writes for the table of
+/// them, whatever stands for the bytes of the rows. No memory is needed but for the fork itself.
+pub fn write_rows_within<D: Datum>(
+    alloc: Global,
+    limits: Limits,
+    rows: &[Resource<D>],
+    extra: &[u8; 240],
+    map_attributes: u16,
+) -> Result<Vec<u8>, WriteFault>
+    requires { limits.bytes ≤ format_limits.bytes }
+    ensures written { IfOk result (λ fork. fork.items ≡ written (plain_table D.text rows.now extra.now map_attributes)) }
+    ensures small { IfOk result (λ _. IsSmallWithin limits (plain_table D.text rows.now extra.now map_attributes)) }
+    ensures fits { IfOk result (λ _. FitsWithin limits (plain_table D.text rows.now extra.now map_attributes)) }
+    ensures stands { IfOk result (λ fork. IsGrouped (plain_rows D.text rows.now)
+        → StandsForWithin limits fork.items (plain_table D.text rows.now extra.now map_attributes)) }
+    ensures too_big { IsErrOf result WriteFault.TooBig ↔ IsTooBigWithin limits (plain_table D.text rows.now extra.now map_attributes) }
+{
+    let Some(header) = header_of_rows(rows, limits) else {
+        return Err(WriteFault::TooBig);
+    };
+    let size = header.map_offset + header.map_length;
+    let Ok(mut fork) = Vec::with_capacity(alloc, size as usize) else {
+        return Err(WriteFault::HostFull);
+    };
+    match push_fork(&mut fork, rows, extra, map_attributes, header) {
+        Ok(()) => Ok(fork),
+        Err(HostFull) => Err(WriteFault::HostFull),
+    }
 }
 
 /// The bytes of the fork of rows, extra bytes and the attributes of a map: those that `write_fork` writes for the table of them,
@@ -265,22 +296,36 @@ pub fn write_rows<D: Datum>(
     ensures stands { IfOk result (λ fork. IsGrouped (plain_rows D.text rows.now) → StandsFor fork.items (plain_table D.text rows.now extra.now map_attributes)) }
     ensures too_big { IsErrOf result WriteFault.TooBig ↔ IsTooBig (plain_table D.text rows.now extra.now map_attributes) }
 {
-    let Some(header) = header_of_rows(rows) else {
-        return Err(WriteFault::TooBig);
-    };
-    let size = header.map_offset + header.map_length;
-    let Ok(mut fork) = Vec::with_capacity(alloc, size as usize) else {
-        return Err(WriteFault::HostFull);
-    };
-    match push_fork(&mut fork, rows, extra, map_attributes, header) {
-        Ok(()) => Ok(fork),
-        Err(HostFull) => Err(WriteFault::HostFull),
-    }
+    write_rows_within(alloc, Limits::MACHEAP, rows, extra, map_attributes)
 }
 
 /// The bytes of the fork of a table: the header, the extra bytes, the data of the rows without gaps, and the map, whose
 /// lists follow each other in the order of the rows (Inside Macintosh: More Macintosh Toolbox, chapter 1, "Resource File Format").
 /// Where the rows of each type stand together, the bytes stand for the table: they are read as it.
+/// The fault is TooBig exactly where the fork would have more bytes than the limits allow, or the table has more rows, or its rows
+/// more bytes with four of length for each, or an offset in the map is too large for its two bytes.
+pub fn write_fork_within(
+    alloc: Global,
+    limits: Limits,
+    table: &Table,
+) -> Result<Vec<u8>, WriteFault>
+    requires { limits.bytes ≤ format_limits.bytes }
+    ensures written { IfOk result (λ fork. fork.items ≡ written table.now) }
+    ensures small { IfOk result (λ _. IsSmallWithin limits table.now) }
+    ensures fits { IfOk result (λ _. FitsWithin limits table.now) }
+    ensures stands { IfOk result (λ fork. IsGrouped table.now.rows → StandsForWithin limits fork.items table.now) }
+    ensures too_big { IsErrOf result WriteFault.TooBig ↔ IsTooBigWithin limits table.now }
+{
+    write_rows_within(
+        alloc,
+        limits,
+        table.rows.as_slice(),
+        &table.extra,
+        table.map_attributes,
+    )
+}
+
+/// The bytes of the fork of a table, as `write_fork_within` gives them, within macheap's limits.
 /// The fault is TooBig exactly where the fork would have more than 4,194,304 bytes, or the table has more than 8,192 rows, or an
 /// offset in the map is too large for its two bytes.
 pub fn write_fork(alloc: Global, table: &Table) -> Result<Vec<u8>, WriteFault>
@@ -290,10 +335,5 @@ pub fn write_fork(alloc: Global, table: &Table) -> Result<Vec<u8>, WriteFault>
     ensures stands { IfOk result (λ fork. IsGrouped table.now.rows → StandsFor fork.items table.now) }
     ensures too_big { IsErrOf result WriteFault.TooBig ↔ IsTooBig table.now }
 {
-    write_rows(
-        alloc,
-        table.rows.as_slice(),
-        &table.extra,
-        table.map_attributes,
-    )
+    write_fork_within(alloc, Limits::MACHEAP, table)
 }

@@ -1,8 +1,7 @@
 use Rattle.std.proofs.Common.{◌≡◌, ◌≤◌, drop, ◌+◌}
-use Rattle.fork_bytes.specs.Fork.{max_fork}
 use Rattle.fork_bytes.specs.Sizes.{text_length, data_size}
 use Rattle.fork_bytes.proofs.sizes.data_length.Given as goal
 
 -- the sum so far and the data of the other rows are the whole
 abbrev pub invariant-loop-row : goal.invariant-loop-row
-invariant-loop-row g l = (l.total + data_size (text_length g.D.Datum.text) (drop l.row-index l.rows) ≡ data_size (text_length g.D.Datum.text) l.rows) × (l.total ≤ max_fork)
+invariant-loop-row g l = (l.total + data_size (text_length g.D.Datum.text) (drop l.row-index l.rows) ≡ data_size (text_length g.D.Datum.text) l.rows) × (l.total ≤ l.most)

@@ -16,9 +16,9 @@ pub loop-at-preserved : goal.loop-at-preserved
 loop-at-preserved g c =
     let rows = c.args.rows.now in let at = c.loop-at.at in let end = c.run_end-end.result in let old = c.loop-at.fork.items in
     let kind = (get_or rows at c.index-rows-at.result).kind in
-    let few = c.requires.few in
+    let low = c.requires in
     let entry = big_bytes 2 (end - at - 1) ++ big_bytes 2 (c.args.first + 12 * at) in
-    let step = entry_step rows at end c.args.first c.index-rows-at.result c.loop-at-test.true c.run_end-end.ensures.some c.run_end-end.ensures.within few c.run_end-end.ensures.run in (
+    let step = entry_step rows at end c.args.first c.index-rows-at.result c.loop-at-test.true c.run_end-end.ensures.some c.run_end-end.ensures.within (omega arith) c.run_end-end.ensures.run in (
       appended _ old (kind ++ entry) (entries_text (c.args.first + 12 * end) (types_of (drop end rows))) _ c.in_ok-push_entry.ensures
           (ap (λ (xs : List ℕ). old ++ xs) (sym step) ∙ c.loop-at.invariant.0),
       c.run_end-end.ensures.within,

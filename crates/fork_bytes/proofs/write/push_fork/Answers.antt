@@ -1,12 +1,8 @@
-use Rattle.std.proofs.Common.{◌≡◌, ◌++◌, ap, ◌∙◌, arith}
+use Rattle.std.proofs.Common.{◌≡◌, ◌++◌, ap, ◌∙◌}
 use Rattle.fork_bytes.specs.declared.layout.Header.{Header}
 use Rattle.fork_bytes.specs.Written.{data_text, header_for, header_text, front_text, map_text, plain_rows, plain_table}
 use Rattle.fork_bytes.proofs.Steps.{two_added}
-use Rattle.fork_bytes.proofs.Plain.{plain_few}
 use Rattle.fork_bytes.proofs.write.push_fork.Goals as goal
-
-pub push_data-requires : goal.push_data-requires
-push_data-requires g c = let few = plain_few g.D.Datum.text c.args.rows.now c.requires.fit in omega arith
 
 pub returns : goal.returns
 returns g c =

@@ -2,11 +2,8 @@ use Rattle.std.proofs.Common.{◌≡◌, ◌++◌, ◌+◌, ◌*◌, length, ℕ
 use Rattle.fork_bytes.specs.declared.layout.Header.{Header}
 use Rattle.fork_bytes.specs.Written.{header_for, map_header_text, names_offset, types_text, references_text, names_text, plain_rows}
 use Rattle.fork_bytes.proofs.Steps.{two_added}
-use Rattle.fork_bytes.proofs.Plain.{plain_few, plain_map_text}
+use Rattle.fork_bytes.proofs.Plain.{plain_map_text}
 use Rattle.fork_bytes.proofs.write.push_map.Goals as goal
-
-pub push_references-requires-clause-small : goal.push_references-requires-clause-small
-push_references-requires-clause-small g c = plain_few g.D.Datum.text c.args.rows.now c.requires.fit
 
 pub returns : goal.returns
 returns g c =
