@@ -68,6 +68,13 @@ impl<'a> Rows<'a> {
     {
         &self.rows
     }
+
+    /// The vector of the rows.
+    pub fn into_vec(self) -> Vec<Row<'a>>
+        ensures { result.items ≡ self.entry }
+    {
+        self.rows
+    }
 }
 
 /// What a resource fork holds (Inside Macintosh: More Macintosh Toolbox, chapter 1).

@@ -1,0 +1,4 @@
+mod Standing
+mod Gathered
+mod Changing
+mod Told

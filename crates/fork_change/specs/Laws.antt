@@ -1,0 +1,37 @@
+-- What changes are to each other.
+use Rattle.std.specs.Prelude.{◌≡◌, true, false, not, List, ◌∷◌, drop, bytes_eq, Some}
+use Rattle.std.specs.List.{filter, find}
+use Rattle.fork_bytes.specs.Rows.{Row}
+use Rattle.fork_bytes.specs.declared.table.Table.{Table}
+use Rattle.fork_bytes.specs.Laws.{IsRow, IsTable}
+use Rattle.fork_change.specs.declared.row.ResourceId.{ResourceId}
+use Rattle.fork_change.specs.Rows.{id_of, is_at, is_there, put, removed, changed_to, added, with_rows}
+
+-- what is found of its type and id is the row that was put; any others with them stay after it
+abbrev pub IsFoundPut : Type 0
+IsFoundPut = (new : Row) (rows : List Row) → filter (is_at (id_of new)) (put new rows) ≡ new ∷ drop 1 (filter (is_at (id_of new)) rows)
+
+-- all rows of other types and ids stay, in their order
+abbrev pub KeepsOthers : Type 0
+KeepsOthers = (new : Row) (rows : List Row) →
+    filter (λ row. not (is_at (id_of new) row)) (put new rows) ≡ filter (λ row. not (is_at (id_of new) row)) rows
+
+-- a row that is put where there was none, and removed again
+abbrev pub IsRemovedPut : Type 0
+IsRemovedPut = (new : Row) (rows : List Row) → is_there (id_of new) rows ≡ false → removed (id_of new) (put new rows) ≡ rows
+
+-- a row that becomes another of its type, which wasn't there, and becomes itself again: the rows are as they were
+abbrev pub IsSetBack : Type 0
+IsSetBack = (what : ResourceId) (old new : Row) (rows : List Row) → find (is_at what) rows ≡ Some old →
+    bytes_eq new.kind what.kind ≡ true → is_there (id_of new) rows ≡ false → changed_to (id_of new) old (changed_to what new rows) ≡ rows
+
+-- a row that becomes one of another type, and becomes itself again: it is the last of its type then
+abbrev pub IsMovedBack : Type 0
+IsMovedBack = (what : ResourceId) (old new : Row) (rows : List Row) → find (is_at what) rows ≡ Some old →
+    bytes_eq new.kind what.kind ≡ false → is_there (id_of new) rows ≡ false → changed_to (id_of new) old (changed_to what new rows) ≡ added old (removed what rows)
+
+-- what comes of a table is one, so that it can be written and read again
+pub record KeepsTables : Type 0 where
+  pub puts : (new : Row) (table : Table) → IsRow new → IsTable table → IsTable (with_rows table (put new table.rows))
+  pub removes : (what : ResourceId) (table : Table) → IsTable table → IsTable (with_rows table (removed what table.rows))
+  pub sets : (what : ResourceId) (new : Row) (table : Table) → IsRow new → IsTable table → IsTable (with_rows table (changed_to what new table.rows))
