@@ -1,7 +1,8 @@
 -- What comes of a table is a table.
-use Rattle.std.proofs.Common.{◌≡◌, ◌≢◌, ℕ, Bool, true, false, List, [], ◌∷◌, ◌++◌, ◌⊎◌, inl, inr, refl, sym, subst, ◌∙◌, bytes_eq, if◌then◌else◌}
+use Rattle.std.proofs.Common.{◌≡◌, ◌≢◌, ℕ, Bool, true, false, List, [], ◌∷◌, ◌++◌, ◌⊎◌, inl, inr, Option, None, Some, refl, sym, subst, ◌∙◌, bytes_eq, if◌then◌else◌}
 use Rattle.std.specs.Prelude.{◌&&◌, not}
 use Rattle.std.specs.List.{AllByRecursion}
+use Rattle.std.specs.Option.{option_and_then}
 use Rattle.std.specs.Ordering.{int_eq}
 use Rattle.std.proofs.lemmas.Bool.{and_parts, both_ways, cond_both, false_from_ne_true, false≢true, or_from, or_parts}
 use Rattle.std.proofs.lemmas.Bool.Decides.{not_from_Decides}
@@ -12,6 +13,9 @@ use Rattle.fork_bytes.specs.declared.table.Table.{Table}
 use Rattle.fork_bytes.proofs.Grouped.{Apart}
 use Rattle.fork_change.specs.declared.row.ResourceId.{ResourceId}
 use Rattle.fork_change.specs.Rows.{added, changed_to, first_to, has_kind, id_of, is_at, is_there, put, removed, with_rows}
+use Rattle.fork_change.specs.declared.copying.Collision.{Collision}
+use Rattle.fork_change.specs.declared.copying.Collision.TheVariants.{Refuse, Replace, Skip}
+use Rattle.fork_change.specs.Copies.{collided, copied, copied_one}
 use Rattle.fork_change.specs.Laws.{KeepsTables}
 use Rattle.fork_change.proofs.Gathered.{Follows, Gathered, gathered_from, grouped_from, of_row}
 
@@ -184,6 +188,26 @@ rows_replaced : (what : ResourceId) (new : Row) (rows : List Row) → new.kind �
 rows_replaced what new rows same one are =
     (each_first (is_at what) (new ∷ []) rows (one, tt) are.0, gathered_replaced (is_at what) new rows (λ row is. kind_at what row is ∙ sym same) are.1)
 
+-- rows are copied
+copied_rows : (how : Collision) (row : Row) (rows after : List Row) → IsRow row → AreRows rows → copied_one how row rows ≡ Some after → AreRows after
+copied_rows how row rows after one are is = by_case (is_there (id_of row) rows) how is
+  where
+    by_case : (b : Bool) (how : Collision) → (if b then collided how row rows else Some (added row rows)) ≡ Some after → AreRows after
+    by_case true Refuse is = absurd (cc is)
+    by_case true Replace is = let same : first_to (is_at (id_of row)) (row ∷ []) rows ≡ after = cc is in subst AreRows same (rows_replaced (id_of row) row rows refl one are)
+    by_case true Skip is = let same : rows ≡ after = cc is in subst AreRows same are
+    by_case false how is = let same : added row rows ≡ after = cc is in subst AreRows same (rows_added row rows one are)
+
+rows_copied : (how : Collision) (chosen rows after : List Row) → AllByRecursion IsRow chosen → AreRows rows → copied how chosen rows ≡ Some after → AreRows after
+rows_copied how [] rows after each are is = let same : rows ≡ after = cc is in subst AreRows same are
+rows_copied how (row ∷ chosen) rows after each are is =
+    by_case (copied_one how row rows) is (λ next first. copied_rows how row rows next each.0 are first) (λ next first rest. rows_copied how chosen next after each.1 first rest) refl
+  where
+    by_case : (found : Option (List Row)) → option_and_then (copied how chosen) found ≡ Some after → ((next : List Row) → copied_one how row rows ≡ Some next → AreRows next) →
+        ((next : List Row) → AreRows next → copied how chosen next ≡ Some after → AreRows after) → copied_one how row rows ≡ found → AreRows after
+    by_case None is one others same = absurd (cc is)
+    by_case (Some next) is one others same = others next (one next same) is
+
 pub keeps_tables : KeepsTables
 keeps_tables = record {
   puts = λ new table one is.
@@ -195,4 +219,5 @@ keeps_tables = record {
       let rows = table.rows in let are = rows_in table is in
       table_with table (changed_to what new rows) is (cond_both (bytes_eq new.kind what.kind) (first_to (is_at what) (new ∷ []) rows) (added new (removed what rows)) AreRows
       (λ same. rows_replaced what new rows ((bytes_eq-Decides new.kind what.kind).0 same) one are) (λ differ. rows_added new (removed what rows) one (rows_removed what rows are)));
+  copies = λ how chosen rows table each is copy. table_with table rows is (rows_copied how chosen table.rows rows each (rows_in table is) copy);
 }

@@ -1,10 +1,12 @@
 -- What changes are to each other.
 use Rattle.std.specs.Prelude.{◌≡◌, true, false, not, List, ◌∷◌, drop, bytes_eq, Some}
-use Rattle.std.specs.List.{filter, find}
+use Rattle.std.specs.List.{AllByRecursion, filter, find}
 use Rattle.fork_bytes.specs.Rows.{Row}
 use Rattle.fork_bytes.specs.declared.table.Table.{Table}
 use Rattle.fork_bytes.specs.Laws.{IsRow, IsTable}
 use Rattle.fork_change.specs.declared.row.ResourceId.{ResourceId}
+use Rattle.fork_change.specs.declared.copying.Collision.{Collision}
+use Rattle.fork_change.specs.Copies.{copied}
 use Rattle.fork_change.specs.Rows.{id_of, is_at, is_there, put, removed, changed_to, added, with_rows}
 
 -- what is found of its type and id is the row that was put; any others with them stay after it
@@ -35,3 +37,5 @@ pub record KeepsTables : Type 0 where
   pub puts : (new : Row) (table : Table) → IsRow new → IsTable table → IsTable (with_rows table (put new table.rows))
   pub removes : (what : ResourceId) (table : Table) → IsTable table → IsTable (with_rows table (removed what table.rows))
   pub sets : (what : ResourceId) (new : Row) (table : Table) → IsRow new → IsTable table → IsTable (with_rows table (changed_to what new table.rows))
+  pub copies : (how : Collision) (chosen rows : List Row) (table : Table) → AllByRecursion IsRow chosen → IsTable table →
+      copied how chosen table.rows ≡ Some rows → IsTable (with_rows table rows)

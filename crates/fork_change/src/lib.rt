@@ -2,6 +2,7 @@
 //! the extra bytes and the map's attributes stay as they are.
 #![tactic(auto)]
 
+pub mod copying;
 mod laws;
 mod putting;
 mod refusal;
@@ -10,6 +11,7 @@ pub mod row;
 mod search;
 mod setting;
 
+pub use copying::{Choice, Collision, copy};
 pub use laws::change_laws;
 pub use putting::{put, put_new};
 pub use refusal::Refusal;

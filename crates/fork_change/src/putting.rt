@@ -11,7 +11,7 @@ use fork_bytes::table::{Row, Rows, Table};
 use mac_base::error::HostFull;
 
 /// The type and the id of a row.
-fn id_of(row: &Row) -> ResourceId
+pub(crate) fn id_of(row: &Row) -> ResourceId
     ensures { result ≡ id_of row.now }
 {
     ResourceId {

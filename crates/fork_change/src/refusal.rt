@@ -12,6 +12,9 @@ pub enum Refusal {
     /// A resource has the type and the id already.
     #[error("there is such a resource already")]
     Taken,
+    /// There are more resources than a fork has that is written.
+    #[error("there are too many resources for one fork")]
+    TooMany,
     /// The host has no memory for the table.
     #[error("the host has no memory")]
     HostFull,

@@ -50,7 +50,7 @@ fn attributes_after(change: AttributeChange, attributes: ResAttrs) -> ResAttrs
 }
 
 /// The same name once more, if there is one.
-fn same_name(name: &Option<Name>) -> Result<Option<Name>, HostFull>
+pub(crate) fn same_name(name: &Option<Name>) -> Result<Option<Name>, HostFull>
     ensures { IfOk result (λ copy. copy ≡ name.now) }
 {
     match name {

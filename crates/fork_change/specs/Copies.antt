@@ -1,0 +1,39 @@
+-- Rows that are copied to others.
+use Rattle.std.specs.Prelude.{◌<◌, ◌⊎◌, Bool, true, if◌then◌else◌, List, [], ◌∷◌, bytes_eq, length, Option, None, Some}
+use Rattle.std.specs.List.{list_any}
+use Rattle.std.specs.Option.{option_and_then}
+use Rattle.fork_bytes.specs.Rows.{Row}
+use Rattle.fork_change.specs.declared.copying.Choice.{Choice}
+use Rattle.fork_change.specs.declared.copying.Choice.TheVariants.{All, Kind, One}
+use Rattle.fork_change.specs.declared.copying.Collision.{Collision}
+use Rattle.fork_change.specs.declared.copying.Collision.TheVariants.{Refuse, Replace, Skip}
+use Rattle.fork_change.specs.Rows.{added, first_to, id_of, is_at, is_there}
+
+-- whether a choice means a row
+abbrev pub is_meant : Choice → Row → Bool
+is_meant All row = true
+is_meant (Kind kind) row = bytes_eq row.kind kind
+is_meant (One what) row = is_at what row
+
+-- whether one of these choices does
+abbrev pub is_chosen : List Choice → Row → Bool
+is_chosen choices row = list_any (λ choice. is_meant choice row) choices
+
+-- the rows after one is copied to them whose type and id one has already; none where that is refused
+abbrev pub collided : Collision → Row → List Row → Option (List Row)
+collided Refuse row rows = None
+collided Replace row rows = Some (first_to (is_at (id_of row)) (row ∷ []) rows)
+collided Skip row rows = Some rows
+
+-- the rows after one is copied to them
+abbrev pub copied_one : Collision → Row → List Row → Option (List Row)
+copied_one how row rows = if is_there (id_of row) rows then collided how row rows else Some (added row rows)
+
+-- the rows after these are copied to them, one after the other
+abbrev pub copied : Collision → List Row → List Row → Option (List Row)
+copied how [] rows = Some rows
+copied how (row ∷ others) rows = option_and_then (copied how others) (copied_one how row rows)
+
+-- more rows than a fork has that is written
+abbrev pub IsTooMany : List Row → List Row → Type 0
+IsTooMany rows chosen = (5458 < length rows) ⊎ (5458 < length chosen)

@@ -1,0 +1,145 @@
+//! Resources are copied from one table into another.
+
+ghost use Rattle.std.specs.Prelude.{◌≡◌, ◌≢◌, None, Some, IfErr, IfOk, OnOk, length};
+ghost use Rattle.std.specs.List.{filter};
+ghost use Rattle.fork_change.specs.Copies.{IsTooMany, copied, copied_one, is_chosen, is_meant};
+ghost use Rattle.fork_change.specs.Rows.{with_rows};
+ghost use Rattle.fork_change.specs.declared.refusal.Refusal.TheVariants as why;
+
+use crate::putting::{add_row, id_of, replace_row};
+use crate::refusal::Refusal;
+use crate::row::{ResourceId, same_name};
+use crate::search::{is_at, is_there};
+use fork_bytes::table::{Contents, Row, Rows, Table};
+use mac_base::error::HostFull;
+use mac_base::resource::{ResType, Resource};
+
+/// The most resources of a fork that is written: two bytes hold the offset of its name list, and each has 12 bytes before it.
+const MOST_ROWS: usize = 5458;
+
+/// Which resources are copied: all, those of a type, or those of a type and id.
+pub enum Choice {
+    All,
+    Kind(ResType),
+    One(ResourceId),
+}
+
+/// What is done where there is a resource of the same type and id.
+#[derive(Clone, Copy)]
+pub enum Collision {
+    /// Nothing at all is copied.
+    Refuse,
+    /// It is replaced, its name and attributes too.
+    Replace,
+    /// It stays, and the other isn't copied.
+    Skip,
+}
+
+/// Whether a choice means a row.
+fn is_meant(choice: &Choice, row: &Row) -> bool
+    ensures { result ≡ is_meant choice.now row.now }
+{
+    match choice {
+        Choice::All => true,
+        Choice::Kind(kind) => row.kind == *kind,
+        Choice::One(what) => is_at(row, what),
+    }
+}
+
+/// Whether one of these choices does.
+fn is_chosen(choices: &[Choice], row: &Row) -> bool
+    ensures { result ≡ is_chosen choices.now row.now }
+{
+    choices.iter().any(|choice| is_meant(choice, row))
+}
+
+/// How many rows are chosen.
+fn count_chosen(from: &[Row], choices: &[Choice]) -> usize
+    ensures { result ≡ length (filter (is_chosen choices.now) from.now) }
+{
+    from.iter().filter(|row| is_chosen(choices, row)).count()
+}
+
+/// The same row once more. Its bytes stay where they are.
+fn same_row<'a>(row: &Row<'a>) -> Result<Row<'a>, HostFull>
+    ensures { IfOk result (λ copy. copy ≡ row.now) }
+{
+    Ok(Resource {
+        kind: row.kind,
+        id: row.id,
+        name: same_name(&row.name)?,
+        attributes: row.attributes,
+        datum: Contents::new(row.datum.as_slice()),
+    })
+}
+
+/// Copies a row to others.
+fn copy_row<'a>(rows: &mut Vec<Row<'a>>, row: &Row<'a>, how: Collision) -> Result<(), Refusal>
+    ensures copied { OnOk result (copied_one how row.now rows.old.items ≡ Some rows.new.items) }
+    ensures refused { IfErr result (λ fault. fault ≡ why.Taken → copied_one how row.now rows.old.items ≡ None) }
+    ensures fault { IfErr result (λ fault. fault ≢ why.TooMany) }
+{
+    let what = id_of(row);
+    if !is_there(rows, &what) {
+        add_row(rows, same_row(row)?)?;
+        return Ok(());
+    }
+    match how {
+        Collision::Refuse => Err(Refusal::Taken),
+        Collision::Replace => {
+            replace_row(rows, &what, same_row(row)?);
+            Ok(())
+        }
+        Collision::Skip => Ok(()),
+    }
+}
+
+/// Copies the chosen rows to others, one after the other.
+fn copy_rows<'a>(
+    rows: &mut Vec<Row<'a>>,
+    from: &[Row<'a>],
+    choices: &[Choice],
+    how: Collision,
+) -> Result<(), Refusal>
+    ensures copied { OnOk result (copied how (filter (is_chosen choices.now) from.now) rows.old.items ≡ Some rows.new.items) }
+    ensures refused { IfErr result (λ fault. fault ≡ why.Taken → copied how (filter (is_chosen choices.now) from.now) rows.old.items ≡ None) }
+    ensures fault { IfErr result (λ fault. fault ≢ why.TooMany) }
+{
+    for row in from {
+        if is_chosen(choices, row) {
+            copy_row(rows, row, how)?;
+        }
+    }
+    Ok(())
+}
+
+/// The table with the chosen rows of another, each in its place or as the last of its type. It is Taken exactly where a collision is
+/// refused, and TooMany exactly where the table has, or the chosen are, more than 5,458 rows: no fork that is written has more.
+pub fn copy<'a>(
+    to: Table<'a>,
+    from: &[Row<'a>],
+    choices: &[Choice],
+    how: Collision,
+) -> Result<Table<'a>, Refusal>
+    ensures copied { IfOk result (λ new. copied how (filter (is_chosen choices.now) from.now) to.entry.rows ≡ Some new.rows) }
+    ensures rest { IfOk result (λ new. new ≡ with_rows to.entry new.rows) }
+    ensures refused { IfErr result (λ fault. fault ≡ why.Taken → copied how (filter (is_chosen choices.now) from.now) to.entry.rows ≡ None) }
+    ensures too_many { IfErr result (λ fault. fault ≡ why.TooMany → IsTooMany to.entry.rows (filter (is_chosen choices.now) from.now)) }
+    ensures few { OnOk result (¬ IsTooMany to.entry.rows (filter (is_chosen choices.now) from.now)) }
+{
+    if to.rows.as_slice().len() > MOST_ROWS || count_chosen(from, choices) > MOST_ROWS {
+        return Err(Refusal::TooMany);
+    }
+    let Table {
+        rows,
+        extra,
+        map_attributes,
+    } = to;
+    let mut rows = rows.into_vec();
+    copy_rows(&mut rows, from, choices, how)?;
+    Ok(Table {
+        rows: Rows::new(rows),
+        extra,
+        map_attributes,
+    })
+}
