@@ -94,6 +94,29 @@ few_from_placed limits fork rows few = let P : ℕ → Type 0 = λ n. n ≤ limi
 pub few_to_placed : (limits : Limits) (fork : List ℕ) (rows : List MapRow) → HasFewBytesWithin limits (data_of fork) rows → AreFewBytesWithin limits (map (placed_row fork) rows)
 few_to_placed limits fork rows few = let P : ℕ → Type 0 = λ n. n ≤ limits.bytes in subst P (sym (sum_of_places fork rows)) few
 
+-- rows with their bytes have not too many, with four of length for each
+abbrev pub FewInRows : Limits → List Row → Type 0
+FewInRows limits rows = sum_by (λ (row : Row). 4 + length row.datum) rows ≤ limits.bytes
+
+-- rows with their bytes have as many as their lengths say
+sum_of_rows : (resource_data : List ℕ) (rows : List MapRow) → HasData resource_data rows →
+    sum_by (λ (row : Row). 4 + length row.datum) (map (row_with resource_data) rows) ≡ sum_by (λ (r : MapRow). 4 + datum_length resource_data r.datum) rows
+sum_of_rows resource_data [] has = refl
+sum_of_rows resource_data (row ∷ rows) has =
+    let n = datum_length resource_data row.datum in
+    let last = has.0.1 in
+    let long : length (bytes_at n (row.datum + 4) resource_data) ≡ n = length-part n (row.datum + 4) resource_data (omega arith) in
+    sum_by-cons (λ (r : Row). 4 + length r.datum) (row_with resource_data row) (map (row_with resource_data) rows)
+    ∙ ap (λ (k : ℕ). 4 + k + sum_by (λ (r : Row). 4 + length r.datum) (map (row_with resource_data) rows)) long
+    ∙ ap (λ (k : ℕ). 4 + n + k) (sum_of_rows resource_data rows has.1)
+    ∙ sym (sum_by-cons (λ (r : MapRow). 4 + datum_length resource_data r.datum) row rows)
+
+pub few_from_rows : (limits : Limits) (resource_data : List ℕ) (rows : List MapRow) → HasData resource_data rows → FewInRows limits (map (row_with resource_data) rows) → HasFewBytesWithin limits resource_data rows
+few_from_rows limits resource_data rows has few = let P : ℕ → Type 0 = λ n. n ≤ limits.bytes in subst P (sum_of_rows resource_data rows has) few
+
+pub few_to_rows : (limits : Limits) (resource_data : List ℕ) (rows : List MapRow) → HasData resource_data rows → HasFewBytesWithin limits resource_data rows → FewInRows limits (map (row_with resource_data) rows)
+few_to_rows limits resource_data rows has few = let P : ℕ → Type 0 = λ n. n ≤ limits.bytes in subst P (sym (sum_of_rows resource_data rows has)) few
+
 -- bytes with zeros behind them, up to 240
 pub extra_is : (behind front : List ℕ) (count : ℕ) → count ≡ min (length behind) 240 → front ≡ take count behind →
     front ++ drop count (replicate 240 0) ≡ take 240 (behind ++ replicate 240 0)

@@ -1,12 +1,12 @@
 //! A fork is read whole.
 
-ghost use Rattle.std.specs.Prelude.{◌≡◌, ◌<◌, ◌≤◌, ◌+◌, ◌^◌, ◌↔◌, length, map, IfOk, IfErr, OnErr, IsErrOf};
-ghost use Rattle.std.specs.List.{AllByRecursion};
-ghost use Rattle.fork_bytes.specs.Fork.{bytes_at, header_of, data_of, datum_length, table_of, HasPartsWithin, HasData, IsForkWithin, StandsFor, StandsForWithin, Refuses, RefusesWithin};
+ghost use Rattle.std.specs.Prelude.{◌≡◌, ◌<◌, ◌≤◌, ◌+◌, ◌^◌, ◌↔◌, length, map, sum_by, IfOk, IfErr, OnOk, OnErr, IsErrOf};
+ghost use Rattle.fork_bytes.specs.Rows.{Row};
+ghost use Rattle.fork_bytes.specs.Fork.{bytes_at, header_of, data_of, row_with, table_of, HasPartsWithin, HasData, IsForkWithin, StandsFor, StandsForWithin, Refuses, RefusesWithin};
 ghost use Rattle.fork_bytes.specs.declared.layout.Limits.{Limits};
-ghost use Rattle.fork_reader.specs.Reading.{placed_row, placed_rows, row_at, HasDatum, IsWithin, FaultsAt};
+ghost use Rattle.fork_reader.specs.Reading.{row_at, HasDatum, IsWithin, FaultsAt};
 
-use crate::data::{check_bytes, length_place, place_row};
+use crate::data::{length_place, place_row};
 use crate::grow::push;
 use crate::header::{HEADER_LENGTH, check_parts, extra_bytes, read_header};
 use crate::map::{read_attributes, read_map};
@@ -15,48 +15,10 @@ use crate::place::PlacedRow;
 use fork_bytes::fault::{Condition, ForkFault};
 use fork_bytes::layout::{Header, Limits, MapRow};
 use fork_bytes::table::{Contents, Row, Rows, Table};
-use mac_base::error::HostFull;
 use mac_base::resource::Resource;
 use std::alloc::Global;
 
-/// The row with the place of its bytes.
-fn find_row(fork: &[u8], header: Header, row: MapRow) -> Result<PlacedRow, ForkFault>
-    requires header { header ≡ header_of fork.now }
-    requires whole { header.data_offset + header.data_length ≤ length fork.now }
-    requires small { length fork.now < 2 ^ 32 }
-    ensures row { IfOk result (λ found. found ≡ placed_row fork.now row) }
-    ensures has { IfOk result (λ _. HasDatum (data_of fork.now) row) }
-    ensures fails { OnErr result (¬ HasDatum (data_of fork.now) row) }
-    ensures fault { IfErr result (λ fault. fault ≡ ForkFault.BadMap Condition.Places) }
-{
-    let at = length_place(header, &row)? as usize;
-    place_row(header, row, read_four(fork, at))
-}
-
-/// The rows with the places of their bytes.
-fn find_rows(
-    alloc: Global,
-    fork: &[u8],
-    header: Header,
-    rows: Vec<MapRow>,
-) -> Result<Vec<PlacedRow>, ForkFault>
-    requires header { header ≡ header_of fork.now }
-    requires whole { header.data_offset + header.data_length ≤ length fork.now }
-    requires small { length fork.now < 2 ^ 32 }
-    ensures rows { IfOk result (λ found. found.items ≡ map (placed_row fork.now) rows.items) }
-    ensures has { IfOk result (λ _. HasData (data_of fork.now) rows.items) }
-    ensures refuses { IfErr result (FaultsAt Condition.Places (¬ HasData (data_of fork.now) rows.items)) }
-{
-    let Ok(mut placed) = Vec::with_capacity(alloc, rows.len()) else {
-        return Err(ForkFault::HostFull);
-    };
-    for row in rows {
-        push(&mut placed, find_row(fork, header, row)?)?;
-    }
-    Ok(placed)
-}
-
-/// The row with its bytes.
+/// The row with the bytes at its place.
 fn row_at<'a>(fork: &'a [u8], row: PlacedRow) -> Row<'a>
     requires { IsWithin fork.now row }
     ensures { result ≡ row_at fork.now row }
@@ -78,39 +40,77 @@ fn row_at<'a>(fork: &'a [u8], row: PlacedRow) -> Row<'a>
     }
 }
 
+/// The row with its bytes.
+fn find_row<'a>(fork: &'a [u8], header: Header, row: MapRow) -> Result<Row<'a>, ForkFault>
+    requires header { header ≡ header_of fork.now }
+    requires whole { header.data_offset + header.data_length ≤ length fork.now }
+    requires small { length fork.now < 2 ^ 32 }
+    ensures row { IfOk result (λ found. found ≡ row_with (data_of fork.now) row) }
+    ensures has { IfOk result (λ _. HasDatum (data_of fork.now) row) }
+    ensures fails { OnErr result (¬ HasDatum (data_of fork.now) row) }
+    ensures fault { IfErr result (λ fault. fault ≡ ForkFault.BadMap Condition.Places) }
+{
+    let at = length_place(header, &row)? as usize;
+    let placed = place_row(header, row, read_four(fork, at))?;
+    Ok(row_at(fork, placed))
+}
+
 /// The rows with their bytes.
-fn rows_at<'a>(
+fn find_rows<'a>(
     alloc: Global,
     fork: &'a [u8],
-    rows: Vec<PlacedRow>,
-) -> Result<Vec<Row<'a>>, HostFull>
-    requires { AllByRecursion (IsWithin fork.now) rows.items }
-    ensures { IfOk result (λ found. found.items ≡ map (row_at fork.now) rows.items) }
+    header: Header,
+    rows: Vec<MapRow>,
+) -> Result<Vec<Row<'a>>, ForkFault>
+    requires header { header ≡ header_of fork.now }
+    requires whole { header.data_offset + header.data_length ≤ length fork.now }
+    requires small { length fork.now < 2 ^ 32 }
+    ensures rows { IfOk result (λ found. found.items ≡ map (row_with (data_of fork.now)) rows.items) }
+    ensures has { IfOk result (λ _. HasData (data_of fork.now) rows.items) }
+    ensures refuses { IfErr result (FaultsAt Condition.Places (¬ HasData (data_of fork.now) rows.items)) }
 {
-    let mut found = Vec::with_capacity(alloc, rows.len())?;
+    let Ok(mut found) = Vec::with_capacity(alloc, rows.len()) else {
+        return Err(ForkFault::HostFull);
+    };
     for row in rows {
-        found.push(row_at(fork, row))?;
+        push(&mut found, find_row(fork, header, row)?)?;
     }
     Ok(found)
 }
 
-/// The rows of a fork with the places of their bytes.
-fn placed_rows(
+/// Checks that rows have not too many bytes together. The fault is BadMap(ByteCount), exactly where they have.
+fn check_data(rows: &[Row], limits: Limits) -> Result<(), ForkFault>
+    ensures few { OnOk result (sum_by (λ (row : Row). 4 + length row.datum) rows.now ≤ limits.bytes) }
+    ensures fails { OnErr result (¬ (sum_by (λ (row : Row). 4 + length row.datum) rows.now ≤ limits.bytes)) }
+    ensures fault { IfErr result (λ fault. fault ≡ ForkFault.BadMap Condition.ByteCount) }
+{
+    let mut total = 0;
+    for row in rows {
+        total += 4 + row.datum.as_slice().len();
+        if total > limits.bytes as usize {
+            return Err(ForkFault::BadMap(Condition::ByteCount));
+        }
+    }
+    Ok(())
+}
+
+/// The rows of a fork.
+fn read_rows<'a>(
     alloc: Global,
-    fork: &[u8],
+    fork: &'a [u8],
     header: Header,
     limits: Limits,
-) -> Result<Vec<PlacedRow>, ForkFault>
+) -> Result<Vec<Row<'a>>, ForkFault>
     requires header { header ≡ header_of fork.now }
     requires whole { 16 ≤ length fork.now }
     requires parts { HasPartsWithin limits (length fork.now) header }
-    ensures rows { IfOk result (λ rows. rows.items ≡ placed_rows fork.now) }
+    ensures rows { IfOk result (λ rows. rows.items ≡ (table_of fork.now).rows) }
     ensures fork { IfOk result (λ _. IsForkWithin limits fork.now) }
     ensures refuses { IfErr result (RefusesWithin limits fork.now) }
 {
     let rows = read_map(alloc, map_bytes(fork, header), limits)?;
     let rows = find_rows(alloc, fork, header, rows)?;
-    check_bytes(&rows, limits)?;
+    check_data(&rows, limits)?;
     Ok(rows)
 }
 
@@ -124,28 +124,22 @@ fn map_bytes(fork: &[u8], header: Header) -> &[u8]
 }
 
 /// The table of a fork with these rows, which is a fork within some limits.
-fn table_of<'a>(
-    alloc: Global,
-    fork: &'a [u8],
-    header: Header,
-    rows: Vec<PlacedRow>,
-) -> Result<Table<'a>, HostFull>
+fn table_of<'a>(fork: &'a [u8], header: Header, rows: Vec<Row<'a>>) -> Table<'a>
     requires header { header ≡ header_of fork.now }
     requires fork { (limits : Limits) × IsForkWithin limits fork.now }
-    requires rows { rows.items ≡ placed_rows fork.now }
-    ensures { IfOk result (λ table. table ≡ table_of fork.now) }
+    requires rows { rows.items ≡ (table_of fork.now).rows }
+    ensures { result ≡ table_of fork.now }
 {
-    let rows = rows_at(alloc, fork, rows)?;
-    Ok(Table {
+    Table {
         rows: Rows::new(rows),
         extra: extra_bytes(&fork[HEADER_LENGTH..]),
         map_attributes: read_attributes(map_bytes(fork, header)),
-    })
+    }
 }
 
 /// The table that the bytes of a fork stand for, within these limits. Its rows have their bytes where they stand in the fork, and no
-/// copies of them. The fault is EndOfFile exactly where there are fewer than 16
-/// bytes, and else BadMap of the first condition that doesn't hold, or HostFull.
+/// copies of them. The fault is EndOfFile exactly where there are fewer than 16 bytes, and else BadMap of the first condition that doesn't
+/// hold, or HostFull.
 pub fn read_fork_within<'a>(
     alloc: Global,
     fork: &'a [u8],
@@ -157,11 +151,8 @@ pub fn read_fork_within<'a>(
 {
     let header = read_header(fork)?;
     check_parts(header, fork.len(), limits)?;
-    let rows = placed_rows(alloc, fork, header, limits)?;
-    match table_of(alloc, fork, header, rows) {
-        Ok(table) => Ok(table),
-        Err(HostFull) => Err(ForkFault::HostFull),
-    }
+    let rows = read_rows(alloc, fork, header, limits)?;
+    Ok(table_of(fork, header, rows))
 }
 
 /// The table that the bytes of a fork stand for, within macheap's limits. The fault is EndOfFile exactly where there are fewer than

@@ -7,8 +7,8 @@ use Rattle.fork_bytes.specs.declared.fault.Condition.TheVariants.{Places}
 use Rattle.fork_bytes.specs.declared.fault.ForkFault.TheVariants.{BadMap}
 use Rattle.fork_reader.proofs.Faults.{fault_known}
 use Rattle.fork_bytes.specs.Rows.{MapRow}
-use Rattle.fork_bytes.specs.Fork.{data_of, HasData}
-use Rattle.fork_reader.specs.Reading.{placed_row, HasDatum}
+use Rattle.fork_bytes.specs.Fork.{data_of, row_with, HasData}
+use Rattle.fork_reader.specs.Reading.{HasDatum}
 use Rattle.fork_reader.proofs.Placing.{all_push, data_fails, map_push}
 use Rattle.fork_reader.proofs.read.find_rows.Goals as goal
 
@@ -23,7 +23,7 @@ pub returns-clause-rows : goal.returns-clause-rows
 returns-clause-rows c =
     let all : c.loop-row.yielded ≡ c.args.rows.items =
     sym (map-id _) ∙ (YieldsList-end (YieldsList-from_vec c.args.rows.items (search rules) (search rules)) c.loop-row.yielded _ c.loop-row.yielded_by _ c.next.new.self c.in-None.is c.next.ensures.steps).0 in
-    c.loop-row.invariant.2 ∙ ap (map (placed_row c.args.fork.now)) all
+    c.loop-row.invariant.2 ∙ ap (map (row_with (data_of c.args.fork.now))) all
 
 pub returns-clause-has : goal.returns-clause-has
 returns-clause-has c =
@@ -35,6 +35,6 @@ pub loop-row-preserved : goal.loop-row-preserved
 loop-row-preserved c = (
   tt,
   tt,
-  map_push (placed_row c.args.fork.now) c.loop-row.yielded c.in-Some.row _ _ _ c.loop-row.invariant.2 c.in_ok-find_row.ensures.row c.in_ok-push.ensures.added,
+  map_push (row_with (data_of c.args.fork.now)) c.loop-row.yielded c.in-Some.row _ _ _ c.loop-row.invariant.2 c.in_ok-find_row.ensures.row c.in_ok-push.ensures.added,
   all_push (HasDatum (data_of c.args.fork.now)) c.loop-row.yielded c.in-Some.row c.loop-row.invariant.3 c.in_ok-find_row.ensures.has,
 )

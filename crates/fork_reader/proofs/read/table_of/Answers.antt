@@ -1,19 +1,10 @@
-use Rattle.std.proofs.Common.{◌++◌, length, List, ℕ, map, take, replicate, subst, sym, ap, ◌∙◌}
-use Rattle.std.specs.List.{AllByRecursion}
+use Rattle.std.proofs.Common.{◌++◌, length, List, ℕ, take, replicate, subst, sym, ap, ◌∙◌}
 use Rattle.std.proofs.lemmas.List.{take_rest}
-use Rattle.fork_bytes.specs.declared.fault.Condition.TheVariants.{Parts, Places}
+use Rattle.fork_bytes.specs.declared.fault.Condition.TheVariants.{Parts}
 use Rattle.fork_bytes.specs.declared.layout.Header.{Header}
-use Rattle.fork_bytes.specs.Fork.{map_of, map_rows, attributes_of, HasPartsWithin}
-use Rattle.fork_reader.specs.Reading.{PlacedRow, row_at, IsWithin}
-use Rattle.fork_reader.proofs.Placing.{rows_are_within}
-use Rattle.fork_reader.proofs.Whole.{stands, map_is, map_is_long}
+use Rattle.fork_bytes.specs.Fork.{attributes_of, HasPartsWithin}
+use Rattle.fork_reader.proofs.Whole.{table_is, map_is, map_is_long}
 use Rattle.fork_reader.proofs.read.table_of.Goals as goal
-
-pub rows_at-requires : goal.rows_at-requires
-rows_at-requires c =
-    let fork = c.args.fork.now in let holds = c.requires.fork.1.holds in
-    let P : List PlacedRow → Type 0 = AllByRecursion (IsWithin fork) in
-    subst P (sym c.requires.rows) (rows_are_within fork (holds Parts).whole_data (map_rows (map_of fork)) (holds Places))
 
 pub map_bytes-requires : goal.map_bytes-requires
 map_bytes-requires c = let P : Header → Type 0 = HasPartsWithin c.requires.fork.0 (length c.args.fork.now) in (subst P (sym c.requires.header) (c.requires.fork.1.holds Parts)).whole_map
@@ -26,7 +17,6 @@ read_attributes-requires c =
 pub returns : goal.returns
 returns c =
     let fork = c.args.fork.now in
-    let rows = c.new.ensures ∙ c.in_ok-rows.ensures ∙ ap (map (row_at fork)) c.requires.rows in
     let extra = c.extra_bytes.ensures ∙ ap (λ (xs : List ℕ). take 240 (xs ++ replicate 240 0)) (take_rest fork 16) in
     let marks = c.read_attributes.ensures ∙ ap attributes_of (map_is fork c.args.header c.requires.header c.map_bytes.result.now c.map_bytes.ensures) in
-    (stands c.requires.fork.0 fork c.new.result c.extra_bytes.result c.read_attributes.result c.requires.fork.1 rows extra marks).1
+    table_is fork c.new.result c.extra_bytes.result c.read_attributes.result (c.new.ensures ∙ c.requires.rows) extra marks

@@ -3,13 +3,13 @@ use Rattle.std.proofs.lemmas.Result.{IfErr-weaker}
 use Rattle.fork_bytes.specs.declared.fault.Condition.TheVariants.{Places, ByteCount}
 use Rattle.fork_bytes.specs.declared.fault.ForkFault.TheVariants.{BadMap}
 use Rattle.fork_bytes.specs.declared.fault.ForkFault.{ForkFault}
-use Rattle.fork_bytes.specs.Rows.{MapRow}
-use Rattle.fork_bytes.specs.Fork.{data_of, map_of, map_rows, HasData, RefusesWithin}
-use Rattle.fork_reader.specs.Reading.{PlacedRow, placed_row, IsMapWithin, RefusesMapWithin, FaultsAt, AreFewBytesWithin}
+use Rattle.fork_bytes.specs.Rows.{Row, MapRow}
+use Rattle.fork_bytes.specs.Fork.{data_of, map_of, map_rows, row_with, HasData, RefusesWithin}
+use Rattle.fork_reader.specs.Reading.{IsMapWithin, RefusesMapWithin, FaultsAt}
 use Rattle.fork_reader.proofs.Faults.{map_refuses, places_refuse, bytes_refuse, is_fork}
-use Rattle.fork_reader.proofs.Placing.{few_from_placed, few_to_placed}
+use Rattle.fork_reader.proofs.Placing.{FewInRows, few_from_rows, few_to_rows}
 use Rattle.fork_reader.proofs.Whole.{parts_of_fork, map_is, map_is_long}
-use Rattle.fork_reader.proofs.read.placed_rows.Goals as goal
+use Rattle.fork_reader.proofs.read.read_rows.Goals as goal
 
 pub read_map-requires : goal.read_map-requires
 read_map-requires c = map_is_long c.args.limits c.args.fork.now c.args.header c.requires.header c.requires.parts c.map_bytes.result.now c.map_bytes.ensures
@@ -33,8 +33,8 @@ returns-in_err-rows-2-clause-refuses c =
     places_refuse c.args.limits fork c.requires.whole parts holds fault (subst P rows told)))
     (search rules)
 
-pub returns-in_err-check_bytes-clause-refuses : goal.returns-in_err-check_bytes-clause-refuses
-returns-in_err-check_bytes-clause-refuses c =
+pub returns-in_err-check_data-clause-refuses : goal.returns-in_err-check_data-clause-refuses
+returns-in_err-check_data-clause-refuses c =
     let fork = c.args.fork.now in let parts = parts_of_fork c.args.limits fork c.args.header c.requires.header c.requires.parts in
     let same = map_is fork c.args.header c.requires.header c.map_bytes.result.now c.map_bytes.ensures in
     let read = c.in_ok-rows.ensures.rows ∙ ap map_rows same in
@@ -42,16 +42,16 @@ returns-in_err-check_bytes-clause-refuses c =
     let holds = subst Q same c.in_ok-rows.ensures.holds in
     let P : List MapRow → Type 0 = HasData (data_of fork) in
     let places = subst P read c.in_ok-rows-2.ensures.has in
-    let rows = c.deref.ensures.value ∙ c.in_ok-rows-2.ensures.rows ∙ ap (map (placed_row fork)) read in
-    let R : List PlacedRow → Type 0 = AreFewBytesWithin c.args.limits in
-    let refuses = bytes_refuse c.args.limits fork c.requires.whole parts holds places (λ few. c.in_err-check_bytes.ensures.fails (subst R (sym rows) (few_to_placed c.args.limits fork (map_rows (map_of fork)) few))) in
-    IfErr-weaker c.from_residual-in_err-check_bytes.result (λ fault. fault ≡ BadMap ByteCount) _ (λ fault is. (let S : ForkFault → Type 0 = RefusesWithin c.args.limits fork in subst S (sym is) refuses)) (search rules)
+    let rows = c.deref.ensures.value ∙ c.in_ok-rows-2.ensures.rows ∙ ap (map (row_with (data_of fork))) read in
+    let R : List Row → Type 0 = FewInRows c.args.limits in
+    let refuses = bytes_refuse c.args.limits fork c.requires.whole parts holds places (λ few. c.in_err-check_data.ensures.fails (subst R (sym rows) (few_to_rows c.args.limits (data_of fork) (map_rows (map_of fork)) places few))) in
+    IfErr-weaker c.from_residual-in_err-check_data.result (λ fault. fault ≡ BadMap ByteCount) _ (λ fault is. (let S : ForkFault → Type 0 = RefusesWithin c.args.limits fork in subst S (sym is) refuses)) (search rules)
 
 pub returns-clause-rows : goal.returns-clause-rows
 returns-clause-rows c =
     let fork = c.args.fork.now in
     let same = map_is fork c.args.header c.requires.header c.map_bytes.result.now c.map_bytes.ensures in
-    let read = c.in_ok-rows.ensures.rows ∙ ap map_rows same in c.in_ok-rows-2.ensures.rows ∙ ap (map (placed_row fork)) read
+    let read = c.in_ok-rows.ensures.rows ∙ ap map_rows same in c.in_ok-rows-2.ensures.rows ∙ ap (map (row_with (data_of fork))) read
 
 pub returns-clause-fork : goal.returns-clause-fork
 returns-clause-fork c =
@@ -62,6 +62,6 @@ returns-clause-fork c =
     let holds = subst Q same c.in_ok-rows.ensures.holds in
     let P : List MapRow → Type 0 = HasData (data_of fork) in
     let places = subst P read c.in_ok-rows-2.ensures.has in
-    let rows = c.deref.ensures.value ∙ c.in_ok-rows-2.ensures.rows ∙ ap (map (placed_row fork)) read in
-    let R : List PlacedRow → Type 0 = AreFewBytesWithin c.args.limits in
-    is_fork c.args.limits fork c.requires.whole parts holds places (few_from_placed c.args.limits fork (map_rows (map_of fork)) (subst R rows c.in_ok-check_bytes.ensures.few))
+    let rows = c.deref.ensures.value ∙ c.in_ok-rows-2.ensures.rows ∙ ap (map (row_with (data_of fork))) read in
+    let R : List Row → Type 0 = FewInRows c.args.limits in
+    is_fork c.args.limits fork c.requires.whole parts holds places (few_from_rows c.args.limits (data_of fork) (map_rows (map_of fork)) places (subst R rows c.in_ok-check_data.ensures.few))
