@@ -1,6 +1,6 @@
 -- Faults, one entry or one reference further.
 use Rattle.std.proofs.lemmas.Bool.Decides.{nat_tests}
-use Rattle.std.proofs.Common.{◌≡◌, ℕ, zero, suc, ◌+◌, ◌-◌, ◌<◌, ◌≤◌, ◌==◌, Bool, true, false, nat_lt, if◌then◌else◌, List, [], ◌∷◌, ◌++◌, length, take, bytes_eq, Option, refl, subst, sym, ap, ◌∙◌, append_assoc, arith}
+use Rattle.std.proofs.Common.{◌≡◌, ℕ, zero, suc, ◌+◌, ◌-◌, ◌<◌, ◌≤◌, Bool, true, false, nat_lt, if◌then◌else◌, List, [], ◌∷◌, ◌++◌, length, take, bytes_eq, Option, refl, subst, sym, ap, ◌∙◌, append_assoc, arith}
 use Rattle.std.specs.Prelude.{option_to_list}
 use Rattle.std.specs.List.{flat_map}
 use Rattle.std.proofs.lemmas.Bool.{cond-true, cond-false}
@@ -16,7 +16,7 @@ use Rattle.fork_bytes.specs.declared.fault.Condition.TheVariants as condition
 use Rattle.fork_salvage.specs.declared.fault.Fault.TheVariants as fault
 use Rattle.fork_salvage.specs.declared.plan.Plan.{Plan}
 use Rattle.fork_salvage.specs.Fault.{refusal_of}
-use Rattle.fork_salvage.specs.Faults.{earlier_type, entry_faults, entries_faults, parts_faults, lists_faults, map_faults, found_faults, faults_with}
+use Rattle.fork_salvage.specs.Faults.{earlier_type, entry_faults, entries_faults, parts_faults, lists_faults, map_faults, found_faults}
 
 pub earlier_step : (m : List ℕ) (types : Types) (kind : List ℕ) (index i : ℕ) → i < index → bytes_eq (told_list m types i).kind kind ≡ false →
     earlier_type m types kind (places (index - i) i 1) ≡ earlier_type m types kind (places (index - (i + 1)) (i + 1) 1)
@@ -87,11 +87,3 @@ found_untold fork done last long told is =
     append_assoc done (parts_faults fork) last
     ∙ ap (λ (fs : List Fault). done ++ (parts_faults fork ++ fs)) (is ∙ sym (cond-false _ _ _ told))
     ∙ ap (λ (fs : List Fault). done ++ fs) (sym (cond-false _ _ _ (not_below _ _ long)))
-
--- the faults that are given, where none is found and where some is
-pub alone : (first : Fault) (found given : List Fault) → found ≡ [] → given ≡ found ++ first ∷ [] → given ≡ faults_with first found
-alone first found given none is =
-    let P : List Fault → Type 0 = λ fs. fs ++ first ∷ [] ≡ faults_with first fs in is ∙ subst P (sym none) refl
-
-pub some_given : (first : Fault) (found : List Fault) → (length found == 0) ≡ false → found ≡ faults_with first found
-some_given first found some = sym (cond-false _ _ _ some)

@@ -116,7 +116,3 @@ abbrev pub found_faults : List ℕ → List Fault
 found_faults fork =
     if nat_lt (length fork) 16 then option_to_list (header_fault fork)
     else parts_faults fork ++ (if may_be_told fork then lists_faults fork (told_plan fork) else map_faults fork)
-
--- the faults that are found, and where none is found the first that the reader meets
-abbrev pub faults_with : Fault → List Fault → List Fault
-faults_with first found = if length found == 0 then first ∷ [] else found

@@ -1,10 +1,11 @@
 //! All faults of the header, the map and the type list of a fork.
 
-ghost use Rattle.std.specs.Prelude.{◌≡◌, ◌<◌, ◌≤◌, ◌+◌, ◌*◌, ◌++◌, ◌^◌, length, OnOk, IfOk, option_to_list, option_map, find, bytes_eq, ◌⊎◌, []};
+ghost use Rattle.std.specs.Prelude.{◌≡◌, ◌<◌, ◌≤◌, ◌+◌, ◌*◌, ◌++◌, ◌^◌, length, OnOk, IfOk, option_to_list, option_map, find, bytes_eq, not, ◌⊎◌, ◌∷◌, []};
+ghost use Rattle.std.specs.List.{filter};
 ghost use Rattle.fork_bytes.specs.Fork.{places, IsForkWithin, RefusesWithin, format_limits};
 ghost use Rattle.fork_salvage.specs.Plans.{IsPlan, IsTypes, IsTold, reference_of};
 ghost use Rattle.fork_salvage.specs.Salvage.{bytes_found, map_in, parts_at, told_list};
-ghost use Rattle.fork_salvage.specs.Faults.{header_fault, too_long, data_fault, map_fault, map_header_fault, parts_faults, earlier_type, same_type, list_fault, entry_faults, entries_faults, types_fault, name_fault, bytes_fault, row_faults, rows_faults, lists_faults, map_faults, found_faults, faults_with};
+ghost use Rattle.fork_salvage.specs.Faults.{header_fault, too_long, data_fault, map_fault, map_header_fault, parts_faults, earlier_type, same_type, list_fault, entry_faults, entries_faults, types_fault, name_fault, bytes_fault, row_faults, rows_faults, lists_faults, map_faults, found_faults};
 ghost use Rattle.fork_salvage.specs.Fault.{IsFault, refusal_of};
 ghost use Rattle.fork_salvage.specs.declared.fault.Fault.{Fault};
 
@@ -299,22 +300,38 @@ fn push_found(faults: &mut Vec<Fault>, fork: &[u8]) -> Result<(), AllocError>
     Ok(())
 }
 
-/// All faults of a fork, each with its place, in the order of what they are of: the header, the parts, the type list, each entry of it
-/// and each reference. There is none exactly of a fork that is read. Of what stands behind a part that ends outside of the fork
-/// nothing is looked at, and of the references the first 4,194,304. The only error is that the host has no memory.
+/// This one, and after it those of the others that aren't equal to it.
+fn with_first<T: PartialEq + Copy>(
+    alloc: Global,
+    first: T,
+    others: &[T],
+) -> Result<Vec<T>, AllocError>
+    ensures { IfOk result (λ all. all.items ≡ first ∷ filter (λ other. not (T.eq other first)) others.now) }
+{
+    let mut all = Vec::new(alloc);
+    all.push(first)?;
+    for other in others {
+        if *other != first {
+            all.push(*other)?;
+        }
+    }
+    Ok(all)
+}
+
+/// All faults of a fork, each with its place: the first that the reader meets, as `first_fault` gives it, and then the others in the
+/// order of what they are of: the header, the parts, the type list, each entry of it and each reference. There is none exactly of a fork
+/// that is read. Of what stands after a part that ends outside of the fork nothing is looked at, and of the references the first
+/// 4,194,304. The only error is that the host has no memory.
 pub fn all_faults(alloc: Global, fork: &[u8]) -> Result<Vec<Fault>, AllocError>
     ensures none { IfOk result (λ faults. IsForkWithin format_limits fork.now → faults.items ≡ []) }
     ensures fork { IfOk result (λ faults. faults.items ≡ [] → IsForkWithin format_limits fork.now) }
     ensures all { IfOk result (λ faults. (faults.items ≡ []) ⊎ ((first : Fault) × IsFault fork.now first × RefusesWithin format_limits fork.now (refusal_of first)
-        × (faults.items ≡ faults_with first (found_faults fork.now)))) }
+        × (faults.items ≡ first ∷ filter (λ other. not (⟦<Fault as PartialEq>⟧.eq other first)) (found_faults fork.now)))) }
 {
-    let mut faults = Vec::new(alloc);
     let Some(first) = first_fault(fork) else {
-        return Ok(faults);
+        return Ok(Vec::new(alloc));
     };
-    push_found(&mut faults, fork)?;
-    if faults.as_slice().is_empty() {
-        faults.push(first)?;
-    }
-    Ok(faults)
+    let mut found = Vec::new(alloc);
+    push_found(&mut found, fork)?;
+    with_first(alloc, first, found.as_slice())
 }

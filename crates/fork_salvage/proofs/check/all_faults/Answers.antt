@@ -1,28 +1,30 @@
-use Rattle.std.proofs.Common.{List, [], ◌∷◌, ◌==◌, ◌++◌, length, ap, sym, ◌∙◌, inr}
-use Rattle.std.proofs.lemmas.Bool.{eqb-true}
-use Rattle.std.proofs.lemmas.List.{nil_from_length}
+use Rattle.std.proofs.Common.{◌≡◌, List, ◌∷◌, ◌++◌, not, ap, ◌∙◌, inr}
+use Rattle.std.specs.List.{filter}
+use Rattle.std.proofs.lemmas.Result.{IfOk-weaker}
 use Rattle.fork_salvage.specs.declared.fault.Fault.{Fault}
+use Rattle.fork_salvage.specs.contracts.fault.FaultPartialEq.TheImpl.{ghosts}
 use Rattle.fork_salvage.specs.Faults.{found_faults}
-use Rattle.fork_salvage.proofs.Checked.{not_refused, alone, some_given}
+use Rattle.fork_salvage.proofs.Checked.{not_refused}
 use Rattle.fork_salvage.proofs.check.all_faults.Goals as goal
-use Rattle.fork_salvage.proofs.check.all_faults.Goals.{then-is_empty+in_ok-push, else-is_empty}
+
+-- a fault, and the others of these
+abbrev first_of : Fault → List Fault → List Fault
+first_of first found = first ∷ filter (λ (other : Fault). not (ghosts.eq other first)) found
 
 pub returns-clause-none : goal.returns-clause-none
-returns-clause-none c is = absurd (not_refused c.args.fork.now c.in-Some.first c.in-Some.ensures.refuses is)
+returns-clause-none c =
+    IfOk-weaker c.with_first.result (λ all. all.items ≡ first_of c.in-Some.first c.as_slice.result.now) _
+    (λ all is fork. absurd (not_refused c.args.fork.now c.in-Some.first c.in-Some.ensures.refuses fork)) c.with_first.ensures
+
+pub returns-clause-fork : goal.returns-clause-fork
+returns-clause-fork c =
+    IfOk-weaker c.with_first.result (λ all. all.items ≡ first_of c.in-Some.first c.as_slice.result.now) _
+    (λ all is none. absurd (cc (is, none))) c.with_first.ensures
 
 pub returns-clause-all : goal.returns-clause-all
 returns-clause-all c =
     let found = found_faults c.args.fork.now in
-    let first = c.in-Some.first in
-    let are = c.in_ok-push_found.ensures ∙ ap (λ (fs : List Fault). fs ++ found) c.new-faults.ensures.items in
-    let test = sym (c.is_empty.ensures ∙ ap (λ (fs : List Fault). length fs == 0) (c.as_slice.ensures.value ∙ are)) in
-    inr (
-      first,
-      c.in-Some.ensures.fault,
-      c.in-Some.ensures.refuses,
-      elim c.if-is_empty.branch [
-        | then-is_empty+in_ok-push w ↦ rw w.faults-is
-            (alone first found _ (nil_from_length found (eqb-true _ _ (test ∙ w.if-is_empty.true))) (w.in_ok-push.ensures.items ∙ ap (λ (fs : List Fault). fs ++ first ∷ []) are))
-        | else-is_empty w ↦ rw w.faults-is (are ∙ some_given first found (test ∙ w.if-is_empty.false))
-      ],
-    )
+    let are : c.as_slice.result.now ≡ found =
+    c.as_slice.ensures.value ∙ c.in_ok-push_found.ensures ∙ ap (λ (fs : List Fault). fs ++ found) c.new-found.ensures.items in
+    IfOk-weaker c.with_first.result (λ all. all.items ≡ first_of c.in-Some.first c.as_slice.result.now) _
+    (λ all is. inr (c.in-Some.first, c.in-Some.ensures.fault, c.in-Some.ensures.refuses, is ∙ ap (first_of c.in-Some.first) are)) c.with_first.ensures
