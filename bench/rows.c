@@ -2,6 +2,7 @@
  * none, on forks of 5,458 and 1,282 resources; prints the best microseconds of a call, and their ratio. bench/rows.sh builds and runs it. */
 #include <macheap_fork.h>
 
+#include <malloc.h>
 #include <stdio.h>
 #include <stdlib.h>
 #include <string.h>
@@ -92,7 +93,9 @@ static void measure(uint32_t count, uint32_t size, uint32_t name) {
 
 int main(void) {
     printf("resources      bytes   mf_sizes    mf_rows     C loop    ratio   (microseconds)\n");
-    free(malloc(20000000)); /* so that malloc gives large blocks back to the system at no call */
+    /* so that malloc gives large blocks back to the system at no call */
+    mallopt(M_MMAP_THRESHOLD, 1 << 30);
+    mallopt(M_TRIM_THRESHOLD, 1 << 30);
     measure(1282, 560, 12);
     measure(5458, 0, 0);
     measure(5458, 128, 0);

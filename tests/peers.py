@@ -9,7 +9,8 @@ It isn't a part of the gate, since it needs programs that a machine may lack; it
 Raw forks are made by t1mac, fontforge, ufond and lumper of a font of this machine, and by the model of tests/checks/forks.py; files that are
 named are added. Each is put in containers by macstream, binhex, tobin, hcopy, t1mac and Convert::BinHex, and taken out again by unar as
 AppleDouble. Of each raw fork `resfork ls` must list what fontTools and exiftool list; of each other file, what it lists of the fork that went
-into it. Each resource has to have the same bytes by `resfork get`. It stops after 120 seconds, or N.
+into it. Each resource has to have the same bytes by `resfork get`, and the outline fonts that fondu takes out of a fork are those of its
+resources. It stops after 120 seconds, or N.
 """
 import argparse
 import glob
@@ -62,7 +63,7 @@ class Peers:
             return None
         environment = {**os.environ, "HOME": self.folder, "PERL_UNICODE": ""}
         try:
-            return subprocess.run(words, cwd=self.folder, env=environment, stdin=subprocess.DEVNULL, capture_output=True, timeout=min(20, left), **more)
+            return subprocess.run(words, env=environment, stdin=subprocess.DEVNULL, capture_output=True, timeout=min(20, left), **{"cwd": self.folder, **more})
         except subprocess.TimeoutExpired:
             self.failed.append(f"{words[0]}: no answer in time")
             return None
@@ -157,6 +158,24 @@ def beside_exif_tool(peers, path):
     if sorted(theirs) != sorted((row[1], row[2]) for row in rows_listed(listed)):
         peers.fault(f"{os.path.basename(path)}: exiftool lists {len(theirs)} resources, and resfork {len(rows_listed(listed))}")
     tried(peers, "exiftool")
+
+
+def beside_fondu(peers, path):
+    """Compares the outline fonts that fondu takes out of a fork with the bytes of its resources of type 'sfnt'."""
+    listed = peers.listed(path)
+    wanted = [row[1] for row in rows_listed(listed or "") if row[0] == "sfnt"]
+    out = os.path.join(peers.folder, "fondu")
+    shutil.rmtree(out, ignore_errors=True)
+    os.mkdir(out)
+    if not wanted or peers.run(["fondu", "-force", path], cwd=out) is None:
+        return
+    theirs = []
+    for font in glob.glob(os.path.join(out, "*.[ot]tf")):
+        with open(font, "rb") as file:
+            theirs.append(file.read())
+    if sorted(theirs) != sorted(peers.datum(path, "sfnt", 1, ident) or b"" for ident in wanted):
+        peers.fault(f"{os.path.basename(path)}: fondu takes out {len(theirs)} outline fonts, and not just the bytes of {len(wanted)} resources 'sfnt'")
+    tried(peers, "fondu")
 
 
 def beside_fork(peers, way, path, fork):
@@ -296,6 +315,7 @@ def main():
                 if python:
                     beside_font_tools(peers, python, fork)
                 beside_exif_tool(peers, fork)
+                beside_fondu(peers, fork)
             for way, path in containers(peers, fork):
                 beside_fork(peers, way, path, fork)
         t1 = os.path.join(folder, "t1.rsrc")

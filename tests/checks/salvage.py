@@ -121,8 +121,8 @@ def try_refused(program, path, fork):
         (checked, line), (listing_status, json_list) = listed(program, path)
         must((checked, listing_status) == (3, 3) and json_list["status"] == 3, "the status of a damaged fork isn't 3")
         messages = [it["message"] for it in line["faults"]]
-        must(any(MESSAGES[fault.args[0]].search(it) for it in messages), f"{messages} has nothing of {fault.args[0]}")
-        must(any(it in told for it in messages), f"{told!r} has none of {messages}")
+        must(MESSAGES[fault.args[0]].search(messages[0]), f"the first of {messages} is not of {fault.args[0]}")
+        must(messages[0] in told, f"{told!r} is not the first of {messages}")
         return True
 
 
@@ -192,6 +192,17 @@ def try_odd(program, path):
     status, text, _ = run(program, ["check", "--json", path])
     warnings = [(it["message"].split("\n")[0], it["place"]) for it in json.loads(text)["warnings"]]
     must((status, warnings) == (0, [("the data of two resources overlap", 256), ("8 bytes among the data belong to no resource", 264)]), f"check told {text!r}")
+    # the second and the third lie within the first, and not within each other
+    inner = [struct.pack(">I", 1) + b"x", struct.pack(">I", 1) + b"y"]
+    rows = [Row(b"TEXT", 0, None, 0, bytes(5).join(inner)), *(Row(b"TEXT", it, None, 0, b"z") for it in (1, 2))]
+    fork = bytearray(written([(b"TEXT", rows)]))
+    first = struct.unpack(">I", fork[4:8])[0] + 28 + 2 + 8
+    for it, at in ((1, 4), (2, 14)):
+        fork[first + 12 * it + 5 : first + 12 * it + 8] = at.to_bytes(3, "big")
+    save(path, bytes(fork))
+    status, text, _ = run(program, ["check", path])
+    lines = [f"warning: the data of two resources overlap\n  at ${256 + at:06X}, reached from the references at ${first:06X} and ${first + 12 * it:06X}\n" for it, at in ((1, 4), (2, 14))]
+    must((status, text.decode()) == (0, "".join(lines)), f"check told {text!r}")
 
 
 def try_lost_map(program, path):

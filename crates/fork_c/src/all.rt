@@ -104,8 +104,10 @@ fn put_names(found: &[Row], names: &mut [u8])
     let mut at = 0;
     for row in found {
         let name = name_of(row);
-        put(name, names, at);
-        at += name.len();
+        if !name.is_empty() {
+            put(name, names, at);
+            at += name.len();
+        }
     }
 }
 

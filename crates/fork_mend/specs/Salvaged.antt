@@ -1,7 +1,7 @@
 -- The table of what can be read of a damaged fork.
 use Rattle.std.specs.Prelude.{ℕ, ◌+◌, ◌<◌, ◌⊎◌, if◌then◌else◌, List, [], ◌∷◌, ◌++◌, length, map, filter, filter_map, flat_map, sum_by, bytes_eq, Option, None, Some}
 use Rattle.std.specs.List.{list_any}
-use Rattle.fork_bytes.specs.Fork.{extra_of, max_fork, max_rows}
+use Rattle.fork_bytes.specs.Fork.{extra_of, format_limits}
 use Rattle.fork_bytes.specs.declared.table.Table.{Table}
 use Rattle.fork_salvage.specs.declared.found.FoundRow.{FoundRow}
 use Rattle.fork_salvage.specs.declared.salvage.Item.{Item}
@@ -52,6 +52,6 @@ salvaged_table fork = table_with fork (readable fork)
 abbrev pub byte_count : List FoundRow → ℕ
 byte_count rows = sum_by (λ (row : FoundRow). 4 + row.bytes.length) rows
 
--- too much can be read for one fork: too many resources, or too many bytes of them
+-- more can be read than the format can say of one fork: too many resources, or too many bytes of them
 abbrev pub IsTooMuch : List ℕ → Type 0
-IsTooMuch fork = (max_rows < length (readable fork)) ⊎ (max_fork < byte_count (readable fork))
+IsTooMuch fork = (format_limits.rows < length (readable fork)) ⊎ (format_limits.bytes < byte_count (readable fork))

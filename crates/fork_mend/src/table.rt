@@ -1,14 +1,14 @@
 //! The table of what can be read of a damaged fork.
 
 ghost use Rattle.std.specs.Prelude.{◌≡◌, ◌+◌, ◌≤◌, ◌<◌, length, map, nat_le, IfErr, IfOk};
-ghost use Rattle.fork_bytes.specs.Fork.{extra_of, max_fork, max_rows};
+ghost use Rattle.fork_bytes.specs.Fork.{extra_of, format_limits};
 ghost use Rattle.fork_bytes.specs.Laws.{IsGrouped};
 ghost use Rattle.fork_salvage.specs.Laws.{name_shown, row_of};
 ghost use Rattle.fork_mend.specs.Salvaged.{byte_count, readable, salvaged_table, table_with, IsTooMuch};
 
 use crate::group::grouped;
 use fork_bytes::fault::WriteFault;
-use fork_bytes::layout::{MAX_FORK, MAX_ROWS};
+use fork_bytes::layout::Limits;
 use fork_bytes::table::{Contents, Row, Rows, Table};
 use fork_reader::{HEADER_LENGTH, extra_bytes};
 use fork_salvage::{FoundName, FoundRow, Item, Salvage, find_attributes};
@@ -17,11 +17,16 @@ use mac_base::name::Name;
 use mac_base::resource::Resource;
 use std::alloc::Global;
 
-/// The resources that can be read, in the order of the map. The fault is TooBig exactly where they are more than 8,192.
+/// The most resources of a fork, and the most bytes of all of these with their lengths.
+const MAX_ROWS: usize = Limits::FORMAT.rows as usize;
+
+const MAX_BYTES: usize = Limits::FORMAT.bytes as usize;
+
+/// The resources that can be read, in the order of the map. The fault is TooBig exactly where they are more than 4,194,304.
 fn readable(alloc: Global, fork: &[u8]) -> Result<Vec<FoundRow>, WriteFault>
     ensures rows { IfOk result (λ rows. rows.items ≡ readable fork.now) }
-    ensures few { IfOk result (λ rows. length rows.items ≤ max_rows) }
-    ensures too_many { IfErr result (λ fault. fault ≡ WriteFault.TooBig → max_rows < length (readable fork.now)) }
+    ensures few { IfOk result (λ rows. length rows.items ≤ format_limits.rows) }
+    ensures too_many { IfErr result (λ fault. fault ≡ WriteFault.TooBig → format_limits.rows < length (readable fork.now)) }
 {
     let mut rows = Vec::new(alloc);
     let mut salvage = Salvage::new(fork);
@@ -38,19 +43,19 @@ fn readable(alloc: Global, fork: &[u8]) -> Result<Vec<FoundRow>, WriteFault>
     Ok(rows)
 }
 
-/// Whether resources have at most 4,194,304 bytes together, those of their lengths among them.
+/// Whether resources have at most 16,777,216 bytes together, those of their lengths among them.
 fn has_few_bytes(rows: &[FoundRow]) -> bool
-    requires { length rows.now ≤ max_rows }
-    ensures few { result ≡ nat_le (byte_count rows.now) max_fork }
+    requires { length rows.now ≤ format_limits.rows }
+    ensures few { result ≡ nat_le (byte_count rows.now) format_limits.bytes }
 {
     let mut total = 0;
     for row in rows {
-        if row.bytes.length > MAX_FORK {
+        if row.bytes.length > MAX_BYTES {
             return false;
         }
         total += 4 + row.bytes.length;
     }
-    total <= MAX_FORK
+    total <= MAX_BYTES
 }
 
 /// A copy of the name of a resource, if it has one.
@@ -112,7 +117,7 @@ fn table_of<'a>(alloc: Global, fork: &'a [u8], rows: &[FoundRow]) -> Result<Tabl
 
 /// The table of all resources that can be read of a fork: those of each type together, in the order of the first of each, and within
 /// a type in their own order. The extra bytes and the map's attributes are as they can be read, and else zero. The fault is TooBig
-/// where more than 8,192 resources can be read, or they have more than 4,194,304 bytes.
+/// where more than 4,194,304 resources can be read, or they have more than 16,777,216 bytes with their lengths.
 pub fn salvaged_table<'a>(alloc: Global, fork: &'a [u8]) -> Result<Table<'a>, WriteFault>
     ensures table { IfOk result (λ table. table ≡ salvaged_table fork.now) }
     ensures grouped { IfOk result (λ table. IsGrouped table.rows) }

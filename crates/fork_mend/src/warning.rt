@@ -1,11 +1,12 @@
 //! What is odd about a fork that can be read: data that overlap, and bytes that no resource has.
 
+use fork_bytes::layout::Limits;
 use fork_salvage::{FoundName, FoundRow, Item, Salvage};
 use std::alloc::{AllocError, Global};
 use std::fmt;
 
 /// How many resources of a fork are looked at. A fork that is read has no more.
-const MOST_ROWS: usize = 8192;
+const MOST_ROWS: usize = Limits::FORMAT.rows as usize;
 
 /// What resources have bytes in.
 #[derive(Clone, Copy, Debug, PartialEq, Eq)]
@@ -114,35 +115,48 @@ fn extents(alloc: Global, pool: Pool, fork: &[u8]) -> Result<Vec<Extent>, AllocE
     Ok(extents)
 }
 
-/// Adds what is odd about the bytes that resources have.
+/// What is odd about bytes that come after others. The first of these end where all of them do.
+fn oddity(pool: Pool, before: Extent, next: Extent) -> Option<Warning> {
+    let (_, last, first) = before;
+    let (start, _, second) = next;
+    if start < last {
+        let place = start;
+        return Some(Warning::Overlap {
+            pool,
+            place,
+            first,
+            second,
+        });
+    }
+    if last < start {
+        return Some(Warning::OfNone {
+            pool,
+            place: last,
+            count: start - last,
+        });
+    }
+    None
+}
+
+/// Adds what is odd about the bytes that resources have: each is looked at beside the one that reaches furthest of those before it.
 fn push_warnings(
     alloc: Global,
     warnings: &mut Vec<Warning>,
     pool: Pool,
     fork: &[u8],
 ) -> Result<(), AllocError> {
-    let mut before: Option<Extent> = None;
-    for (start, end, reference) in &extents(alloc, pool, fork)? {
-        let (start, end, reference) = (*start, *end, *reference);
-        let mut reached = end;
-        if let Some((_, last, other)) = before {
-            if start < last {
-                warnings.push(Warning::Overlap {
-                    pool,
-                    place: start,
-                    first: other,
-                    second: reference,
-                })?;
-            } else if last < start {
-                warnings.push(Warning::OfNone {
-                    pool,
-                    place: last,
-                    count: start - last,
-                })?;
-            }
-            reached = end.max(last);
+    let mut furthest: Option<Extent> = None;
+    for next in &extents(alloc, pool, fork)? {
+        let Some(before) = furthest else {
+            furthest = Some(*next);
+            continue;
+        };
+        if let Some(warning) = oddity(pool, before, *next) {
+            warnings.push(warning)?;
         }
-        before = Some((start, reached, reference));
+        if before.1 < next.1 {
+            furthest = Some(*next);
+        }
     }
     Ok(())
 }
