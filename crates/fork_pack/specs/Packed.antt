@@ -1,12 +1,12 @@
 -- The rows of a folder's files.
-use Rattle.std.specs.Prelude.{◌≡◌, ℕ, ℤ, ◌==◌, ◌&&◌, Bool, not, if◌then◌else◌, List, [], ◌∷◌, ◌++◌, length, map, bytes_eq, string_bytes, option_map, Option, None, Some, Result, Ok, Err}
+use Rattle.std.specs.Prelude.{◌≡◌, ℕ, ℤ, List, [], ◌∷◌, String, string_bytes, option_map, Option, None, Some, Result, Ok, Err}
 use Rattle.std.specs.BTreeMap.{BTreeMap, get_by_text}
-use Rattle.std.specs.Global.{String, Vec}
+use Rattle.std.specs.Global.{Global, Vec}
 use Rattle.mac_base.specs.declared.resource.ResAttrs.{ResAttrs}
 use Rattle.fork_bytes.specs.Rows.{Row}
-use Rattle.fork_pack.specs.declared.packed.Entry.{Entry}
-use Rattle.fork_pack.specs.declared.packed.PackFault.{PackFault}
-use Rattle.fork_pack.specs.declared.packed.PackFault.TheVariants.{HostFull, NoFile}
+use Rattle.fork_pack.specs.declared.rows.Entry.{Entry}
+use Rattle.fork_pack.specs.declared.rows.PackFault.{PackFault}
+use Rattle.fork_pack.specs.declared.rows.PackFault.TheVariants.{HostFull, NoFile}
 
 -- what a manifest says of a resource: all but its bytes, and the path of the file that has those
 pub record Listed : Type 0 where
@@ -40,7 +40,7 @@ packed folder [] = Ok []
 packed folder (entry ∷ entries) = with_row entry (folder entry.file) (packed folder entries)
 
 -- the files that were read: the bytes of each path
-abbrev pub folder_of : BTreeMap String (Vec ℕ) → List ℕ → Option (List ℕ)
+abbrev pub folder_of : BTreeMap (String Global) (Vec ℕ) → List ℕ → Option (List ℕ)
 folder_of files path = option_map (λ bytes. bytes.items) (get_by_text files path)
 
 -- an answer that is these rows, or the path without a file; another only where the host has no memory

@@ -3,11 +3,11 @@
 
 mod laws;
 pub mod manifest;
-pub mod packed;
+pub mod rows;
 
 pub use laws::pack_laws;
 pub use manifest::manifest_of;
-pub use packed::packed;
+pub use rows::packed;
 
 #[cfg(test)]
 mod tests;

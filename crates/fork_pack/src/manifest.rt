@@ -1,6 +1,6 @@
 //! What `resources.json` says.
 
-use crate::packed::{Entry, PackFault};
+use crate::rows::{Entry, PackFault};
 use bitflags::Flags;
 use mac_base::name::Name;
 use mac_base::resource::{ResAttrs, ResType};
@@ -96,25 +96,31 @@ fn bad(file: String, what: &'static str) -> PackFault {
 
 /// What the manifest says of a resource.
 fn entry_of(alloc: Global, resource: Resource) -> Result<Entry, PackFault> {
-    let file = resource.file;
-    let Some(kind) = four_of(alloc, resource.kind.as_str())? else {
+    let Resource {
+        kind,
+        id,
+        name: text,
+        attributes,
+        file,
+    } = resource;
+    let Some(kind) = four_of(alloc, kind.as_str())? else {
         return Err(bad(file, "its type isn't four characters of MacRoman"));
     };
-    let mut name = None;
-    if let Some(text) = resource.name {
-        name = name_of(alloc, text.as_str())?;
-        if name.is_none() {
-            return Err(bad(file, "its name isn't at most 255 characters of MacRoman"));
-        }
-    }
+    let name = match text {
+        Some(text) => match name_of(alloc, text.as_str())? {
+            Some(name) => Some(name),
+            None => return Err(bad(file, "its name isn't at most 255 characters of MacRoman")),
+        },
+        None => None,
+    };
     if !is_inside(file.as_str()) {
         return Err(bad(file, "its file isn't one in a folder of the folder"));
     }
     Ok(Entry {
         kind: ResType::new(kind),
-        id: resource.id,
+        id,
         name,
-        attributes: ResAttrs::from_bits_retain(resource.attributes),
+        attributes: ResAttrs::from_bits_retain(attributes),
         file,
     })
 }

@@ -1,4 +1,4 @@
-use crate::packed::PackFault;
+use crate::rows::PackFault;
 use crate::{manifest_of, packed};
 use bitflags::Flags;
 use std::alloc::Global;

@@ -1,14 +1,13 @@
 -- Names and attributes are read again.
-use Rattle.std.proofs.Common.{◌≡◌, ℕ, zero, suc, ◌+◌, ◌<◌, ◌≤◌, inl, inr, Bool, true, false, eqb, List, [], ◌∷◌, ◌++◌, length, map, Option, Some, None, Result, Ok, Err, refl, sym, ap, subst, ◌∙◌, append_assoc, append-nil, arith}
-use Rattle.std.specs.Prelude.{◌||◌, ◌==◌, not, filter, IfSome, codes, if◌then◌else◌}
+use Rattle.std.proofs.Common.{◌≡◌, ℕ, suc, ◌<◌, ◌≤◌, inl, inr, Bool, true, false, eqb, List, [], ◌∷◌, ◌++◌, length, Option, Some, None, Ok, refl, sym, ap, subst, ◌∙◌, append_assoc, arith}
+use Rattle.std.specs.Prelude.{◌||◌, ◌==◌, not, filter, IfSome}
 use Rattle.std.specs.Int.RustNames.{bit_and, bit_or}
 use Rattle.std.specs.List.{flat_map, fold, AllByRecursion}
-use Rattle.std.proofs.lemmas.Bool.{agree_below, agree_below_at, cond-true, cond-false, cases_Bool, eqb-true, le-ltb}
-use Rattle.std.proofs.lemmas.List.{length-append}
+use Rattle.std.proofs.lemmas.Bool.{agree_below_at, cond-true, cond-false, cases_Bool, eqb-true, le-ltb}
 use Rattle.fork_rez.specs.declared.attribute.Attribute.{Attribute}
 use Rattle.fork_rez.specs.declared.attribute.Attribute.TheVariants.{SysHeap, Purgeable, Locked, Protected, Preload}
 use Rattle.fork_rez.specs.Text.{attribute_text, attributes, attributes_text, bit_of, hexadecimal, name_text, word_of, written}
-use Rattle.fork_rez.specs.Reading.{after_blanks, all_of, attribute_at, attributes_at, bits_at, many, name_at, name_in, quoted_at}
+use Rattle.fork_rez.specs.Reading.{after_blanks, all_of, attribute_at, attributes_at, bits_at, name_at, name_in}
 use Rattle.fork_rez.proofs.Many.{many_again, few}
 use Rattle.fork_rez.proofs.Bytes.{byte_again, name_characters}
 use Rattle.fork_rez.proofs.Numbers.{Stops}

@@ -1,12 +1,11 @@
 -- Data are read again.
-use Rattle.std.proofs.Common.{◌≡◌, ℕ, zero, suc, ◌+◌, ◌-◌, ◌*◌, ◌/◌, ◌<◌, ◌≤◌, List, [], ◌∷◌, ◌++◌, length, map, take, drop, Option, Some, None, Result, Ok, Err, refl, sym, ap, ◌∙◌, append_assoc, append-nil, arith}
-use Rattle.std.specs.Prelude.{codes}
+use Rattle.std.proofs.Common.{◌≡◌, ℕ, zero, suc, ◌+◌, ◌*◌, ◌/◌, ◌<◌, ◌≤◌, List, [], ◌∷◌, ◌++◌, length, take, drop, Some, None, Ok, refl, sym, ap, ◌∙◌, append_assoc, append-nil, arith}
 use Rattle.std.specs.List.{flat_map, fold, AllByRecursion}
 use Rattle.std.specs.Simd.{first_chunks}
-use Rattle.std.proofs.lemmas.List.{length-append, length-drop, nil_from_length, take-append-drop}
-use Rattle.fork_rez.specs.declared.quoted.Quotes.TheVariants.{Single, Double, Hexadecimal}
+use Rattle.std.proofs.lemmas.List.{length-drop, nil_from_length, take-append-drop}
+use Rattle.fork_rez.specs.declared.quoted.Quotes.TheVariants.{Hexadecimal}
 use Rattle.fork_rez.specs.Text.{commented, digits_text, line_text, lines_of}
-use Rattle.fork_rez.specs.Reading.{after_blanks, all_of, data_at, many, quoted_at, string_at, string_in}
+use Rattle.fork_rez.specs.Reading.{after_blanks, data_at, string_at, string_in}
 use Rattle.fork_rez.proofs.Words.{gap, gap_skipped}
 use Rattle.fork_rez.proofs.Many.{many_again, same_many, few}
 use Rattle.fork_rez.proofs.Bytes.{digits_again}

@@ -5,3 +5,6 @@ pub mod Numbers
 pub mod Attributes
 pub mod Data
 pub mod Rows
+pub mod Loops
+pub mod Written
+pub mod Pieces

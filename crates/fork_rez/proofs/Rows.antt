@@ -1,18 +1,17 @@
 -- A table is read again.
-use Rattle.std.proofs.Common.{◌≡◌, ℕ, zero, suc, ◌+◌, ◌-◌, ◌^◌, ◌<◌, ◌≤◌, inl, inr, Bool, true, false, eqb, List, [], ◌∷◌, ◌++◌, length, get_or, map, take, drop, replicate, Option, Some, None, Result, Ok, Err, refl, sym, ap, subst, ◌∙◌, append_assoc, append-nil, arith}
-use Rattle.std.specs.Prelude.{◌==◌, All, IfSome, codes}
-use Rattle.std.specs.List.{flat_map, fold, list_all, push, AllByRecursion}
+use Rattle.std.proofs.Common.{◌≡◌, ℕ, suc, ◌+◌, ◌<◌, inl, inr, true, false, eqb, List, [], ◌∷◌, ◌++◌, length, map, take, drop, replicate, Option, Some, None, Ok, refl, sym, ap, subst, ◌∙◌, append_assoc, append-nil, arith}
+use Rattle.std.specs.Prelude.{◌==◌, All, IfSome}
+use Rattle.std.specs.List.{flat_map, list_all, push, AllByRecursion}
 use Rattle.std.specs.Fmt.{signed_decimal}
 use Rattle.std.proofs.lemmas.Bool.{cond-true, cond-false, cases_Bool, eqb-true, and_parts}
 use Rattle.std.proofs.lemmas.List.{length-append, take_at, drop_at}
 use Rattle.byteorder.specs.Endian.{big_bytes, big_number}
 use Rattle.byteorder.specs.Numbers.{big_number-reads_back}
-use Rattle.mac_base.specs.declared.resource.ResAttrs.{ResAttrs}
 use Rattle.fork_bytes.specs.Rows.{Row}
 use Rattle.fork_bytes.specs.declared.table.Table.{Table}
 use Rattle.fork_rez.specs.declared.fault.Expected.TheVariants.{CommentEnd, Mark}
-use Rattle.fork_rez.specs.Text.{attributes_text, commented, lines_of, line_text, map_bytes, map_text, map_word, name_text, row_text, text_of, written}
-use Rattle.fork_rez.specs.Reading.{◌>>=◌, after_blanks, all_of, attributes_at, data_at, id_at, if_there, kind_at, kind_in, many, map_at, map_in, name_at, quoted_at, resource_at, row_at, string_at, table_at, word_at}
+use Rattle.fork_rez.specs.Text.{attributes_text, commented, lines_of, line_text, map_bytes, map_word, name_text, row_text, text_of, written}
+use Rattle.fork_rez.specs.Reading.{◌>>=◌, after_blanks, all_of, if_there, kind_at, kind_in, many, map_at, map_in, resource_at, row_at, string_at, table_at, word_at}
 use Rattle.fork_rez.specs.Laws.{IsRow, IsTable}
 use Rattle.fork_rez.proofs.Words.{own_word}
 use Rattle.fork_rez.proofs.Many.{many_again, same_many, few, pushed}

@@ -1,10 +1,10 @@
 -- What is skipped, and words.
-use Rattle.std.proofs.Common.{◌≡◌, ℕ, zero, suc, Bool, true, false, eqb, cond, List, [], ◌∷◌, ◌++◌, length, take, drop, replicate, Option, Some, None, Result, Ok, Err, refl, sym, ap, ◌∙◌, inl, inr, append_assoc, arith}
+use Rattle.std.proofs.Common.{◌≡◌, ℕ, zero, suc, Bool, true, false, eqb, List, [], ◌∷◌, ◌++◌, length, take, replicate, Option, Some, None, Ok, refl, ap, ◌∙◌, inl, inr, append_assoc}
 use Rattle.std.specs.Prelude.{◌&&◌, bytes_eq, map}
 use Rattle.std.proofs.lemmas.List.{take_at, drop_at}
 use Rattle.std.proofs.lemmas.Bool.{cond-true, cond-false, cases_Bool, eq-eqb}
 use Rattle.fork_rez.specs.declared.blanks.Skipping.{Skipping}
-use Rattle.fork_rez.specs.declared.blanks.Skipping.TheVariants.{Between, Slash, Line, Block, Star}
+use Rattle.fork_rez.specs.declared.blanks.Skipping.TheVariants.{Between, Block}
 use Rattle.fork_rez.specs.Text.{gap_of, is_printable, shown}
 use Rattle.fork_rez.specs.Reading.{after_blanks, after_word, if_there, is_blank, skip, skipped, skipping}
 

@@ -1,5 +1,5 @@
 -- A table's text says that table.
-use Rattle.std.specs.Prelude.{◌≡◌, ℕ, ◌<◌, ◌≤◌, List, length, All, IfSome, FitsSigned, Ok}
+use Rattle.std.specs.Prelude.{◌≡◌, ◌<◌, ◌≤◌, length, IfSome, FitsSigned, Ok}
 use Rattle.std.specs.List.{AllByRecursion}
 use Rattle.std.specs.Int.{w16}
 use Rattle.mac_text.specs.Roman.{AreBytes}

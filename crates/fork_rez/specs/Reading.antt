@@ -1,5 +1,5 @@
 -- How a text of `data` statements is read, from left to right, and the first place where it is none.
-use Rattle.std.specs.Prelude.{◌≡◌, ℕ, ℤ, pos, zero, suc, ◌+◌, ◌-◌, ◌*◌, ◌==◌, ◌&&◌, ◌||◌, Bool, nat_le, nat_lt, if◌then◌else◌, List, [], ◌∷◌, ◌++◌, length, take, drop, replicate, codes, bytes_eq, count_by, Option, None, Some, Result, Ok, Err, neg_ℤ}
+use Rattle.std.specs.Prelude.{◌≡◌, ℕ, ℤ, pos, zero, suc, ◌+◌, ◌-◌, ◌*◌, ◌==◌, ◌&&◌, ◌||◌, Bool, nat_le, nat_lt, if◌then◌else◌, List, [], ◌∷◌, ◌++◌, length, take, drop, replicate, codes, bytes_eq, Option, None, Some, Result, Ok, Err, neg_ℤ}
 use Rattle.std.specs.List.{push}
 use Rattle.std.specs.Int.RustNames.{bit_or}
 use Rattle.std.specs.Char.{digit_value}

@@ -2,7 +2,7 @@
 
 ghost use Rattle.std.specs.Prelude.{◌≡◌, Some, option_map};
 ghost use Rattle.fork_bytes.specs.Written.{plain_row};
-ghost use Rattle.fork_rez.specs.Reading.{Gives, data_at, kind_at, name_at, resource_at, row_at, string_at};
+ghost use Rattle.fork_rez.specs.Reading.{Gives, data_at, kind_at, kind_in, name_at, name_in, resource_at, row_at, string_at};
 
 use crate::attribute::attributes_at;
 use crate::blanks::{after_blanks, after_word, word_at};
@@ -14,16 +14,38 @@ use mac_base::name::Name;
 use mac_base::resource::{ResAttrs, ResType, Resource};
 use std::alloc::Global;
 
+/// Four bytes up to a single quote.
+#[tactic(auto, unfolding(crate::specs::Reading::kind_in))]
+fn kind_in(alloc: Global, text: &[u8]) -> Result<([u8; 4], &[u8]), ReadError>
+    ensures { Gives (λ x. (x.0, x.1.now)) result (kind_in text.now) }
+{
+    let (kind, rest) = quoted_at(alloc, Quotes::Single, text)?;
+    if kind.len() != 4 {
+        return Err(refused(text, Expected::Kind));
+    }
+    let mut four = [b' '; 4];
+    four.copy_from_slice(kind.as_slice());
+    Ok((four, rest))
+}
+
 /// A type.
 #[tactic(auto, unfolding(crate::specs::Reading::kind_at))]
 fn kind_at(alloc: Global, text: &[u8]) -> Result<([u8; 4], &[u8]), ReadError>
     ensures { Gives (λ x. (x.0, x.1.now)) result (kind_at text.now) }
 {
     let start = word_at(b"'", Expected::Kind, text)?;
-    let (kind, rest) = quoted_at(alloc, Quotes::Single, start)?;
-    match kind.as_slice() {
-        [first, second, third, fourth] => Ok(([*first, *second, *third, *fourth], rest)),
-        _ => Err(refused(start, Expected::Kind)),
+    kind_in(alloc, start)
+}
+
+/// A name up to a double quote.
+#[tactic(auto, unfolding(crate::specs::Reading::name_in))]
+fn name_in(alloc: Global, text: &[u8]) -> Result<(Option<Name>, &[u8]), ReadError>
+    ensures { Gives (λ x. (x.0, x.1.now)) result (name_in text.now) }
+{
+    let (bytes, rest) = quoted_at(alloc, Quotes::Double, text)?;
+    match Name::new(alloc, bytes.as_slice())? {
+        Some(name) => Ok((Some(name), rest)),
+        None => Err(refused(text, Expected::NameInQuotes)),
     }
 }
 
@@ -37,13 +59,9 @@ fn name_at(alloc: Global, text: &[u8]) -> Result<(Option<Name>, &[u8]), ReadErro
         return Ok((None, start));
     };
     let next = after_blanks(more)?;
-    let Some(inner) = after_word(b"\"", next) else {
-        return Ok((None, start));
-    };
-    let (bytes, rest) = quoted_at(alloc, Quotes::Double, inner)?;
-    match Name::new(alloc, bytes.as_slice())? {
-        Some(name) => Ok((Some(name), rest)),
-        None => Err(refused(inner, Expected::NameInQuotes)),
+    match after_word(b"\"", next) {
+        Some(inner) => name_in(alloc, inner),
+        None => Ok((None, start)),
     }
 }
 

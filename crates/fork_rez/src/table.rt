@@ -3,7 +3,7 @@
 ghost use Rattle.std.specs.Prelude.{◌≡◌, [], IfOk, count_by, length, map, take};
 ghost use Rattle.std.specs.List.{push};
 ghost use Rattle.fork_bytes.specs.Written.{plain_row, plain_rows};
-ghost use Rattle.fork_rez.specs.Reading.{Gives, all_of, map_at, row_at, table_at};
+ghost use Rattle.fork_rez.specs.Reading.{Gives, all_of, map_at, map_in, row_at, table_at};
 ghost use Rattle.fork_rez.specs.Said.{Answers, line_at, made_table, table_of};
 ghost use Rattle.fork_rez.specs.Text.{map_word};
 
@@ -66,23 +66,30 @@ impl Made {
     }
 }
 
+/// The map's bytes in a comment.
+#[tactic(auto, unfolding(crate::specs::Reading::map_in))]
+fn map_in(alloc: Global, text: &[u8]) -> Result<(Vec<u8>, &[u8]), ReadError>
+    ensures bytes { Gives (λ x. (x.0.items, x.1.now)) result (map_in text.now) }
+    ensures whole { IfOk result (λ x. length x.0.items ≡ 242) }
+{
+    let (bytes, rest) = data_at(alloc, text)?;
+    let rest = word_at(b"*/", Expected::CommentEnd, rest)?;
+    if bytes.len() != MAP_LENGTH {
+        return Err(refused(text, Expected::MapBytes));
+    }
+    Ok((bytes, rest))
+}
+
 /// The map's bytes in the first comment, if it has them, and else zeros.
 #[tactic(auto, unfolding(crate::specs::Reading::map_at))]
 fn map_at(alloc: Global, text: &[u8]) -> Result<(Vec<u8>, &[u8]), ReadError>
     ensures bytes { Gives (λ x. (x.0.items, x.1.now)) result (map_at text.now) }
     ensures whole { IfOk result (λ x. length x.0.items ≡ 242) }
 {
-    let Some(inner) = after_word(MAP_WORD, text) else {
-        let mut zeros = Vec::new(alloc);
-        zeros.resize(MAP_LENGTH, 0)?;
-        return Ok((zeros, text));
-    };
-    let (bytes, rest) = data_at(alloc, inner)?;
-    let rest = word_at(b"*/", Expected::CommentEnd, rest)?;
-    if bytes.len() != MAP_LENGTH {
-        return Err(refused(inner, Expected::MapBytes));
+    match after_word(MAP_WORD, text) {
+        Some(inner) => map_in(alloc, inner),
+        None => Ok((vec![in alloc; 0; MAP_LENGTH]?, text)),
     }
-    Ok((bytes, rest))
 }
 
 /// The rows of all statements.

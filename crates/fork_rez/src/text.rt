@@ -1,7 +1,8 @@
 //! The text of a table.
 
-ghost use Rattle.std.specs.Prelude.{◌≡◌, ◌≤◌, ◌<◌, ◌++◌, ◌∷◌, [], IfOk, OnOk, length, map, option_map, string_bytes};
-ghost use Rattle.std.specs.List.{flat_map};
+ghost use Rattle.std.specs.Prelude.{◌≡◌, ◌≤◌, ◌==◌, ◌++◌, IfOk, OnOk, drop, length, map, take};
+ghost use Rattle.std.specs.List.{flat_map, list_all};
+ghost use Rattle.std.specs.Fmt.{signed_decimal};
 ghost use Rattle.byteorder.specs.Endian.{big_bytes};
 ghost use Rattle.fork_rez.specs.Text.{attribute_text, attributes_text, chosen, chosen_rows, commented, digits_text, gap_of, hexadecimal, line_text, lines_of, map_text, name_text, row_text, shown, text_of, written};
 
@@ -171,16 +172,42 @@ fn push_commented(out: &mut Vec<u8>, bytes: &[u8]) -> Result<(), AllocError>
     Ok(())
 }
 
+/// The first line of data, and the bytes after it.
+#[tactic(auto, using(std::proofs::lemmas::List::take_min, std::proofs::lemmas::List::drop_min))]
+fn first_line(bytes: &[u8]) -> (&[u8], &[u8])
+    ensures line { result.0.now ≡ take 16 bytes.now }
+    ensures rest { result.1.now ≡ drop 16 bytes.now }
+    ensures short { length result.0.now ≤ 16 }
+{
+    bytes.split_at(LINE.min(bytes.len()))
+}
+
 /// Adds data in lines of 16 bytes.
 fn push_lines(out: &mut Vec<u8>, bytes: &[u8]) -> Result<(), AllocError>
     ensures { OnOk result (out.new.items ≡ out.old.items ++ flat_map commented (lines_of bytes.now)) }
 {
     let mut rest = bytes;
     for _line in 0..(bytes.len() + 15) / LINE {
-        let (line, after) = rest.split_at(LINE.min(rest.len()));
+        let (line, after) = first_line(rest);
         push_commented(out, line)?;
         rest = after;
     }
+    Ok(())
+}
+
+/// Adds a type.
+fn push_kind(out: &mut Vec<u8>, kind: ResType) -> Result<(), AllocError>
+    ensures { OnOk result (out.new.items ≡ out.old.items ++ flat_map (written 39) kind) }
+{
+    push_all_written(out, b'\'', &kind.bytes())
+}
+
+/// Adds an id.
+fn push_id(alloc: Global, out: &mut Vec<u8>, id: i16) -> Result<(), AllocError>
+    ensures { OnOk result (out.new.items ≡ out.old.items ++ signed_decimal id) }
+{
+    let digits = id.to_string(alloc)?;
+    out.extend_from_slice(digits.as_bytes())?;
     Ok(())
 }
 
@@ -189,10 +216,9 @@ fn push_row(alloc: Global, out: &mut Vec<u8>, row: &Row) -> Result<(), AllocErro
     ensures { OnOk result (out.new.items ≡ out.old.items ++ row_text row.now) }
 {
     out.extend_from_slice(b"data '")?;
-    push_all_written(out, b'\'', &row.kind.bytes())?;
+    push_kind(out, row.kind)?;
     out.extend_from_slice(b"' (")?;
-    let id = row.id.to_string(alloc)?;
-    out.extend_from_slice(id.as_bytes())?;
+    push_id(alloc, out, row.id)?;
     push_name(out, &row.name)?;
     push_attributes(out, row.attributes.bits())?;
     out.extend_from_slice(b") {\n")?;
@@ -218,23 +244,32 @@ fn push_rows(
     Ok(())
 }
 
-/// Adds the map's bytes in a comment, unless all are 0.
-fn push_map(
-    alloc: Global,
-    out: &mut Vec<u8>,
-    extra: &[u8; 240],
-    map_attributes: u16,
-) -> Result<(), AllocError>
-    ensures { OnOk result (out.new.items ≡ out.old.items ++ map_text (extra.now ++ big_bytes 2 map_attributes)) }
+/// The 240 bytes for the system and the application, and the two of the map's attributes.
+fn map_bytes(alloc: Global, extra: &[u8; 240], map_attributes: u16) -> Result<Vec<u8>, AllocError>
+    ensures { IfOk result (λ bytes. bytes.items ≡ extra.now ++ big_bytes 2 map_attributes) }
 {
     let mut bytes = Vec::from_slice(alloc, extra.as_slice())?;
     bytes.push((map_attributes / 256) as u8)?;
     bytes.push((map_attributes % 256) as u8)?;
-    if bytes.iter().all(|byte| *byte == 0) {
+    Ok(bytes)
+}
+
+/// Whether all bytes are 0.
+fn are_zeros(bytes: &[u8]) -> bool
+    ensures { result ≡ list_all (λ byte. byte == 0) bytes.now }
+{
+    bytes.iter().all(|byte| *byte == 0)
+}
+
+/// Adds the map's bytes in a comment, unless all are 0.
+fn push_map(out: &mut Vec<u8>, bytes: &[u8]) -> Result<(), AllocError>
+    ensures { OnOk result (out.new.items ≡ out.old.items ++ map_text bytes.now) }
+{
+    if are_zeros(bytes) {
         return Ok(());
     }
     out.extend_from_slice(MAP_WORD)?;
-    push_line(out, bytes.as_slice())?;
+    push_line(out, bytes)?;
     out.extend_from_slice(b"\n*/\n\n")?;
     Ok(())
 }
@@ -246,7 +281,8 @@ pub fn derez(alloc: Global, kinds: &[ResType], table: &Table) -> Result<Vec<u8>,
     ensures { IfOk result (λ text. text.items ≡ text_of (chosen kinds.now table.now)) }
 {
     let mut out = Vec::new(alloc);
-    push_map(alloc, &mut out, &table.extra, table.map_attributes)?;
+    let bytes = map_bytes(alloc, &table.extra, table.map_attributes)?;
+    push_map(&mut out, bytes.as_slice())?;
     push_rows(alloc, &mut out, kinds, table.rows.as_slice())?;
     Ok(out)
 }

@@ -43,7 +43,7 @@ pub enum PackFault {
 
 impl From<AllocError> for PackFault {
     ghost use Rattle.std.specs.Prelude.{◌≡◌};
-    ghost use Rattle.fork_pack.specs.declared.packed.PackFault.TheVariants.{HostFull};
+    ghost use Rattle.fork_pack.specs.declared.rows.PackFault.TheVariants.{HostFull};
 
     ghost from_gives = { λ _ e. e ≡ HostFull };
 
@@ -54,7 +54,7 @@ impl From<AllocError> for PackFault {
 
 impl<T: Drop> From<AllocFailed<T>> for PackFault {
     ghost use Rattle.std.specs.Prelude.{◌≡◌};
-    ghost use Rattle.fork_pack.specs.declared.packed.PackFault.TheVariants.{HostFull};
+    ghost use Rattle.fork_pack.specs.declared.rows.PackFault.TheVariants.{HostFull};
 
     ghost from_gives = { λ _ e. e ≡ HostFull };
 
@@ -82,6 +82,7 @@ fn row_with<'a>(entry: &Entry, bytes: &'a [u8]) -> Result<Row<'a>, AllocError>
 
 /// The rows of a manifest's entries, in their order, each with the bytes that the folder's file of its path has. The first path of which
 /// there is no file is told; the other error is that the host has no memory.
+#[tactic(auto, using(crate::proofs::Front::row_before))]
 pub fn packed<'a>(
     alloc: Global,
     entries: &[Entry],
@@ -90,11 +91,13 @@ pub fn packed<'a>(
     ensures { Answers result (packed (folder_of files.now) (map listed entries.now)) }
 {
     let mut rows = Vec::new(alloc);
-    for entry in entries {
+    let mut left = entries;
+    while let Some((entry, after)) = left.split_first() {
         let Some(bytes) = files.get(entry.file.as_str()) else {
             return Err(PackFault::NoFile(entry.file.clone()?));
         };
         rows.push(row_with(entry, bytes.as_slice())?)?;
+        left = after;
     }
     Ok(Rows::new(rows))
 }
