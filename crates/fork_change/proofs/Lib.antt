@@ -2,3 +2,4 @@ mod Standing
 mod Gathered
 mod Changing
 mod Told
+mod Same

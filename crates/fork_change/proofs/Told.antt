@@ -12,7 +12,7 @@ use Rattle.fork_change.specs.Laws.{IsFoundPut, KeepsOthers, IsRemovedPut, IsSetB
 use Rattle.fork_change.proofs.Changing.{kind_at}
 
 -- a row is at its own type and id
-at_own : (row : Row) → is_at (id_of row) row ≡ true
+pub at_own : (row : Row) → is_at (id_of row) row ≡ true
 at_own row = and_from (bytes_eq row.kind row.kind) (int_eq row.id row.id) ((bytes_eq-Decides row.kind row.kind).1 refl) ((Decides-int_eq row.id row.id).1 refl)
 
 -- what is found of the row that replaced another
@@ -103,7 +103,7 @@ is_removed_put new rows none =
     ∙ removed_added (is_at (id_of new)) new rows (at_own new) none
 
 -- what is found passes
-found_passes : (test : Row → Bool) (rows : List Row) (row : Row) → find test rows ≡ Some row → test row ≡ true
+pub found_passes : (test : Row → Bool) (rows : List Row) (row : Row) → find test rows ≡ Some row → test row ≡ true
 found_passes test [] row is = absurd (cc is)
 found_passes test (first ∷ rows) row is = by_case (test first) refl is (found_passes test rows row)
   where

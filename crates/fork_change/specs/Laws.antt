@@ -1,5 +1,5 @@
 -- What changes are to each other.
-use Rattle.std.specs.Prelude.{◌≡◌, true, false, not, List, ◌∷◌, drop, bytes_eq, Some}
+use Rattle.std.specs.Prelude.{◌≡◌, ◌↔◌, true, false, not, List, [], ◌∷◌, drop, bytes_eq, Some}
 use Rattle.std.specs.List.{AllByRecursion, filter, find}
 use Rattle.fork_bytes.specs.Rows.{Row}
 use Rattle.fork_bytes.specs.declared.table.Table.{Table}
@@ -7,6 +7,7 @@ use Rattle.fork_bytes.specs.Laws.{IsRow, IsTable}
 use Rattle.fork_change.specs.declared.row.ResourceId.{ResourceId}
 use Rattle.fork_change.specs.declared.copying.Collision.{Collision}
 use Rattle.fork_change.specs.Copies.{copied}
+use Rattle.fork_change.specs.Differences.{diff}
 use Rattle.fork_change.specs.Rows.{id_of, is_at, is_there, put, removed, changed_to, added, with_rows}
 
 -- what is found of its type and id is the row that was put; any others with them stay after it
@@ -31,6 +32,10 @@ IsSetBack = (what : ResourceId) (old new : Row) (rows : List Row) → find (is_a
 abbrev pub IsMovedBack : Type 0
 IsMovedBack = (what : ResourceId) (old new : Row) (rows : List Row) → find (is_at what) rows ≡ Some old →
     bytes_eq new.kind what.kind ≡ false → is_there (id_of new) rows ≡ false → changed_to (id_of new) old (changed_to what new rows) ≡ added old (removed what rows)
+
+-- nothing differs exactly where the same row is found for each type and id
+abbrev pub IsNoDifference : Type 0
+IsNoDifference = (first second : List Row) → (diff first second ≡ []) ↔ ((what : ResourceId) → find (is_at what) first ≡ find (is_at what) second)
 
 -- what comes of a table is one, so that it can be written and read again
 pub record KeepsTables : Type 0 where

@@ -1,3 +1,4 @@
 pub mod Rows
 pub mod Copies
+pub mod Differences
 pub mod Laws

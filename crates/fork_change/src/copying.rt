@@ -15,7 +15,7 @@ use mac_base::error::HostFull;
 use mac_base::resource::{ResType, Resource};
 
 /// The most resources of a fork that is written: two bytes hold the offset of its name list, and each has 12 bytes before it.
-const MOST_ROWS: usize = 5458;
+pub(crate) const MOST_ROWS: usize = 5458;
 
 /// Which resources are copied: all, those of a type, or those of a type and id.
 pub enum Choice {

@@ -2,6 +2,7 @@
 //! the extra bytes and the map's attributes stay as they are.
 #![tactic(auto)]
 
+pub mod comparing;
 pub mod copying;
 mod laws;
 mod putting;
@@ -11,6 +12,7 @@ pub mod row;
 mod search;
 mod setting;
 
+pub use comparing::{Difference, diff};
 pub use copying::{Choice, Collision, copy};
 pub use laws::change_laws;
 pub use putting::{put, put_new};
