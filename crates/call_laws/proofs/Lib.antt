@@ -15,3 +15,17 @@ pub mod LentSteps
 pub mod Locked
 pub mod RunTables
 pub mod Walk
+pub mod Fewer
+pub mod Trials
+pub mod Shown
+pub mod Flagged
+pub mod Full
+pub mod Losing
+pub mod Alive
+pub mod ActSteps
+pub mod Spared
+pub mod LoanLists
+pub mod Loaned
+pub mod Standing
+pub mod Lent
+pub mod Headline

@@ -1,0 +1,5 @@
+pub mod Act
+pub mod LastPut
+pub mod LastSet
+pub mod Course
+pub mod Headline

@@ -8,7 +8,7 @@ use Rattle.mac_base.specs.Loans.{LoansAreFixed}
 use Rattle.mac_base.specs.declared.error.OsErr.TheVariants.{IoErr, MemPurErr}
 use Rattle.call_laws.proofs.LentSteps.{block-here, step_keeps_lent}
 use Rattle.call_laws.proofs.Refusals.{passed-NotLent, test_2}
-use Rattle.heap_laws.specs.LastPut.{number_in}
+use Rattle.call_laws.specs.LastPut.{number_in}
 use Rattle.mac_base.specs.declared.releasing.ReleasingCall.TheVariants.{DisposesHandle, Empties}
 use Rattle.mac_base.specs.declared.request.Request.{Request}
 use Rattle.mac_base.specs.declared.request.Request.TheVariants.{NewBlock, Replace}
@@ -45,8 +45,8 @@ use Rattle.res_calls.specs.Steps.{GetsPlace, GetsRow, ResourceStepBy, StepsUnles
 use Rattle.res_calls.specs.Tests.{resource_refusal}
 use Rattle.res_calls.specs.Updates.{Update, behind_update, disposed, file_update, handles_of, row_passes, row_update, update_end}
 use Rattle.zone_laws.proofs.Tables.{live_at-with_live_same}
-use Rattle.heap_laws.specs.Act.{Act, Calls, Does, Done, AreDone, Loads, Moment, Unloads, moment_after}
-use Rattle.heap_laws.proofs.Fewer.{Ended, quiet, refused, served, step-ended, unserved}
+use Rattle.call_laws.specs.Act.{Act, Calls, Does, Done, AreDone, Loads, Moment, Unloads, moment_after}
+use Rattle.call_laws.proofs.Fewer.{Ended, quiet, refused, served, step-ended, unserved}
 use Rattle.res_laws.specs.Acts.{IsActOf, IsInner}
 use Rattle.res_laws.specs.Tools.{act_of}
 

@@ -10,13 +10,13 @@ use Rattle.mac_calls.specs.Loans.{Loans}
 use Rattle.mac_calls.specs.Outcomes.{Outcome}
 use Rattle.res_calls.specs.Files.{ResState}
 use Rattle.mac_base.specs.HandleTable.{no_flags}
-use Rattle.heap_laws.specs.Act.{Act, Calls, Does, Done, AreDone, Moment, OnLoan, moment_after}
-use Rattle.heap_laws.specs.LastPut.{LastPut, put_in}
-use Rattle.heap_laws.specs.LastSet.{LastSet, set_in}
-use Rattle.heap_laws.specs.Headline.{Promised}
-use Rattle.heap_laws.proofs.Headline.{promised}
-use Rattle.heap_laws.proofs.Loaned.{LoansHeld}
-use Rattle.heap_laws.proofs.Standing.{Standing, run-first, run-later, stand-new, stand-run}
+use Rattle.call_laws.specs.Act.{Act, Calls, Does, Done, AreDone, Moment, OnLoan, moment_after}
+use Rattle.call_laws.specs.LastPut.{LastPut, put_in}
+use Rattle.call_laws.specs.LastSet.{LastSet, set_in}
+use Rattle.call_laws.specs.Headline.{Promised}
+use Rattle.call_laws.proofs.Headline.{promised}
+use Rattle.call_laws.proofs.Loaned.{LoansHeld}
+use Rattle.call_laws.proofs.Standing.{Standing, run-first, run-later, stand-new, stand-run}
 use Rattle.mac_base.specs.Loans.{LoansAreFixed}
 use Rattle.res_calls.specs.Answered.{answered_disks}
 use Rattle.res_calls.proofs.Answering.{answered_before, none, none_honest}

@@ -9,7 +9,7 @@ use Rattle.res_table.specs.declared.chain.RowPlace.{RowPlace}
 use Rattle.res_calls.specs.Changes.{FileRow}
 use Rattle.res_calls.specs.Files.{ResState}
 use Rattle.res_calls.specs.Loads.{loaded_flags, loads_bytes, placing, row_wanted}
-use Rattle.heap_laws.specs.Act.{Act, Calls, Loads, OnLoan, Unloads}
+use Rattle.call_laws.specs.Act.{Act, Calls, Loads, OnLoan, Unloads}
 
 -- The call of the Memory Manager that a call of the Resource Manager makes: for a handle that it lets go of or takes up, for those of a
 -- file's rows, or for the place of the row that it gets.

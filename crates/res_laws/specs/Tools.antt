@@ -15,10 +15,10 @@ use Rattle.res_calls.specs.Device.{Anything}
 use Rattle.res_calls.specs.Changes.{handles_forgotten}
 use Rattle.res_calls.specs.Files.{ResState, with_files, with_heap}
 use Rattle.res_calls.specs.Steps.{Memory, ReadsBack}
-use Rattle.heap_laws.specs.LastPut.{LastPut, put_in}
-use Rattle.heap_laws.specs.LastSet.{LastSet, set_in}
-use Rattle.heap_laws.specs.Act.{Act, Calls, Done, AreDone, Moment, OnLoan, moment_after, new_zone}
-use Rattle.heap_laws.specs.Headline.{Promised}
+use Rattle.call_laws.specs.LastPut.{LastPut, put_in}
+use Rattle.call_laws.specs.LastSet.{LastSet, set_in}
+use Rattle.call_laws.specs.Act.{Act, Calls, Done, AreDone, Moment, OnLoan, moment_after, new_zone}
+use Rattle.call_laws.specs.Headline.{Promised}
 use Rattle.res_laws.specs.Acts.{IsActOf}
 use Rattle.res_laws.specs.Forks.{ReadOffForks}
 

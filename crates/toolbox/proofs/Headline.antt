@@ -9,7 +9,7 @@ use Rattle.mac_calls.specs.Loans.{Loans}
 use Rattle.mac_calls.specs.Outcomes.{Outcome}
 use Rattle.mac_calls.specs.Released.{disposed_of}
 use Rattle.fork_disk.specs.declared.store.ForkStore.{Ghosts}
-use Rattle.heap_laws.specs.Act.{Moment}
+use Rattle.call_laws.specs.Act.{Moment}
 use Rattle.res_calls.specs.Files.{ResState}
 use Rattle.res_calls.specs.Steps.{Memory as MayStep}
 use Rattle.res_calls.proofs.Answering.{fewer_honest, reads_fewer}

@@ -15,9 +15,9 @@ use Rattle.zone_laws.proofs.Maps.{total_size-append}
 use Rattle.linked_zone.specs.Changes.{with_map}
 use Rattle.linked_zone.specs.Loans.{KeepsLoans}
 use Rattle.linked_zone.specs.Places.{EntryAt}
-use Rattle.fixed_index.specs.Runs.{FrontAt, RestAt, begins_fixed, ends_fixed, none_fixed}
-use Rattle.fixed_index.proofs.Sizes.{all_parts}
-use Rattle.page_sums.specs.Weights.{in_order, weights}
+use Rattle.zone_index.specs.Runs.{FrontAt, RestAt, begins_fixed, ends_fixed, none_fixed}
+use Rattle.zone_index.proofs.Sizes.{all_parts}
+use Rattle.zone_index.specs.Weights.{in_order, weights}
 use Rattle.zone_gaps.specs.Gaps.{AroundAt, Settled}
 use Rattle.zone_gaps.specs.Runs.{RunAt, has_owner}
 use Rattle.zone_gaps.proofs.Arranged.{order-all_down}

@@ -16,8 +16,8 @@ use Rattle.mac_base.specs.ZoneMap.{ZoneMap, block, free_block, free_bytes, free_
 use Rattle.zone_laws.proofs.GapApart.{sizes_possible}
 use Rattle.zone_laws.proofs.Arranging.{free_bytes-all_used, used_blocks-same, free_is}
 use Rattle.linked_zone.specs.Places.{none_free}
-use Rattle.page_sums.specs.Weights.{in_order, weights}
-use Rattle.page_sums.proofs.Sizes.{all_both, some_bytes}
+use Rattle.zone_index.specs.Weights.{in_order, weights}
+use Rattle.zone_index.proofs.SomeBytes.{all_both, some_bytes}
 use Rattle.zone_gaps.proofs.Pressing.{free-push_free, used-push_free}
 
 -- blocks in use, behind which a free one stands, or none

@@ -9,9 +9,9 @@ use Rattle.mac_base.specs.ZoneState.{ZoneState}
 use Rattle.zone_laws.proofs.GapApart.{sizes_possible}
 use Rattle.linked_zone.specs.Fit.{HasSizes}
 use Rattle.linked_zone.specs.Places.{EntryAt, ParcelAt, ParcelUpTo}
-use Rattle.fixed_index.specs.Runs.{none_fixed}
-use Rattle.fixed_index.proofs.Sizes.{all_parts, first_bytes}
-use Rattle.page_sums.proofs.Sizes.{total_size-push}
+use Rattle.zone_index.specs.Runs.{none_fixed}
+use Rattle.zone_index.proofs.Sizes.{all_parts, first_bytes}
+use Rattle.zone_index.proofs.SomeBytes.{total_size-push}
 use Rattle.zone_gaps.proofs.Owning.{heads}
 
 -- two blocks of a map that end at one place are one

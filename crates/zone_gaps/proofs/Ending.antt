@@ -8,9 +8,9 @@ use Rattle.linked_zone.specs.Fit.{HasSizes}
 use Rattle.linked_zone.specs.Places as places
 use Rattle.linked_zone.specs.Places.{EntryAt, SplitAt, none_free}
 use Rattle.zone_gaps.specs.Runs.{RunAt, UsedFrom, LastFree}
-use Rattle.page_sums.proofs.Entries.{entry_size}
+use Rattle.zone_index.proofs.Entries.{entry_size}
 use Rattle.zone_gaps.proofs.Lasts.{same_last}
-use Rattle.fixed_index.proofs.Sizes.{all_parts}
+use Rattle.zone_index.proofs.Sizes.{all_parts}
 use Rattle.zone_laws.proofs.Maps.{total_size-append}
 
 -- the last free one of some blocks and others, where it isn't below the others

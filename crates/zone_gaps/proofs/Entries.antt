@@ -5,7 +5,7 @@ use Rattle.mac_base.specs.declared.block.Kind.{Kind}
 use Rattle.mac_base.specs.declared.block.Kind.TheVariants.{Free, Master, Ptr, Rel}
 use Rattle.mac_base.specs.ZoneState.{ZoneState}
 use Rattle.linked_zone.specs.Places.{EntryAt, HasOwner}
-use Rattle.page_sums.proofs.Entries.{entry_passes}
+use Rattle.zone_index.proofs.Entries.{entry_passes}
 use Rattle.zone_gaps.specs.Runs.{HasOwners, has_owner}
 
 owner_of_kind : (z : ZoneState) (kind : Kind) → has_owner z.heap.table kind ≡ true → HasOwner z kind

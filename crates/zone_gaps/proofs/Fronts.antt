@@ -7,7 +7,7 @@ use Rattle.mac_base.specs.ZoneMap.{ZoneMap, is_free, total_size}
 use Rattle.mac_base.specs.ZoneState.{ZoneState}
 use Rattle.linked_zone.specs.Places.{SplitAt, FirstFree, none_free}
 use Rattle.zone_gaps.specs.Runs.{RunAt, UsedUpTo}
-use Rattle.fixed_index.proofs.Sizes.{all_parts}
+use Rattle.zone_index.proofs.Sizes.{all_parts}
 
 -- one more in front
 used_more : (from at : ℕ) (b : Entry) (bs : ZoneMap) → not (is_free b.kind) ≡ true → UsedUpTo bs (from + b.size) at → UsedUpTo (b ∷ bs) from at

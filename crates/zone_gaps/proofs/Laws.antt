@@ -21,7 +21,7 @@ use Rattle.zone_laws.proofs.Rearranging.{gap-Rearranged}
 use Rattle.gap_laws.proofs.RearrangedSuits.{handle_block-kind, pointer_block-kind, slots-rearranged}
 use Rattle.gap_laws.proofs.RearrangingAll.{all_down-Rearranged, sizes_possible-all_down, moved_high-is}
 use Rattle.linked_zone.specs.Changes.{with_map}
-use Rattle.gap_index.specs.Gaps.{IsLowestGap}
+use Rattle.zone_index.specs.Gaps.{IsLowestGap}
 use Rattle.zone_gaps.specs.Gaps.{Settled, GapFrom, with_gap, opened_after}
 
 -- what a search finds is in the list

@@ -15,13 +15,13 @@ use Rattle.zone_laws.proofs.Fitting.{free_block-some}
 use Rattle.linked_zone.specs.Changes.{with_map, joined_pair, sunk}
 use Rattle.linked_zone.specs.Fit.{HasSizes}
 use Rattle.linked_zone.specs.Places.{EntryAt, FreePair, ParcelUpTo, all_can_move, none_free}
-use Rattle.fixed_index.specs.Runs.{none_fixed}
-use Rattle.fixed_index.proofs.Sizes.{all_parts, first_bytes}
+use Rattle.zone_index.specs.Runs.{none_fixed}
+use Rattle.zone_index.proofs.Sizes.{all_parts, first_bytes}
 use Rattle.zone_gaps.specs.Runs.{RunAt, UsedFrom, LastFree, arranged}
 use Rattle.zone_gaps.proofs.Between.{parcel_up_loose, previous_block}
 use Rattle.zone_gaps.proofs.Lasts.{Last, some_last}
 use Rattle.zone_gaps.proofs.Pressing.{free_entry, used-front, free-front, run_sizes}
-use Rattle.page_sums.proofs.Sizes.{all_both, no_bytes}
+use Rattle.zone_index.proofs.SomeBytes.{all_both, no_bytes}
 
 -- up with a free block more
 up-free : (e : Entry) (m : ZoneMap) → is_free e.kind ≡ true → up (e ∷ m) ≡ free_block (e.size + free_bytes m) ++ used_blocks m

@@ -16,11 +16,11 @@ use Rattle.linked_zone.specs.Changes.{with_map}
 use Rattle.linked_zone.specs.Fit.{HasSizes}
 use Rattle.zone_gaps.specs.Gaps.{Settled, opened_after}
 use Rattle.linked_zone.specs.Places.{all_can_move, can_move}
-use Rattle.fixed_index.specs.Runs.{none_fixed}
+use Rattle.zone_index.specs.Runs.{none_fixed}
 use Rattle.zone_gaps.specs.Runs.{RunAt, arranged}
 use Rattle.zone_gaps.proofs.Owning.{Owned, here_owned, map_front, moves_owned, can_move_owned}
 use Rattle.zone_gaps.proofs.Pressing.{sizes-pressed}
-use Rattle.page_sums.proofs.Sizes.{all_both}
+use Rattle.zone_index.proofs.SomeBytes.{all_both}
 
 regroup : (a u f r b : ZoneMap) → a ++ ((u ++ f) ++ (r ++ b)) ≡ (a ++ u) ++ ((f ++ r) ++ b)
 regroup a u f r b = simp append_assoc

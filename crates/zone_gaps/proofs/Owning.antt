@@ -17,11 +17,11 @@ use Rattle.zone_laws.proofs.Owners.{nothing_passes}
 use Rattle.gap_laws.proofs.FittingResize.{own_gap-found, one_size}
 use Rattle.linked_zone.specs.Places.{BlockOf, EntryAt, all_can_move}
 use Rattle.zone_gaps.specs.Gaps.{Settled}
-use Rattle.fixed_index.specs.Runs.{FrontAt, RestAt, none_fixed}
-use Rattle.fixed_index.proofs.Sizes.{all_parts}
+use Rattle.zone_index.specs.Runs.{FrontAt, RestAt, none_fixed}
+use Rattle.zone_index.proofs.Sizes.{all_parts}
 use Rattle.zone_gaps.specs.Runs.{has_owner}
 use Rattle.zone_gaps.proofs.Settling.{owners-settled, all_move-unfixed}
-use Rattle.page_sums.proofs.Naming.{named_alone}
+use Rattle.zone_index.proofs.Naming.{named_alone}
 
 pub heads : (d g : Entry) (a b : ZoneMap) → d ∷ a ≡ g ∷ b → (d ≡ g) × (a ≡ b)
 heads d g a b h = (cc h, cc h)

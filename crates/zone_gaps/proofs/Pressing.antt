@@ -18,11 +18,11 @@ use Rattle.zone_laws.proofs.Maps.{total_size-append}
 use Rattle.linked_zone.specs.Changes.{with_map, joined_pair, carried_up}
 use Rattle.linked_zone.specs.Fit.{HasSizes}
 use Rattle.linked_zone.specs.Places.{none_free, EntryAt, FreePair, ParcelAt, all_can_move}
-use Rattle.fixed_index.specs.Runs.{none_fixed}
-use Rattle.fixed_index.proofs.Sizes.{all_parts, first_bytes}
+use Rattle.zone_index.specs.Runs.{none_fixed}
+use Rattle.zone_index.proofs.Sizes.{all_parts, first_bytes}
 use Rattle.zone_gaps.specs.Runs.{RunAt, arranged, UsedUpTo, begins_unused}
 use Rattle.zone_gaps.proofs.Between.{parcel_loose}
-use Rattle.page_sums.proofs.Sizes.{all_both, no_bytes}
+use Rattle.zone_index.proofs.SomeBytes.{all_both, no_bytes}
 
 -- a free block is one of its size
 pub free_entry : (e : Entry) → is_free e.kind ≡ true → e ≡ block Free e.size

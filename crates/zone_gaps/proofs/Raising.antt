@@ -24,14 +24,14 @@ use Rattle.linked_zone.specs.Changes.{with_map, carried_up, sunk}
 use Rattle.linked_zone.specs.Fit.{HasSizes}
 use Rattle.zone_gaps.specs.Gaps.{Settled}
 use Rattle.linked_zone.specs.Places.{ParcelAt, ParcelUpTo, all_can_move, can_move}
-use Rattle.fixed_index.specs.Runs.{none_fixed}
-use Rattle.fixed_index.proofs.Sizes.{all_parts}
+use Rattle.zone_index.specs.Runs.{none_fixed}
+use Rattle.zone_index.proofs.Sizes.{all_parts}
 use Rattle.zone_gaps.specs.Runs.{RunAt, PackedAt, arranged, topped}
 use Rattle.zone_gaps.proofs.Opening.{used_here, free_lower, sizes_lower, run_upper, arranged_upper, used_upper}
 use Rattle.zone_gaps.proofs.Owning.{Owned, here_owned, moves_owned, can_move_owned}
 use Rattle.zone_gaps.proofs.Between.{parcel_loose, parcel_up_loose}
 use Rattle.zone_gaps.proofs.Pressing.{no_free, free-push_used, sizes-pressed}
-use Rattle.page_sums.proofs.Sizes.{all_both}
+use Rattle.zone_index.proofs.SomeBytes.{all_both}
 
 -- of blocks that x doesn't name none is left by one filter
 those_none : (x : ℕ) (a : ZoneMap) → sizes (is_named x) a ≡ [] → filter (λ (e : Entry). is_named x e.kind) a ≡ []

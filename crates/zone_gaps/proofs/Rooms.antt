@@ -21,15 +21,15 @@ use Rattle.zone_laws.proofs.SuitsNamed.{length-sizes_named}
 use Rattle.zone_laws.proofs.Maps.{total_size-append}
 use Rattle.gap_laws.proofs.FittingResize.{one_size}
 use Rattle.linked_zone.specs.Places.{EntryAt, NamedAt}
-use Rattle.gap_index.specs.Gaps.{GapAt as IndexedGap}
+use Rattle.zone_index.specs.Gaps.{GapAt as IndexedGap}
 use Rattle.zone_gaps.specs.Gaps.{Settled, GapAt, IsGapOf}
-use Rattle.fixed_index.specs.Runs.{RestAt, ends_fixed}
+use Rattle.zone_index.specs.Runs.{RestAt, ends_fixed}
 use Rattle.zone_gaps.proofs.Laws.{find-contains}
 use Rattle.zone_gaps.proofs.LoansKept.{no_handle, pointer-no_full, locked-full}
 use Rattle.zone_gaps.proofs.Owning.{Owned, same_named}
 use Rattle.zone_gaps.proofs.Settling.{rest_of_gap}
-use Rattle.page_sums.proofs.Naming.{named_alone}
-use Rattle.page_sums.proofs.Sizes.{total_size-push}
+use Rattle.zone_index.proofs.Naming.{named_alone}
+use Rattle.zone_index.proofs.SomeBytes.{total_size-push}
 
 -- a gap that a search finds, between its addresses
 module _ (z : ZoneState) (test : Gap → Bool) (g : Gap) (found : find test (gaps z.heap.table z.heap.map) ≡ Some g) (start end : ℕ) (place : start ≡ address_behind z.shape g.before) (long : end ≡ start + total_size g.blocks) where

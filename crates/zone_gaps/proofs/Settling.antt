@@ -18,10 +18,10 @@ use Rattle.zone_laws.proofs.GapAppend.{sizes-append, length-addresses_from}
 use Rattle.zone_laws.proofs.GapParts.{IsGap, gap-IsGap}
 use Rattle.zone_gaps.specs.Gaps.{Settled, GapAt}
 use Rattle.linked_zone.specs.Places.{can_move, all_can_move}
-use Rattle.fixed_index.specs.Runs.{RestAt, none_fixed}
-use Rattle.fixed_index.proofs.Sizes.{all_parts}
+use Rattle.zone_index.specs.Runs.{RestAt, none_fixed}
+use Rattle.zone_index.proofs.Sizes.{all_parts}
 use Rattle.zone_gaps.specs.Runs.{HasOwners, RunAt, has_owner}
-use Rattle.page_sums.proofs.Owners.{live_full-handle}
+use Rattle.zone_index.proofs.Owners.{live_full-handle}
 
 -- and no pointer
 live_handle-pointer : (o : Option Live) → live_handle o ≡ true → live_pointer o ≡ false

@@ -13,12 +13,12 @@ use Rattle.zone_laws.proofs.Maps.{total_size-append}
 use Rattle.linked_zone.specs.Changes.{with_map}
 use Rattle.linked_zone.specs.Fit.{HasSizes}
 use Rattle.zone_gaps.specs.Gaps.{Settled, GapFrom, with_gap}
-use Rattle.fixed_index.specs.Runs.{FrontAt, RestAt, none_fixed}
-use Rattle.fixed_index.proofs.Sizes.{all_parts}
+use Rattle.zone_index.specs.Runs.{FrontAt, RestAt, none_fixed}
+use Rattle.zone_index.proofs.Sizes.{all_parts}
 use Rattle.zone_gaps.specs.Runs.{arranged}
 use Rattle.zone_gaps.proofs.Pressing.{used-front, down-front}
 use Rattle.zone_gaps.proofs.Settling.{run_of_rest}
-use Rattle.page_sums.proofs.Sizes.{no_bytes}
+use Rattle.zone_index.proofs.SomeBytes.{no_bytes}
 
 module _ (z : ZoneState) (at : ℕ) (from : GapFrom z at) where
   abbrev g : Gap

@@ -18,11 +18,11 @@ use Rattle.linked_zone.specs.Changes.{with_map}
 use Rattle.linked_zone.specs.Fit.{HasSizes}
 use Rattle.linked_zone.specs.Places.{EntryAt, all_can_move}
 use Rattle.zone_gaps.specs.Gaps.{Settled}
-use Rattle.fixed_index.specs.Runs.{RestAt, none_fixed, begins_fixed}
-use Rattle.fixed_index.proofs.Sizes.{all_parts, first_bytes}
+use Rattle.zone_index.specs.Runs.{RestAt, none_fixed, begins_fixed}
+use Rattle.zone_index.proofs.Sizes.{all_parts, first_bytes}
 use Rattle.zone_gaps.specs.Runs.{RunAt, has_owner, arranged}
 use Rattle.zone_gaps.proofs.Settling.{owners-settled, all_move-unfixed}
-use Rattle.page_sums.proofs.Sizes.{all_both, no_bytes}
+use Rattle.zone_index.proofs.SomeBytes.{all_both, no_bytes}
 
 -- whether the owners of these blocks are live
 abbrev owned : HandleTable → ZoneMap → Bool

@@ -10,8 +10,8 @@ use Rattle.mac_base.specs.ZoneMap.{ZoneMap, address_behind, total_size}
 use Rattle.mac_base.specs.ZoneState.{ZoneState}
 use Rattle.linked_zone.specs.Changes.{with_map}
 use Rattle.linked_zone.specs.Fit.{HasSizes}
-use Rattle.fixed_index.specs.Runs.{begins_fixed, ends_fixed, none_fixed}
-use Rattle.gap_index.specs.Gaps.{FirstFreeOf}
+use Rattle.zone_index.specs.Runs.{begins_fixed, ends_fixed, none_fixed}
+use Rattle.zone_index.specs.Gaps.{FirstFreeOf}
 use Rattle.zone_gaps.specs.declared.gap.FoundGap.{FoundGap}
 
 -- blocks may be moved: they and their owners find each other, sizes are possible, and what is lent is fixed

@@ -9,7 +9,7 @@ use Rattle.mac_base.specs.ZoneMap.{ZoneMap, block, free_block, is_free, address_
 use Rattle.mac_base.specs.ZoneState.{ZoneState}
 use Rattle.linked_zone.specs.Changes.{with_map}
 use Rattle.linked_zone.specs.Places.{all_can_move, none_free}
-use Rattle.fixed_index.specs.Runs.{none_fixed}
+use Rattle.zone_index.specs.Runs.{none_fixed}
 
 -- whether the handle whose block a block of this kind is is live
 abbrev pub has_owner : HandleTable → Kind → Bool

@@ -7,12 +7,12 @@ ghost use Rattle.mac_base.specs.Request.{stays};
 ghost use Rattle.zone_gaps.specs.Gaps.{Settled, IsGapOf};
 
 use crate::gap::{FoundGap, zone_end};
-use gap_index::GapZone;
+use zone_index::IndexedZone;
 use mac_base::handle::Handle;
 use mac_base::zone_spec::ADDRESS_END;
 
 /// The gap in which the block of an unlocked handle lies.
-pub fn own_gap(zone: &GapZone, handle: Handle) -> FoundGap
+pub fn own_gap(zone: &IndexedZone, handle: Handle) -> FoundGap
     requires full { IsTrue (is_full zone.now.heap.table handle) }
     requires unlocked { IsFalse (is_locked zone.now.heap.table handle) }
     requires settled { Settled zone.now }
@@ -25,7 +25,7 @@ pub fn own_gap(zone: &GapZone, handle: Handle) -> FoundGap
 }
 
 /// The gap right behind the block of a pointer or a locked handle.
-pub fn gap_behind(zone: &GapZone, block: u32) -> FoundGap
+pub fn gap_behind(zone: &IndexedZone, block: u32) -> FoundGap
     requires stays { IsTrue (stays zone.now.heap.table block) }
     requires settled { Settled zone.now }
     ensures { IsGapOf zone.now (gap_behind block (gaps zone.now.heap.table zone.now.heap.map)) result }

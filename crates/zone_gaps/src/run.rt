@@ -6,15 +6,15 @@ ghost use Rattle.mac_base.specs.ZoneMap.{total_size};
 ghost use Rattle.linked_zone.specs.Fit.{HasSizes};
 ghost use Rattle.linked_zone.specs.Changes.{carried_up};
 ghost use Rattle.linked_zone.specs.Places.{ParcelAt, none_free};
-ghost use Rattle.fixed_index.specs.Runs.{none_fixed};
+ghost use Rattle.zone_index.specs.Runs.{none_fixed};
 ghost use Rattle.zone_gaps.specs.Runs.{RunAt, UsedUpTo, UsedFrom, LastFree, arranged};
 
 use linked_zone::LinkedZone;
-use page_sums::SummedZone;
+use zone_index::IndexedZone;
 
 /// Moves the blocks of a run down, so that its free bytes are above them in one block. Blocks in use that are neighbours are
 /// moved together, and the bytes of each once. Gives the address at which the free bytes begin.
-pub(crate) fn press_down(zone: &mut SummedZone, start: u32, end: u32) -> u32
+pub(crate) fn press_down(zone: &mut IndexedZone, start: u32, end: u32) -> u32
     requires run { RunAt zone.old start end }
     requires sizes { HasSizes zone.old }
     ensures zone { (run : RunAt zone.old start end) → zone.new ≡ arranged zone.old run (down run.blocks) }
@@ -54,7 +54,7 @@ pub(crate) fn used_end(zone: &LinkedZone, start: u32, end: u32) -> u32
 
 /// Moves the blocks of a run up, so that its free bytes are below them in one block. Blocks in use that are neighbours are
 /// moved together, and the bytes of each once.
-pub(crate) fn press_up(zone: &mut SummedZone, start: u32, end: u32)
+pub(crate) fn press_up(zone: &mut IndexedZone, start: u32, end: u32)
     requires run { RunAt zone.old start end }
     requires sizes { HasSizes zone.old }
     ensures { (run : RunAt zone.old start end) → zone.new ≡ arranged zone.old run (up run.blocks) }
@@ -101,7 +101,7 @@ fn used_start(zone: &LinkedZone, start: u32, end: u32) -> u32
 
 /// Moves a block up past the blocks between it and an address. Gives the address at which it stands then. The
 /// bytes turn in one rotation.
-pub(crate) fn carry_up(zone: &mut SummedZone, start: u32, end: u32) -> u32
+pub(crate) fn carry_up(zone: &mut IndexedZone, start: u32, end: u32) -> u32
     requires parcel { ParcelAt zone.old start end }
     requires loose { (parcel : ParcelAt zone.old start end) → IsTrue (none_fixed zone.old.heap.table (parcel.here ∷ parcel.blocks)) }
     requires sizes { HasSizes zone.old }

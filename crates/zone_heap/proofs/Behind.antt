@@ -11,8 +11,8 @@ use Rattle.zone_laws.proofs.GapParts.{IsGap, first_gap, first_gap-IsGap, first_g
 use Rattle.zone_laws.proofs.NamedPlace.{At, size_of-At}
 use Rattle.zone_laws.proofs.SuitsNamed.{stays-fixed}
 use Rattle.linked_zone.specs.Places.{NamedAt}
-use Rattle.fixed_index.specs.Runs.{RestAt}
-use Rattle.page_sums.proofs.Sizes.{total_size-push}
+use Rattle.zone_index.specs.Runs.{RestAt}
+use Rattle.zone_index.proofs.SomeBytes.{total_size-push}
 use Rattle.zone_heap.specs.Attempts.{SoundZone}
 use Rattle.zone_heap.specs.Purge.{BlocksAt, IsLimit, Purges, all_released, blocks_behind, bounds_gap, counts, freed_where, may_purge, run_has}
 use Rattle.zone_heap.specs.declared.purge.Limit.{Limit}

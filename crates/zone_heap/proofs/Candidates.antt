@@ -12,10 +12,10 @@ use Rattle.mac_base.specs.ZoneMap.{ZoneMap, block, total_size}
 use Rattle.mac_base.specs.ZoneState.{ZoneState, with_heap}
 use Rattle.linked_zone.specs.Fit.{Fits, HasSizes}
 use Rattle.linked_zone.specs.Places.{HasOwner, SplitAt}
-use Rattle.fixed_index.specs.Purging.{FirstPurgeable, may_go, none_purgeable}
-use Rattle.fixed_index.proofs.Sizes.{all_parts}
+use Rattle.zone_index.specs.Purging.{FirstPurgeable, may_go, none_purgeable}
+use Rattle.zone_index.proofs.Sizes.{all_parts}
 use Rattle.zone_laws.proofs.GapApart.{sizes_possible}
-use Rattle.page_sums.proofs.Sizes.{no_bytes}
+use Rattle.zone_index.proofs.SomeBytes.{no_bytes}
 use Rattle.zone_gaps.specs.Runs.{HasOwners}
 use Rattle.zone_gaps.proofs.Entries.{entry_owner}
 use Rattle.zone_gaps.proofs.Settling.{owners-settled}

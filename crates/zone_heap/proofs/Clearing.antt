@@ -21,7 +21,7 @@ use Rattle.gap_laws.proofs.RearrangedSuits.{Sound-arranged}
 use Rattle.linked_zone.specs.Changes.{with_map}
 use Rattle.linked_zone.specs.Fit.{HasSizes}
 use Rattle.linked_zone.specs.Places.{EntryAt, LowestAt}
-use Rattle.gap_index.specs.Gaps.{IsLowestGap}
+use Rattle.zone_index.specs.Gaps.{IsLowestGap}
 use Rattle.zone_gaps.specs.Gaps.{GapAt, GapBetween, GapFrom, with_gap}
 use Rattle.zone_gaps.proofs.Laws.{gap_from}
 use Rattle.zone_gaps.proofs.Squeezing.{map_from, rest_from, start_from, none_before}

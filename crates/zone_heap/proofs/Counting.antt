@@ -12,7 +12,7 @@ use Rattle.mac_base.specs.ZoneState.{ZoneState}
 use Rattle.zone_laws.proofs.Fitting.{is_some-lowest_gap}
 use Rattle.zone_laws.proofs.SuitsNamed.{length-sizes_of}
 use Rattle.zone_laws.proofs.Tables.{handle_no_pointer}
-use Rattle.gap_index.specs.Gaps.{IsLowestGap}
+use Rattle.zone_index.specs.Gaps.{IsLowestGap}
 use Rattle.zone_heap.specs.Attempts.{SoundZone}
 use Rattle.zone_heap.specs.Purge.{CanCount}
 use Rattle.zone_heap.proofs.Grows.{run-unnamed}

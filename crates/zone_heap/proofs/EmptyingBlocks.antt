@@ -21,7 +21,7 @@ use Rattle.zone_laws.proofs.Tables.{eqb_same, eqb_swap, with_live_agrees}
 use Rattle.zone_laws.proofs.Maps.{total_size-append}
 use Rattle.linked_zone.specs.Changes.{freed, without_block}
 use Rattle.linked_zone.specs.Fit.{HasSizes}
-use Rattle.page_sums.proofs.Sizes.{all_both, total_size-push}
+use Rattle.zone_index.proofs.SomeBytes.{all_both, total_size-push}
 use Rattle.zone_heap.specs.Attempts.{SoundZone}
 use Rattle.zone_heap.specs.Joins.{all_joined}
 use Rattle.zone_heap.specs.Purge.{AllStay, BlocksAt, FirstToPurge, all_emptied, freed_where, handle_to_purge, may_purge, purged_between}
@@ -29,7 +29,7 @@ use Rattle.zone_heap.specs.declared.purge.Candidate.{Candidate}
 use Rattle.zone_heap.proofs.FreedBlocks.{Once, once-suits, once-At, once-free, candidate_here, candidates-append, candidates-cons, released-candidates, emptied-parts, total_size-freed}
 use Rattle.zone_heap.proofs.Purging.{may_purge-parts, purged-here}
 use Rattle.zone_heap.proofs.Releasing.{freed-At}
-use Rattle.fixed_index.proofs.Sizes.{all_parts, first_bytes}
+use Rattle.zone_index.proofs.Sizes.{all_parts, first_bytes}
 
 -- numbers that may be purged are none that names no block
 none-among : (t : HandleTable) (protected : List ℕ) (h : ℕ) (m : ZoneMap) → sizes (is_named h) m ≡ [] → is_among (candidates_in t protected m) h ≡ false

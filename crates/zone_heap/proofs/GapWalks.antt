@@ -10,8 +10,8 @@ use Rattle.mac_base.specs.Request.{is_among}
 use Rattle.mac_base.specs.declared.block.Entry.{Entry}
 use Rattle.mac_base.specs.ZoneMap.{ZoneMap, block, is_named, total_size}
 use Rattle.mac_base.specs.ZoneState.{ZoneState}
-use Rattle.fixed_index.specs.Runs.{begins_fixed, ends_fixed, none_fixed}
-use Rattle.fixed_index.proofs.Sizes.{all_parts}
+use Rattle.zone_index.specs.Runs.{begins_fixed, ends_fixed, none_fixed}
+use Rattle.zone_index.proofs.Sizes.{all_parts}
 use Rattle.zone_laws.proofs.SuitsNamed.{stays-fixed}
 use Rattle.zone_laws.proofs.Tables.{handle_no_pointer}
 use Rattle.zone_laws.proofs.GapRoom.{ends_fixed-push}

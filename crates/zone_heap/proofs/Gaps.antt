@@ -7,9 +7,9 @@ use Rattle.mac_base.specs.HandleTable.{HandleTable}
 use Rattle.mac_base.specs.ZoneMap.{ZoneMap, address_behind, total_size}
 use Rattle.mac_base.specs.ZoneState.{ZoneState}
 use Rattle.linked_zone.specs.Places.{SplitAt}
-use Rattle.fixed_index.specs.Runs.{FrontAt, RestAt, begins_fixed, ends_fixed, none_fixed}
-use Rattle.gap_index.proofs.Splits.{FirstRun, LastRun, first_run, last_run}
-use Rattle.page_sums.proofs.Sizes.{all_both}
+use Rattle.zone_index.specs.Runs.{FrontAt, RestAt, begins_fixed, ends_fixed, none_fixed}
+use Rattle.zone_index.proofs.Splits.{FirstRun, LastRun, first_run, last_run}
+use Rattle.zone_index.proofs.SomeBytes.{all_both}
 use Rattle.zone_heap.specs.Purge.{BlocksAt, GapAround, MovesAt}
 use Rattle.zone_heap.specs.declared.purge.Stretch.{Stretch}
 use Rattle.zone_laws.proofs.Maps.{total_size-append}

@@ -21,7 +21,7 @@ use Rattle.zone_heap.specs.Placed.{resized_there}
 use Rattle.zone_heap.proofs.Places.{large-size}
 use Rattle.zone_heap.proofs.Sizing.{Standing, resized_zone, resized-there, can-front, free-rest, here-size}
 use Rattle.zone_heap.proofs.Taking.{front_size, taken-parts, all-there}
-use Rattle.page_sums.proofs.Sizes.{total_size-push}
+use Rattle.zone_index.proofs.SomeBytes.{total_size-push}
 
 -- what stands behind a block by its address are the free bytes in front of those behind it
 pub free-behind : (z : ZoneState) (at next : ℕ) (e : EntryAt z at) (entry : Entry) → IsTrue (list_all (λ (e : Entry). is_block_size z.shape e.size) z.heap.map) → next ≡ at + e.here.size → EntryAt z next

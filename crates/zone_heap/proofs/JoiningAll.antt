@@ -17,11 +17,11 @@ use Rattle.linked_zone.specs.Changes.{with_map, joined_pair}
 use Rattle.linked_zone.specs.Fit.{HasSizes}
 use Rattle.linked_zone.specs.Places as places
 use Rattle.linked_zone.specs.Places.{EntryAt, FreePair, SplitAt}
-use Rattle.page_sums.proofs.Sizes.{all_both, total_size-push}
+use Rattle.zone_index.proofs.SomeBytes.{all_both, total_size-push}
 use Rattle.zone_heap.specs.Joins.{all_joined}
 use Rattle.zone_heap.proofs.Places.{all_large, large-sizes, large-first, same-place}
 use Rattle.zone_heap.proofs.Growing.{sum_size}
-use Rattle.fixed_index.proofs.Sizes.{all_parts, first_bytes}
+use Rattle.zone_index.proofs.Sizes.{all_parts, first_bytes}
 
 -- what follows a block by its address is the block behind it
 pub next-block : (z : ZoneState) (at next : ℕ) (e : EntryAt z at) (n : EntryAt z next) → HasSizes z → next ≡ at + (e.here).size → e.behind ≡ n.here ∷ n.behind

@@ -20,7 +20,7 @@ use Rattle.zone_heap.specs.Purge.{ApartBeside, BlocksAt, freed_where, may_purge,
 use Rattle.zone_heap.proofs.EmptyingBlocks.{sizes-purged}
 use Rattle.zone_heap.proofs.FreedBlocks.{total_size-freed}
 use Rattle.zone_heap.proofs.JoiningAll.{JoinedBelow, JoinedTo, TwoFree, pair_joined, map_pair}
-use Rattle.fixed_index.proofs.Sizes.{all_parts, first_bytes}
+use Rattle.zone_index.proofs.Sizes.{all_parts, first_bytes}
 use Rattle.zone_gaps.proofs.Owning.{heads}
 
 -- where free blocks are apart, none end the first part while others begin the second

@@ -24,7 +24,7 @@ use Rattle.gap_laws.proofs.FittingResize.{is_some-resized_in_gap}
 use Rattle.gap_laws.proofs.RearrangedSuits.{Sound-arranged}
 use Rattle.linked_zone.specs.Changes.{with_map}
 use Rattle.linked_zone.specs.Loans.{KeepsLoans}
-use Rattle.gap_index.specs.Gaps.{GapAt as IndexedGap}
+use Rattle.zone_index.specs.Gaps.{GapAt as IndexedGap}
 use Rattle.zone_gaps.specs.declared.gap.FoundGap.{FoundGap}
 use Rattle.zone_gaps.specs.Gaps.{GapAt, GapBetween, IsGapOf, opened_after}
 use Rattle.zone_gaps.proofs.Laws.{find-contains}

@@ -16,9 +16,9 @@ use Rattle.zone_laws.proofs.Maps.{total_size-append}
 use Rattle.std.proofs.lemmas.Bool.{or_parts}
 use Rattle.linked_zone.specs.Fit.{HasSizes}
 use Rattle.linked_zone.specs.Places.{EntryAt, FirstFree, FreeAt, NamedAt, SplitAt, none_free}
-use Rattle.gap_index.proofs.Rooms.{FreeAmong, free-among, none-among}
-use Rattle.page_sums.proofs.Entries.{entry_size}
-use Rattle.page_sums.proofs.Sizes.{total_size-push}
+use Rattle.zone_index.proofs.Rooms.{FreeAmong, free-among, none-among}
+use Rattle.zone_index.proofs.Entries.{entry_size}
+use Rattle.zone_index.proofs.SomeBytes.{total_size-push}
 use Rattle.zone_heap.specs.Attempts.{SoundZone}
 use Rattle.zone_heap.specs.Purge.{BlocksAt, bytes_of_kind, counts, size_if}
 use Rattle.zone_heap.proofs.FreedBlocks.{once-At, once-suits}

@@ -20,7 +20,7 @@ use Rattle.zone_laws.proofs.GapApart.{free_apart-back, free_apart-front, sizes_p
 use Rattle.zone_laws.proofs.Maps.{total_size-append}
 use Rattle.zone_gaps.proofs.Between.{previous_block}
 use Rattle.zone_gaps.proofs.Lasts.{Last, last_of, some_last}
-use Rattle.page_sums.proofs.Sizes.{no_bytes}
+use Rattle.zone_index.proofs.SomeBytes.{no_bytes}
 use Rattle.zone_heap.specs.Attempts.{SoundZone}
 use Rattle.zone_heap.specs.Purge.{AllStay, BlocksAt, FirstToPurge, IsLimit, PurgesTo, all_released, bounds_free, bytes_before, counts, freed_where, may_purge, run_has, run_past}
 use Rattle.zone_heap.specs.declared.purge.Candidate.{Candidate}
@@ -31,7 +31,7 @@ use Rattle.zone_heap.proofs.Grows.{absorb}
 use Rattle.zone_heap.proofs.Runs.{Swept, bytes-within, limit_here, limit_last, more-run, none_behind, none_swept, purge_swept, spanned_all, stay_swept}
 use Rattle.zone_heap.proofs.Until.{limit-blocks, limit-candidates, run-joined, until-limit, until-enough_then}
 use Rattle.zone_heap.proofs.Walks.{Walked, Facing, end_walked, map_rest, none_walked, place_rest, walked_end, walked_on, walked_over}
-use Rattle.fixed_index.proofs.Sizes.{all_parts}
+use Rattle.zone_index.proofs.Sizes.{all_parts}
 use Rattle.gap_laws.proofs.Emptied.{purged_until-none}
 
 run_apart : (k r : ℕ) (m : ZoneMap) → starts_free m ≡ false → run_has bounds_free (counts None) k r m ≡ (nat_le k r || run_has bounds_free (counts None) k 0 m)

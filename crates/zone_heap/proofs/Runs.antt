@@ -7,7 +7,7 @@ use Rattle.mac_base.specs.declared.block.Entry.{Entry}
 use Rattle.mac_base.specs.declared.block.Kind.{Kind}
 use Rattle.mac_base.specs.declared.block.Kind.TheVariants.{Free}
 use Rattle.mac_base.specs.ZoneMap.{ZoneMap, block, total_size}
-use Rattle.page_sums.proofs.Sizes.{total_size-push}
+use Rattle.zone_index.proofs.SomeBytes.{total_size-push}
 use Rattle.zone_heap.specs.Purge.{AllStay, IsLimit, Spanned, bytes_before, freed_where, run_has, run_past, size_if}
 use Rattle.zone_heap.specs.declared.purge.Limit.{Limit}
 use Rattle.zone_heap.proofs.Until.{no_bytes_more}

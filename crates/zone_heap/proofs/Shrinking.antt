@@ -23,7 +23,7 @@ use Rattle.zone_heap.specs.Joins.{NewlyFree, all_joined}
 use Rattle.zone_heap.specs.Placed.{resized_there}
 use Rattle.zone_heap.proofs.Sizing.{Standing, resized_zone, resized-there, can-front, free-rest, here-size}
 use Rattle.zone_heap.proofs.Taking.{front_size, taken-parts}
-use Rattle.page_sums.proofs.Sizes.{total_size-push}
+use Rattle.zone_index.proofs.SomeBytes.{total_size-push}
 
 module _ (z : ZoneState) (x n k at : ℕ) (b : Standing z x n k at) (fits : k ≤ b.named.here.size) where
   -- how many bytes of the block stay with its owner

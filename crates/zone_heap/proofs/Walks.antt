@@ -7,10 +7,10 @@ use Rattle.zone_laws.proofs.GapApart.{sizes_possible}
 use Rattle.zone_laws.proofs.Maps.{total_size-append}
 use Rattle.linked_zone.specs.Fit.{HasSizes}
 use Rattle.linked_zone.specs.Places.{EntryAt}
-use Rattle.page_sums.proofs.Entries.{entry_size}
-use Rattle.page_sums.proofs.Sizes.{no_bytes, total_size-push}
+use Rattle.zone_index.proofs.Entries.{entry_size}
+use Rattle.zone_index.proofs.SomeBytes.{no_bytes, total_size-push}
 use Rattle.zone_heap.specs.Purge.{BlocksAt}
-use Rattle.fixed_index.proofs.Sizes.{all_parts}
+use Rattle.zone_index.proofs.Sizes.{all_parts}
 
 -- the blocks below an address are passed
 pub record Walked {start end : ℕ} (z : ZoneState) (b : BlocksAt z start end) (at : ℕ) : Type 0 where

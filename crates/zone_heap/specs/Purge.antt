@@ -13,7 +13,7 @@ use Rattle.std.specs.List.{list_all}
 use Rattle.mac_base.specs.Suits.{free_apart, is_block_size}
 use Rattle.mac_base.specs.ZoneMap.{ZoneMap, block, handle_of, is_free, is_named, address_behind, largest_free, released, total_size}
 use Rattle.mac_base.specs.ZoneState.{ZoneState, with_heap}
-use Rattle.fixed_index.specs.Runs.{begins_fixed, ends_fixed, none_fixed}
+use Rattle.zone_index.specs.Runs.{begins_fixed, ends_fixed, none_fixed}
 use Rattle.zone_heap.specs.declared.purge.Candidate.{Candidate}
 use Rattle.zone_heap.specs.declared.purge.Limit.{Limit}
 use Rattle.zone_heap.specs.declared.purge.Stretch.{Stretch}

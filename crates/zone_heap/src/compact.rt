@@ -5,7 +5,7 @@ use linked_zone::LinkedZone;
 use mac_base::block::Kind;
 use mac_base::handle::Handle;
 use mac_base::zone_spec::ADDRESS_END;
-use page_sums::SummedZone;
+use zone_index::IndexedZone;
 use zone_gaps::{raise, squeeze_all_down, squeeze_down, zone_end};
 
 impl Zone {
@@ -99,7 +99,7 @@ fn largest_free(pointers: &LinkedZone) -> u32
 }
 
 /// Moves the blocks of the lowest gap with at least `needed` free bytes down, or those of all gaps where none has so many.
-fn squeeze(pointers: &mut SummedZone, needed: u32)
+fn squeeze(pointers: &mut IndexedZone, needed: u32)
     requires some { 0 < needed }
     requires settled { Settled pointers.old }
     ensures zone { pointers.new ≡ zone_with_map (squeezed pointers.old.heap.table needed pointers.old.heap.map) pointers.old }

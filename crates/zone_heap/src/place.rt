@@ -5,7 +5,7 @@ use crate::zone::{Zone, cut};
 use mac_base::handle::{Handle, Ptr};
 use mac_base::size::{MASTER_LENGTH, need_for};
 use mac_base::zone_spec::ADDRESS_END;
-use page_sums::SummedZone;
+use zone_index::IndexedZone;
 use zone_gaps::{squeeze_down, squeeze_up};
 
 impl Zone {
@@ -78,7 +78,7 @@ ghost use Rattle.zone_heap.specs.Room.{IsCleared, IsOpened, LacksRoom};
 
 /// A new handle with `length` bytes of zero: in the lowest free block that has room, or else in the lowest gap with room,
 /// arranged down.
-pub(crate) fn new_block(zone: &mut SummedZone, length: u32) -> Result<Handle, Shortage>
+pub(crate) fn new_block(zone: &mut IndexedZone, length: u32) -> Result<Handle, Shortage>
     requires size { length ≤ max_size }
     requires sound { SoundZone zone.old }
     ensures attempt { Attempts (NewBlock length) zone.old result zone.new }
@@ -102,7 +102,7 @@ pub(crate) fn new_block(zone: &mut SummedZone, length: u32) -> Result<Handle, Sh
 }
 
 /// A new empty handle. There is none exactly where no slot is free.
-pub(crate) fn new_empty(zone: &mut SummedZone) -> Result<Handle, Shortage>
+pub(crate) fn new_empty(zone: &mut IndexedZone) -> Result<Handle, Shortage>
     requires sound { SoundZone zone.old }
     ensures attempt { Attempts NewEmpty zone.old result zone.new }
     ensures loans { KeepsLoans zone.old zone.new }
@@ -112,7 +112,7 @@ pub(crate) fn new_empty(zone: &mut SummedZone) -> Result<Handle, Shortage>
 }
 
 /// A new pointer to `length` bytes of zero, at the start of the lowest gap with room.
-pub(crate) fn new_pointer(zone: &mut SummedZone, length: u32) -> Result<Ptr, Shortage>
+pub(crate) fn new_pointer(zone: &mut IndexedZone, length: u32) -> Result<Ptr, Shortage>
     requires size { length ≤ max_size }
     requires sound { SoundZone zone.old }
     ensures attempt { Attempts (NewPointer length) zone.old result zone.new }
@@ -128,7 +128,7 @@ pub(crate) fn new_pointer(zone: &mut SummedZone, length: u32) -> Result<Ptr, Sho
 }
 
 /// A new master block, at the start of the lowest gap with room. Gives the address of its first slot.
-pub(crate) fn new_master(zone: &mut SummedZone) -> Result<u32, Shortage>
+pub(crate) fn new_master(zone: &mut IndexedZone) -> Result<u32, Shortage>
     requires sound { SoundZone zone.old }
     ensures attempt { Attempts NewMaster zone.old result zone.new }
     ensures loans { KeepsLoans zone.old zone.new }
@@ -147,7 +147,7 @@ pub(crate) fn new_master(zone: &mut SummedZone) -> Result<u32, Shortage>
 }
 
 /// Room for a pointer to `length` bytes, at the start of the lowest gap with room. It stays free.
-pub(crate) fn reserve(zone: &mut SummedZone, length: u32) -> Result<(), Shortage>
+pub(crate) fn reserve(zone: &mut IndexedZone, length: u32) -> Result<(), Shortage>
     requires size { length ≤ max_size }
     requires sound { SoundZone zone.old }
     ensures attempt { MatchResult result (λ _. IsServed (Reserve length) zone.old 0 zone.new) (λ why. IsRefused (Reserve length) zone.old why zone.new) }
@@ -163,7 +163,7 @@ pub(crate) fn reserve(zone: &mut SummedZone, length: u32) -> Result<(), Shortage
 
 /// The address of a free block of at least `needed` bytes for a relocatable block: the lowest, or where there is none that
 /// of the lowest gap with room, arranged down.
-pub(crate) fn open_lowest(zone: &mut SummedZone, needed: u32) -> Option<u32>
+pub(crate) fn open_lowest(zone: &mut IndexedZone, needed: u32) -> Option<u32>
     requires some { 0 < needed }
     requires sound { SoundZone zone.old }
     ensures room { MatchOption result (LacksRoom needed zone.old zone.new) (λ at. IsOpened zone.old needed at zone.new) }
@@ -179,7 +179,7 @@ pub(crate) fn open_lowest(zone: &mut SummedZone, needed: u32) -> Option<u32>
 
 /// The start of the lowest gap with room for `needed` bytes. The gap begins with so many free bytes: it is arranged up
 /// where it doesn't yet.
-fn clear_lowest(zone: &mut SummedZone, needed: u32) -> Option<u32>
+fn clear_lowest(zone: &mut IndexedZone, needed: u32) -> Option<u32>
     requires some { 0 < needed }
     requires sound { SoundZone zone.old }
     ensures room { MatchOption result (LacksRoom needed zone.old zone.new) (λ at. IsCleared zone.old needed at zone.new) }
@@ -187,9 +187,9 @@ fn clear_lowest(zone: &mut SummedZone, needed: u32) -> Option<u32>
     ensures sound { SoundZone zone.new }
 {
     let at = zone.lowest_gap(needed)?;
-    let start = zone.gaps().gap_start(at);
+    let start = zone.gap_start(at);
     if start < at || zone.linked().entry_at(at).size < needed {
-        let end = zone.gaps().gap_end(at);
+        let end = zone.gap_end(at);
         squeeze_up(zone, start, end);
     }
     Some(start)

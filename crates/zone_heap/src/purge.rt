@@ -65,14 +65,14 @@ ghost use Rattle.zone_heap.specs.Joins.{all_joined};
 ghost use Rattle.zone_heap.specs.Purge.{ApartBeside, BlocksAt, AllStay, CanCount, FirstToPurge, GapAround, IsLimit, MovesAt, ShortBlocks, ShortGaps, Purges, PurgesFor, PurgesTo, blocks_behind, bounds_gap, bounds_free, bytes_before, bytes_of_kind, counts, handle_to_purge, is_kept, is_protected, may_purge, purged_between, run_past, staying_block, HasBlockIf};
 
 use crate::zone::Zone;
-use gap_index::GapZone;
+use zone_index::IndexedZone;
 use linked_zone::LinkedZone;
 use mac_base::block::Kind;
 use mac_base::handle::{Handle, Ptr};
 use mac_base::request::Request;
 use mac_base::size::{MASTER_LENGTH, ZONE_HEADER, need_for};
 use mac_base::zone_spec::ADDRESS_END;
-use page_sums::SummedZone;
+use zone_index::IndexedZone;
 use zone_gaps::zone_end;
 
 /// Which blocks are purged: those between two addresses that may be. Where the addresses are one, none is.
@@ -109,7 +109,7 @@ pub(crate) struct Candidate {
 }
 
 /// The first block between two addresses that may be purged, if there is one. Of the others only those of protected handles are read.
-fn next_to_purge(zone: &GapZone, start: u32, end: u32, protected: &[u32]) -> Option<Candidate>
+fn next_to_purge(zone: &IndexedZone, start: u32, end: u32, protected: &[u32]) -> Option<Candidate>
     requires blocks { BlocksAt zone.now start end }
     ensures first { IfSome result (λ c. (blocks : BlocksAt zone.now start end) → FirstToPurge zone.now.heap.table protected.now blocks.blocks start c) }
     ensures none { IfNone result ((blocks : BlocksAt zone.now start end) → AllStay (may_purge zone.now.heap.table protected.now) blocks.blocks) }
@@ -133,13 +133,13 @@ fn next_to_purge(zone: &GapZone, start: u32, end: u32, protected: &[u32]) -> Opt
 }
 
 /// Empties the handles that may be purged and have their blocks between two addresses. The blocks are free, and not joined.
-fn empty_between(zone: &mut SummedZone, start: u32, end: u32, protected: &[u32])
+fn empty_between(zone: &mut IndexedZone, start: u32, end: u32, protected: &[u32])
     requires blocks { BlocksAt zone.old start end }
     requires sound { SoundZone zone.old }
     ensures { (blocks : BlocksAt zone.old start end) → zone.new ≡ purged_between zone.old blocks protected.now }
 {
     let mut at = start;
-    while let Some(next) = next_to_purge(zone.gaps(), at, end, protected) {
+    while let Some(next) = next_to_purge(zone, at, end, protected) {
         zone.empty(next.handle);
         at = next.at + next.size;
     }
@@ -147,7 +147,7 @@ fn empty_between(zone: &mut SummedZone, start: u32, end: u32, protected: &[u32])
 
 /// Joins the free neighbours around the blocks between two addresses, beside which there are none. From each free block the walk
 /// goes on to the next one: of the blocks in use only those right behind a free one are read.
-fn join_around(zone: &mut SummedZone, start: u32, end: u32)
+fn join_around(zone: &mut IndexedZone, start: u32, end: u32)
     requires { ApartBeside zone.old start end }
     ensures { zone.new ≡ all_joined zone.old }
 {
@@ -181,14 +181,14 @@ fn is_free_pair(zone: &LinkedZone, at: u32) -> bool
 
 /// Purges the blocks between two addresses that may be purged: their handles become empty, and free neighbours are joined.
 /// Where there are none, no block is read to join it.
-fn purge_between(zone: &mut SummedZone, start: u32, end: u32, protected: &[u32])
+fn purge_between(zone: &mut IndexedZone, start: u32, end: u32, protected: &[u32])
     requires blocks { BlocksAt zone.old start end }
     requires sound { SoundZone zone.old }
     ensures zone { (blocks : BlocksAt zone.old start end) → zone.new ≡ with_heap (with_all_emptied (candidates_in zone.old.heap.table protected.now blocks.blocks) zone.old.heap) zone.old }
     ensures loans { KeepsLoans zone.old zone.new }
     ensures sound { SoundZone zone.new }
 {
-    let Some(first) = next_to_purge(zone.gaps(), start, end, protected) else {
+    let Some(first) = next_to_purge(zone, start, end, protected) else {
         return;
     };
     empty_between(zone, first.at, end, protected);
@@ -203,7 +203,7 @@ pub(crate) struct Stretch {
 }
 
 /// The gap of a block that may move, as far as it lies between two addresses.
-fn gap_around(zone: &GapZone, start: u32, end: u32, at: u32) -> Stretch
+fn gap_around(zone: &IndexedZone, start: u32, end: u32, at: u32) -> Stretch
     requires moves { MovesAt zone.now start end at }
     ensures { (moves : MovesAt zone.now start end at) → GapAround zone.now moves result }
 {
@@ -278,7 +278,7 @@ fn widened(limit: Limit, at: u32, end: u32, enough: bool) -> Limit
 /// How far to purge between two addresses so that a gap has room for `needed` bytes: as few blocks as serve, and all where
 /// none do. Only in a gap with a block that may be purged the bytes are counted.
 fn gap_limit(
-    zone: &GapZone,
+    zone: &IndexedZone,
     start: u32,
     end: u32,
     needed: u32,
@@ -323,7 +323,7 @@ fn zone_start(zone: &LinkedZone) -> u32
 }
 
 /// Purges all blocks that may be purged.
-pub(crate) fn purge_all(zone: &mut SummedZone)
+pub(crate) fn purge_all(zone: &mut IndexedZone)
     requires sound { SoundZone zone.old }
     ensures zone { zone.new ≡ with_heap (all_purged zone.old.heap) zone.old }
     ensures loans { KeepsLoans zone.old zone.new }
@@ -396,7 +396,7 @@ fn staying(zone: &LinkedZone, block: Option<u32>) -> Option<u32>
 
 /// How far to purge for a request: as few blocks as serve, and all where none do. A block that stays can use only the gap
 /// right behind it.
-fn limit_for(zone: &GapZone, request: Request, protected: &[u32]) -> Limit
+fn limit_for(zone: &IndexedZone, request: Request, protected: &[u32]) -> Limit
     requires sound { SoundZone zone.now }
     requires ready { CanAsk zone.now request }
     requires protects { IsTrue (is_protected protected.now request) }
@@ -415,7 +415,7 @@ fn limit_for(zone: &GapZone, request: Request, protected: &[u32]) -> Limit
 }
 
 /// How far to purge in the gap right behind a block that stays, so that the block can be made `needed` bytes long.
-fn limit_behind(zone: &GapZone, block: u32, needed: u32, protected: &[u32]) -> Limit
+fn limit_behind(zone: &IndexedZone, block: u32, needed: u32, protected: &[u32]) -> Limit
     requires sound { SoundZone zone.now }
     requires block { IsTrue (has_block zone.now.heap.table block) }
     requires stays { IsTrue (stays zone.now.heap.table block) }
@@ -434,7 +434,7 @@ fn limit_behind(zone: &GapZone, block: u32, needed: u32, protected: &[u32]) -> L
 
 /// Empties as few handles that may be purged as serve a request, in order of address, and all where none do. Gives whether
 /// the request fits then.
-pub(crate) fn purge_for(zone: &mut SummedZone, request: Request, protected: &[u32]) -> bool
+pub(crate) fn purge_for(zone: &mut IndexedZone, request: Request, protected: &[u32]) -> bool
     requires sound { SoundZone zone.old }
     requires ready { CanAsk zone.old request }
     requires protects { IsTrue (is_protected protected.now request) }
@@ -444,7 +444,7 @@ pub(crate) fn purge_for(zone: &mut SummedZone, request: Request, protected: &[u3
     ensures loans { KeepsLoans zone.old zone.new }
     ensures sound { SoundZone zone.new }
 {
-    let limit = limit_for(zone.gaps(), request, protected);
+    let limit = limit_for(zone, request, protected);
     purge_between(zone, limit.start, limit.end, protected);
     limit.enough
 }
@@ -491,7 +491,7 @@ fn run_up_to(zone: &LinkedZone, start: u32, at: u32, run: u32) -> u32
 
 /// How far to purge between two addresses so that `needed` bytes are free in one block: as few blocks as leave them, and all
 /// where none do.
-fn block_limit(zone: &GapZone, start: u32, end: u32, needed: u32, protected: &[u32]) -> Limit
+fn block_limit(zone: &IndexedZone, start: u32, end: u32, needed: u32, protected: &[u32]) -> Limit
     requires blocks { ShortBlocks zone.now start end needed }
     requires sound { SoundZone zone.now }
     ensures { (blocks : ShortBlocks zone.now start end needed) → IsLimit bounds_free (counts None) (may_purge zone.now.heap.table protected.now) needed blocks.at.blocks start result }
@@ -519,7 +519,7 @@ fn block_limit(zone: &GapZone, start: u32, end: u32, needed: u32, protected: &[u
 
 /// Empties as few handles that may be purged as leave `needed` free bytes in one block, in order of address, and all where
 /// none do. Gives whether there is such a block then.
-pub(crate) fn purge_to(zone: &mut SummedZone, needed: u32) -> bool
+pub(crate) fn purge_to(zone: &mut IndexedZone, needed: u32) -> bool
     requires sound { SoundZone zone.old }
     ensures zone { zone.new ≡ with_heap (purged_for needed zone.old.heap) zone.old }
     ensures enough { result ≡ nat_le needed (largest_free zone.new.heap.map) }
@@ -532,7 +532,7 @@ pub(crate) fn purge_to(zone: &mut SummedZone, needed: u32) -> bool
     }
     let start = zone_start(linked);
     let end = zone_end(linked);
-    let limit = block_limit(zone.gaps(), start, end, needed, &[]);
+    let limit = block_limit(zone, start, end, needed, &[]);
     purge_between(zone, limit.start, limit.end, &[]);
     limit.enough
 }

@@ -14,11 +14,11 @@ use crate::size::{gap_to_grow, grows_to};
 use crate::zone::{Zone, cut, empty};
 use mac_base::handle::Handle;
 use mac_base::size::need_for;
-use page_sums::SummedZone;
+use zone_index::IndexedZone;
 
 /// Gives a handle a new block of `length` bytes, all of them zero. The old block, if there is one, counts as free while
 /// room is looked for. Where there is none, nothing has changed: so the old block is released only once room is sure.
-pub(crate) fn replace(zone: &mut SummedZone, handle: Handle, length: u32) -> Result<(), Shortage>
+pub(crate) fn replace(zone: &mut IndexedZone, handle: Handle, length: u32) -> Result<(), Shortage>
     requires ready { CanAsk zone.old (Replace handle length) }
     requires sound { SoundZone zone.old }
     ensures attempt { MatchResult result (λ _. IsServed (Replace handle length) zone.old handle zone.new) (λ why. IsRefused (Replace handle length) zone.old why zone.new) }
@@ -39,7 +39,7 @@ pub(crate) fn replace(zone: &mut SummedZone, handle: Handle, length: u32) -> Res
 }
 
 /// Whether some gap has room for `needed` bytes, where the block of an unlocked handle counts as free, if it has one.
-fn has_room(zone: &mut SummedZone, needed: u32, handle: Handle) -> bool
+fn has_room(zone: &mut IndexedZone, needed: u32, handle: Handle) -> bool
     requires some { 0 < needed }
     requires sound { SoundZone zone.old }
     requires handle { CanCount zone.old (Some handle) }
@@ -54,7 +54,7 @@ fn has_room(zone: &mut SummedZone, needed: u32, handle: Handle) -> bool
     if !zone.linked().has_block(block) {
         return false;
     }
-    let gap = gap_to_grow(zone.gaps(), block);
+    let gap = gap_to_grow(zone, block);
     grows_to(zone, gap, block, needed)
 }
 

@@ -17,18 +17,18 @@ ghost use Rattle.zone_heap.specs.declared.shortage.Shortage.TheVariants.{NoRoom}
 use crate::place::open_lowest;
 use crate::shortage::Shortage;
 use crate::zone::{Zone, cut, free_behind, front, join, shrink};
-use gap_index::GapZone;
+use zone_index::IndexedZone;
 use linked_zone::LinkedZone;
 use mac_base::handle::{Handle, Ptr};
 use mac_base::size::need_for;
 use mac_base::zone_spec::{ADDRESS_END, LARGEST_LIMIT};
-use page_sums::SummedZone;
+use zone_index::IndexedZone;
 use zone_gaps::{FoundGap, gap_behind, open_after, own_gap, squeeze_up};
 
 /// Gives the block of a handle or a pointer `length` bytes: where it is; or else once the other blocks of the gap in which
 /// it can grow have made way for it; or else, if it may move, in a new place. Bytes that were in it stay, as far as they
 /// go, and those that are added are zero. Where it doesn't fit, nothing has changed.
-pub(crate) fn resize_block(zone: &mut SummedZone, block: u32, length: u32) -> Result<(), Shortage>
+pub(crate) fn resize_block(zone: &mut IndexedZone, block: u32, length: u32) -> Result<(), Shortage>
     requires ready { CanAsk zone.old (Resize block length) }
     requires sound { SoundZone zone.old }
     ensures attempt { MatchResult result (λ _. IsServed (Resize block length) zone.old block zone.new) (λ why. IsRefused (Resize block length) zone.old why zone.new) }
@@ -68,7 +68,7 @@ fn fits_there(zone: &LinkedZone, block: u32, length: u32) -> bool
 
 /// Gives a block `length` bytes where it is: its own, or with them those of the free block right behind it. What is over
 /// is free where it makes a block. Bytes that were in it stay, as far as they go, and those that are added are zero.
-fn resize_there(zone: &mut SummedZone, block: u32, length: u32)
+fn resize_there(zone: &mut IndexedZone, block: u32, length: u32)
     requires sound { SoundZone zone.old }
     requires block { IsTrue (has_block zone.old.heap.table block) }
     requires here { IsFalse (is_lent zone.old.heap.table block) }
@@ -95,7 +95,7 @@ fn resize_there(zone: &mut SummedZone, block: u32, length: u32)
 }
 
 /// The gap in which a block can grow without a new place.
-pub(crate) fn gap_to_grow(zone: &GapZone, block: u32) -> FoundGap
+pub(crate) fn gap_to_grow(zone: &IndexedZone, block: u32) -> FoundGap
     requires sound { SoundZone zone.now }
     requires block { IsTrue (has_block zone.now.heap.table block) }
     ensures { IsGapOf zone.now (gap_to_grow zone.now.heap.table block zone.now.heap.map) result }
@@ -108,7 +108,7 @@ pub(crate) fn gap_to_grow(zone: &GapZone, block: u32) -> FoundGap
 }
 
 /// Whether a block can be `needed` bytes long with the free bytes of the gap in which it can grow.
-pub(crate) fn grows_to(zone: &mut SummedZone, gap: FoundGap, block: u32, needed: u32) -> bool
+pub(crate) fn grows_to(zone: &mut IndexedZone, gap: FoundGap, block: u32, needed: u32) -> bool
     requires sound { SoundZone zone.old }
     requires block { IsTrue (has_block zone.old.heap.table block) }
     requires gap { IsGapOf zone.old (gap_to_grow zone.old.heap.table block zone.old.heap.map) gap }
@@ -125,7 +125,7 @@ pub(crate) fn grows_to(zone: &mut SummedZone, gap: FoundGap, block: u32, needed:
 
 /// Lets the other blocks of its gap make way for a block, so that the free bytes of the gap stand right behind it, where
 /// it can then have `length` bytes. Else nothing has changed.
-fn make_way(zone: &mut SummedZone, block: u32, length: u32) -> bool
+fn make_way(zone: &mut IndexedZone, block: u32, length: u32) -> bool
     requires sound { SoundZone zone.old }
     requires block { IsTrue (has_block zone.old.heap.table block) }
     requires size { length ≤ max_size }
@@ -134,7 +134,7 @@ fn make_way(zone: &mut SummedZone, block: u32, length: u32) -> bool
     ensures loans { KeepsLoans zone.old zone.new }
     ensures sound { SoundZone zone.new }
 {
-    let gap = gap_to_grow(zone.gaps(), block);
+    let gap = gap_to_grow(zone, block);
     let needed = need_for(zone.linked().spec().heads(), length);
     if !grows_to(zone, gap, block, needed) {
         return false;
@@ -149,7 +149,7 @@ fn make_way(zone: &mut SummedZone, block: u32, length: u32) -> bool
 
 /// Gives an unlocked handle's block `length` bytes in a new place. The old block is free then, and joined to its free
 /// neighbours. Where there is no place, nothing has changed.
-fn resize_elsewhere(zone: &mut SummedZone, handle: Handle, length: u32) -> Result<(), Shortage>
+fn resize_elsewhere(zone: &mut IndexedZone, handle: Handle, length: u32) -> Result<(), Shortage>
     requires sound { SoundZone zone.old }
     requires full { IsTrue (is_full zone.old.heap.table handle) }
     requires unlocked { IsFalse (is_locked zone.old.heap.table handle) }

@@ -6,7 +6,7 @@ use mac_base::error::HostFull;
 use mac_base::handle::{Handle, Ptr};
 use mac_base::size::{MASTER_LENGTH, ZONE_HEADER, need_for};
 use mac_base::zone_spec::{ADDRESS_END, ZoneSpec};
-use page_sums::SummedZone;
+use zone_index::IndexedZone;
 use raw_region::Lent;
 use std::alloc::Global;
 use std::marker::Model;
@@ -14,7 +14,7 @@ use std::marker::Model;
 /// A heap zone in raw bytes. Contracts see its shape and its heap: the handle table, the zone map and the free slots.
 /// All host memory is taken by `create`.
 pub struct Zone {
-    pub(crate) pointers: SummedZone,
+    pub(crate) pointers: IndexedZone,
 }
 
 impl Model for Zone {
@@ -66,7 +66,7 @@ impl Zone {
     pub fn create(alloc: Global, spec: ZoneSpec) -> Result<Zone, HostFull>
         ensures { IfOk result (λ zone. zone ≡ record { memory = zone.memory; shape = shape_of spec; heap = new_heap (shape_of spec) spec.size }) }
     {
-        let mut pointers = SummedZone::create(alloc, spec)?;
+        let mut pointers = IndexedZone::create(alloc, spec)?;
         let first = spec.base() + ZONE_HEADER;
         pointers.split(first, need_for(spec.heads(), MASTER_LENGTH));
         pointers.build_master(first);
@@ -294,7 +294,7 @@ ghost use Rattle.zone_heap.specs.Placed.{resized_there};
 ghost use Rattle.zone_heap.specs.Joins.{CanTake, NewlyFree, with_front, all_joined};
 
 /// Cuts a free block to its first `size` bytes, unless fewer bytes than a block has would be left.
-pub(crate) fn cut(pointers: &mut SummedZone, at: u32, size: u32)
+pub(crate) fn cut(pointers: &mut IndexedZone, at: u32, size: u32)
     requires { CanTake pointers.old at size }
     ensures { (take : CanTake pointers.old at size) → pointers.new ≡ with_front pointers.old take }
 {
@@ -307,7 +307,7 @@ pub(crate) fn cut(pointers: &mut SummedZone, at: u32, size: u32)
 }
 
 /// Joins a free block to its free neighbours, where no two other free blocks are neighbours.
-pub(crate) fn join(pointers: &mut SummedZone, at: u32)
+pub(crate) fn join(pointers: &mut IndexedZone, at: u32)
     requires { NewlyFree pointers.old at }
     ensures { pointers.new ≡ all_joined pointers.old }
 {
@@ -326,7 +326,7 @@ pub(crate) fn join(pointers: &mut SummedZone, at: u32)
 }
 
 /// Empties a live handle: its block, if it has one, is free and joined to its free neighbours, and its slot stays its own.
-pub(crate) fn empty(pointers: &mut SummedZone, handle: Handle)
+pub(crate) fn empty(pointers: &mut IndexedZone, handle: Handle)
     requires sound { SoundZone pointers.old }
     requires live { IsTrue (is_handle pointers.old.heap.table handle) }
     requires here { IsFalse (is_lent pointers.old.heap.table handle) }
@@ -372,7 +372,7 @@ pub(crate) fn front(pointers: &LinkedZone, whole: u32, needed: u32) -> u32
 
 /// Gives the owner of a block `length` bytes, which need `needed` bytes of the block. What is over is free where it makes
 /// a block, and joined to the free block behind it.
-pub(crate) fn shrink(pointers: &mut SummedZone, block: u32, needed: u32, length: u32)
+pub(crate) fn shrink(pointers: &mut IndexedZone, block: u32, needed: u32, length: u32)
     requires sound { Sound pointers.old.shape pointers.old.heap }
     requires block { IsTrue (has_block pointers.old.heap.table block) }
     requires here { IsFalse (is_lent pointers.old.heap.table block) }

@@ -16,11 +16,11 @@ own c = owned c.args.zone.now c.args.handle c.block_of-at.result c.requires.sett
 
 -- where it begins
 start_is : (c : After-gap_start-start) → let o = own (goal.at.After-gap_start-start c).After-block_of-at in c.gap_start-start.result + total_size (o.place).front ≡ c.block_of-at.result
-start_is c = let o = own (goal.at.After-gap_start-start c).After-block_of-at in (rw c.gaps.ensures at c.gap_start-start.ensures) (front_owned c.args.zone.now c.args.handle c.block_of-at.result o)
+start_is c = let o = own (goal.at.After-gap_start-start c).After-block_of-at in c.gap_start-start.ensures (front_owned c.args.zone.now c.args.handle c.block_of-at.result o)
 
 -- and ends
 end_is : (c : After-gap_end-end) → let o = own (goal.at.After-gap_end-end c).After-block_of-at in c.gap_end-end.result ≡ c.block_of-at.result + (o.size + total_size (o.place).back)
-end_is c = let o = own (goal.at.After-gap_end-end c).After-block_of-at in (rw c.gaps-2.ensures at c.gap_end-end.ensures) (rest_owned c.args.zone.now c.args.handle c.block_of-at.result o)
+end_is c = let o = own (goal.at.After-gap_end-end c).After-block_of-at in c.gap_end-end.ensures (rest_owned c.args.zone.now c.args.handle c.block_of-at.result o)
 
 -- where the block ends
 middle_is : (c : After-entry_at) → let o = own (goal.at.After-entry_at c).After-block_of-at in c.block_of-at.result + c.entry_at.result.size ≡ c.block_of-at.result + o.size
@@ -31,12 +31,12 @@ middle_is c =
 pub gap_start-start-requires : goal.gap_start-start-requires
 gap_start-start-requires c =
     let o = own (goal.at.gap_start-start-requires c).After-block_of-at in
-    record { front = rw c.gaps.ensures (front_owned c.args.zone.now c.args.handle c.block_of-at.result o) }
+    record { front = (front_owned c.args.zone.now c.args.handle c.block_of-at.result o) }
 
 pub gap_end-end-requires : goal.gap_end-end-requires
 gap_end-end-requires c =
     let o = own (goal.at.gap_end-end-requires c).After-block_of-at in
-    record { rest = rw c.gaps-2.ensures (rest_owned c.args.zone.now c.args.handle c.block_of-at.result o) }
+    record { rest = (rest_owned c.args.zone.now c.args.handle c.block_of-at.result o) }
 
 pub entry_at-requires : goal.entry_at-requires
 entry_at-requires c = rw c.linked-2.ensures (entry_owned c.args.zone.now c.args.handle c.block_of-at.result (own (goal.at.entry_at-requires c).After-block_of-at))

@@ -14,7 +14,7 @@ use Rattle.zone_gaps.proofs.arrange.press_all_down.Goals.{After-gap_end-end, Aft
 
 -- where the gap ends
 long : (c : After-gap_end-end) → c.gap_end-end.result ≡ c.loop-at.at + total_size (gap_swept c.args.zone.now c.loop-at.zone c.loop-at.at c.requires c.loop-at.invariant).blocks
-long c = (rw c.gaps.ensures at c.gap_end-end.ensures) (rest_swept c.args.zone.now c.loop-at.zone c.loop-at.at c.requires c.loop-at.invariant)
+long c = c.gap_end-end.ensures (rest_swept c.args.zone.now c.loop-at.zone c.loop-at.at c.requires c.loop-at.invariant)
 
 -- it is pressed down
 done : (c : After-press_down) → let g = (goal.at.After-press_down c).After-gap_end-end in
@@ -31,7 +31,7 @@ pub gap_end-end-requires : goal.gap_end-end-requires
 gap_end-end-requires c =
     let z = c.args.zone.now in
     let l = c.loop-at in
-    record { rest = rw c.gaps.ensures (rest_swept z l.zone l.at c.requires l.invariant) }
+    record { rest = (rest_swept z l.zone l.at c.requires l.invariant) }
 
 pub press_down-requires : goal.press_down-requires
 press_down-requires c =

@@ -16,7 +16,7 @@ use Rattle.zone_gaps.proofs.arrange.squeeze_around.Goals.{After-press_down, Afte
 abbrev run : (c : After-gap_end-end) → AroundAt c.args.zone.now c.args.at → RunAt c.args.zone.now c.gap_start-start.result c.gap_end-end.result
 run c a =
     let z = c.args.zone.now in
-    run_around z c.args.at a c.gap_start-start.result c.gap_end-end.result c.requires.settled ((rw c.gaps.ensures at c.gap_start-start.ensures) (front_around z c.args.at a)) ((rw c.gaps-2.ensures at c.gap_end-end.ensures) (rest_around z c.args.at a))
+    run_around z c.args.at a c.gap_start-start.result c.gap_end-end.result c.requires.settled (c.gap_start-start.ensures (front_around z c.args.at a)) (c.gap_end-end.ensures (rest_around z c.args.at a))
 
 -- which is arranged down
 gap_is : (c : After-press_down) (a : AroundAt c.args.zone.now c.args.at) → c.press_down.new.zone ≡ with_gap c.args.zone.now (gap_around c.args.zone.now c.args.at a) (down (a.lower ++ a.upper))
@@ -25,10 +25,10 @@ gap_is c a =
     c.press_down.ensures.zone (run (goal.at.After-press_down c).After-gap_end-end a) ∙ ap (λ m. with_map m z) (sym (append_assoc a.before (down (a.lower ++ a.upper)) a.behind))
 
 pub gap_start-start-requires : goal.gap_start-start-requires
-gap_start-start-requires c = record { front = rw c.gaps.ensures (front_around c.args.zone.now c.args.at c.requires.around) }
+gap_start-start-requires c = record { front = (front_around c.args.zone.now c.args.at c.requires.around) }
 
 pub gap_end-end-requires : goal.gap_end-end-requires
-gap_end-end-requires c = record { rest = rw c.gaps-2.ensures (rest_around c.args.zone.now c.args.at c.requires.around) }
+gap_end-end-requires c = record { rest = (rest_around c.args.zone.now c.args.at c.requires.around) }
 
 pub press_down-requires : goal.press_down-requires
 press_down-requires c = record { run = run (goal.at.press_down-requires c).After-gap_end-end c.requires.around; sizes = (c.requires.settled).sizes }

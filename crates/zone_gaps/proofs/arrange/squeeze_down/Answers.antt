@@ -14,23 +14,23 @@ use Rattle.zone_gaps.proofs.arrange.squeeze_down.Goals.{After-press_down}
 
 -- the run from the first free block on
 abbrev run : (c : After-press_down) (from : GapFrom c.args.zone.now c.args.at) → RunAt c.args.zone.now c.args.at c.gap_end-end.result
-run c from = run_of_rest c.args.zone.now c.args.at c.gap_end-end.result c.requires.settled (rest_from c.args.zone.now c.args.at from) ((rw c.gaps.ensures at c.gap_end-end.ensures) (rest_from c.args.zone.now c.args.at from))
+run c from = run_of_rest c.args.zone.now c.args.at c.gap_end-end.result c.requires.settled (rest_from c.args.zone.now c.args.at from) (c.gap_end-end.ensures (rest_from c.args.zone.now c.args.at from))
 
 zone_is : (c : After-press_down) (from : GapFrom c.args.zone.now c.args.at) → c.press_down.new.zone ≡ with_gap c.args.zone.now from.gap (down from.gap.blocks)
 zone_is c from =
     let z = c.args.zone.now in
-    zone_from z c.args.at from c.gap_end-end.result c.requires.settled ((rw c.gaps.ensures at c.gap_end-end.ensures) (rest_from z c.args.at from)) c.press_down.new.zone (c.press_down.ensures.zone (run c from))
+    zone_from z c.args.at from c.gap_end-end.result c.requires.settled (c.gap_end-end.ensures (rest_from z c.args.at from)) c.press_down.new.zone (c.press_down.ensures.zone (run c from))
 
 pub gap_end-end-requires : goal.gap_end-end-requires
 gap_end-end-requires c =
     let z = c.args.zone.now in
-    record { rest = rw c.gaps.ensures (rest_from z c.args.at c.requires.gap) }
+    record { rest = (rest_from z c.args.at c.requires.gap) }
 
 pub press_down-requires : goal.press_down-requires
 press_down-requires c =
     let z = c.args.zone.now in
     let rest = rest_from z c.args.at c.requires.gap in
-    record { run = run_of_rest z c.args.at c.gap_end-end.result c.requires.settled rest ((rw c.gaps.ensures at c.gap_end-end.ensures) rest); sizes = (c.requires.settled).sizes }
+    record { run = run_of_rest z c.args.at c.gap_end-end.result c.requires.settled rest (c.gap_end-end.ensures rest); sizes = (c.requires.settled).sizes }
 
 pub returns-clause-zone : goal.returns-clause-zone
 returns-clause-zone c from = zone_is c from

@@ -1,7 +1,7 @@
 use Rattle.std.proofs.Common.{◌≡◌, ◌+◌, ◌∙◌, ap, arith}
 use Rattle.mac_base.specs.declared.block.Entry.{Entry}
 use Rattle.mac_base.specs.Gap.{ends_with}
-use Rattle.page_sums.proofs.Entries.{entry_within}
+use Rattle.zone_index.proofs.Entries.{entry_within}
 use Rattle.zone_gaps.proofs.Rooms.{Beside, beside, entry_beside, place-beside, rest_beside, gap_found}
 use Rattle.zone_gaps.proofs.room.gap_behind.Goals as goal
 use Rattle.zone_gaps.proofs.room.gap_behind.Goals.{After-place_of-at, After-entry_at}

@@ -1,6 +1,6 @@
 use Rattle.std.proofs.Common.{arith}
 use Rattle.zone_gaps.specs.Runs.{RunAt, UsedFrom}
-use Rattle.page_sums.proofs.Entries.{entry_size}
+use Rattle.zone_index.proofs.Entries.{entry_size}
 use Rattle.zone_gaps.proofs.Lifting.{Under, none_lifted, first_lifted, all_lifted, entry_low, run_low, sizes_low, parcel_low, loose_parcel, sunk_low, under, pair_under, joined_under, not_first}
 use Rattle.zone_gaps.proofs.run.press_up.Goals as goal
 use Rattle.zone_gaps.proofs.run.press_up.Goals.{After-used_start-bottom, In-Some-before}

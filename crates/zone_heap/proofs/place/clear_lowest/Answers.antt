@@ -8,21 +8,21 @@ use Rattle.zone_heap.proofs.place.clear_lowest.Goals as goal
 use Rattle.zone_heap.proofs.place.clear_lowest.Goals.{After-gap_end-end, Then-start-at, then-start-at-via-then-start-at, then-start-at-via-else-start-at+then-entry_at-needed}
 
 pub gap_start-start-requires : goal.gap_start-start-requires
-gap_start-start-requires c = record { front = rw (c.gaps.ensures ∙ c.in_ok-at.ensures.zone) (front_from c.args.zone.now c.in_ok-at.at (gap_from c.args.zone.now c.args.needed c.in_ok-at.at c.in_ok-at.ensures.found)) }
+gap_start-start-requires c = record { front = rw c.in_ok-at.ensures.zone (front_from c.args.zone.now c.in_ok-at.at (gap_from c.args.zone.now c.args.needed c.in_ok-at.at c.in_ok-at.ensures.found)) }
 
 pub entry_at-requires : goal.entry_at-requires
 entry_at-requires c = rw (c.linked.ensures ∙ c.in_ok-at.ensures.zone) (entry_first c.args.zone.now c.args.needed c.in_ok-at.at c.requires.some c.in_ok-at.ensures.found)
 
 pub gap_end-end-requires : goal.gap_end-end-requires
-gap_end-end-requires c = record { rest = rw (c.gaps-then-start-at.ensures ∙ c.in_ok-at.ensures.zone) (rest_from c.args.zone.now c.in_ok-at.at (gap_from c.args.zone.now c.args.needed c.in_ok-at.at c.in_ok-at.ensures.found)) }
+gap_end-end-requires c = record { rest = rw c.in_ok-at.ensures.zone (rest_from c.args.zone.now c.in_ok-at.at (gap_from c.args.zone.now c.args.needed c.in_ok-at.at c.in_ok-at.ensures.found)) }
 
 -- the gap ends there
 abbrev gap_between : (c : After-gap_end-end) → GapBetween c.args.zone.now c.gap_start-start.result c.gap_end-end.result
 gap_between c =
     let z = c.args.zone.now in
     let from = gap_from z c.args.needed c.in_ok-at.at c.in_ok-at.ensures.found in
-    between z c.args.needed c.in_ok-at.at c.requires.some c.in_ok-at.ensures.found c.gap_start-start.result ((rw (c.gaps.ensures ∙ c.in_ok-at.ensures.zone) at c.gap_start-start.ensures) (front_from z c.in_ok-at.at from))
-    c.gap_end-end.result ((rw (c.gaps-then-start-at.ensures ∙ c.in_ok-at.ensures.zone) at c.gap_end-end.ensures) (rest_from z c.in_ok-at.at from))
+    between z c.args.needed c.in_ok-at.at c.requires.some c.in_ok-at.ensures.found c.gap_start-start.result ((rw c.in_ok-at.ensures.zone at c.gap_start-start.ensures) (front_from z c.in_ok-at.at from))
+    c.gap_end-end.result ((rw c.in_ok-at.ensures.zone at c.gap_end-end.ensures) (rest_from z c.in_ok-at.at from))
 
 pub squeeze_up-requires-clause-gap : goal.squeeze_up-requires-clause-gap
 squeeze_up-requires-clause-gap c = rw c.in_ok-at.ensures.zone (gap_between (goal.at.squeeze_up-requires-clause-gap c).After-gap_end-end)
@@ -34,7 +34,7 @@ returns-then-start-at-clause-room c =
     let at = c.in_ok-at.at in
     let is = c.in_ok-at.ensures.found in
     let start = c.gap_start-start.result in
-    let there = (rw (c.gaps.ensures ∙ c.in_ok-at.ensures.zone) at c.gap_start-start.ensures) (front_from z at (gap_from z k at is)) in
+    let there = (rw c.in_ok-at.ensures.zone at c.gap_start-start.ensures) (front_from z at (gap_from z k at is)) in
     let begins : begins_free k is.gap.blocks ≡ false = elim c.then-start-at.branch [
       | then-start-at-via-then-start-at w ↦ begins_used z k at c.requires.some is start there w.if-start-at.true
       | then-start-at-via-else-start-at+then-entry_at-needed w ↦ begins_few z k at c.requires.some is start there c.requires.sound.sound.suits.sizes w.if-start-at.false
@@ -56,7 +56,7 @@ returns-else-entry_at-needed-clause-room c =
     let k = c.args.needed in
     let at = c.in_ok-at.at in
     let is = c.in_ok-at.ensures.found in
-    let there = (rw (c.gaps.ensures ∙ c.in_ok-at.ensures.zone) at c.gap_start-start.ensures) (front_from z at (gap_from z k at is)) in
+    let there = (rw c.in_ok-at.ensures.zone at c.gap_start-start.ensures) (front_from z at (gap_from z k at is)) in
     rw c.in_ok-at.ensures.zone
     (cleared_there z k at c.requires.some is c.gap_start-start.result there
     (begins_enough z k at c.requires.some is c.gap_start-start.result there c.requires.sound.sound.suits.sizes c.if-start-at.false c.entry_at.result ((rw (c.linked.ensures ∙ c.in_ok-at.ensures.zone) at c.entry_at.ensures) (entry_first z k at c.requires.some is)) c.if-entry_at-needed.false))

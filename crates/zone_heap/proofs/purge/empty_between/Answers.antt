@@ -9,7 +9,7 @@ use Rattle.zone_heap.proofs.purge.empty_between.Goals.{In-Some}
 -- the next one that may be purged
 abbrev found : (c : In-Some) (blocks : BlocksAt c.args.zone.now c.args.start c.args.end)
     → FirstToPurge c.loop-next.zone.heap.table c.args.protected.now (c.loop-next.invariant blocks).more c.loop-next.at c.in-Some.next
-found c blocks = (rw c.gaps.ensures at c.in-Some.ensures.first) (blocks_left c.args.zone.now blocks c.args.protected.now c.loop-next.zone c.loop-next.at (c.loop-next.invariant blocks))
+found c blocks = c.in-Some.ensures.first (blocks_left c.args.zone.now blocks c.args.protected.now c.loop-next.zone c.loop-next.at (c.loop-next.invariant blocks))
 
 abbrev coming : (c : In-Some) (blocks : BlocksAt c.args.zone.now c.args.start c.args.end) → Coming c.args.zone.now blocks c.args.protected.now c.loop-next.zone c.in-Some.next.at
 coming c blocks = coming_first c.args.zone.now blocks c.args.protected.now c.loop-next.zone c.requires.sound c.loop-next.at (c.loop-next.invariant blocks) c.in-Some.next (found c blocks)
@@ -18,7 +18,7 @@ pub loop-next-init : goal.loop-next-init
 loop-next-init c blocks = none_emptied c.args.zone.now blocks c.args.protected.now
 
 pub next_to_purge-requires : goal.next_to_purge-requires
-next_to_purge-requires c = record { blocks = rw c.gaps.ensures (blocks_left c.args.zone.now c.requires.blocks c.args.protected.now c.loop-next.zone c.loop-next.at (c.loop-next.invariant c.requires.blocks)) }
+next_to_purge-requires c = record { blocks = (blocks_left c.args.zone.now c.requires.blocks c.args.protected.now c.loop-next.zone c.loop-next.at (c.loop-next.invariant c.requires.blocks)) }
 
 pub empty-requires-clause-full : goal.empty-requires-clause-full
 empty-requires-clause-full c =
@@ -64,4 +64,4 @@ returns c blocks =
     let z = c.args.zone.now in
     let p = c.args.protected.now in
     let l = c.loop-next in
-    emptied_all z blocks p l.zone c.requires.sound l.at (l.invariant blocks) ((rw c.gaps.ensures at c.in_default.ensures.none) (blocks_left z blocks p l.zone l.at (l.invariant blocks)))
+    emptied_all z blocks p l.zone c.requires.sound l.at (l.invariant blocks) (c.in_default.ensures.none (blocks_left z blocks p l.zone l.at (l.invariant blocks)))

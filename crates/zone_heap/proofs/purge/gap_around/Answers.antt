@@ -1,4 +1,4 @@
-use Rattle.gap_index.proofs.Fronts.{front_split, rest_split}
+use Rattle.zone_index.proofs.Fronts.{front_split, rest_split}
 use Rattle.zone_heap.proofs.Gaps.{gap-around, split_moves}
 use Rattle.zone_heap.proofs.purge.gap_around.Goals as goal
 

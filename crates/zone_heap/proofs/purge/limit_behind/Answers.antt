@@ -1,7 +1,7 @@
 use Rattle.std.proofs.Common.{◌≡◌, ◌+◌, ◌-◌, ◌≤◌, ◌∙◌, sym, ap, subst, arith, None}
 use Rattle.mac_base.specs.declared.block.Entry.{Entry}
 use Rattle.mac_base.specs.ZoneMap.{total_size}
-use Rattle.page_sums.proofs.Entries.{entry_within}
+use Rattle.zone_index.proofs.Entries.{entry_within}
 use Rattle.zone_heap.specs.Purge.{IsLimit, ShortGaps, bounds_gap, counts, may_purge, run_has}
 use Rattle.zone_heap.proofs.Behind.{blocks_here, gap_here, none_here, purges_here, rest_here, smaller_here}
 use Rattle.zone_heap.proofs.Sizing.{entry_named}

@@ -1,5 +1,5 @@
 use Rattle.std.proofs.Common.{◌<◌, sym, arith}
-use Rattle.fixed_index.specs.Purging.{FirstPurgeable}
+use Rattle.zone_index.specs.Purging.{FirstPurgeable}
 use Rattle.zone_heap.specs.Purge.{BlocksAt}
 use Rattle.zone_heap.proofs.Candidates.{Passed, facing_next, none_passed, owner_passed, passed_behind, passed_found, passed_last, passed_on, passed_over, split_passed}
 use Rattle.zone_heap.proofs.EmptyingBlocks.{purged-handle, purged-none}

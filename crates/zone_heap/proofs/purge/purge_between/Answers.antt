@@ -18,11 +18,11 @@ use Rattle.zone_heap.proofs.purge.purge_between.Goals.{In-Some, After-join_aroun
 pub returns-in_default-clause-zone : goal.returns-in_default-clause-zone
 returns-in_default-clause-zone c blocks =
     let z = c.args.zone.now in
-    ap (λ hs. with_heap (with_all_emptied hs z.heap) z) (sym (none-candidates z.heap.table c.args.protected.now blocks.blocks ((rw c.gaps.ensures at c.in_default.ensures.none) blocks)))
+    ap (λ hs. with_heap (with_all_emptied hs z.heap) z) (sym (none-candidates z.heap.table c.args.protected.now blocks.blocks (c.in_default.ensures.none blocks)))
 
 -- else those from the first on
 abbrev from : (c : In-Some) → BlocksAt c.args.zone.now c.args.start c.args.end → BlocksAt c.args.zone.now c.in-Some.first.at c.args.end
-from c blocks = blocks_first c.args.zone.now blocks c.args.protected.now c.in-Some.first ((rw c.gaps.ensures at c.in-Some.ensures.first) blocks)
+from c blocks = blocks_first c.args.zone.now blocks c.args.protected.now c.in-Some.first (c.in-Some.ensures.first blocks)
 
 pub empty_between-requires-clause-blocks : goal.empty_between-requires-clause-blocks
 empty_between-requires-clause-blocks c = from (goal.at.empty_between-requires-clause-blocks c).In-Some c.requires.blocks
@@ -42,7 +42,7 @@ returns-clause-zone c blocks =
     let z = c.args.zone.now in
     let p = c.args.protected.now in
     after (goal.at.returns-clause-zone c).After-join_around (from (goal.at.returns-clause-zone c).In-Some blocks)
-    ∙ ap (λ hs. with_heap (with_all_emptied hs z.heap) z) (first-candidates z.heap.table p blocks.blocks c.args.start c.in-Some.first ((rw c.gaps.ensures at c.in-Some.ensures.first) blocks))
+    ∙ ap (λ hs. with_heap (with_all_emptied hs z.heap) z) (first-candidates z.heap.table p blocks.blocks c.args.start c.in-Some.first (c.in-Some.ensures.first blocks))
 
 pub returns-clause-loans : goal.returns-clause-loans
 returns-clause-loans c =

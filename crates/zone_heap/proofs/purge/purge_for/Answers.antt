@@ -10,7 +10,7 @@ use Rattle.zone_heap.proofs.purge.purge_for.Goals.{After-limit_for-limit}
 
 -- what is purged
 abbrev limit : (c : After-limit_for-limit) → PurgesFor c.args.zone.now c.args.protected.now c.args.request c.limit_for-limit.result
-limit c = rw c.gaps.ensures at c.limit_for-limit.ensures
+limit c = c.limit_for-limit.ensures
 
 pub purge_between-requires-clause-blocks : goal.purge_between-requires-clause-blocks
 purge_between-requires-clause-blocks c = (limit (goal.at.purge_between-requires-clause-blocks c).After-limit_for-limit).between

@@ -24,7 +24,7 @@ short c =
     }
 
 pub block_limit-limit-requires-clause-blocks : goal.block_limit-limit-requires-clause-blocks
-block_limit-limit-requires-clause-blocks c = rw c.gaps.ensures (short (goal.at.block_limit-limit-requires-clause-blocks c).After-zone_end-end)
+block_limit-limit-requires-clause-blocks c = (short (goal.at.block_limit-limit-requires-clause-blocks c).After-zone_end-end)
 
 -- what is purged
 purges : (c : After-block_limit-limit) → ((short : ShortBlocks c.args.zone.now c.zone_start-start.result c.zone_end-end.result c.args.needed) → IsLimit bounds_free (counts None) (may_purge c.args.zone.now.heap.table []) c.args.needed short.at.blocks c.zone_start-start.result c.block_limit-limit.result)
@@ -37,13 +37,13 @@ pub purge_between-requires-clause-blocks : goal.purge_between-requires-clause-bl
 purge_between-requires-clause-blocks c =
     let v = (goal.at.purge_between-requires-clause-blocks c).After-block_limit-limit in
     let w = short (goal.at.purge_between-requires-clause-blocks c).After-zone_end-end in
-    (purges v (rw c.gaps.ensures at c.block_limit-limit.ensures) w refl).between
+    (purges v c.block_limit-limit.ensures w refl).between
 
 pub returns-clause-zone : goal.returns-clause-zone
 returns-clause-zone c =
     let z = c.args.zone.now in
     let v = (goal.at.returns-clause-zone c).After-block_limit-limit in
-    let p = purges v (rw c.gaps.ensures at c.block_limit-limit.ensures) (short (goal.at.returns-clause-zone c).After-zone_end-end) refl in
+    let p = purges v c.block_limit-limit.ensures (short (goal.at.returns-clause-zone c).After-zone_end-end) refl in
     c.purge_between.ensures.zone p.between ∙ ap (λ hs. with_heap (with_all_emptied hs z.heap) z) p.these
 
 pub returns-clause-enough : goal.returns-clause-enough
@@ -51,7 +51,7 @@ returns-clause-enough c =
     let z = c.args.zone.now in
     let k = c.args.needed in
     let v = (goal.at.returns-clause-enough c).After-block_limit-limit in
-    let p = purges v (rw c.gaps.ensures at c.block_limit-limit.ensures) (short (goal.at.returns-clause-enough c).After-zone_end-end) refl in
+    let p = purges v c.block_limit-limit.ensures (short (goal.at.returns-clause-enough c).After-zone_end-end) refl in
     let hs = candidates_in z.heap.table [] p.between.blocks in
     p.enough ∙ ap (λ hs. nat_le k (largest_free (all_released hs z.heap.map))) (sym p.these)
     ∙ sym (ap (λ (w : ZoneState). nat_le k (largest_free w.heap.map)) (c.purge_between.ensures.zone p.between ∙ ap (λ heap. with_heap heap z) (emptied-parts hs z.heap)))

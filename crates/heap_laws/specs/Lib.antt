@@ -1,5 +1,0 @@
-pub mod Act
-pub mod LastPut
-pub mod LastSet
-pub mod Course
-pub mod Headline

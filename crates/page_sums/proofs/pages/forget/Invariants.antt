@@ -1,9 +1,0 @@
-use Rattle.std.proofs.Common.{◌+◌, ◌-◌}
-use Rattle.page_sums.proofs.Forgetting.{Forgotten}
-use Rattle.page_sums.proofs.pages.forget.Given as goal
-
-abbrev pub invariant-loop-page : goal.invariant-loop-page
-invariant-loop-page l = Forgotten l.fn.pages l.pages l.first l.page
-
-abbrev pub decreases-loop-page : goal.decreases-loop-page
-decreases-loop-page l = l.last + 1 - l.page

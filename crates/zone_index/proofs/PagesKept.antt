@@ -1,0 +1,40 @@
+-- Pages that are forgotten before a zone changes.
+use Rattle.std.proofs.Common.{◌≡◌, ℕ, ◌+◌, List, ◌∷◌, ◌++◌, length, Option, IsTrue, ap, sym, ◌∙◌, subst, arith}
+use Rattle.std.specs.Vec.{with_items}
+use Rattle.std.proofs.lemmas.List.{with_items_is}
+use Rattle.std.specs.declared.vec.Vec.{Vec}
+use Rattle.mac_base.specs.declared.block.Entry.{Entry}
+use Rattle.mac_base.specs.ZoneMap.{ZoneMap, is_named, total_size, address_behind}
+use Rattle.mac_base.specs.ZoneState.{ZoneState}
+use Rattle.linked_zone.specs.Fit.{Fits}
+use Rattle.linked_zone.specs.Places.{NamedAt}
+use Rattle.zone_index.proofs.Named.{names-one, same-place}
+use Rattle.zone_index.specs.declared.sums.Sums.{Sums}
+use Rattle.zone_index.specs.Pages.{ArePages, Forgets, page}
+use Rattle.zone_laws.proofs.Maps.{total_size-append}
+
+-- the blocks behind a part end where the zone does
+pub part-ends : (z : ZoneState) (front rest : ZoneMap) → z.heap.map ≡ front ++ rest → address_behind z.shape front + total_size rest ≡ address_behind z.shape z.heap.map
+part-ends z front rest map = let all = ap total_size map ∙ total_size-append front rest in omega arith
+
+-- what is forgotten are the pages of the addresses, as the zone was
+pub forgets-read : {z l : ZoneState} {items slice new : List (Option Sums)} {first last : ℕ} (from to : ℕ) → z ≡ l → slice ≡ items → first ≡ page l.shape from → last ≡ page l.shape to
+    → Forgets slice new first last → Forgets items new (page z.shape from) (page z.shape to)
+forgets-read {z = z} {slice = slice} {new = new} {first = first} {last = last} from to same slice_is first_is last_is f =
+    let start = first_is ∙ ap (λ (z : ZoneState). page z.shape from) (sym same) in
+    let end = last_is ∙ ap (λ (z : ZoneState). page z.shape to) (sym same) in
+    subst (λ items. Forgets items new (page z.shape from) (page z.shape to)) slice_is
+    (subst (λ n. Forgets slice new n (page z.shape to)) start (subst (λ n. Forgets slice new first n) end f))
+
+-- they are written back, and the zone is what the change makes of it
+pub pages-kept : {A : Type 0} {z changed : ZoneState} (v : Vec (Option Sums) A) (new : List (Option Sums)) → length new ≡ v.len → z ≡ changed → ArePages changed new → ArePages z (with_items v new).items
+pages-kept {z = z} {changed = changed} v new long is pages = subst (λ (z : ZoneState). ArePages z (with_items v new).items) (sym is) (subst (ArePages changed) (sym (with_items_is v new long)) pages)
+
+-- the block that a number names stands at one place
+pub named-place : (z : ZoneState) (x at : ℕ) → Fits z → NamedAt z x at → (before : ZoneMap) (here : Entry) (behind : ZoneMap) → z.heap.map ≡ before ++ here ∷ behind → IsTrue (is_named x here.kind) → at ≡ address_behind z.shape before
+named-place z x at fits b before here behind map named =
+    let mine = names-one z x b.before b.here b.behind fits b.map b.named in
+    let one = names-one z x before here behind fits map named in
+    let same = same-place x b.before b.here b.behind before here behind (sym b.map ∙ map) b.named named mine.front one.front in
+    let place = b.place in
+    omega arith

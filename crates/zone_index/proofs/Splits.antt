@@ -1,0 +1,46 @@
+-- A map in parts: where the gap of an address begins and ends.
+use Rattle.std.proofs.Common.{◌≡◌, Bool, true, false, not, [], ◌∷◌, ◌++◌, refl, ap}
+use Rattle.std.proofs.lemmas.Bool.{and_from}
+use Rattle.mac_base.specs.declared.block.Entry.{Entry}
+use Rattle.mac_base.specs.HandleTable.{HandleTable}
+use Rattle.mac_base.specs.Gap.{is_fixed}
+use Rattle.mac_base.specs.ZoneMap.{ZoneMap}
+use Rattle.zone_index.specs.Runs.{none_fixed, begins_fixed, ends_fixed}
+
+-- the blocks up to the first fixed one, and the others
+pub record FirstRun (t : HandleTable) (m : ZoneMap) : Type 0 where
+  pub blocks : ZoneMap
+  pub behind : ZoneMap
+  pub parts : m ≡ blocks ++ behind
+  pub moves : none_fixed t blocks ≡ true
+  pub above : begins_fixed t behind ≡ true
+
+-- with one more block in front
+longer_run : (t : HandleTable) (e : Entry) (es : ZoneMap) → FirstRun t es → (b : Bool) → is_fixed t e.kind ≡ b → FirstRun t (e ∷ es)
+longer_run t e es rest true fixed = record { blocks = []; behind = e ∷ es; parts = refl; moves = refl; above = fixed }
+longer_run t e es rest false moves = record { blocks = e ∷ rest.blocks; behind = rest.behind; parts = ap (λ m. e ∷ m) rest.parts; moves = and_from _ _ (ap not moves) rest.moves; above = rest.above }
+
+pub first_run : (t : HandleTable) (m : ZoneMap) → FirstRun t m
+first_run t [] = record { blocks = []; behind = []; parts = refl; moves = refl; above = refl }
+first_run t (e ∷ es) = longer_run t e es (first_run t es) (is_fixed t e.kind) refl
+
+-- the blocks up to the last fixed one, and the others
+pub record LastRun (t : HandleTable) (m : ZoneMap) : Type 0 where
+  pub before : ZoneMap
+  pub blocks : ZoneMap
+  pub parts : m ≡ before ++ blocks
+  pub below : ends_fixed t before ≡ true
+  pub moves : none_fixed t blocks ≡ true
+
+-- with one more block in front
+further_run : (t : HandleTable) (e : Entry) (es : ZoneMap) (before blocks : ZoneMap) → es ≡ before ++ blocks → ends_fixed t before ≡ true → none_fixed t blocks ≡ true → LastRun t (e ∷ es)
+further_run t e es [] blocks parts below moves = by_fixed (is_fixed t e.kind) refl
+  where
+    by_fixed : (b : Bool) → is_fixed t e.kind ≡ b → LastRun t (e ∷ es)
+    by_fixed true fixed = record { before = e ∷ []; blocks = blocks; parts = ap (λ m. e ∷ m) parts; below = fixed; moves = moves }
+    by_fixed false loose = record { before = []; blocks = e ∷ blocks; parts = ap (λ m. e ∷ m) parts; below = refl; moves = and_from _ _ (ap not loose) moves }
+further_run t e es (b ∷ bs) blocks parts below moves = record { before = e ∷ b ∷ bs; blocks = blocks; parts = ap (λ m. e ∷ m) parts; below = below; moves = moves }
+
+pub last_run : (t : HandleTable) (m : ZoneMap) → LastRun t m
+last_run t [] = record { before = []; blocks = []; parts = refl; below = refl; moves = refl }
+last_run t (e ∷ es) = let rest = last_run t es in further_run t e es rest.before rest.blocks rest.parts rest.below rest.moves

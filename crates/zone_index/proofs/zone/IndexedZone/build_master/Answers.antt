@@ -1,0 +1,47 @@
+use Rattle.std.proofs.Common.{◌≡◌, ap, sym, ◌∙◌, set, subst, ◌∷◌, arith}
+use Rattle.mac_base.specs.HeadKind.{master_length}
+use Rattle.linked_zone.specs.Changes.{with_master}
+use Rattle.linked_zone.specs.Places.{RoomFor}
+use Rattle.mac_base.specs.Gap.{is_fixed}
+use Rattle.zone_index.specs.Purging.{may_go}
+use Rattle.zone_index.proofs.Exchanged.{master-kept}
+use Rattle.zone_index.proofs.Fresh.{master-marked}
+use Rattle.mac_base.specs.ZoneState.{ZoneState}
+use Rattle.zone_index.specs.Marks.{AreMarked}
+use Rattle.zone_index.proofs.Placed.{placed}
+use Rattle.zone_index.specs.Bounds.{AreBounds}
+use Rattle.zone_index.proofs.Opening.{bounds-master}
+use Rattle.mac_base.specs.declared.block.Kind.TheVariants.{Free}
+use Rattle.mac_base.specs.ZoneMap.{block}
+use Rattle.zone_index.proofs.Changing.{pages-master}
+use Rattle.zone_index.proofs.PagesKept.{forgets-read, pages-kept, part-ends}
+use Rattle.zone_index.proofs.Measured.{lengths-of}
+use Rattle.zone_index.proofs.zone.IndexedZone.build_master.Goals as goal
+
+pub invariant_of-self : goal.invariant_of-self
+invariant_of-self c =
+    let p = placed c.self.inside.zone c.args.self.now c.self.view_is c.args.at c.place-place.result c.place-place.ensures.value c.place-place.ensures.inside c.place-place.ensures.sizes in
+    let room = subst (λ (z : ZoneState). RoomFor z c.args.at master_length) (sym c.self.view_is) c.requires in record {
+      fixed = subst (λ (z : ZoneState). AreMarked is_fixed z c.set.new.self) (sym (c.build_master.ensures room))
+          (subst (AreMarked is_fixed (with_master c.self.inside.zone room.free)) (sym (c.set.ensures ∙ ap (λ p. set c.self.inside.marks p 1) p.value)) (master-marked c.self.inside.zone c.self.inside.marks c.self.invariant.fixed c.args.at room.free p.inside));
+      purgeable = subst (λ (z : ZoneState). AreMarked may_go z c.self.inside.purgeable) (sym (c.build_master.ensures room)) (master-kept c.self.inside.zone c.self.inside.purgeable c.self.invariant.purgeable c.args.at room.free);
+      bounds = (let room = subst (λ (z : ZoneState). RoomFor z c.args.at master_length) (sym c.self.view_is) c.requires in
+          subst (λ (z : ZoneState). AreBounds z c.part.new.bounds) (sym (c.build_master.ensures room))
+          (bounds-master c.self.inside.zone c.self.inside.bounds c.part.new.bounds c.self.invariant.bounds c.args.at c.gap_around-gap.result c.gap_around-gap.ensures room.free c.part.ensures));
+      pages = (let room = subst (λ (z : ZoneState). RoomFor z c.args.at master_length) (sym c.self.view_is) c.requires in
+          pages-kept c.self.inside.pages c.forget.new.pages (c.forget.auto.pages ∙ c.deref_mut.ensures.len) (c.build_master.ensures room)
+          (pages-master c.self.inside.zone c.self.inside.pages.items c.forget.new.pages c.self.invariant.pages c.args.at
+          (forgets-read c.args.at c.args.at c.self.view_is c.deref_mut.ensures.value c.page-page.ensures.value c.page-page.ensures.value c.forget.ensures) room.free));
+      lengths = (let room = subst (λ (z : ZoneState). RoomFor z c.args.at master_length) (sym c.self.view_is) c.requires in lengths-of c.self.inside.lengths (c.build_master.ensures room) c.self.invariant.lengths);
+    }
+
+pub returns : goal.returns
+returns c =
+    subst (λ (z : ZoneState). (r : RoomFor z c.args.at master_length) → c.build_master.new.self ≡ with_master z r.free) c.self.view_is c.build_master.ensures
+
+pub page-page-requires-clause-high : goal.page-page-requires-clause-high
+page-page-requires-clause-high c =
+    let free = c.requires.free in
+    let place = free.place in
+    let ends = part-ends c.args.self.now free.before (block Free free.size ∷ free.behind) free.map in
+    omega arith

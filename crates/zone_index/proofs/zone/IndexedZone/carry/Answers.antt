@@ -1,0 +1,88 @@
+use Rattle.std.proofs.Common.{◌≡◌, ◌-◌, ◌/◌, ap, sym, subst, arith, ◌∷◌, IsTrue, ◌++◌, ◌∙◌}
+use Rattle.std.specs.Prelude.{IsTrue, ◌∷◌}
+use Rattle.mac_base.specs.declared.block.Entry.{Entry}
+use Rattle.mac_base.specs.Gap.{is_fixed}
+use Rattle.mac_base.specs.ZoneMap.{total_size}
+use Rattle.mac_base.specs.ZoneSizes.{ArePossible}
+use Rattle.mac_base.specs.ZoneState.{ZoneState}
+use Rattle.linked_zone.specs.Changes.{carried_up}
+use Rattle.linked_zone.specs.Places.{ParcelAt}
+use Rattle.linked_zone.specs.Sizes.{sizes_of}
+use Rattle.zone_index.specs.Marks.{AreMarked}
+use Rattle.zone_index.specs.Purging.{may_go}
+use Rattle.zone_index.specs.Runs.{none_fixed}
+use Rattle.zone_index.proofs.Exchanged.{carried-marked}
+use Rattle.zone_index.proofs.Placed.{placed}
+use Rattle.zone_index.proofs.Turned.{carried-fits, carried-turned, parcel-entry}
+use Rattle.zone_index.specs.Bounds.{AreBounds}
+use Rattle.zone_index.proofs.Moving.{bounds-carry}
+use Rattle.zone_index.proofs.PagesKept.{forgets-read, pages-kept, part-ends}
+use Rattle.zone_index.proofs.Parts.{pages-carry}
+use Rattle.zone_index.proofs.Measured.{lengths-of}
+use Rattle.zone_laws.proofs.Maps.{total_size-append}
+use Rattle.zone_index.proofs.zone.IndexedZone.carry.Goals as goal
+
+pub invariant_of-self : goal.invariant_of-self
+invariant_of-self c =
+    let z = c.self.inside.zone in
+    let parcel = subst (λ (z : ZoneState). ParcelAt z c.args.at c.args.end) (sym c.self.view_is) c.requires.parcel in
+    let loose = subst (λ (z : ZoneState). (parcel : ParcelAt z c.args.at c.args.end) → IsTrue (none_fixed z.heap.table (parcel.here ∷ parcel.blocks))) (sym c.self.view_is) c.requires.loose parcel in
+    let p = placed z c.args.self.now c.self.view_is c.args.at c.place-first.result c.place-first.ensures.value c.place-first.ensures.inside c.place-first.ensures.sizes in
+    let size = ap (λ (e : Entry). e.size) (c.entry_at-size.ensures (parcel-entry z parcel)) in
+    let run : c.args.end - c.args.at - c.entry_at-size.result.size ≡ total_size parcel.blocks = omega (arith, size, parcel.long) in record {
+      fixed = subst (λ (z : ZoneState). AreMarked is_fixed z c.self.inside.marks) (sym (c.carry-2.ensures parcel)) (carried-marked z c.self.inside.marks c.self.invariant.fixed c.args.at c.args.end parcel loose);
+      purgeable = subst (λ (z : ZoneState). AreMarked may_go z c.carry.new.marks) (sym (c.carry-2.ensures parcel))
+          (carried-turned may_go z c.self.inside.purgeable c.carry.new.marks c.self.invariant.purgeable p.sizes c.args.at c.args.end parcel _ _ _ p.value (ap (λ n. n / 4) size) (ap (λ n. n / 4) run) c.carry.ensures);
+      bounds = (let parcel = subst (λ (z : ZoneState). ParcelAt z c.args.at c.args.end) (sym c.self.view_is) c.requires.parcel in
+          let loose = subst (λ (z : ZoneState). (parcel : ParcelAt z c.args.at c.args.end) → IsTrue (none_fixed z.heap.table (parcel.here ∷ parcel.blocks))) (sym c.self.view_is) c.requires.loose parcel in
+          subst (λ (z : ZoneState). AreBounds z c.self.inside.bounds) (sym (c.carry-2.ensures parcel)) (bounds-carry c.self.inside.zone c.self.inside.bounds c.self.invariant.bounds parcel loose));
+      pages = (let parcel = subst (λ (z : ZoneState). ParcelAt z c.args.at c.args.end) (sym c.self.view_is) c.requires.parcel in
+          pages-kept c.self.inside.pages c.forget.new.pages (c.forget.auto.pages ∙ c.deref_mut.ensures.len) (c.carry-2.ensures parcel)
+          (pages-carry c.self.inside.zone c.self.inside.pages.items c.forget.new.pages c.self.invariant.pages parcel
+          (forgets-read c.args.at c.args.end c.self.view_is c.deref_mut.ensures.value c.page-from.ensures.value c.page-to.ensures.value c.forget.ensures)));
+      lengths = (let parcel = subst (λ (z : ZoneState). ParcelAt z c.args.at c.args.end) (sym c.self.view_is) c.requires.parcel in lengths-of c.self.inside.lengths (c.carry-2.ensures parcel) c.self.invariant.lengths);
+    }
+
+pub overflow_sub-others-2 : goal.overflow_sub-others-2
+overflow_sub-others-2 c =
+    let parcel = subst (λ (z : ZoneState). ParcelAt z c.args.at c.args.end) (sym c.self.view_is) c.requires.parcel in
+    let size = ap (λ (e : Entry). e.size) (c.entry_at-size.ensures (parcel-entry c.self.inside.zone parcel)) in
+    omega (arith, size, parcel.long)
+
+pub carry-requires-clause-some : goal.carry-requires-clause-some
+carry-requires-clause-some c =
+    let z = c.self.inside.zone in
+    let parcel = subst (λ (z : ZoneState). ParcelAt z c.args.at c.args.end) (sym c.self.view_is) c.requires.parcel in
+    let p = placed z c.args.self.now c.self.view_is c.args.at c.place-first.result c.place-first.ensures.value c.place-first.ensures.inside c.place-first.ensures.sizes in
+    let size = ap (λ (e : Entry). e.size) (c.entry_at-size.ensures (parcel-entry z parcel)) in
+    let fits = carried-fits z (subst (λ (z : ZoneState). ArePossible (sizes_of z)) (sym c.self.view_is) c.place-first.ensures.possible) p.sizes parcel in
+    omega (arith, size, fits.some)
+
+pub carry-requires-clause-inside : goal.carry-requires-clause-inside
+carry-requires-clause-inside c =
+    let z = c.self.inside.zone in
+    let parcel = subst (λ (z : ZoneState). ParcelAt z c.args.at c.args.end) (sym c.self.view_is) c.requires.parcel in
+    let p = placed z c.args.self.now c.self.view_is c.args.at c.place-first.result c.place-first.ensures.value c.place-first.ensures.inside c.place-first.ensures.sizes in
+    let size = ap (λ (e : Entry). e.size) (c.entry_at-size.ensures (parcel-entry z parcel)) in
+    let fits = carried-fits z (subst (λ (z : ZoneState). ArePossible (sizes_of z)) (sym c.self.view_is) c.place-first.ensures.possible) p.sizes parcel in
+    omega (arith, size, parcel.long, fits.inside, p.value, c.self.invariant.purgeable.places)
+
+pub returns : goal.returns
+returns c =
+    subst (λ (z : ZoneState). (parcel : ParcelAt z c.args.at c.args.end) → c.carry-2.new.self ≡ carried_up z parcel) c.self.view_is c.carry-2.ensures
+
+pub page-from-requires-clause-high : goal.page-from-requires-clause-high
+page-from-requires-clause-high c =
+    let parcel = c.requires.parcel in
+    let place = parcel.place in
+    let ends = part-ends c.args.self.now parcel.before (parcel.here ∷ parcel.blocks ++ parcel.behind) parcel.map in
+    omega arith
+
+pub page-to-requires-clause-high : goal.page-to-requires-clause-high
+page-to-requires-clause-high c =
+    let parcel = c.requires.parcel in
+    let place = parcel.place in
+    let long = parcel.long in
+    let ends = part-ends c.args.self.now parcel.before (parcel.here ∷ parcel.blocks ++ parcel.behind) parcel.map in
+    let all = total_size-append parcel.blocks parcel.behind in
+    omega arith

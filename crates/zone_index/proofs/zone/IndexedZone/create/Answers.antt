@@ -1,0 +1,30 @@
+use Rattle.std.proofs.Common.{◌+◌, ◌/◌, ◌∙◌, ap, sym, subst, set, replicate}
+use Rattle.mac_base.specs.Gap.{is_fixed}
+use Rattle.mac_base.specs.ZoneState.{ZoneState}
+use Rattle.zone_index.specs.Bounds.{AreBounds}
+use Rattle.zone_index.specs.Marks.{AreMarked}
+use Rattle.zone_index.specs.Pages.{page_size}
+use Rattle.zone_index.specs.Purging.{may_go}
+use Rattle.zone_index.proofs.Creating.{bounds-created}
+use Rattle.zone_index.proofs.Placed.{bare-marked}
+use Rattle.zone_index.proofs.Rules.{fixes, goes}
+use Rattle.zone_index.proofs.zone.IndexedZone.create.Goals as goal
+
+pub invariant_of-result : goal.invariant_of-result
+invariant_of-result c =
+    let count = ap (λ n. n / 4 + 1) c.limit.ensures.value in
+    let memory = c.in_ok-zone.zone.memory in
+    record {
+      fixed = subst (λ (z : ZoneState). AreMarked is_fixed z c.in_ok-marks.marks) (sym c.in_ok-zone.ensures)
+          (subst (AreMarked is_fixed _) (sym c.in_ok-marks.ensures) (bare-marked fixes memory c.args.spec _ count));
+      purgeable = subst (λ (z : ZoneState). AreMarked may_go z c.in_ok-purgeable.purgeable) (sym c.in_ok-zone.ensures)
+          (subst (AreMarked may_go _) (sym c.in_ok-purgeable.ensures) (bare-marked goes memory c.args.spec _ count));
+      bounds = subst (λ (z : ZoneState). AreBounds z c.set.new.self) (sym c.in_ok-zone.ensures)
+          (bounds-created memory c.args.spec c.set.new.self c.size.ensures.possible
+          (c.set.ensures ∙ ap (λ xs. set xs 13 c.size.result) c.in_ok-bounds.ensures ∙ (λ i. set (replicate (count i) 0) 13 (c.size.ensures.value i))));
+      pages = record {
+        places = c.in_ok-pages.ensures.places ∙ ap (λ n. n / page_size + 1) c.limit-2.ensures.value ∙ sym (ap (λ (z : ZoneState). z.shape.limit / page_size + 1) c.in_ok-zone.ensures);
+        known = λ p s there. absurd (c.in_ok-pages.ensures.unknown p s there);
+      };
+      lengths = λ x n told. absurd (c.in_ok-lengths.ensures x n told);
+    }

@@ -1,0 +1,48 @@
+use Rattle.std.proofs.Common.{ap, sym, ◌∙◌, set, subst, ◌∷◌, arith, refl}
+use Rattle.mac_base.specs.Gap.{is_fixed}
+use Rattle.mac_base.specs.ZoneState.{ZoneState}
+use Rattle.linked_zone.specs.Changes.{without_block}
+use Rattle.zone_index.specs.Marks.{AreMarked}
+use Rattle.zone_index.specs.Purging.{may_go}
+use Rattle.zone_index.proofs.Freed.{emptied-marked}
+use Rattle.zone_index.proofs.Placed.{placed}
+use Rattle.zone_index.proofs.Rules.{fixes, goes}
+use Rattle.linked_zone.specs.Places.{BlockOf}
+use Rattle.zone_index.specs.Bounds.{AreBounds}
+use Rattle.zone_index.proofs.Opening.{bounds-emptied}
+use Rattle.mac_base.specs.ZoneMap.{block}
+use Rattle.mac_base.specs.declared.block.Kind.TheVariants.{Rel}
+use Rattle.linked_zone.specs.Fit.{Fits}
+use Rattle.zone_index.proofs.Changing.{pages-emptied}
+use Rattle.zone_index.proofs.PagesKept.{forgets-read, pages-kept, part-ends}
+use Rattle.mac_base.specs.HandleTable.{EmptyHandle}
+use Rattle.zone_index.proofs.Measured.{lengths-given, lengths-of}
+use Rattle.zone_index.proofs.zone.IndexedZone.empty.Goals as goal
+
+pub invariant_of-self : goal.invariant_of-self
+invariant_of-self c =
+    let z = c.self.inside.zone in
+    let p = placed z c.args.self.now c.self.view_is c.block_of-at.result c.place-place.result c.place-place.ensures.value c.place-place.ensures.inside c.place-place.ensures.sizes in record {
+      fixed = subst (λ (z : ZoneState). AreMarked is_fixed z c.write.new.marks) (sym c.empty.ensures)
+          (subst (AreMarked is_fixed (without_block c.args.handle z)) (sym (c.write.ensures ∙ ap (λ p. set c.self.inside.marks p 0) p.value))
+          (emptied-marked fixes z c.self.inside.marks c.self.invariant.fixed c.args.handle c.block_of-at.result p.sizes c.block_of-at.ensures p.inside));
+      purgeable = subst (λ (z : ZoneState). AreMarked may_go z c.write-2.new.marks) (sym c.empty.ensures)
+          (subst (AreMarked may_go (without_block c.args.handle z)) (sym (c.write-2.ensures ∙ ap (λ p. set c.self.inside.purgeable p 0) p.value))
+          (emptied-marked goes z c.self.inside.purgeable c.self.invariant.purgeable c.args.handle c.block_of-at.result p.sizes c.block_of-at.ensures p.inside));
+      bounds = (let own = c.block_of-at.ensures in
+          subst (λ (z : ZoneState). AreBounds z c.join.new.bounds) (sym c.empty.ensures)
+          (bounds-emptied c.self.inside.zone c.self.inside.bounds c.join.new.bounds c.self.invariant.bounds c.block_of-at.result c.gap_around-gap.result c.gap_around-gap.ensures c.args.handle own c.join.ensures));
+      pages = (let own = c.block_of-at.ensures in
+          let fits = subst Fits (sym c.self.view_is) c.page-page.ensures.fits in
+          pages-kept c.self.inside.pages c.forget.new.pages (c.forget.auto.pages ∙ c.deref_mut.ensures.len) c.empty.ensures
+          (pages-emptied c.self.inside.zone c.self.inside.pages.items c.forget.new.pages c.self.invariant.pages c.block_of-at.result
+          (forgets-read c.block_of-at.result c.block_of-at.result c.self.view_is c.deref_mut.ensures.value c.page-page.ensures.value c.page-page.ensures.value c.forget.ensures) c.args.handle fits own));
+      lengths = (lengths-of c.note.new.self c.empty.ensures (lengths-given c.self.inside.zone.heap.table c.self.inside.lengths c.note.new.self c.args.handle c.number.result 0 c.number.ensures c.self.invariant.lengths c.note.ensures EmptyHandle refl));
+    }
+
+pub page-page-requires-clause-high : goal.page-page-requires-clause-high
+page-page-requires-clause-high c =
+    let own = subst (λ (z : ZoneState). BlockOf z c.args.handle c.block_of-at.result) (c.self.view_is) c.block_of-at.ensures in
+    let place = own.place in
+    let ends = part-ends c.args.self.now own.before (block (Rel c.args.handle) own.size ∷ own.behind) own.map in
+    omega arith

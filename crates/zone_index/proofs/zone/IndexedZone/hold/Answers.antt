@@ -1,0 +1,111 @@
+use Rattle.std.proofs.Common.{ℕ, List, ◌≡◌, sym, subst, ◌+◌, true, arith, ◌∷◌, ◌∙◌, refl}
+use Rattle.mac_base.specs.ZoneState.{ZoneState}
+use Rattle.linked_zone.specs.Changes.{held_there}
+use Rattle.linked_zone.specs.Places.{CanHold, NamedAt}
+use Rattle.zone_index.specs.Marks.{AreMarked}
+use Rattle.zone_index.proofs.Exchanged.{held-marked}
+use Rattle.zone_index.proofs.Rules.{Rule, fixes, goes}
+use Rattle.mac_base.specs.HandleTable.{has_block}
+use Rattle.linked_zone.specs.Fit.{Fits}
+use Rattle.zone_index.specs.Bounds.{AreBounds}
+use Rattle.zone_index.proofs.Named.{named-owner}
+use Rattle.zone_index.proofs.Resizing.{bounds-held, hold-end, end-place}
+use Rattle.zone_index.proofs.PagesKept.{forgets-read, named-place, pages-kept, part-ends}
+use Rattle.zone_index.proofs.Parts.{pages-held}
+use Rattle.zone_index.proofs.Measured.{lengths-of, lengths-sized}
+use Rattle.zone_index.proofs.zone.IndexedZone.hold.Goals as goal
+
+pub invariant_of-self : goal.invariant_of-self
+invariant_of-self c =
+    let can = subst (λ (z : ZoneState). CanHold z c.args.block c.args.size c.args.length) (sym c.self.view_is) c.requires.room in
+    let keep : (r : Rule) (marks : List ℕ) → AreMarked r.test c.self.inside.zone marks → AreMarked r.test c.hold.new.self marks = λ r marks are. subst (λ (z : ZoneState). AreMarked r.test z marks) (sym (c.hold.ensures can)) (held-marked r c.self.inside.zone marks are can) in record {
+      fixed = keep fixes _ c.self.invariant.fixed;
+      purgeable = keep goes _ c.self.invariant.purgeable;
+      bounds = (let can = subst (λ (z : ZoneState). CanHold z c.args.block c.args.size c.args.length) (sym c.self.view_is) c.requires.room in
+          let named = c.place_of-at.ensures in
+          subst (λ (z : ZoneState). AreBounds z c.shift.new.bounds) (sym (c.hold.ensures can))
+          (bounds-held c.self.inside.zone c.args.block c.place_of-at.result c.gap_around-gap.result c.gap_around-gap.ensures named c.self.inside.bounds c.shift.new.bounds c.self.invariant.bounds can
+          (record { start = c.shift.ensures.start; end = c.shift.ensures.end })));
+      pages = (let can = subst (λ (z : ZoneState). CanHold z c.args.block c.args.size c.args.length) (sym c.self.view_is) c.requires.room in
+          let named = c.place_of-at.ensures in
+          let fits = c.spec-spec.ensures.fits in
+          let place = named-place c.self.inside.zone c.args.block c.place_of-at.result fits named can.before can.here can.behind can.map can.named in
+          pages-kept c.self.inside.pages c.forget.new.pages (c.forget.auto.pages ∙ c.deref_mut.ensures.len) (c.hold.ensures can)
+          (pages-held c.self.inside.zone c.self.inside.pages.items c.forget.new.pages c.self.invariant.pages can place
+          (forgets-read c.place_of-at.result (c.place_of-at.result + c.args.size) c.self.view_is c.deref_mut.ensures.value c.page-first.ensures.value c.page-last.ensures.value c.forget.ensures)));
+      lengths = (let can = subst (λ (z : ZoneState). CanHold z c.args.block c.args.size c.args.length) (sym c.self.view_is) c.requires.room in
+          let fits = c.spec-spec.ensures.fits in
+          let has = named-owner c.self.inside.zone c.args.block can.before can.here can.behind fits can.map can.named in
+          lengths-of c.note.new.self (c.hold.ensures can) (lengths-sized c.self.inside.zone.heap.table c.self.inside.lengths c.note.new.self c.args.block c.args.block c.args.length refl c.self.invariant.lengths c.note.ensures has));
+    }
+
+pub returns : goal.returns
+returns c =
+    subst (λ (z : ZoneState). (can : CanHold z c.args.block c.args.size c.args.length) → c.hold.new.self ≡ held_there z can) c.self.view_is c.hold.ensures
+
+pub place_of-at-requires : goal.place_of-at-requires
+place_of-at-requires c =
+    let can = c.requires.room in
+    let same = c.self.view_is in
+    subst (λ (z : ZoneState). has_block z.heap.table c.args.block ≡ true) (sym same)
+    (named-owner c.args.self.now c.args.block can.before can.here can.behind (subst Fits same c.spec-spec.ensures.fits) can.map can.named)
+
+pub overflow_add-at : goal.overflow_add-at
+overflow_add-at c =
+    let can = c.requires.room in
+    let same = c.self.view_is in
+    let named = subst (λ (z : ZoneState). NamedAt z c.args.block c.place_of-at.result) same c.place_of-at.ensures in
+    let place = named-place c.args.self.now c.args.block c.place_of-at.result c.page-first.ensures.fits named can.before can.here can.behind can.map can.named in
+    let ends = part-ends c.args.self.now can.before (can.here ∷ can.behind) can.map in
+    let within = can.fits.within in
+    let reach = c.page-first.ensures.reach in
+    omega arith
+
+pub shift-requires-clause-inside : goal.shift-requires-clause-inside
+shift-requires-clause-inside c =
+    let can = subst (λ (z : ZoneState). CanHold z c.args.block c.args.size c.args.length) (sym c.self.view_is) c.requires.room in
+    let named = c.place_of-at.ensures in
+    let high = hold-end c.self.inside.zone c.args.block c.place_of-at.result c.gap_around-gap.result c.gap_around-gap.ensures named can in
+    let top = c.gap_around-gap.ensures.high in
+    let base = c.gap_around-gap.ensures.base in
+    end-place c.self.inside.zone c.args.block c.place_of-at.result c.gap_around-gap.result c.gap_around-gap.ensures named c.self.inside.bounds c.self.invariant.bounds (c.place_of-at.result + c.args.size) (omega arith)
+
+pub overflow_sub-gap-2 : goal.overflow_sub-gap-2
+overflow_sub-gap-2 c =
+    let can = subst (λ (z : ZoneState). CanHold z c.args.block c.args.size c.args.length) (sym c.self.view_is) c.requires.room in
+    let named = c.place_of-at.ensures in
+    let high = hold-end c.self.inside.zone c.args.block c.place_of-at.result c.gap_around-gap.result c.gap_around-gap.ensures named can in
+    omega arith
+
+pub page-first-requires-clause-low : goal.page-first-requires-clause-low
+page-first-requires-clause-low c =
+    let can = c.requires.room in
+    let same = c.self.view_is in
+    let named = subst (λ (z : ZoneState). NamedAt z c.args.block c.place_of-at.result) same c.place_of-at.ensures in
+    let place = named.place in
+    omega arith
+
+pub page-first-requires-clause-high : goal.page-first-requires-clause-high
+page-first-requires-clause-high c =
+    let same = c.self.view_is in
+    let named = subst (λ (z : ZoneState). NamedAt z c.args.block c.place_of-at.result) same c.place_of-at.ensures in
+    let place = named.place in
+    let ends = part-ends c.args.self.now named.before (named.here ∷ named.behind) named.map in
+    omega arith
+
+pub page-last-requires-clause-low : goal.page-last-requires-clause-low
+page-last-requires-clause-low c =
+    let same = c.self.view_is in
+    let named = subst (λ (z : ZoneState). NamedAt z c.args.block c.place_of-at.result) same c.place_of-at.ensures in
+    let place = named.place in
+    omega arith
+
+pub page-last-requires-clause-high : goal.page-last-requires-clause-high
+page-last-requires-clause-high c =
+    let can = c.requires.room in
+    let same = c.self.view_is in
+    let named = subst (λ (z : ZoneState). NamedAt z c.args.block c.place_of-at.result) same c.place_of-at.ensures in
+    let place = named-place c.args.self.now c.args.block c.place_of-at.result c.page-first.ensures.fits named can.before can.here can.behind can.map can.named in
+    let ends = part-ends c.args.self.now can.before (can.here ∷ can.behind) can.map in
+    let within = can.fits.within in
+    omega arith

@@ -1,0 +1,61 @@
+use Rattle.std.proofs.Common.{ℕ, List, ◌≡◌, sym, subst, ◌+◌, ◌∷◌, ◌∙◌, arith}
+use Rattle.mac_base.specs.ZoneState.{ZoneState}
+use Rattle.linked_zone.specs.Changes.{joined_pair}
+use Rattle.linked_zone.specs.Places.{FreePair, FreeAt}
+use Rattle.zone_index.specs.Marks.{AreMarked}
+use Rattle.zone_index.proofs.Exchanged.{joined-marked}
+use Rattle.zone_index.proofs.Rules.{Rule, fixes, goes}
+use Rattle.zone_index.specs.Bounds.{AreBounds}
+use Rattle.zone_index.proofs.Moving.{bounds-merge}
+use Rattle.mac_base.specs.declared.block.Kind.TheVariants.{Free}
+use Rattle.mac_base.specs.ZoneMap.{block}
+use Rattle.zone_index.specs.Pages.{page}
+use Rattle.zone_index.proofs.PagesKept.{forgets-read, pages-kept, part-ends}
+use Rattle.zone_index.proofs.Parts.{first_free, pages-merge}
+use Rattle.zone_index.proofs.Measured.{lengths-of}
+use Rattle.zone_index.proofs.zone.IndexedZone.merge.Goals as goal
+
+pub invariant_of-self : goal.invariant_of-self
+invariant_of-self c =
+    let pair = subst (λ (z : ZoneState). FreePair z c.args.at) (sym c.self.view_is) c.requires in
+    let keep : (r : Rule) (marks : List ℕ) → AreMarked r.test c.self.inside.zone marks → AreMarked r.test c.merge.new.self marks = λ r marks are. subst (λ (z : ZoneState). AreMarked r.test z marks) (sym (c.merge.ensures pair)) (joined-marked r c.self.inside.zone marks are c.args.at pair) in record {
+      fixed = keep fixes _ c.self.invariant.fixed;
+      purgeable = keep goes _ c.self.invariant.purgeable;
+      bounds = (let pair = subst (λ (z : ZoneState). FreePair z c.args.at) (sym c.self.view_is) c.requires in
+          subst (λ (z : ZoneState). AreBounds z c.self.inside.bounds) (sym (c.merge.ensures pair)) (bounds-merge c.self.inside.zone c.self.inside.bounds c.self.invariant.bounds pair));
+      pages = (let pair = subst (λ (z : ZoneState). FreePair z c.args.at) (sym c.self.view_is) c.requires in
+          let size = c.free_size.ensures (first_free c.self.inside.zone pair) in
+          pages-kept c.self.inside.pages c.forget.new.pages (c.forget.auto.pages ∙ c.deref_mut.ensures.len) (c.merge.ensures pair)
+          (pages-merge c.self.inside.zone c.self.inside.pages.items c.forget.new.pages c.self.invariant.pages pair
+          (forgets-read c.args.at (c.args.at + pair.first) c.self.view_is c.deref_mut.ensures.value c.page-first.ensures.value
+          (subst (λ n. c.page-last.result ≡ page c.args.self.now.shape (c.args.at + n)) size c.page-last.ensures.value) c.forget.ensures)));
+      lengths = (let pair = subst (λ (z : ZoneState). FreePair z c.args.at) (sym c.self.view_is) c.requires in lengths-of c.self.inside.lengths (c.merge.ensures pair) c.self.invariant.lengths);
+    }
+
+pub returns : goal.returns
+returns c =
+    subst (λ (z : ZoneState). (pair : FreePair z c.args.at) → c.merge.new.self ≡ joined_pair z pair) c.self.view_is c.merge.ensures
+
+pub page-first-requires-clause-high : goal.page-first-requires-clause-high
+page-first-requires-clause-high c =
+    let pair = c.requires in
+    let place = pair.place in
+    let ends = part-ends c.args.self.now pair.before (block Free pair.first ∷ block Free pair.second ∷ pair.behind) pair.map in
+    omega arith
+
+pub overflow_add-at : goal.overflow_add-at
+overflow_add-at c =
+    let pair = c.requires in
+    let place = pair.place in
+    let size = subst (λ (z : ZoneState). (f : FreeAt z c.args.at) → c.free_size.result ≡ f.size) (c.self.view_is) c.free_size.ensures (first_free c.args.self.now pair) in
+    let reach = c.page-first.ensures.reach in
+    let ends = part-ends c.args.self.now pair.before (block Free pair.first ∷ block Free pair.second ∷ pair.behind) pair.map in
+    omega arith
+
+pub page-last-requires-clause-high : goal.page-last-requires-clause-high
+page-last-requires-clause-high c =
+    let pair = c.requires in
+    let place = pair.place in
+    let size = subst (λ (z : ZoneState). (f : FreeAt z c.args.at) → c.free_size.result ≡ f.size) (c.self.view_is) c.free_size.ensures (first_free c.args.self.now pair) in
+    let ends = part-ends c.args.self.now pair.before (block Free pair.first ∷ block Free pair.second ∷ pair.behind) pair.map in
+    omega arith

@@ -1,0 +1,106 @@
+use Rattle.std.proofs.Common.{◌≡◌, ◌-◌, ◌/◌, ap, sym, subst, arith, [], ◌∷◌, ◌++◌, IsTrue, ◌+◌, ◌∙◌}
+use Rattle.std.specs.Prelude.{IsTrue, [], ◌∷◌, ◌++◌}
+use Rattle.mac_base.specs.declared.block.Entry.{Entry}
+use Rattle.mac_base.specs.Gap.{is_fixed}
+use Rattle.mac_base.specs.ZoneMap.{total_size}
+use Rattle.mac_base.specs.ZoneSizes.{ArePossible}
+use Rattle.mac_base.specs.ZoneState.{ZoneState}
+use Rattle.linked_zone.specs.Changes.{sunk}
+use Rattle.linked_zone.specs.Places.{ParcelUpTo, EntryAt}
+use Rattle.linked_zone.specs.Sizes.{sizes_of}
+use Rattle.zone_index.specs.Marks.{AreMarked}
+use Rattle.zone_index.specs.Purging.{may_go}
+use Rattle.zone_index.specs.Runs.{none_fixed}
+use Rattle.zone_index.proofs.Exchanged.{sunk-marked}
+use Rattle.zone_index.proofs.Placed.{placed}
+use Rattle.zone_index.proofs.Turned.{last-entry, run-entry, sunk-fits, sunk-turned}
+use Rattle.zone_index.specs.Bounds.{AreBounds}
+use Rattle.zone_index.proofs.Moving.{bounds-sink}
+use Rattle.zone_index.specs.Pages.{page}
+use Rattle.zone_index.proofs.PagesKept.{forgets-read, pages-kept, part-ends}
+use Rattle.zone_index.proofs.Parts.{last_entry, pages-sink}
+use Rattle.zone_index.proofs.Measured.{lengths-of}
+use Rattle.zone_laws.proofs.Maps.{total_size-append}
+use Rattle.zone_index.proofs.zone.IndexedZone.sink.Goals as goal
+
+pub invariant_of-self : goal.invariant_of-self
+invariant_of-self c =
+    let z = c.self.inside.zone in
+    let parcel = subst (λ (z : ZoneState). ParcelUpTo z c.args.start c.args.at) (sym c.self.view_is) c.requires.parcel in
+    let loose = subst (λ (z : ZoneState). (parcel : ParcelUpTo z c.args.start c.args.at) → IsTrue (none_fixed z.heap.table (parcel.blocks ++ parcel.here ∷ []))) (sym c.self.view_is) c.requires.loose parcel in
+    let p = placed z c.args.self.now c.self.view_is c.args.start c.place-first.result c.place-first.ensures.value c.place-first.ensures.inside c.place-first.ensures.sizes in
+    let size = ap (λ (e : Entry). e.size) (c.entry_at-size.ensures (last-entry z parcel)) in
+    let run : c.args.at - c.args.start ≡ total_size parcel.blocks = omega (arith, parcel.long) in record {
+      fixed = subst (λ (z : ZoneState). AreMarked is_fixed z c.self.inside.marks) (sym (c.sink-2.ensures parcel)) (sunk-marked z c.self.inside.marks c.self.invariant.fixed c.args.start c.args.at parcel loose);
+      purgeable = subst (λ (z : ZoneState). AreMarked may_go z c.sink.new.marks) (sym (c.sink-2.ensures parcel))
+          (sunk-turned may_go z c.self.inside.purgeable c.sink.new.marks c.self.invariant.purgeable p.sizes c.args.start c.args.at parcel _ _ _ p.value (ap (λ n. n / 4) size) (ap (λ n. n / 4) run) c.sink.ensures);
+      bounds = (let parcel = subst (λ (z : ZoneState). ParcelUpTo z c.args.start c.args.at) (sym c.self.view_is) c.requires.parcel in
+          let loose = subst (λ (z : ZoneState). (parcel : ParcelUpTo z c.args.start c.args.at) → IsTrue (none_fixed z.heap.table (parcel.blocks ++ parcel.here ∷ []))) (sym c.self.view_is) c.requires.loose parcel in
+          subst (λ (z : ZoneState). AreBounds z c.self.inside.bounds) (sym (c.sink-2.ensures parcel)) (bounds-sink c.self.inside.zone c.self.inside.bounds c.self.invariant.bounds parcel loose));
+      pages = (let parcel = subst (λ (z : ZoneState). ParcelUpTo z c.args.start c.args.at) (sym c.self.view_is) c.requires.parcel in
+          let size = ap (λ (e : Entry). e.size) (c.entry_at-size.ensures (last_entry c.self.inside.zone parcel)) in
+          pages-kept c.self.inside.pages c.forget.new.pages (c.forget.auto.pages ∙ c.deref_mut.ensures.len) (c.sink-2.ensures parcel)
+          (pages-sink c.self.inside.zone c.self.inside.pages.items c.forget.new.pages c.self.invariant.pages parcel
+          (forgets-read c.args.start (c.args.at + parcel.here.size) c.self.view_is c.deref_mut.ensures.value c.page-from.ensures.value
+          (subst (λ n. c.page-to.result ≡ page c.args.self.now.shape (c.args.at + n)) size c.page-to.ensures.value) c.forget.ensures)));
+      lengths = (let parcel = subst (λ (z : ZoneState). ParcelUpTo z c.args.start c.args.at) (sym c.self.view_is) c.requires.parcel in lengths-of c.self.inside.lengths (c.sink-2.ensures parcel) c.self.invariant.lengths);
+    }
+
+pub place-first-requires : goal.place-first-requires
+place-first-requires c =
+    let parcel = c.requires.parcel in
+    run-entry c.args.self.now c.args.start parcel.before parcel.blocks parcel.here parcel.behind parcel.map parcel.place
+
+pub entry_at-size-requires : goal.entry_at-size-requires
+entry_at-size-requires c =
+    last-entry c.self.inside.zone (subst (λ (z : ZoneState). ParcelUpTo z c.args.start c.args.at) (sym c.self.view_is) c.requires.parcel)
+
+pub sink-requires-clause-some : goal.sink-requires-clause-some
+sink-requires-clause-some c =
+    let z = c.self.inside.zone in
+    let parcel = subst (λ (z : ZoneState). ParcelUpTo z c.args.start c.args.at) (sym c.self.view_is) c.requires.parcel in
+    let p = placed z c.args.self.now c.self.view_is c.args.start c.place-first.result c.place-first.ensures.value c.place-first.ensures.inside c.place-first.ensures.sizes in
+    let size = ap (λ (e : Entry). e.size) (c.entry_at-size.ensures (last-entry z parcel)) in
+    let fits = sunk-fits z (subst (λ (z : ZoneState). ArePossible (sizes_of z)) (sym c.self.view_is) c.place-first.ensures.possible) p.sizes parcel in
+    omega (arith, size, fits.some)
+
+pub sink-requires-clause-inside : goal.sink-requires-clause-inside
+sink-requires-clause-inside c =
+    let z = c.self.inside.zone in
+    let parcel = subst (λ (z : ZoneState). ParcelUpTo z c.args.start c.args.at) (sym c.self.view_is) c.requires.parcel in
+    let p = placed z c.args.self.now c.self.view_is c.args.start c.place-first.result c.place-first.ensures.value c.place-first.ensures.inside c.place-first.ensures.sizes in
+    let size = ap (λ (e : Entry). e.size) (c.entry_at-size.ensures (last-entry z parcel)) in
+    let fits = sunk-fits z (subst (λ (z : ZoneState). ArePossible (sizes_of z)) (sym c.self.view_is) c.place-first.ensures.possible) p.sizes parcel in
+    omega (arith, size, parcel.long, fits.inside, p.value, c.self.invariant.purgeable.places)
+
+pub returns : goal.returns
+returns c =
+    subst (λ (z : ZoneState). (parcel : ParcelUpTo z c.args.start c.args.at) → c.sink-2.new.self ≡ sunk z parcel) c.self.view_is c.sink-2.ensures
+
+pub page-from-requires-clause-high : goal.page-from-requires-clause-high
+page-from-requires-clause-high c =
+    let parcel = c.requires.parcel in
+    let place = parcel.place in
+    let ends = part-ends c.args.self.now parcel.before (parcel.blocks ++ parcel.here ∷ parcel.behind) parcel.map in
+    omega arith
+
+pub overflow_add-at : goal.overflow_add-at
+overflow_add-at c =
+    let parcel = c.requires.parcel in
+    let place = parcel.place in
+    let long = parcel.long in
+    let size = ap (λ (e : Entry). e.size) (subst (λ (z : ZoneState). (e : EntryAt z c.args.at) → c.entry_at-size.result ≡ e.here) (c.self.view_is) c.entry_at-size.ensures (last_entry c.args.self.now parcel)) in
+    let reach = c.page-from.ensures.reach in
+    let ends = part-ends c.args.self.now parcel.before (parcel.blocks ++ parcel.here ∷ parcel.behind) parcel.map in
+    let all = total_size-append parcel.blocks (parcel.here ∷ parcel.behind) in
+    omega arith
+
+pub page-to-requires-clause-high : goal.page-to-requires-clause-high
+page-to-requires-clause-high c =
+    let parcel = c.requires.parcel in
+    let place = parcel.place in
+    let long = parcel.long in
+    let size = ap (λ (e : Entry). e.size) (subst (λ (z : ZoneState). (e : EntryAt z c.args.at) → c.entry_at-size.result ≡ e.here) (c.self.view_is) c.entry_at-size.ensures (last_entry c.args.self.now parcel)) in
+    let ends = part-ends c.args.self.now parcel.before (parcel.blocks ++ parcel.here ∷ parcel.behind) parcel.map in
+    let all = total_size-append parcel.blocks (parcel.here ∷ parcel.behind) in
+    omega arith

@@ -1,0 +1,58 @@
+use Rattle.std.proofs.Common.{ℕ, List, ◌≡◌, sym, subst, ◌+◌, ◌∷◌, ◌∙◌, arith}
+use Rattle.mac_base.specs.ZoneState.{ZoneState}
+use Rattle.linked_zone.specs.Changes.{cut_in_two}
+use Rattle.linked_zone.specs.Places.{CanCut}
+use Rattle.zone_index.specs.Marks.{AreMarked}
+use Rattle.zone_index.proofs.Exchanged.{cut-marked}
+use Rattle.zone_index.proofs.Rules.{Rule, fixes, goes}
+use Rattle.zone_index.specs.Bounds.{AreBounds}
+use Rattle.zone_index.proofs.Moving.{bounds-split}
+use Rattle.mac_base.specs.declared.block.Kind.TheVariants.{Free}
+use Rattle.mac_base.specs.ZoneMap.{block}
+use Rattle.zone_index.proofs.PagesKept.{forgets-read, pages-kept, part-ends}
+use Rattle.zone_index.proofs.Parts.{pages-split}
+use Rattle.zone_index.proofs.Measured.{lengths-of}
+use Rattle.zone_index.proofs.zone.IndexedZone.split.Goals as goal
+
+pub invariant_of-self : goal.invariant_of-self
+invariant_of-self c =
+    let can = subst (λ (z : ZoneState). CanCut z c.args.at c.args.size) (sym c.self.view_is) c.requires in
+    let keep : (r : Rule) (marks : List ℕ) → AreMarked r.test c.self.inside.zone marks → AreMarked r.test c.split.new.self marks = λ r marks are. subst (λ (z : ZoneState). AreMarked r.test z marks) (sym (c.split.ensures can)) (cut-marked r c.self.inside.zone marks are c.args.at c.args.size can) in record {
+      fixed = keep fixes _ c.self.invariant.fixed;
+      purgeable = keep goes _ c.self.invariant.purgeable;
+      bounds = (let can = subst (λ (z : ZoneState). CanCut z c.args.at c.args.size) (sym c.self.view_is) c.requires in
+          subst (λ (z : ZoneState). AreBounds z c.self.inside.bounds) (sym (c.split.ensures can)) (bounds-split c.self.inside.zone c.self.inside.bounds c.self.invariant.bounds can));
+      pages = (let can = subst (λ (z : ZoneState). CanCut z c.args.at c.args.size) (sym c.self.view_is) c.requires in
+          pages-kept c.self.inside.pages c.forget.new.pages (c.forget.auto.pages ∙ c.deref_mut.ensures.len) (c.split.ensures can)
+          (pages-split c.self.inside.zone c.self.inside.pages.items c.forget.new.pages c.self.invariant.pages can
+          (forgets-read c.args.at (c.args.at + c.args.size) c.self.view_is c.deref_mut.ensures.value c.page-first.ensures.value c.page-last.ensures.value c.forget.ensures)));
+      lengths = (let can = subst (λ (z : ZoneState). CanCut z c.args.at c.args.size) (sym c.self.view_is) c.requires in lengths-of c.self.inside.lengths (c.split.ensures can) c.self.invariant.lengths);
+    }
+
+pub returns : goal.returns
+returns c =
+    subst (λ (z : ZoneState). (can : CanCut z c.args.at c.args.size) → c.split.new.self ≡ cut_in_two c.args.size z can.free) c.self.view_is c.split.ensures
+
+pub page-first-requires-clause-high : goal.page-first-requires-clause-high
+page-first-requires-clause-high c =
+    let free = c.requires.free in
+    let place = free.place in
+    let ends = part-ends c.args.self.now free.before (block Free free.size ∷ free.behind) free.map in
+    omega arith
+
+pub overflow_add-at : goal.overflow_add-at
+overflow_add-at c =
+    let free = c.requires.free in
+    let place = free.place in
+    let smaller = c.requires.smaller in
+    let reach = c.page-first.ensures.reach in
+    let ends = part-ends c.args.self.now free.before (block Free free.size ∷ free.behind) free.map in
+    omega arith
+
+pub page-last-requires-clause-high : goal.page-last-requires-clause-high
+page-last-requires-clause-high c =
+    let free = c.requires.free in
+    let place = free.place in
+    let smaller = c.requires.smaller in
+    let ends = part-ends c.args.self.now free.before (block Free free.size ∷ free.behind) free.map in
+    omega arith

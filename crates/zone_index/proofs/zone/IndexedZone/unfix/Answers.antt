@@ -1,0 +1,47 @@
+use Rattle.std.proofs.Common.{ap, sym, ◌∙◌, set, subst, IsTrue, ◌∷◌, arith, refl}
+use Rattle.linked_zone.specs.Changes.{unfixed}
+use Rattle.linked_zone.specs.Places.{NamedAt}
+use Rattle.zone_index.proofs.Freed.{unfixed-kept, unfixed-marked}
+use Rattle.zone_index.proofs.Rules.{fixes, goes}
+use Rattle.mac_base.specs.Gap.{is_fixed}
+use Rattle.zone_index.specs.Purging.{may_go}
+use Rattle.mac_base.specs.ZoneState.{ZoneState}
+use Rattle.zone_index.specs.Marks.{AreMarked}
+use Rattle.zone_index.proofs.Placed.{placed}
+use Rattle.mac_base.specs.HandleTable.{is_pointer}
+use Rattle.zone_index.specs.Bounds.{AreBounds}
+use Rattle.zone_index.proofs.Opening.{bounds-unfixed}
+use Rattle.linked_zone.specs.Fit.{Fits}
+use Rattle.zone_index.proofs.Changing.{pages-unfixed}
+use Rattle.zone_index.proofs.PagesKept.{forgets-read, pages-kept, part-ends}
+use Rattle.zone_index.proofs.Measured.{lengths-of, lengths-out}
+use Rattle.zone_index.proofs.zone.IndexedZone.unfix.Goals as goal
+
+pub invariant_of-self : goal.invariant_of-self
+invariant_of-self c =
+    let p = placed c.self.inside.zone c.args.self.now c.self.view_is c.place_of-at.result c.place-place.result c.place-place.ensures.value c.place-place.ensures.inside c.place-place.ensures.sizes in record {
+      fixed = subst (λ (z : ZoneState). AreMarked is_fixed z c.set.new.self) (sym c.unfix.ensures)
+          (subst (AreMarked is_fixed (unfixed c.args.pointer c.self.inside.zone)) (sym (c.set.ensures ∙ ap (λ p. set c.self.inside.marks p 0) p.value))
+          (unfixed-marked fixes c.self.inside.zone c.self.inside.marks c.self.invariant.fixed c.args.pointer c.place_of-at.result p.sizes (subst (λ x. NamedAt c.self.inside.zone x c.place_of-at.result) c.number.ensures c.place_of-at.ensures) p.inside));
+      purgeable = subst (λ (z : ZoneState). AreMarked may_go z c.self.inside.purgeable) (sym c.unfix.ensures) (unfixed-kept goes c.self.inside.zone c.self.inside.purgeable c.self.invariant.purgeable c.args.pointer);
+      bounds = (let named = c.place_of-at.ensures in
+          let live = subst (λ (z : ZoneState). IsTrue (is_pointer z.heap.table c.args.pointer)) (sym c.self.view_is) c.requires.live in
+          subst (λ (z : ZoneState). AreBounds z c.join.new.bounds) (sym c.unfix.ensures)
+          (bounds-unfixed c.self.inside.zone c.self.inside.bounds c.join.new.bounds c.self.invariant.bounds c.place_of-at.result c.gap_around-gap.result c.gap_around-gap.ensures c.args.pointer
+          (subst (λ p. NamedAt c.self.inside.zone p c.place_of-at.result) c.number.ensures named) live c.join.ensures));
+      pages = (let named = c.place_of-at.ensures in
+          let own = subst (λ p. NamedAt c.self.inside.zone p c.place_of-at.result) c.number.ensures named in
+          let live = subst (λ (z : ZoneState). IsTrue (is_pointer z.heap.table c.args.pointer)) (sym c.self.view_is) c.requires.live in
+          let fits = subst Fits (sym c.self.view_is) c.page-page.ensures.fits in
+          pages-kept c.self.inside.pages c.forget.new.pages (c.forget.auto.pages ∙ c.deref_mut.ensures.len) c.unfix.ensures
+          (pages-unfixed c.self.inside.zone c.self.inside.pages.items c.forget.new.pages c.self.invariant.pages c.place_of-at.result
+          (forgets-read c.place_of-at.result c.place_of-at.result c.self.view_is c.deref_mut.ensures.value c.page-page.ensures.value c.page-page.ensures.value c.forget.ensures) c.args.pointer fits own live));
+      lengths = (lengths-of c.note.new.self c.unfix.ensures (lengths-out c.self.inside.zone.heap.table c.self.inside.lengths c.note.new.self c.args.pointer c.number-2.result 0 c.number-2.ensures c.self.invariant.lengths c.note.ensures refl));
+    }
+
+pub page-page-requires-clause-high : goal.page-page-requires-clause-high
+page-page-requires-clause-high c =
+    let named = subst (λ (z : ZoneState). NamedAt z c.number.result c.place_of-at.result) (c.self.view_is) c.place_of-at.ensures in
+    let place = named.place in
+    let ends = part-ends c.args.self.now named.before (named.here ∷ named.behind) named.map in
+    omega arith

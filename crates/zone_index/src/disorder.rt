@@ -1,0 +1,72 @@
+//! The first block that can be moved down.
+
+ghost use Rattle.std.specs.Prelude.{IsTrue, MatchOption, false};
+ghost use Rattle.zone_index.specs.Disorder.{FirstOutOfOrder, OrderedTo};
+ghost use Rattle.zone_index.specs.Pages.{ArePages};
+ghost use Rattle.zone_index.specs.Weights.{in_order, weights};
+
+use crate::pages::page_sums;
+use crate::sums::Sums;
+use crate::weight::weigh;
+use crate::zone::IndexedZone;
+use linked_zone::LinkedZone;
+use mac_base::size::ZONE_HEADER;
+
+impl IndexedZone {
+    ghost use Rattle.std.specs.Prelude.{◌≡◌, IsTrue, MatchOption, false};
+    ghost use Rattle.zone_index.specs.Disorder.{FirstOutOfOrder};
+    ghost use Rattle.zone_index.specs.Weights.{in_order, weights};
+
+    /// The address of the first block that can be moved down, if there is one: right before it stands a free block, and it isn't
+    /// fixed. Of the pages below only those are gone through that changed since they were last looked at, and the one in which it
+    /// is found.
+    pub fn first_out_of_order(&mut self) -> Option<u32>
+        ensures zone { self.new ≡ self.old }
+        ensures first { MatchOption result (IsTrue (in_order false (weights self.old.heap.table self.old.heap.map))) (λ at. FirstOutOfOrder self.old at) }
+    {
+        first_by_pages(&self.zone, &mut self.pages)
+    }
+}
+
+/// The first block that is out of order, found by the sums of pages.
+fn first_by_pages(zone: &LinkedZone, pages: &mut [Option<Sums>]) -> Option<u32>
+    requires pages { ArePages zone.now pages.old }
+    ensures pages { ArePages zone.now pages.new }
+    ensures first { MatchOption result (IsTrue (in_order false (weights zone.now.heap.table zone.now.heap.map))) (λ at. FirstOutOfOrder zone.now at) }
+{
+    let spec = zone.spec();
+    let end = spec.base() + spec.size();
+    let mut at = spec.base() + ZONE_HEADER;
+    let mut free = false;
+    while at < end {
+        let here = page_sums(zone, pages, at);
+        let behind = here.order.behind(free);
+        if !behind.arranged {
+            return first_from(zone, at, free);
+        }
+        free = behind.free;
+        at += here.bytes;
+    }
+    None
+}
+
+/// The first block that is out of order, where those below an address are in order and the last of them is free, or not.
+fn first_from(zone: &LinkedZone, from: u32, free: bool) -> Option<u32>
+    requires { OrderedTo zone.now from free }
+    ensures { MatchOption result (IsTrue (in_order false (weights zone.now.heap.table zone.now.heap.map))) (λ at. FirstOutOfOrder zone.now at) }
+{
+    let spec = zone.spec();
+    let end = spec.base() + spec.size();
+    let mut at = from;
+    let mut behind_free = free;
+    while at < end {
+        let here = zone.entry_at(at);
+        let weight = weigh(zone, here.size, here.kind);
+        if behind_free && !weight.fixed {
+            return Some(at);
+        }
+        behind_free = weight.free > 0;
+        at += here.size;
+    }
+    None
+}

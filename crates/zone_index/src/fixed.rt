@@ -1,0 +1,93 @@
+//! Where gaps begin and end, found by marks of the fixed blocks.
+
+ghost use Rattle.std.specs.Prelude.{◌≡◌, ◌+◌, ◌↔◌, IfNone, IfSome, IsTrue};
+ghost use Rattle.mac_base.specs.Gap.{is_fixed};
+ghost use Rattle.mac_base.specs.ZoneMap.{total_size};
+ghost use Rattle.linked_zone.specs.Places.{SplitAt};
+ghost use Rattle.zone_index.specs.Marks.{AreMarked, FixedAt};
+ghost use Rattle.zone_index.specs.Runs.{FrontAt, RestAt};
+ghost use Rattle.zone_index.specs.Search.{LastFixed, NextFixed, NoneBelow, NoneFrom};
+
+use linked_zone::LinkedZone;
+use mac_base::block::Kind;
+use mac_base::size::ZONE_HEADER;
+use place_numbers::marks::Marks;
+
+/// Whether a fixed block's header stands at this address. One header is read.
+fn is_fixed_at(zone: &LinkedZone, at: u32) -> bool
+    ensures { IsTrue result ↔ FixedAt zone.now at }
+{
+    let _spec = zone.spec();
+    match zone.entry(at) {
+        Some(block) => match block.entry.kind {
+            Kind::Free => false,
+            Kind::Master | Kind::Ptr(_) => true,
+            Kind::Rel(_) => block.flags.lock,
+        },
+        None => false,
+    }
+}
+
+/// The address of the first fixed block from an address on, if there is one.
+fn next_fixed(zone: &LinkedZone, marks: &Marks, from: u32) -> Option<u32>
+    requires split { SplitAt zone.now from }
+    requires marked { AreMarked is_fixed zone.now marks.now }
+    ensures next { IfSome result (λ at. NextFixed zone.now from at) }
+    ensures none { IfNone result (NoneFrom zone.now from) }
+{
+    let base = zone.spec().base();
+    let mut place = (from - base) as usize / 4;
+    while let Some(found) = marks.first_at_least(1, place) {
+        let at = base + 4 * found as u32;
+        if is_fixed_at(zone, at) {
+            return Some(at);
+        }
+        place = found + 1;
+    }
+    None
+}
+
+/// The address of the last fixed block below an address, if there is one.
+fn last_fixed(zone: &LinkedZone, marks: &Marks, end: u32) -> Option<u32>
+    requires split { SplitAt zone.now end }
+    requires marked { AreMarked is_fixed zone.now marks.now }
+    ensures last { IfSome result (λ at. LastFixed zone.now end at) }
+    ensures none { IfNone result (NoneBelow zone.now end) }
+{
+    let base = zone.spec().base();
+    let mut place = (end - base) as usize / 4;
+    while let Some(found) = marks.last_at_least(1, place) {
+        let at = base + 4 * found as u32;
+        if is_fixed_at(zone, at) {
+            return Some(at);
+        }
+        place = found;
+    }
+    None
+}
+
+/// The address behind the gap that has the blocks from an address on.
+pub(crate) fn gap_end(zone: &LinkedZone, marks: &Marks, start: u32) -> u32
+    requires rest { RestAt zone.now start }
+    requires marked { AreMarked is_fixed zone.now marks.now }
+    ensures { (rest : RestAt zone.now start) → result ≡ start + total_size rest.blocks }
+{
+    let spec = zone.spec();
+    match next_fixed(zone, marks, start) {
+        Some(at) => at,
+        None => spec.base() + spec.size(),
+    }
+}
+
+/// The address at which the gap begins that has the blocks before an address.
+pub(crate) fn gap_start(zone: &LinkedZone, marks: &Marks, end: u32) -> u32
+    requires front { FrontAt zone.now end }
+    requires marked { AreMarked is_fixed zone.now marks.now }
+    ensures { (front : FrontAt zone.now end) → result + total_size front.blocks ≡ end }
+{
+    let spec = zone.spec();
+    match last_fixed(zone, marks, end) {
+        Some(at) => at + zone.entry_at(at).size,
+        None => spec.base() + ZONE_HEADER,
+    }
+}

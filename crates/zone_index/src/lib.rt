@@ -1,0 +1,22 @@
+//! A zone with its index: it finds the lowest gap with room, where a gap begins and ends, which blocks may be purged and which can be
+//! moved down, what room it has, and how many bytes a handle has, without going through its blocks.
+#![tactic(auto)]
+
+mod around;
+mod changes;
+mod disorder;
+mod fixed;
+mod gap;
+mod lengths;
+mod marking;
+mod order;
+mod pages;
+mod purging;
+mod raise;
+mod span;
+mod sums;
+mod weight;
+mod zone;
+
+pub use sums::ZoneSums;
+pub use zone::IndexedZone;
