@@ -7,9 +7,9 @@ ghost use Rattle.mac_base.specs.Request.{stays};
 ghost use Rattle.zone_gaps.specs.Gaps.{Settled, IsGapOf};
 
 use crate::gap::{FoundGap, zone_end};
-use zone_index::IndexedZone;
 use mac_base::handle::Handle;
 use mac_base::zone_spec::ADDRESS_END;
+use zone_index::IndexedZone;
 
 /// The gap in which the block of an unlocked handle lies.
 pub fn own_gap(zone: &IndexedZone, handle: Handle) -> FoundGap

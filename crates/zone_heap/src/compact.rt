@@ -5,8 +5,8 @@ use linked_zone::LinkedZone;
 use mac_base::block::Kind;
 use mac_base::handle::Handle;
 use mac_base::zone_spec::ADDRESS_END;
-use zone_index::IndexedZone;
 use zone_gaps::{raise, squeeze_all_down, squeeze_down, zone_end};
+use zone_index::IndexedZone;
 
 impl Zone {
     ghost use Rattle.std.specs.Prelude.{◌≡◌, IsTrue, IsFalse};

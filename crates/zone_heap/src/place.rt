@@ -5,8 +5,8 @@ use crate::zone::{Zone, cut};
 use mac_base::handle::{Handle, Ptr};
 use mac_base::size::{MASTER_LENGTH, need_for};
 use mac_base::zone_spec::ADDRESS_END;
-use zone_index::IndexedZone;
 use zone_gaps::{squeeze_down, squeeze_up};
+use zone_index::IndexedZone;
 
 impl Zone {
     ghost use Rattle.std.specs.Prelude.{◌≤◌, MatchResult};

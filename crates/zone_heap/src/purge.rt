@@ -65,15 +65,14 @@ ghost use Rattle.zone_heap.specs.Joins.{all_joined};
 ghost use Rattle.zone_heap.specs.Purge.{ApartBeside, BlocksAt, AllStay, CanCount, FirstToPurge, GapAround, IsLimit, MovesAt, ShortBlocks, ShortGaps, Purges, PurgesFor, PurgesTo, blocks_behind, bounds_gap, bounds_free, bytes_before, bytes_of_kind, counts, handle_to_purge, is_kept, is_protected, may_purge, purged_between, run_past, staying_block, HasBlockIf};
 
 use crate::zone::Zone;
-use zone_index::IndexedZone;
 use linked_zone::LinkedZone;
 use mac_base::block::Kind;
 use mac_base::handle::{Handle, Ptr};
 use mac_base::request::Request;
 use mac_base::size::{MASTER_LENGTH, ZONE_HEADER, need_for};
 use mac_base::zone_spec::ADDRESS_END;
-use zone_index::IndexedZone;
 use zone_gaps::zone_end;
+use zone_index::IndexedZone;
 
 /// Which blocks are purged: those between two addresses that may be. Where the addresses are one, none is.
 #[derive(Clone, Copy)]

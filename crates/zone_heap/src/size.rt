@@ -17,13 +17,12 @@ ghost use Rattle.zone_heap.specs.declared.shortage.Shortage.TheVariants.{NoRoom}
 use crate::place::open_lowest;
 use crate::shortage::Shortage;
 use crate::zone::{Zone, cut, free_behind, front, join, shrink};
-use zone_index::IndexedZone;
 use linked_zone::LinkedZone;
 use mac_base::handle::{Handle, Ptr};
 use mac_base::size::need_for;
 use mac_base::zone_spec::{ADDRESS_END, LARGEST_LIMIT};
-use zone_index::IndexedZone;
 use zone_gaps::{FoundGap, gap_behind, open_after, own_gap, squeeze_up};
+use zone_index::IndexedZone;
 
 /// Gives the block of a handle or a pointer `length` bytes: where it is; or else once the other blocks of the gap in which
 /// it can grow have made way for it; or else, if it may move, in a new place. Bytes that were in it stay, as far as they

@@ -6,10 +6,10 @@ use mac_base::error::HostFull;
 use mac_base::handle::{Handle, Ptr};
 use mac_base::size::{MASTER_LENGTH, ZONE_HEADER, need_for};
 use mac_base::zone_spec::{ADDRESS_END, ZoneSpec};
-use zone_index::IndexedZone;
 use raw_region::Lent;
 use std::alloc::Global;
 use std::marker::Model;
+use zone_index::IndexedZone;
 
 /// A heap zone in raw bytes. Contracts see its shape and its heap: the handle table, the zone map and the free slots.
 /// All host memory is taken by `create`.
