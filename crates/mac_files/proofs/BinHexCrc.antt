@@ -87,7 +87,7 @@ with_bit_xor x y hx hy = elim (cases_lt x 32768) [
 
 -- Many bits.
 
-bits_lt : (n x : ℕ) → x < 65536 → iterate with_bit n x < 65536
+pub bits_lt : (n x : ℕ) → x < 65536 → iterate with_bit n x < 65536
 bits_lt zero x h = h
 bits_lt (suc n) x h = bits_lt n (with_bit x) (with_bit_lt x h)
 

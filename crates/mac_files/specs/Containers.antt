@@ -37,6 +37,7 @@ contents_of Raw file = record {
   resource_fork = has_bytes (record { offset = 0; length = length file });
   data_fork = None;
   name = None;
+  comment = None;
   finder = None;
   dates = None;
 }

@@ -7,7 +7,7 @@ use Rattle.mac_files.specs.declared.container.Version.{Version}
 use Rattle.mac_files.specs.declared.container.Version.TheVariants.{I, II, III}
 use Rattle.mac_files.specs.declared.contents.FinderInfo.{FinderInfo}
 use Rattle.mac_files.specs.declared.contents.Contents.{Contents}
-use Rattle.mac_files.specs.Parts.{has_bytes}
+use Rattle.mac_files.specs.Parts.{has_bytes, lies_within}
 
 -- what all versions have: a header of 128 bytes with zeros at 0, 74 and 82, and a name of 1 to 63 bytes, whose length is at 1
 unfoldable pub has_form : List ℕ → Bool
@@ -58,12 +58,23 @@ header_finder file = record {
 abbrev pub header_name : List ℕ → Option Part
 header_name file = if nat_le (slice_index file 1) 63 then has_bytes (record { offset = 2; length = slice_index file 1 }) else None
 
+-- where what follows the resource fork begins: the comment
+abbrev pub comment_place : List ℕ → ℕ
+comment_place file = (resource_fork file).offset + padded (resource_fork file).length
+
+-- the comment, whose length is at 99, unless it ends outside the file
+abbrev pub comment_of : List ℕ → Option Part
+comment_of file =
+    let part : Part = record { offset = comment_place file; length = big_from 99 2 file } in
+    if lies_within (length file) part then has_bytes part else None
+
 -- what the header tells
 abbrev pub mac_binary_contents : List ℕ → Contents
 mac_binary_contents file = record {
   resource_fork = has_bytes (resource_fork file);
   data_fork = has_bytes (data_fork file);
   name = header_name file;
+  comment = comment_of file;
   finder = Some (header_finder file);
   dates = Some (record { created = big_from 91 4 file; modified = big_from 95 4 file });
 }

@@ -11,11 +11,12 @@ bytes_of part file = take part.length (drop part.offset file)
 abbrev pub lies_within : ℕ → Part → Bool
 lies_within length part = (part.length == 0) || nat_le (part.offset + part.length) length
 
--- the forks and the name lie within a file of so many bytes
+-- the forks, the name and the comment lie within a file of so many bytes
 pub record AreWithin (length : ℕ) (contents : Contents) : Type 0 where
   pub resource_fork : IfSome contents.resource_fork (λ part. lies_within length part ≡ true)
   pub data_fork : IfSome contents.data_fork (λ part. lies_within length part ≡ true)
   pub name : IfSome contents.name (λ part. lies_within length part ≡ true)
+  pub comment : IfSome contents.comment (λ part. lies_within length part ≡ true)
 
 -- the part, unless it has no bytes
 abbrev pub has_bytes : Part → Option Part

@@ -25,6 +25,8 @@ const RESOURCE_FORK: u32 = 2;
 
 const REAL_NAME: u32 = 3;
 
+const COMMENT: u32 = 4;
+
 const FILE_DATES: u32 = 8;
 
 const FINDER_INFO: u32 = 9;
@@ -183,6 +185,7 @@ pub(crate) fn read_apple(file: &[u8]) -> Result<Contents, ContainerFault>
         resource_fork: part_of(file, RESOURCE_FORK),
         data_fork: part_of(file, DATA_FORK),
         name: part_of(file, REAL_NAME),
+        comment: part_of(file, COMMENT),
         finder,
         dates,
     })

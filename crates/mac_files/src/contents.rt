@@ -30,6 +30,8 @@ pub struct Contents {
     pub data_fork: Option<Part>,
     /// Where in the container the name of the file is.
     pub name: Option<Part>,
+    /// Where in the container the comment of the Finder's Get Info is.
+    pub comment: Option<Part>,
     pub finder: Option<FinderInfo>,
     pub dates: Option<Dates>,
 }

@@ -1,10 +1,10 @@
 //! MacBinary: a header, a second header that later versions may have, the data fork and the resource fork. Each begins at a
 //! multiple of 128.
 
-ghost use Rattle.std.specs.Prelude.{◌≡◌, ◌==◌, ◌≤◌, ◌<◌, ◌^◌, length, IfOk, IfSome, OnOk, true};
+ghost use Rattle.std.specs.Prelude.{◌≡◌, ◌==◌, ◌≤◌, ◌<◌, ◌+◌, ◌^◌, length, IfOk, IfSome, OnOk, true};
 ghost use Rattle.std.specs.List.{list_all};
 ghost use Rattle.std.specs.Result.{result_err};
-ghost use Rattle.mac_files.specs.MacBinary.{data_fork, has_form, header_finder, header_name, mac_binary_contents, padded, resource_fork, says_one, says_three, says_two, version_of};
+ghost use Rattle.mac_files.specs.MacBinary.{comment_of, data_fork, has_form, header_finder, header_name, mac_binary_contents, padded, resource_fork, says_one, says_three, says_two, version_of};
 ghost use Rattle.mac_files.specs.Faults.{checksum_fault, fork_fault, mac_binary_fault, sum_fault};
 ghost use Rattle.mac_files.specs.Parts.{lies_within, AreWithin};
 
@@ -98,7 +98,8 @@ pub(crate) fn version_of(file: &[u8]) -> Option<Version>
 /// So many bytes with those that fill the last 128.
 pub fn padded(length: usize) -> usize
     requires { length < 2 ^ 32 }
-    ensures { result ≡ padded length }
+    ensures padded { result ≡ padded length }
+    ensures small { result ≤ length + 127 }
 {
     (length + 127) / 128 * 128
 }
@@ -210,6 +211,24 @@ fn name_in(file: &[u8]) -> Option<Part>
     }
 }
 
+/// Where the comment is, unless it ends outside the file.
+fn comment_in(file: &[u8]) -> Option<Part>
+    requires { 128 ≤ length file.now }
+    ensures comment { result ≡ comment_of file.now }
+    ensures within { IfSome result (λ part. lies_within (length file.now) part ≡ true) }
+{
+    let fork = resource_fork(file);
+    let comment = Part {
+        offset: fork.offset + padded(fork.length),
+        length: read_two(file, 99) as usize,
+    };
+    if comment.lies_within(file.len()) {
+        comment.if_any()
+    } else {
+        None
+    }
+}
+
 /// What MacBinary tells of a file.
 pub(crate) fn read_mac_binary(version: Version, file: &[u8]) -> Result<Contents, ContainerFault>
     ensures fault { result_err result ≡ mac_binary_fault version file.now }
@@ -221,6 +240,7 @@ pub(crate) fn read_mac_binary(version: Version, file: &[u8]) -> Result<Contents,
         resource_fork: resource_fork(file).if_any(),
         data_fork: data_fork(file).if_any(),
         name: name_in(file),
+        comment: comment_in(file),
         finder: Some(finder_in(file)),
         dates: Some(Dates {
             created: read_four(file, 91),

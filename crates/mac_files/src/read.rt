@@ -26,13 +26,14 @@ fn read_raw(file: &[u8]) -> Contents
         resource_fork: fork.if_any(),
         data_fork: None,
         name: None,
+        comment: None,
         finder: None,
         dates: None,
     }
 }
 
 /// What a file tells that is read as this container: where its forks are, and more. An error comes exactly where the container has
-/// a fault, and is the first. The places of the forks and the name lie within the file.
+/// a fault, and is the first. The places of the forks, the name and the comment lie within the file.
 pub fn read_contents(container: Container, file: &[u8]) -> Result<Contents, ContainerFault>
     ensures fault { result_err result ≡ fault_of container file.now }
     ensures contents { IfOk result (λ contents. contents ≡ contents_of container file.now) }

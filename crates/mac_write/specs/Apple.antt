@@ -96,10 +96,10 @@ room_refusal file count =
     else None
 
 -- four bytes count the bytes of the fork
-abbrev pub fork_refusal : ℕ → Option Refusal
-fork_refusal count = if nat_lt 0xFFFFFFFF count then Some (TooLong count 0xFFFFFFFF) else None
+abbrev pub length_refusal : ℕ → Option Refusal
+length_refusal count = if nat_lt 0xFFFFFFFF count then Some (TooLong count 0xFFFFFFFF) else None
 
 -- why the fork isn't written: it is too long; an entry that can't be kept, the first of the list; no room
 abbrev pub apple_refusal : List ℕ → ℕ → Option Refusal
-apple_refusal file count = option_or (fork_refusal count)
+apple_refusal file count = option_or (length_refusal count)
     (option_or (option_map Overlap (find (is_in_the_way file) (entries_of file))) (room_refusal file count))

@@ -12,7 +12,8 @@ use Rattle.mac_files.specs.Parts.{bytes_of}
 use Rattle.mac_write.specs.declared.refusal.Refusal.{Refusal}
 use Rattle.mac_write.specs.declared.refusal.Refusal.TheVariants.{Damaged, HostFull}
 use Rattle.mac_write.specs.Apple.{all_entries, apple_refusal, apple_with_fork, is_fork}
-use Rattle.mac_write.specs.MacBinary.{binary_refusal, binary_with_fork, comment_place}
+use Rattle.mac_files.specs.MacBinary.{comment_place}
+use Rattle.mac_write.specs.MacBinary.{binary_refusal, binary_with_fork}
 
 -- the new file
 abbrev pub with_fork : Container → List ℕ → List ℕ → List ℕ

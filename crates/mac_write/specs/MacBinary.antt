@@ -1,10 +1,10 @@
 -- MacBinary with another resource fork.
-use Rattle.std.specs.Prelude.{ℕ, ◌+◌, nat_lt, if◌then◌else◌, List, ◌++◌, length, take, drop, Option, None, Some}
+use Rattle.std.specs.Prelude.{ℕ, nat_lt, if◌then◌else◌, List, ◌++◌, length, take, drop, Option, None, Some}
 use Rattle.byteorder.specs.Endian.{big_bytes}
 use Rattle.mac_files.specs.declared.container.Version.{Version}
 use Rattle.mac_files.specs.declared.container.Version.TheVariants.{I, II, III}
 use Rattle.mac_files.specs.Crc.{crc_of}
-use Rattle.mac_files.specs.MacBinary.{padded, resource_fork}
+use Rattle.mac_files.specs.MacBinary.{comment_place, padded, resource_fork}
 use Rattle.mac_write.specs.declared.refusal.Refusal.{Refusal}
 use Rattle.mac_write.specs.declared.refusal.Refusal.TheVariants.{TooLong}
 use Rattle.mac_write.specs.Bytes.{filled, put}
@@ -20,10 +20,6 @@ abbrev pub binary_front : Version → List ℕ → ℕ → List ℕ
 binary_front version file count =
     let place = (resource_fork file).offset in
     with_sum version (put 87 (big_bytes 4 count) (filled place (take place file)))
-
--- where what follows the resource fork begins: the comment
-abbrev pub comment_place : List ℕ → ℕ
-comment_place file = (resource_fork file).offset + padded (resource_fork file).length
 
 -- the new file: what comes before the fork, the fork with the zeros that fill its last 128 bytes, and what followed it
 abbrev pub binary_with_fork : Version → List ℕ → List ℕ → List ℕ

@@ -4,12 +4,13 @@ ghost use Rattle.std.specs.Prelude.{◌≡◌, ◌≤◌, ◌<◌, ◌+◌, ◌^
 ghost use Rattle.std.specs.Result.{result_err};
 ghost use Rattle.mac_files.specs.Apple.{entries_of, entry_outside, list_end};
 ghost use Rattle.mac_files.specs.Parts.{lies_within};
-ghost use Rattle.mac_write.specs.Apple.{all_entries, apple_with_fork, body, changed, entry_text, fork_refusal, front, growth, is_in_the_way, list_text, moved, moved_place, new_length, room_end, room_refusal};
+ghost use Rattle.mac_write.specs.Apple.{all_entries, apple_with_fork, body, changed, entry_text, length_refusal, front, growth, is_in_the_way, list_text, moved, moved_place, new_length, room_end, room_refusal};
 ghost use Rattle.mac_write.specs.Apple.{is_fork as is_fork_entry};
 ghost use Rattle.mac_write.specs.Forks.{Refuses, apple_why};
 ghost use Rattle.mac_write.specs.declared.refusal.Refusal.TheVariants.{Overlap};
 
 use crate::bytes::{push_four, push_two};
+use crate::length::check_length;
 use crate::plan::{Plan, plan_for};
 use crate::refusal::Refusal;
 use mac_files::apple::{check, entry_at, entry_count};
@@ -30,20 +31,6 @@ const MOST_ENTRIES: usize = 0xFFFF;
 
 /// The most bytes of a file.
 const MOST_BYTES: usize = 0xFFFF_FFFF;
-
-/// Checks that four bytes count the bytes of the fork.
-fn check_fork(count: usize) -> Result<(), Refusal>
-    ensures refusal { result_err result ≡ fork_refusal count }
-    ensures few { OnOk result (count < 2 ^ 32) }
-{
-    if count > MOST_BYTES {
-        return Err(Refusal::TooLong {
-            length: count,
-            most: MOST_BYTES,
-        });
-    }
-    Ok(())
-}
 
 /// Checks that every entry of the list can be kept.
 #[tactic(auto, using(mac_files::proofs::Steps::entries_step))]
@@ -141,7 +128,7 @@ pub(crate) fn apple_with_fork(alloc: Global, file: &[u8], fork: &[u8]) -> Result
     ensures refusal { Refuses (result_err result) (apple_why file.now (length fork.now)) }
 {
     check(file)?;
-    check_fork(fork.len())?;
+    check_length(fork.len())?;
     let plan = plan_for(file, fork.len());
     check_entries(&plan)?;
     check_room(&plan)?;

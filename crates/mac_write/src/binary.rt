@@ -5,7 +5,8 @@ ghost use Rattle.std.specs.Result.{result_err};
 ghost use Rattle.byteorder.specs.Endian.{big_bytes};
 ghost use Rattle.mac_write.specs.Bytes.{put};
 ghost use Rattle.mac_write.specs.Forks.{Refuses, binary_why};
-ghost use Rattle.mac_write.specs.MacBinary.{binary_front, binary_refusal, binary_with_fork, comment_place, longest_fork, with_sum};
+ghost use Rattle.mac_files.specs.MacBinary.{comment_place};
+ghost use Rattle.mac_write.specs.MacBinary.{binary_front, binary_refusal, binary_with_fork, longest_fork, with_sum};
 
 use crate::bytes::push_filled;
 use crate::refusal::Refusal;

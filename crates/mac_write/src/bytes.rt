@@ -26,7 +26,7 @@ pub(crate) fn push_four(bytes: &mut Vec<u8>, number: u32) -> Result<(), AllocErr
 }
 
 /// Adds so many zeros.
-fn push_zeros(bytes: &mut Vec<u8>, count: usize) -> Result<(), AllocError>
+pub(crate) fn push_zeros(bytes: &mut Vec<u8>, count: usize) -> Result<(), AllocError>
     ensures { OnOk result (bytes.new.items ≡ bytes.old.items ++ replicate count 0) }
 {
     for _ in 0..count {

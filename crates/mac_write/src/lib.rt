@@ -3,10 +3,17 @@
 #![tactic(auto)]
 
 mod apple;
+mod apple_text;
 mod binary;
+mod binary_text;
 mod bytes;
 mod fork;
+mod length;
+pub mod mac_file;
 mod plan;
 pub mod refusal;
+mod target;
 
 pub use fork::with_fork;
+pub use mac_file::{bin_hex_parts, parts_of};
+pub use target::{Target, write_file};

@@ -24,6 +24,21 @@ pub enum Refusal {
     /// AppleDouble.
     #[error("{length} bytes are too many: the container counts {most} at most")]
     TooLong { length: usize, most: usize },
+    /// MacBinary needs a name.
+    #[error("the container needs a name")]
+    NoName,
+    /// So many characters are more than a name of MacBinary has: 63.
+    #[error("a name of {0} characters is too long: the container holds 63")]
+    NameTooLong(usize),
+    /// A name with a character 0, or with $16 as its first, could be taken for another container.
+    #[error("the name has a control character that the container can't hold")]
+    NameCharacter,
+    /// The container's numbers can't count this date, in seconds from the beginning of 1904.
+    #[error("a date {0} seconds after the beginning of 1904 is outside what the container counts")]
+    DateOutside(u64),
+    /// So many bytes are more than a comment of MacBinary has: 65,535.
+    #[error("a comment of {0} bytes is too long: the container holds 65535")]
+    CommentTooLong(usize),
     /// The host has no memory for the file.
     #[error("the host has no memory")]
     HostFull,

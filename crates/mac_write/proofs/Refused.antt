@@ -1,0 +1,43 @@
+-- What is known where nothing is refused.
+use Rattle.std.proofs.Common.{◌≡◌, ℕ, ◌*◌, ◌<◌, Bool, true, false, List, [], ◌∷◌, take, get_or, fold, bit_xor, suc, refl, sym, subst, arith, inl, inr, Option, None, Some, if◌then◌else◌}
+use Rattle.std.specs.Prelude.{option_map}
+use Rattle.std.specs.Option.{option_or}
+use Rattle.std.proofs.lemmas.Bool.{cases_lt}
+use Rattle.std.proofs.lemmas.List.{get_or-take, get_or_past, length-take}
+use Rattle.std.proofs.lemmas.Nat.{xor_lt}
+use Rattle.mac_files.specs.Crc.{crc_of, with_byte}
+use Rattle.mac_files.proofs.BinHexCrc.{bits_lt}
+
+pub or_none : {X : Type 0} (a b : Option X) → option_or a b ≡ None → (a ≡ None) × (b ≡ None)
+or_none None b is = (refl, is)
+or_none (Some x) b is = absurd (cc is)
+
+pub map_none : {X Y : Type 0} (f : X → Y) (a : Option X) → option_map f a ≡ None → a ≡ None
+map_none f None is = refl
+map_none f (Some x) is = absurd (cc is)
+
+pub else_none : {X : Type 0} (b : Bool) (x : X) → (if b then Some x else None) ≡ None → b ≡ false
+else_none true x is = absurd (cc is)
+else_none false x is = refl
+
+pub then_none : {X : Type 0} (b : Bool) (x : X) → (if b then None else Some x) ≡ None → b ≡ true
+then_none true x is = refl
+then_none false x is = absurd (cc is)
+
+-- a checksum of bytes is of two bytes
+byte_lt : (crc byte : ℕ) → crc < 65536 → byte < 256 → with_byte crc byte < 65536
+unfolding with_byte
+byte_lt crc byte hc hb = bits_lt 8 (bit_xor crc (byte * 256)) (xor_lt 16 crc (byte * 256) hc (omega arith))
+
+fold_lt : (crc : ℕ) (bytes : List ℕ) → crc < 65536 → ((k : ℕ) → get_or bytes k 0 < 256) → fold with_byte crc bytes < 65536
+fold_lt crc [] hc hb = hc
+fold_lt crc (byte ∷ bytes) hc hb = fold_lt (with_byte crc byte) bytes (byte_lt crc byte hc (hb 0)) (λ k. hb (suc k))
+
+take_lt : (n : ℕ) (bytes : List ℕ) (k : ℕ) → ((k : ℕ) → get_or bytes k 0 < 256) → get_or (take n bytes) k 0 < 256
+take_lt n bytes k hb = elim (cases_lt k n) [
+  | inl below ↦ subst (λ (b : ℕ). b < 256) (sym (get_or-take n bytes k 0 below)) (hb k)
+  | inr past ↦ subst (λ (b : ℕ). b < 256) (sym (get_or_past (take n bytes) k 0 (omega (arith, length-take n bytes)))) (omega arith)
+]
+
+pub crc_lt : (n : ℕ) (bytes : List ℕ) → ((k : ℕ) → get_or bytes k 0 < 256) → crc_of (take n bytes) < 65536
+crc_lt n bytes hb = fold_lt 0 (take n bytes) (omega arith) (λ k. take_lt n bytes k hb)
