@@ -3,3 +3,4 @@ mod Gathered
 mod Changing
 mod Told
 mod Same
+mod Applied

@@ -18,10 +18,10 @@ use Rattle.fork_change.proofs.Standing.{none_found, there_found}
 use Rattle.fork_change.proofs.Told.{at_own, found_passes}
 
 -- what differs of rows
-abbrev only_new : Row → List Entry
+abbrev pub only_new : Row → List Entry
 only_new row = record { old = None; new = Some row } ∷ []
 
-abbrev both : Row → Row → List Entry
+abbrev pub both : Row → Row → List Entry
 both row other = record { old = Some row; new = Some other } ∷ []
 
 -- the same parts are the same row
@@ -39,14 +39,14 @@ name_self None = refl
 name_self (Some name) = (bytes_eq-Decides name name).1 refl
 
 -- what a row's type and id are, at which it is
-id_is : (what : ResourceId) (row : Row) → is_at what row ≡ true → id_of row ≡ what
+pub id_is : (what : ResourceId) (row : Row) → is_at what row ≡ true → id_of row ≡ what
 id_is what row at =
     let parts = and_parts (bytes_eq row.kind what.kind) (int_eq row.id what.id) at in
     let with : List ℕ → ℤ → ResourceId = λ kind id. record { kind = kind; id = id } in
     ap (λ (kind : List ℕ). with kind row.id) ((bytes_eq-Decides row.kind what.kind).0 parts.0) ∙ ap (with what.kind) ((Decides-int_eq row.id what.id).0 parts.1)
 
 -- rows of one type and id that are the same in all else
-row_is : (row other : Row) → is_at (id_of row) other ≡ true → is_same row other ≡ true → other ≡ row
+pub row_is : (row other : Row) → is_at (id_of row) other ≡ true → is_same row other ≡ true → other ≡ row
 row_is row other at same =
     let ids = and_parts (bytes_eq other.kind row.kind) (int_eq other.id row.id) at in
     let parts = and_parts (same_name row.name other.name) (row.attributes.0 == other.attributes.0 && bytes_eq row.datum other.datum) same in
@@ -71,7 +71,7 @@ both_empty [] ys none = (refl, none)
 both_empty (x ∷ xs) ys none = absurd (cc none)
 
 -- a type and id that aren't there, with one row more that has others
-still_none : (what : ResourceId) (before : List Row) (row : Row) → is_there what before ≡ false → is_at what row ≡ false → is_there what (before ++ row ∷ []) ≡ false
+pub still_none : (what : ResourceId) (before : List Row) (row : Row) → is_there what before ≡ false → is_at what row ≡ false → is_there what (before ++ row ∷ []) ≡ false
 still_none what before row none apart =
     list_any-append (is_at what) before (row ∷ []) ∙ or_from (is_there what before) (list_any (is_at what) (row ∷ [])) none (or_from (is_at what row) false apart refl)
 

@@ -1,9 +1,9 @@
 -- What differs between two tables.
-use Rattle.std.specs.Prelude.{◌==◌, ◌&&◌, ℕ, Bool, true, false, if◌then◌else◌, List, [], ◌∷◌, ◌++◌, bytes_eq, Option, None, Some, option_copied}
-use Rattle.std.specs.List.{find}
+use Rattle.std.specs.Prelude.{◌==◌, ◌&&◌, not, ℕ, Bool, true, false, if◌then◌else◌, List, [], ◌∷◌, ◌++◌, bytes_eq, Option, None, Some, option_copied}
+use Rattle.std.specs.List.{filter, find}
 use Rattle.fork_bytes.specs.Rows.{Row}
 use Rattle.fork_change.specs.declared.comparing.Difference as found
-use Rattle.fork_change.specs.Rows.{id_of, is_at, is_there}
+use Rattle.fork_change.specs.Rows.{id_of, is_at, is_there, put}
 
 -- what differs of a type and id: the rows that two tables have, if they have one
 pub record Entry : Type 0 where
@@ -46,3 +46,15 @@ added_in first before (row ∷ rows) =
 -- what differs between two tables
 abbrev pub diff : List Row → List Row → List Entry
 diff first second = changed_in second [] first ++ added_in first [] second
+
+-- the rows after a difference is applied: a row that is new is put, and of a type and id that are gone no row is left
+abbrev pub changed_by : Option Row → Option Row → List Row → List Row
+changed_by None None rows = rows
+changed_by (Some old) None rows = filter (λ row. not (is_at (id_of old) row)) rows
+changed_by None (Some new) rows = put new rows
+changed_by (Some old) (Some new) rows = put new rows
+
+-- the rows after all are
+abbrev pub applied : List Entry → List Row → List Row
+applied [] rows = rows
+applied (entry ∷ entries) rows = applied entries (changed_by entry.old entry.new rows)

@@ -7,7 +7,7 @@ use Rattle.fork_bytes.specs.Laws.{IsRow, IsTable}
 use Rattle.fork_change.specs.declared.row.ResourceId.{ResourceId}
 use Rattle.fork_change.specs.declared.copying.Collision.{Collision}
 use Rattle.fork_change.specs.Copies.{copied}
-use Rattle.fork_change.specs.Differences.{diff}
+use Rattle.fork_change.specs.Differences.{applied, diff}
 use Rattle.fork_change.specs.Rows.{id_of, is_at, is_there, put, removed, changed_to, added, with_rows}
 
 -- what is found of its type and id is the row that was put; any others with them stay after it
@@ -36,6 +36,10 @@ IsMovedBack = (what : ResourceId) (old new : Row) (rows : List Row) → find (is
 -- nothing differs exactly where the same row is found for each type and id
 abbrev pub IsNoDifference : Type 0
 IsNoDifference = (first second : List Row) → (diff first second ≡ []) ↔ ((what : ResourceId) → find (is_at what) first ≡ find (is_at what) second)
+
+-- and what differs, applied to the first, gives the rows that are found in the second
+abbrev pub IsApplied : Type 0
+IsApplied = (first second : List Row) (what : ResourceId) → find (is_at what) (applied (diff first second) first) ≡ find (is_at what) second
 
 -- what comes of a table is one, so that it can be written and read again
 pub record KeepsTables : Type 0 where

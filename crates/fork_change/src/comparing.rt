@@ -1,6 +1,6 @@
 //! What differs between two tables.
 
-ghost use Rattle.std.specs.Prelude.{◌≡◌, ◌++◌, [], drop, map, take, IfErr, IfOk, OnOk};
+ghost use Rattle.std.specs.Prelude.{◌≡◌, ◌≢◌, ◌++◌, [], drop, map, slice_get, take, IfErr, IfNone, IfOk, IfSome, OnOk};
 ghost use Rattle.fork_change.specs.Copies.{IsTooMany};
 ghost use Rattle.fork_change.specs.Differences.{added_in, changed_in, diff, is_same, same_name, shown};
 ghost use Rattle.fork_change.specs.declared.refusal.Refusal.TheVariants as why;
@@ -40,6 +40,25 @@ fn is_same(row: &Row, other: &Row) -> bool
     same_name(&row.name, &other.name)
         && row.attributes.bits() == other.attributes.bits()
         && row.datum.as_slice() == other.datum.as_slice()
+}
+
+/// The first place at which bytes differ from others, or at which one of them ends. None exactly where they are the same.
+pub fn first_difference(bytes: &[u8], other: &[u8]) -> Option<usize>
+    ensures before { IfSome result (λ at. take at bytes.now ≡ take at other.now) }
+    ensures differs { IfSome result (λ at. slice_get bytes.now at ≢ slice_get other.now at) }
+    ensures same { IfNone result (bytes.now ≡ other.now) }
+{
+    let most = bytes.len().min(other.len());
+    for at in 0..most {
+        if bytes[at] != other[at] {
+            return Some(at);
+        }
+    }
+    if bytes.len() == other.len() {
+        None
+    } else {
+        Some(most)
+    }
 }
 
 /// Adds what differs of the rows of the first table.
