@@ -9,9 +9,7 @@
 #include <fcntl.h>
 #include <signal.h>
 #include <stdarg.h>
-#include <stdio.h>
 #include <stdlib.h>
-#include <string.h>
 #include <sys/stat.h>
 #include <unistd.h>
 
@@ -47,15 +45,25 @@ static int fails(char letter)
     return 1;
 }
 
+/* The mode that follows the flags of an open, if it makes a file. */
+#define MODE_OF(mode, flags) \
+    mode_t mode = 0; \
+    if ((flags) & O_CREAT) { \
+        va_list rest; \
+        va_start(rest, flags); \
+        mode = va_arg(rest, mode_t); \
+        va_end(rest); \
+    }
+
+int open(const char *path, int flags, ...)
+{
+    MODE_OF(mode, flags)
+    return fails(flags & O_CREAT ? 'c' : 'o') ? -1 : NEXT(open)(path, flags, mode);
+}
+
 int openat(int folder, const char *path, int flags, ...)
 {
-    mode_t mode = 0;
-    if (flags & O_CREAT) {
-        va_list rest;
-        va_start(rest, flags);
-        mode = va_arg(rest, mode_t);
-        va_end(rest);
-    }
+    MODE_OF(mode, flags)
     return fails(flags & O_CREAT ? 'c' : 'o') ? -1 : NEXT(openat)(folder, path, flags, mode);
 }
 

@@ -1,11 +1,17 @@
 -- How what a crash may leave goes on from call to call.
-use Rattle.std.proofs.Common.{◌≡◌, inl, inr, ℕ, false, List, ◌∷◌, Option, Some, refl, sym, ◌∙◌, ap, subst}
+use Rattle.std.proofs.Common.{◌≡◌, ◌⊎◌, inl, inr, ℕ, false, List, [], ◌∷◌, ◌++◌, Option, Some, None, Result, Ok, Err, refl, sym, ◌∙◌, ap, subst}
+use Rattle.std.specs.Prelude.{OnOk, OnErr, IfErr, MatchResult}
 use Rattle.fork_disk.specs.Crash.{AlwaysFinds, Finds, at_first, and_then}
 use Rattle.file_replace.specs.declared.place.PlainFile.{PlainFile}
-use Rattle.file_replace.specs.declared.place.Event.TheVariants.{Changed, Synced, Failed, Renamed, Tried}
-use Rattle.file_replace.specs.Place.{History, MayBe, MayLeave, MaySettle, has_failed}
-use Rattle.file_replace.specs.OnPlace.{Follows}
-use Rattle.file_replace.specs.Replacing.{IsNew, IsOldOrNew}
+use Rattle.file_replace.specs.declared.place.Event.TheVariants.{Made, Changed, Synced, Failed, Renamed, Tried, Asked}
+use Rattle.file_replace.specs.declared.place.FolderSync.{FolderSync}
+use Rattle.file_replace.specs.declared.place.FolderSync.TheVariants.{Done, NotOffered}
+use Rattle.file_replace.specs.declared.replacement.Step.{Step}
+use Rattle.file_replace.specs.declared.replacement.Step.TheVariants.{Rename}
+use Rattle.file_replace.specs.declared.replacement.Stopped.{Stopped}
+use Rattle.file_replace.specs.Place.{Folder, History, MayBe, MayLeave, MaySettle, has_failed}
+use Rattle.file_replace.specs.OnPlace.{Follows, moved}
+use Rattle.file_replace.specs.Replacing.{HasAfter, IsEarly, IsNew, IsOldOrNew}
 
 abbrev pub Left : Type 0
 Left = Option PlainFile
@@ -16,7 +22,7 @@ module _ (P : Left → Type 0) where
   leaves_now old new (at_first here) = here
   leaves_now old new (and_then so_far here) = here
 
-  same_end : (old mid new : History) → AlwaysFinds MayLeave P old mid → new ≡ mid → AlwaysFinds MayLeave P old new
+  pub same_end : (old mid new : History) → AlwaysFinds MayLeave P old mid → new ≡ mid → AlwaysFinds MayLeave P old new
   same_end old mid new so_far same = subst (λ (h : History). AlwaysFinds MayLeave P old h) (sym same) so_far
 
   -- the file beside was changed, or synced, or a sync of it failed: the path is as it was
@@ -66,3 +72,109 @@ module _ (mode : Option ℕ) (bytes : List ℕ) (file : PlainFile) (start mid no
 
   pub settles : (new : History) → new ≡ Renamed ∷ now → Finds MaySettle (IsNew mode bytes) new
   settles new is left may = comes left (subst (λ (h : History). MaySettle h left) is may)
+
+  -- whether it was done or not
+  pub along_rename : {T E : Type 0} (answer : Result T E) (new : History) → MatchResult answer (λ _. new ≡ Renamed ∷ now) (λ _. new ≡ Tried ∷ now)
+      → AlwaysFinds MayLeave (IsOldOrNew start mode bytes) start new
+  along_rename (Ok value) new is = along_renamed new is
+  along_rename (Err error) new is = along_tried new is
+
+-- two stretches in a row, the second by what might be left after the first
+pub along_then : (P : Left → Type 0) (old mid new : History) → AlwaysFinds MayLeave P old mid → AlwaysFinds MayLeave P mid new → AlwaysFinds MayLeave P old new
+along_then P old mid new first (at_first here) = first
+along_then P old mid new first (and_then {event} {past} so_far here) = and_then (along_then P old mid past first so_far) here
+
+weaker : (P Q : Left → Type 0) (old new : History) → ((left : Left) → P left → Q left) → AlwaysFinds MayLeave P old new → AlwaysFinds MayLeave Q old new
+weaker P Q old new gives (at_first here) = at_first (λ left may. gives left (here left may))
+weaker P Q old new gives (and_then {event} {past} so_far here) = and_then (weaker P Q old past gives so_far) (λ left may. gives left (here left may))
+
+-- an empty file was made, and then the rest came
+pub after_made : (mode : Option ℕ) (bytes : List ℕ) (start made new : History) → made ≡ Made ∷ start → AlwaysFinds MayLeave (IsOldOrNew made mode bytes) made new
+    → AlwaysFinds MayLeave (IsOldOrNew start mode bytes) start new
+after_made mode bytes start made new is later =
+    along_then (IsOldOrNew start mode bytes) start made new
+    (same_end (IsOldOrNew start mode bytes) start (Made ∷ start) made (and_then (at_first (λ left may. inl may)) (λ left may. inl may)) is)
+    (weaker (IsOldOrNew made mode bytes) (IsOldOrNew start mode bytes) made new older later)
+  where
+    older : (left : Left) → IsOldOrNew made mode bytes left → IsOldOrNew start mode bytes left
+    older left (inl may) = inl (subst (λ (h : History). MayLeave h left) is may)
+    older left (inr new) = inr new
+
+-- the folder was to be synced
+pub along_asked : (mode : Option ℕ) (bytes : List ℕ) (start mid new : History) (answer : FolderSync) → AlwaysFinds MayLeave (IsOldOrNew start mode bytes) start mid → Finds MaySettle (IsNew mode bytes) mid
+    → new ≡ Asked answer ∷ mid → AlwaysFinds MayLeave (IsOldOrNew start mode bytes) start new
+along_asked mode bytes start mid new Done so_far settles is = same_end (IsOldOrNew start mode bytes) start (Asked Done ∷ mid) new (and_then so_far (λ left may. inr (settles left may))) is
+along_asked mode bytes start mid new NotOffered so_far settles is =
+    same_end (IsOldOrNew start mode bytes) start (Asked NotOffered ∷ mid) new (and_then so_far (leaves_now (IsOldOrNew start mode bytes) start mid so_far)) is
+
+pub stable : (mode : Option ℕ) (bytes : List ℕ) (mid new : History) (answer : FolderSync) → Finds MaySettle (IsNew mode bytes) mid → new ≡ Asked answer ∷ mid → answer ≡ Done → Finds MayLeave (IsNew mode bytes) new
+stable mode bytes mid new answer settles is done left may =
+    let now : MayLeave (Asked Done ∷ mid) left = subst (λ (a : FolderSync). MayLeave (Asked a ∷ mid) left) done (subst (λ (h : History). MayLeave h left) is may) in settles left now
+
+-- how a step passes on the answer of its call
+abbrev pub IsStep : {T E : Type 0} → Step → Result T E → Result T (Stopped E) → Type 0
+IsStep step answer result = MatchResult result (λ value. answer ≡ Ok value) (λ stopped. (answer ≡ Err stopped.error) × (stopped.step ≡ step))
+
+-- a step by another name
+pub step_is : (Y : Step → Type 0) (step told : Step) → told ≡ step → Y step → Y told
+step_is Y step told is has = subst Y (sym is) has
+
+pub early_passes : {T E : Type 0} (step : Step) (answer : Result T E) (result : Result T (Stopped E)) → IsEarly step → IsStep step answer result → IfErr result (λ stopped. IsEarly stopped.step)
+early_passes step answer (Ok value) early is = tt
+early_passes step answer (Err stopped) early is = step_is IsEarly step stopped.step is.1 early
+
+-- the empty file is filled
+pub written : {T E : Type 0} (bytes : List ℕ) (old new : Left) (answer : Result T E) (value : T) → answer ≡ Ok value → ((file : PlainFile) × (old ≡ Some file) × (file.bytes ≡ []))
+    → OnOk answer ((file : PlainFile) → old ≡ Some file → new ≡ Some (record file { bytes = file.bytes ++ bytes })) → IsNew None bytes new
+written {T} {E} bytes old new answer value is empty has =
+    let becomes : (file : PlainFile) → old ≡ Some file → new ≡ Some (record file { bytes = file.bytes ++ bytes }) =
+    subst (λ (r : Result T E). OnOk r ((file : PlainFile) → old ≡ Some file → new ≡ Some (record file { bytes = file.bytes ++ bytes }))) is has in
+    (record empty.0 { bytes = empty.0.bytes ++ bytes }, becomes empty.0 empty.1, ap (λ (l : List ℕ). l ++ bytes) empty.2, tt)
+
+-- and gets its mode
+pub given : {T E : Type 0} (step : Step) (mode : ℕ) (bytes : List ℕ) (old new : Left) (answer : Result T E) (result : Result T (Stopped E)) → IsStep step answer result → IsNew None bytes old
+    → OnOk answer ((file : PlainFile) → old ≡ Some file → new ≡ Some (record file { mode = mode })) → OnOk result (IsNew (Some mode) bytes new)
+given step mode bytes old new answer (Err stopped) told is has = tt
+given {T} {E} step mode bytes old new answer (Ok value) told is has =
+    let becomes : (file : PlainFile) → old ≡ Some file → new ≡ Some (record file { mode = mode }) =
+    subst (λ (r : Result T E). OnOk r ((file : PlainFile) → old ≡ Some file → new ≡ Some (record file { mode = mode }))) told has in
+    (record is.0 { mode = mode }, becomes is.0 is.1, is.2, refl)
+
+-- what a sync did
+pub synced_is : {T E : Type 0} (beside : Left) (old new : History) (answer : Result T E) (value : T) → answer ≡ Ok value → OnOk answer ((file : PlainFile) → beside ≡ Some file → new ≡ Synced file ∷ old)
+    → (file : PlainFile) → beside ≡ Some file → new ≡ Synced file ∷ old
+synced_is {T} {E} beside old new answer value is has = subst (λ (r : Result T E). OnOk r ((file : PlainFile) → beside ≡ Some file → new ≡ Synced file ∷ old)) is has
+
+pub failed_is : {T E : Type 0} (old new : History) (answer : Result T E) (error : E) → answer ≡ Err error → OnErr answer (Follows Failed old new) → Follows Failed old new
+failed_is {T} {E} old new answer error is has = subst (λ (r : Result T E). OnErr r (Follows Failed old new)) is has
+
+-- the file beside goes to the path
+module _ {T E : Type 0} (mode : Option ℕ) (bytes : List ℕ) (now new : Folder) (beside : IsNew mode bytes now.beside) (step : Step) (answer : Result T E) where
+  come : new ≡ moved now → IsNew mode bytes new.path
+  come moves = subst (λ (f : Folder). IsNew mode bytes f.path) (sym moves) beside
+
+  pub comes_to : (result : Result T (Stopped E)) → IsStep step answer result → OnOk answer (new ≡ moved now) → OnOk result (IsNew mode bytes new.path)
+  comes_to (Err stopped) told has = tt
+  comes_to (Ok value) told has = come (subst (λ (r : Result T E). OnOk r (new ≡ moved now)) told has)
+
+  pub goes : (result : Result T (Stopped E)) → IsStep step answer result → OnOk answer (new ≡ moved now) → OnOk result (new.beside ≡ None)
+  goes (Err stopped) told has = tt
+  goes (Ok value) told has = ap (λ (f : Folder). f.beside) (subst (λ (r : Result T E). OnOk r (new ≡ moved now)) told has)
+
+  either : (old : Left) → now.path ≡ old → (new ≡ moved now) ⊎ (new ≡ now) → HasAfter Rename mode bytes old new.path
+  either old same (inl moves) = inr (come moves)
+  either old same (inr stays) = inl (ap (λ (f : Folder). f.path) stays ∙ same)
+
+  pub stays_or_comes : (old : Left) (result : Result T (Stopped E)) → step ≡ Rename → IsStep step answer result → now.path ≡ old → OnErr answer ((new ≡ moved now) ⊎ (new ≡ now))
+      → IfErr result (λ stopped. HasAfter stopped.step mode bytes old new.path)
+  stays_or_comes old (Ok value) is told same has = tt
+  stays_or_comes old (Err stopped) is told same has =
+      step_is (λ (s : Step). HasAfter s mode bytes old new.path) Rename stopped.step (told.1 ∙ is) (either old same (subst (λ (r : Result T E). OnErr r ((new ≡ moved now) ⊎ (new ≡ now))) told.0 has))
+
+pub settles_at : {T E : Type 0} (step : Step) (mode : Option ℕ) (bytes : List ℕ) (file : PlainFile) (start mid now new : History) → has_failed mid ≡ false → now ≡ Synced file ∷ mid → IsNew mode bytes (Some file)
+    → AlwaysFinds MayLeave (MayLeave start) start now → (answer : Result T E) (result : Result T (Stopped E)) → IsStep step answer result
+    → MatchResult answer (λ _. new ≡ Renamed ∷ now) (λ _. new ≡ Tried ∷ now) → OnOk result (Finds MaySettle (IsNew mode bytes) new)
+settles_at step mode bytes file start mid now new trusted synced is_new so_far answer (Err stopped) told crash = tt
+settles_at {T} {E} step mode bytes file start mid now new trusted synced is_new so_far answer (Ok value) told crash =
+    settles mode bytes file start mid now trusted synced is_new so_far new
+    (subst (λ (r : Result T E). MatchResult r (λ _. new ≡ Renamed ∷ now) (λ _. new ≡ Tried ∷ now)) told crash)

@@ -61,7 +61,12 @@ fn leads_to(rt: &HostRuntime, path: &PathBuf, file: &File) -> io::Result<bool> {
 }
 
 /// Puts a file of these bytes at a path that is no link.
-fn put(rt: &HostRuntime, path: PathBuf, bytes: &[u8], mode: Option<u32>) -> Result<FolderSync, Stop> {
+fn put(
+    rt: &HostRuntime,
+    path: PathBuf,
+    bytes: &[u8],
+    mode: Option<u32>,
+) -> Result<FolderSync, Stop> {
     let mut place: FileReplacer<UnknownFolder> = match FileReplacer::new(rt, path, 0) {
         Ok(place) => place,
         Err(error) => {

@@ -61,7 +61,11 @@ fn longest_file() -> u64 {
 /// Opens the folder of a path, to sync it, if its mode lets it be read.
 fn open_folder(rt: &HostRuntime, path: &PathBuf) -> io::Result<Option<File>> {
     let folder = folder_of(path);
-    let name = if folder.as_str() == "" { "." } else { folder.as_str() };
+    let name = if folder.as_str() == "" {
+        "."
+    } else {
+        folder.as_str()
+    };
     match fs::open(rt, name) {
         Ok(folder) => Ok(Some(folder)),
         Err(error) if error.kind() == ErrorKind::PermissionDenied => Ok(None),
@@ -124,7 +128,12 @@ impl<'a, W: FolderWorld> FileReplacer<'a, W> {
     }
 
     /// Notes a call with its answer, and counts a failure.
-    fn answered<T: Drop>(&mut self, call: Call, bytes: &[u8], answer: io::Result<T>) -> io::Result<T>
+    fn answered<T: Drop>(
+        &mut self,
+        call: Call,
+        bytes: &[u8],
+        answer: io::Result<T>,
+    ) -> io::Result<T>
         ensures cause { Counts self.old.failures self.new.failures result }
         ensures same { result ≡ answer }
         ensures number { self.new.number ≡ self.old.number }
@@ -148,9 +157,7 @@ fn sync_offered(folder: &Option<File>) -> io::Result<FolderSync> {
         Ok(()) => Ok(FolderSync::Done),
         Err(error)
             if error.kind() == ErrorKind::InvalidInput || error.kind() == ErrorKind::Unsupported =>
-        {
-            Ok(FolderSync::NotOffered)
-        }
+            { Ok(FolderSync::NotOffered) }
         Err(error) => Err(error),
     }
 }

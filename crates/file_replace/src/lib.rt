@@ -8,6 +8,8 @@ mod links;
 mod mem_place;
 mod place;
 mod replacement;
+#[cfg(test)]
+mod tests;
 mod told;
 mod world;
 

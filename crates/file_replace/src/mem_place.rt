@@ -66,8 +66,7 @@ impl MemPlace {
     }
 
     /// The file at the path.
-    pub fn file(&self) -> Option<&MemFile>
-    {
+    pub fn file(&self) -> Option<&MemFile> {
         self.path.as_ref()
     }
 
@@ -138,7 +137,11 @@ impl Replaces for MemPlace {
 
     fn write(&mut self, bytes: &[u8]) -> Result<(), DiskFault> {
         let is_turn = self.is_turn();
-        let part = if is_turn { &bytes[..bytes.len() / 2] } else { bytes };
+        let part = if is_turn {
+            &bytes[..bytes.len() / 2]
+        } else {
+            bytes
+        };
         let done = match &mut self.beside {
             Some(file) => file.bytes.extend_from_slice(part).is_ok() && !is_turn,
             None => false,

@@ -43,7 +43,7 @@ pub struct Fault<E> {
 
 /// The answer of a step.
 fn at<T, E>(step: Step, answer: Result<T, E>) -> Result<T, Stopped<E>>
-    ensures { MatchResult answer (λ value. result ≡ Ok value) (λ error. result ≡ Err (record { step = step; error = error })) }
+    ensures { MatchResult result (λ value. answer ≡ Ok value) (λ stopped. (answer ≡ Err stopped.error) × (stopped.step ≡ step)) }
 {
     match answer {
         Ok(value) => Ok(value),
@@ -69,11 +69,7 @@ fn fill<R: Replaces>(
 }
 
 /// Fills the empty file that was made beside the path, syncs it, and renames it to the path.
-fn put<R: Replaces>(
-    place: &mut R,
-    bytes: &[u8],
-    mode: Option<u32>,
-) -> Result<(), Stopped<R::Error>>
+fn put<R: Replaces>(place: &mut R, bytes: &[u8], mode: Option<u32>) -> Result<(), Stopped<R::Error>>
     requires { R.is_honest place.old → HasEmpty (R.contents place.old).beside (R.history place.old) }
     ensures puts { R.is_honest place.new → Puts R.contents R.history R.is_honest place.old place.new mode bytes.now result }
     ensures cause { Counts (R.failures place.old) (R.failures place.new) result }
@@ -95,14 +91,26 @@ pub fn replace<R: Replaces>(
     ensures cause { Counts (R.failures place.old) (R.failures place.new) result }
 {
     if let Err(error) = place.create(mode.is_some()) {
-        return Err(Fault { step: Step::Create, error, is_left: false });
+        return Err(Fault {
+            step: Step::Create,
+            error,
+            is_left: false,
+        });
     }
     if let Err(Stopped { step, error }) = put(place, bytes, mode) {
         let is_left = place.remove().is_err();
-        return Err(Fault { step, error, is_left });
+        return Err(Fault {
+            step,
+            error,
+            is_left,
+        });
     }
     match place.sync_folder() {
         Ok(answer) => Ok(answer),
-        Err(error) => Err(Fault { step: Step::SyncFolder, error, is_left: false }),
+        Err(error) => Err(Fault {
+            step: Step::SyncFolder,
+            error,
+            is_left: false,
+        }),
     }
 }
