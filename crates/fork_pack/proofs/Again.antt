@@ -1,14 +1,14 @@
 -- The rows are packed again.
-use Rattle.std.proofs.Common.{◌≡◌, ℕ, ◌+◌, ◌<◌, ◌^◌, inl, inr, Bool, true, false, List, [], ◌∷◌, ◌++◌, length, Option, Some, None, Result, Ok, Err, refl, sym, ap, ◌∙◌, append-nil, arith}
+use Rattle.std.proofs.Common.{◌≡◌, ℕ, ◌<◌, ◌^◌, inl, inr, List, [], ◌∷◌, ◌++◌, length, Option, Ok, refl, ap, ◌∙◌, arith}
 use Rattle.std.specs.Prelude.{filter}
 use Rattle.std.specs.List.{AllByRecursion}
 use Rattle.std.proofs.lemmas.Bool.{cases_Bool}
 use Rattle.fork_bytes.specs.Rows.{Row}
 use Rattle.fork_list.specs.Listing.{is_chosen}
-use Rattle.fork_folder.specs.Unpacked.{Unpacked, file_of, files_from, unpacked}
+use Rattle.fork_folder.specs.Unpacked.{file_of, files_from, unpacked}
 use Rattle.fork_folder.specs.Laws.{IsNamed}
 use Rattle.fork_folder.proofs.Apart.{own_paths}
-use Rattle.fork_pack.specs.Packed.{before, packed, row_with, with_row}
+use Rattle.fork_pack.specs.Packed.{before, packed, with_row}
 use Rattle.fork_pack.specs.Laws.{entries_from, entry_of, folder_with, manifest}
 use Rattle.fork_pack.proofs.Found.{IsIn, all_found}
 

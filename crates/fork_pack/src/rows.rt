@@ -1,7 +1,7 @@
 //! The rows of a manifest's entries.
 
-ghost use Rattle.std.specs.Prelude.{◌≡◌, IfOk, map};
-ghost use Rattle.fork_pack.specs.Packed.{Answers, folder_of, listed, packed, row_with};
+ghost use Rattle.std.specs.Prelude.{◌≡◌, IfOk, Err, map, option_map};
+ghost use Rattle.fork_pack.specs.Packed.{Answers, Fails, folder_of, listed, packed, row_with};
 
 use fork_bytes::table::{Contents, Row, Rows};
 use mac_base::name::Name;
@@ -80,9 +80,28 @@ fn row_with<'a>(entry: &Entry, bytes: &'a [u8]) -> Result<Row<'a>, AllocError>
     })
 }
 
+/// The bytes of the file of a path, if there is one.
+fn bytes_at<'a>(files: &'a BTreeMap<String, Vec<u8>>, path: &str) -> Option<&'a [u8]>
+    ensures { option_map (λ bytes. bytes.now) result ≡ folder_of files.now path.now }
+{
+    match files.get(path) {
+        Some(bytes) => Some(bytes.as_slice()),
+        None => None,
+    }
+}
+
+/// The file of an entry isn't there.
+fn missing(alloc: Global, entry: &Entry) -> PackFault
+    ensures { Fails result (Err (listed entry.now).file) }
+{
+    match String::from_str(alloc, entry.file.as_str()) {
+        Ok(path) => PackFault::NoFile(path),
+        Err(_) => PackFault::HostFull,
+    }
+}
+
 /// The rows of a manifest's entries, in their order, each with the bytes that the folder's file of its path has. The first path of which
 /// there is no file is told; the other error is that the host has no memory.
-#[tactic(auto, using(crate::proofs::Front::row_before))]
 pub fn packed<'a>(
     alloc: Global,
     entries: &[Entry],
@@ -93,10 +112,10 @@ pub fn packed<'a>(
     let mut rows = Vec::new(alloc);
     let mut left = entries;
     while let Some((entry, after)) = left.split_first() {
-        let Some(bytes) = files.get(entry.file.as_str()) else {
-            return Err(PackFault::NoFile(entry.file.clone()?));
+        let Some(bytes) = bytes_at(files, entry.file.as_str()) else {
+            return Err(missing(alloc, entry));
         };
-        rows.push(row_with(entry, bytes.as_slice())?)?;
+        rows.push(row_with(entry, bytes)?)?;
         left = after;
     }
     Ok(Rows::new(rows))
