@@ -19,9 +19,6 @@ use std::{fs, io};
 /// How many names are tried for the new file.
 const MOST_NAMES: u32 = 1000;
 
-/// What getrlimit is asked: how long a file may be that this process writes.
-const RLIMIT_FSIZE: i32 = 1;
-
 /// A file that was made beside a path.
 #[derive(Drop)]
 struct Beside {
@@ -45,16 +42,18 @@ pub struct FileReplacer<'a, W: FolderWorld> {
     world: PhantomData<W>,
 }
 
-/// How long a file may be that this process writes. A write past it would end the process.
-fn longest_file() -> u64 {
-    let mut limit = libc::types::rlimit {
-        rlim_cur: u64::MAX,
-        rlim_max: u64::MAX,
-    };
-    if libc::getrlimit(RLIMIT_FSIZE, &mut limit) == 0 {
-        limit.rlim_cur
-    } else {
-        u64::MAX
+/// The limit that a line of the kernel's list gives, where it is that of a file's length. No number stands for no limit.
+fn limit_in(line: &str) -> Option<u64> {
+    let limits = line.strip_prefix("Max file size")?;
+    limits.split_whitespace().next()?.parse().ok()
+}
+
+/// How long a file may be that this process writes, as Linux tells it. A write past it would end the process. Elsewhere no limit is
+/// known.
+fn longest_file(rt: &HostRuntime) -> u64 {
+    match fs::read_to_string(rt, "/proc/self/limits") {
+        Ok(limits) => limits.lines().find_map(limit_in).unwrap_or(u64::MAX),
+        Err(_) => u64::MAX,
     }
 }
 
@@ -95,9 +94,9 @@ fn make_beside(rt: &HostRuntime, path: &PathBuf, is_private: bool) -> io::Result
 }
 
 /// Writes all these bytes to a file, where it may be so long.
-fn write_whole(file: &mut File, bytes: &[u8]) -> io::Result<()> {
-    if bytes.len() as u64 > longest_file() {
-        return Err(io::Error::from_raw_os_error(libc::EFBIG));
+fn write_whole(rt: &HostRuntime, file: &mut File, bytes: &[u8]) -> io::Result<()> {
+    if bytes.len() as u64 > longest_file(rt) {
+        return Err(ErrorKind::FileTooLarge.into());
     }
     file.write_all(bytes)
 }
@@ -194,7 +193,7 @@ impl<'a, W: FolderWorld> Replaces for FileReplacer<'a, W> {
 
     fn write(&mut self, bytes: &[u8]) -> io::Result<()> {
         let answer = match &mut self.beside {
-            Some(beside) => write_whole(&mut beside.file, bytes),
+            Some(beside) => write_whole(self.rt, &mut beside.file, bytes),
             None => Err(ErrorKind::NotFound.into()),
         };
         self.answered(Call::Write, bytes, answer)

@@ -28,5 +28,5 @@ pub(crate) fn followed(rt: &HostRuntime, path: &str) -> io::Result<PathBuf> {
         let to = fs::read_link(rt, &path)?;
         path = folder_of(&path).join(alloc, &to)?;
     }
-    Err(io::Error::from_raw_os_error(libc::ELOOP))
+    Err(io::ErrorKind::FilesystemLoop.into())
 }
