@@ -7,7 +7,7 @@ use Rattle.std.proofs.lemmas.List.Folds.{list_any-append}
 use Rattle.fork_bytes.specs.Rows.{Row}
 use Rattle.fork_change.specs.declared.row.ResourceId.{ResourceId}
 use Rattle.fork_change.specs.Rows.{id_of, is_at, is_there, put}
-use Rattle.fork_change.specs.Differences.{Entry, added_in, against, applied, changed_by, changed_in, diff, is_same}
+use Rattle.fork_change.specs.Differences.{Entry, added_in, against, applied, changed_by, changed_in, is_same}
 use Rattle.fork_change.specs.Laws.{IsApplied}
 use Rattle.fork_change.proofs.Told.{at_own, found_passes, is_found_put, keeps_others}
 use Rattle.fork_change.proofs.Same.{both, id_is, only_new, row_is, still_none}

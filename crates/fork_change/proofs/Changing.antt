@@ -1,10 +1,11 @@
 -- What comes of a table is a table.
-use Rattle.std.proofs.Common.{◌≡◌, ◌≢◌, ℕ, Bool, true, false, List, [], ◌∷◌, ◌++◌, ◌⊎◌, inl, inr, Option, None, Some, refl, sym, subst, ◌∙◌, bytes_eq, if◌then◌else◌}
-use Rattle.std.specs.Prelude.{◌&&◌, not}
+use Rattle.std.proofs.Common.{◌≡◌, ◌≢◌, ℕ, zero, suc, ◌+◌, ℤ, pos, length, FitsSigned, IfSome, arith, Bool, true, false, List, [], ◌∷◌, ◌++◌, ◌⊎◌, inl, inr, Option, None, Some, refl, sym, subst, ◌∙◌, bytes_eq, if◌then◌else◌}
+use Rattle.std.specs.Prelude.{◌&&◌, nat_lt, not}
+use Rattle.std.specs.Int.{w16}
 use Rattle.std.specs.List.{AllByRecursion}
 use Rattle.std.specs.Option.{option_and_then}
 use Rattle.std.specs.Ordering.{int_eq}
-use Rattle.std.proofs.lemmas.Bool.{and_parts, both_ways, cond_both, false_from_ne_true, false≢true, or_from, or_parts}
+use Rattle.std.proofs.lemmas.Bool.{and_parts, both_ways, cond_both, false_from_ne_true, ltb-false, false≢true, or_from, or_parts}
 use Rattle.std.proofs.lemmas.Bool.Decides.{not_from_Decides}
 use Rattle.std.proofs.lemmas.Slice.Eq.{bytes_eq-Decides}
 use Rattle.fork_bytes.specs.Rows.{Row}
@@ -14,8 +15,8 @@ use Rattle.fork_bytes.proofs.Grouped.{Apart}
 use Rattle.fork_change.specs.declared.row.ResourceId.{ResourceId}
 use Rattle.fork_change.specs.Rows.{added, changed_to, first_to, has_kind, id_of, is_at, is_there, put, removed, with_rows}
 use Rattle.fork_change.specs.declared.copying.Collision.{Collision}
-use Rattle.fork_change.specs.declared.copying.Collision.TheVariants.{Refuse, Replace, Skip}
-use Rattle.fork_change.specs.Copies.{collided, copied, copied_one}
+use Rattle.fork_change.specs.declared.copying.Collision.TheVariants.{Refuse, Replace, Skip, Renumber}
+use Rattle.fork_change.specs.Copies.{collided, copied, copied_one, free_id, least_free, renumbered}
 use Rattle.fork_change.specs.Laws.{KeepsTables}
 use Rattle.fork_change.proofs.Gathered.{Follows, Gathered, gathered_from, grouped_from, of_row}
 
@@ -188,6 +189,27 @@ rows_replaced : (what : ResourceId) (new : Row) (rows : List Row) → new.kind �
 rows_replaced what new rows same one are =
     (each_first (is_at what) (new ∷ []) rows (one, tt) are.0, gathered_replaced (is_at what) new rows (λ row is. kind_at what row is ∙ sym same) are.1)
 
+-- an id that is free fits
+fits_least : (kind : List ℕ) (rows : List Row) (n id : ℕ) → IfSome (least_free kind rows n id) (λ free. FitsSigned w16 free)
+fits_least kind rows zero id = tt
+fits_least kind rows (suc n) id = by_case (nat_lt 32767 id) refl (is_there (record { kind = kind; id = pos id }) rows) (fits_least kind rows n (id + 1))
+  where
+    by_case : (a : Bool) → nat_lt 32767 id ≡ a → (b : Bool) → IfSome (least_free kind rows n (id + 1)) (λ free. FitsSigned w16 free) →
+        IfSome (if a then None else if b then least_free kind rows n (id + 1) else Some (pos id)) (λ free. FitsSigned w16 free)
+    by_case true high b rest = tt
+    by_case false low true rest = rest
+    by_case false low false rest = let small = ltb-false 32767 id low in record { sfits = omega arith }
+
+fits_free : (kind : List ℕ) (rows : List Row) → IfSome (free_id kind rows) (λ free. FitsSigned w16 free)
+fits_free kind rows = fits_least kind rows (length rows + 1) 128
+
+rows_renumbered : (row : Row) (rows after : List Row) (free : Option ℤ) → IfSome free (λ id. FitsSigned w16 id) → IsRow row → AreRows rows → renumbered row rows free ≡ Some after → AreRows after
+rows_renumbered row rows after None fits one are is = absurd (cc is)
+rows_renumbered row rows after (Some id) fits one are is =
+    let new : Row = record { kind = row.kind; id = id; name = row.name; attributes = row.attributes; datum = row.datum } in
+    let same : added new rows ≡ after = cc is in
+    subst AreRows same (rows_added new rows (record { kind = one.kind; id = fits; name = one.name; attributes = one.attributes }) are)
+
 -- rows are copied
 copied_rows : (how : Collision) (row : Row) (rows after : List Row) → IsRow row → AreRows rows → copied_one how row rows ≡ Some after → AreRows after
 copied_rows how row rows after one are is = by_case (is_there (id_of row) rows) how is
@@ -196,6 +218,7 @@ copied_rows how row rows after one are is = by_case (is_there (id_of row) rows) 
     by_case true Refuse is = absurd (cc is)
     by_case true Replace is = let same : first_to (is_at (id_of row)) (row ∷ []) rows ≡ after = cc is in subst AreRows same (rows_replaced (id_of row) row rows refl one are)
     by_case true Skip is = let same : rows ≡ after = cc is in subst AreRows same are
+    by_case true Renumber is = rows_renumbered row rows after (free_id row.kind rows) (fits_free row.kind rows) one are is
     by_case false how is = let same : added row rows ≡ after = cc is in subst AreRows same (rows_added row rows one are)
 
 rows_copied : (how : Collision) (chosen rows after : List Row) → AllByRecursion IsRow chosen → AreRows rows → copied how chosen rows ≡ Some after → AreRows after

@@ -4,3 +4,4 @@ mod Changing
 mod Told
 mod Same
 mod Applied
+mod Free

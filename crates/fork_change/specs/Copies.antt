@@ -1,12 +1,12 @@
 -- Rows that are copied to others.
-use Rattle.std.specs.Prelude.{◌<◌, ◌⊎◌, Bool, true, if◌then◌else◌, List, [], ◌∷◌, bytes_eq, length, Option, None, Some}
+use Rattle.std.specs.Prelude.{ℕ, ℤ, pos, zero, suc, ◌+◌, ◌<◌, ◌⊎◌, nat_lt, Bool, true, if◌then◌else◌, List, [], ◌∷◌, bytes_eq, length, Option, None, Some}
 use Rattle.std.specs.List.{list_any}
 use Rattle.std.specs.Option.{option_and_then}
 use Rattle.fork_bytes.specs.Rows.{Row}
 use Rattle.fork_change.specs.declared.copying.Choice.{Choice}
 use Rattle.fork_change.specs.declared.copying.Choice.TheVariants.{All, Kind, One}
 use Rattle.fork_change.specs.declared.copying.Collision.{Collision}
-use Rattle.fork_change.specs.declared.copying.Collision.TheVariants.{Refuse, Replace, Skip}
+use Rattle.fork_change.specs.declared.copying.Collision.TheVariants.{Refuse, Replace, Skip, Renumber}
 use Rattle.fork_change.specs.Rows.{added, first_to, id_of, is_at, is_there}
 
 -- whether a choice means a row
@@ -19,11 +19,27 @@ is_meant (One what) row = is_at what row
 abbrev pub is_chosen : List Choice → Row → Bool
 is_chosen choices row = list_any (λ choice. is_meant choice row) choices
 
+-- the least id from this on that no row of a type has, if it is among so many
+abbrev pub least_free : List ℕ → List Row → ℕ → ℕ → Option ℤ
+least_free kind rows zero id = None
+least_free kind rows (suc n) id =
+    if nat_lt 32767 id then None else if is_there (record { kind = kind; id = pos id }) rows then least_free kind rows n (id + 1) else Some (pos id)
+
+-- the least from 128 on: of one more than there are rows, one is free
+abbrev pub free_id : List ℕ → List Row → Option ℤ
+free_id kind rows = least_free kind rows (length rows + 1) 128
+
+-- the rows with one more that has this id, if there is one
+abbrev pub renumbered : Row → List Row → Option ℤ → Option (List Row)
+renumbered row rows None = None
+renumbered row rows (Some id) = Some (added (record { kind = row.kind; id = id; name = row.name; attributes = row.attributes; datum = row.datum }) rows)
+
 -- the rows after one is copied to them whose type and id one has already; none where that is refused
 abbrev pub collided : Collision → Row → List Row → Option (List Row)
 collided Refuse row rows = None
 collided Replace row rows = Some (first_to (is_at (id_of row)) (row ∷ []) rows)
 collided Skip row rows = Some rows
+collided Renumber row rows = renumbered row rows (free_id row.kind rows)
 
 -- the rows after one is copied to them
 abbrev pub copied_one : Collision → Row → List Row → Option (List Row)

@@ -1,8 +1,8 @@
 //! Resources are copied from one table into another.
 
-ghost use Rattle.std.specs.Prelude.{◌≡◌, ◌≢◌, None, Some, IfErr, IfOk, OnOk, length};
+ghost use Rattle.std.specs.Prelude.{◌≡◌, ◌≢◌, ◌⊎◌, None, Some, IfErr, IfOk, OnOk, length};
 ghost use Rattle.std.specs.List.{filter};
-ghost use Rattle.fork_change.specs.Copies.{IsTooMany, copied, copied_one, is_chosen, is_meant};
+ghost use Rattle.fork_change.specs.Copies.{IsTooMany, copied, copied_one, free_id, is_chosen, is_meant, renumbered};
 ghost use Rattle.fork_change.specs.Rows.{with_rows};
 ghost use Rattle.fork_change.specs.declared.refusal.Refusal.TheVariants as why;
 
@@ -16,6 +16,12 @@ use mac_base::resource::{ResType, Resource};
 
 /// The most resources of a fork that is written: two bytes hold the offset of its name list, and each has 12 bytes before it.
 pub(crate) const MOST_ROWS: usize = 5458;
+
+/// The least id of a program's own resources: those below are the system's.
+const FIRST_OWN_ID: usize = 128;
+
+/// The greatest id is so many after it.
+const MOST_OWN_IDS: usize = 32639;
 
 /// Which resources are copied: all, those of a type, or those of a type and id.
 pub enum Choice {
@@ -33,6 +39,8 @@ pub enum Collision {
     Replace,
     /// It stays, and the other isn't copied.
     Skip,
+    /// It stays, and the other gets the least id from 128 on that no resource of its type has.
+    Renumber,
 }
 
 /// Whether a choice means a row.
@@ -73,10 +81,56 @@ fn same_row<'a>(row: &Row<'a>) -> Result<Row<'a>, HostFull>
     })
 }
 
+/// The least id from 128 on that no row of a type has.
+fn free_id(rows: &[Row], kind: ResType) -> Option<i16>
+    ensures { result ≡ free_id kind rows.now }
+{
+    for n in 0..rows.len() + 1 {
+        if n > MOST_OWN_IDS {
+            return None;
+        }
+        let id = (FIRST_OWN_ID + n) as i16;
+        if !is_there(rows, &ResourceId { kind, id }) {
+            return Some(id);
+        }
+    }
+    None
+}
+
+/// Adds a row with an id that is free.
+fn add_renumbered<'a>(rows: &mut Vec<Row<'a>>, row: Row<'a>) -> Result<(), Refusal>
+    ensures copied { OnOk result (renumbered row.entry rows.old.items (free_id row.entry.kind rows.old.items) ≡ Some rows.new.items) }
+    ensures refused { IfErr result (λ fault. fault ≡ why.NoFreeId → free_id row.entry.kind rows.old.items ≡ None) }
+    ensures fault { IfErr result (λ fault. (fault ≡ why.NoFreeId) ⊎ (fault ≡ why.HostFull)) }
+{
+    let Some(id) = free_id(rows, row.kind) else {
+        return Err(Refusal::NoFreeId);
+    };
+    let Resource {
+        kind,
+        name,
+        attributes,
+        datum,
+        ..
+    } = row;
+    add_row(
+        rows,
+        Resource {
+            kind,
+            id,
+            name,
+            attributes,
+            datum,
+        },
+    )?;
+    Ok(())
+}
+
 /// Copies a row to others.
 fn copy_row<'a>(rows: &mut Vec<Row<'a>>, row: &Row<'a>, how: Collision) -> Result<(), Refusal>
     ensures copied { OnOk result (copied_one how row.now rows.old.items ≡ Some rows.new.items) }
     ensures refused { IfErr result (λ fault. fault ≡ why.Taken → copied_one how row.now rows.old.items ≡ None) }
+    ensures none_free { IfErr result (λ fault. fault ≡ why.NoFreeId → copied_one how row.now rows.old.items ≡ None) }
     ensures fault { IfErr result (λ fault. fault ≢ why.TooMany) }
 {
     let what = id_of(row);
@@ -91,6 +145,7 @@ fn copy_row<'a>(rows: &mut Vec<Row<'a>>, row: &Row<'a>, how: Collision) -> Resul
             Ok(())
         }
         Collision::Skip => Ok(()),
+        Collision::Renumber => add_renumbered(rows, same_row(row)?),
     }
 }
 
@@ -103,6 +158,7 @@ fn copy_rows<'a>(
 ) -> Result<(), Refusal>
     ensures copied { OnOk result (copied how (filter (is_chosen choices.now) from.now) rows.old.items ≡ Some rows.new.items) }
     ensures refused { IfErr result (λ fault. fault ≡ why.Taken → copied how (filter (is_chosen choices.now) from.now) rows.old.items ≡ None) }
+    ensures none_free { IfErr result (λ fault. fault ≡ why.NoFreeId → copied how (filter (is_chosen choices.now) from.now) rows.old.items ≡ None) }
     ensures fault { IfErr result (λ fault. fault ≢ why.TooMany) }
 {
     for row in from {
@@ -114,7 +170,8 @@ fn copy_rows<'a>(
 }
 
 /// The table with the chosen rows of another, each in its place or as the last of its type. It is Taken exactly where a collision is
-/// refused, and TooMany exactly where the table has, or the chosen are, more than 5,458 rows: no fork that is written has more.
+/// refused, NoFreeId where no id of a type is free, and TooMany exactly where the table has, or the chosen are, more than 5,458 rows:
+/// no fork that is written has more.
 pub fn copy<'a>(
     to: Table<'a>,
     from: &[Row<'a>],
@@ -124,6 +181,7 @@ pub fn copy<'a>(
     ensures copied { IfOk result (λ new. copied how (filter (is_chosen choices.now) from.now) to.entry.rows ≡ Some new.rows) }
     ensures rest { IfOk result (λ new. new ≡ with_rows to.entry new.rows) }
     ensures refused { IfErr result (λ fault. fault ≡ why.Taken → copied how (filter (is_chosen choices.now) from.now) to.entry.rows ≡ None) }
+    ensures none_free { IfErr result (λ fault. fault ≡ why.NoFreeId → copied how (filter (is_chosen choices.now) from.now) to.entry.rows ≡ None) }
     ensures too_many { IfErr result (λ fault. fault ≡ why.TooMany → IsTooMany to.entry.rows (filter (is_chosen choices.now) from.now)) }
     ensures few { OnOk result (¬ IsTooMany to.entry.rows (filter (is_chosen choices.now) from.now)) }
 {

@@ -12,6 +12,9 @@ pub enum Refusal {
     /// A resource has the type and the id already.
     #[error("there is such a resource already")]
     Taken,
+    /// All ids of a type are taken.
+    #[error("no id is free")]
+    NoFreeId,
     /// There are more resources than a fork has that is written.
     #[error("there are too many resources for one fork")]
     TooMany,
