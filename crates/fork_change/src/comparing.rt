@@ -42,7 +42,8 @@ fn is_same(row: &Row, other: &Row) -> bool
         && row.datum.as_slice() == other.datum.as_slice()
 }
 
-/// The first place at which bytes differ from others, or at which one of them ends. None exactly where they are the same.
+/// The first place at which bytes differ from others, or at which one of them ends. None exactly where they are the
+/// same.
 pub fn first_difference(bytes: &[u8], other: &[u8]) -> Option<usize>
     ensures before { IfSome result (λ at. take at bytes.now ≡ take at other.now) }
     ensures differs { IfSome result (λ at. slice_get bytes.now at ≢ slice_get other.now at) }
@@ -108,9 +109,10 @@ fn push_added<'r, 'a>(
     Ok(())
 }
 
-/// What differs between two tables: of each type and id the rows that are found by it, where they aren't the same. Those of the
-/// first table come in its order, and then those that only the second has, in its own. A row after another with its type and id
-/// isn't found by them, and isn't compared; nor is the order of rows. It is TooMany exactly where one table has more than 5,458 rows.
+/// What differs between two tables: of each type and id the rows that are found by it, where they aren't the same.
+/// Those of the first table come in its order, and then those that only the second has, in its own. A row after another
+/// with its type and id isn't found by them, and isn't compared; nor is the order of rows. It is TooMany exactly where
+/// one table has more than 5,458 rows.
 pub fn diff<'r, 'a>(
     alloc: Global,
     first: &'r [Row<'a>],

@@ -14,7 +14,8 @@ use fork_bytes::table::{Contents, Row, Rows, Table};
 use mac_base::error::HostFull;
 use mac_base::resource::{ResType, Resource};
 
-/// The most resources of a fork that is written: two bytes hold the offset of its name list, and each has 12 bytes before it.
+/// The most resources of a fork that is written: two bytes hold the offset of its name list, and each has 12 bytes
+/// before it.
 pub(crate) const MOST_ROWS: usize = 5458;
 
 /// The least id of a program's own resources: those below are the system's.
@@ -169,9 +170,9 @@ fn copy_rows<'a>(
     Ok(())
 }
 
-/// The table with the chosen rows of another, each in its place or as the last of its type. It is Taken exactly where a collision is
-/// refused, NoFreeId where no id of a type is free, and TooMany exactly where the table has, or the chosen are, more than 5,458 rows:
-/// no fork that is written has more.
+/// The table with the chosen rows of another, each in its place or as the last of its type. It is Taken exactly where a
+/// collision is refused, NoFreeId where no id of a type is free, and TooMany exactly where the table has, or the chosen
+/// are, more than 5,458 rows: no fork that is written has more.
 pub fn copy<'a>(
     to: Table<'a>,
     from: &[Row<'a>],

@@ -1,5 +1,5 @@
-//! Changes of a table of resources: one is put, removed, or given another id, type, name or attributes. All other rows, their order,
-//! the extra bytes and the map's attributes stay as they are.
+//! Changes of a table of resources: one is put, removed, or given another id, type, name or attributes. All other rows,
+//! their order, the extra bytes and the map's attributes stay as they are.
 #![tactic(auto)]
 
 pub mod comparing;

@@ -60,8 +60,8 @@ pub(crate) fn put_row<'a>(rows: &mut Vec<Row<'a>>, row: Row<'a>) -> Result<(), H
     }
 }
 
-/// The table with this resource in the place of the first with its type and id. Where there is none it is the last of its type, and
-/// a new type comes last. The only error is that the host has no memory.
+/// The table with this resource in the place of the first with its type and id. Where there is none it is the last of
+/// its type, and a new type comes last. The only error is that the host has no memory.
 pub fn put<'a>(table: Table<'a>, row: Row<'a>) -> Result<Table<'a>, HostFull>
     ensures { IfOk result (λ new. new ≡ with_rows table.entry (put row.entry table.entry.rows)) }
 {
@@ -79,7 +79,8 @@ pub fn put<'a>(table: Table<'a>, row: Row<'a>) -> Result<Table<'a>, HostFull>
     })
 }
 
-/// The table with one more resource, as `put` adds it. It is Taken exactly where one with its type and id is there already.
+/// The table with one more resource, as `put` adds it. It is Taken exactly where one with its type and id is there
+/// already.
 pub fn put_new<'a>(table: Table<'a>, row: Row<'a>) -> Result<Table<'a>, Refusal>
     ensures put { IfOk result (λ new. new ≡ with_rows table.entry (put row.entry table.entry.rows)) }
     ensures new { OnOk result (is_there (id_of row.entry) table.entry.rows ≡ false) }

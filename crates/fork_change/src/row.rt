@@ -96,8 +96,8 @@ pub(crate) fn row_as<'a>(change: Change, row: &Row<'a>) -> Result<Row<'a>, HostF
     row_with(change, &row.name, row.attributes, bytes)
 }
 
-/// The resource that has these bytes from now on: its name and attributes are what those of the first with its type and id become.
-/// A new one has neither before.
+/// The resource that has these bytes from now on: its name and attributes are what those of the first with its type and
+/// id become. A new one has neither before.
 pub fn row_to_put<'a>(
     rows: &[Row<'a>],
     change: Change,

@@ -33,9 +33,9 @@ fn set_row<'a>(rows: &mut Vec<Row<'a>>, what: &ResourceId, new: Row<'a>) -> Resu
     }
 }
 
-/// The table in which the first resource of a type and id has this type and id, and what its name and attributes become. It keeps
-/// its place, or, where its type is another, is the last of that. It is Missing exactly where there is no such resource, and Taken
-/// exactly where another has the new type and id.
+/// The table in which the first resource of a type and id has this type and id, and what its name and attributes
+/// become. It keeps its place, or, where its type is another, is the last of that. It is Missing exactly where there is
+/// no such resource, and Taken exactly where another has the new type and id.
 pub fn set<'a>(table: Table<'a>, what: &ResourceId, change: Change) -> Result<Table<'a>, Refusal>
     ensures changed { IfOk result (λ new. IfSome (find (is_at what.now) table.entry.rows)
         (λ old. new ≡ with_rows table.entry (changed_to what.now (row_as change old) table.entry.rows))) }
