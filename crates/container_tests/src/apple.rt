@@ -47,6 +47,7 @@ fn told_of_single(length: usize) -> Result<Contents, ContainerFault> {
             resource_fork: Some(part(101, 3)),
             data_fork: Some(part(104, 2)),
             name: Some(part(86, 4)),
+            comment: None,
             finder: Some(FinderInfo {
                 kind: *b"TEXT",
                 creator: *b"ttxt",
@@ -90,6 +91,7 @@ fn reads_a_double(rt: HostRuntime) {
         resource_fork: Some(part(71, 3)),
         data_fork: None,
         name: None,
+        comment: None,
         finder: None,
         dates: None,
     };

@@ -66,6 +66,7 @@ fn told(data: usize, resource: usize, flags: u16) -> Contents {
             offset: 2,
             length: 4,
         }),
+        comment: None,
         finder: Some(FinderInfo {
             kind: *b"TEXT",
             creator: *b"ttxt",

@@ -9,3 +9,5 @@ mod bin_hex;
 mod binary;
 #[cfg(test)]
 mod known;
+#[cfg(test)]
+mod written;

@@ -108,3 +108,10 @@ length_is version file fork few =
     ∙ put_at 87 4 (big_bytes 4 count) (before file) refl (omega (arith, length-before file)) in
     number_at 87 4 new ∙ sym (big_from-take 0 4 4 (drop 87 new) (omega arith)) ∙ ap (big_from 0 4) bytes
     ∙ ap (big_from 0 4) (sym (append-nil (big_bytes 4 count))) ∙ big_number-reads_back 4 count [] (omega arith)
+
+-- what the checksum is of
+pub summed_same : (version : Version) (file fork : List ℕ) → take 124 (binary_with_fork version file fork) ≡ take 124 (counted file (length fork))
+summed_same version file fork =
+    let count = length fork in
+    left_same 0 124 (binary_front version file count) (filled (padded count) fork ++ drop (comment_place file) file) (omega (arith, length-front version file count))
+    ∙ sum_before version (counted file count) 0 124 (omega arith) (omega (arith, length-counted file count))

@@ -22,12 +22,12 @@ use Rattle.mac_files.specs.MacBinary.{comment_place, data_fork, header_finder, p
 use Rattle.mac_files.specs.Parts.{bytes_of, has_bytes, lies_within}
 use Rattle.mac_write.specs.Bytes.{filled, put}
 use Rattle.mac_write.specs.declared.refusal.Refusal.TheVariants.{Damaged, TooLong}
-use Rattle.mac_write.specs.Forks.{ChangesFork, binary_why, fork_of, name_in}
+use Rattle.mac_write.specs.Forks.{ChangesFork, KeepsComment, binary_why, fork_of, name_in}
 use Rattle.mac_write.specs.MacBinary.{binary_front, binary_refusal, binary_with_fork, longest_fork}
-use Rattle.mac_write.proofs.BinaryKept.{at, beyond, counted, first, fork_from, fork_is, length-counted, length-front, length-new, length_is, middle}
+use Rattle.mac_write.proofs.BinaryKept.{at, beyond, counted, first, fork_from, fork_is, length-counted, length-front, length-new, length_is, middle, summed_same}
 use Rattle.mac_write.proofs.Lists.{length-filled}
 use Rattle.mac_write.proofs.BinaryChanged.{known}
-use Rattle.mac_write.proofs.Refused.{crc_lt, else_none, map_none, or_none, then_none}
+use Rattle.mac_write.proofs.Refused.{counted_lt, else_none, map_none, or_none, then_none}
 use Rattle.mac_write.proofs.Segments.{Same, index_same, left_same, number_at, number_same, put_at, put_before}
 
 -- where the forks are
@@ -211,11 +211,12 @@ few_bytes II count few = omega arith
 few_bytes III count few = omega arith
 
 pub changes : (version : Version) (file fork new : List ℕ) → new ≡ binary_with_fork version file fork → binary_why version file (length fork) ≡ None
-    → ((k : ℕ) → get_or new k 0 < 256) → ChangesFork (MacBinary version) file fork new
+    → ((k : ℕ) → get_or file k 0 < 256) → ChangesFork (MacBinary version) file fork new
 changes version file fork new is none bytes =
     let of = sound version file (length fork) none in
     let few = few_bytes version (length fork) of.few in
-    let small : crc_of (take 124 (binary_with_fork version file fork)) < 65536 = subst (λ (xs : List ℕ). crc_of (take 124 xs) < 65536) is (crc_lt 124 new bytes) in
+    let small : crc_of (take 124 (binary_with_fork version file fork)) < 65536 =
+    subst (λ (xs : List ℕ). crc_of xs < 65536) (sym (summed_same version file fork)) (counted_lt file (length fork) bytes) in
     subst (λ (xs : List ℕ). ChangesFork (MacBinary version) file fork xs) (sym is) (record {
       known = λ was _. known version file fork of.long of.few was;
       whole = whole version file fork of.long few small;
@@ -225,3 +226,9 @@ changes version file fork new is none bytes =
       finder = ap (λ (f : FinderInfo). Some f) (finder_kept version file fork of.long);
       dates = dates_kept version file fork of.long;
     })
+
+pub comment_changes : (version : Version) (file fork new : List ℕ) → new ≡ binary_with_fork version file fork
+    → binary_why version file (length fork) ≡ None → KeepsComment file new
+comment_changes version file fork new is none =
+    let of = sound version file (length fork) none in
+    subst (KeepsComment file) (sym is) (comment_kept version file fork of.long (few_bytes version (length fork) of.few))

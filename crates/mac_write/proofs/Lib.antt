@@ -6,3 +6,9 @@ pub mod BinaryChanged
 pub mod BinaryRead
 pub mod Refused
 pub mod Added
+pub mod RawChanged
+pub mod EntriesRead
+pub mod AppleKept
+pub mod AppleRead
+pub mod AppleTold
+pub mod AppleChanged

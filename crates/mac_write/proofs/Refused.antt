@@ -1,10 +1,12 @@
 -- What is known where nothing is refused.
-use Rattle.std.proofs.Common.{◌≡◌, ℕ, ◌*◌, ◌<◌, Bool, true, false, List, [], ◌∷◌, take, get_or, fold, bit_xor, suc, refl, sym, subst, arith, inl, inr, Option, None, Some, if◌then◌else◌}
+use Rattle.std.proofs.Common.{◌≡◌, ℕ, ◌*◌, ◌<◌, Bool, true, false, List, [], ◌∷◌, take, get_or, fold, bit_xor, zero, suc, refl, sym, subst, arith, inl, inr, Option, None, Some, if◌then◌else◌, ◌++◌, ◌-◌, drop, replicate, ◌+◌, length}
 use Rattle.std.specs.Prelude.{option_map}
 use Rattle.std.specs.Option.{option_or}
 use Rattle.std.proofs.lemmas.Bool.{cases_lt}
-use Rattle.std.proofs.lemmas.List.{get_or-take, get_or_past, length-take}
+use Rattle.std.proofs.lemmas.List.{get_or-append_right, get_or-drop, get_or_append_left, get_or-take, get_or_past, length-take}
 use Rattle.std.proofs.lemmas.Nat.{xor_lt}
+use Rattle.byteorder.specs.Endian.{big_bytes}
+use Rattle.mac_write.proofs.BinaryKept.{at, before, counted}
 use Rattle.mac_files.specs.Crc.{crc_of, with_byte}
 use Rattle.mac_files.proofs.BinHexCrc.{bits_lt}
 
@@ -41,3 +43,36 @@ take_lt n bytes k hb = elim (cases_lt k n) [
 
 pub crc_lt : (n : ℕ) (bytes : List ℕ) → ((k : ℕ) → get_or bytes k 0 < 256) → crc_of (take n bytes) < 65536
 crc_lt n bytes hb = fold_lt 0 (take n bytes) (omega arith) (λ k. take_lt n bytes k hb)
+
+-- Bytes are below 256.
+
+abbrev pub AreBytes : List ℕ → Type 0
+AreBytes bytes = (k : ℕ) → get_or bytes k 0 < 256
+
+append_lt : (xs ys : List ℕ) → AreBytes xs → AreBytes ys → AreBytes (xs ++ ys)
+append_lt xs ys hx hy k = elim (cases_lt k (length xs)) [
+  | inl below ↦ subst (λ (b : ℕ). b < 256) (sym (get_or_append_left xs ys 0 k below)) (hx k)
+  | inr past ↦ subst (λ (b : ℕ). b < 256) (sym (get_or-append_right xs ys (length xs) k 0 refl past)) (hy (k - length xs))
+]
+
+drop_lt : (n : ℕ) (xs : List ℕ) → AreBytes xs → AreBytes (drop n xs)
+drop_lt n xs hx k = subst (λ (b : ℕ). b < 256) (sym (get_or-drop n xs k 0)) (hx (n + k))
+
+zeros_lt : (n : ℕ) → AreBytes (replicate n 0)
+zeros_lt zero k = omega arith
+zeros_lt (suc n) zero = omega arith
+zeros_lt (suc n) (suc k) = zeros_lt n k
+
+number_lt : (x : ℕ) → AreBytes (big_bytes 4 x)
+number_lt x zero = omega arith
+number_lt x (suc zero) = omega arith
+number_lt x (suc (suc zero)) = omega arith
+number_lt x (suc (suc (suc zero))) = omega arith
+number_lt x (suc (suc (suc (suc k)))) = omega arith
+
+-- the bytes that the checksum is of
+pub counted_lt : (file : List ℕ) (count : ℕ) → AreBytes file → crc_of (take 124 (counted file count)) < 65536
+counted_lt file count bytes =
+    let front = append_lt (take (at file) file) (replicate (at file - length (take (at file) file)) 0) (λ k. take_lt (at file) file k bytes) (zeros_lt (at file - length (take (at file) file))) in
+    let rest = append_lt (big_bytes 4 count) (drop 91 (before file)) (number_lt count) (drop_lt 91 (before file) front) in
+    crc_lt 124 (counted file count) (append_lt (take 87 (before file)) (big_bytes 4 count ++ drop 91 (before file)) (λ k. take_lt 87 (before file) k front) rest)

@@ -79,3 +79,14 @@ put_at at n bytes xs long within =
 pub filled_same : (count i k : ℕ) (file : List ℕ) → i + k ≤ count → i + k ≤ length file → Same i k (filled count (take count file)) file
 filled_same count i k file few within =
     left_same i k (take count file) (replicate (count - length (take count file)) 0) (omega (arith, length-take count file)) ∙ short count i k file few
+
+-- parts of the same bytes at two places
+pub shifted : (a b n j k : ℕ) (xs ys : List ℕ) → take n (drop a xs) ≡ take n (drop b ys) → j + k ≤ n → take k (drop (a + j) xs) ≡ take k (drop (b + j) ys)
+shifted a b n j k xs ys same h =
+    ap (take k) (sym (drop-drop j a xs)) ∙ sym (short n j k (drop a xs) h) ∙ ap (λ (zs : List ℕ). take k (drop j zs)) same
+    ∙ short n j k (drop b ys) h ∙ ap (take k) (drop-drop j b ys)
+
+pub number_shifted : (i j n : ℕ) (xs ys : List ℕ) → take n (drop i xs) ≡ take n (drop j ys) → big_from i n xs ≡ big_from j n ys
+number_shifted i j n xs ys same =
+    number_at i n xs ∙ sym (big_from-take 0 n n (drop i xs) (omega arith)) ∙ ap (big_from 0 n) same ∙ big_from-take 0 n n (drop j ys) (omega arith)
+    ∙ sym (number_at j n ys)

@@ -4,9 +4,11 @@ ghost use Rattle.std.specs.Prelude.{◌≡◌, ◌≤◌, ◌<◌, ◌+◌, ◌^
 ghost use Rattle.std.specs.Result.{result_err};
 ghost use Rattle.mac_files.specs.Apple.{entries_of, entry_outside, list_end};
 ghost use Rattle.mac_files.specs.Parts.{lies_within};
+ghost use Rattle.mac_files.specs.declared.container.Container.TheVariants.{AppleDouble, AppleSingle};
 ghost use Rattle.mac_write.specs.Apple.{all_entries, apple_with_fork, body, changed, entry_text, length_refusal, front, growth, is_in_the_way, list_text, moved, moved_place, new_length, room_end, room_refusal};
+ghost use Rattle.mac_files.specs.declared.container.Container.TheVariants.{AppleDouble, AppleSingle};
 ghost use Rattle.mac_write.specs.Apple.{is_fork as is_fork_entry};
-ghost use Rattle.mac_write.specs.Forks.{Refuses, apple_why};
+ghost use Rattle.mac_write.specs.Forks.{ChangesFork, KeepsEntries, Refuses, apple_why};
 ghost use Rattle.mac_write.specs.declared.refusal.Refusal.TheVariants.{Overlap};
 
 use crate::bytes::{push_four, push_two};
@@ -126,6 +128,9 @@ fn push_body(new: &mut Vec<u8>, plan: &Plan, fork: &[u8]) -> Result<(), AllocErr
 pub(crate) fn apple_with_fork(alloc: Global, file: &[u8], fork: &[u8]) -> Result<Vec<u8>, Refusal>
     ensures file { IfOk result (λ new. new.items ≡ apple_with_fork file.now fork.now) }
     ensures refusal { Refuses (result_err result) (apple_why file.now (length fork.now)) }
+    ensures single { IfOk result (λ new. ChangesFork AppleSingle file.now fork.now new.items) }
+    ensures double { IfOk result (λ new. ChangesFork AppleDouble file.now fork.now new.items) }
+    ensures entries { IfOk result (λ new. KeepsEntries file.now fork.now new.items) }
 {
     check(file)?;
     check_length(fork.len())?;

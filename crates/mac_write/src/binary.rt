@@ -3,8 +3,9 @@
 ghost use Rattle.std.specs.Prelude.{◌≡◌, ◌≤◌, [], length, drop, IfOk, OnOk};
 ghost use Rattle.std.specs.Result.{result_err};
 ghost use Rattle.byteorder.specs.Endian.{big_bytes};
+ghost use Rattle.mac_files.specs.declared.container.Container.TheVariants.{MacBinary};
 ghost use Rattle.mac_write.specs.Bytes.{put};
-ghost use Rattle.mac_write.specs.Forks.{Refuses, binary_why};
+ghost use Rattle.mac_write.specs.Forks.{ChangesFork, KeepsComment, Refuses, binary_why};
 ghost use Rattle.mac_files.specs.MacBinary.{comment_place};
 ghost use Rattle.mac_write.specs.MacBinary.{binary_front, binary_refusal, binary_with_fork, longest_fork, with_sum};
 
@@ -108,6 +109,8 @@ pub(crate) fn binary_with_fork(
 ) -> Result<Vec<u8>, Refusal>
     ensures file { IfOk result (λ new. new.items ≡ binary_with_fork version file.now fork.now) }
     ensures refusal { Refuses (result_err result) (binary_why version file.now (length fork.now)) }
+    ensures changes { IfOk result (λ new. ChangesFork (MacBinary version) file.now fork.now new.items) }
+    ensures comment { IfOk result (λ new. KeepsComment file.now new.items) }
 {
     check(version, file)?;
     let count = fork_length(version, fork)?;
