@@ -1,6 +1,6 @@
 //! The attributes of a resource in words.
 
-ghost use Rattle.std.specs.Prelude.{◌≡◌, Some, option_map};
+ghost use Rattle.std.specs.Prelude.{◌≡◌, option_map};
 ghost use Rattle.fork_rez.specs.Reading.{Gives, attribute_at, attributes_at, bits_at, word_among};
 ghost use Rattle.fork_rez.specs.Text.{attributes, bit_of, word_of};
 

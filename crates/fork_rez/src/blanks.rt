@@ -1,7 +1,7 @@
 //! Blanks, comments and words.
 
 ghost use Rattle.std.specs.Prelude.{◌≡◌, option_map};
-ghost use Rattle.fork_rez.specs.Reading.{Gives, after_blanks, after_word, is_blank, skip, skipped, skipping, word_at};
+ghost use Rattle.fork_rez.specs.Reading.{Gives, after_blanks, after_word, is_blank, skipped, skipping, word_at};
 
 use crate::fault::{Expected, ReadError, refused};
 

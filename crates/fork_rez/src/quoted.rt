@@ -1,13 +1,12 @@
 //! Bytes between quotes.
 
-ghost use Rattle.std.specs.Prelude.{◌≡◌, Some};
+ghost use Rattle.std.specs.Prelude.{◌≡◌};
 ghost use Rattle.fork_rez.specs.Reading.{Gives, byte_at, character_at, digits_at, escape_at, quoted_at, unit_at};
-ghost use Rattle.fork_rez.specs.Text.{hexadecimal, is_printable, written};
+ghost use Rattle.fork_rez.specs.Text.{is_printable};
 
 use crate::blanks::{after_blanks, after_word};
 use crate::fault::{Expected, ReadError, refused};
-use mac_text::hexadecimal_digit;
-use std::alloc::{AllocError, Global};
+use std::alloc::Global;
 
 /// How bytes stand between quotes.
 #[derive(Clone, Copy)]

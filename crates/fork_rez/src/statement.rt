@@ -1,6 +1,6 @@
 //! Statements.
 
-ghost use Rattle.std.specs.Prelude.{◌≡◌, Some, option_map};
+ghost use Rattle.std.specs.Prelude.{option_map};
 ghost use Rattle.fork_bytes.specs.Written.{plain_row};
 ghost use Rattle.fork_rez.specs.Reading.{Gives, data_at, kind_at, kind_in, name_at, name_in, resource_at, row_at, string_at};
 

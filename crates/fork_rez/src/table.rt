@@ -1,16 +1,14 @@
 //! The table that a text says.
 
-ghost use Rattle.std.specs.Prelude.{◌≡◌, [], IfOk, count_by, length, map, take};
+ghost use Rattle.std.specs.Prelude.{◌≡◌, [], IfOk, length};
 ghost use Rattle.std.specs.List.{push};
 ghost use Rattle.fork_bytes.specs.Written.{plain_row, plain_rows};
 ghost use Rattle.fork_rez.specs.Reading.{Gives, all_of, map_at, map_in, row_at, table_at};
 ghost use Rattle.fork_rez.specs.Said.{Answers, line_at, made_table, table_of};
-ghost use Rattle.fork_rez.specs.Text.{map_word};
 
 use crate::blanks::{after_blanks, after_word, word_at};
 use crate::fault::{Expected, ReadError, Refusal, RezFault, refused};
 use crate::statement::{data_at, row_at};
-use bitflags::Flags;
 use fork_bytes::table::{Contents, Row, Rows, Table};
 use mac_base::resource::Resource;
 use std::alloc::{AllocError, Global};
