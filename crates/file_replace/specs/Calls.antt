@@ -5,7 +5,7 @@ use Rattle.file_replace.specs.declared.calls.Call.TheVariants as calls
 use Rattle.file_replace.specs.declared.calls.Noted.{Noted}
 use Rattle.file_replace.specs.declared.place.PlainFile.{PlainFile}
 use Rattle.file_replace.specs.declared.place.Event.TheVariants.{Found, Made, Changed, Synced, Failed, Renamed, Tried, Asked}
-use Rattle.file_replace.specs.Place.{Folder, History}
+use Rattle.file_replace.specs.Place.{Folder, History, MayLeave}
 use Rattle.file_replace.specs.OnPlace.{moved}
 
 -- a call, whether it was done, and the bytes that were given to it
@@ -57,3 +57,7 @@ happened calls.Remove ok old past = past
 abbrev pub history_of : (List Answered → Folder) → List Answered → History
 history_of held [] = Found (held []).path ∷ []
 history_of held (e ∷ past) = happened e.0.call e.0.is_done (held past) (history_of held past)
+
+-- after any calls a crash may leave something at the path
+abbrev pub LeavesSomething : Type 0
+LeavesSomething = (held : List Answered → Folder) (calls : List Answered) → (left : Option PlainFile) × MayLeave (history_of held calls) left

@@ -1,5 +1,5 @@
 -- A path in memory, as clauses see it.
-use Rattle.std.specs.Prelude.{List, ◌∷◌, Option, Some, None}
+use Rattle.std.specs.Prelude.{Option, Some, None}
 use Rattle.file_replace.specs.declared.calls.Noted.{Noted}
 use Rattle.file_replace.specs.declared.mem_place.MemFile.{MemFile}
 use Rattle.file_replace.specs.declared.place.PlainFile.{PlainFile}

@@ -1,7 +1,6 @@
 -- What is at a path and beside it, and what a crash may leave at the path.
-use Rattle.std.specs.Prelude.{◌≡◌, ⊤, ℕ, ◌⊎◌, Bool, true, false, List, [], ◌∷◌, Option, Some, None}
+use Rattle.std.specs.Prelude.{◌≡◌, ⊤, ◌⊎◌, Bool, true, false, List, [], ◌∷◌, Option, Some}
 use Rattle.file_replace.specs.declared.place.PlainFile.{PlainFile}
-use Rattle.file_replace.specs.declared.place.FolderSync.{FolderSync}
 use Rattle.file_replace.specs.declared.place.FolderSync.TheVariants.{Done, NotOffered}
 use Rattle.file_replace.specs.declared.place.Event.{Event}
 use Rattle.file_replace.specs.declared.place.Event.TheVariants.{Found, Made, Changed, Synced, Failed, Renamed, Tried, Asked}

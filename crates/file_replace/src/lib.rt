@@ -4,6 +4,7 @@
 mod calls;
 mod held;
 mod host_place;
+mod laws;
 mod links;
 mod mem_place;
 mod place;
@@ -16,6 +17,7 @@ mod world;
 pub use calls::{Call, Noted, PlaceCalls};
 pub use held::{Held, Outcome, save};
 pub use host_place::FileReplacer;
+pub use laws::crash_laws;
 pub use mem_place::{MemFile, MemPlace};
 pub use place::{Event, FolderSync, PlainFile, Replaces};
 pub use replacement::{Fault, Step, replace};

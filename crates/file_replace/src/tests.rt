@@ -1,11 +1,13 @@
 //! Each call on a path in memory fails in turn.
 
+ghost use Rattle.std.specs.Prelude.{◌≡◌};
+
 use crate::mem_place::{MemFile, MemPlace};
 use crate::replacement::{Fault, Step, replace};
 use std::alloc::AllocError;
 use std::process::Abort;
 
-/// What is wanted where a call fails: its step, whether the path has the new file, and whether a file is left beside.
+/// What is wanted where a call fails: its step, and whether the path has the new file.
 const WANTED: [(Step, bool); 6] = [
     (Step::Create, false),
     (Step::Write, false),
@@ -23,8 +25,10 @@ fn has(place: &MemPlace, bytes: &[u8], mode: u32) -> bool {
     }
 }
 
-/// Replaces a file while the call of this number fails, and tells what is there.
-fn replaced<R: Abort>(rt: &R, mut place: MemPlace) -> (MemPlace, Option<Step>) {
+/// Replaces a file where a call fails, and tells at which step.
+fn replaced<R: Abort>(rt: &R, mut place: MemPlace) -> (MemPlace, Option<Step>)
+    requires { place.beside ≡ None }
+{
     let done = replace(&mut place, b"new", Some(0o640));
     match done {
         Ok(_) => (place, None),

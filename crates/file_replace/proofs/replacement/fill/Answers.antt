@@ -1,4 +1,4 @@
-use Rattle.std.proofs.Common.{◌≡◌, Option, None, List, ℕ, sym, ◌∙◌, subst, rules}
+use Rattle.std.proofs.Common.{Option, ℕ, sym, ◌∙◌, subst, rules}
 use Rattle.std.specs.Prelude.{OnOk}
 use Rattle.fork_disk.specs.Crash.{at_first}
 use Rattle.file_replace.specs.declared.replacement.Step.TheVariants.{Write, SetMode}

@@ -1,4 +1,4 @@
-use Rattle.std.proofs.Common.{◌≡◌, Some, refl, sym, ◌∙◌, ap, subst, rules}
+use Rattle.std.proofs.Common.{Some, refl, sym, ◌∙◌, ap, subst, rules}
 use Rattle.file_replace.specs.declared.replacement.Step.{Step}
 use Rattle.file_replace.specs.declared.replacement.Step.TheVariants.{Sync, Rename}
 use Rattle.file_replace.specs.Place.{Folder, MayLeave}

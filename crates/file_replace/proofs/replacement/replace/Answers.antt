@@ -1,4 +1,4 @@
-use Rattle.std.proofs.Common.{◌≡◌, Option, sym, ◌∙◌, ap, subst, rules}
+use Rattle.std.proofs.Common.{Option, sym, ◌∙◌, ap, subst, rules}
 use Rattle.fork_disk.specs.Crash.{at_first}
 use Rattle.file_replace.specs.declared.place.PlainFile.{PlainFile}
 use Rattle.file_replace.specs.Place.{Folder, MayLeave}
