@@ -1,33 +1,31 @@
 -- AppleSingle or AppleDouble with another resource fork: all that is promised of it.
-use Rattle.std.proofs.Common.{◌≡◌, ℕ, ◌+◌, ◌-◌, ◌*◌, ◌<◌, ◌≤◌, List, [], ◌∷◌, ◌++◌, length, map, get_or, refl, sym, ap, subst, ◌∙◌, arith, Bool, true, false, None, Some, Option, if◌then◌else◌}
-use Rattle.std.specs.Prelude.{find, is_some, option_map, option_and_then, nat_le, nat_lt, nat_eq, not, ◌==◌}
+use Rattle.std.proofs.Common.{◌≡◌, ℕ, ◌+◌, ◌*◌, ◌<◌, ◌≤◌, List, [], ◌∷◌, length, map, get_or, refl, sym, ap, subst, ◌∙◌, arith, Bool, true, false, None, Some, Option, if◌then◌else◌}
+use Rattle.std.specs.Prelude.{find, is_some, option_map, nat_lt, nat_eq, not, ◌==◌}
 use Rattle.std.specs.List.{AllByRecursion, starts_with}
 use Rattle.std.specs.Option.{option_or}
-use Rattle.std.proofs.lemmas.Bool.{eqb-true, le-ltb, ltb-false}
+use Rattle.std.proofs.lemmas.Bool.{le-ltb, ltb-false}
 use Rattle.mac_files.specs.declared.part.Part.{Part}
 use Rattle.mac_files.specs.declared.fault.Entry.{Entry}
 use Rattle.mac_files.specs.declared.fault.ContainerFault.{ContainerFault}
 use Rattle.mac_files.specs.declared.fault.ContainerFault.TheVariants.{EndsInHeader, EntriesOutside, EntryOutside, UnknownVersion}
-use Rattle.mac_files.specs.declared.container.Container.{Container}
 use Rattle.mac_files.specs.declared.container.Container.TheVariants.{Raw, AppleSingle, AppleDouble, MacBinary}
 use Rattle.mac_files.specs.declared.container.Version.{Version}
-use Rattle.mac_files.specs.Apple.{dates_in, entries_of, entry_count, entry_outside, finder_in, is_known, list_end, part_of, version}
+use Rattle.mac_files.specs.Apple.{dates_in, entries_of, entry_count, entry_outside, finder_in, is_known, list_end, version}
 use Rattle.mac_files.specs.Containers.{container_of, is_fork_header}
 use Rattle.mac_files.specs.Faults.{apple_fault, entry_fault, header_fault, list_fault, version_fault}
 use Rattle.mac_files.specs.MacBinary.{version_of}
 use Rattle.mac_files.specs.Parts.{lies_within}
-use Rattle.mac_write.specs.declared.refusal.Refusal.{Refusal}
 use Rattle.mac_write.specs.declared.refusal.Refusal.TheVariants.{Damaged, ListFull, Overlap, TooLong}
-use Rattle.mac_write.specs.Apple.{all_entries, apple_refusal, apple_with_fork, changed, fork_entry, growth, is_in_the_way, length_refusal, listed_fork, new_length, room, room_end, room_refusal}
+use Rattle.mac_write.specs.Apple.{all_entries, apple_refusal, apple_with_fork, changed, fork_entry, growth, is_in_the_way, length_refusal, listed_fork, new_length, room_end, room_refusal}
 use Rattle.mac_write.specs.Forks.{ChangesFork, KeepsEntries, apple_why, told}
 use Rattle.mac_write.proofs.BinaryChanged.{fork_header_same, starts_same}
 use Rattle.mac_write.proofs.Entries.{order}
-use Rattle.mac_write.proofs.EntriesRead.{count_is, entries_are, head_same, length-front, list_grows}
+use Rattle.mac_write.proofs.EntriesRead.{count_is, entries_are, head_same, list_grows}
 use Rattle.mac_write.proofs.AppleKept.{IsKept, IsOpen, all_kept, length-new}
 use Rattle.mac_write.proofs.AppleRead.{IsWell, all_small, all_told, all_well, none_outside, within_file}
 use Rattle.mac_write.proofs.AppleTold.{bytes_told, find_fork, found_all, dates_read, finder_read, fork_told, other_told}
 use Rattle.mac_write.proofs.Refused.{else_none, map_none, or_none, then_none}
-use Rattle.mac_write.proofs.Segments.{Same, number_same}
+use Rattle.mac_write.proofs.Segments.{number_same}
 
 -- what is known where nothing is refused
 pub record IsSound (file : List ℕ) (count : ℕ) : Type 0 where

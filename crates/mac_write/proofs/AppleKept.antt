@@ -1,19 +1,17 @@
 -- AppleSingle or AppleDouble with another resource fork: the bytes of its entries.
-use Rattle.std.proofs.Common.{◌≡◌, ◌⊎◌, inl, inr, ℕ, zero, suc, ◌+◌, ◌-◌, ◌*◌, ◌<◌, ◌≤◌, List, [], ◌∷◌, ◌++◌, length, map, take, drop, get_or, refl, sym, ap, subst, ◌∙◌, arith, Bool, true, false, None, Some, Option, cond, if◌then◌else◌}
-use Rattle.std.specs.Prelude.{find, option_map, option_and_then, is_some, nat_le, nat_lt, not, slice_range, ◌&&◌, ◌||◌, ◌==◌}
+use Rattle.std.proofs.Common.{◌≡◌, ◌⊎◌, inl, inr, ℕ, zero, suc, ◌+◌, ◌-◌, ◌<◌, ◌≤◌, List, [], ◌∷◌, ◌++◌, length, take, drop, get_or, refl, sym, ap, subst, ◌∙◌, arith, Bool, true, false, None, if◌then◌else◌}
+use Rattle.std.specs.Prelude.{find, is_some, nat_le, not, slice_range, ◌&&◌, ◌||◌, ◌==◌}
 use Rattle.std.specs.List.{AllByRecursion}
-use Rattle.std.proofs.lemmas.Bool.{cases_lt, eq-eqb, le-leb, leb-true, le-ltb, lt-ltb, not-false, eqb-false, eqb-true}
-use Rattle.std.proofs.lemmas.List.{drop-drop, length-append, length-drop, length-take, length-take-le, take_at}
-use Rattle.byteorder.specs.Endian.{big_from}
+use Rattle.std.proofs.lemmas.Bool.{leb-true, le-ltb, lt-ltb, not-false, eqb-false}
+use Rattle.std.proofs.lemmas.List.{drop-drop, length-append, length-drop, length-take-le, take_at}
 use Rattle.byteorder.specs.Numbers.{big_from-lt}
-use Rattle.mac_files.specs.declared.part.Part.{Part}
 use Rattle.mac_files.specs.declared.fault.Entry.{Entry}
 use Rattle.mac_files.specs.Apple.{entry_at, entries_from, entries_of, entry_count, entry_outside, list_end}
-use Rattle.mac_files.specs.Parts.{bytes_of, lies_within}
-use Rattle.mac_write.specs.Apple.{all_entries, apple_with_fork, body, changed, fork_entry, front, growth, is_fork, is_in_the_way, list_text, listed_fork, moved, moved_place, new_length, room, room_end}
-use Rattle.mac_write.proofs.Entries.{all_added, all_listed, found, none_of, order}
+use Rattle.mac_files.specs.Parts.{lies_within}
+use Rattle.mac_write.specs.Apple.{all_entries, apple_with_fork, body, fork_entry, front, growth, is_fork, is_in_the_way, listed_fork, moved_place, new_length, room, room_end}
+use Rattle.mac_write.proofs.Entries.{all_added, all_listed, none_of}
 use Rattle.mac_write.proofs.EntriesRead.{IsSmall, added_entry, length-front}
-use Rattle.mac_write.proofs.Segments.{Same, left_same, right_from, short}
+use Rattle.mac_write.proofs.Segments.{left_same, right_from, short}
 
 -- what is known of an entry of the new list: its bytes lie within the old file, and it can be kept
 pub record IsKept (file : List ℕ) (e : Entry) : Type 0 where

@@ -1,24 +1,16 @@
 -- What AppleSingle or AppleDouble with another resource fork tells.
-use Rattle.std.proofs.Common.{◌≡◌, ◌⊎◌, ◌≢◌, inl, inr, ℕ, zero, suc, ◌+◌, ◌-◌, ◌*◌, ◌<◌, ◌≤◌, List, [], ◌∷◌, ◌++◌, length, map, take, drop, get_or, refl, sym, ap, subst, ◌∙◌, arith, Bool, true, false, None, Some, Option, cond, if◌then◌else◌}
-use Rattle.std.specs.Prelude.{find, option_map, option_and_then, is_some, nat_le, nat_lt, nat_eq, not, unwrap_or, ◌&&◌, ◌||◌, ◌==◌}
-use Rattle.std.specs.List.{AllByRecursion, starts_with}
-use Rattle.std.specs.Option.{option_or}
-use Rattle.std.proofs.lemmas.Bool.{cases_lt, eq-eqb, eqb-false, eqb-true, le-leb, leb-true, le-ltb, lt-ltb, ltb-false, ne_eqb}
-use Rattle.std.proofs.lemmas.List.{length-append, take-take}
-use Rattle.std.proofs.lemmas.List.Folds.{find-append}
+use Rattle.std.proofs.Common.{◌≡◌, inl, inr, ℕ, ◌+◌, ◌-◌, ◌<◌, ◌≤◌, List, [], ◌∷◌, length, map, take, drop, refl, sym, ap, subst, ◌∙◌, arith, Bool, true, false, None, if◌then◌else◌}
+use Rattle.std.specs.Prelude.{find, nat_le, not, ◌&&◌, ◌||◌, ◌==◌}
+use Rattle.std.specs.List.{AllByRecursion}
+use Rattle.std.proofs.lemmas.Bool.{eqb-false, eqb-true, le-leb, leb-true, le-ltb, lt-ltb}
 use Rattle.mac_files.specs.declared.part.Part.{Part}
 use Rattle.mac_files.specs.declared.fault.Entry.{Entry}
-use Rattle.mac_files.specs.declared.fault.ContainerFault.{ContainerFault}
-use Rattle.mac_files.specs.declared.fault.ContainerFault.TheVariants.{EndsInHeader, EntriesOutside, EntryOutside, UnknownVersion}
-use Rattle.mac_files.specs.Apple.{dates_in, entries_of, entry_count, entry_of, entry_outside, finder_in, is_known, list_end, part_of, version}
-use Rattle.mac_files.specs.Faults.{apple_fault, entry_fault, header_fault, list_fault, version_fault}
-use Rattle.mac_files.specs.Parts.{bytes_of, has_bytes, lies_within}
-use Rattle.mac_write.specs.Apple.{all_entries, apple_with_fork, body, changed, fork_entry, front, growth, is_fork, is_in_the_way, list_text, listed_fork, moved, moved_place, new_length, room, room_end}
-use Rattle.mac_write.specs.Forks.{KeepsEntries, fork_of, told, told_with}
-use Rattle.mac_write.proofs.Entries.{all_added, all_listed, found, none_of, order}
-use Rattle.mac_write.proofs.EntriesRead.{IsSmall, added_entry, count_is, entries_are, head_same, length-front, list_grows}
-use Rattle.mac_write.proofs.AppleKept.{apart, IsKept, IsOpen, all_kept, fork_is, length-new, moved_same}
-use Rattle.mac_write.proofs.Segments.{Same, number_same, number_shifted, shifted}
+use Rattle.mac_files.specs.Apple.{list_end}
+use Rattle.mac_files.specs.Parts.{bytes_of, lies_within}
+use Rattle.mac_write.specs.Apple.{apple_with_fork, changed, fork_entry, growth, is_fork, moved_place, new_length, room, room_end}
+use Rattle.mac_write.specs.Forks.{told, told_with}
+use Rattle.mac_write.proofs.EntriesRead.{IsSmall}
+use Rattle.mac_write.proofs.AppleKept.{apart, IsKept, IsOpen, fork_is, length-new, moved_same}
 
 -- The entry of the new list.
 

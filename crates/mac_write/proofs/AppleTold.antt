@@ -1,9 +1,9 @@
 -- AppleSingle or AppleDouble with another resource fork is read again.
-use Rattle.std.proofs.Common.{◌≡◌, ◌⊎◌, ◌≢◌, inl, inr, ℕ, zero, suc, ◌+◌, ◌-◌, ◌*◌, ◌<◌, ◌≤◌, List, [], ◌∷◌, ◌++◌, length, map, take, drop, get_or, refl, sym, ap, subst, ◌∙◌, arith, Bool, true, false, None, Some, Option, cond, if◌then◌else◌}
-use Rattle.std.specs.Prelude.{find, option_map, option_and_then, is_some, nat_le, nat_lt, nat_eq, not, unwrap_or, ◌&&◌, ◌||◌, ◌==◌}
-use Rattle.std.specs.List.{AllByRecursion, starts_with}
+use Rattle.std.proofs.Common.{◌≡◌, ℕ, ◌+◌, ◌≤◌, List, [], ◌∷◌, length, map, take, drop, refl, sym, ap, subst, ◌∙◌, arith, Bool, true, false, None, Some, Option, if◌then◌else◌}
+use Rattle.std.specs.Prelude.{find, option_map, option_and_then, is_some, nat_le, ◌&&◌, ◌==◌}
+use Rattle.std.specs.List.{AllByRecursion}
 use Rattle.std.specs.Option.{option_or}
-use Rattle.std.proofs.lemmas.Bool.{eq-eqb, eqb-false, eqb-true, le-leb, leb-true, le-ltb, lt-ltb, ltb-false, ne_eqb}
+use Rattle.std.proofs.lemmas.Bool.{eq-eqb, eqb-true, leb-true, ne_eqb}
 use Rattle.std.proofs.lemmas.List.{take-take}
 use Rattle.std.proofs.lemmas.List.Folds.{find-append}
 use Rattle.byteorder.specs.Endian.{big_from}

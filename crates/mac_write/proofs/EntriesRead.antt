@@ -1,11 +1,10 @@
 -- A list of entries is read as it was written.
-use Rattle.std.proofs.Common.{◌≡◌, ℕ, zero, suc, ◌+◌, ◌*◌, ◌<◌, ◌≤◌, List, [], ◌∷◌, ◌++◌, length, map, take, drop, refl, sym, ap, subst, ◌∙◌, arith, Bool, true, false, None, Some, Option, cond, if◌then◌else◌}
-use Rattle.std.specs.Prelude.{find, option_map, is_some, ◌==◌}
+use Rattle.std.proofs.Common.{◌≡◌, ℕ, zero, suc, ◌+◌, ◌*◌, ◌<◌, ◌≤◌, List, [], ◌∷◌, ◌++◌, length, map, take, drop, refl, sym, ap, subst, ◌∙◌, arith, Bool, true, false, None, Some, Option, if◌then◌else◌}
+use Rattle.std.specs.Prelude.{is_some}
 use Rattle.std.specs.List.{AllByRecursion}
 use Rattle.std.proofs.lemmas.List.{append_assoc, drop-drop, drop_at, length-append, length-map, length-take-le}
 use Rattle.byteorder.specs.Endian.{big_bytes, big_from}
 use Rattle.byteorder.specs.Numbers.{big_number-reads_back}
-use Rattle.mac_files.specs.declared.part.Part.{Part}
 use Rattle.mac_files.specs.declared.fault.Entry.{Entry}
 use Rattle.mac_files.specs.Apple.{entry_at, entries_from, entries_of, entry_count, list_end}
 use Rattle.mac_write.specs.Apple.{all_entries, apple_with_fork, body, changed, entry_text, fork_entry, front, growth, list_text, listed_fork}

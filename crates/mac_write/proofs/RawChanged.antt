@@ -1,11 +1,11 @@
 -- A file of nothing but a fork.
-use Rattle.std.proofs.Common.{◌≡◌, ℕ, List, [], ◌∷◌, Bool, true, length, refl, ap, ◌∙◌, arith, None, Some, Option, if◌then◌else◌}
+use Rattle.std.proofs.Common.{◌≡◌, ℕ, List, [], ◌∷◌, Bool, length, refl, ap, ◌∙◌, arith, None, Some, if◌then◌else◌}
 use Rattle.std.specs.Prelude.{option_map}
 use Rattle.std.proofs.lemmas.Bool.{cond-true, ne_eqb}
 use Rattle.std.proofs.lemmas.List.{take_all}
 use Rattle.mac_files.specs.declared.part.Part.{Part}
 use Rattle.mac_files.specs.declared.container.Container.TheVariants.{Raw}
-use Rattle.mac_files.specs.Containers.{fork_in, is_fork_header}
+use Rattle.mac_files.specs.Containers.{fork_in}
 use Rattle.mac_files.specs.Parts.{bytes_of}
 use Rattle.mac_write.specs.Forks.{ChangesFork, fork_of}
 

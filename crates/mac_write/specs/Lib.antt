@@ -4,3 +4,4 @@ pub mod MacBinary
 pub mod Forks
 pub mod Parts
 pub mod Targets
+pub mod Laws

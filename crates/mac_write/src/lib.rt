@@ -8,6 +8,7 @@ mod binary;
 mod binary_text;
 mod bytes;
 mod fork;
+mod laws;
 mod length;
 pub mod mac_file;
 mod plan;
@@ -15,5 +16,6 @@ pub mod refusal;
 mod target;
 
 pub use fork::with_fork;
+pub use laws::written_laws;
 pub use mac_file::{bin_hex_parts, parts_of};
 pub use target::{Target, write_file};
