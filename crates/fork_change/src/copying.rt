@@ -25,6 +25,7 @@ const FIRST_OWN_ID: usize = 128;
 const MOST_OWN_IDS: usize = 32639;
 
 /// Which resources are copied: all, those of a type, or those of a type and id.
+#[derive(Drop)]
 pub enum Choice {
     All,
     Kind(ResType),

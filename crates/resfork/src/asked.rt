@@ -1,14 +1,14 @@
 //! The words of the command line.
 
+use crate::asked_change::{Work, work_of};
 use crate::command::command;
-use crate::request::{Choice, Form, Report, Request};
-use crate::unpack::Unpacking;
-use crate::view::{Chosen, ShowAs, View};
 use clap::ArgMatches;
 use clap::error::ErrorKind;
-use fork_json::Bytes;
+use fork_answer::request::{Choice, Request};
 use fork_list::find::{Key, Wanted};
 use fork_list::{kind_of, name_of};
+use fork_report::{Bytes, Form, Report};
+use fork_view::{Chosen, ShowAs, Unpacking, View};
 use mac_base::resource::ResType;
 use mac_text::bytes_of;
 use mac_text::letters::Letters;
@@ -47,6 +47,8 @@ pub enum Asked<'a> {
         unpacking: Unpacking<'a>,
         file: &'a str,
     },
+    /// To change files, or to compare them.
+    Change(Work<'a>),
     /// To write this text: the help, or the version.
     Tell(clap::Error),
 }
@@ -72,6 +74,15 @@ pub enum NotAsked {
     /// A list of types has no form in JSON.
     #[error("error: --types doesn't go with --json\n")]
     NoTypesJson,
+    /// A resource's id is none.
+    #[error("error: an id is a number from -32768 to 32767\n")]
+    NoId,
+    /// A name is too long.
+    #[error("error: a name has at most 255 bytes\n")]
+    LongName,
+    /// Attributes are none.
+    #[error("error: --attrs takes words of sysHeap, purgeable, locked, protected, preload, changed, bit7 and bit0 with commas between them, or - for none; or +WORD and -WORD with commas between them\n")]
+    NoAttributes,
     /// What `--nth` has is no count from 1 on.
     #[error("error: --nth takes a count from 1 on\n")]
     NoCount,
@@ -116,12 +127,15 @@ pub fn asked_by<'a, S: AsStr>(alloc: Global, words: &'a [S]) -> Result<Asked<'a>
         }),
         "show" => asked_to_view(alloc, matches),
         "unpack" => asked_to_unpack(alloc, matches),
-        _ => Err(NotAsked::NoCommand),
+        name => match work_of(alloc, name, matches)? {
+            Some(work) => Ok(Asked::Change(work)),
+            None => Err(NotAsked::NoCommand),
+        },
     }
 }
 
 /// The form in which something is told.
-fn form_of(matches: &ArgMatches<'_>) -> Form {
+pub fn form_of(matches: &ArgMatches<'_>) -> Form {
     if matches.get_flag("json") {
         Form::Json
     } else {
@@ -239,7 +253,7 @@ fn asked_to_unpack<'a>(alloc: Global, matches: &ArgMatches<'a>) -> Result<Asked<
 }
 
 /// The types that `-t` names.
-fn kinds_named(alloc: Global, matches: &ArgMatches<'_>) -> Result<Vec<ResType>, NotAsked> {
+pub fn kinds_named(alloc: Global, matches: &ArgMatches<'_>) -> Result<Vec<ResType>, NotAsked> {
     let mut kinds = Vec::new(alloc);
     for word in matches.get_strs("type").unwrap_or(&[]) {
         let kind = kind_named(alloc, word)?;
@@ -249,7 +263,7 @@ fn kinds_named(alloc: Global, matches: &ArgMatches<'_>) -> Result<Vec<ResType>, 
 }
 
 /// The type that a word names.
-fn kind_named(alloc: Global, word: &str) -> Result<ResType, NotAsked> {
+pub fn kind_named(alloc: Global, word: &str) -> Result<ResType, NotAsked> {
     let Some(bytes) = bytes_of(alloc, word)? else {
         return Err(NotAsked::NoType);
     };
@@ -261,13 +275,15 @@ fn key_named(alloc: Global, word: &str) -> Result<Key, NotAsked> {
     if let Ok(id) = word.parse::<i16>() {
         return Ok(Key::Id(id));
     }
+    Ok(Key::Name(name_named(alloc, word)?))
+}
+
+/// The name that a word shows.
+pub fn name_named(alloc: Global, word: &str) -> Result<Vec<u8>, NotAsked> {
     let Some(bytes) = bytes_of(alloc, word)? else {
         return Err(NotAsked::NoKey);
     };
-    match name_of(alloc, bytes.as_slice())? {
-        Some(name) => Ok(Key::Name(name)),
-        None => Err(NotAsked::NoKey),
-    }
+    name_of(alloc, bytes.as_slice())?.ok_or(NotAsked::NoKey)
 }
 
 /// How many resources to pass over, by a word that counts from 1.

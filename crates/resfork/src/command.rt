@@ -1,10 +1,11 @@
 //! The commands and options of the command line.
 
+use crate::change_command as change;
 use clap::{Arg, ArgAction, Command};
 use std::alloc::{AllocError, Global};
 
 /// What the program is for.
-const ABOUT: &str = "Shows what the resource forks of old Macintosh files hold";
+const ABOUT: &str = "Shows and changes what the resource forks of old Macintosh files hold";
 
 /// What its help ends with.
 const EXAMPLES: &str =
@@ -22,10 +23,19 @@ Examples:
   resfork show Game.rsrc 'STR#' 128    the texts of a resource
   resfork show Game.rsrc ICN# 128 -o icon.png
   resfork unpack Game.rsrc game        each resource as a file in the folder game
+  resfork pack game New.rsrc           a fork of what is in the folder game
+  resfork put Game.rsrc TEXT 128 -i readme.txt
+                                       other bytes for a resource, or a new one
+  resfork set Game.rsrc TEXT 128 --name 'Read me' --attrs +purgeable,-locked
+  resfork rm Game.rsrc 'snd ' 5 6      without these resources
+  resfork cp Other.rsrc ICN# vers:1 Game.rsrc
+                                       resources of another file, too
+  resfork diff Old.rsrc Game.rsrc      what differs
+  resfork derez Game.rsrc > Game.r     as a text; resfork rez Game.r -o New.rsrc
 
 Exit status:
   0  done
-  1  there is no such resource
+  1  there is no such resource, or it is there already; or files differ
   2  the words of the command line are bad
   3  a file holds no resource fork, or a damaged one
   4  a file can't be read, or the output can't be written";
@@ -41,7 +51,7 @@ fn files<'a>(alloc: Global) -> Arg<'a> {
 }
 
 /// The file that a command is for.
-fn file<'a>(alloc: Global) -> Arg<'a> {
+pub fn file<'a>(alloc: Global) -> Arg<'a> {
     Arg::new(alloc, "file")
         .value_name("FILE")
         .required(true)
@@ -50,7 +60,7 @@ fn file<'a>(alloc: Global) -> Arg<'a> {
 }
 
 /// The types that a command is for.
-fn types<'a>(alloc: Global) -> Arg<'a> {
+pub fn kinds<'a>(alloc: Global) -> Arg<'a> {
     Arg::new(alloc, "type")
         .short('t')
         .long("type")
@@ -95,7 +105,7 @@ fn list<'a>(alloc: Global) -> Result<Command<'a>, AllocError> {
         .long_about(
             "Lists resources: a line for each, with its type, its id, how many bytes it has, its attributes, and its name in double quotes",
         )
-        .arg(types(alloc))?
+        .arg(kinds(alloc))?
         .arg(only_types)?
         .arg(raw(alloc))?
         .arg(json(alloc))?
@@ -229,7 +239,7 @@ fn unpack<'a>(alloc: Global) -> Result<Command<'a>, AllocError> {
         .long_about(
             "Writes each resource to a file DIR/TYPE/ID NAME.bin, and all else of the fork to DIR/resources.json. Nothing is overwritten",
         )
-        .arg(types(alloc))?
+        .arg(kinds(alloc))?
         .arg(file(alloc))?
         .arg(folder)
 }
@@ -249,5 +259,13 @@ pub fn command<'a>(alloc: Global) -> Result<Command<'a>, AllocError> {
         .subcommand(check(alloc)?)?
         .subcommand(salvage(alloc)?)?
         .subcommand(show(alloc)?)?
-        .subcommand(unpack(alloc)?)
+        .subcommand(unpack(alloc)?)?
+        .subcommand(change::put(alloc)?)?
+        .subcommand(change::remove(alloc)?)?
+        .subcommand(change::set(alloc)?)?
+        .subcommand(change::copy(alloc)?)?
+        .subcommand(change::compare(alloc)?)?
+        .subcommand(change::pack(alloc)?)?
+        .subcommand(change::derez(alloc)?)?
+        .subcommand(change::rez(alloc)?)
 }

@@ -1,38 +1,33 @@
 //! Shows what the resource forks of old Macintosh files hold: `resfork ls FILE`, `resfork get FILE TYPE ID`.
 #![tactic(auto)]
 
-mod answer;
 mod asked;
+mod asked_change;
+mod change;
+mod change_command;
 mod command;
-mod damage;
-mod form;
-mod info;
 mod input;
-mod json;
-mod manifest;
-mod mend;
 mod message;
-mod report;
-mod request;
-mod source;
-mod unpack;
-mod view;
+mod rez;
+mod work;
 
-use answer::{Failure, answer, read_table};
 use asked::{Asked, NotAsked, asked_by};
-use damage::Tally;
+use fork_answer::answer::answer;
+use fork_answer::request::Request;
+use fork_answer::{Failure, Found, read_table, resource_fork};
 use fork_bytes::table::Table;
+use fork_report::{
+    Form, Refusal, Report, Tally, Told, refused_line, report_on, salvage, salvage_list,
+};
+use fork_view::unpack::unpack;
+use fork_view::{Unpacking, View, sight_of};
 use input::read_all;
 use mac_text::letters::Letters;
 use message::{BAD_WORDS, CANT_GO_ON, DONE, NO_FORK, Problem, tell_bad_words, tell_problem};
-use report::Told;
-use request::{Form, Report, Request};
-use source::{Found, resource_fork};
+use std::alloc::AllocError;
 use std::io::{ErrorKind, IsTerminal, Write};
 use std::process::ExitCode;
 use std::{env, fs, io};
-use unpack::{Unpacking, unpack};
-use view::{View, sight_of};
 
 /// The word for the standard input, in place of a file's name.
 const INPUT: &str = "-";
@@ -75,6 +70,7 @@ fn run(rt: &HostRuntime) -> u8 {
             file,
             unpack_file(rt, &unpacking, file),
         ),
+        Ok(Asked::Change(work)) => work::work(rt, work),
         Ok(Asked::Tell(text)) => tell(rt, &text),
         Err(error) => tell_bad_words(rt, &error),
     }
@@ -108,12 +104,13 @@ fn show(
     }
     let bytes = read(rt, file).map_err(Problem::Read)?;
     let Some(output) = output else {
-        return answer(alloc, request, &bytes, &mut rt.stdout()).map_err(
-            |failure| Problem::of_failure(alloc, failure, &bytes),
-        );
+        answer(alloc, request, &bytes, &mut rt.stdout()).map_err(|failure| Refusal::of_failure(
+            alloc, failure, &bytes,
+        ))?;
+        return Ok(());
     };
     let mut text = Vec::new(alloc);
-    answer(alloc, request, &bytes, &mut text).map_err(|failure| Problem::of_failure(
+    answer(alloc, request, &bytes, &mut text).map_err(|failure| Refusal::of_failure(
         alloc, failure, &bytes,
     ))?;
     fs::write(rt, output, text.as_slice()).map_err(Problem::Save)
@@ -139,7 +136,7 @@ fn report_all(rt: &HostRuntime, report: &Report, files: &[&str]) -> u8 {
 /// What is told of the file of this name.
 fn report_file(rt: &HostRuntime, report: &Report, file: &str) -> Result<Told, Problem> {
     let bytes = read(rt, file).map_err(Problem::Read)?;
-    report::report_on(rt.alloc(), report, file, &bytes)
+    Ok(report_on(rt.alloc(), report, file, &bytes)?)
 }
 
 /// Writes what is told of a file. The result is its status, or why nothing is told.
@@ -156,13 +153,19 @@ fn print_told(
         }
         Err(problem) => {
             if let Form::Json = form
-                && let Ok(line) = report::refused(rt.alloc(), file, &problem)
+                && let Ok(line) = refusal_line(rt, file, &problem)
             {
                 write_text(rt, &line)?;
             }
             Err(problem)
         }
     }
+}
+
+/// The line of JSON for a file that isn't shown.
+fn refusal_line(rt: &HostRuntime, file: &str, problem: &Problem) -> Result<String, AllocError> {
+    let told = format!(in rt.alloc(); "{problem}")?;
+    refused_line(rt.alloc(), file, problem.status(), told.as_str())
 }
 
 /// Writes a text in one piece.
@@ -193,11 +196,11 @@ fn salvage_file(
     let alloc = rt.alloc();
     let bytes = read(rt, file).map_err(Problem::Read)?;
     let Some(output) = output else {
-        let text = report::salvage_list(alloc, letters, &bytes)?;
+        let text = salvage_list(alloc, letters, &bytes)?;
         write_text(rt, &text)?;
         return Ok(DONE);
     };
-    let (fork, tally) = report::salvage(alloc, &bytes)?;
+    let (fork, tally) = salvage(alloc, &bytes)?;
     fs::write(rt, output, fork.as_slice()).map_err(Problem::Save)?;
     if let Some(Tally { readable, found }) = tally {
         let _ = eprintln!(rt;
@@ -210,11 +213,11 @@ fn salvage_file(
 /// The resource fork in a file.
 fn fork_found<'a>(rt: &HostRuntime, bytes: &'a [u8]) -> Result<Found<'a>, Problem> {
     let alloc = rt.alloc();
-    resource_fork(alloc, bytes).map_err(|fault| Problem::of_failure(
+    Ok(resource_fork(alloc, bytes).map_err(|fault| Refusal::of_failure(
         alloc,
         Failure::NoFork(fault),
         bytes,
-    ))
+    ))?)
 }
 
 /// The table of the resource fork that was found in a file.
@@ -224,11 +227,11 @@ fn table_found<'a>(
     bytes: &[u8],
 ) -> Result<Table<'a>, Problem> {
     let alloc = rt.alloc();
-    read_table(alloc, found.fork()).map_err(|fault| Problem::of_failure(
+    Ok(read_table(alloc, found.fork()).map_err(|fault| Refusal::of_failure(
         alloc,
         Failure::Fork(fault),
         bytes,
-    ))
+    ))?)
 }
 
 /// Shows resources of the file of this name to people. A picture isn't written to a terminal.

@@ -1,15 +1,16 @@
 //! What is told on the standard error, and the exit statuses.
 
-use crate::answer::Failure;
 use crate::asked::NotAsked;
-use crate::damage::Damage;
-use crate::source::{NoFork, name_of_container};
-use crate::unpack::NotUnpacked;
-use crate::view::NotShown;
-use fork_bytes::fault::ForkFault;
+use file_replace::NotReplaced;
+use fork_answer::Failure;
+use fork_edit::change::NotChanged;
+use fork_edit::file::NotWritten;
+use fork_pack::rows::PackFault;
+use fork_report::Refusal;
+use fork_rez::fault::RezFault;
+use fork_view::{NotShown, NotUnpacked};
 use mac_files::archive::Archive;
-use mac_files::{archive_of, container_of};
-use std::alloc::Global;
+use std::alloc::{AllocError, Global};
 use std::io;
 use std::io::ErrorKind;
 use thiserror::Error;
@@ -37,31 +38,7 @@ pub enum Problem {
     Read(io::Error),
     /// What it holds can't be shown.
     #[error("{0}")]
-    Show(Failure),
-    /// Its container or its text is damaged, or has no resource fork.
-    #[error("{container}: {fault}")]
-    Container {
-        container: &'static str,
-        fault: NoFork,
-    },
-    /// It is an archive or a disk image.
-    #[error("{0}")]
-    Archive(Archive),
-    /// Its fork is damaged: what is told of that.
-    #[error("{told}")]
-    Damaged {
-        told: String,
-        is_readable: bool,
-    },
-    /// Nothing can be read of its fork.
-    #[error("no resource can be read")]
-    Nothing,
-    /// Too much can be read for one fork.
-    #[error("more can be read than one fork holds, 8192 resources and 4194304 bytes with its map: nothing is written; resfork salvage --list shows what there is")]
-    TooMuch,
-    /// It is nothing that is known.
-    #[error("neither a resource fork nor a file that has one in it: {0}")]
-    Unknown(String),
+    Refused(Refusal),
     /// The file that was to be written can't be.
     #[error("the file named with -o can't be written: {0}")]
     Save(io::Error),
@@ -74,83 +51,119 @@ pub enum Problem {
     /// Not all of its resources are written to a folder.
     #[error("{0}")]
     Unpack(NotUnpacked),
+    /// A file isn't replaced.
+    #[error("{0}")]
+    Replace(NotReplaced),
+    /// Its resources aren't changed.
+    #[error("{0}")]
+    Edit(fork_change::Refusal),
+    /// A file with these resources isn't written.
+    #[error("not written: {0}")]
+    Write(NotWritten),
+    /// A file that belongs to it can't be read.
+    #[error("{path} can't be read: {error}")]
+    Unread { path: String, error: io::Error },
+    /// A text says no resources.
+    #[error("{0}")]
+    Rez(RezFault),
+    /// A folder isn't one to which resources were unpacked.
+    #[error("{0}")]
+    Pack(PackFault),
+    /// A file of a folder is no text.
+    #[error("{0} is no UTF-8 text")]
+    NoText(String),
+    /// There is no such file.
+    #[error("there is no such file; --create makes a new one")]
+    NoFile,
+    /// The host has no memory.
+    #[error("the host has no memory")]
+    HostFull,
     /// The standard output is a terminal.
     #[error("the bytes of a resource aren't for a terminal: name a file with -o OUT, or pipe them on")]
     Terminal,
 }
 
+impl From<AllocError> for Problem {
+    fn from(_: AllocError) -> Problem {
+        Problem::HostFull
+    }
+}
+
+impl From<NotReplaced> for Problem {
+    fn from(fault: NotReplaced) -> Problem {
+        Problem::Replace(fault)
+    }
+}
+
+impl From<Refusal> for Problem {
+    fn from(refusal: Refusal) -> Problem {
+        Problem::Refused(refusal)
+    }
+}
+
+/// The exit status that says so.
+fn status_of_refusal(refusal: &Refusal) -> u8 {
+    match refusal {
+        Refusal::Show(Failure::NotFound) => NOT_FOUND,
+        Refusal::Show(Failure::HostFull) | Refusal::Show(Failure::Write(_)) => CANT_GO_ON,
+        Refusal::Show(Failure::Fork(_))
+        | Refusal::Show(Failure::NoFork(_))
+        | Refusal::Container { .. }
+        | Refusal::Archive(_)
+        | Refusal::Damaged { .. }
+        | Refusal::Nothing
+        | Refusal::TooMuch
+        | Refusal::Unknown(_) => NO_FORK,
+    }
+}
+
 impl Problem {
-    /// Why what this file holds can't be shown, told by what the file is known as.
-    pub fn of_failure(alloc: Global, failure: Failure, file: &[u8]) -> Problem {
-        match failure {
-            Failure::NoFork(NoFork::HostFull) | Failure::Fork(ForkFault::HostFull) => {
-                Problem::Show(Failure::HostFull)
-            }
-            Failure::NoFork(fault) => Problem::Container {
-                container: container_of(file).map_or("a BinHex file", name_of_container),
-                fault,
-            },
-            Failure::Fork(fault) => Problem::of_fork(alloc, fault, file),
-            failure => Problem::Show(failure),
-        }
-    }
-
-    /// Why a fork that is refused isn't shown: its first fault, with its place, if this file has a fork at all.
-    fn of_fork(alloc: Global, refusal: ForkFault, file: &[u8]) -> Problem {
-        let Some(damage) = Damage::of_file(alloc, file) else {
-            return Problem::Show(Failure::Fork(refusal));
-        };
-        let Ok(told) = format!(in alloc; "{damage}") else {
-            return Problem::Show(Failure::HostFull);
-        };
-        if damage.is_in_container() || container_of(file).is_some() {
-            return Problem::damaged(told, damage);
-        }
-        match archive_of(file) {
-            Some(archive) => Problem::Archive(archive),
-            None if damage.is_of_fork() => Problem::damaged(told, damage),
-            None => Problem::Unknown(told),
-        }
-    }
-
-    /// That a fork is damaged.
-    fn damaged(told: String, damage: Damage) -> Problem {
-        Problem::Damaged {
-            told,
-            is_readable: damage.is_readable(),
+    /// Why this file isn't changed.
+    pub fn of_change(alloc: Global, fault: NotChanged, file: &[u8]) -> Problem {
+        match fault {
+            NotChanged::Read(failure) => Problem::Refused(Refusal::of_failure(
+                alloc, failure, file,
+            )),
+            NotChanged::Edit(refusal) => Problem::Edit(refusal),
+            NotChanged::Write(fault) => Problem::Write(fault),
+            NotChanged::HostFull => Problem::HostFull,
         }
     }
 
     /// The exit status that says so.
     pub fn status(&self) -> u8 {
         match self {
-            Problem::Show(Failure::NotFound) | Problem::View(NotShown::NotFound) => NOT_FOUND,
+            Problem::Refused(refusal) => status_of_refusal(refusal),
+            Problem::View(NotShown::NotFound)
+            | Problem::Edit(fork_change::Refusal::Missing)
+            | Problem::Edit(fork_change::Refusal::Taken) => NOT_FOUND,
             Problem::Terminal
             | Problem::View(NotShown::NoPicture)
             | Problem::View(NotShown::NoText)
             | Problem::View(NotShown::ManyPictures) => BAD_WORDS,
-            Problem::Show(Failure::Fork(_))
-            | Problem::Show(Failure::NoFork(_))
-            | Problem::Container { .. }
-            | Problem::Archive(_)
-            | Problem::Damaged { .. }
-            | Problem::Nothing
-            | Problem::TooMuch
-            | Problem::Unknown(_) => NO_FORK,
             Problem::Read(_)
             | Problem::Save(_)
             | Problem::Unpack(_)
             | Problem::View(NotShown::HostFull)
             | Problem::Print(_)
-            | Problem::Show(Failure::HostFull)
-            | Problem::Show(Failure::Write(_)) => CANT_GO_ON,
+            | Problem::Edit(fork_change::Refusal::HostFull)
+            | Problem::Edit(fork_change::Refusal::TooMany)
+            | Problem::Edit(fork_change::Refusal::NoFreeId)
+            | Problem::Write(_)
+            | Problem::Replace(_)
+            | Problem::Unread { .. }
+            | Problem::NoFile
+            | Problem::Rez(RezFault::HostFull)
+            | Problem::Pack(PackFault::HostFull)
+            | Problem::HostFull => CANT_GO_ON,
+            Problem::Rez(RezFault::Refused(_)) | Problem::Pack(_) | Problem::NoText(_) => NO_FORK,
         }
     }
 
     /// Whether nothing is told of it: whoever read the output has gone away.
     fn is_silent(&self) -> bool {
         match self {
-            Problem::Show(Failure::Write(error)) | Problem::Print(error) => {
+            Problem::Refused(Refusal::Show(Failure::Write(error))) | Problem::Print(error) => {
                 error.kind() == ErrorKind::BrokenPipe
             }
             _ => false,
@@ -164,11 +177,13 @@ pub fn tell_problem(rt: &HostRuntime, file: &str, problem: &Problem) {
         return;
     }
     let _ = match problem {
-        Problem::Archive(archive) => tell_archive(rt, file, *archive),
-        Problem::Damaged {
-            told,
-            is_readable: true,
-        } => eprintln!(rt; "{file}: {told}: resfork salvage {file} -o OUT"),
+        Problem::Refused(Refusal::Archive(archive)) => tell_archive(rt, file, *archive),
+        Problem::Refused(
+            Refusal::Damaged {
+                told,
+                is_readable: true,
+            },
+        ) => eprintln!(rt; "{file}: {told}: resfork salvage {file} -o OUT"),
         problem => eprintln!(rt; "{file}: {problem}"),
     };
 }

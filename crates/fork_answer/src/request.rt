@@ -1,0 +1,35 @@
+//! What is asked about a resource fork.
+
+use fork_list::find::Wanted;
+use mac_base::resource::ResType;
+use mac_text::letters::Letters;
+
+/// What to show of a fork.
+#[derive(Drop)]
+pub enum Request {
+    /// A list of its resources.
+    List(Choice),
+    /// A list of their types.
+    Types(Choice),
+    /// The bytes of a resource.
+    Get(Wanted),
+}
+
+/// Which types a list has, and how it shows them.
+#[derive(Drop)]
+pub struct Choice {
+    /// How letters that aren't ASCII are shown.
+    pub letters: Letters,
+    /// The types of the resources; none for all types.
+    pub kinds: Vec<ResType>,
+}
+
+impl Request {
+    /// Whether what is shown isn't meant for a terminal.
+    pub fn is_for_files(&self) -> bool {
+        match self {
+            Request::List(_) | Request::Types(_) => false,
+            Request::Get(_) => true,
+        }
+    }
+}

@@ -1,0 +1,110 @@
+//! The table of the resource fork in a file, and the file with another table in its place.
+
+use crate::same::is_same_table;
+use fork_answer::{Found, NoFork, read_table, resource_fork};
+use fork_bytes::fault::{ForkFault, WriteFault};
+use fork_bytes::layout::Limits;
+use fork_bytes::table::Table;
+use fork_bytes::write_fork_within;
+use mac_files::bin_hex::is_bin_hex;
+use mac_files::container::Container;
+use mac_files::container_of;
+use mac_write::refusal::Refusal;
+use mac_write::with_fork;
+use std::alloc::Global;
+use thiserror::Error;
+
+/// Why a file isn't written with another table.
+#[derive(Debug, Drop, Error)]
+pub enum NotWritten {
+    /// It is a BinHex text.
+    #[error("a BinHex text can be read, and not be written yet")]
+    Text,
+    /// The table is too big.
+    #[error("more than a resource fork can say: 16777216 bytes of resources, of which each takes 4 more, or names and ids that end 65535 bytes after the type list")]
+    TooBig,
+    /// The container can't hold the fork.
+    #[error("{0}")]
+    Container(Refusal),
+    /// The new file isn't read as what was to be written.
+    #[error("the new file isn't read as these resources: those of one type must stand together")]
+    Mistaken,
+    /// The host has no memory.
+    #[error("the host has no memory")]
+    HostFull,
+}
+
+impl From<Refusal> for NotWritten {
+    fn from(refusal: Refusal) -> NotWritten {
+        match refusal {
+            Refusal::HostFull => NotWritten::HostFull,
+            refusal => NotWritten::Container(refusal),
+        }
+    }
+}
+
+/// The resource fork in a file. In a container without one it has no bytes.
+pub fn fork_or_none<'a>(alloc: Global, file: &'a [u8]) -> Result<Found<'a>, NoFork> {
+    match resource_fork(alloc, file) {
+        Err(NoFork::Absent) => Ok(Found::Part(&[])),
+        found => found,
+    }
+}
+
+/// The file with this table in the place of its own, and all else as it was. It is TooBig exactly where the table is more than the
+/// format can say. What is written is read again before it is given.
+pub fn with_table(alloc: Global, file: &[u8], table: &Table) -> Result<Vec<u8>, NotWritten> {
+    let fork = match write_fork_within(alloc, Limits::FORMAT, table) {
+        Ok(fork) => fork,
+        Err(WriteFault::TooBig) => return Err(NotWritten::TooBig),
+        Err(WriteFault::HostFull) => return Err(NotWritten::HostFull),
+    };
+    read_back(alloc, &fork, table)?;
+    kept_with(alloc, file, fork)
+}
+
+/// Reads a fork again. It is Mistaken where its table isn't this one.
+fn read_back(alloc: Global, fork: &[u8], table: &Table) -> Result<(), NotWritten> {
+    match read_table(alloc, fork) {
+        Ok(read) if is_same_table(&read, table) => Ok(()),
+        Err(ForkFault::HostFull) => Err(NotWritten::HostFull),
+        _ => Err(NotWritten::Mistaken),
+    }
+}
+
+/// Reads a file again. It is Mistaken where its resource fork isn't this one.
+fn read_again(alloc: Global, file: &[u8], fork: &[u8]) -> Result<(), NotWritten> {
+    match resource_fork(alloc, file) {
+        Ok(found) if found.fork() == fork => Ok(()),
+        Err(NoFork::HostFull) => Err(NotWritten::HostFull),
+        _ => Err(NotWritten::Mistaken),
+    }
+}
+
+/// The file with these bytes as its resource fork. It is read again before it is given.
+fn kept_with(alloc: Global, file: &[u8], fork: Vec<u8>) -> Result<Vec<u8>, NotWritten> {
+    match container_of(file) {
+        Some(Container::Raw) => kept_alone(alloc, fork),
+        Some(container) => kept_in(alloc, container, file, &fork),
+        None if is_bin_hex(file) => Err(NotWritten::Text),
+        None => kept_alone(alloc, fork),
+    }
+}
+
+/// A file of nothing but a fork.
+fn kept_alone(alloc: Global, fork: Vec<u8>) -> Result<Vec<u8>, NotWritten> {
+    read_again(alloc, &fork, &fork)?;
+    Ok(fork)
+}
+
+/// The file in a container with these bytes as its resource fork.
+fn kept_in(
+    alloc: Global,
+    container: Container,
+    file: &[u8],
+    fork: &[u8],
+) -> Result<Vec<u8>, NotWritten> {
+    let new = with_fork(alloc, container, file, fork)?;
+    read_again(alloc, &new, fork)?;
+    Ok(new)
+}

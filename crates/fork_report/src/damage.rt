@@ -1,0 +1,127 @@
+//! What is told of a damaged fork.
+
+use fork_answer::{name_of_container, resource_fork};
+use fork_bytes::fault::{Condition, ForkFault};
+use fork_salvage::{Fault, Item, Salvage, first_fault};
+use mac_files::bin_hex::is_bin_hex;
+use mac_files::container::Container;
+use mac_files::container_of;
+use std::alloc::Global;
+use std::fmt;
+
+/// How many resources of a damaged fork are counted at most. No fork has so many that was whole once.
+pub const MOST_FOUND: usize = 1_048_576;
+
+/// What has a fork in it.
+#[derive(Clone, Copy, Debug)]
+pub enum Holder {
+    Container(Container),
+    BinHex,
+}
+
+/// How many resources of a damaged fork can be read, and how many are found in it.
+#[derive(Clone, Copy, Debug)]
+pub struct Tally {
+    pub readable: usize,
+    pub found: usize,
+}
+
+/// The first fault of a fork, and how much can still be read of it.
+#[derive(Clone, Copy, Debug)]
+pub struct Damage {
+    fault: Fault,
+    /// What has the fork in it, unless it is the whole file.
+    holder: Option<Holder>,
+    /// None where no resource is found, or too many to be counted.
+    tally: Option<Tally>,
+}
+
+impl Holder {
+    /// What has the fork of this file in it. None where the whole file is taken for a fork.
+    pub fn of_file(file: &[u8]) -> Option<Holder> {
+        match container_of(file) {
+            Some(Container::Raw) => None,
+            Some(container) => Some(Holder::Container(container)),
+            None if is_bin_hex(file) => Some(Holder::BinHex),
+            None => None,
+        }
+    }
+
+    /// What such a file is called.
+    pub fn name(self) -> &'static str {
+        match self {
+            Holder::Container(container) => name_of_container(container),
+            Holder::BinHex => "a BinHex file",
+        }
+    }
+}
+
+impl Damage {
+    /// That of the fork in a file. None where there is no such fork or it has no fault, or where the host has no memory for it.
+    pub fn of_file(alloc: Global, file: &[u8]) -> Option<Damage> {
+        let Ok(found) = resource_fork(alloc, file) else {
+            return None;
+        };
+        let fork = found.fork();
+        Some(Damage {
+            fault: first_fault(fork)?,
+            holder: Holder::of_file(file),
+            tally: tally_of(fork),
+        })
+    }
+
+    /// Whether the fork is only a part of its file.
+    pub fn is_in_container(&self) -> bool {
+        self.holder.is_some()
+    }
+
+    /// Whether the bytes are those of a fork in spite of it: its parts lie within it, or some resource can be read.
+    pub fn is_of_fork(&self) -> bool {
+        let has_parts = match self.fault.refusal() {
+            ForkFault::EndOfFile | ForkFault::BadMap(Condition::Parts) => false,
+            _ => true,
+        };
+        has_parts || self.is_readable()
+    }
+
+    /// Whether some resource can be read.
+    pub fn is_readable(&self) -> bool {
+        match self.tally {
+            Some(tally) => tally.readable > 0,
+            None => false,
+        }
+    }
+}
+
+impl fmt::Display for Damage {
+    fn fmt<W: fmt::Write>(&self, f: &mut fmt::Formatter<W>) -> fmt::Result {
+        let fault = self.fault;
+        write!(f, "{fault}")?;
+        if let Some(holder) = self.holder {
+            let name = holder.name();
+            write!(f, "\n  (places are those in the resource fork of {name})")?;
+        }
+        match self.tally {
+            Some(Tally { readable, found }) => {
+                write!(f, "\n  {readable} of {found} resources can be read")
+            }
+            None => Ok(()),
+        }
+    }
+}
+
+/// How many resources of a fork can be read, of how many that are found in it. None where none is found, or too many to be counted.
+pub fn tally_of(fork: &[u8]) -> Option<Tally> {
+    let mut salvage = Salvage::new(fork);
+    let mut readable = 0usize;
+    for found in 0..MOST_FOUND {
+        match salvage.next() {
+            Some(Item::Row(_)) => readable = readable.saturating_add(1),
+            Some(Item::Lost(_)) => {}
+            Some(Item::Run(_)) => return None,
+            None if found == 0 => return None,
+            None => return Some(Tally { readable, found }),
+        }
+    }
+    None
+}

@@ -1,0 +1,111 @@
+//! What a file is.
+
+ghost use Rattle.std.specs.Prelude.{◌≡◌, IfSome, length, true};
+ghost use Rattle.mac_files.specs.Parts.{lies_within};
+
+use fork_answer::{Failure, NoFork, name_of_container, read_table};
+use fork_list::{KindText, types_listing};
+use mac_base::resource::ResType;
+use mac_files::bin_hex::file::BinHexFile;
+use mac_files::bin_hex::{is_bin_hex, read_bin_hex};
+use mac_files::container::Container;
+use mac_files::contents::Contents;
+use mac_files::{container_of, read_contents};
+use mac_text::Quoted;
+use mac_text::letters::Letters;
+use std::alloc::{AllocError, Global};
+
+/// Adds the lines of a name, and of a type and a creator.
+fn push_name(
+    text: &mut String,
+    name: &[u8],
+    kind: [u8; 4],
+    creator: [u8; 4],
+) -> Result<(), AllocError> {
+    let name = Quoted::double(Letters::Roman, name);
+    let kind = KindText::new(Letters::Roman, ResType::new(kind));
+    let creator = KindText::new(Letters::Roman, ResType::new(creator));
+    writeln!(text, "name: {name}")?;
+    writeln!(text, "type: {kind}")?;
+    writeln!(text, "creator: {creator}")
+}
+
+/// Adds what a container tells of a file, in lines.
+fn push_contents(
+    text: &mut String,
+    container: Container,
+    contents: &Contents,
+    file: &[u8],
+) -> Result<(), AllocError>
+    requires { IfSome contents.now.name (λ part. lies_within (length file.now) part ≡ true) }
+{
+    let kept_as = name_of_container(container);
+    writeln!(text, "kept as: {kept_as}")?;
+    if let Some(finder) = contents.finder {
+        let name = match contents.name {
+            Some(part) => part.bytes(file),
+            None => &[],
+        };
+        push_name(text, name, finder.kind, finder.creator)?;
+    }
+    let data = match contents.data_fork {
+        Some(part) => part.length,
+        None => 0,
+    };
+    writeln!(text, "data fork: {data} bytes")
+}
+
+/// Adds what a BinHex text tells of a file, in lines.
+fn push_text(text: &mut String, file: &BinHexFile) -> Result<(), AllocError> {
+    let data = file.data_fork().len();
+    writeln!(text, "kept as: a BinHex file")?;
+    push_name(text, file.name(), file.kind, file.creator)?;
+    writeln!(text, "data fork: {data} bytes")
+}
+
+/// Adds what a fork holds, in lines.
+fn push_fork(alloc: Global, text: &mut String, fork: &[u8]) -> Result<(), Failure> {
+    let table = read_table(alloc, fork).map_err(Failure::Fork)?;
+    let length = fork.len();
+    let attributes = table.map_attributes;
+    let rows = table.rows.as_slice();
+    let count = rows.len();
+    writeln!(text, "resource fork: {length} bytes")?;
+    writeln!(text, "map attributes: {attributes}")?;
+    writeln!(text, "resources: {count}")?;
+    let types = types_listing(alloc, Letters::Roman, &[], rows)?;
+    text.push_str(types.as_str())?;
+    Ok(())
+}
+
+/// What a file in a container is, in lines.
+fn container_text(alloc: Global, container: Container, file: &[u8]) -> Result<String, Failure> {
+    let contents = match read_contents(container, file) {
+        Ok(contents) => contents,
+        Err(fault) => return Err(Failure::NoFork(NoFork::Container(fault))),
+    };
+    let mut text = String::new(alloc);
+    push_contents(&mut text, container, &contents, file)?;
+    let fork = match contents.resource_fork {
+        Some(part) => part.bytes(file),
+        None => &[],
+    };
+    push_fork(alloc, &mut text, fork)?;
+    Ok(text)
+}
+
+/// What a file is, in lines: what its container tells, and what its resource fork holds.
+pub fn info_text(alloc: Global, file: &[u8]) -> Result<String, Failure> {
+    if let Some(container) = container_of(file) {
+        return container_text(alloc, container, file);
+    }
+    let mut text = String::new(alloc);
+    if is_bin_hex(file) {
+        let read = read_bin_hex(alloc, file).map_err(|fault| Failure::NoFork(NoFork::Text(fault)))?;
+        push_text(&mut text, &read)?;
+        push_fork(alloc, &mut text, read.resource_fork())?;
+    } else {
+        push_fork(alloc, &mut text, file)?;
+    }
+    Ok(text)
+}

@@ -1,0 +1,18 @@
+//! What is told of files: what each is, its faults, what can be read of it, and why nothing is shown.
+#![tactic(auto)]
+
+mod damage;
+mod info;
+mod json;
+mod json_row;
+mod json_text;
+mod refusal;
+mod report;
+mod request;
+
+pub use damage::Tally;
+pub use json::refused_line;
+pub use json_row::Bytes;
+pub use refusal::Refusal;
+pub use report::{Told, report_on, salvage, salvage_list};
+pub use request::{Form, Report};

@@ -1,0 +1,84 @@
+//! Why nothing is shown of a file's fork.
+
+use crate::damage::Damage;
+use fork_answer::{Failure, NoFork, name_of_container};
+use fork_bytes::fault::ForkFault;
+use mac_files::archive::Archive;
+use mac_files::{archive_of, container_of};
+use std::alloc::Global;
+use thiserror::Error;
+
+/// Why what a file holds isn't shown, or not all of it.
+#[derive(Debug, Drop, Error)]
+pub enum Refusal {
+    /// The resource isn't there, or the output or the host's memory fails.
+    #[error("{0}")]
+    Show(Failure),
+    /// Its container or its text is damaged, or has no resource fork.
+    #[error("{container}: {fault}")]
+    Container {
+        container: &'static str,
+        fault: NoFork,
+    },
+    /// It is an archive or a disk image.
+    #[error("{0}")]
+    Archive(Archive),
+    /// Its fork is damaged: what is told of that.
+    #[error("{told}")]
+    Damaged {
+        told: String,
+        is_readable: bool,
+    },
+    /// Nothing can be read of its fork.
+    #[error("no resource can be read")]
+    Nothing,
+    /// Too much can be read for one fork.
+    #[error("more can be read than one fork holds, 16777216 bytes of resources, and a map whose offsets have two bytes (5,458 resources without names): nothing is written; resfork salvage --list shows what there is")]
+    TooMuch,
+    /// It is nothing that is known.
+    #[error("neither a resource fork nor a file that has one in it: {0}")]
+    Unknown(String),
+}
+
+impl Refusal {
+    /// Why what this file holds can't be shown, told by what the file is known as.
+    pub fn of_failure(alloc: Global, failure: Failure, file: &[u8]) -> Refusal {
+        match failure {
+            Failure::NoFork(NoFork::HostFull) | Failure::Fork(ForkFault::HostFull) => {
+                Refusal::Show(Failure::HostFull)
+            }
+            Failure::NoFork(fault) => Refusal::Container {
+                container: container_of(file).map_or("a BinHex file", name_of_container),
+                fault,
+            },
+            Failure::Fork(fault) => Refusal::of_fork(alloc, fault, file),
+            failure => Refusal::Show(failure),
+        }
+    }
+
+    /// Why a fork that is refused isn't shown: its first fault, with its place, if this file has a fork at all.
+    fn of_fork(alloc: Global, refusal: ForkFault, file: &[u8]) -> Refusal {
+        let Some(damage) = Damage::of_file(alloc, file) else {
+            return Refusal::Show(Failure::Fork(refusal));
+        };
+        let Ok(told) = format!(in alloc; "{damage}") else {
+            return Refusal::Show(Failure::HostFull);
+        };
+        if damage.is_in_container() || container_of(file).is_some() {
+            return Refusal::damaged(told, damage);
+        }
+        match archive_of(file) {
+            Some(archive) => Refusal::Archive(archive),
+            None if damage.is_of_fork() => Refusal::damaged(told, damage),
+            None => Refusal::Unknown(told),
+        }
+    }
+
+    /// That a fork is damaged.
+    fn damaged(told: String, damage: Damage) -> Refusal {
+        Refusal::Damaged {
+            told,
+            is_readable: damage.is_readable(),
+        }
+    }
+}

@@ -1,0 +1,34 @@
+//! What is asked about files.
+
+use crate::json_row::Bytes;
+use mac_base::resource::ResType;
+
+/// In which form something is told.
+#[derive(Clone, Copy)]
+pub enum Form {
+    /// Lines for people.
+    Text,
+    /// One line of JSON for each file.
+    Json,
+}
+
+/// What is told about files.
+#[derive(Drop)]
+pub enum Report {
+    /// What each is.
+    Info(Form),
+    /// All faults of its fork.
+    Check(Form),
+    /// A list of its resources as JSON, those of these types, or all where none are named.
+    List { kinds: Vec<ResType>, shown: Bytes },
+}
+
+impl Report {
+    /// The form in which it is told.
+    pub fn form(&self) -> Form {
+        match self {
+            Report::Info(form) | Report::Check(form) => *form,
+            Report::List { .. } => Form::Json,
+        }
+    }
+}

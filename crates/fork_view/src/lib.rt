@@ -1,0 +1,10 @@
+//! Resources shown to people, and unpacked to a folder.
+#![tactic(auto)]
+
+mod form;
+mod manifest;
+pub mod unpack;
+mod view;
+
+pub use unpack::{NotUnpacked, Unpacking};
+pub use view::{Chosen, NotShown, ShowAs, Sight, View, sight_of};

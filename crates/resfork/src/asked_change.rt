@@ -1,0 +1,320 @@
+//! The words of the commands that change files, and of those that compare them.
+
+use crate::asked::{NotAsked, kind_named, kinds_named, name_named};
+use bitflags::Flags;
+use clap::ArgMatches;
+use fork_change::row::{AttributeChange, Change, NameChange, ResourceId};
+use fork_change::{Choice, Collision};
+use mac_base::name::Name;
+use mac_base::resource::{ResAttrs, ResType};
+use std::alloc::{AllocError, Global};
+
+/// Where a changed file goes, and what is said of it.
+#[derive(Clone, Copy)]
+pub struct Target<'a> {
+    /// The file that is changed.
+    pub file: &'a str,
+    /// The file that is written, where it is another.
+    pub output: Option<&'a str>,
+    /// Whether the old file is kept as FILE~.
+    pub keeps_old: bool,
+    /// Whether nothing is written, and only said what would be.
+    pub is_dry: bool,
+    /// Whether nothing is said of what was done.
+    pub is_quiet: bool,
+}
+
+/// What is to be done.
+#[derive(Drop)]
+pub enum Work<'a> {
+    /// To put bytes in the place of a resource's, or to add it.
+    Put {
+        change: Change,
+        /// The file with the bytes, or the standard input.
+        input: Option<&'a str>,
+        /// Whether a resource that is there is refused.
+        is_new: bool,
+        /// Whether a file that isn't there is made.
+        creates: bool,
+        target: Target<'a>,
+    },
+    /// To remove resources.
+    Remove {
+        whats: Vec<ResourceId>,
+        target: Target<'a>,
+    },
+    /// To change all of a resource but its bytes.
+    Set {
+        what: ResourceId,
+        change: Change,
+        target: Target<'a>,
+    },
+    /// To copy resources of a file to another.
+    Copy {
+        from: &'a str,
+        chosen: Vec<Choice>,
+        on_collision: Collision,
+        target: Target<'a>,
+    },
+    /// To compare two files.
+    Compare {
+        a: &'a str,
+        b: &'a str,
+    },
+    /// To write resources as a text.
+    Derez {
+        file: &'a str,
+        kinds: Vec<ResType>,
+    },
+    /// To write a fork of a text.
+    Rez {
+        target: Target<'a>,
+    },
+    /// To write a fork of what was unpacked to a folder.
+    Pack {
+        folder: &'a str,
+        like: Option<&'a str>,
+        target: Target<'a>,
+    },
+}
+
+/// What the words after this command ask for. None where it is no command that changes or compares files.
+pub fn work_of<'a>(
+    alloc: Global,
+    name: &str,
+    matches: &ArgMatches<'a>,
+) -> Result<Option<Work<'a>>, NotAsked> {
+    let work = match name {
+        "put" => put(alloc, matches)?,
+        "rm" => remove(alloc, matches)?,
+        "set" => set(alloc, matches)?,
+        "cp" => copy(alloc, matches)?,
+        "diff" => Work::Compare {
+            a: word(matches, "a"),
+            b: word(matches, "b"),
+        },
+        "derez" => Work::Derez {
+            file: word(matches, "file"),
+            kinds: kinds_named(alloc, matches)?,
+        },
+        "rez" => Work::Rez {
+            target: target_of(matches, word(matches, "file")),
+        },
+        "pack" => Work::Pack {
+            folder: word(matches, "folder"),
+            like: matches.get_str("like"),
+            target: target_of(matches, word(matches, "folder")),
+        },
+        _ => return Ok(None),
+    };
+    Ok(Some(work))
+}
+
+/// The value of an option or an operand that must be there.
+fn word<'a>(matches: &ArgMatches<'a>, name: &str) -> &'a str {
+    matches.get_str(name).unwrap_or("")
+}
+
+/// Where a changed file goes.
+fn target_of<'a>(matches: &ArgMatches<'a>, file: &'a str) -> Target<'a> {
+    Target {
+        file,
+        output: matches.get_str("output"),
+        keeps_old: matches.contains_id("backup") && matches.get_flag("backup"),
+        is_dry: matches.get_flag("dry"),
+        is_quiet: matches.get_flag("quiet"),
+    }
+}
+
+/// The id that a word names.
+fn id_named(word: &str) -> Result<i16, NotAsked> {
+    match word.parse::<i16>() {
+        Ok(id) => Ok(id),
+        Err(_) => Err(NotAsked::NoId),
+    }
+}
+
+/// The type and the id that two words name.
+fn resource_named(alloc: Global, kind: &str, id: &str) -> Result<ResourceId, NotAsked> {
+    Ok(ResourceId {
+        kind: kind_named(alloc, kind)?,
+        id: id_named(id)?,
+    })
+}
+
+/// What becomes of a resource's name.
+fn name_change(alloc: Global, matches: &ArgMatches<'_>) -> Result<NameChange, NotAsked> {
+    let Some(word) = matches.get_str("name") else {
+        return Ok(NameChange::Keep);
+    };
+    let bytes = name_named(alloc, word)?;
+    match Name::new(alloc, bytes.as_slice())? {
+        Some(name) => Ok(NameChange::To(name)),
+        None => Err(NotAsked::LongName),
+    }
+}
+
+/// The bit of an attribute, by its word in a list of resources.
+fn bit_named(word: &str) -> Option<u8> {
+    match word {
+        "bit7" => Some(128),
+        "sysHeap" => Some(64),
+        "purgeable" => Some(32),
+        "locked" => Some(16),
+        "protected" => Some(8),
+        "preload" => Some(4),
+        "changed" => Some(2),
+        "bit0" => Some(1),
+        _ => None,
+    }
+}
+
+/// Bits that are taken away, and bits that are then added.
+#[derive(Clone, Copy)]
+struct Bits {
+    take: u8,
+    add: u8,
+}
+
+/// The bits after one more word, which has a sign: `+WORD` sets one, and `-WORD` clears it.
+fn with_word(bits: Bits, word: &str) -> Option<Bits> {
+    if let Some(word) = word.strip_prefix("+") {
+        let bit = bit_named(word)?;
+        return Some(Bits {
+            take: bits.take | bit,
+            add: bits.add | bit,
+        });
+    }
+    let bit = bit_named(word.strip_prefix("-")?)?;
+    Some(Bits {
+        take: bits.take | bit,
+        add: bits.add & !bit,
+    })
+}
+
+/// The attributes that words name, with commas between them: all, or a change of some, where each word has a sign.
+fn bits_named(words: &str) -> Option<Bits> {
+    if words.starts_with("+") || words.starts_with("-") {
+        let mut bits = Bits { take: 0, add: 0 };
+        for word in words.split(",") {
+            bits = with_word(bits, word)?;
+        }
+        return Some(bits);
+    }
+    let mut add = 0;
+    for word in words.split(",") {
+        add |= bit_named(word)?;
+    }
+    Some(Bits { take: 255, add })
+}
+
+/// What becomes of a resource's attributes.
+fn attribute_change(matches: &ArgMatches<'_>) -> Result<AttributeChange, NotAsked> {
+    let bits = match matches.get_str("attrs") {
+        None => Bits { take: 0, add: 0 },
+        Some("-") => Bits { take: 255, add: 0 },
+        Some(words) => bits_named(words).ok_or(NotAsked::NoAttributes)?,
+    };
+    Ok(AttributeChange {
+        take: ResAttrs::from_bits_retain(bits.take),
+        add: ResAttrs::from_bits_retain(bits.add),
+    })
+}
+
+/// What `put` asks for.
+fn put<'a>(alloc: Global, matches: &ArgMatches<'a>) -> Result<Work<'a>, NotAsked> {
+    let change = Change {
+        to: resource_named(alloc, word(matches, "type"), word(matches, "id"))?,
+        name: name_change(alloc, matches)?,
+        attributes: attribute_change(matches)?,
+    };
+    Ok(Work::Put {
+        change,
+        input: matches.get_str("input"),
+        is_new: matches.get_flag("new"),
+        creates: matches.get_flag("create"),
+        target: target_of(matches, word(matches, "file")),
+    })
+}
+
+/// What `rm` asks for.
+fn remove<'a>(alloc: Global, matches: &ArgMatches<'a>) -> Result<Work<'a>, NotAsked> {
+    let kind = kind_named(alloc, word(matches, "type"))?;
+    let mut whats = Vec::new(alloc);
+    for word in matches.get_strs("id").unwrap_or(&[]) {
+        let id = id_named(word)?;
+        whats
+            .push(ResourceId { kind, id })
+            .map_err(AllocError::from)?;
+    }
+    Ok(Work::Remove {
+        whats,
+        target: target_of(matches, word(matches, "file")),
+    })
+}
+
+/// What `set` asks for.
+fn set<'a>(alloc: Global, matches: &ArgMatches<'a>) -> Result<Work<'a>, NotAsked> {
+    let old_kind = word(matches, "old-type");
+    let old_id = word(matches, "old-id");
+    let to = resource_named(
+        alloc,
+        matches.get_str("type").unwrap_or(old_kind),
+        matches.get_str("id").unwrap_or(old_id),
+    )?;
+    let name = if matches.get_flag("no-name") {
+        NameChange::Clear
+    } else {
+        name_change(alloc, matches)?
+    };
+    Ok(Work::Set {
+        what: resource_named(alloc, old_kind, old_id)?,
+        change: Change {
+            to,
+            name,
+            attributes: attribute_change(matches)?,
+        },
+        target: target_of(matches, word(matches, "file")),
+    })
+}
+
+/// Which resources a word of `cp` names: TYPE, or TYPE:ID.
+fn choice_named(alloc: Global, word: &str) -> Result<Choice, NotAsked> {
+    if let Some((kind, id)) = word.rsplit_once(":")
+        && let Ok(id) = id.parse::<i16>()
+    {
+        let kind = kind_named(alloc, kind)?;
+        return Ok(Choice::One(ResourceId { kind, id }));
+    }
+    Ok(Choice::Kind(kind_named(alloc, word)?))
+}
+
+/// What `cp` asks for.
+fn copy<'a>(alloc: Global, matches: &ArgMatches<'a>) -> Result<Work<'a>, NotAsked> {
+    let [words @ .., file] = matches.get_strs("words").unwrap_or(&[]) else {
+        return Err(NotAsked::NoCommand);
+    };
+    let mut chosen = Vec::new(alloc);
+    if words.is_empty() {
+        chosen.push(Choice::All).map_err(AllocError::from)?;
+    }
+    for word in words {
+        let choice = choice_named(alloc, word)?;
+        chosen.push(choice).map_err(AllocError::from)?;
+    }
+    let on_collision = if matches.get_flag("replace") {
+        Collision::Replace
+    } else if matches.get_flag("skip") {
+        Collision::Skip
+    } else if matches.get_flag("renumber") {
+        Collision::Renumber
+    } else {
+        Collision::Refuse
+    };
+    Ok(Work::Copy {
+        from: word(matches, "from"),
+        chosen,
+        on_collision,
+        target: target_of(matches, file),
+    })
+}

@@ -1,0 +1,108 @@
+//! Files changed: read whole, changed, and written in their own place or in another.
+
+use crate::asked_change::Target;
+use crate::input::read_all;
+use crate::message::{DONE, Problem};
+use crate::{read, write_text};
+use file_replace::{Held, save};
+use fork_bytes::table::Row;
+use fork_edit::change::{NewFile, changed};
+use fork_edit::edit::Edit;
+
+/// Changes the resources of a file, in its own place or in another. The result is the exit status.
+pub fn change(
+    rt: &HostRuntime,
+    target: &Target<'_>,
+    from: &[Row<'_>],
+    edit: Edit<'_>,
+) -> Result<u8, Problem> {
+    if target.is_dry || target.output.is_some() {
+        let old = read(rt, target.file).map_err(Problem::Read)?;
+        change_into(rt, target, &old, from, edit)
+    } else {
+        change_in_place(rt, target, from, edit)
+    }
+}
+
+/// Makes a new file with these resources.
+pub fn create(
+    rt: &HostRuntime,
+    target: &Target<'_>,
+    from: &[Row<'_>],
+    edit: Edit<'_>,
+) -> Result<u8, Problem> {
+    let target = Target {
+        output: target.output.or(Some(target.file)),
+        ..*target
+    };
+    change_into(rt, &target, &[], from, edit)
+}
+
+/// Changes a file in its own place. Where nothing changes, it isn't touched.
+fn change_in_place(
+    rt: &HostRuntime,
+    target: &Target<'_>,
+    from: &[Row<'_>],
+    edit: Edit<'_>,
+) -> Result<u8, Problem> {
+    let held = Held::open(rt, target.file)?;
+    // a byte more, for the read that finds the end
+    let expected = (held.file().metadata().map_err(Problem::Read)?.len() as usize).saturating_add(
+        1,
+    );
+    let old = read_all(rt.alloc(), held.file(), expected).map_err(Problem::Read)?;
+    let Some(changed) = changed_of(rt, &old, from, edit)? else {
+        return Ok(DONE);
+    };
+    held.replace(rt, &old, &changed.file, target.keeps_old)?;
+    say(rt, target, &changed.told)
+}
+
+/// What becomes of a file, or None where nothing changes.
+fn changed_of(
+    rt: &HostRuntime,
+    old: &[u8],
+    from: &[Row<'_>],
+    edit: Edit<'_>,
+) -> Result<Option<NewFile>, Problem> {
+    let alloc = rt.alloc();
+    changed(alloc, old, from, edit).map_err(|fault| Problem::of_change(alloc, fault, old))
+}
+
+/// Writes bytes with changes to another file, or only says what would change.
+fn change_into(
+    rt: &HostRuntime,
+    target: &Target<'_>,
+    old: &[u8],
+    from: &[Row<'_>],
+    edit: Edit<'_>,
+) -> Result<u8, Problem> {
+    match changed_of(rt, old, from, edit)? {
+        Some(changed) => {
+            write_output(rt, target, &changed.file)?;
+            say(rt, target, &changed.told)
+        }
+        None => {
+            write_output(rt, target, old)?;
+            Ok(DONE)
+        }
+    }
+}
+
+/// Writes the file that a command names, unless it only says what it would do.
+pub fn write_output(rt: &HostRuntime, target: &Target<'_>, bytes: &[u8]) -> Result<(), Problem> {
+    if let Some(output) = target.output
+        && !target.is_dry
+    {
+        save(rt, output, bytes)?;
+    }
+    Ok(())
+}
+
+/// Says what was done, or would be.
+pub fn say(rt: &HostRuntime, target: &Target<'_>, text: &String) -> Result<u8, Problem> {
+    if !target.is_quiet {
+        write_text(rt, text)?;
+    }
+    Ok(DONE)
+}

@@ -1,0 +1,108 @@
+//! Resources as a text, and the fork of a text; and the fork of a folder to which resources were unpacked.
+
+use crate::asked_change::Target;
+use crate::change::{say, write_output};
+use crate::message::{DONE, Problem};
+use crate::{fork_found, read, table_found};
+use fork_bytes::table::Table;
+use fork_edit::file::with_table;
+use fork_pack::manifest::manifest_of;
+use fork_pack::rows::{Entry, packed};
+use fork_rez::{derez, rez};
+use mac_base::resource::ResType;
+use std::collections::BTreeMap;
+use std::io::Write;
+
+/// The file that says what isn't in the files of the resources.
+const MANIFEST: &str = "resources.json";
+
+/// Writes resources of a file as a text.
+pub fn derez_file(rt: &HostRuntime, file: &str, kinds: &[ResType]) -> Result<u8, Problem> {
+    let bytes = read(rt, file).map_err(Problem::Read)?;
+    let found = fork_found(rt, &bytes)?;
+    let table = table_found(rt, &found, &bytes)?;
+    let Ok(text) = derez(rt.alloc(), kinds, &table) else {
+        return Err(Problem::HostFull);
+    };
+    rt.stdout().write_all(&text).map_err(Problem::Print)?;
+    Ok(DONE)
+}
+
+/// Writes a fork of a text.
+pub fn rez_file(rt: &HostRuntime, target: &Target<'_>) -> Result<u8, Problem> {
+    let alloc = rt.alloc();
+    let text = read(rt, target.file).map_err(Problem::Read)?;
+    let made = rez(alloc, &text).map_err(Problem::Rez)?;
+    let Ok(table) = made.table(alloc) else {
+        return Err(Problem::HostFull);
+    };
+    write_table(rt, target, &[], &table)
+}
+
+/// Writes a file like another one, with a table as that of its resource fork; like none, a raw fork.
+fn write_table(
+    rt: &HostRuntime,
+    target: &Target<'_>,
+    like: &[u8],
+    table: &Table<'_>,
+) -> Result<u8, Problem> {
+    let alloc = rt.alloc();
+    let file = with_table(alloc, like, table).map_err(Problem::Write)?;
+    write_output(rt, target, &file)?;
+    let name = target.output.unwrap_or("");
+    let count = table.rows.as_slice().len();
+    let length = file.len();
+    let Ok(text) = format!(in alloc; "{name}: {count} resources, {length} bytes\n") else {
+        return Err(Problem::HostFull);
+    };
+    say(rt, target, &text)
+}
+
+/// The files of resources in a folder, by their paths below it.
+fn read_files(
+    rt: &HostRuntime,
+    folder: &str,
+    entries: &[Entry],
+) -> Result<BTreeMap<String, Vec<u8>>, Problem> {
+    let alloc = rt.alloc();
+    let mut files = BTreeMap::new(alloc);
+    for entry in entries {
+        let file = entry.file.as_str();
+        let path = format!(in alloc; "{folder}/{file}")?;
+        let bytes = match read(rt, path.as_str()) {
+            Ok(bytes) => bytes,
+            Err(error) => return Err(Problem::Unread { path, error }),
+        };
+        if files.insert(entry.file.clone()?, bytes).is_err() {
+            return Err(Problem::HostFull);
+        }
+    }
+    Ok(files)
+}
+
+/// Writes a fork of the files in a folder and what `resources.json` says of them, in a file like this one.
+pub fn pack_folder(
+    rt: &HostRuntime,
+    folder: &str,
+    like: &[u8],
+    target: &Target<'_>,
+) -> Result<u8, Problem> {
+    let alloc = rt.alloc();
+    let path = format!(in alloc; "{folder}/{MANIFEST}")?;
+    let text = match read(rt, path.as_str()) {
+        Ok(text) => text,
+        Err(error) => return Err(Problem::Unread { path, error }),
+    };
+    let Ok(text) = str::from_utf8(&text) else {
+        return Err(Problem::NoText(path));
+    };
+    let packing = manifest_of(alloc, text).map_err(Problem::Pack)?;
+    let files = read_files(rt, folder, packing.entries.as_slice())?;
+    let rows = packed(alloc, packing.entries.as_slice(), &files).map_err(Problem::Pack)?;
+    let table = Table {
+        rows,
+        extra: packing.extra,
+        map_attributes: packing.map_attributes,
+    };
+    write_table(rt, target, like, &table)
+}

@@ -1,0 +1,367 @@
+"""Checks what resfork makes of files that it changes and compares.
+
+Each command is tried on random forks of tests/checks/forks.py, alone and in AppleSingle, AppleDouble and MacBinary I, II and III: what
+is read of the new file, and what of it is no resource fork, are those of a model; so is what the command prints. Where nothing changes, the file
+isn't touched. Before them come rows by hand, with their status and what is told. Number: how many random forks.
+"""
+import os
+import random
+import re
+import shutil
+import subprocess
+import tempfile
+
+from checks.fork_questions import Difference
+from checks.forks import Choices, compare, operand
+from checks.kept import DAMAGED, KEPT, write
+from checks.shown import fork_of, must
+from model.change import Missing, Taken, copied, place, put, remove, rest, set_row, table_of
+from model.container import resource_fork
+from model.fork import WORDS, NoFork, Row, column, quoted
+from places import TOP
+
+RAW = (lambda fork: fork, "a resource fork", 0)
+ROWS = [(b"TEXT", 128, b"Read me", 0, b"Hi"), (b"TEXT", 5, None, 4, b""), (b"snd ", 1, None, 0, b"\0\1")]
+
+# command lines, on a file of these rows and on a damaged one, with the status and words of what is told; the file isn't touched
+LINES = [
+    (["put", "NO_SUCH_FILE", "TEXT", "1"], 4, "NO_SUCH_FILE: there is no such file; --create"),
+    (["put", "FILE", "TEXT", "x"], 2, "-32768 to 32767"),
+    (["put", "FILE", "TEXT", "32768"], 2, "-32768 to 32767"),
+    (["put", "FILE", "TEXTS", "1"], 2, "a type has four bytes"),
+    (["put", "FILE", "TEXT", "1", "--attrs", "locked,blue"], 2, "--attrs takes"),
+    (["put", "FILE", "TEXT", "1", "--attrs=+locked,preload"], 2, "--attrs takes"),
+    (["put", "FILE", "TEXT", "1", "--name", "x" * 256], 2, "255 bytes"),
+    (["put", "FILE", "TEXT", "1", "-i", "NO_SUCH_FILE"], 4, "NO_SUCH_FILE: can't be read"),
+    (["put", "FILE", "TEXT", "1", "--backup", "-o", "OUT"], 2, "cannot be used with"),
+    (["put", "FILE", "TEXT", "128", "--new"], 1, "FILE: there is such a resource already"),
+    (["put", "DAMAGED", "TEXT", "128"], 3, "DAMAGED: 'TEXT' 128: its length"),
+    (["rm", "FILE", "TEXT", "128", "129"], 1, "FILE: there is no such resource"),
+    (["rm", "FILE", "TEXT", "128", "128"], 1, "FILE: there is no such resource"),
+    (["rm", "NO_SUCH_FILE", "TEXT", "128"], 4, "NO_SUCH_FILE"),
+    (["set", "FILE", "TEXT", "128", "--name", "a", "--no-name"], 2, "cannot be used with"),
+    (["set", "FILE", "TEXT", "128", "--id", "5"], 1, "FILE: there is such a resource already"),
+    (["set", "FILE", "TEXT", "1", "--id", "5"], 1, "FILE: there is no such resource"),
+    (["cp", "NO_SUCH_FILE", "FILE"], 4, "NO_SUCH_FILE: can't be read"),
+    (["cp", "FILE", "FILE"], 1, "FILE: there is such a resource already"),
+    (["cp", "FILE", "TEXT:7", "FILE"], 1, "FILE: there is no such resource"),
+    (["cp", "DAMAGED", "FILE"], 3, "DAMAGED: "),
+    (["cp", "FILE"], 2, ""),
+    (["diff", "FILE", "NO_SUCH_FILE"], 4, "NO_SUCH_FILE"),
+    (["pack", "NO_SUCH_FOLDER", "OUT"], 4, "NO_SUCH_FOLDER/resources.json"),
+    (["rez", "FILE", "-o", "OUT"], 3, "line 1"),
+    (["rez", "FILE"], 2, "--output"),
+    (["diff", "FILE", "DAMAGED"], 3, "DAMAGED: "),
+]
+
+
+def run(program, words, given=b""):
+    done = subprocess.run([program, *words], input=given, stdout=subprocess.PIPE, stderr=subprocess.PIPE, check=False)
+    return done.returncode, done.stdout, done.stderr.decode(errors="replace")
+
+
+def read(path):
+    with open(path, "rb") as file:
+        return file.read()
+
+
+# what is printed of a change
+
+
+def title(row):
+    return f"{column(row[0])} {row[1]}" + ("" if row[2] is None else " " + quoted('"', row[2]))
+
+
+def words_of(attributes):
+    return ",".join(word for bit, word in WORDS if attributes & bit) or "-"
+
+
+def named(name):
+    return "none" if name is None else quoted('"', name)
+
+
+def first_difference(a, b):
+    return next((at for at, (x, y) in enumerate(zip(a, b)) if x != y), min(len(a), len(b)))
+
+
+def difference_of(a, b):
+    """The line of a row that differs."""
+    parts = []
+    if a[4] != b[4]:
+        parts.append(f"data {len(a[4])} -> {len(b[4])} bytes, from byte {first_difference(a[4], b[4])} on")
+    if a[2] != b[2]:
+        parts.append(f"name {named(a[2])} -> {named(b[2])}")
+    if a[3] != b[3]:
+        parts.append(f"attributes {words_of(a[3])} -> {words_of(b[3])}")
+    return f"~ {column(a[0])} {a[1]}: " + "; ".join(parts) + "\n" if parts else ""
+
+
+def keyed(rows):
+    """The rows by type, id and which of several such rows."""
+    counts, found = {}, {}
+    for row in rows:
+        nth = counts[row[0], row[1]] = counts.get((row[0], row[1]), -1) + 1
+        found[row[0], row[1], nth] = row
+    return found
+
+
+def diff(a, b):
+    """The lines of the rows that differ, by type and id: of those of the first table, and then of those that only the second has."""
+    a, b = keyed(a), keyed(b)
+    lines = [difference_of(row, b[key]) if key in b else f"- {title(row)}\n" for key, row in sorted(a.items())]
+    return "".join(lines + [f"+ {title(row)}\n" for key, row in sorted(b.items()) if key not in a])
+
+
+# the commands
+
+
+class Case:
+    """A command on a file, with what becomes of its rows."""
+
+    def __init__(self, words, given, change):
+        self.words, self.given, self.change = words, given, change
+
+
+def attributes_words(choices):
+    """Words of `--attrs`, and what they make of attributes."""
+    some = choices.sample(WORDS, choices.randrange(1, 4))
+    if choices.randrange(2):
+        total = sum(bit for bit, _ in some)
+        return ",".join(word for _, word in some), lambda old: total
+    signs = [choices.choice("+-") for _ in some]
+
+    def changed(old):
+        for sign, (bit, _) in zip(signs, some):
+            old = old | bit if sign == "+" else old & ~bit
+        return old
+
+    return ",".join(sign + word for sign, (_, word) in zip(signs, some)), changed
+
+
+NAMES = [b"", b"New", b"caf\x8e", b'say "hi"', b"a\\b", b"\x01" * 255]
+
+
+def name_words(choices):
+    name = choices.choice(NAMES)
+    return ["--name", quoted('"', name)], name
+
+
+def chosen(rows, choices):
+    """The type and the id of one of the rows, or of none."""
+    if rows and choices.randrange(4):
+        row = choices.choice(rows)
+        return row[0], row[1]
+    return choices.choice([b"TEXT", b"new ", *[row[0] for row in rows]]), choices.choice([0, 1, 128, -1, 32767])
+
+
+def a_put(rows, choices):
+    kind, ident = chosen(rows, choices)
+    at = place(rows, kind, ident)
+    given = choices.choice([b"", b"Hi", bytes(range(256)), rows[at][4] if at is not None else b"x"])
+    words, what = ["put", "FILE", operand(kind, 0), str(ident)], {}
+    if choices.randrange(3) == 0:
+        more, what["name"] = name_words(choices)
+        words += more
+    if choices.randrange(3) == 0:
+        more, changed = attributes_words(choices)
+        words += [f"--attrs={more}"]
+        what["attributes"] = changed(0 if at is None else rows[at][3])
+    if choices.randrange(4) == 0:
+        words, what["is_new"] = words + ["--new"], True
+    return Case(words, given, lambda rows: put(rows, kind, ident, given, **what))
+
+
+def a_remove(rows, choices):
+    kind, ident = chosen(rows, choices)
+    idents = [ident] + ([row[1] for row in rows if row[0] == kind and row[1] != ident][:1] if choices.randrange(2) else [])
+    return Case(["rm", "FILE", operand(kind, 0), *map(str, idents)], b"", lambda rows: remove(rows, kind, idents))
+
+
+def a_set(rows, choices):
+    kind, ident = chosen(rows, choices)
+    at = place(rows, kind, ident)
+    words, what = ["set", "FILE", operand(kind, 0), str(ident)], {}
+    if choices.randrange(2):
+        what["new_ident"] = choices.choice([ident, 7, 128, -5])
+        words += [f"--id={what['new_ident']}"]
+    if choices.randrange(3) == 0:
+        what["new_kind"] = choices.choice([kind, b"TEXT", b"none"])
+        words += ["--type", quoted("'", what["new_kind"])]
+    if choices.randrange(2):
+        more, what["name"] = name_words(choices) if choices.randrange(2) else (["--no-name"], False)
+        words += more
+    if choices.randrange(2):
+        more, changed = attributes_words(choices)
+        words += [f"--attrs={more}"]
+        what["attributes"] = changed(0 if at is None else rows[at][3])
+    return Case(words, b"", lambda rows: set_row(rows, kind, ident, **what))
+
+
+def a_copy(rows, choices, other, from_path):
+    """A copy of resources of another file."""
+    words, some = ["cp", from_path], other
+    if other and choices.randrange(2):
+        row = choices.choice(other)
+        if choices.randrange(2):
+            words.append(f"{operand(row[0], 0)}:{row[1]}")
+            some = [it for it in other if it[:2] == row[:2]]
+        else:
+            words.append(operand(row[0], 0))
+            some = [it for it in other if it[0] == row[0]]
+    words.append("FILE")
+    taken = choices.choice([None, "replace", "skip", "renumber"])
+    if taken:
+        words.append(f"--{taken}")
+    return Case(words, b"", lambda rows: copied(rows, some, taken))
+
+
+def state(path):
+    found = os.stat(path)
+    return read(path), found.st_mtime_ns, found.st_ino
+
+
+def try_case(program, path, old, case, rows, extra):
+    """Compares what a command makes of a file."""
+    write(path, old)
+    before, what = state(path), " ".join(case.words)
+    words = [path if it == "FILE" else it for it in case.words]
+    try:
+        after = case.change(rows)
+    except (Missing, Taken) as refused:
+        told = "no such resource" if isinstance(refused, Missing) else "such a resource already"
+        compare(what, run(program, words, case.given), 1, b"", told)
+        must(state(path) == before, f"{what}: a file that is refused is touched")
+        return "refused"
+    printed = diff(rows, after).encode()
+    dry = run(program, [words[0], "-n", *words[1:]], case.given)
+    compare(f"{what} -n", dry, 0, printed, "")
+    must(state(path) == before, f"{what} -n: the file is touched")
+    compare(what, run(program, words, case.given), 0, printed, "")
+    if after == rows:
+        must(state(path) == before, f"{what}: nothing changed, and the file is touched")
+        return "unchanged"
+    new = read(path)
+    must(table_of(resource_fork(new)) == (after, extra), f"{what}: other resources are read")
+    must(rest(new) == rest(old), f"{what}: the rest of the file isn't as it was")
+    must(os.listdir(os.path.dirname(path)) == [os.path.basename(path)], f"{what}: a file is left")
+    return "changed"
+
+
+def try_diff(program, path, other_path, rows, other):
+    """Compares two files, and one with itself."""
+    lines = diff(rows, other).encode()
+    got = run(program, ["diff", path, other_path])
+    must(got[:2] == ((1, got[1]) if got[1] else (0, b"")) and got[1].startswith(lines), f"diff: {got} and not {lines!r}")
+    compare("diff with itself", run(program, ["diff", path, path]), 0, b"", "")
+
+
+def try_back(program, folder, path, old, table):
+    """What `unpack` wrote is packed, alone and in a file like the old one, and what `derez` wrote is written again."""
+    out, new = os.path.join(folder, "out"), os.path.join(folder, "new")
+    shutil.rmtree(out, ignore_errors=True)
+    compare("unpack", run(program, ["unpack", path, out]), 0, b"", "")
+    for words in ([], ["--like", path]):
+        compare("pack", run(program, ["pack", "-q", *words, out, new]), 0, b"", "")
+        packed = read(new)
+        must(table_of(resource_fork(packed)) == table, f"pack {words}: other resources are read")
+        must(rest(packed) == (rest(old) if words else None), f"pack {words}: the rest of the file isn't as it was")
+    text = run(program, ["derez", path])
+    compare("derez", text, 0, None, "")
+    compare("rez", run(program, ["rez", "-q", "-", "-o", new], text[1]), 0, b"", "")
+    must(table_of(read(new)) == table, "rez after derez: other resources are read")
+
+
+def try_fork(program, folder, fork, number, seen):
+    """Tries a command of each kind on a fork, in one of the containers."""
+    choices = random.Random(number)
+    rows, extra = table_of(fork)
+    keep, kept_as, _ = choices.choice([RAW, *KEPT][:-1])
+    path, from_path = os.path.join(folder, "in", "file"), os.path.join(folder, "from")
+    other = table_of(fork_of([Row(kind, ident, b"from", 0, b"other") for kind, ident in [(b"TEXT", 128), (b"TEXT", 5), (b"new ", 0)]]))[0]
+    other += [(*row[:2], None, 4, b"another") for row in rows[:2] if place(other, *row[:2]) is None]
+    other = table_of(fork_of([Row(*row) for row in sorted(other)]))[0]
+    write(from_path, choices.choice(KEPT)[0](fork_of([Row(*row) for row in other])))
+    old = keep(fork)
+    write(path, old)
+    try_diff(program, path, from_path, rows, other)
+    try_back(program, folder, path, old, (rows, extra))
+    for case in (a_put(rows, choices), a_remove(rows, choices), a_set(rows, choices), a_copy(rows, choices, other, from_path)):
+        try:
+            result = try_case(program, path, old, case, rows, extra)
+        except Difference as difference:
+            raise Difference(f"{kept_as}: {difference}") from None
+        seen[case.words[0], result] = seen.get((case.words[0], result), 0) + 1
+
+
+def try_lines(program, folder):
+    """Compares the command lines, and the options that say where a changed file goes."""
+    path, damaged, out = (os.path.join(folder, it) for it in ("file", "damaged", "out"))
+    fork = fork_of([Row(*row) for row in ROWS])
+    write(path, fork)
+    write(damaged, DAMAGED)
+    before = state(path)
+    names = {"FILE": path, "DAMAGED": damaged, "OUT": out}
+    for words, status, told in LINES:
+        given = [names.get(it, it) for it in words]
+        told = re.sub(r"^(FILE|DAMAGED):", lambda it: f"{names[it[1]]}:", told)
+        got = run(program, given)
+        must(got[0] == status and got[1] == b"" and told in got[2] and got[2], f"{words}: {got}")
+    must(state(path) == before and read(damaged) == DAMAGED and not os.path.exists(out), "a file that is refused is touched")
+    after = put(ROWS, b"TEXT", 128, b"Hello")
+    printed = diff(ROWS, after).encode()
+    compare("put -o", run(program, ["put", path, "TEXT", "128", "-o", out], b"Hello"), 0, printed, "")
+    must(state(path) == before and table_of(read(out))[0] == after, "put -o: other resources are read, or FILE is touched")
+    compare("put --backup -q", run(program, ["put", path, "TEXT", "128", "--backup", "-q"], b"Hello"), 0, b"", "")
+    must(table_of(read(path))[0] == after and read(path + "~") == fork, "put --backup: other resources are read, or no FILE~")
+    new = os.path.join(folder, "new")
+    compare("put --create", run(program, ["put", "--create", new, "TEXT", "1"], b"Hi"), 0, b"+ TEXT 1\n", "")
+    must(table_of(read(new))[0] == [(b"TEXT", 1, None, 0, b"Hi")], "put --create: other resources are read")
+    big = run(program, ["put", new, "TEXT", "2"], bytes(16777216))
+    must(big[0] == 4 and "16777216 bytes" in big[2], f"a resource too big: {big[0]}, {big[2]!r}")
+
+
+def lines_of_session():
+    """The commands of the session in docs/FILES.md, each with what it prints."""
+    with open(os.path.join(TOP, "docs/FILES.md"), encoding="utf-8") as page:
+        session = re.search(r"^```session\n(.*?)^```$", page.read(), re.M | re.S)[1]
+    return [(it.partition("\n")[0], it.partition("\n")[2]) for it in session.removeprefix("$ ").split("\n$ ")]
+
+
+def try_session(program, folder):
+    """Runs the session of docs/FILES.md on copies of the sample."""
+    os.mkdir(folder)
+    for name in ("Game.rsrc", "Old.rsrc"):
+        shutil.copy(os.path.join(TOP, "crates/resfork/data/sample.rsrc"), os.path.join(folder, name))
+    lines = lines_of_session()
+    for words, printed in lines:
+        script = f'resfork() {{ "{os.path.abspath(program)}" "$@"; }}\n{words}'
+        done = subprocess.run(["bash", "-c", script], cwd=folder, stdin=subprocess.DEVNULL, capture_output=True, text=True, check=False)
+        wanted = printed.rstrip("\n")
+        must((done.stdout.rstrip("\n"), done.stderr) == (wanted, ""), f"{words}: it wrote {done.stdout!r} and {done.stderr!r}")
+    return len(lines)
+
+
+def main(program, count=150):
+    """Tries the rows by hand, and so many random forks."""
+    seen, tried = {}, 0
+    with tempfile.TemporaryDirectory() as folder:
+        os.mkdir(os.path.join(folder, "in"))
+        what = "the session of FILES"
+        try:
+            session = try_session(program, os.path.join(folder, "session"))
+            what = "the command lines"
+            os.mkdir(os.path.join(folder, "lines"))
+            try_lines(program, os.path.join(folder, "lines"))
+            for number in range(1, 1 + count):
+                fork, what = Choices(number).fork(), f"fork {number}"
+                try:
+                    table_of(fork)
+                except NoFork:
+                    continue
+                try_fork(program, folder, fork, number, seen)
+                tried += 1
+        except (Difference, AssertionError) as difference:
+            print(f"{what}: {difference!r}")
+            return 1
+    print(f"a session of {session} commands, {len(LINES)} command lines, {tried} forks changed: " + ", ".join(f"{command} {result} {seen[command, result]}" for command, result in sorted(seen)))
+    return 0 if tried else 1
