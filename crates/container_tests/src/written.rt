@@ -2,9 +2,10 @@
 
 use mac_files::container::{Container, Version};
 use mac_files::contents::FinderInfo;
+use mac_files::fork_in;
 use mac_write::mac_file::MacFile;
 use mac_write::refusal::Refusal;
-use mac_write::{Target, with_fork, write_file};
+use mac_write::{Target, parts_of, with_fork, write_file};
 
 /// AppleSingle of version 1, listed in the order 2, 3, 1: the name, a byte of no entry, the resource fork, a byte of no entry, and the
 /// data fork.
@@ -103,21 +104,20 @@ const HEADER_LONGER: &[u8] = b"\
 
 #[test]
 fn writes_mac_binary(rt: HostRuntime) -> Result<(), Refusal> {
+    let container = Container::MacBinary(Version::III);
     let file = write_file(rt.alloc(), Target::MacBinary, &FILE)?;
     assert_eq!(rt; file.len(), 512);
-    assert_eq!(rt; &file[..128], HEADER);
-    assert_eq!(rt; &file[128..132], b"abc\x00".as_slice());
-    assert_eq!(rt; &file[256..262], b"FORK!\x00".as_slice());
-    assert_eq!(rt; &file[384..387], b"hi\x00".as_slice());
-    let longer = with_fork(
-        rt.alloc(),
-        Container::MacBinary(Version::III),
-        &file,
-        b"FORKING",
-    )?;
+    assert!(rt; file.starts_with(HEADER));
+    let longer = with_fork(rt.alloc(), container, &file, b"FORKING")?;
     assert_eq!(rt; longer.len(), 512);
-    assert_eq!(rt; &longer[..128], HEADER_LONGER);
-    assert_eq!(rt; &longer[256..264], b"FORKING\x00".as_slice());
-    assert_eq!(rt; &longer[384..387], b"hi\x00".as_slice());
+    assert!(rt; longer.starts_with(HEADER_LONGER));
+    assert_eq!(rt; fork_in(container, &file), Ok(Some(b"FORK!".as_slice())));
+    assert_eq!(rt;
+        fork_in(container, &longer),
+        Ok(Some(b"FORKING".as_slice()))
+    );
+    let told = parts_of(container, &longer)?;
+    assert_eq!(rt; told.data_fork, b"abc".as_slice());
+    assert_eq!(rt; told.comment, b"hi".as_slice());
     Ok(())
 }
