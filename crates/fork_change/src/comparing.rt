@@ -1,6 +1,6 @@
 //! What differs between two tables.
 
-ghost use Rattle.std.specs.Prelude.{◌≡◌, ◌≢◌, ◌++◌, [], drop, map, slice_get, take, IfErr, IfNone, IfOk, IfSome, OnOk};
+ghost use Rattle.std.specs.Prelude.{◌≡◌, ◌≢◌, ◌⊎◌, ◌++◌, [], drop, map, slice_get, take, IfErr, IfNone, IfOk, IfSome, OnOk};
 ghost use Rattle.fork_change.specs.Copies.{IsTooMany};
 ghost use Rattle.fork_change.specs.Differences.{added_in, changed_in, diff, is_same, same_name, shown};
 ghost use Rattle.fork_change.specs.declared.refusal.Refusal.TheVariants as why;
@@ -121,6 +121,7 @@ pub fn diff<'r, 'a>(
     ensures found { IfOk result (λ found. map shown found.items ≡ diff first.now second.now) }
     ensures too_many { IfErr result (λ fault. fault ≡ why.TooMany → IsTooMany first.now second.now) }
     ensures few { OnOk result (¬ IsTooMany first.now second.now) }
+    ensures fault { IfErr result (λ fault. (fault ≡ why.TooMany) ⊎ (fault ≡ why.HostFull)) }
 {
     if first.len() > MOST_ROWS || second.len() > MOST_ROWS {
         return Err(Refusal::TooMany);

@@ -4,6 +4,7 @@ ghost use Rattle.std.specs.Prelude.{◌≡◌, ◌≢◌, ◌⊎◌, None, Some,
 ghost use Rattle.std.specs.List.{filter};
 ghost use Rattle.fork_change.specs.Copies.{IsTooMany, copied, copied_one, free_id, is_chosen, is_meant, renumbered};
 ghost use Rattle.fork_change.specs.Rows.{with_rows};
+ghost use Rattle.fork_change.specs.declared.copying.Collision.TheVariants.{Refuse, Renumber};
 ghost use Rattle.fork_change.specs.declared.refusal.Refusal.TheVariants as why;
 
 use crate::putting::{add_row, id_of, replace_row};
@@ -134,6 +135,9 @@ fn copy_row<'a>(rows: &mut Vec<Row<'a>>, row: &Row<'a>, how: Collision) -> Resul
     ensures refused { IfErr result (λ fault. fault ≡ why.Taken → copied_one how row.now rows.old.items ≡ None) }
     ensures none_free { IfErr result (λ fault. fault ≡ why.NoFreeId → copied_one how row.now rows.old.items ≡ None) }
     ensures fault { IfErr result (λ fault. fault ≢ why.TooMany) }
+    ensures collision { IfErr result (λ fault. fault ≡ why.Taken → how ≡ Refuse) }
+    ensures renumbering { IfErr result (λ fault. fault ≡ why.NoFreeId → how ≡ Renumber) }
+    ensures known { IfErr result (λ fault. fault ≢ why.Missing) }
 {
     let what = id_of(row);
     if !is_there(rows, &what) {
@@ -162,6 +166,9 @@ fn copy_rows<'a>(
     ensures refused { IfErr result (λ fault. fault ≡ why.Taken → copied how (filter (is_chosen choices.now) from.now) rows.old.items ≡ None) }
     ensures none_free { IfErr result (λ fault. fault ≡ why.NoFreeId → copied how (filter (is_chosen choices.now) from.now) rows.old.items ≡ None) }
     ensures fault { IfErr result (λ fault. fault ≢ why.TooMany) }
+    ensures collision { IfErr result (λ fault. fault ≡ why.Taken → how ≡ Refuse) }
+    ensures renumbering { IfErr result (λ fault. fault ≡ why.NoFreeId → how ≡ Renumber) }
+    ensures known { IfErr result (λ fault. fault ≢ why.Missing) }
 {
     for row in from {
         if is_chosen(choices, row) {
@@ -186,6 +193,9 @@ pub fn copy<'a>(
     ensures none_free { IfErr result (λ fault. fault ≡ why.NoFreeId → copied how (filter (is_chosen choices.now) from.now) to.entry.rows ≡ None) }
     ensures too_many { IfErr result (λ fault. fault ≡ why.TooMany → IsTooMany to.entry.rows (filter (is_chosen choices.now) from.now)) }
     ensures few { OnOk result (¬ IsTooMany to.entry.rows (filter (is_chosen choices.now) from.now)) }
+    ensures collision { IfErr result (λ fault. fault ≡ why.Taken → how ≡ Refuse) }
+    ensures renumbering { IfErr result (λ fault. fault ≡ why.NoFreeId → how ≡ Renumber) }
+    ensures known { IfErr result (λ fault. fault ≢ why.Missing) }
 {
     if to.rows.as_slice().len() > MOST_ROWS || count_chosen(from, choices) > MOST_ROWS {
         return Err(Refusal::TooMany);

@@ -1,6 +1,6 @@
 //! A resource is put into a table.
 
-ghost use Rattle.std.specs.Prelude.{◌≡◌, ◌∷◌, [], false, true, Err, IfErr, IfOk, OnOk};
+ghost use Rattle.std.specs.Prelude.{◌≡◌, ◌⊎◌, ◌∷◌, [], false, true, Err, IfErr, IfOk, OnOk};
 ghost use Rattle.fork_change.specs.Rows.{added, first_to, id_of, is_at, is_there, put, removed, with_rows};
 ghost use Rattle.fork_change.specs.declared.refusal.Refusal.TheVariants as why;
 
@@ -86,6 +86,7 @@ pub fn put_new<'a>(table: Table<'a>, row: Row<'a>) -> Result<Table<'a>, Refusal>
     ensures new { OnOk result (is_there (id_of row.entry) table.entry.rows ≡ false) }
     ensures taken { IfErr result (λ fault. fault ≡ why.Taken → is_there (id_of row.entry) table.entry.rows ≡ true) }
     ensures found { is_there (id_of row.entry) table.entry.rows ≡ true → result ≡ Err why.Taken }
+    ensures fault { IfErr result (λ fault. (fault ≡ why.Taken) ⊎ (fault ≡ why.HostFull)) }
 {
     if is_there(table.rows.as_slice(), &id_of(&row)) {
         return Err(Refusal::Taken);

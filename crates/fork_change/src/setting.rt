@@ -1,6 +1,6 @@
 //! A resource of a table is changed but for its bytes.
 
-ghost use Rattle.std.specs.Prelude.{◌≡◌, false, true, IfOk, IfSome, Err, OnOk};
+ghost use Rattle.std.specs.Prelude.{◌≡◌, ◌⊎◌, false, true, IfErr, IfOk, IfSome, Err, OnOk};
 ghost use Rattle.std.specs.List.{find};
 ghost use Rattle.fork_change.specs.Rows.{changed_to, is_at, is_refused, is_there, row_as, with_rows};
 ghost use Rattle.fork_change.specs.declared.refusal.Refusal.TheVariants as why;
@@ -43,6 +43,9 @@ pub fn set<'a>(table: Table<'a>, what: &ResourceId, change: Change) -> Result<Ta
     ensures free { OnOk result (is_refused what.now change.to table.entry.rows ≡ false) }
     ensures missing { is_there what.now table.entry.rows ≡ false → result ≡ Err why.Missing }
     ensures taken { is_there what.now table.entry.rows ≡ true → is_refused what.now change.to table.entry.rows ≡ true → result ≡ Err why.Taken }
+    ensures gone { IfErr result (λ fault. fault ≡ why.Missing → is_there what.now table.entry.rows ≡ false) }
+    ensures refused { IfErr result (λ fault. fault ≡ why.Taken → is_refused what.now change.to table.entry.rows ≡ true) }
+    ensures fault { IfErr result (λ fault. (fault ≡ why.Missing) ⊎ ((fault ≡ why.Taken) ⊎ (fault ≡ why.HostFull))) }
 {
     let Some(old) = find_row(table.rows.as_slice(), what) else {
         return Err(Refusal::Missing);

@@ -40,3 +40,8 @@ returns-clause-there c =
     let P : List Row → Type 0 = λ rows. is_there c.args.what.now rows ≡ true in
     let there = subst P c.as_slice.ensures (there_found (is_at c.args.what.now) c.as_slice.result.now c.in-Some.old.now c.in-Some.ensures) in
     there
+
+pub returns-in_default-clause-gone : goal.returns-in_default-clause-gone
+returns-in_default-clause-gone c missing =
+    let P : List Row → Type 0 = λ rows. is_there c.args.what.now rows ≡ false in
+    subst P c.as_slice.ensures (none_found (is_at c.args.what.now) c.as_slice.result.now c.in_default.ensures)
