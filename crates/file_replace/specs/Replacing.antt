@@ -1,6 +1,7 @@
 -- What a replacement does to a place of any kind that is honest after it.
 use Rattle.std.specs.Prelude.{◌≡◌, ℕ, ◌⊎◌, false, List, [], ◌∷◌, Option, Some, None, IfSome, Result, IfOk, IfErr, OnOk}
 use Rattle.fork_disk.specs.Crash.{AlwaysFinds, Finds}
+use Rattle.fork_disk.specs.Disk.{Rose}
 use Rattle.file_replace.specs.declared.place.PlainFile.{PlainFile}
 use Rattle.file_replace.specs.declared.place.FolderSync.{FolderSync}
 use Rattle.file_replace.specs.declared.place.FolderSync.TheVariants.{Done}
@@ -31,6 +32,10 @@ IsEarly step = (mode : Option ℕ) (bytes : List ℕ) (old now : Option PlainFil
 -- what a crash might have left before, or the new file
 abbrev pub IsOldOrNew : History → Option ℕ → List ℕ → Option PlainFile → Type 0
 IsOldOrNew past mode bytes left = MayLeave past left ⊎ IsNew mode bytes left
+
+-- the count of failures rose, and rose again
+abbrev pub RoseTwice : ℕ → ℕ → Type 0
+RoseTwice before now = (between : ℕ) × Rose before between × Rose between now
 
 -- an empty file is beside the path, and no sync of it has failed
 pub record HasEmpty (beside : Option PlainFile) (past : History) : Type 0 where

@@ -1,13 +1,13 @@
 //! Files that are replaced where they stand, and files that are written anew.
 
-ghost use Rattle.std.specs.Prelude.{◌≡◌};
+ghost use Rattle.std.specs.Prelude.{◌≡◌, ◌≢◌, ◌↔◌};
 
 use crate::host_place::FileReplacer;
 use crate::links::followed;
 use crate::place::FolderSync;
 use crate::replacement::{Fault, Step, replace};
 use crate::told::{NotReplaced, Stop};
-use crate::world::UnknownFolder;
+use crate::world::{FolderWorld, UnknownFolder};
 use std::alloc::AllocError;
 use std::fs::{File, OpenOptions, TryLockError};
 use std::io::ErrorKind;
@@ -21,7 +21,7 @@ const MODE_BITS: u32 = 0o7777;
 /// What became of a file.
 #[derive(Clone, Copy, Debug, PartialEq, Eq)]
 pub enum Outcome {
-    /// It was as it should be: nothing was called.
+    /// It was as it should be, so it wasn't written.
     Unchanged,
     /// It is there, and was synced; whether its folder was too is told.
     Written(FolderSync),
@@ -61,13 +61,13 @@ fn leads_to(rt: &HostRuntime, path: &PathBuf, file: &File) -> io::Result<bool> {
 }
 
 /// Puts a file of these bytes at a path that is no link.
-fn put(
+fn put<W: FolderWorld>(
     rt: &HostRuntime,
     path: PathBuf,
     bytes: &[u8],
     mode: Option<u32>,
 ) -> Result<FolderSync, Stop> {
-    let mut place: FileReplacer<UnknownFolder> = match FileReplacer::new(rt, path, 0) {
+    let mut place: FileReplacer<W> = match FileReplacer::new(rt, path, 0) {
         Ok(place) => place,
         Err(error) => {
             return Err(Stop {
@@ -123,8 +123,8 @@ impl Held {
         &self.file
     }
 
-    /// Replaces the file. The old bytes are those that were read of it. Where the new ones are the same, nothing is called. Where it is to be kept,
-    /// a copy of the old bytes is put at its name with a tilde, NAME~, before that.
+    /// Replaces the file. The old bytes are those that were read of it. Where the new ones are the same, nothing is written.
+    /// Where it is to be kept, a copy of the old bytes is put at its name with a tilde, NAME~, before that.
     pub fn replace(
         &self,
         rt: &HostRuntime,
@@ -132,7 +132,7 @@ impl Held {
         new: &[u8],
         keeps_old: bool,
     ) -> Result<Outcome, NotReplaced>
-        ensures { old.now ≡ new.now → result ≡ Ok Outcome.Unchanged }
+        ensures { (result ≡ Ok Outcome.Unchanged) ↔ (old.now ≡ new.now) }
     {
         if old == new {
             return Ok(Outcome::Unchanged);
@@ -144,9 +144,11 @@ impl Held {
     }
 
     /// Puts a file of these bytes in the place of this one.
-    fn put(&self, rt: &HostRuntime, bytes: &[u8]) -> Result<Outcome, NotReplaced> {
+    fn put(&self, rt: &HostRuntime, bytes: &[u8]) -> Result<Outcome, NotReplaced>
+        ensures { result ≢ Ok Outcome.Unchanged }
+    {
         let path = self.path.clone()?;
-        match put(rt, path, bytes, Some(self.mode)) {
+        match put::<UnknownFolder>(rt, path, bytes, Some(self.mode)) {
             Ok(answer) => Ok(Outcome::Written(answer)),
             Err(stop) => Err(NotReplaced::Stopped(stop)),
         }
@@ -155,7 +157,7 @@ impl Held {
     /// Puts a copy of the file beside it.
     fn back_up(&self, rt: &HostRuntime, bytes: &[u8]) -> Result<(), NotReplaced> {
         let name = backup_of(rt, &self.path)?;
-        match put(rt, name.clone()?, bytes, Some(self.mode)) {
+        match put::<UnknownFolder>(rt, name.clone()?, bytes, Some(self.mode)) {
             Ok(_) => Ok(()),
             Err(stop) => Err(NotReplaced::NoBackup { name, stop }),
         }
@@ -173,7 +175,7 @@ pub fn save(rt: &HostRuntime, path: &str, bytes: &[u8]) -> Result<Outcome, NotRe
         },
         Err(NotReplaced::Open(error)) if error.kind() == ErrorKind::NotFound => {
             let path = followed(rt, path).map_err(unopened)?;
-            match put(rt, path, bytes, None) {
+            match put::<UnknownFolder>(rt, path, bytes, None) {
                 Ok(answer) => Ok(Outcome::Written(answer)),
                 Err(stop) => Err(NotReplaced::Stopped(stop)),
             }

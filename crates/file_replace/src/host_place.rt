@@ -1,6 +1,6 @@
 //! A path of the host.
 
-ghost use Rattle.std.specs.Prelude.{◌≡◌, ◌∷◌, is_ok};
+ghost use Rattle.std.specs.Prelude.{◌≡◌, [], ◌∷◌, is_ok, IfOk};
 ghost use Rattle.fork_disk.specs.Disk.{Counts};
 ghost use Rattle.file_replace.specs.Calls.{history_of, IsHonest};
 
@@ -104,7 +104,10 @@ fn write_whole(rt: &HostRuntime, file: &mut File, bytes: &[u8]) -> io::Result<()
 impl<'a, W: FolderWorld> FileReplacer<'a, W> {
     /// The place of a path, which is no link, and beside which nothing was made so far. No other place of this world may have its
     /// number.
-    pub fn new(rt: &'a HostRuntime, path: PathBuf, number: u64) -> io::Result<FileReplacer<'a, W>> {
+    pub fn new(rt: &'a HostRuntime, path: PathBuf, number: u64) -> io::Result<FileReplacer<'a, W>>
+        ensures number { IfOk result (λ place. place.number ≡ number) }
+        ensures start { IfOk result (λ place. place.log.events ≡ []) }
+    {
         Ok(FileReplacer {
             rt,
             folder: open_folder(rt, &path)?,

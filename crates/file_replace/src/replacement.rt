@@ -1,8 +1,8 @@
 //! A file is put in the place of another.
 
-ghost use Rattle.std.specs.Prelude.{◌≡◌, None, MatchResult};
+ghost use Rattle.std.specs.Prelude.{◌≡◌, true, None, MatchResult, IfErr};
 ghost use Rattle.fork_disk.specs.Disk.{Counts};
-ghost use Rattle.file_replace.specs.Replacing.{Fills, HasEmpty, Puts, ReplacesFile};
+ghost use Rattle.file_replace.specs.Replacing.{Fills, HasEmpty, Puts, ReplacesFile, RoseTwice};
 
 use crate::place::{FolderSync, Replaces};
 
@@ -37,7 +37,7 @@ pub struct Fault<E> {
     pub step: Step,
     /// Why it did.
     pub error: E,
-    /// The file that was made beside may be there still: it couldn't be removed.
+    /// The file that was made beside may be there still: the removal failed too.
     pub is_left: bool,
 }
 
@@ -89,6 +89,7 @@ pub fn replace<R: Replaces>(
     requires { R.is_honest place.old → (R.contents place.old).beside ≡ None }
     ensures replaces { R.is_honest place.new → ReplacesFile R.contents R.history R.is_honest place.old place.new mode bytes.now result }
     ensures cause { Counts (R.failures place.old) (R.failures place.new) result }
+    ensures left { IfErr result (λ fault. fault.is_left ≡ true → RoseTwice (R.failures place.old) (R.failures place.new)) }
 {
     if let Err(error) = place.create(mode.is_some()) {
         return Err(Fault {
