@@ -47,6 +47,12 @@ LINES = [
     (["cp", "FILE", "TEXT:7", "FILE"], 1, "FILE: there is no such resource"),
     (["cp", "DAMAGED", "FILE"], 3, "DAMAGED: "),
     (["cp", "FILE"], 2, ""),
+    (["cp", "TWO", "OUT"], 1, "one type and id"),
+    (["put", "-", "TEXT", "128", "-o", "OUT"], 2, "can be read once"),
+    (["cp", "-", "TEXT:128", "-", "-o", "OUT"], 2, "can be read once"),
+    (["diff", "-", "-"], 2, "can be read once"),
+    (["rm", "-", "TEXT", "128"], 2, "-o"),
+    (["rez", "TEXT", "-o", "SINGLE"], 4, "is there, and is more"),
     (["diff", "FILE", "NO_SUCH_FILE"], 4, "NO_SUCH_FILE"),
     (["pack", "NO_SUCH_FOLDER", "OUT"], 4, "NO_SUCH_FOLDER/resources.json"),
     (["rez", "FILE", "-o", "OUT"], 3, "line 1"),
@@ -261,12 +267,15 @@ def try_back(program, folder, path, old, table):
     shutil.rmtree(out, ignore_errors=True)
     compare("unpack", run(program, ["unpack", path, out]), 0, b"", "")
     for words in ([], ["--like", path]):
+        if os.path.exists(new):
+            os.remove(new)
         compare("pack", run(program, ["pack", "-q", *words, out, new]), 0, b"", "")
         packed = read(new)
         must(table_of(resource_fork(packed)) == table, f"pack {words}: other resources are read")
         must(rest(packed) == (rest(old) if words else None), f"pack {words}: the rest of the file isn't as it was")
     text = run(program, ["derez", path])
     compare("derez", text, 0, None, "")
+    os.remove(new)
     compare("rez", run(program, ["rez", "-q", "-", "-o", new], text[1]), 0, b"", "")
     must(table_of(read(new)) == table, "rez after derez: other resources are read")
 
@@ -278,7 +287,7 @@ def try_fork(program, folder, fork, number, seen):
     keep, kept_as, _ = choices.choice([RAW, *KEPT][:-1])
     path, from_path = os.path.join(folder, "in", "file"), os.path.join(folder, "from")
     other = table_of(fork_of([Row(kind, ident, b"from", 0, b"other") for kind, ident in [(b"TEXT", 128), (b"TEXT", 5), (b"new ", 0)]]))[0]
-    other += [(*row[:2], None, 4, b"another") for row in rows[:2] if place(other, *row[:2]) is None]
+    other += [(*row[:2], None, 4, b"another") for row in rows[:1] if place(other, *row[:2]) is None]
     other = table_of(fork_of([Row(*row) for row in sorted(other)]))[0]
     write(from_path, choices.choice(KEPT)[0](fork_of([Row(*row) for row in other])))
     old = keep(fork)
@@ -301,8 +310,11 @@ def try_lines(program, folder):
     write(damaged, DAMAGED)
     before = state(path)
     names = {"FILE": path, "DAMAGED": damaged, "OUT": out}
+    for name, bytes_of_it in (("TWO", fork_of([Row(*row) for row in [ROWS[0], ROWS[1], *ROWS[1:]]])), ("TEXT", run(program, ["derez", path])[1]), ("SINGLE", KEPT[0][0](fork))):
+        names[name] = os.path.join(folder, name)
+        write(names[name], bytes_of_it)
     for words, status, told in LINES:
-        given = [names.get(it, it) for it in words]
+        given = [words[0], *(names.get(it, it) if words[0] == "rez" or it != "TEXT" else it for it in words[1:])]
         told = re.sub(r"^(FILE|DAMAGED):", lambda it: f"{names[it[1]]}:", told)
         got = run(program, given)
         must(got[0] == status and got[1] == b"" and told in got[2] and got[2], f"{words}: {got}")

@@ -6,6 +6,9 @@ use fork_change::{
     Choice, Collision, Refusal, copy, is_there, put, put_new, remove, row_to_put, set,
 };
 
+/// More rows than any fork has whose map has one list for each type.
+const MOST_ROWS: usize = 65_536;
+
 /// A change of a table.
 #[derive(Drop)]
 pub enum Edit<'a> {
@@ -39,16 +42,43 @@ fn remove_all<'a>(table: Table<'a>, whats: &[ResourceId]) -> Result<Table<'a>, R
     Ok(table)
 }
 
+/// Whether a choice means a row.
+fn is_meant(choice: &Choice, row: &Row) -> bool {
+    match choice {
+        Choice::All => true,
+        Choice::Kind(kind) => row.kind == *kind,
+        Choice::One(what) => row.kind == what.kind && row.id == what.id,
+    }
+}
+
+/// Whether no two of the rows that are meant have one type and id. No answer of more rows than a fork has is true.
+pub fn are_single(choices: &[Choice], rows: &[Row]) -> bool {
+    if rows.len() > MOST_ROWS {
+        return false;
+    }
+    for at in 0..rows.len() {
+        let row = &rows[at];
+        let what = ResourceId {
+            kind: row.kind,
+            id: row.id,
+        };
+        if is_there(&rows[..at], &what) && choices.iter().any(|choice| is_meant(choice, row)) {
+            return false;
+        }
+    }
+    true
+}
+
 /// Whether each choice but that of all means some row.
-fn are_meant(choices: &[Choice], rows: &[Row]) -> bool {
+pub fn are_meant(choices: &[Choice], rows: &[Row]) -> bool {
     choices.iter().all(|choice| match choice {
         Choice::All => true,
-        Choice::Kind(kind) => rows.iter().any(|row| row.kind == *kind),
-        Choice::One(what) => is_there(rows, what),
+        choice => rows.iter().any(|row| is_meant(choice, row)),
     })
 }
 
-/// The table after a change, to which resources are copied from these. It is Missing where a resource that is named isn't there, and Taken where one is there that must not be.
+/// The table after a change, to which resources are copied from these. It is Missing where a resource that is named isn't there, and
+/// Taken where one is there that must not be.
 pub fn edited<'a>(
     table: Table<'a>,
     from: &[Row<'a>],
@@ -72,11 +102,6 @@ pub fn edited<'a>(
         Edit::Copy {
             chosen,
             on_collision,
-        } => {
-            if !are_meant(chosen, from) {
-                return Err(Refusal::Missing);
-            }
-            copy(table, from, chosen, on_collision)
-        }
+        } => copy(table, from, chosen, on_collision),
     }
 }

@@ -1,5 +1,12 @@
 //! The table of the resource fork in a file, and the file with another table in its place.
 
+ghost use Rattle.std.specs.Prelude.{◌≡◌, IfErr, IfOk, OnOk};
+ghost use Rattle.mac_files.specs.Containers.{container_of};
+ghost use Rattle.mac_write.specs.Forks.{with_fork};
+ghost use Rattle.fork_answer.specs.Answer.{IsTableOf};
+ghost use Rattle.fork_answer.specs.Source.{IsForkIn, IsNoForkIn, fork_of};
+ghost use Rattle.fork_edit.specs.Files.{HasTable, IsKeptAs, IsSourceOf};
+
 use crate::same::is_same_table;
 use fork_answer::{Found, NoFork, read_table, resource_fork};
 use fork_bytes::fault::{ForkFault, WriteFault};
@@ -7,7 +14,7 @@ use fork_bytes::layout::Limits;
 use fork_bytes::table::Table;
 use fork_bytes::write_fork_within;
 use mac_files::bin_hex::is_bin_hex;
-use mac_files::container::Container;
+use mac_files::container::{Container, Version};
 use mac_files::container_of;
 use mac_write::refusal::Refusal;
 use mac_write::with_fork;
@@ -43,28 +50,39 @@ impl From<Refusal> for NotWritten {
     }
 }
 
-/// The resource fork in a file. In a container without one it has no bytes.
-pub fn fork_or_none<'a>(alloc: Global, file: &'a [u8]) -> Result<Found<'a>, NoFork> {
+/// The resource fork in a file. In a container without one it has no bytes; but what only seems to be MacBinary I, which has no
+/// signature, isn't taken for a container without one.
+pub fn fork_or_none<'a>(alloc: Global, file: &'a [u8]) -> Result<Found<'a>, NoFork>
+    ensures fork { IfOk result (λ found. IsSourceOf file.now (fork_of found)) }
+    ensures none { IfErr result (IsNoForkIn file.now) }
+{
     match resource_fork(alloc, file) {
-        Err(NoFork::Absent) => Ok(Found::Part(&[])),
+        Err(NoFork::Absent) if container_of(file) != Some(Container::MacBinary(Version::I)) => {
+            Ok(Found::Part(&[]))
+        }
         found => found,
     }
 }
 
-/// The file with this table in the place of its own, and all else as it was. It is TooBig exactly where the table is more than the
-/// format can say. What is written is read again before it is given.
-pub fn with_table(alloc: Global, file: &[u8], table: &Table) -> Result<Vec<u8>, NotWritten> {
+/// The file with this table in the place of its own, and all else as it was. It is TooBig where the table is more than the format can
+/// say. What is written is read again before it is given.
+pub fn with_table(alloc: Global, file: &[u8], table: &Table) -> Result<Vec<u8>, NotWritten>
+    ensures { IfOk result (λ new. HasTable file.now table.now new.items) }
+{
     let fork = match write_fork_within(alloc, Limits::FORMAT, table) {
         Ok(fork) => fork,
         Err(WriteFault::TooBig) => return Err(NotWritten::TooBig),
         Err(WriteFault::HostFull) => return Err(NotWritten::HostFull),
     };
     read_back(alloc, &fork, table)?;
-    kept_with(alloc, file, fork)
+    let new = kept_with(alloc, file, fork)?;
+    Ok(new)
 }
 
 /// Reads a fork again. It is Mistaken where its table isn't this one.
-fn read_back(alloc: Global, fork: &[u8], table: &Table) -> Result<(), NotWritten> {
+fn read_back(alloc: Global, fork: &[u8], table: &Table) -> Result<(), NotWritten>
+    ensures { OnOk result (IsTableOf fork.now table.now) }
+{
     match read_table(alloc, fork) {
         Ok(read) if is_same_table(&read, table) => Ok(()),
         Err(ForkFault::HostFull) => Err(NotWritten::HostFull),
@@ -73,7 +91,9 @@ fn read_back(alloc: Global, fork: &[u8], table: &Table) -> Result<(), NotWritten
 }
 
 /// Reads a file again. It is Mistaken where its resource fork isn't this one.
-fn read_again(alloc: Global, file: &[u8], fork: &[u8]) -> Result<(), NotWritten> {
+fn read_again(alloc: Global, file: &[u8], fork: &[u8]) -> Result<(), NotWritten>
+    ensures { OnOk result (IsForkIn file.now fork.now) }
+{
     match resource_fork(alloc, file) {
         Ok(found) if found.fork() == fork => Ok(()),
         Err(NoFork::HostFull) => Err(NotWritten::HostFull),
@@ -82,7 +102,10 @@ fn read_again(alloc: Global, file: &[u8], fork: &[u8]) -> Result<(), NotWritten>
 }
 
 /// The file with these bytes as its resource fork. It is read again before it is given.
-fn kept_with(alloc: Global, file: &[u8], fork: Vec<u8>) -> Result<Vec<u8>, NotWritten> {
+fn kept_with(alloc: Global, file: &[u8], fork: Vec<u8>) -> Result<Vec<u8>, NotWritten>
+    ensures found { IfOk result (λ new. IsForkIn new.items fork.items) }
+    ensures kept { IfOk result (λ new. IsKeptAs (container_of file.now) file.now fork.items new.items) }
+{
     match container_of(file) {
         Some(Container::Raw) => kept_alone(alloc, fork),
         Some(container) => kept_in(alloc, container, file, &fork),
@@ -92,7 +115,10 @@ fn kept_with(alloc: Global, file: &[u8], fork: Vec<u8>) -> Result<Vec<u8>, NotWr
 }
 
 /// A file of nothing but a fork.
-fn kept_alone(alloc: Global, fork: Vec<u8>) -> Result<Vec<u8>, NotWritten> {
+fn kept_alone(alloc: Global, fork: Vec<u8>) -> Result<Vec<u8>, NotWritten>
+    ensures same { IfOk result (λ new. new.items ≡ fork.items) }
+    ensures found { IfOk result (λ new. IsForkIn new.items fork.items) }
+{
     read_again(alloc, &fork, &fork)?;
     Ok(fork)
 }
@@ -103,7 +129,10 @@ fn kept_in(
     container: Container,
     file: &[u8],
     fork: &[u8],
-) -> Result<Vec<u8>, NotWritten> {
+) -> Result<Vec<u8>, NotWritten>
+    ensures found { IfOk result (λ new. IsForkIn new.items fork.now) }
+    ensures kept { IfOk result (λ new. new.items ≡ with_fork container file.now fork.now) }
+{
     let new = with_fork(alloc, container, file, fork)?;
     read_again(alloc, &new, fork)?;
     Ok(new)

@@ -1,10 +1,14 @@
 //! Whether two lists of resources are the same.
 
+ghost use Rattle.std.specs.Prelude.{◌≡◌, true};
+
 use fork_bytes::table::{Row, Table};
 use mac_base::name::Name;
 
 /// Whether two names are the same, or there is none.
-fn is_same_name(a: &Option<Name>, b: &Option<Name>) -> bool {
+fn is_same_name(a: &Option<Name>, b: &Option<Name>) -> bool
+    ensures { result ≡ true → a.now ≡ b.now }
+{
     match (a, b) {
         (Some(a), Some(b)) => a.as_slice() == b.as_slice(),
         (None, None) => true,
@@ -13,7 +17,9 @@ fn is_same_name(a: &Option<Name>, b: &Option<Name>) -> bool {
 }
 
 /// Whether two rows are the same.
-fn is_same(a: &Row, b: &Row) -> bool {
+fn is_same(a: &Row, b: &Row) -> bool
+    ensures { result ≡ true → a.now ≡ b.now }
+{
     a.kind == b.kind
         && a.id == b.id
         && is_same_name(&a.name, &b.name)
@@ -22,7 +28,9 @@ fn is_same(a: &Row, b: &Row) -> bool {
 }
 
 /// Whether two lists of rows are the same.
-pub fn are_same(a: &[Row], b: &[Row]) -> bool {
+pub fn are_same(a: &[Row], b: &[Row]) -> bool
+    ensures { result ≡ true → a.now ≡ b.now }
+{
     if a.len() != b.len() {
         return false;
     }
@@ -35,7 +43,9 @@ pub fn are_same(a: &[Row], b: &[Row]) -> bool {
 }
 
 /// Whether two tables are the same.
-pub fn is_same_table(a: &Table, b: &Table) -> bool {
+pub fn is_same_table(a: &Table, b: &Table) -> bool
+    ensures { result ≡ true → a.now ≡ b.now }
+{
     are_same(a.rows.as_slice(), b.rows.as_slice())
         && a.extra == b.extra
         && a.map_attributes == b.map_attributes

@@ -77,6 +77,12 @@ pub enum NotAsked {
     /// A resource's id is none.
     #[error("error: an id is a number from -32768 to 32767\n")]
     NoId,
+    /// The standard input is named twice.
+    #[error("error: the standard input can be read once: name a file in place of one -\n")]
+    TwoInputs,
+    /// What is read from the standard input has no place.
+    #[error("error: what is read from the standard input is written to the file that -o names\n")]
+    NoOutput,
     /// A name is too long.
     #[error("error: a name has at most 255 bytes\n")]
     LongName,

@@ -1,5 +1,6 @@
 //! The words of the commands that change files, and of those that compare them.
 
+use crate::INPUT;
 use crate::asked::{NotAsked, kind_named, kinds_named, name_named};
 use bitflags::Flags;
 use clap::ArgMatches;
@@ -89,10 +90,7 @@ pub fn work_of<'a>(
         "rm" => remove(alloc, matches)?,
         "set" => set(alloc, matches)?,
         "cp" => copy(alloc, matches)?,
-        "diff" => Work::Compare {
-            a: word(matches, "a"),
-            b: word(matches, "b"),
-        },
+        "diff" => compare(matches)?,
         "derez" => Work::Derez {
             file: word(matches, "file"),
             kinds: kinds_named(alloc, matches)?,
@@ -115,7 +113,26 @@ fn word<'a>(matches: &ArgMatches<'a>, name: &str) -> &'a str {
     matches.get_str(name).unwrap_or("")
 }
 
-/// Where a changed file goes.
+/// How many letters a type has.
+const KIND_LENGTH: usize = 4;
+
+/// Where a changed file goes, where it is one that can be changed: what is read from the standard input is written elsewhere.
+fn changed_target<'a>(
+    matches: &ArgMatches<'a>,
+    file: &'a str,
+    other: &str,
+) -> Result<Target<'a>, NotAsked> {
+    let target = target_of(matches, file);
+    if file == INPUT && other == INPUT {
+        return Err(NotAsked::TwoInputs);
+    }
+    if file == INPUT && target.output.is_none() && !target.is_dry {
+        return Err(NotAsked::NoOutput);
+    }
+    Ok(target)
+}
+
+/// Where a file goes.
 fn target_of<'a>(matches: &ArgMatches<'a>, file: &'a str) -> Target<'a> {
     Target {
         file,
@@ -233,7 +250,11 @@ fn put<'a>(alloc: Global, matches: &ArgMatches<'a>) -> Result<Work<'a>, NotAsked
         input: matches.get_str("input"),
         is_new: matches.get_flag("new"),
         creates: matches.get_flag("create"),
-        target: target_of(matches, word(matches, "file")),
+        target: changed_target(
+            matches,
+            word(matches, "file"),
+            matches.get_str("input").unwrap_or(INPUT),
+        )?,
     })
 }
 
@@ -249,7 +270,7 @@ fn remove<'a>(alloc: Global, matches: &ArgMatches<'a>) -> Result<Work<'a>, NotAs
     }
     Ok(Work::Remove {
         whats,
-        target: target_of(matches, word(matches, "file")),
+        target: changed_target(matches, word(matches, "file"), "")?,
     })
 }
 
@@ -274,13 +295,14 @@ fn set<'a>(alloc: Global, matches: &ArgMatches<'a>) -> Result<Work<'a>, NotAsked
             name,
             attributes: attribute_change(matches)?,
         },
-        target: target_of(matches, word(matches, "file")),
+        target: changed_target(matches, word(matches, "file"), "")?,
     })
 }
 
 /// Which resources a word of `cp` names: TYPE, or TYPE:ID.
 fn choice_named(alloc: Global, word: &str) -> Result<Choice, NotAsked> {
-    if let Some((kind, id)) = word.rsplit_once(":")
+    if word.len() != KIND_LENGTH
+        && let Some((kind, id)) = word.rsplit_once(":")
         && let Ok(id) = id.parse::<i16>()
     {
         let kind = kind_named(alloc, kind)?;
@@ -315,6 +337,16 @@ fn copy<'a>(alloc: Global, matches: &ArgMatches<'a>) -> Result<Work<'a>, NotAske
         from: word(matches, "from"),
         chosen,
         on_collision,
-        target: target_of(matches, file),
+        target: changed_target(matches, file, word(matches, "from"))?,
     })
+}
+
+/// What `diff` asks for.
+fn compare<'a>(matches: &ArgMatches<'a>) -> Result<Work<'a>, NotAsked> {
+    let a = word(matches, "a");
+    let b = word(matches, "b");
+    if a == INPUT && b == INPUT {
+        return Err(NotAsked::TwoInputs);
+    }
+    Ok(Work::Compare { a, b })
 }

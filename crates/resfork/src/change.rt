@@ -55,7 +55,10 @@ fn change_in_place(
         return Ok(DONE);
     };
     held.replace(rt, &old, &changed.file, target.keeps_old)?;
-    say(rt, target, &changed.told)
+    match say(rt, target, &changed.told) {
+        Err(Problem::Print(error)) => Err(Problem::Said(error)),
+        said => said,
+    }
 }
 
 /// What becomes of a file, or None where nothing changes.
@@ -91,12 +94,21 @@ fn change_into(
 
 /// Writes the file that a command names, unless it only says what it would do.
 pub fn write_output(rt: &HostRuntime, target: &Target<'_>, bytes: &[u8]) -> Result<(), Problem> {
-    if let Some(output) = target.output
-        && !target.is_dry
-    {
-        save(rt, output, bytes)?;
+    match target.output {
+        Some(output) if !target.is_dry => save_to(rt, output, bytes),
+        _ => Ok(()),
     }
-    Ok(())
+}
+
+/// Writes a file: it is whole then, or as it was.
+pub fn save_to(rt: &HostRuntime, output: &str, bytes: &[u8]) -> Result<(), Problem> {
+    match save(rt, output, bytes) {
+        Ok(_) => Ok(()),
+        Err(error) => Err(Problem::Output {
+            path: String::from_str(rt.alloc(), output)?,
+            error,
+        }),
+    }
 }
 
 /// Says what was done, or would be.

@@ -194,12 +194,15 @@ pub fn copy<'a>(alloc: Global) -> Result<Command<'a>, AllocError> {
         .arg(switch(alloc, "skip", "Leaves out a resource that is there").conflicts_with(
             "replace",
         )?)?
-        .arg(switch(
-            alloc,
-            "renumber",
-            "Gives a resource whose id is taken the lowest id from 128 on that is free",
-        )
-        .conflicts_with_all(&["replace", "skip"])?)?
+        .arg(
+            switch(
+                alloc,
+                "renumber",
+                "Gives a resource whose id is taken the lowest id from 128 on that is free",
+            )
+            .conflicts_with("replace")?
+            .conflicts_with("skip")?,
+        )?
         .arg(operand(
             alloc,
             "from",

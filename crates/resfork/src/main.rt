@@ -12,6 +12,7 @@ mod rez;
 mod work;
 
 use asked::{Asked, NotAsked, asked_by};
+use change::save_to;
 use fork_answer::answer::answer;
 use fork_answer::request::Request;
 use fork_answer::{Failure, Found, read_table, resource_fork};
@@ -113,7 +114,7 @@ fn show(
     answer(alloc, request, &bytes, &mut text).map_err(|failure| Refusal::of_failure(
         alloc, failure, &bytes,
     ))?;
-    fs::write(rt, output, text.as_slice()).map_err(Problem::Save)
+    save_to(rt, output, text.as_slice())
 }
 
 /// Reports on each of these files, and tells why of some nothing is told. The result is the highest status of them.
@@ -201,7 +202,7 @@ fn salvage_file(
         return Ok(DONE);
     };
     let (fork, tally) = salvage(alloc, &bytes)?;
-    fs::write(rt, output, fork.as_slice()).map_err(Problem::Save)?;
+    save_to(rt, output, fork.as_slice())?;
     if let Some(Tally { readable, found }) = tally {
         let _ = eprintln!(rt;
             "{file}: {readable} of {found} resources can be read, and are written to {output}"
@@ -246,7 +247,7 @@ fn view_file(
     let table = table_found(rt, &found, &bytes)?;
     let sight = sight_of(rt.alloc(), view, table.rows.as_slice()).map_err(Problem::View)?;
     match output {
-        Some(output) => fs::write(rt, output, sight.bytes.as_slice()).map_err(Problem::Save)?,
+        Some(output) => save_to(rt, output, sight.bytes.as_slice())?,
         None if sight.is_picture && rt.stdout().is_terminal() => return Err(Problem::Terminal),
         None => rt.stdout().write_all(&sight.bytes).map_err(Problem::Print)?,
     }

@@ -39,9 +39,18 @@ pub enum Problem {
     /// What it holds can't be shown.
     #[error("{0}")]
     Refused(Refusal),
-    /// The file that was to be written can't be.
-    #[error("the file named with -o can't be written: {0}")]
-    Save(io::Error),
+    /// The file of this name isn't written.
+    #[error("{error}")]
+    Output { path: String, error: NotReplaced },
+    /// It is changed, but the standard output takes no more.
+    #[error("it is changed, but what changed can't be told: {0}")]
+    Said(io::Error),
+    /// Two resources that are copied have one type and id.
+    #[error("two of these resources have one type and id: copy them one by one, by get and put")]
+    Twice,
+    /// A file that is there has more than a resource fork.
+    #[error("it is there, and is more than a resource fork, which would be lost: name another file")]
+    Container(String),
     /// The standard output takes no more.
     #[error("the output can't be written: {0}")]
     Print(io::Error),
@@ -136,13 +145,16 @@ impl Problem {
             Problem::Refused(refusal) => status_of_refusal(refusal),
             Problem::View(NotShown::NotFound)
             | Problem::Edit(fork_change::Refusal::Missing)
-            | Problem::Edit(fork_change::Refusal::Taken) => NOT_FOUND,
+            | Problem::Edit(fork_change::Refusal::Taken)
+            | Problem::Twice => NOT_FOUND,
             Problem::Terminal
             | Problem::View(NotShown::NoPicture)
             | Problem::View(NotShown::NoText)
             | Problem::View(NotShown::ManyPictures) => BAD_WORDS,
             Problem::Read(_)
-            | Problem::Save(_)
+            | Problem::Output { .. }
+            | Problem::Said(_)
+            | Problem::Container(_)
             | Problem::Unpack(_)
             | Problem::View(NotShown::HostFull)
             | Problem::Print(_)
@@ -184,6 +196,8 @@ pub fn tell_problem(rt: &HostRuntime, file: &str, problem: &Problem) {
                 is_readable: true,
             },
         ) => eprintln!(rt; "{file}: {told}: resfork salvage {file} -o OUT"),
+        Problem::Output { path, error } => eprintln!(rt; "{path}: {error}"),
+        Problem::Container(path) => eprintln!(rt; "{path}: {problem}"),
         problem => eprintln!(rt; "{file}: {problem}"),
     };
 }

@@ -10,7 +10,11 @@ use fork_pack::manifest::manifest_of;
 use fork_pack::rows::{Entry, packed};
 use fork_rez::{derez, rez};
 use mac_base::resource::ResType;
+use mac_files::bin_hex::is_bin_hex;
+use mac_files::container::Container;
+use mac_files::container_of;
 use std::collections::BTreeMap;
+use std::fs;
 use std::io::Write;
 
 /// The file that says what isn't in the files of the resources.
@@ -39,6 +43,22 @@ pub fn rez_file(rt: &HostRuntime, target: &Target<'_>) -> Result<u8, Problem> {
     write_table(rt, target, &[], &table)
 }
 
+/// Whether a file is there that has more than a resource fork.
+fn is_container(rt: &HostRuntime, name: &str) -> bool {
+    match fs::metadata(rt, name) {
+        Ok(found) if found.is_file() => {}
+        _ => return false,
+    }
+    let Ok(bytes) = fs::read(rt, name) else {
+        return false;
+    };
+    match container_of(&bytes) {
+        Some(Container::Raw) => false,
+        Some(_) => true,
+        None => is_bin_hex(&bytes),
+    }
+}
+
 /// Writes a file like another one, with a table as that of its resource fork; like none, a raw fork.
 fn write_table(
     rt: &HostRuntime,
@@ -47,9 +67,12 @@ fn write_table(
     table: &Table<'_>,
 ) -> Result<u8, Problem> {
     let alloc = rt.alloc();
+    let name = target.output.unwrap_or("");
+    if like.is_empty() && is_container(rt, name) {
+        return Err(Problem::Container(String::from_str(alloc, name)?));
+    }
     let file = with_table(alloc, like, table).map_err(Problem::Write)?;
     write_output(rt, target, &file)?;
-    let name = target.output.unwrap_or("");
     let count = table.rows.as_slice().len();
     let length = file.len();
     let Ok(text) = format!(in alloc; "{name}: {count} resources, {length} bytes\n") else {

@@ -5,9 +5,9 @@ use crate::change::{change, create};
 use crate::message::{DONE, NOT_FOUND, Problem, tell_problem};
 use crate::rez::{derez_file, pack_folder, rez_file};
 use crate::{INPUT, fork_found, read, table_found, write_text};
-use fork_change::{Choice, Collision};
+use fork_change::{Choice, Collision, Refusal};
 use fork_edit::difference::differences;
-use fork_edit::edit::Edit;
+use fork_edit::edit::{Edit, are_meant, are_single};
 use std::fs;
 use std::io::ErrorKind;
 
@@ -96,14 +96,18 @@ fn copy_from<'a>(
     let bytes = of_file(from, read(rt, from).map_err(Problem::Read))?;
     let found = of_file(from, fork_found(rt, &bytes))?;
     let table = of_file(from, table_found(rt, &found, &bytes))?;
+    let rows = table.rows.as_slice();
+    if !are_meant(chosen, rows) {
+        return of_file(from, Err(Problem::Edit(Refusal::Missing)));
+    }
+    if !are_single(chosen, rows) {
+        return of_file(from, Err(Problem::Twice));
+    }
     let edit = Edit::Copy {
         chosen,
         on_collision,
     };
-    of_file(
-        target.file,
-        change(rt, &target, table.rows.as_slice(), edit),
-    )
+    of_file(target.file, change(rt, &target, rows, edit))
 }
 
 /// Writes what differs between two files. The result says whether something does.
