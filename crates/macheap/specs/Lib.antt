@@ -1,6 +1,5 @@
 pub mod Files
 pub mod Disks
-pub mod Opening
 pub mod Stores
 pub mod Options
 pub mod Asking

@@ -1,12 +1,11 @@
 //! The stores of a run.
 
-ghost use Rattle.std.specs.Prelude.{◌≡◌, ◌≤◌, ◌++◌, ◌∷◌, [], List, ℕ, Result, Ok, length, map, IfOk, IfErr};
-ghost use Rattle.macheap.specs.declared.opened.NotOpened.{NotOpened};
+ghost use Rattle.std.specs.Prelude.{◌≡◌, ◌≤◌, ◌++◌, ◌∷◌, [], List, ℕ, Option, Some, length, map, IfOk, IfErr};
 ghost use Rattle.res_files.specs.Standing.{most_files};
 ghost use Rattle.macheap.specs.Stores.{AreJournalled, AreOn, ArePlain, Asked, IsOpened, Opening};
 
 use crate::disk::Disk;
-use crate::opened::{NewFile, NotOpened, OpenedFiles, note};
+use crate::opened::{NewFile, OpenedFiles, note};
 use fork_disk::store::{ForkStore, PlainStore};
 use fork_disk::{FileDisk, HostFile, MemDisk, Record, World};
 use fork_journal::{FilePair, Journal, PairWorld};
@@ -15,8 +14,8 @@ use std::marker::PhantomData;
 
 /// What opens the files of a run, and makes stores of them: `S` of a fork alone, and `J` of a fork with its journal.
 pub trait Opens<F, S: ForkStore, J: ForkStore> {
-    /// The files that were asked for so far, in order: the path of each, and the file, or why it can't be opened.
-    ghost openings: { Self → List (List ℕ × Result F NotOpened) };
+    /// The files that were asked for so far, in order: the path of each, and the file, or none where it can't be opened.
+    ghost openings: { Self → List (List ℕ × Option F) };
 
     /// What is a store of this number of a fork, which is this file.
     ghost plain: { ℕ → F → S → Type 0 };
@@ -24,8 +23,8 @@ pub trait Opens<F, S: ForkStore, J: ForkStore> {
     /// What is a store of this number of a fork and its journal, which are these files.
     ghost pairs: { ℕ → F → F → J → Type 0 };
 
-    /// The file of a path, which is made where it is missing, or why it can't be opened.
-    fn open(&mut self, path: &str) -> Result<F, NotOpened>
+    /// The file of a path, which is made where it is missing. None where it can't be opened.
+    fn open(&mut self, path: &str) -> Option<F>
         ensures { openings self.new ≡ openings self.old ++ (path.now, result) ∷ [] };
 
     /// A store in memory, without bytes.
@@ -78,10 +77,10 @@ impl<W: World, V: PairWorld> Opens<NewFile, PlainStore<Disk<W>>, Journal<FilePai
     ghost pairs = { λ number fork journal store. (store.pair.fork ≡ record fork.file { which = 0 })
         × (store.pair.journal ≡ record journal.file { which = 1 }) × (store.pair.number ≡ number) × (store.pair.log.events ≡ []) };
 
-    fn open(&mut self, path: &str) -> Result<NewFile, NotOpened> {
+    fn open(&mut self, path: &str) -> Option<NewFile> {
         let file = match HostFile::open(self.runtime, path) {
-            Ok(file) => Ok(NewFile { file }),
-            Err(error) => Err(NotOpened::because(error.kind())),
+            Ok(file) => Some(NewFile { file }),
+            Err(_) => None,
         };
         note(&mut self.opened, path, &file);
         file
@@ -109,41 +108,41 @@ impl<W: World, V: PairWorld> Opens<NewFile, PlainStore<Disk<W>>, Journal<FilePai
 
 /// Why there are no stores.
 #[derive(Clone, Copy)]
-pub enum NoStores<'a> {
+pub enum NoStores {
     /// The host has no memory.
     HostFull,
-    /// The file of this path can't be opened.
-    CannotOpen(&'a str, NotOpened),
+    /// A file can't be opened.
+    CannotOpen,
 }
 
-impl<'a> From<AllocError> for NoStores<'a> {
+impl From<AllocError> for NoStores {
     ghost use Rattle.std.specs.Prelude.{◌≡◌};
     ghost use Rattle.macheap.specs.declared.stores.NoStores.TheVariants.{HostFull};
 
     ghost from_gives = { λ _ e. e ≡ HostFull };
 
-    fn from(_: AllocError) -> NoStores<'a> {
+    fn from(_: AllocError) -> NoStores {
         NoStores::HostFull
     }
 }
 
-impl<'a, S: Drop> From<AllocFailed<S>> for NoStores<'a> {
+impl<S: Drop> From<AllocFailed<S>> for NoStores {
     ghost use Rattle.std.specs.Prelude.{◌≡◌};
     ghost use Rattle.macheap.specs.declared.stores.NoStores.TheVariants.{HostFull};
 
     ghost from_gives = { λ _ e. e ≡ HostFull };
 
-    fn from(_: AllocFailed<S>) -> NoStores<'a> {
+    fn from(_: AllocFailed<S>) -> NoStores {
         NoStores::HostFull
     }
 }
 
 /// The stores of the forks in the files of these paths: where there are none, one in memory.
-pub fn plain_stores<'a, F: Drop, S: ForkStore + Drop, J: ForkStore, O: Opens<F, S, J>>(
+pub fn plain_stores<F: Drop, S: ForkStore + Drop, J: ForkStore, O: Opens<F, S, J>>(
     alloc: Global,
     opener: &mut O,
-    paths: &[&'a str],
-) -> Result<Vec<S>, NoStores<'a>>
+    paths: &[&str],
+) -> Result<Vec<S>, NoStores>
     requires { length paths.now ≤ most_files }
     ensures stores { (openings : List (Opening F)) × (O.openings opener.new ≡ O.openings opener.old ++ openings)
         × IsOpened (map (λ path. path.now) paths.now) openings (ArePlain S.ForkStore O.plain (map (λ path. path.now) paths.now) openings) result }
@@ -160,10 +159,10 @@ pub fn plain_stores<'a, F: Drop, S: ForkStore + Drop, J: ForkStore, O: Opens<F, 
 }
 
 /// One store in memory.
-fn one_in_memory<'a, F: Drop, S: ForkStore + Drop, J: ForkStore, O: Opens<F, S, J>>(
+fn one_in_memory<F: Drop, S: ForkStore + Drop, J: ForkStore, O: Opens<F, S, J>>(
     alloc: Global,
     opener: &O,
-) -> Result<Vec<S>, NoStores<'a>>
+) -> Result<Vec<S>, NoStores>
     ensures stores { IfOk result (λ stores. ArePlain S.ForkStore O.plain [] [] stores.items) }
     ensures few { IfOk result (λ stores. length stores.items ≤ most_files) }
     ensures full { IfErr result (λ fault. fault ≡ NoStores.HostFull) }
@@ -174,11 +173,11 @@ fn one_in_memory<'a, F: Drop, S: ForkStore + Drop, J: ForkStore, O: Opens<F, S, 
 }
 
 /// The stores of the forks in these files, numbered as they come.
-fn stores_on<'a, F: Drop, S: ForkStore + Drop, J: ForkStore, O: Opens<F, S, J>>(
+fn stores_on<F: Drop, S: ForkStore + Drop, J: ForkStore, O: Opens<F, S, J>>(
     alloc: Global,
     opener: &O,
     forks: Vec<F>,
-) -> Result<Vec<S>, NoStores<'a>>
+) -> Result<Vec<S>, NoStores>
     ensures stores { IfOk result (λ stores. AreOn O.plain 0 forks.items stores.items) }
     ensures count { IfOk result (λ stores. length stores.items ≡ length forks.items) }
     ensures full { IfErr result (λ fault. fault ≡ NoStores.HostFull) }
@@ -192,12 +191,12 @@ fn stores_on<'a, F: Drop, S: ForkStore + Drop, J: ForkStore, O: Opens<F, S, J>>(
 }
 
 /// The stores of the forks and the journals in the files of these paths. All forks are opened first.
-pub fn journalled_stores<'a, F: Drop, S: ForkStore, J: ForkStore + Drop, O: Opens<F, S, J>>(
+pub fn journalled_stores<F: Drop, S: ForkStore, J: ForkStore + Drop, O: Opens<F, S, J>>(
     alloc: Global,
     opener: &mut O,
-    paths: &[&'a str],
-    journals: &[&'a str],
-) -> Result<Vec<J>, NoStores<'a>>
+    paths: &[&str],
+    journals: &[&str],
+) -> Result<Vec<J>, NoStores>
     requires { length journals.now ≡ length paths.now }
     ensures stores { (openings : List (Opening F)) × (O.openings opener.new ≡ O.openings opener.old ++ openings)
         × (let all = map (λ path. path.now) paths.now ++ map (λ path. path.now) journals.now in IsOpened all openings (AreJournalled O.pairs all openings) result) }
@@ -210,9 +209,8 @@ pub fn journalled_stores<'a, F: Drop, S: ForkStore, J: ForkStore + Drop, O: Open
     let mut stores = Vec::new(alloc);
     for fork in forks {
         let number = stores.len();
-        let journal = match opener.open(journals[number]) {
-            Ok(journal) => journal,
-            Err(why) => return Err(NoStores::CannotOpen(journals[number], why)),
+        let Some(journal) = opener.open(journals[number]) else {
+            return Err(NoStores::CannotOpen);
         };
         let store = opener.journalled(fork, journal, number as u64);
         match stores.push(store) {
@@ -224,20 +222,19 @@ pub fn journalled_stores<'a, F: Drop, S: ForkStore, J: ForkStore + Drop, O: Open
 }
 
 /// The files of these paths.
-fn opened<'a, F: Drop, S: ForkStore, J: ForkStore, O: Opens<F, S, J>>(
+fn opened<F: Drop, S: ForkStore, J: ForkStore, O: Opens<F, S, J>>(
     alloc: Global,
     opener: &mut O,
-    paths: &[&'a str],
-) -> Result<Vec<F>, NoStores<'a>>
+    paths: &[&str],
+) -> Result<Vec<F>, NoStores>
     ensures files { (openings : List (Opening F)) × (O.openings opener.new ≡ O.openings opener.old ++ openings)
-        × IsOpened (map (λ path. path.now) paths.now) openings (λ files. Asked (map (λ path. path.now) paths.now) (map Ok files) openings) result }
+        × IsOpened (map (λ path. path.now) paths.now) openings (λ files. Asked (map (λ path. path.now) paths.now) (map Some files) openings) result }
     ensures count { IfOk result (λ files. length files.items ≡ length paths.now) }
 {
     let mut files = Vec::new(alloc);
     for path in paths {
-        let file = match opener.open(path) {
-            Ok(file) => file,
-            Err(why) => return Err(NoStores::CannotOpen(path, why)),
+        let Some(file) = opener.open(path) else {
+            return Err(NoStores::CannotOpen);
         };
         match files.push(file) {
             Ok(()) => {}

@@ -8,7 +8,7 @@ use Rattle.fork_disk.specs.declared.store.ForkStore.{Ghosts}
 use Rattle.script_lang.specs.declared.line.Line.{Line}
 use Rattle.script_text.specs.Script.{IsScript, IsFaultAt}
 use Rattle.script_text.specs.declared.wrong.Wrong.{Wrong}
-use Rattle.reply_text.specs.Text.{fault_text, no_memory_text}
+use Rattle.script_lang.specs.Text.{fault_text, no_memory_text}
 use Rattle.script_run.specs.declared.end.RunEnd.{RunEnd}
 use Rattle.script_run.specs.declared.end.RunEnd.TheVariants.{Finished, ScriptFault, NoMemory, WriteFault}
 use Rattle.script_run.specs.declared.machine.Machine.{Machine}

@@ -4,8 +4,8 @@ use Rattle.std.specs.List.{concat}
 use Rattle.fork_disk.specs.declared.store.ForkStore.{Ghosts}
 use Rattle.script_lang.specs.declared.line.Line.{Line}
 use Rattle.script_text.specs.Script.{IsScript, IsFaultAt}
-use Rattle.reply_text.specs.Text.{fault_text}
-pub use Rattle.reply_text.specs.Text.{no_memory_text}
+use Rattle.script_lang.specs.Text.{fault_text}
+pub use Rattle.script_lang.specs.Text.{no_memory_text}
 use Rattle.script_run.specs.declared.end.RunEnd.{RunEnd}
 use Rattle.script_run.specs.declared.end.RunEnd.TheVariants.{Finished, ScriptFault, NoMemory, ReadFault, WriteFault}
 use Rattle.script_run.specs.declared.machine.Machine.{Machine}

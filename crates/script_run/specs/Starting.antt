@@ -2,7 +2,7 @@
 use Rattle.std.specs.Prelude.{◌≡◌, ◌⊎◌, ℕ, List, [], Result, Ok, Err, Vec, ⊤}
 use Rattle.std.specs.Global.{Global}
 use Rattle.script_text.specs.Script.{IsScript, IsFaultAt}
-use Rattle.reply_text.specs.Text.{fault_text}
+use Rattle.script_lang.specs.Text.{fault_text}
 use Rattle.script_run.specs.declared.end.RunEnd.{RunEnd}
 use Rattle.script_run.specs.declared.end.RunEnd.TheVariants.{ScriptFault, NoMemory, ReadFault}
 use Rattle.script_run.specs.declared.reading.NoScript.{NoScript}
@@ -22,7 +22,7 @@ Reads input (Err fault) = IsNoScript input fault
 
 -- what stands ready for this input: its script, or why not
 abbrev pub IsReady : List ℕ → Result Ready NoScript → Type 0
-IsReady input (Ok ready) = IsScript input ready.script
+IsReady input (Ok ready) = IsScript input ready.script.items
 IsReady input (Err fault) = IsNoScript input fault
 
 -- A run that has no script ends so, having written this.

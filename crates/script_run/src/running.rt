@@ -2,7 +2,7 @@
 
 ghost use Rattle.std.specs.Prelude.{◌≡◌, ◌≢◌, ◌≤◌, ◌⊎◌, ◌↔◌, ℕ, List, length, unwrap_or};
 ghost use Rattle.script_text.specs.Script.{IsScript};
-ghost use Rattle.reply_text.specs.Text.{fault_text, no_memory_text};
+ghost use Rattle.script_lang.specs.Text.{fault_text, no_memory_text};
 ghost use Rattle.res_files.specs.Standing.{most_files};
 ghost use Rattle.script_run.specs.Counting.{Gave, RoseByOne, Took};
 ghost use Rattle.script_run.specs.Exact.{RunsAgree};
@@ -15,14 +15,14 @@ ghost use Rattle.script_run.specs.Starting.{TellsNoScript};
 use crate::counted::Counted;
 use crate::end::RunEnd;
 use crate::machine::Machine;
-use crate::reading::NoScript;
+use crate::reading::{NoScript, read_script};
 use crate::ready::{Ready, make_ready};
 use crate::writing::write_whole;
+use bumpalo::Bump;
 use fork_disk::store::ForkStore;
 use mac_base::zone_spec::ZoneSpec;
 use mem_calls::MemoryManager;
-use reply_text::{NO_MEMORY, ReplyText, fault_line};
-use script_lang::Script;
+use script_lang::{Line, NO_MEMORY, ReplyText, fault_line};
 use script_text::Wrong;
 use std::alloc::Global;
 use std::io::{Read, Write};
@@ -60,7 +60,9 @@ pub fn run<S: ForkStore, R: Read, W: Write>(
     ensures write_fault { result.0 ≡ RunEnd.WriteFault → RoseByOne writer.old.failures writer.new.failures }
     ensures no_write_failed { result.0 ≢ RunEnd.WriteFault → writer.new.failures ≡ writer.old.failures }
 {
-    let ready = match make_ready(alloc, reader) {
+    let arena = Bump::new(alloc);
+    let read = read_script(alloc, reader);
+    let ready = match make_ready(alloc, &arena, &read) {
         Ok(ready) => ready,
         Err(why) => return (tell_no_script(alloc, writer, why), stores),
     };
@@ -80,7 +82,7 @@ pub fn run<S: ForkStore, R: Read, W: Write>(
 /// Opens the first file, runs the lines, and writes what each prints when it is made.
 fn run_lines<S: ForkStore, W: Write>(
     machine: &mut Machine<S>,
-    script: &Script,
+    script: &[Line<'_>],
     reply: &mut ReplyText,
     writer: &mut Counted<W>,
 ) -> RunEnd
@@ -96,9 +98,8 @@ fn run_lines<S: ForkStore, W: Write>(
     if !write_whole(writer, reply.as_slice()) {
         return RunEnd::WriteFault;
     }
-    let mut lines = script.lines();
-    while let Some(line) = lines.next() {
-        let Ok(()) = machine.run_line(&line, reply) else {
+    for line in script {
+        let Ok(()) = machine.run_line(line, reply) else {
             return tell_no_memory(writer);
         };
         if !write_whole(writer, reply.as_slice()) {

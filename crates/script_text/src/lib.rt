@@ -2,6 +2,7 @@
 #![tactic(auto)]
 
 mod answer;
+mod call;
 mod hashing;
 mod names;
 mod operand;
@@ -11,7 +12,6 @@ mod token;
 mod wrong;
 
 pub use names::{Names, names_have_places};
-pub use operand::operands;
 pub use script::{Fault, MAX_LINES, MAX_SCRIPT, one_reading, parse_script};
 pub use token::{Token, read_tokens};
 pub use wrong::Wrong;

@@ -1,11 +1,13 @@
 //! What is wrong with a line that is none. The words are for a reader: what they say is tested, and no clause speaks of it.
 
 use crate::names::Names;
-use crate::operand::{are_printable, hexadecimal_digit, id_operand, is_name, number_or_variable};
+use crate::operand::{
+    are_printable, hexadecimal_digit, id_or_variable, is_name, number_or_variable,
+};
 use crate::script::MAX_LINES;
 use crate::statement::{assigned_name, first_word};
 use crate::token::{MAX_TOKENS, Token};
-use mac_calls::{CallName, OperandKind};
+use script_lang::CallName;
 use std::fmt;
 use thiserror::Error;
 
@@ -115,6 +117,35 @@ pub(crate) fn what_is_unread(number: u32, line: &[u8], tokens: &[Token<'_>]) -> 
     }
 }
 
+/// How an operand is written.
+#[derive(Clone, Copy)]
+enum OperandKind {
+    Number,
+    Bytes,
+    Id,
+    Type,
+    OptionalBytes,
+    OptionalNumber,
+}
+
+/// How the operands of a call are written, in order.
+fn kinds(call: CallName) -> &'static [OperandKind] {
+    use OperandKind::{Bytes, Id, Number, OptionalBytes, OptionalNumber, Type};
+    match call {
+        CallName::Plain(_) => &[],
+        CallName::Number(_) => &[Number],
+        CallName::TwoNumbers(_) => &[Number, Number],
+        CallName::ThreeNumbers(_) => &[Number, Number, Number],
+        CallName::BlockMove => &[Number, Number, Number, Number, Number],
+        CallName::Bytes(_) => &[Number, Number, Bytes],
+        CallName::Resource(_) => &[Type, Id],
+        CallName::GetIndResource => &[Type, Number],
+        CallName::Kind(_) => &[Type],
+        CallName::AddResource => &[Number, Type, Id, OptionalBytes],
+        CallName::File(_) => &[OptionalNumber],
+    }
+}
+
 /// Whether digits are hexadecimal, two for each byte.
 fn are_digits_of_bytes(digits: &[u8]) -> bool {
     digits.len() % 2 == 0
@@ -127,11 +158,11 @@ fn are_digits_of_bytes(digits: &[u8]) -> bool {
 fn fits(kind: OperandKind, token: Option<&Token<'_>>, names: &Names<'_>) -> bool {
     use OperandKind::{Bytes, Id, Number, OptionalBytes, OptionalNumber, Type};
     let Some(token) = token else {
-        return kind.may_be_missing();
+        return matches!(kind, OptionalBytes | OptionalNumber);
     };
     match (kind, *token) {
         (Number | OptionalNumber, token) => number_or_variable(token, names).is_some(),
-        (Id, Token::Word(word)) => id_operand(word, names).is_some(),
+        (Id, token) => id_or_variable(token, names).is_some(),
         (Bytes | OptionalBytes, Token::Double(inner)) => are_printable(inner),
         (Bytes | OptionalBytes, Token::Hexadecimal(digits)) => are_digits_of_bytes(digits),
         (Type, Token::Single(inner)) => inner.len() == 4 && are_printable(inner),
@@ -217,10 +248,9 @@ pub(crate) fn what_is_wrong(line: &[Token<'_>], names: &Names<'_>) -> Wrong {
     let Some(call) = CallName::named(word) else {
         return Wrong::UnknownCall(Word::of(word));
     };
-    let signature = call.signature();
     match assigned {
         Some(name) if !is_name(name) => Wrong::NoName(Word::of(name)),
-        Some(_) if !signature.is_assignable => Wrong::GivesNothing(Word::of(word)),
-        _ => wrong_operands(word, signature.operands, operands, names),
+        Some(_) if !call.signature().is_assignable => Wrong::GivesNothing(Word::of(word)),
+        _ => wrong_operands(word, kinds(call), operands, names),
     }
 }

@@ -5,7 +5,7 @@ use Rattle.script_text.specs.Front.{view}
 use Rattle.script_text.specs.Tokens.{AreTokens}
 use Rattle.script_text.specs.Tokens.{HasNoFewTokens}
 use Rattle.script_text.proofs.FewTokens.{many_none, beyond_none}
-use Rattle.script_text.proofs.StatementLaws.{no_line, reads_statement}
+use Rattle.script_text.proofs.StatementLaws.{names_after-few, no_line, reads_statement}
 use Rattle.script_text.proofs.script.add_line.Goals as goal
 use Rattle.script_text.proofs.script.add_line.Goals.{then-number-gt-MAX_LINES-via-then-number-gt-MAX_LINES, then-number-gt-MAX_LINES-via-else-number-gt-MAX_LINES+in_ok-read_tokens+then-not-branch}
 
@@ -36,5 +36,10 @@ returns-clause-line c =
     let named = rw c.in-Some.is at c.in_ok-statement.ensures.names in (
       Some (record { number = c.args.number; statement = c.in-Some.statement }),
       reads_statement _ _ _ _ (map view tokens) c.in-Some.statement c.if-number-gt-MAX_LINES.false read some is named,
-      c.in_ok-push.ensures.added,
+      c.in_ok-push.ensures.items,
     )
+
+pub returns-clause-few : goal.returns-clause-few
+returns-clause-few c =
+    let named = rw c.in-Some.is at c.in_ok-statement.ensures.names in
+    rw named (names_after-few c.args.number c.args.names.now _ c.requires.few)
