@@ -31,7 +31,7 @@ pub fn make_ready<R: Read>(alloc: Global, reader: &mut Counted<R>) -> Result<Rea
     let mut text = read_script(alloc, reader)?;
     let script = match parse_script(alloc, &text) {
         Ok(script) => script,
-        Err(Fault::Line(line)) => return Err(NoScript::BadLine(line)),
+        Err(Fault::Line(line, wrong)) => return Err(NoScript::BadLine(line, wrong)),
         Err(Fault::HostFull) => return Err(NoScript::HostFull),
     };
     // The text is given up but for a byte: a long list that is freed as a whole makes the C library keep others in its heap, where

@@ -23,6 +23,7 @@ use mac_base::zone_spec::ZoneSpec;
 use mem_calls::MemoryManager;
 use reply_text::{NO_MEMORY, ReplyText, fault_line};
 use script_lang::Script;
+use script_text::Wrong;
 use std::alloc::Global;
 use std::io::{Read, Write};
 
@@ -117,14 +118,14 @@ fn tell_no_script<W: Write>(alloc: Global, writer: &mut Counted<W>, why: NoScrip
     match why {
         NoScript::HostFull => tell_no_memory(writer),
         NoScript::ReadFault => RunEnd::ReadFault,
-        NoScript::BadLine(line) => tell_fault(alloc, writer, line),
+        NoScript::BadLine(line, wrong) => tell_fault(alloc, writer, line, wrong),
     }
 }
 
-/// Writes which line is the first that is none.
-fn tell_fault<W: Write>(alloc: Global, writer: &mut Counted<W>, line: u32) -> RunEnd
+/// Writes which line is the first that is none. What is wrong with it is handed on.
+fn tell_fault<W: Write>(alloc: Global, writer: &mut Counted<W>, line: u32, wrong: Wrong) -> RunEnd
     ensures ends { (written : List ℕ) × Took W.contents writer.old written writer.new
-        × (Tells (RunEnd.ScriptFault line) (fault_text line) result written ⊎ Tells RunEnd.NoMemory no_memory_text result written) }
+        × (Tells (RunEnd.ScriptFault line wrong) (fault_text line) result written ⊎ Tells RunEnd.NoMemory no_memory_text result written) }
     ensures no_read_fault { result ≢ RunEnd.ReadFault }
     ensures write_fault { result ≡ RunEnd.WriteFault → RoseByOne writer.old.failures writer.new.failures }
     ensures no_write_failed { result ≢ RunEnd.WriteFault → writer.new.failures ≡ writer.old.failures }
@@ -133,7 +134,7 @@ fn tell_fault<W: Write>(alloc: Global, writer: &mut Counted<W>, line: u32) -> Ru
         return tell_no_memory(writer);
     };
     if write_whole(writer, &text) {
-        RunEnd::ScriptFault(line)
+        RunEnd::ScriptFault(line, wrong)
     } else {
         RunEnd::WriteFault
     }

@@ -122,7 +122,7 @@ IsFaultAt text (suc count) = StopsBehind text count
 
 -- the reason why bytes are no script holds; want of memory may come at any time
 abbrev pub IsFault : List ℕ → Fault → Type 0
-IsFault text (fault.Line number) = IsFaultAt text number
+IsFault text (fault.Line number wrong) = IsFaultAt text number
 IsFault text fault.HostFull = Unit {0}
 
 -- No bytes have two first lines that are none.

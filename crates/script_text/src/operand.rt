@@ -121,7 +121,7 @@ fn is_printable(byte: u8) -> bool
 }
 
 /// Whether all bytes may stand in quotes.
-fn are_printable(bytes: &[u8]) -> bool
+pub(crate) fn are_printable(bytes: &[u8]) -> bool
     ensures { result ≡ list_all is_printable bytes.now }
 {
     let mut all = true;
@@ -175,7 +175,7 @@ fn number_operand<'a>(word: &[u8], names: &Names<'_>) -> Option<Operand<'a>>
 }
 
 /// An id, or the name of a variable that has been assigned.
-fn id_operand<'a>(word: &[u8], names: &Names<'_>) -> Option<Operand<'a>>
+pub(crate) fn id_operand<'a>(word: &[u8], names: &Names<'_>) -> Option<Operand<'a>>
     ensures { Finds result (IsIdOperand names.now (Word word.now)) }
 {
     if let Some(id) = id(word) {
@@ -216,7 +216,7 @@ static DIGIT_VALUES: [u8; 256] = [
 ];
 
 /// The value of a hexadecimal digit of either case.
-fn hexadecimal_digit(digit: u8) -> Option<u8>
+pub(crate) fn hexadecimal_digit(digit: u8) -> Option<u8>
     ensures { SomeIff result (digit_value digit < 16) (digit_value digit) }
 {
     let value = DIGIT_VALUES[digit as usize];

@@ -9,6 +9,7 @@ ghost use Rattle.script_text.specs.Reading.{Reads, Fails, Adds};
 use crate::names::Names;
 use crate::statement::statement;
 use crate::token::{Token, read_tokens};
+use crate::wrong::{Wrong, what_is_unread, what_is_wrong};
 use bumpalo::{Bump, ResetError};
 use mac_base::error::HostFull;
 use memchr::memchr;
@@ -26,9 +27,9 @@ pub const MAX_LINES: u32 = 65536;
 #[derive(Clone, Copy, Debug, Error)]
 pub enum Fault {
     /// The first line that is none. It is 0 where the text has too many bytes, and one more than the largest
-    /// number of lines where it has too many of those.
-    #[error("script fault at line {0}")]
-    Line(u32),
+    /// number of lines where it has too many of those. And what is wrong with it.
+    #[error("script fault at line {0}: {1}")]
+    Line(u32, Wrong),
     /// The host refused memory.
     #[error("the host has no memory")]
     HostFull,
@@ -109,13 +110,13 @@ fn add_line<'a>(
     ensures fault { IfErr result (Fails number names.old text.now) }
 {
     if number > MAX_LINES || !read_tokens(text, tokens)? {
-        return Err(Fault::Line(number));
+        return Err(Fault::Line(number, what_is_unread(number, text, tokens)));
     }
     if tokens.is_empty() {
         return Ok(());
     }
     let Some(statement) = statement(arena, tokens, names)? else {
-        return Err(Fault::Line(number));
+        return Err(Fault::Line(number, what_is_wrong(tokens, names)));
     };
     script.push(&Line { number, statement })?;
     Ok(())
@@ -151,7 +152,7 @@ pub fn parse_script(alloc: Global, text: &[u8]) -> Result<Script, Fault>
     ensures fault { IfErr result (spec.IsFault text.now) }
 {
     if text.len() > MAX_SCRIPT {
-        return Err(Fault::Line(0));
+        return Err(Fault::Line(0, Wrong::TooLong));
     }
     let mut script = Script::new(alloc);
     add_lines(alloc, text, &mut script)?;

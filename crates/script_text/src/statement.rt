@@ -20,7 +20,7 @@ use mac_calls::CallName;
 use script_lang::{CallLine, Name, Statement};
 
 /// The name that a line assigns, if it begins so, and the tokens behind `name =`.
-fn assigned_name<'a, 'b>(line: &'b [Token<'a>]) -> (Option<&'a [u8]>, &'b [Token<'a>])
+pub(crate) fn assigned_name<'a, 'b>(line: &'b [Token<'a>]) -> (Option<&'a [u8]>, &'b [Token<'a>])
     ensures parts { map view line.now
         ≡ assignment (option_copied result.0) ++ map view result.1.now }
     ensures name { option_copied result.0 ≡ assigned_by (map view line.now) }

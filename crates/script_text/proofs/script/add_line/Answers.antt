@@ -19,18 +19,18 @@ returns-then-number-gt-MAX_LINES-clause-fault c = elim c.then-number-gt-MAX_LINE
 
 pub returns-in_default-clause-fault : goal.returns-in_default-clause-fault
 returns-in_default-clause-fault c =
-    let tokens = c.deref.result.now in
-    let read : AreTokens c.args.text.now (map view tokens) = rw c.deref.ensures.value (rw c.if-not-branch.false at c.in_ok-read_tokens.ensures) in
-    let count : length tokens ≢ 0 = λ e. eqb-false _ _ (sym c.is_empty.ensures ∙ c.if-is_empty.false) (sym c.deref.ensures.len ∙ e) in
+    let tokens = c.deref-2.result.now in
+    let read : AreTokens c.args.text.now (map view tokens) = rw c.deref-2.ensures.value (rw c.if-not-branch.false at c.in_ok-read_tokens.ensures) in
+    let count : length tokens ≢ 0 = λ e. eqb-false _ _ (sym c.is_empty.ensures ∙ c.if-is_empty.false) (sym c.deref-2.ensures.len ∙ e) in
     let some : map view tokens ≢ [] = λ e. count (sym (length-map tokens view) ∙ ap length e) in
     let none = rw c.in_default.is at c.in_ok-statement.ensures.line in
     (refl, no_line c.args.number c.args.names.now c.args.text.now _ read some none)
 
 pub returns-clause-line : goal.returns-clause-line
 returns-clause-line c =
-    let tokens = c.deref.result.now in
-    let read : AreTokens c.args.text.now (map view tokens) = rw c.deref.ensures.value (rw c.if-not-branch.false at c.in_ok-read_tokens.ensures) in
-    let count : length tokens ≢ 0 = λ e. eqb-false _ _ (sym c.is_empty.ensures ∙ c.if-is_empty.false) (sym c.deref.ensures.len ∙ e) in
+    let tokens = c.deref-2.result.now in
+    let read : AreTokens c.args.text.now (map view tokens) = rw c.deref-2.ensures.value (rw c.if-not-branch.false at c.in_ok-read_tokens.ensures) in
+    let count : length tokens ≢ 0 = λ e. eqb-false _ _ (sym c.is_empty.ensures ∙ c.if-is_empty.false) (sym c.deref-2.ensures.len ∙ e) in
     let some : map view tokens ≢ [] = λ e. count (sym (length-map tokens view) ∙ ap length e) in
     let is = rw c.in-Some.is at c.in_ok-statement.ensures.line in
     let named = rw c.in-Some.is at c.in_ok-statement.ensures.names in (
