@@ -336,6 +336,15 @@ def loaded(play):
     yield "a load of no bytes", play(fork, empty).fault(["..", "2 GetHandleSize 0 0"], "ssrrrrr", fork)
 
 
+def read_only(play):
+    """A file that may only be read is opened, without a journal and with one. What reads it answers as ever; an update fails at its first write, as on a device that
+    fails, and changes nothing."""
+    lines = ["h = GetResource 'TEXT' 128", "Peek h 0 2", "ChangedResource h", "UpdateResFile", "CurResFile"]
+    printed = ["..", '2 Peek "Hi" 0', "3 ChangedResource 0", "4 UpdateResFile -36", "5 CurResFile 0 0"]
+    yield "a file to be read", play(HI, lines, DEVICE_READ_ONLY=1).fault(printed, "ssrrr" + "r" + "w", HI)
+    yield "a file to be read, with a journal", play(HI, lines, b"", DEVICE_READ_ONLY=1).fault(printed, "YS" + "ssrrr" + "r" + "SW", HI)
+
+
 # Scripts of calls that make none on the device behind the opening and these loads: the calls, and the last reply
 QUIET = [
     # a resource that isn't changed is written already, also where its bytes, its handle's size or its attributes are others
@@ -410,7 +419,7 @@ def main(program):
         def play(fork, lines, journal=None, **settings):
             return Played(program, shim, folder, fork, lines, journal, **settings)
 
-        for rows in (opened, opened_again, in_parts, updated, loaded, quiet, recovered, journalled, in_rows, told):
+        for rows in (opened, opened_again, in_parts, updated, loaded, quiet, read_only, recovered, journalled, in_rows, told):
             for what, fault in rows(play):
                 count += 1
                 failures += [f"{what}: {fault}"] if fault else []

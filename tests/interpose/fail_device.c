@@ -1,13 +1,15 @@
 /* Stands between a program and the C library's calls on open files. It adds a letter for each to the file DEVICE_LOG: s for statx, r for
    pread, w for pwrite, c for ftruncate, y for fsync; capital ones for the calls on the file DEVICE_JOURNAL. The call of the number in DEVICE_FAIL,
    from 1 on, isn't made and fails with EIO; that of the number in DEVICE_SHORT, a read or a write, is made for half of its bytes; before that of
-   the number in DEVICE_CUT the file is cut to DEVICE_LENGTH bytes. To be loaded ahead of the C library, with LD_PRELOAD. */
+   the number in DEVICE_CUT the file is cut to DEVICE_LENGTH bytes. With DEVICE_READ_ONLY no file can be opened to be written. To be loaded ahead of the C library, with LD_PRELOAD. */
 #define _GNU_SOURCE
 #include <ctype.h>
 #include <dlfcn.h>
 #include <errno.h>
 #include <fcntl.h>
+#include <stdarg.h>
 #include <stdlib.h>
+#include <string.h>
 #include <sys/stat.h>
 #include <unistd.h>
 
@@ -57,6 +59,24 @@ static int fails(int file, char letter)
 static size_t taken(size_t count)
 {
     return calls == number_of("DEVICE_SHORT") ? (count + 1) / 2 : count;
+}
+
+int open(const char *path, int flags, ...)
+{
+    static int (*next)(const char *, int, ...);
+    const char *log = getenv("DEVICE_LOG");
+    va_list others;
+    mode_t mode;
+    if (next == NULL)
+        next = (int (*)(const char *, int, ...))dlsym(RTLD_NEXT, "open");
+    va_start(others, flags);
+    mode = flags & O_CREAT ? va_arg(others, mode_t) : 0;
+    va_end(others);
+    if ((flags & O_ACCMODE) != O_RDONLY && getenv("DEVICE_READ_ONLY") != NULL && (log == NULL || strcmp(path, log) != 0)) {
+        errno = EACCES;
+        return -1;
+    }
+    return next(path, flags, mode);
 }
 
 int statx(int file, const char *restrict path, int flags, unsigned int mask, struct statx *restrict buffer)

@@ -52,8 +52,9 @@ fn is_not_to_write(why: io::ErrorKind) -> bool {
     )
 }
 
-/// The file of a path, to read and to write it. A missing one is made, with length 0. Where it may only be read it is opened to be
-/// read: the system refuses each write and each cut of it then, and nothing changes. An error is that of the first try.
+/// The file of a path, to read and to write it. A missing one is made, with length 0. Where it may only be read it is
+/// opened to be read: the system refuses each write and each cut of it then, and nothing changes. An error is that of
+/// the first try.
 fn opened<R: Files<File = File>>(files: &R, path: &str) -> io::Result<File> {
     let mut both = OpenOptions::new();
     match both.read(true).write(true).create(true).open(files, path) {
@@ -64,8 +65,8 @@ fn opened<R: Files<File = File>>(files: &R, path: &str) -> io::Result<File> {
 }
 
 impl HostFile {
-    /// Opens a file to read and to write it, or to read it where it may only be read: each write fails then. A missing one is made, with
-    /// length 0. No call on it has failed, and no sync of `settle`.
+    /// Opens a file to read and to write it, or to read it where it may only be read: each write fails then. A missing
+    /// one is made, with length 0. No call on it has failed, and no sync of `settle`.
     pub fn open<R: Files<File = File>, P: AsPath>(files: &R, path: P) -> io::Result<HostFile>
         ensures unfailed { IfOk result (λ file. file.failures ≡ 0) }
         ensures unspent { IfOk result (λ file. file.is_spent ≡ false) }

@@ -1,12 +1,12 @@
 use Rattle.std.proofs.Common.{[], ◌∷◌, ◌++◌, codes}
 use Rattle.script_run.proofs.Known.{Took-then}
 use Rattle.macheap.proofs.Ending.{failed_after, some_line, some_text, wrote, wrote_after}
-use Rattle.macheap.proofs.program.tell_error.Goals as goal
+use Rattle.macheap.proofs.program.tell.Goals as goal
 
 pub returns-in_default : goal.returns-in_default
 returns-in_default g c =
     let w = c.write_whole.ensures in
-    (codes "error: the words are bad\n", some_text _ _, w.written.0, w.written.1, wrote _ _ _ _ _ w.written.2 w.failures)
+    (codes "error: the words or a line are bad\n", some_text _ _, w.written.0, w.written.1, wrote _ _ _ _ _ w.written.2 w.failures)
 
 pub returns : goal.returns
 returns g c =
