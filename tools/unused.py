@@ -24,7 +24,7 @@ EXAMPLES = {
     "call_laws.proofs.FirstStep",
     "call_laws.proofs.Rows",
     "fork_bytes.proofs.Vectors",
-    "reply_text.proofs.Rows",
+    "script_lang.proofs.Replies",
     "res_calls.proofs.Worked",
     "script_lang.proofs.Rows",
 }

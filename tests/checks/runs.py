@@ -64,14 +64,28 @@ def unescaped(text):
     return text.encode("latin-1").decode("unicode_escape").encode("latin-1")
 
 
+def repeated(text):
+    """Those bytes, of which the last one stands there N times where the text ends with *N."""
+    times = re.fullmatch(r"(.*)\*(\d+)", text)
+    data = unescaped(times[1] if times else text)
+    return data[:-1] + data[-1:] * (int(times[2]) if times else 1)
+
+
 def texts(table):
     """The rows of tests/cases/lines.txt: a text, and the first line that is none, or None where it is a script."""
     for row in table.read().split("\n"):
         line, mark, text = row.partition(": ")
         if mark and not row.startswith("# "):
-            times = re.fullmatch(r"(.*)\*(\d+)", text)
-            data = unescaped(times[1] if times else text)
-            yield data[:-1] + data[-1:] * (int(times[2]) if times else 1), None if line == "ok" else int(line)
+            yield repeated(text), None if line == "ok" else int(line)
+
+
+def wrongs(table):
+    """The rows of tests/cases/wrong.txt: a text, the first line that is none, and what is wrong with it."""
+    for row in table.read().split("\n"):
+        said, mark, text = row.partition(" <- ")
+        if mark and not row.startswith("# "):
+            line, _, wrong = said.partition(": ")
+            yield repeated(text), line, wrong
 
 
 # a line that makes a call: one that isn't empty, a comment or a queued answer, with the name of its call
@@ -90,7 +104,13 @@ def is_read(program, text, line):
     if line is None:
         replies = [it.split(b" ")[:2] for it in ran.stdout.split(b"\n") if it and not it.startswith(b"  ")]
         return ran.returncode == 0 and replies == calls_in(text)
-    return (ran.returncode, ran.stdout) == (3, f"{FAULT}{line}\n".encode())
+    return (ran.returncode, ran.stdout) == (3, f"{FAULT}{line}\n".encode()) and ran.stderr.startswith(f"error: line {line}: ".encode())
+
+
+def is_told(program, text, line, wrong):
+    """Whether a run says that this is wrong with a text, and writes nothing but which line is the first that is none."""
+    ran = subprocess.run([program], input=text, capture_output=True, check=False)
+    return (ran.returncode, ran.stdout, ran.stderr) == (3, f"{FAULT}{line}\n".encode(), f"error: line {line}: {wrong}\n".encode())
 
 
 # the calls of steps that name a block, of those that have a number, and of the others
@@ -163,7 +183,7 @@ def main(program):
         if ran.returncode != status or not are_wanted(ran.stdout, wanted):
             failed += 1
             print(f"{script!r} {' '.join(options)} ended with {ran.returncode} and printed {ran.stdout!r}")
-    stepped, scripts = read("steps.txt", zone_steps), read("lines.txt", texts)
+    stepped, scripts, told = read("steps.txt", zone_steps), read("lines.txt", texts), read("wrong.txt", wrongs)
     for options, steps, blocks in stepped:
         fault = step_fault(program, options, steps, blocks)
         if fault:
@@ -173,6 +193,10 @@ def main(program):
         if not is_read(program, text, line):
             failed += 1
             print(f"{text[:200]!r}, of {len(text)} bytes, isn't {'a script' if line is None else f'refused at line {line}'}")
-    count = len(runs) + len(refused) + len(stepped) + len(scripts)
-    print(f"runs: {count - failed} as they should be, {failed} not; {len(refused)} are of calls that are refused, {len(scripts)} of texts that are scripts or none")
-    return 1 if failed or not runs or not refused or not stepped or not scripts else 0
+    for text, line, wrong in told:
+        if not is_told(program, text, line, wrong):
+            failed += 1
+            print(f"{text[:200]!r}, of {len(text)} bytes: it isn't told that {wrong}")
+    count = len(runs) + len(refused) + len(stepped) + len(scripts) + len(told)
+    print(f"runs: {count - failed} as they should be, {failed} not; {len(refused)} are of calls that are refused, {len(scripts)} of texts that are scripts or none, {len(told)} of what is told")
+    return 1 if failed or not runs or not refused or not stepped or not scripts or not told else 0

@@ -108,15 +108,19 @@ FORKS = [
 # words whose first file is there and is no fork: opening it is refused before the first line
 NO_FORKS = ["--fork @/old", "--fork=@/old --zone 4096"]
 
-# words of which a file can't be opened, and the files that are made: those before it
+# words of which a file can't be opened, which it is and why, and the files that are made: those before it
+IS_FOLDER, NO_FOLDER = "it is a folder; name a file", "there is no such folder; make it first"
 CANNOT_OPEN = [
-    ("--fork @/folder", []),
-    ("--fork=", []),
-    ("--fork @/missing/new", []),
-    ("--fork @/old/new", []),
-    ("--fork @/folder --fork @/new", []),
-    ("--fork @/new --fork @/folder", ["new"]),
-    ("--fork @/folder --zone 1024 --mode 32", []),
+    ("--fork @/folder", "@/folder", IS_FOLDER, []),
+    ("--fork=", "", NO_FOLDER, []),
+    ("--fork @/missing/new", "@/missing/new", NO_FOLDER, []),
+    ("--fork @/old/new", "@/old/new", NO_FOLDER, []),
+    ("--fork @/folder --fork @/new", "@/folder", IS_FOLDER, []),
+    ("--fork @/new --fork @/folder", "@/folder", IS_FOLDER, ["new"]),
+    ("--fork @/new --journal @/missing/new", "@/missing/new", NO_FOLDER, ["new"]),
+    ("--fork @/folder --zone 1024 --mode 32", "@/folder", IS_FOLDER, []),
+    # names in this folder are longer than the system takes
+    (f"--fork @/{'n' * 300}", f"@/{'n' * 300}", "the system refuses it; name another file", []),
 ]
 
 # words with more files than a run may have, which is told before what is wrong with numbers
@@ -168,6 +172,7 @@ def run(program, words):
         os.lseek(script.fileno(), 0, os.SEEK_SET)
         words = words.replace("@", folder).split()
         ran = subprocess.run([program, *words], stdin=script, capture_output=True, text=True, check=False)
+        ran.stderr = ran.stderr.replace(folder, "@")
         return ran, os.lseek(script.fileno(), 0, os.SEEK_CUR), files_in(folder)
 
 
@@ -206,8 +211,8 @@ def main(program):
         check(words, f"is to run, and to make {made}", 0, a_map.__eq__, "".__eq__, made)
     for words in NO_FORKS:
         check(words, "is to run, where the first file is no fork", 0, ("0 OpenResFile -39\n" + a_map).__eq__, "".__eq__)
-    for words, made in CANNOT_OPEN:
-        check(words, "is to tell that a file can't be opened", 1, "".__eq__, "cannot open\n".__eq__, made)
+    for words, path, why, made in CANNOT_OPEN:
+        check(words, "is to tell that a file can't be opened", 1, "".__eq__, f"cannot open {path}: {why}\n".__eq__, made)
     for words in TOO_MANY:
         check(words, "is to be refused for too many files", 2, "".__eq__, TOO_MANY_FORKS.__eq__)
     print(f"words: {passed} as they should be, {failed} not")

@@ -18,7 +18,7 @@ use Rattle.macheap.specs.declared.asked.NotAsked.TheVariants.{Words, TooManyFork
 use Rattle.macheap.specs.declared.stores.NoStores.{NoStores}
 use Rattle.macheap.specs.declared.stores.NoStores.TheVariants as why
 use Rattle.macheap.specs.Asking.{Asks}
-use Rattle.macheap.specs.Program.{Parts, Done, Told, Answers, AsksForNothing, NoStoresEnd, Refuses, ProgramEnds, Because, RunEnds, RunsOn, RunsOver, TellsBadWords, TellsNoMemory, Wrote, lacks_memory, over_plain, over_journalled, unopened, no_stores, ran, helped, refused, full_words}
+use Rattle.macheap.specs.Program.{Parts, Done, Told, Answers, AsksForNothing, NoStoresEnd, Refuses, ProgramEnds, Because, RunEnds, RunsOn, RunsOver, SaysWhy, TellsBadWords, TellsNoMemory, Wrote, lacks_memory, over_plain, over_journalled, unopened, no_stores, ran, helped, refused, full_words}
 use Rattle.macheap.specs.Stores.{ArePlain, AreJournalled, IsOpened, Opening}
 use Rattle.macheap.proofs.Opening.{cant_widen, some_widen}
 
@@ -102,13 +102,13 @@ because ReadFault read_failed write_failed read write = read refl
 because WriteFault read_failed write_failed read write = write refl
 because Finished read_failed write_failed read write = tt
 because NoMemory read_failed write_failed read write = tt
-because (ScriptFault line) read_failed write_failed read write = tt
+because (ScriptFault line wrong) read_failed write_failed read write = tt
 
 module _ {S : Type 0} (store : Ghosts S) (sizes : ZoneSizes) (done : Done) where
   -- a run over the stores that were opened
   pub ran_over : (stores left : List S) (end : RunEnd) → (end ≡ ReadFault → done.read_failed) → (end ≡ WriteFault → done.told.write_failed) → Ends store (start_of sizes stores) done.input end done.told.written left
-      → done.told.status ≡ status_of end → done.told.silent → RunsOver store sizes stores done
-  ran_over stores left end read write ends status silent = record { left = left; end = end; ends = ends; because = because end done.read_failed done.told.write_failed read write; status = status; silent = silent }
+      → done.told.status ≡ status_of end → SaysWhy end done.told.silent done.told.tell_failed done.told.said → RunsOver store sizes stores done
+  ran_over stores left end read write ends status says = record { left = left; end = end; ends = ends; because = because end done.read_failed done.told.write_failed read write; status = status; says = says }
 
   pub ran_on : (stores : Result (Vec S Global) NoStores) (opened : Vec S Global) → stores ≡ Ok opened → RunsOver store sizes opened.items done → RunsOn store sizes stores done
   ran_on stores opened is runs = subst (λ (s : Result (Vec S Global) NoStores). RunsOn store sizes s done) (sym is) runs
@@ -130,12 +130,12 @@ module _ {F S J B : Type 0} (parts : Parts F S J) (sizes : ZoneSizes) (now : B �
 
   over_forks : (stores : Result (Vec S Global) NoStores) → map now journals ≡ [] → IsOpened (map now forks) openings (ArePlain parts.store parts.plain (map now forks) openings) stores → RunsOn parts.store sizes stores done → Ran
   over_forks (Ok stores) none are runs = over_plain stores.items none are runs
-  over_forks (Err why.CannotOpen) none cant runs = unopened (cant_widen (map now forks) (map now journals) openings cant) runs
+  over_forks (Err (why.CannotOpen path reason)) none cant runs = unopened path.now reason (cant_widen (map now forks) (map now journals) openings path.now reason cant) runs
   over_forks (Err why.HostFull) none some runs = no_stores (some_widen (map now forks) (map now journals) openings some) runs
 
   over_pairs : (stores : Result (Vec J Global) NoStores) → map now journals ≢ [] → IsOpened (map now forks ++ map now journals) openings (AreJournalled parts.pairs (map now forks ++ map now journals) openings) stores → RunsOn parts.with_journal sizes stores done → Ran
   over_pairs (Ok stores) some are runs = over_journalled stores.items some are runs
-  over_pairs (Err why.CannotOpen) some cant runs = unopened cant runs
+  over_pairs (Err (why.CannotOpen path reason)) some cant runs = unopened path.now reason cant runs
   over_pairs (Err why.HostFull) some few runs = no_stores few runs
 
   -- a run over forks alone

@@ -1,23 +1,24 @@
 -- The files of a run, opened one after the other, and their stores.
-use Rattle.std.proofs.Common.{◌≡◌, ◌≢◌, Result, Ok, Err, Vec, Global, ◌+◌, ◌<◌, ◌≤◌, arith, zero, suc, ℕ, List, [], ◌∷◌, ◌++◌, Option, Some, None, take, drop, length, get_or, map, refl, ap, sym, subst, ◌∙◌, append_assoc, length-append}
+use Rattle.std.proofs.Common.{◌≡◌, ◌≢◌, Result, Ok, Err, Vec, Global, ◌+◌, ◌<◌, ◌≤◌, arith, zero, suc, ℕ, List, [], ◌∷◌, ◌++◌, take, drop, length, get_or, map, refl, ap, sym, subst, ◌∙◌, append_assoc, length-append}
 use Rattle.std.proofs.lemmas.List.{append-nil, length-map, take_all, take_more, map-append, take-append-drop}
 use Rattle.std.specs.Prelude.{IfOk, IfErr, ⊤}
 use Rattle.clap.specs.Words.{Text}
 use Rattle.fork_disk.specs.declared.store.ForkStore.{Ghosts}
+use Rattle.macheap.specs.declared.opened.NotOpened.{NotOpened}
 use Rattle.macheap.specs.declared.stores.NoStores.{NoStores}
 use Rattle.macheap.specs.declared.stores.NoStores.TheVariants.{CannotOpen, HostFull}
 use Rattle.macheap.specs.Stores.{AreOn, ArePaired, ArePlain, Asked, IsOpened, OneCantBeOpened, Opening, SomeOpened}
 
 -- one more file is asked for
-pub asked_next : {F : Type 0} (paths : List Text) (files : List (Option F)) (openings : List (Opening F)) (path : Text) (file : Option F) → Asked paths files openings → Asked (paths ++ path ∷ []) (files ++ file ∷ []) (openings ++ (path, file) ∷ [])
+pub asked_next : {F : Type 0} (paths : List Text) (files : List (Result F NotOpened)) (openings : List (Opening F)) (path : Text) (file : Result F NotOpened) → Asked paths files openings → Asked (paths ++ path ∷ []) (files ++ file ∷ []) (openings ++ (path, file) ∷ [])
 asked_next {F = F} paths files openings path file asked = record {
   paths_are = map-append (λ (o : Opening F). o.0) openings ((path, file) ∷ []) ∙ ap (λ (t : List Text). t ++ path ∷ []) asked.paths_are;
-  files_are = map-append (λ (o : Opening F). o.1) openings ((path, file) ∷ []) ∙ ap (λ (t : List (Option F)). t ++ file ∷ []) asked.files_are;
+  files_are = map-append (λ (o : Opening F). o.1) openings ((path, file) ∷ []) ∙ ap (λ (t : List (Result F NotOpened)). t ++ file ∷ []) asked.files_are;
 }
 
 -- a run whose first files can't be opened, or for which there is no memory, is one whose files can't be
-pub cant_widen : {F : Type 0} (paths more : List Text) (openings : List (Opening F)) → OneCantBeOpened paths openings → OneCantBeOpened (paths ++ more) openings
-cant_widen paths more openings (first, others, files, whole, asked) = (first, others ++ more, files, ap (λ (t : List Text). t ++ more) whole ∙ append_assoc first others more, asked)
+pub cant_widen : {F : Type 0} (paths more : List Text) (openings : List (Opening F)) (path : Text) (why : NotOpened) → OneCantBeOpened paths openings path why → OneCantBeOpened (paths ++ more) openings path why
+cant_widen paths more openings path why (first, others, files, whole, asked) = (first, others ++ more, files, ap (λ (t : List Text). t ++ more) whole ∙ append_assoc (first ++ path ∷ []) others more, asked)
 
 pub some_widen : {F : Type 0} (paths more : List Text) (openings : List (Opening F)) → SomeOpened paths openings → SomeOpened (paths ++ more) openings
 some_widen paths more openings (first, others, files, whole, asked) = (first, others ++ more, files, ap (λ (t : List Text). t ++ more) whole ∙ append_assoc first others more, asked)
@@ -38,41 +39,40 @@ module _ {B : Type 0} (before : List Text) (names : List B) (now : B → Text) w
 
 module _ {F B : Type 0} (before : List Text) (names : List B) (now : B → Text) where
   -- one more file is opened
-  pub asked_more : (at : ℕ) (name : B) (files : List F) (file : F) (openings : List (Opening F)) → at < length names → name ≡ get_or names at name → Asked (before ++ map now (take at names)) (map Some files) openings
-      → Asked (before ++ map now (take (at + 1) names)) (map Some (files ++ file ∷ [])) (openings ++ (now name, Some file) ∷ [])
+  pub asked_more : (at : ℕ) (name : B) (files : List F) (file : F) (openings : List (Opening F)) → at < length names → name ≡ get_or names at name → Asked (before ++ map now (take at names)) (map Ok files) openings
+      → Asked (before ++ map now (take (at + 1) names)) (map Ok (files ++ file ∷ [])) (openings ++ (now name, Ok file) ∷ [])
   asked_more at name files file openings lt is asked =
-      subst (λ (fs : List (Option F)). Asked (before ++ map now (take (at + 1) names)) fs (openings ++ (now name, Some file) ∷ [])) (sym (map-append Some files (file ∷ [])))
-      (subst (λ (ps : List Text). Asked ps (map Some files ++ Some file ∷ []) (openings ++ (now name, Some file) ∷ [])) (sym (next_paths before names now at name lt is))
-      (asked_next (before ++ map now (take at names)) (map Some files) openings (now name) (Some file) asked))
+      subst (λ (fs : List (Result F NotOpened)). Asked (before ++ map now (take (at + 1) names)) fs (openings ++ (now name, Ok file) ∷ [])) (sym (map-append Ok files (file ∷ [])))
+      (subst (λ (ps : List Text). Asked ps (map Ok files ++ Ok file ∷ []) (openings ++ (now name, Ok file) ∷ [])) (sym (next_paths before names now at name lt is))
+      (asked_next (before ++ map now (take at names)) (map Ok files) openings (now name) (Ok file) asked))
 
   -- the next one can't be opened
-  pub cant_next : (at : ℕ) (name : B) (files : List F) (openings : List (Opening F)) → at < length names → name ≡ get_or names at name → Asked (before ++ map now (take at names)) (map Some files) openings
-      → OneCantBeOpened (before ++ map now names) (openings ++ (now name, None) ∷ [])
-  cant_next at name files openings lt is asked = (
-    before ++ map now (take (at + 1) names),
+  pub cant_next : (at : ℕ) (name : B) (why : NotOpened) (files : List F) (openings : List (Opening F)) → at < length names → name ≡ get_or names at name → Asked (before ++ map now (take at names)) (map Ok files) openings
+      → OneCantBeOpened (before ++ map now names) (openings ++ (now name, Err why) ∷ []) (now name) why
+  cant_next at name why files openings lt is asked = (
+    before ++ map now (take at names),
     map now (drop (at + 1) names),
     files,
-    whole_paths before names now (at + 1),
-    subst (λ (ps : List Text). Asked ps (map Some files ++ None ∷ []) (openings ++ (now name, None) ∷ [])) (sym (next_paths before names now at name lt is))
-        (asked_next (before ++ map now (take at names)) (map Some files) openings (now name) None asked),
+    whole_paths before names now (at + 1) ∙ ap (λ (ps : List Text). ps ++ map now (drop (at + 1) names)) (next_paths before names now at name lt is),
+    asked_next (before ++ map now (take at names)) (map Ok files) openings (now name) (Err why) asked,
   )
 
   -- some first ones were opened
-  pub some_first : (at : ℕ) (files : List F) (openings : List (Opening F)) → Asked (before ++ map now (take at names)) (map Some files) openings → SomeOpened (before ++ map now names) openings
+  pub some_first : (at : ℕ) (files : List F) (openings : List (Opening F)) → Asked (before ++ map now (take at names)) (map Ok files) openings → SomeOpened (before ++ map now names) openings
   some_first at files openings asked = (before ++ map now (take at names), map now (drop at names), files, whole_paths before names now at, asked)
 
   -- and all
-  pub all_asked : (at : ℕ) (files : List F) (openings : List (Opening F)) → length names ≤ at → Asked (before ++ map now (take at names)) (map Some files) openings → Asked (before ++ map now names) (map Some files) openings
-  all_asked at files openings le asked = subst (λ (l : List B). Asked (before ++ map now l) (map Some files) openings) (take_all at names le) asked
+  pub all_asked : (at : ℕ) (files : List F) (openings : List (Opening F)) → length names ≤ at → Asked (before ++ map now (take at names)) (map Ok files) openings → Asked (before ++ map now names) (map Ok files) openings
+  all_asked at files openings le asked = subst (λ (l : List B). Asked (before ++ map now l) (map Ok files) openings) (take_all at names le) asked
 
   -- none of these yet
-  pub asked_none : (files : List F) (openings : List (Opening F)) → Asked before (map Some files) openings → Asked (before ++ map now (take 0 names)) (map Some (files ++ [])) openings
-  asked_none files openings asked = subst (λ (ps : List Text). Asked ps (map Some (files ++ [])) openings) (sym (append-nil before)) (subst (λ (fs : List F). Asked before (map Some fs) openings) (sym (append-nil files)) asked)
+  pub asked_none : (files : List F) (openings : List (Opening F)) → Asked before (map Ok files) openings → Asked (before ++ map now (take 0 names)) (map Ok (files ++ [])) openings
+  asked_none files openings asked = subst (λ (ps : List Text). Asked ps (map Ok (files ++ [])) openings) (sym (append-nil before)) (subst (λ (fs : List F). Asked before (map Ok fs) openings) (sym (append-nil files)) asked)
 
 -- as many files as paths
-pub asked_length : {F B : Type 0} (names : List B) (now : B → Text) (files : List F) (openings : List (Opening F)) → Asked (map now names) (map Some files) openings → length files ≡ length names
+pub asked_length : {F B : Type 0} (names : List B) (now : B → Text) (files : List F) (openings : List (Opening F)) → Asked (map now names) (map Ok files) openings → length files ≡ length names
 asked_length names now files openings asked =
-    sym (length-map files Some) ∙ ap length (sym asked.files_are) ∙ length-map openings (λ o. o.1)
+    sym (length-map files Ok) ∙ ap length (sym asked.files_are) ∙ length-map openings (λ o. o.1)
     ∙ sym (length-map openings (λ o. o.0)) ∙ ap length asked.paths_are ∙ length-map names now
 
 -- what stands at an index that is there
@@ -107,13 +107,13 @@ ArePaired-push pairs from number (f ∷ forks) (j ∷ journals) [] fork journal 
 
 -- why files weren't opened is why more of them weren't
 pub fault_widen : {F : Type 0} (paths more : List Text) (openings : List (Opening F)) (fault : NoStores) → IsOpened {T = ℕ} paths openings (λ made. ⊤) (Err fault) → IsOpened {T = ℕ} (paths ++ more) openings (λ made. ⊤) (Err fault)
-fault_widen paths more openings CannotOpen cant = cant_widen paths more openings cant
+fault_widen paths more openings (CannotOpen path why) cant = cant_widen paths more openings path.now why cant
 fault_widen paths more openings HostFull some = some_widen paths more openings some
 
 module _ {F S : Type 0} (store : Ghosts S) (plain : ℕ → F → S → Type 0) where
   one_opened : (result : Result (Vec S Global) NoStores) → IfOk result (λ stores. ArePlain store plain [] [] stores.items) → IfErr result (λ fault. fault ≡ HostFull) → IsOpened {F = F} [] [] (ArePlain store plain [] []) result
   one_opened (Ok stores) are full = are
-  one_opened (Err CannotOpen) are full = cc
+  one_opened (Err (CannotOpen path why)) are full = cc
   one_opened (Err HostFull) are full = ([], [], [], refl, record { paths_are = refl; files_are = refl })
 
   -- no path, and so a store in memory
@@ -121,9 +121,9 @@ module _ {F S : Type 0} (store : Ghosts S) (plain : ℕ → F → S → Type 0) 
   none_given paths none result are full = subst (λ (ps : List Text). IsOpened {F = F} ps [] (ArePlain store plain ps []) result) (sym none) (one_opened result are full)
 
   -- the stores of the files that were opened
-  pub plain_opened : (paths : List Text) (files : List F) (openings : List (Opening F)) → paths ≢ [] → Asked paths (map Some files) openings → (result : Result (Vec S Global) NoStores) → IfOk result (λ stores. AreOn plain 0 files stores.items) → IfErr result (λ fault. fault ≡ HostFull)
+  pub plain_opened : (paths : List Text) (files : List F) (openings : List (Opening F)) → paths ≢ [] → Asked paths (map Ok files) openings → (result : Result (Vec S Global) NoStores) → IfOk result (λ stores. AreOn plain 0 files stores.items) → IfErr result (λ fault. fault ≡ HostFull)
       → IsOpened paths openings (ArePlain store plain paths openings) result
   plain_opened [] files openings some asked result are full = absurd (some refl)
   plain_opened (path ∷ paths) files openings some asked (Ok stores) are full = (files, asked, are)
-  plain_opened (path ∷ paths) files openings some asked (Err CannotOpen) are full = cc
+  plain_opened (path ∷ paths) files openings some asked (Err (CannotOpen that why)) are full = cc
   plain_opened (path ∷ paths) files openings some asked (Err HostFull) are full = (path ∷ paths, [], files, sym (append-nil (path ∷ paths)), asked)

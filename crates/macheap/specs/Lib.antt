@@ -1,5 +1,6 @@
 pub mod Files
 pub mod Disks
+pub mod Opening
 pub mod Stores
 pub mod Options
 pub mod Asking

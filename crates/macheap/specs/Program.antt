@@ -16,6 +16,8 @@ use Rattle.macheap.specs.declared.asked.Asked.TheVariants.{Run, Help}
 use Rattle.macheap.specs.declared.asked.NotAsked.{NotAsked}
 use Rattle.macheap.specs.declared.asked.NotAsked.TheVariants.{HostFull}
 use Rattle.macheap.specs.Asking.{AsksForRun, AsksForHelp, DontMatch, NamesTooMany, JournalsDontFit, GivesNoNumber, GivesNoMode, GivesNoZone}
+use Rattle.macheap.specs.declared.opened.NotOpened.{NotOpened}
+use Rattle.macheap.specs.Opening.{reason}
 use Rattle.macheap.specs.declared.stores.NoStores.{NoStores}
 use Rattle.macheap.specs.declared.stores.NoStores.TheVariants as why
 use Rattle.macheap.specs.Stores.{Opening, ArePlain, AreJournalled, OneCantBeOpened, SomeOpened}
@@ -26,7 +28,7 @@ Because ReadFault read_failed write_failed = read_failed
 Because WriteFault read_failed write_failed = write_failed
 Because Finished read_failed write_failed = ⊤
 Because NoMemory read_failed write_failed = ⊤
-Because (ScriptFault line) read_failed write_failed = ⊤
+Because (ScriptFault line wrong) read_failed write_failed = ⊤
 
 -- What the program told: its status, what it wrote to its output and to its messages, that it made no call on the latter, and that a write
 -- of the one or the other failed.
@@ -108,20 +110,28 @@ abbrev pub Refuses : NotAsked → Told → Type 0
 Refuses HostFull told = TellsNoMemory told
 Refuses other told = TellsBadWords told
 
--- what is told where a file can't be opened
-abbrev pub cannot_open_text : List ℕ
-cannot_open_text = codes "cannot open\n"
+-- what is told where the file of this path can't be opened for this reason
+abbrev pub cannot_open_text : Text → NotOpened → List ℕ
+cannot_open_text path reason_of = codes "cannot open " ++ path ++ reason reason_of
 
--- A message tells that a file can't be opened, and nothing was written.
-pub record TellsCannotOpen (told : Told) : Type 0 where
+-- A message tells that this file can't be opened, and why, and nothing was written.
+pub record TellsCannotOpen (path : Text) (reason_of : NotOpened) (told : Told) : Type 0 where
   pub status : told.status ≡ 1
   pub unwritten : told.written ≡ []
-  pub says : Wrote cannot_open_text told.tell_failed told.said
+  pub says : Wrote (cannot_open_text path reason_of) told.tell_failed told.said
 
 -- There are no stores: a file can't be opened, or the host has no memory.
 abbrev pub NoStoresEnd : NoStores → Told → Type 0
-NoStoresEnd why.CannotOpen told = TellsCannotOpen told
+NoStoresEnd (why.CannotOpen path reason_of) told = TellsCannotOpen path.now reason_of told
 NoStoresEnd why.HostFull told = TellsNoMemory told
+
+-- What is said where a run ended so: some text on the first line that is none, and else nothing.
+abbrev pub SaysWhy : RunEnd → Type 0 → Type 0 → List ℕ → Type 0
+SaysWhy (ScriptFault line wrong) silent failed said = (text : List ℕ) × (text ≢ []) × Wrote text failed said
+SaysWhy Finished silent failed said = silent
+SaysWhy NoMemory silent failed said = silent
+SaysWhy ReadFault silent failed said = silent
+SaysWhy WriteFault silent failed said = silent
 
 -- A run on a zone of these sizes and these stores ended so.
 pub record RunsOver {S : Type 0} (store : Ghosts S) (sizes : ZoneSizes) (stores : List S) (done : Done) : Type 0 where
@@ -130,7 +140,7 @@ pub record RunsOver {S : Type 0} (store : Ghosts S) (sizes : ZoneSizes) (stores 
   pub ends : Ends store (start_of sizes stores) done.input end done.told.written left
   pub because : Because end done.read_failed done.told.write_failed
   pub status : done.told.status ≡ status_of end
-  pub silent : done.told.silent
+  pub says : SaysWhy end done.told.silent done.told.tell_failed done.told.said
 
 -- A run on a zone of these sizes and the stores that opening them gave, if any.
 abbrev pub RunsOn : {S : Type 0} → Ghosts S → ZoneSizes → Result (Vec S Global) NoStores → Done → Type 0
@@ -149,7 +159,7 @@ pub record Parts (F S J : Type 0) : Type 1 where
 pub data RunEnds {F S J : Type 0} (parts : Parts F S J) (sizes : ZoneSizes) (forks journals : List Text) (openings : List (Opening F)) (done : Done) : Type 0 where
   over_plain : (stores : List S) → journals ≡ [] → ArePlain parts.store parts.plain forks openings stores → RunsOver parts.store sizes stores done → RunEnds parts sizes forks journals openings done
   over_journalled : (stores : List J) → journals ≢ [] → AreJournalled parts.pairs (forks ++ journals) openings stores → RunsOver parts.with_journal sizes stores done → RunEnds parts sizes forks journals openings done
-  unopened : OneCantBeOpened (forks ++ journals) openings → TellsCannotOpen done.told → RunEnds parts sizes forks journals openings done
+  unopened : (path : Text) (reason_of : NotOpened) → OneCantBeOpened (forks ++ journals) openings path reason_of → TellsCannotOpen path reason_of done.told → RunEnds parts sizes forks journals openings done
   no_stores : SomeOpened (forks ++ journals) openings → TellsNoMemory done.told → RunEnds parts sizes forks journals openings done
 
 -- no file was asked for, and nothing was read

@@ -1,27 +1,28 @@
 -- The stores of a run, and the files that are opened for them.
-use Rattle.std.specs.Prelude.{◌≡◌, ℕ, suc, ⊤, List, [], ◌∷◌, ◌++◌, Option, Some, None, Result, Ok, Err, Vec, map}
+use Rattle.std.specs.Prelude.{◌≡◌, ℕ, suc, ⊤, List, [], ◌∷◌, ◌++◌, Result, Ok, Err, Vec, map}
 use Rattle.std.specs.Global.{Global}
 use Rattle.clap.specs.Words.{Text}
 use Rattle.fork_disk.specs.declared.store.ForkStore.{Ghosts}
+use Rattle.macheap.specs.declared.opened.NotOpened.{NotOpened}
 use Rattle.macheap.specs.declared.stores.NoStores.{NoStores}
 use Rattle.macheap.specs.declared.stores.NoStores.TheVariants.{CannotOpen, HostFull}
 
--- a file that was asked for: its path, and the file, or none where it can't be opened
+-- a file that was asked for: its path, and the file, or why it can't be opened
 abbrev pub Opening : Type 0 → Type 0
-Opening F = Text × Option F
+Opening F = Text × Result F NotOpened
 
 -- the files of these paths were asked for, each once and in order, and this is what each gave
-pub record Asked {F : Type 0} (paths : List Text) (files : List (Option F)) (openings : List (Opening F)) : Type 0 where
+pub record Asked {F : Type 0} (paths : List Text) (files : List (Result F NotOpened)) (openings : List (Opening F)) : Type 0 where
   pub paths_are : map (λ opening. opening.0) openings ≡ paths
   pub files_are : map (λ opening. opening.1) openings ≡ files
 
--- some first ones of these paths were opened, and the next one can't be
-abbrev pub OneCantBeOpened : {F : Type 0} → List Text → List (Opening F) → Type 0
-OneCantBeOpened {F = F} paths openings = (first : List Text) × (others : List Text) × (files : List F) × (paths ≡ first ++ others) × Asked first (map Some files ++ None ∷ []) openings
+-- some first ones of these paths were opened, and the next one, which is this, can't be for this reason
+abbrev pub OneCantBeOpened : {F : Type 0} → List Text → List (Opening F) → Text → NotOpened → Type 0
+OneCantBeOpened {F = F} paths openings path why = (first : List Text) × (others : List Text) × (files : List F) × (paths ≡ (first ++ path ∷ []) ++ others) × Asked (first ++ path ∷ []) (map Ok files ++ Err why ∷ []) openings
 
 -- some first ones of these paths were opened
 abbrev pub SomeOpened : {F : Type 0} → List Text → List (Opening F) → Type 0
-SomeOpened {F = F} paths openings = (first : List Text) × (others : List Text) × (files : List F) × (paths ≡ first ++ others) × Asked first (map Some files) openings
+SomeOpened {F = F} paths openings = (first : List Text) × (others : List Text) × (files : List F) × (paths ≡ first ++ others) × Asked first (map Ok files) openings
 
 -- a store whose device is honest, and whose fork has no bytes
 pub record IsEmpty {S : Type 0} (store : Ghosts S) (s : S) : Type 0 where
@@ -39,7 +40,7 @@ AreOn plain from (file ∷ files) [] = ⊥
 -- the stores of a run over the forks in the files of these paths: where there are none, an empty one
 abbrev pub ArePlain : {F S : Type 0} → Ghosts S → (ℕ → F → S → Type 0) → List Text → List (Opening F) → List S → Type 0
 ArePlain {S = S} store plain [] openings stores = (s : S) × (stores ≡ s ∷ []) × IsEmpty store s × (openings ≡ [])
-ArePlain {F = F} store plain (path ∷ paths) openings stores = (files : List F) × Asked (path ∷ paths) (map Some files) openings × AreOn plain 0 files stores
+ArePlain {F = F} store plain (path ∷ paths) openings stores = (files : List F) × Asked (path ∷ paths) (map Ok files) openings × AreOn plain 0 files stores
 
 -- the stores of the forks in these files, each with a journal in one of those, numbered as above
 abbrev pub ArePaired : {F J : Type 0} → (ℕ → F → F → J → Type 0) → ℕ → List F → List F → List J → Type 0
@@ -49,10 +50,10 @@ ArePaired pairs from _ _ _ = ⊥
 
 -- the stores of a run over the forks and the journals in the files of these paths: all forks are opened first
 abbrev pub AreJournalled : {F J : Type 0} → (ℕ → F → F → J → Type 0) → List Text → List (Opening F) → List J → Type 0
-AreJournalled {F = F} pairs paths openings stores = (forks : List F) × (journals : List F) × Asked paths (map Some (forks ++ journals)) openings × ArePaired pairs 0 forks journals stores
+AreJournalled {F = F} pairs paths openings stores = (forks : List F) × (journals : List F) × Asked paths (map Ok (forks ++ journals)) openings × ArePaired pairs 0 forks journals stores
 
 -- What is made of the files of these paths, or why it isn't: one of them can't be opened, or the host has no memory.
 abbrev pub IsOpened : {F T : Type 0} → List Text → List (Opening F) → (List T → Type 0) → Result (Vec T Global) NoStores → Type 0
 IsOpened paths openings AreMade (Ok made) = AreMade made.items
-IsOpened paths openings AreMade (Err CannotOpen) = OneCantBeOpened paths openings
+IsOpened paths openings AreMade (Err (CannotOpen path why)) = OneCantBeOpened paths openings path.now why
 IsOpened paths openings AreMade (Err HostFull) = SomeOpened paths openings

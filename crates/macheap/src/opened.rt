@@ -4,6 +4,7 @@ ghost use Rattle.std.specs.Prelude.{◌≡◌, ◌++◌, ◌∷◌, [], false};
 
 use fork_disk::{HostFile, Record};
 use std::collections::LinkedList;
+use std::io::ErrorKind;
 
 /// A file of the host as it was opened: no call on it has failed so far, and no sync of `settle`.
 #[derive(Drop)]
@@ -13,11 +14,57 @@ pub struct NewFile {
     ghost unspent: { file.is_spent ≡ false },
 }
 
+/// Why the host doesn't open a file.
+#[derive(Clone, Copy)]
+pub enum NotOpened {
+    /// There is no such folder.
+    NoFolder,
+    /// It is a folder.
+    Folder,
+    /// It may not be read, or not be made.
+    Denied,
+    /// It is missing where nothing can be made.
+    ReadOnly,
+    /// The host has another reason.
+    Other,
+}
+
+impl NotOpened {
+    ghost use Rattle.std.specs.Prelude.{◌≡◌};
+    ghost use Rattle.macheap.specs.Opening.{reason};
+
+    /// What an error of this kind says.
+    pub fn because(kind: ErrorKind) -> NotOpened {
+        match kind {
+            ErrorKind::NotFound | ErrorKind::NotADirectory => NotOpened::NoFolder,
+            ErrorKind::IsADirectory => NotOpened::Folder,
+            ErrorKind::PermissionDenied => NotOpened::Denied,
+            ErrorKind::ReadOnlyFilesystem => NotOpened::ReadOnly,
+            _ => NotOpened::Other,
+        }
+    }
+
+    /// The reason, and what to do, behind the name of the file.
+    pub fn reason(self) -> &'static [u8]
+        ensures { result.now ≡ reason self }
+    {
+        match self {
+            NotOpened::NoFolder => b": there is no such folder; make it first\n",
+            NotOpened::Folder => b": it is a folder; name a file\n",
+            NotOpened::Denied =>
+                b": permission denied; ask its owner for it, or name another file\n",
+            NotOpened::ReadOnly =>
+                b": it is missing, and nothing can be made there; name another file\n",
+            NotOpened::Other => b": the system refuses it; name another file\n",
+        }
+    }
+}
+
 /// The paths that were asked for, with what each gave, the oldest first.
-pub type OpenedFiles = Record<(LinkedList<u8>, Option<NewFile>)>;
+pub type OpenedFiles = Record<(LinkedList<u8>, Result<NewFile, NotOpened>)>;
 
 /// Notes that a path was asked for, and what it gave.
-pub fn note(opened: &mut OpenedFiles, path: &str, file: &Option<NewFile>)
+pub fn note(opened: &mut OpenedFiles, path: &str, file: &Result<NewFile, NotOpened>)
     ensures { opened.new.events ≡ opened.old.events ++ (path.now, file.now) ∷ [] }
 {
     *opened = Record::of_events_beside(opened, &path, file);

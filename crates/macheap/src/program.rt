@@ -3,18 +3,22 @@
 ghost use Rattle.std.specs.Prelude.{◌≡◌, ◌≢◌, ◌≤◌, ◌++◌, [], ℕ, List, IfOk, length, map};
 ghost use Rattle.res_files.specs.Standing.{most_files};
 ghost use Rattle.script_run.specs.Counting.{RoseByOne, Took};
-ghost use Rattle.macheap.specs.Program.{Answers, Did, HelpEnds, NoStoresEnd, ProgramEnds, Refuses, RunEnds, RunsOn, Tells, Wrote, lacks_memory};
+ghost use Rattle.macheap.specs.Program.{Answers, Did, HelpEnds, NoStoresEnd, ProgramEnds, Refuses, RunEnds, RunsOn, SaysWhy, Tells, Wrote, cannot_open_text, lacks_memory};
 ghost use Rattle.macheap.specs.Stores.{Opening};
 
 use crate::asked::{Asked, NotAsked, asked_by};
 use crate::files::Files;
+use crate::opened::NotOpened;
 use crate::stores::{NoStores, Opens, journalled_stores, plain_stores};
 use fork_disk::store::ForkStore;
 use mac_base::zone_spec::ZoneSpec;
 use script_run::{Counted, RunEnd, run, status, tell_no_memory, write_whole};
+use script_text::Wrong;
 use std::alloc::Global;
 use std::convert::AsStr;
+use std::fmt::Display;
 use std::io::{Read, Write};
+use thiserror::Error;
 
 /// The exit status where the words of the command line, or the sizes that they give, are bad.
 pub const BAD_WORDS: u8 = 2;
@@ -25,6 +29,14 @@ const CANNOT_OPEN: u8 = 1;
 /// What the help text begins with.
 const ABOUT: &[u8] =
     b"Runs the script of standard input on a new heap zone, and writes each call's reply\n\n";
+
+/// What is wrong with the first line of a script that is none.
+#[derive(Debug, Drop, Error)]
+#[error("error: line {line}: {wrong}")]
+struct WrongLine {
+    line: u32,
+    wrong: Wrong,
+}
 
 /// Does what the words ask for, of which the first is the program's name, and gives the exit status. A run reads its
 /// script from `input` and writes to `output`, over the stores of the files that `opener` opens; what is wrong with the words or
@@ -126,13 +138,13 @@ fn run_over<
 fn run_on<S: ForkStore + Drop, R: Read, W: Write, M: Write>(
     alloc: Global,
     spec: ZoneSpec,
-    stores: Result<Vec<S>, NoStores>,
+    stores: Result<Vec<S>, NoStores<'_>>,
     input: &mut Counted<R>,
     output: &mut Counted<W>,
     messages: &mut Counted<M>,
 ) -> u8
     requires { IfOk stores (λ stores. length stores.items ≤ most_files) }
-    ensures ends { Did R.remaining W.contents M.contents input.old input.new output.old output.new messages.old messages.new result (RunsOn S.ForkStore spec stores) }
+    ensures ends { Did R.remaining W.contents M.contents input.old input.new output.old output.new messages.old messages.new result (RunsOn S.ForkStore spec stores.entry) }
     ensures no_read_failed { result ≢ 1 → input.new.failures ≡ input.old.failures }
     ensures no_write_failed { result ≢ 1 → output.new.failures ≡ output.old.failures }
 {
@@ -142,25 +154,50 @@ fn run_on<S: ForkStore + Drop, R: Read, W: Write, M: Write>(
     };
     let (end, stores) = run(alloc, input, output, spec, stores);
     drop(stores);
+    tell_wrong(alloc, end, messages);
     status(end)
+}
+
+/// Writes what is wrong with the first line that is none, where that ended a run.
+fn tell_wrong<M: Write>(alloc: Global, end: RunEnd, messages: &mut Counted<M>)
+    ensures { (said : List ℕ) × Took M.contents messages.old said messages.new
+        × SaysWhy end (messages.new ≡ messages.old) (RoseByOne messages.old.failures messages.new.failures) said }
+{
+    if let RunEnd::ScriptFault(line, wrong) = end {
+        tell(alloc, &WrongLine { line, wrong }, messages);
+    }
 }
 
 /// Says why there are no stores, and gives the exit status.
 fn tell_no_stores<W: Write, M: Write>(
-    fault: NoStores,
+    fault: NoStores<'_>,
     output: &mut Counted<W>,
     messages: &mut Counted<M>,
 ) -> u8
-    ensures ends { Tells W.contents M.contents output.old output.new messages.old messages.new result (NoStoresEnd fault) }
+    ensures ends { Tells W.contents M.contents output.old output.new messages.old messages.new result (NoStoresEnd fault.entry) }
     ensures failed { result ≡ 1 }
 {
     match fault {
         NoStores::HostFull => status(tell_no_memory(output)),
-        NoStores::CannotOpen => {
-            let _ = write_whole(messages, b"cannot open\n");
+        NoStores::CannotOpen(path, why) => {
+            tell_unopened(path, why, messages);
             CANNOT_OPEN
         }
     }
+}
+
+/// Writes which file can't be opened, and why.
+fn tell_unopened<M: Write>(path: &str, why: NotOpened, messages: &mut Counted<M>)
+    ensures { (said : List ℕ) × Took M.contents messages.old said messages.new
+        × Wrote (cannot_open_text path.now why) (RoseByOne messages.old.failures messages.new.failures) said }
+{
+    if !write_whole(messages, b"cannot open ") {
+        return;
+    }
+    if !write_whole(messages, path.as_bytes()) {
+        return;
+    }
+    let _ = write_whole(messages, why.reason());
 }
 
 /// Says why the words ask for nothing, and gives the exit status.
@@ -176,7 +213,7 @@ fn refuse<W: Write, M: Write>(
     if lacks_memory(error) {
         return status(tell_no_memory(output));
     }
-    tell_error(alloc, error, messages);
+    tell(alloc, error, messages);
     BAD_WORDS
 }
 
@@ -190,13 +227,13 @@ fn lacks_memory(error: &NotAsked) -> bool
     }
 }
 
-/// Writes what is wrong with the words.
-fn tell_error<M: Write>(alloc: Global, error: &NotAsked, messages: &mut Counted<M>)
+/// Writes what is wrong with the words or a line.
+fn tell<E: Display, M: Write>(alloc: Global, error: &E, messages: &mut Counted<M>)
     ensures { (text : List ℕ) × (text ≢ []) × (said : List ℕ) × Took M.contents messages.old said messages.new
         × Wrote text (RoseByOne messages.old.failures messages.new.failures) said }
 {
     let Ok(text) = format!(in alloc; "{error}") else {
-        let _ = write_whole(messages, b"error: the words are bad\n");
+        let _ = write_whole(messages, b"error: the words or a line are bad\n");
         return;
     };
     if !write_whole(messages, text.as_bytes()) {

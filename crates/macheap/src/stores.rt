@@ -1,11 +1,12 @@
 //! The stores of a run.
 
-ghost use Rattle.std.specs.Prelude.{◌≡◌, ◌≤◌, ◌++◌, ◌∷◌, [], List, ℕ, Option, Some, length, map, IfOk, IfErr};
+ghost use Rattle.std.specs.Prelude.{◌≡◌, ◌≤◌, ◌++◌, ◌∷◌, [], List, ℕ, Result, Ok, length, map, IfOk, IfErr};
+ghost use Rattle.macheap.specs.declared.opened.NotOpened.{NotOpened};
 ghost use Rattle.res_files.specs.Standing.{most_files};
 ghost use Rattle.macheap.specs.Stores.{AreJournalled, AreOn, ArePlain, Asked, IsOpened, Opening};
 
 use crate::disk::Disk;
-use crate::opened::{NewFile, OpenedFiles, note};
+use crate::opened::{NewFile, NotOpened, OpenedFiles, note};
 use fork_disk::store::{ForkStore, PlainStore};
 use fork_disk::{FileDisk, HostFile, MemDisk, Record, World};
 use fork_journal::{FilePair, Journal, PairWorld};
@@ -14,8 +15,8 @@ use std::marker::PhantomData;
 
 /// What opens the files of a run, and makes stores of them: `S` of a fork alone, and `J` of a fork with its journal.
 pub trait Opens<F, S: ForkStore, J: ForkStore> {
-    /// The files that were asked for so far, in order: the path of each, and the file, or none where it can't be opened.
-    ghost openings: { Self → List (List ℕ × Option F) };
+    /// The files that were asked for so far, in order: the path of each, and the file, or why it can't be opened.
+    ghost openings: { Self → List (List ℕ × Result F NotOpened) };
 
     /// What is a store of this number of a fork, which is this file.
     ghost plain: { ℕ → F → S → Type 0 };
@@ -23,8 +24,8 @@ pub trait Opens<F, S: ForkStore, J: ForkStore> {
     /// What is a store of this number of a fork and its journal, which are these files.
     ghost pairs: { ℕ → F → F → J → Type 0 };
 
-    /// The file of a path, which is made where it is missing. None where it can't be opened.
-    fn open(&mut self, path: &str) -> Option<F>
+    /// The file of a path, which is made where it is missing, or why it can't be opened.
+    fn open(&mut self, path: &str) -> Result<F, NotOpened>
         ensures { openings self.new ≡ openings self.old ++ (path.now, result) ∷ [] };
 
     /// A store in memory, without bytes.
@@ -77,10 +78,10 @@ impl<W: World, V: PairWorld> Opens<NewFile, PlainStore<Disk<W>>, Journal<FilePai
     ghost pairs = { λ number fork journal store. (store.pair.fork ≡ record fork.file { which = 0 })
         × (store.pair.journal ≡ record journal.file { which = 1 }) × (store.pair.number ≡ number) × (store.pair.log.events ≡ []) };
 
-    fn open(&mut self, path: &str) -> Option<NewFile> {
+    fn open(&mut self, path: &str) -> Result<NewFile, NotOpened> {
         let file = match HostFile::open(self.runtime, path) {
-            Ok(file) => Some(NewFile { file }),
-            Err(_) => None,
+            Ok(file) => Ok(NewFile { file }),
+            Err(error) => Err(NotOpened::because(error.kind())),
         };
         note(&mut self.opened, path, &file);
         file
@@ -108,41 +109,41 @@ impl<W: World, V: PairWorld> Opens<NewFile, PlainStore<Disk<W>>, Journal<FilePai
 
 /// Why there are no stores.
 #[derive(Clone, Copy)]
-pub enum NoStores {
+pub enum NoStores<'a> {
     /// The host has no memory.
     HostFull,
-    /// A file can't be opened.
-    CannotOpen,
+    /// The file of this path can't be opened.
+    CannotOpen(&'a str, NotOpened),
 }
 
-impl From<AllocError> for NoStores {
+impl<'a> From<AllocError> for NoStores<'a> {
     ghost use Rattle.std.specs.Prelude.{◌≡◌};
     ghost use Rattle.macheap.specs.declared.stores.NoStores.TheVariants.{HostFull};
 
     ghost from_gives = { λ _ e. e ≡ HostFull };
 
-    fn from(_: AllocError) -> NoStores {
+    fn from(_: AllocError) -> NoStores<'a> {
         NoStores::HostFull
     }
 }
 
-impl<S: Drop> From<AllocFailed<S>> for NoStores {
+impl<'a, S: Drop> From<AllocFailed<S>> for NoStores<'a> {
     ghost use Rattle.std.specs.Prelude.{◌≡◌};
     ghost use Rattle.macheap.specs.declared.stores.NoStores.TheVariants.{HostFull};
 
     ghost from_gives = { λ _ e. e ≡ HostFull };
 
-    fn from(_: AllocFailed<S>) -> NoStores {
+    fn from(_: AllocFailed<S>) -> NoStores<'a> {
         NoStores::HostFull
     }
 }
 
 /// The stores of the forks in the files of these paths: where there are none, one in memory.
-pub fn plain_stores<F: Drop, S: ForkStore + Drop, J: ForkStore, O: Opens<F, S, J>>(
+pub fn plain_stores<'a, F: Drop, S: ForkStore + Drop, J: ForkStore, O: Opens<F, S, J>>(
     alloc: Global,
     opener: &mut O,
-    paths: &[&str],
-) -> Result<Vec<S>, NoStores>
+    paths: &[&'a str],
+) -> Result<Vec<S>, NoStores<'a>>
     requires { length paths.now ≤ most_files }
     ensures stores { (openings : List (Opening F)) × (O.openings opener.new ≡ O.openings opener.old ++ openings)
         × IsOpened (map (λ path. path.now) paths.now) openings (ArePlain S.ForkStore O.plain (map (λ path. path.now) paths.now) openings) result }
@@ -159,10 +160,10 @@ pub fn plain_stores<F: Drop, S: ForkStore + Drop, J: ForkStore, O: Opens<F, S, J
 }
 
 /// One store in memory.
-fn one_in_memory<F: Drop, S: ForkStore + Drop, J: ForkStore, O: Opens<F, S, J>>(
+fn one_in_memory<'a, F: Drop, S: ForkStore + Drop, J: ForkStore, O: Opens<F, S, J>>(
     alloc: Global,
     opener: &O,
-) -> Result<Vec<S>, NoStores>
+) -> Result<Vec<S>, NoStores<'a>>
     ensures stores { IfOk result (λ stores. ArePlain S.ForkStore O.plain [] [] stores.items) }
     ensures few { IfOk result (λ stores. length stores.items ≤ most_files) }
     ensures full { IfErr result (λ fault. fault ≡ NoStores.HostFull) }
@@ -173,11 +174,11 @@ fn one_in_memory<F: Drop, S: ForkStore + Drop, J: ForkStore, O: Opens<F, S, J>>(
 }
 
 /// The stores of the forks in these files, numbered as they come.
-fn stores_on<F: Drop, S: ForkStore + Drop, J: ForkStore, O: Opens<F, S, J>>(
+fn stores_on<'a, F: Drop, S: ForkStore + Drop, J: ForkStore, O: Opens<F, S, J>>(
     alloc: Global,
     opener: &O,
     forks: Vec<F>,
-) -> Result<Vec<S>, NoStores>
+) -> Result<Vec<S>, NoStores<'a>>
     ensures stores { IfOk result (λ stores. AreOn O.plain 0 forks.items stores.items) }
     ensures count { IfOk result (λ stores. length stores.items ≡ length forks.items) }
     ensures full { IfErr result (λ fault. fault ≡ NoStores.HostFull) }
@@ -191,12 +192,12 @@ fn stores_on<F: Drop, S: ForkStore + Drop, J: ForkStore, O: Opens<F, S, J>>(
 }
 
 /// The stores of the forks and the journals in the files of these paths. All forks are opened first.
-pub fn journalled_stores<F: Drop, S: ForkStore, J: ForkStore + Drop, O: Opens<F, S, J>>(
+pub fn journalled_stores<'a, F: Drop, S: ForkStore, J: ForkStore + Drop, O: Opens<F, S, J>>(
     alloc: Global,
     opener: &mut O,
-    paths: &[&str],
-    journals: &[&str],
-) -> Result<Vec<J>, NoStores>
+    paths: &[&'a str],
+    journals: &[&'a str],
+) -> Result<Vec<J>, NoStores<'a>>
     requires { length journals.now ≡ length paths.now }
     ensures stores { (openings : List (Opening F)) × (O.openings opener.new ≡ O.openings opener.old ++ openings)
         × (let all = map (λ path. path.now) paths.now ++ map (λ path. path.now) journals.now in IsOpened all openings (AreJournalled O.pairs all openings) result) }
@@ -209,8 +210,9 @@ pub fn journalled_stores<F: Drop, S: ForkStore, J: ForkStore + Drop, O: Opens<F,
     let mut stores = Vec::new(alloc);
     for fork in forks {
         let number = stores.len();
-        let Some(journal) = opener.open(journals[number]) else {
-            return Err(NoStores::CannotOpen);
+        let journal = match opener.open(journals[number]) {
+            Ok(journal) => journal,
+            Err(why) => return Err(NoStores::CannotOpen(journals[number], why)),
         };
         let store = opener.journalled(fork, journal, number as u64);
         match stores.push(store) {
@@ -222,19 +224,20 @@ pub fn journalled_stores<F: Drop, S: ForkStore, J: ForkStore + Drop, O: Opens<F,
 }
 
 /// The files of these paths.
-fn opened<F: Drop, S: ForkStore, J: ForkStore, O: Opens<F, S, J>>(
+fn opened<'a, F: Drop, S: ForkStore, J: ForkStore, O: Opens<F, S, J>>(
     alloc: Global,
     opener: &mut O,
-    paths: &[&str],
-) -> Result<Vec<F>, NoStores>
+    paths: &[&'a str],
+) -> Result<Vec<F>, NoStores<'a>>
     ensures files { (openings : List (Opening F)) × (O.openings opener.new ≡ O.openings opener.old ++ openings)
-        × IsOpened (map (λ path. path.now) paths.now) openings (λ files. Asked (map (λ path. path.now) paths.now) (map Some files) openings) result }
+        × IsOpened (map (λ path. path.now) paths.now) openings (λ files. Asked (map (λ path. path.now) paths.now) (map Ok files) openings) result }
     ensures count { IfOk result (λ files. length files.items ≡ length paths.now) }
 {
     let mut files = Vec::new(alloc);
     for path in paths {
-        let Some(file) = opener.open(path) else {
-            return Err(NoStores::CannotOpen);
+        let file = match opener.open(path) {
+            Ok(file) => file,
+            Err(why) => return Err(NoStores::CannotOpen(path, why)),
         };
         match files.push(file) {
             Ok(()) => {}

@@ -1,5 +1,6 @@
-pub mod KeptLaws
-pub mod LineLaws
+pub mod CallNames
 pub mod Values
 pub mod Places
 mod Rows
+pub mod Lengths
+mod Replies

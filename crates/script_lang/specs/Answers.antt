@@ -7,8 +7,8 @@ use Rattle.script_lang.specs.declared.line.ReleasingName.{ReleasingName}
 use Rattle.script_lang.specs.declared.line.ReleasingName.TheVariants.{DisposeHandle, DisposePtr, EmptyHandle}
 use Rattle.script_lang.specs.declared.line.WrittenAnswer.{WrittenAnswer}
 use Rattle.script_lang.specs.declared.line.WrittenCall.{WrittenCall}
-use Rattle.script_lang.specs.Numbers.{as_operand}
-use Rattle.script_lang.specs.Variables.{Variables, number_in}
+use Rattle.script_lang.specs.Resolving.{number_of}
+use Rattle.script_lang.specs.Variables.{Variables}
 
 -- the call of this name on a handle or a pointer with this number
 abbrev pub releasing : ReleasingName → ℕ → ReleasingCall
@@ -18,8 +18,8 @@ releasing EmptyHandle number = Empties number
 
 -- a call of an answer, with the value that its operand has
 abbrev pub releasing_with : Variables → WrittenCall → ReleasingCall
-releasing_with variables written = releasing written.call (number_in variables (as_operand written.operand))
+releasing_with variables written = releasing written.call (number_of variables written.operand)
 
 -- an answer as it is written, with the values that its operands have
 abbrev pub answer_with : Variables → WrittenAnswer → Answer
-answer_with variables written = record { calls = map (releasing_with variables) written.calls; value = number_in variables (as_operand written.value) }
+answer_with variables written = record { calls = map (releasing_with variables) written.calls; value = number_of variables written.value }

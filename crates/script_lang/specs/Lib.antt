@@ -1,9 +1,10 @@
 pub mod Calls
 pub mod Names
-pub mod Numbers
-pub mod Kept
+pub mod Table
 pub mod Lines
 pub mod Taken
 pub mod Variables
-pub mod Managers
+pub mod Resolving
 pub mod Answers
+pub mod Text
+pub mod Adding

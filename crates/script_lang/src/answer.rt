@@ -3,8 +3,8 @@
 ghost use Rattle.std.specs.Prelude.{◌≡◌};
 ghost use Rattle.script_lang.specs.Answers.{releasing_with, answer_with};
 
+use crate::call::number_of;
 use crate::line::{AnswerLine, ReleasingName, WrittenCall};
-use crate::operand::number_of;
 use crate::vars::Vars;
 use mac_base::handle::{Handle, Ptr};
 use mac_base::releasing::ReleasingCall;

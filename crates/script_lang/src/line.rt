@@ -1,7 +1,11 @@
 //! What the lines of a script say.
 
-use crate::operands::Operands;
-use mac_calls::CallName;
+use crate::table::{
+    BytesName, CallName, FileName, KindName, NumberName, PlainName, ResourceName, ThreeNumbersName,
+    TwoNumbersName,
+};
+use mac_base::resource::ResType;
+use mac_calls::Span;
 use std::marker::Model;
 
 /// The name of a variable. A contract sees its place among the names of a script, in order of first assignment. A script
@@ -39,53 +43,6 @@ impl Name {
     }
 }
 
-/// The bytes of an operand. A contract sees the list.
-#[derive(Drop)]
-pub struct OperandBytes<'a> {
-    bytes: &'a [u8],
-}
-
-impl<'a> Model for OperandBytes<'a> {
-    ghost use Rattle.std.specs.Prelude.{List, ℕ};
-
-    ghost Value = { List ℕ };
-
-    ghost view = { λ b. b.bytes.now };
-}
-
-impl<'a> OperandBytes<'a> {
-    ghost use Rattle.std.specs.Prelude.{◌≡◌};
-
-    /// These bytes.
-    pub fn new(bytes: &'a [u8]) -> OperandBytes<'a>
-        ensures { result ≡ bytes.now }
-    {
-        OperandBytes { bytes }
-    }
-
-    /// The bytes, first to last.
-    pub fn as_slice(&self) -> &'a [u8]
-        ensures { result.now ≡ self.now }
-    {
-        self.bytes
-    }
-}
-
-/// An operand as it is written.
-#[derive(Drop)]
-pub enum Operand<'a> {
-    Number(u32),
-    /// The value of a variable.
-    Variable(Name),
-    Bytes(OperandBytes<'a>),
-    /// A number with a sign, as the id of a resource.
-    Id(i16),
-    /// The type of a resource.
-    Type([u8; 4]),
-    /// No operand, where the last one is left out.
-    Missing,
-}
-
 /// A number, or the value of a variable.
 #[derive(Clone, Copy)]
 pub enum NumberOperand {
@@ -94,17 +51,66 @@ pub enum NumberOperand {
     Variable(Name),
 }
 
-impl NumberOperand {
-    ghost use Rattle.std.specs.Prelude.{◌≡◌};
-    ghost use Rattle.script_lang.specs.Numbers.{as_operand};
+/// The id of a resource, or the value of a variable.
+#[derive(Clone, Copy)]
+pub enum IdOperand {
+    Id(i16),
+    /// The value of a variable.
+    Variable(Name),
+}
 
-    /// The operand that it is.
-    pub fn as_operand<'a>(self) -> Operand<'a>
-        ensures { result ≡ as_operand self }
+/// A call with its operands as they are written.
+#[derive(Drop)]
+pub enum NamedCall<'a> {
+    Plain(PlainName),
+    Number(NumberName, NumberOperand),
+    TwoNumbers(TwoNumbersName, NumberOperand, NumberOperand),
+    ThreeNumbers(ThreeNumbersName, NumberOperand, NumberOperand, NumberOperand),
+    BlockMove {
+        from: NumberOperand,
+        start: NumberOperand,
+        to: NumberOperand,
+        offset: NumberOperand,
+        count: NumberOperand,
+    },
+    Bytes {
+        call: BytesName,
+        block: NumberOperand,
+        offset: NumberOperand,
+        bytes: Span<'a>,
+    },
+    Resource(ResourceName, ResType, IdOperand),
+    GetIndResource(ResType, NumberOperand),
+    Kind(KindName, ResType),
+    AddResource {
+        handle: NumberOperand,
+        kind: ResType,
+        id: IdOperand,
+        name: Option<Span<'a>>,
+    },
+    File(FileName, Option<NumberOperand>),
+}
+
+impl<'a> NamedCall<'a> {
+    ghost use Rattle.std.specs.Prelude.{◌≡◌};
+    ghost use Rattle.script_lang.specs.Lines.{name_of};
+
+    /// The name of the call.
+    pub fn name(&self) -> CallName
+        ensures { result ≡ name_of self.now }
     {
         match self {
-            NumberOperand::Number(number) => Operand::Number(number),
-            NumberOperand::Variable(name) => Operand::Variable(name),
+            NamedCall::Plain(call) => CallName::Plain(*call),
+            NamedCall::Number(call, ..) => CallName::Number(*call),
+            NamedCall::TwoNumbers(call, ..) => CallName::TwoNumbers(*call),
+            NamedCall::ThreeNumbers(call, ..) => CallName::ThreeNumbers(*call),
+            NamedCall::BlockMove { .. } => CallName::BlockMove,
+            NamedCall::Bytes { call, .. } => CallName::Bytes(*call),
+            NamedCall::Resource(call, ..) => CallName::Resource(*call),
+            NamedCall::GetIndResource(..) => CallName::GetIndResource,
+            NamedCall::Kind(call, _) => CallName::Kind(*call),
+            NamedCall::AddResource { .. } => CallName::AddResource,
+            NamedCall::File(call, _) => CallName::File(*call),
         }
     }
 }
@@ -113,8 +119,7 @@ impl NumberOperand {
 #[derive(Drop)]
 pub struct CallLine<'a> {
     pub assigned: Option<Name>,
-    pub call: CallName,
-    pub operands: Operands<'a>,
+    pub call: NamedCall<'a>,
 }
 
 /// The calls that an answer of the grow-zone procedure may make, by their names.

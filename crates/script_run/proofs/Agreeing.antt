@@ -23,10 +23,11 @@ use Rattle.script_lang.specs.declared.line.CallLine.{CallLine}
 use Rattle.script_lang.specs.declared.line.Line.{Line}
 use Rattle.script_lang.specs.declared.line.Statement.{Statement}
 use Rattle.script_lang.specs.declared.line.Statement.TheVariants.{Call as CallStatement, Answer}
-use Rattle.reply_text.specs.Text.{reply_text}
+use Rattle.script_lang.specs.Text.{reply_text}
 use Rattle.script_lang.specs.Answers.{answer_with}
 use Rattle.script_lang.specs.Taken.{first_number}
-use Rattle.script_lang.specs.Variables.{Variables, call_of}
+use Rattle.script_lang.specs.Resolving.{call_of}
+use Rattle.script_lang.specs.Variables.{Variables}
 use Rattle.script_run.specs.declared.machine.Machine.{Machine}
 use Rattle.script_run.specs.Exact.{DevicesWorked, LinesWorked, RunsAgree}
 use Rattle.script_run.specs.Line.{OpensFirst, StatementDoes, assigned, opening_text, start_of}
@@ -63,7 +64,7 @@ behind x line e =
 
 -- what it prints
 abbrev printed : ℕ → CallLine → Ended → List ℕ
-printed number line e = reply_text number line.call (record { outcome = e.outcome }) (answered e.asks)
+printed number line e = reply_text number (name_of line.call) (record { outcome = e.outcome }) (answered e.asks)
 
 module _ {S : Type 0} (store : Ghosts S) where
   abbrev before : ToolState S → List GivenAnswer → Before

@@ -7,7 +7,8 @@ use Rattle.std.proofs.lemmas.Option.{get_or_from_slice_get, slice_get_within}
 use Rattle.fork_disk.specs.declared.store.ForkStore.{Ghosts}
 use Rattle.script_lang.specs.declared.line.Line.{Line}
 use Rattle.script_text.specs.Script.{IsScript, IsFaultAt}
-use Rattle.reply_text.specs.Text.{fault_text, no_memory_text}
+use Rattle.script_text.specs.declared.wrong.Wrong.{Wrong}
+use Rattle.script_lang.specs.Text.{fault_text, no_memory_text}
 use Rattle.script_run.specs.declared.end.RunEnd.{RunEnd}
 use Rattle.script_run.specs.declared.end.RunEnd.TheVariants.{Finished, ScriptFault, NoMemory, WriteFault}
 use Rattle.script_run.specs.declared.machine.Machine.{Machine}
@@ -80,16 +81,16 @@ module _ {S : Type 0} (store : Ghosts S) (start : Machine S) (input : List ℕ) 
     none_at_start end written told = none_told [] end written (inl (refl, same_forks store (stores_of start) left same)) told
 
     -- it was told which line is none
-    fault_told : (line : ℕ) (end : RunEnd) (written : List ℕ) → IsFaultAt input line → Tells (ScriptFault line) (fault_text line) end written ⊎ Tells NoMemory no_memory_text end written
+    fault_told : (line : ℕ) (wrong : Wrong) (end : RunEnd) (written : List ℕ) → IsFaultAt input line → Tells (ScriptFault line wrong) (fault_text line) end written ⊎ Tells NoMemory no_memory_text end written
         → Ends store start input end written left
-    fault_told line end written is (inl (inl told)) = subst (λ (e : RunEnd). Ends store start input e written left) (sym told.0)
+    fault_told line wrong end written is (inl (inl told)) = subst (λ (e : RunEnd). Ends store start input e written left) (sym told.0)
         (fault_text line ∷ [], (is, refl, same), told.1 ∙ sym (append-nil (fault_text line)))
-    fault_told line end written is (inl (inr cut)) = subst (λ (e : RunEnd). Ends store start input e written left) (sym cut.0)
-        (ScriptFault line, fault_text line ∷ [], (is, refl, same), ([], fault_text line, written, refl, cut.1, refl))
-    fault_told line end written is (inr told) = none_at_start end written told
+    fault_told line wrong end written is (inl (inr cut)) = subst (λ (e : RunEnd). Ends store start input e written left) (sym cut.0)
+        (ScriptFault line wrong, fault_text line ∷ [], (is, refl, same), ([], fault_text line, written, refl, cut.1, refl))
+    fault_told line wrong end written is (inr told) = none_at_start end written told
 
     -- it was told why there is no script
     pub no_script_told : (fault : NoScript) (end : RunEnd) (written : List ℕ) → IsNoScript input fault → TellsNoScript fault end written → Ends store start input end written left
-    no_script_told (why.BadLine line) end written is told = fault_told line end written is told
+    no_script_told (why.BadLine line wrong) end written is told = fault_told line wrong end written is told
     no_script_told why.HostFull end written is told = none_at_start end written told
     no_script_told why.ReadFault end written is told = subst (λ (e : RunEnd). Ends store start input e written left) (sym told.0) ([], (refl, same), told.1)

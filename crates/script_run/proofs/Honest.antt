@@ -8,7 +8,7 @@ use Rattle.toolbox.proofs.Headline.{was-honest}
 use Rattle.script_lang.specs.declared.line.Line.{Line}
 use Rattle.script_lang.specs.declared.line.Statement.{Statement}
 use Rattle.script_lang.specs.declared.line.Statement.TheVariants.{Call, Answer}
-use Rattle.script_lang.specs.Variables.{call_of}
+use Rattle.script_lang.specs.Resolving.{call_of}
 use Rattle.script_run.specs.declared.machine.Machine.{Machine}
 use Rattle.script_run.specs.Line.{StatementDoes}
 use Rattle.script_run.specs.Run.{AreRun}

@@ -1,15 +1,18 @@
 -- What is left of a list.
-use Rattle.std.proofs.Common.{◌≡◌, ℕ, ◌+◌, ◌<◌, List, [], ◌∷◌, Some, length, drop, get_or, get_or-drop, length-drop, add-zero, subst, refl, sym, ap, ◌∙◌, arith}
-use Rattle.std.specs.Prelude.{slice_get}
-use Rattle.std.proofs.lemmas.List.{drop-drop}
-use Rattle.std.proofs.lemmas.Option.{slice_get_read}
+use Rattle.std.proofs.Common.{◌≡◌, ℕ, zero, suc, ◌<◌, ◌≤◌, List, [], ◌∷◌, length, drop, get_or, refl, sym, ap, ◌∙◌, arith}
 
--- the first of those that are left
-pub next_at : {X : Type 0} (xs rest : List X) (count : ℕ) (x : X) → drop count xs ≡ x ∷ rest → slice_get xs count ≡ Some x
-next_at {X = X} xs rest count x left =
-    let within : count < length xs = omega (arith, ap length left, length-drop count xs) in
-    slice_get_read xs (length xs) count x refl within (sym (ap (λ t. get_or t 0 x) left) ∙ subst (λ (n : ℕ). get_or (drop count xs) 0 x ≡ get_or xs n x) (add-zero count) (get_or-drop count xs 0 x))
+from_next : {X : Type 0} (xs : List X) (count : ℕ) (d : X) → count < length xs → drop count xs ≡ get_or xs count d ∷ drop (suc count) xs
+from_next [] count d within = absurd (omega arith)
+from_next (x ∷ xs) zero d within = refl
+from_next (x ∷ xs) (suc count) d within = from_next xs count d (omega arith)
 
--- and those behind it
-pub left_behind : {X : Type 0} (xs rest : List X) (count : ℕ) (x : X) → drop count xs ≡ x ∷ rest → drop (count + 1) xs ≡ rest
-left_behind xs rest count x left = sym (drop-drop 1 count xs) ∙ ap (drop 1) left
+-- the next, and those after it
+pub left_from : {X : Type 0} (xs : List X) (count : ℕ) (x : X) → count < length xs → x ≡ get_or xs count x → drop count xs ≡ x ∷ drop (suc count) xs
+left_from xs count x within is = from_next xs count x within ∙ ap (λ (y : _). y ∷ drop (suc count) xs) (sym is)
+
+-- nothing is left
+pub none_left : {X : Type 0} (xs : List X) (count : ℕ) → length xs ≤ count → drop count xs ≡ []
+none_left [] zero past = refl
+none_left [] (suc count) past = refl
+none_left (x ∷ xs) zero past = absurd (omega arith)
+none_left (x ∷ xs) (suc count) past = none_left xs count (omega arith)

@@ -10,7 +10,8 @@ use Rattle.toolbox.proofs.Headline.{tool-does}
 use Rattle.script_lang.specs.declared.line.Line.{Line}
 use Rattle.script_lang.specs.declared.line.Statement.{Statement}
 use Rattle.script_lang.specs.declared.line.Statement.TheVariants.{Call as CallStatement, Answer}
-use Rattle.script_lang.specs.Variables.{Variables, call_of}
+use Rattle.script_lang.specs.Resolving.{call_of}
+use Rattle.script_lang.specs.Variables.{Variables}
 use Rattle.script_run.specs.declared.machine.Machine.{Machine}
 use Rattle.script_run.specs.Line.{StatementDoes, start_of}
 use Rattle.script_run.specs.Run.{AreRun}

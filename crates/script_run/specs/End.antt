@@ -9,4 +9,4 @@ status_of Finished = 0
 status_of NoMemory = 1
 status_of ReadFault = 1
 status_of WriteFault = 1
-status_of (ScriptFault line) = 3
+status_of (ScriptFault line wrong) = 3

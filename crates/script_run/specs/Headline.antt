@@ -10,10 +10,12 @@ use Rattle.toolbox.specs.ToolState.{IsHonest}
 use Rattle.script_lang.specs.declared.line.Line.{Line}
 use Rattle.script_lang.specs.declared.line.Statement.{Statement}
 use Rattle.script_lang.specs.declared.line.Statement.TheVariants.{Call as CallStatement, Answer}
-use Rattle.reply_text.specs.Text.{reply_text}
+use Rattle.script_lang.specs.Text.{reply_text}
 use Rattle.script_run.specs.declared.machine.Machine.{Machine}
 use Rattle.script_lang.specs.Taken.{first_number}
-use Rattle.script_lang.specs.Variables.{Variables, call_of}
+use Rattle.script_lang.specs.Lines.{name_of}
+use Rattle.script_lang.specs.Resolving.{call_of}
+use Rattle.script_lang.specs.Variables.{Variables}
 use Rattle.script_run.specs.Line.{assigned, opening_text, start_of}
 use Rattle.script_run.specs.Run.{IsRun}
 use Rattle.res_laws.specs.Tools.{Called, Headline, IsToolRun}
@@ -22,7 +24,7 @@ use Rattle.res_laws.specs.Tools.{Called, Headline, IsToolRun}
 -- on with the others, where the reply's first number is assigned. An answer is no call, and prints nothing.
 abbrev pub PrintsReply : Variables → ℕ → Statement → List ℕ → List Called → (Variables → List Called → Type 0) → Type 0
 PrintsReply variables number (CallStatement line) text (called ∷ later) Rest = (called.call ≡ call_of variables line)
-    × (text ≡ reply_text number line.call (record { outcome = called.outcome }) (answered called.asks))
+    × (text ≡ reply_text number (name_of line.call) (record { outcome = called.outcome }) (answered called.asks))
     × Rest (assigned line.assigned (first_number called.outcome) variables) later
 PrintsReply variables number (CallStatement line) text [] Rest = ⊥
 PrintsReply variables number (Answer line) text calls Rest = (text ≡ []) × Rest variables calls

@@ -5,7 +5,9 @@ use Rattle.mac_base.specs.ZoneSizes.{ZoneSizes, shape_of}
 use Rattle.mac_calls.specs.declared.call.Call.TheVariants.{Resource}
 use Rattle.mac_calls.specs.declared.reply.Reply.{Reply}
 use Rattle.mac_calls.specs.declared.resource_call.ResourceCall.TheVariants.{OpenResFile}
-use Rattle.mac_calls.specs.declared.table.CallName.TheVariants as call_name
+use Rattle.script_lang.specs.declared.table.CallName.TheVariants as call_name
+use Rattle.script_lang.specs.declared.table.NumberName.TheVariants as number_name
+use Rattle.script_lang.specs.Lines.{name_of}
 use Rattle.mac_calls.specs.GrowZone.{Ask, answered}
 use Rattle.mac_calls.specs.Outcomes.{Outcome}
 use Rattle.fork_disk.specs.declared.store.ForkStore.{Ghosts}
@@ -19,10 +21,11 @@ use Rattle.script_lang.specs.declared.line.Line.{Line}
 use Rattle.script_lang.specs.declared.line.Statement.{Statement}
 use Rattle.script_lang.specs.declared.line.Statement.TheVariants.{Call, Answer}
 use Rattle.script_lang.specs.declared.line.WrittenAnswer.{WrittenAnswer}
-use Rattle.reply_text.specs.Text.{reply_room, reply_text}
+use Rattle.script_lang.specs.Text.{reply_room, reply_text}
 use Rattle.script_lang.specs.Answers.{answer_with}
 use Rattle.script_lang.specs.Taken.{first_number}
-use Rattle.script_lang.specs.Variables.{Variables, call_of, with_value}
+use Rattle.script_lang.specs.Resolving.{call_of}
+use Rattle.script_lang.specs.Variables.{Variables, with_value}
 use Rattle.script_run.specs.declared.machine.Machine.{Machine}
 
 -- before file 1 is opened: a new zone, these stores, no refusal, no variables, and no answers
@@ -43,7 +46,7 @@ start_of sizes stores = record {
 -- what is printed where file 1 is opened: nothing, or the line of number 0 with the code of the refusal
 abbrev pub opening_text : Outcome → List ℕ
 opening_text (Ok results) = []
-opening_text (Err code) = reply_text 0 call_name.OpenResFile (record { outcome = Err code }) []
+opening_text (Err code) = reply_text 0 (call_name.Number number_name.OpenResFile) (record { outcome = Err code }) []
 
 -- From old, the opening of file 1 may print this text and leave new. For MemError and ResError it is no call.
 abbrev pub OpensFirst : {S : Type 0} → Ghosts S → Machine S → List ℕ → Machine S → Type 0
@@ -69,7 +72,7 @@ CallDoes store old number line text new = (reply : Reply)
     × Steps store old.toolbox (call_of old.variables line) asks reply.outcome new.toolbox
     × LeavesAnswers store old.toolbox old.answers.left (call_of old.variables line) asks reply.outcome new.toolbox new.answers.left
     × (new.variables ≡ assigned line.assigned (first_number reply.outcome) old.variables)
-    × (text ≡ reply_text number line.call reply (answered asks))
+    × (text ≡ reply_text number (name_of line.call) reply (answered asks))
 
 -- From old, an answer prints nothing and leaves new: it is queued behind the others, with the values that its operands have.
 abbrev pub AnswerDoes : {S : Type 0} → Machine S → WrittenAnswer → List ℕ → Machine S → Type 0
@@ -103,7 +106,7 @@ abbrev pub IsTooLong : {S : Type 0} → Ghosts S → Machine S → ℕ → CallL
 IsTooLong store old number line new = (reply : Reply)
     × (asks : List Ask)
     × Steps store old.toolbox (call_of old.variables line) asks reply.outcome new.toolbox
-    × (reply_room < length (reply_text number line.call reply (answered asks)))
+    × (reply_room < length (reply_text number (name_of line.call) reply (answered asks)))
 
 -- From old, host memory ends at what the line of this number says: its call isn't made, or its reply is too long; or its answer isn't queued.
 abbrev pub StopsAt : {S : Type 0} → Ghosts S → Machine S → ℕ → Statement → Machine S → Type 0

@@ -4,8 +4,8 @@ use Rattle.std.specs.List.{concat}
 use Rattle.fork_disk.specs.declared.store.ForkStore.{Ghosts}
 use Rattle.script_lang.specs.declared.line.Line.{Line}
 use Rattle.script_text.specs.Script.{IsScript, IsFaultAt}
-use Rattle.reply_text.specs.Text.{fault_text}
-pub use Rattle.reply_text.specs.Text.{no_memory_text}
+use Rattle.script_lang.specs.Text.{fault_text}
+pub use Rattle.script_lang.specs.Text.{no_memory_text}
 use Rattle.script_run.specs.declared.end.RunEnd.{RunEnd}
 use Rattle.script_run.specs.declared.end.RunEnd.TheVariants.{Finished, ScriptFault, NoMemory, ReadFault, WriteFault}
 use Rattle.script_run.specs.declared.machine.Machine.{Machine}
@@ -41,7 +41,7 @@ abbrev pub Makes : {S : Type 0} → Ghosts S → Machine S → List ℕ → RunE
 -- all replies
 Makes store start input Finished texts left = (ran : Ran store start input) × (ran.rest ≡ []) × (texts ≡ ran.texts) × (left ≡ stores_of ran.last)
 -- the one line that names the first line that is none
-Makes store start input (ScriptFault line) texts left = IsFaultAt input line × (texts ≡ fault_text line ∷ []) × (left ≡ stores_of start)
+Makes store start input (ScriptFault line wrong) texts left = IsFaultAt input line × (texts ≡ fault_text line ∷ []) × (left ≡ stores_of start)
 -- the line `no memory`, before the first line was run; or the replies so far, and `no memory` at the next line
 Makes {S = S} store start input NoMemory texts left = ((texts ≡ no_memory_text ∷ []) × SameForks store (stores_of start) left)
     ⊎ ((ran : Ran store start input) × (line : Line) × (later : List Line) × (after : Machine S) × (ran.rest ≡ line ∷ later)

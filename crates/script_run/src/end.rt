@@ -3,13 +3,15 @@
 ghost use Rattle.std.specs.Prelude.{◌≡◌};
 ghost use Rattle.script_run.specs.End.{status_of};
 
+use script_text::Wrong;
+
 /// How a run ended.
 #[derive(Clone, Copy, Debug, PartialEq, Eq)]
 pub enum RunEnd {
     /// All lines were run.
     Finished,
     /// This line is the first that is none; 0 for a script that is too long. Nothing was run.
-    ScriptFault(u32),
+    ScriptFault(u32, Wrong),
     /// The host had no memory.
     NoMemory,
     /// The reader failed.
@@ -25,6 +27,6 @@ pub fn status(end: RunEnd) -> u8
     match end {
         RunEnd::Finished => 0,
         RunEnd::NoMemory | RunEnd::ReadFault | RunEnd::WriteFault => 1,
-        RunEnd::ScriptFault(_) => 3,
+        RunEnd::ScriptFault(_, _) => 3,
     }
 }

@@ -9,11 +9,13 @@ ghost use Rattle.script_run.specs.Line.{start_of, assigned, CallDoes, IsTooLong,
 use fork_disk::store::ForkStore;
 use mac_base::error::HostFull;
 use mac_base::zone_spec::ZoneSpec;
-use mac_calls::{CallName, Outcome, Reply};
+use mac_calls::{Outcome, Reply};
 use mem_calls::MemoryManager;
-use reply_text::ReplyText;
 use res_files::ResourceFiles;
-use script_lang::{CallLine, Line, Name, Statement, Vars, answer_of, first_number, resolve};
+use script_lang::{
+    CallLine, CallName, Line, Name, NumberName, ReplyText, Statement, Vars, answer_of,
+    first_number, resolve,
+};
 use std::alloc::Global;
 use toolbox::{AnswerQueue, Toolbox};
 
@@ -49,7 +51,7 @@ impl<S: ForkStore> Machine<S> {
             Ok(_) => Ok(()),
             Err(code) => {
                 let reply = Reply { outcome: Err(code) };
-                text.put(0, CallName::OpenResFile, &reply, &[])
+                text.put(0, CallName::Number(NumberName::OpenResFile), &reply, &[])
             }
         }
     }
@@ -94,7 +96,12 @@ impl<S: ForkStore> Machine<S> {
         let call = resolve(line, &self.variables);
         let reply = self.toolbox.step_queued(&call, &mut self.answers)?;
         assign(&mut self.variables, line.assigned, first_number(&reply));
-        text.put(number, line.call, &reply, self.answers.asked().as_slice())
+        text.put(
+            number,
+            line.call.name(),
+            &reply,
+            self.answers.asked().as_slice(),
+        )
     }
 }
 

@@ -7,7 +7,7 @@ ghost use Rattle.script_run.specs.declared.reading.NoScript.TheVariants as why;
 
 use crate::counted::Counted;
 use mac_base::error::HostFull;
-use script_text::MAX_SCRIPT;
+use script_text::{MAX_SCRIPT, Wrong};
 use std::alloc::{AllocError, Global};
 use std::io::Read;
 
@@ -18,8 +18,8 @@ pub enum NoScript {
     HostFull,
     /// The reader failed.
     ReadFault,
-    /// The first line that is none. It is 0 where there are more bytes than a script may have.
-    BadLine(u32),
+    /// The first line that is none, and what is wrong with it. It is 0 where there are more bytes than a script may have.
+    BadLine(u32, Wrong),
 }
 
 impl From<AllocError> for NoScript {
@@ -57,8 +57,8 @@ pub fn read_script<R: Read>(alloc: Global, reader: &mut Counted<R>) -> Result<Ve
         }
         text.extend_from_slice(&buffer[..count])?;
         if text.len() > MAX_SCRIPT {
-            return Err(NoScript::BadLine(0));
+            return Err(NoScript::BadLine(0, Wrong::TooLong));
         }
     }
-    Err(NoScript::BadLine(0))
+    Err(NoScript::BadLine(0, Wrong::TooLong))
 }

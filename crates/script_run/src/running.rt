@@ -2,7 +2,7 @@
 
 ghost use Rattle.std.specs.Prelude.{◌≡◌, ◌≢◌, ◌≤◌, ◌⊎◌, ◌↔◌, ℕ, List, length, unwrap_or};
 ghost use Rattle.script_text.specs.Script.{IsScript};
-ghost use Rattle.reply_text.specs.Text.{fault_text, no_memory_text};
+ghost use Rattle.script_lang.specs.Text.{fault_text, no_memory_text};
 ghost use Rattle.res_files.specs.Standing.{most_files};
 ghost use Rattle.script_run.specs.Counting.{Gave, RoseByOne, Took};
 ghost use Rattle.script_run.specs.Exact.{RunsAgree};
@@ -15,14 +15,15 @@ ghost use Rattle.script_run.specs.Starting.{TellsNoScript};
 use crate::counted::Counted;
 use crate::end::RunEnd;
 use crate::machine::Machine;
-use crate::reading::NoScript;
+use crate::reading::{NoScript, read_script};
 use crate::ready::{Ready, make_ready};
 use crate::writing::write_whole;
+use bumpalo::Bump;
 use fork_disk::store::ForkStore;
 use mac_base::zone_spec::ZoneSpec;
 use mem_calls::MemoryManager;
-use reply_text::{NO_MEMORY, ReplyText, fault_line};
-use script_lang::Script;
+use script_lang::{Line, NO_MEMORY, ReplyText, fault_line};
+use script_text::Wrong;
 use std::alloc::Global;
 use std::io::{Read, Write};
 
@@ -59,7 +60,9 @@ pub fn run<S: ForkStore, R: Read, W: Write>(
     ensures write_fault { result.0 ≡ RunEnd.WriteFault → RoseByOne writer.old.failures writer.new.failures }
     ensures no_write_failed { result.0 ≢ RunEnd.WriteFault → writer.new.failures ≡ writer.old.failures }
 {
-    let ready = match make_ready(alloc, reader) {
+    let arena = Bump::new(alloc);
+    let read = read_script(alloc, reader);
+    let ready = match make_ready(alloc, &arena, &read) {
         Ok(ready) => ready,
         Err(why) => return (tell_no_script(alloc, writer, why), stores),
     };
@@ -79,7 +82,7 @@ pub fn run<S: ForkStore, R: Read, W: Write>(
 /// Opens the first file, runs the lines, and writes what each prints when it is made.
 fn run_lines<S: ForkStore, W: Write>(
     machine: &mut Machine<S>,
-    script: &Script,
+    script: &[Line<'_>],
     reply: &mut ReplyText,
     writer: &mut Counted<W>,
 ) -> RunEnd
@@ -95,9 +98,8 @@ fn run_lines<S: ForkStore, W: Write>(
     if !write_whole(writer, reply.as_slice()) {
         return RunEnd::WriteFault;
     }
-    let mut lines = script.lines();
-    while let Some(line) = lines.next() {
-        let Ok(()) = machine.run_line(&line, reply) else {
+    for line in script {
+        let Ok(()) = machine.run_line(line, reply) else {
             return tell_no_memory(writer);
         };
         if !write_whole(writer, reply.as_slice()) {
@@ -117,14 +119,14 @@ fn tell_no_script<W: Write>(alloc: Global, writer: &mut Counted<W>, why: NoScrip
     match why {
         NoScript::HostFull => tell_no_memory(writer),
         NoScript::ReadFault => RunEnd::ReadFault,
-        NoScript::BadLine(line) => tell_fault(alloc, writer, line),
+        NoScript::BadLine(line, wrong) => tell_fault(alloc, writer, line, wrong),
     }
 }
 
-/// Writes which line is the first that is none.
-fn tell_fault<W: Write>(alloc: Global, writer: &mut Counted<W>, line: u32) -> RunEnd
+/// Writes which line is the first that is none. What is wrong with it is handed on.
+fn tell_fault<W: Write>(alloc: Global, writer: &mut Counted<W>, line: u32, wrong: Wrong) -> RunEnd
     ensures ends { (written : List ℕ) × Took W.contents writer.old written writer.new
-        × (Tells (RunEnd.ScriptFault line) (fault_text line) result written ⊎ Tells RunEnd.NoMemory no_memory_text result written) }
+        × (Tells (RunEnd.ScriptFault line wrong) (fault_text line) result written ⊎ Tells RunEnd.NoMemory no_memory_text result written) }
     ensures no_read_fault { result ≢ RunEnd.ReadFault }
     ensures write_fault { result ≡ RunEnd.WriteFault → RoseByOne writer.old.failures writer.new.failures }
     ensures no_write_failed { result ≢ RunEnd.WriteFault → writer.new.failures ≡ writer.old.failures }
@@ -133,7 +135,7 @@ fn tell_fault<W: Write>(alloc: Global, writer: &mut Counted<W>, line: u32) -> Ru
         return tell_no_memory(writer);
     };
     if write_whole(writer, &text) {
-        RunEnd::ScriptFault(line)
+        RunEnd::ScriptFault(line, wrong)
     } else {
         RunEnd::WriteFault
     }

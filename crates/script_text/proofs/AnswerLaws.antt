@@ -6,7 +6,6 @@ use Rattle.std.specs.Str.{bytes_eq}
 use Rattle.std.proofs.lemmas.List.{take_rest, nil_from_length}
 use Rattle.std.proofs.lemmas.Slice.Eq.{bytes_eq-Decides}
 use Rattle.script_lang.specs.declared.line.NumberOperand.{NumberOperand}
-use Rattle.script_lang.specs.Numbers.{as_operand}
 use Rattle.script_lang.specs.declared.line.WrittenAnswer.{WrittenAnswer}
 use Rattle.script_lang.specs.declared.line.WrittenCall.{WrittenCall}
 use Rattle.script_text.specs.Tokens.{Token, Word}
@@ -98,11 +97,11 @@ behind : (names : List (List ℕ)) (tokens rest : List Token) (answer : WrittenA
 behind names tokens rest answer begins is = let same : Word (codes "gz") ∷ rest ≡ Word (codes "gz") ∷ is.0 ∷ is.1 = sym begins ∙ is.2 in cc
 
 -- a token that is no value
-pub not_a_value : (names : List (List ℕ)) (tokens : List Token) (value : Token) (calls : List Token) → tokens ≡ Word (codes "gz") ∷ value ∷ calls → ((x : NumberOperand) → ¬ IsNumberOperand names value (as_operand x)) → (answer : WrittenAnswer) → ¬ IsAnswer names tokens answer
+pub not_a_value : (names : List (List ℕ)) (tokens : List Token) (value : Token) (calls : List Token) → tokens ≡ Word (codes "gz") ∷ value ∷ calls → ((x : NumberOperand) → ¬ IsNumberOperand names value x) → (answer : WrittenAnswer) → ¬ IsAnswer names tokens answer
 not_a_value names tokens value calls begins none answer is =
     let same : value ∷ calls ≡ is.0 ∷ is.1 = behind names tokens (value ∷ calls) answer begins is in
     let this : is.0 ≡ value = cc in
-    none answer.value (subst (λ (t : Token). IsNumberOperand names t (as_operand answer.value)) this is.3)
+    none answer.value (subst (λ (t : Token). IsNumberOperand names t answer.value) this is.3)
 
 calls_are : (names : List (List ℕ)) (tokens : List Token) (value : Token) (calls : List Token) (answer : WrittenAnswer) → tokens ≡ Word (codes "gz") ∷ value ∷ calls → IsAnswer names tokens answer → AreCalls names calls answer.calls
 calls_are names tokens value calls answer begins is =
@@ -142,5 +141,5 @@ same_word a b differs is none = (bytes_eq-Decides a b).0 (same (bytes_eq a b) (s
     same false e = absurd cc
 
 -- the value and the calls of an answer
-pub is_answer : (names : List (List ℕ)) (tokens : List Token) (value : Token) (calls : List Token) (answer : WrittenAnswer) → tokens ≡ Word (codes "gz") ∷ value ∷ calls → IsNumberOperand names value (as_operand answer.value) → AreCalls names calls answer.calls → length answer.calls ≤ most_calls → IsAnswer names tokens answer
+pub is_answer : (names : List (List ℕ)) (tokens : List Token) (value : Token) (calls : List Token) (answer : WrittenAnswer) → tokens ≡ Word (codes "gz") ∷ value ∷ calls → IsNumberOperand names value answer.value → AreCalls names calls answer.calls → length answer.calls ≤ most_calls → IsAnswer names tokens answer
 is_answer names tokens value calls answer begins number are few = (value, calls, begins, number, are, few)

@@ -1,20 +1,15 @@
 -- A line that says something has few tokens.
 use Rattle.std.proofs.Common.{ℕ, ◌*◌, ◌<◌, ◌≤◌, List, [], ◌∷◌, length, ap, ◌∙◌, arith, lit≤, Option, None, Some}
 use Rattle.std.proofs.lemmas.List.{length-append}
-use Rattle.mac_calls.specs.declared.table.CallName.{CallName}
-use Rattle.mac_calls.specs.declared.table.CallName.TheVariants as call_name
-use Rattle.mac_calls.specs.Calls.{signature}
 use Rattle.script_lang.specs.declared.line.Statement.{Statement}
 use Rattle.script_lang.specs.declared.line.Statement.TheVariants.{Call, Answer}
 use Rattle.script_lang.specs.declared.line.WrittenCall.{WrittenCall}
 use Rattle.script_text.specs.Answers.{AreCalls}
 use Rattle.script_text.specs.Script.{assignment, IsStatement, IsNoLine, MayStand, max_lines}
 use Rattle.script_text.specs.Tokens.{Token, HasNoFewTokens, most_tokens}
+use Rattle.script_text.specs.Operands.{operands_of}
+use Rattle.script_text.proofs.CallLaws.{five_operands}
 use Rattle.script_text.proofs.OperandLaws.{AreOperands-length}
-
--- no call has more than five operands
-few_operands : (call : CallName) → length (signature call).operands ≤ 5
-few_operands call = elim call as (λ c. length (signature c).operands ≤ 5) [ call_name.BlockMove ↦ lit≤ tt | _ ↦ lit≤ tt ]
 
 few_assigned : (name : Option (List ℕ)) → length (assignment name) ≤ 2
 few_assigned None = lit≤ tt
@@ -36,8 +31,8 @@ few_calls names (a ∷ b ∷ m ∷ t ∷ ts) (c ∷ cs) are = let more = few_cal
 few_tokens : (names : List (List ℕ)) (tokens : List Token) (statement : Statement) → IsStatement names tokens statement → length tokens ≤ most_tokens
 few_tokens names tokens (Call line) is =
     let name = few_assigned is.0 in
-    let operands = AreOperands-length names (signature line.call).operands is.1 line.operands is.5 in
-    let few = few_operands line.call in
+    let operands = AreOperands-length names is.1 (operands_of line.call) is.5 in
+    let few = five_operands line.call in
     let all = ap length is.2 ∙ length-append (assignment is.0) _ in
     omega arith
 few_tokens names tokens (Answer line) is =

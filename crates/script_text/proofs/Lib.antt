@@ -15,6 +15,8 @@ pub mod Reading
 pub mod OperandLaws
 pub mod ScriptLaws
 pub mod OneOperand
+pub mod OneCall
+pub mod CallLaws
 pub mod OneAnswer
 pub mod StatementLaws
 pub mod AnswerLaws

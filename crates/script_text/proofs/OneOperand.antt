@@ -1,14 +1,14 @@
 -- A token is one operand at most.
-use Rattle.std.proofs.Common.{◌≡◌, ◌≢◌, ℕ, ◌<◌, ◌≤◌, inl, inr, Bool, true, false, Some, List, [], ◌∷◌, refl, sym, ap, subst, ◌∙◌, arith}
+use Rattle.std.proofs.Common.{◌≡◌, ◌≢◌, ℕ, ◌<◌, ◌≤◌, inl, inr, Bool, true, false, Some, List, [], ◌∷◌, refl, sym, ap, ◌∙◌, arith}
 use Rattle.std.specs.Prelude.{◌&&◌, ℤ, pos, neg_ℤ}
 use Rattle.std.specs.Char.{is_ascii_alphabetic, digit_value}
 use Rattle.std.proofs.lemmas.Bool.Decides.{nat_tests}
-use Rattle.mac_calls.specs.declared.table.OperandKind.{OperandKind}
-use Rattle.mac_calls.specs.declared.table.OperandKind.TheVariants.{Number, Bytes, Id, «Type» as TypeKind, OptionalBytes, OptionalNumber}
-use Rattle.script_lang.specs.declared.line.Operand.{Operand}
-use Rattle.script_lang.specs.declared.line.Operand.TheVariants as operand
+use Rattle.script_lang.specs.declared.line.IdOperand.{IdOperand}
+use Rattle.script_lang.specs.declared.line.IdOperand.TheVariants as id
+use Rattle.script_lang.specs.declared.line.NumberOperand.{NumberOperand}
+use Rattle.script_lang.specs.declared.line.NumberOperand.TheVariants as number
 use Rattle.script_text.specs.Tokens.{Token, Equals, Word, Single, Double, Hexadecimal}
-use Rattle.script_text.specs.Operands.{IsDecimal, IsNumber, AreDigitsOf, is_name, IsId, IsVariable, IsNumberOperand, IsBytesOperand, IsIdOperand, IsTypeOfBytes, IsTypeOperand, IsOperand, AreOperands}
+use Rattle.script_text.specs.Operands.{IsDecimal, IsNumber, AreDigitsOf, is_name, IsId, IsVariable, IsNumberOperand, IsBytesOperand, IsIdOperand, IsTypeOperand, Operand, Number, Bytes, Id, Kind, IsOperand, AreOperands}
 
 -- a letter is no decimal digit, no `$` and no `-`
 letter_value : (byte : ℕ) → is_ascii_alphabetic byte ≡ true → 10 ≤ digit_value byte
@@ -95,86 +95,74 @@ one_variable : (names : List (List ℕ)) (word : List ℕ) (a b : ℕ) → IsVar
 one_variable names word a b p q = let same : Some a ≡ Some b = sym p.1 ∙ q.1 in cc
 
 -- a token is one number or variable at most
-pub one_number_operand : (names : List (List ℕ)) (token : Token) (x y : Operand) → IsNumberOperand names token x → IsNumberOperand names token y → x ≡ y
-one_number_operand names (Word word) (operand.Number n) (operand.Number m) p q = ap operand.Number (one_number word n m p q)
-one_number_operand names (Word word) (operand.Number n) (operand.Variable b) p q = absurd (name_no_number word n q.0 p)
-one_number_operand names (Word word) (operand.Variable a) (operand.Number m) p q = absurd (name_no_number word m p.0 q)
-one_number_operand names (Word word) (operand.Variable a) (operand.Variable b) p q = ap operand.Variable (one_variable names word a b p q)
-one_number_operand names (Word word) (operand.Number n) y p q = absurd q
-one_number_operand names (Word word) (operand.Variable a) y p q = absurd q
+pub one_number_operand : (names : List (List ℕ)) (token : Token) (x y : NumberOperand) → IsNumberOperand names token x → IsNumberOperand names token y → x ≡ y
+one_number_operand names (Word word) (number.Number n) (number.Number m) p q = ap number.Number (one_number word n m p q)
+one_number_operand names (Word word) (number.Number n) (number.Variable b) p q = absurd (name_no_number word n q.0 p)
+one_number_operand names (Word word) (number.Variable a) (number.Number m) p q = absurd (name_no_number word m p.0 q)
+one_number_operand names (Word word) (number.Variable a) (number.Variable b) p q = ap number.Variable (one_variable names word a b p q)
 one_number_operand names token x y p q = absurd p
 
 -- a token is one list of bytes at most
-one_bytes_operand : (token : Token) (x y : Operand) → IsBytesOperand token x → IsBytesOperand token y → x ≡ y
-one_bytes_operand (Double inner) (operand.Bytes a) (operand.Bytes b) p q = ap operand.Bytes (sym p.0 ∙ q.0)
-one_bytes_operand (Double inner) (operand.Bytes a) y p q = absurd q
-one_bytes_operand (Hexadecimal digits) (operand.Bytes a) (operand.Bytes b) p q = ap operand.Bytes (one_decoding digits a b p q)
-one_bytes_operand (Hexadecimal digits) (operand.Bytes a) y p q = absurd q
-one_bytes_operand token x y p q = absurd p
+one_bytes_operand : (token : Token) (a b : List ℕ) → IsBytesOperand token a → IsBytesOperand token b → a ≡ b
+one_bytes_operand (Double inner) a b p q = sym p.0 ∙ q.0
+one_bytes_operand (Hexadecimal digits) a b p q = one_decoding digits a b p q
+one_bytes_operand token a b p q = absurd p
 
 -- a token is one id or variable at most
-one_id_operand : (names : List (List ℕ)) (token : Token) (x y : Operand) → IsIdOperand names token x → IsIdOperand names token y → x ≡ y
-one_id_operand names (Word word) (operand.Id a) (operand.Id b) p q = ap operand.Id (one_id word a b p q)
-one_id_operand names (Word word) (operand.Id a) (operand.Variable b) p q = absurd (name_no_id word a q.0 p)
-one_id_operand names (Word word) (operand.Variable a) (operand.Id b) p q = absurd (name_no_id word b p.0 q)
-one_id_operand names (Word word) (operand.Variable a) (operand.Variable b) p q = ap operand.Variable (one_variable names word a b p q)
-one_id_operand names (Word word) (operand.Id n) y p q = absurd q
-one_id_operand names (Word word) (operand.Variable a) y p q = absurd q
+one_id_operand : (names : List (List ℕ)) (token : Token) (x y : IdOperand) → IsIdOperand names token x → IsIdOperand names token y → x ≡ y
+one_id_operand names (Word word) (id.Id a) (id.Id b) p q = ap id.Id (one_id word a b p q)
+one_id_operand names (Word word) (id.Id a) (id.Variable b) p q = absurd (name_no_id word a q.0 p)
+one_id_operand names (Word word) (id.Variable a) (id.Id b) p q = absurd (name_no_id word b p.0 q)
+one_id_operand names (Word word) (id.Variable a) (id.Variable b) p q = ap id.Variable (one_variable names word a b p q)
 one_id_operand names token x y p q = absurd p
 
--- bytes are one type at most
-one_type : (bytes : List ℕ) (x y : Operand) → IsTypeOfBytes bytes x → IsTypeOfBytes bytes y → x ≡ y
-one_type bytes (operand.«Type» a) (operand.«Type» b) p q = ap operand.«Type» (sym p.1 ∙ q.1)
-one_type bytes (operand.«Type» a) y p q = absurd q
-one_type bytes x y p q = absurd p
-
 -- a token is one type at most
-one_type_operand : (token : Token) (x y : Operand) → IsTypeOperand token x → IsTypeOperand token y → x ≡ y
-one_type_operand (Single inner) x y p q = one_type inner x y p.0 q.0
-one_type_operand (Hexadecimal digits) x y p q =
-    let same : q.0 ≡ p.0 = one_decoding digits q.0 p.0 q.1 p.1 in
-    one_type p.0 x y p.2 (subst (λ (bytes : List ℕ). IsTypeOfBytes bytes y) same q.2)
-one_type_operand token x y p q = absurd p
+one_type_operand : (token : Token) (a b : List ℕ) → IsTypeOperand token a → IsTypeOperand token b → a ≡ b
+one_type_operand (Single inner) a b p q = sym p.0.1 ∙ q.0.1
+one_type_operand (Hexadecimal digits) a b p q = sym p.2.1 ∙ one_decoding digits p.0 q.0 p.1 q.1 ∙ q.2.1
+one_type_operand token a b p q = absurd p
 
--- a token is one operand of a kind at most
-one_operand : (names : List (List ℕ)) (kind : OperandKind) (token : Token) (x y : Operand) → IsOperand names kind token x → IsOperand names kind token y → x ≡ y
-one_operand names Number token x y p q = one_number_operand names token x y p q
-one_operand names Bytes token x y p q = one_bytes_operand token x y p q
-one_operand names Id token x y p q = one_id_operand names token x y p q
-one_operand names TypeKind token x y p q = one_type_operand token x y p q
-one_operand names OptionalBytes token x y p q = one_bytes_operand token x y p q
-one_operand names OptionalNumber token x y p q = one_number_operand names token x y p q
+-- two operands are of one sort
+abbrev pub AreAlike : Operand → Operand → Type 0
+AreAlike (Number x) (Number y) = Unit {0}
+AreAlike (Bytes x) (Bytes y) = Unit {0}
+AreAlike (Id x) (Id y) = Unit {0}
+AreAlike (Kind x) (Kind y) = Unit {0}
+AreAlike x y = ⊥
 
--- tokens are one list of operands at most
-pub one_operands : (names : List (List ℕ)) (kinds : List OperandKind) (tokens : List Token) (xs ys : List Operand) → AreOperands names kinds tokens xs → AreOperands names kinds tokens ys → xs ≡ ys
-one_operands names [] [] [] [] p q = refl
-one_operands names [] [] [] (y ∷ ys) p q = absurd q
-one_operands names [] [] (x ∷ xs) ys p q = absurd p
-one_operands names [] (t ∷ ts) xs ys p q = absurd p
-one_operands names (k ∷ ks) [] [] ys p q = absurd p
-one_operands names (k ∷ ks) [] (x ∷ xs) [] p q = absurd q
-one_operands names (k ∷ ks) [] (x ∷ xs) (y ∷ ys) p q =
-    let head : x ≡ y = p.0.1 ∙ sym q.0.1 in
-    let tail : xs ≡ ys = one_operands names ks [] xs ys p.1 q.1 in
-    cc
-one_operands names (k ∷ ks) (t ∷ ts) [] ys p q = absurd p
-one_operands names (k ∷ ks) (t ∷ ts) (x ∷ xs) [] p q = absurd q
-one_operands names (k ∷ ks) (t ∷ ts) (x ∷ xs) (y ∷ ys) p q =
-    let head : x ≡ y = one_operand names k t x y p.0 q.0 in
-    let tail : xs ≡ ys = one_operands names ks ts xs ys p.1 q.1 in
+-- a token is one operand of a sort at most
+one_operand : (names : List (List ℕ)) (token : Token) (x y : Operand) → AreAlike x y → IsOperand names token x → IsOperand names token y → x ≡ y
+one_operand names token (Number x) (Number y) alike p q = ap Number (one_number_operand names token x y p q)
+one_operand names token (Bytes x) (Bytes y) alike p q = ap Bytes (one_bytes_operand token x y p q)
+one_operand names token (Id x) (Id y) alike p q = ap Id (one_id_operand names token x y p q)
+one_operand names token (Kind x) (Kind y) alike p q = ap Kind (one_type_operand token x y p q)
+one_operand names token x y alike p q = absurd alike
+
+-- operands in the same place are of one sort
+abbrev pub AreAllAlike : List Operand → List Operand → Type 0
+AreAllAlike (x ∷ xs) (y ∷ ys) = AreAlike x y × AreAllAlike xs ys
+AreAllAlike xs ys = Unit {0}
+
+-- tokens are one list of operands of these sorts at most
+pub one_operands : (names : List (List ℕ)) (tokens : List Token) (xs ys : List Operand) → AreAllAlike xs ys → AreOperands names tokens xs → AreOperands names tokens ys → xs ≡ ys
+one_operands names [] [] [] alike p q = refl
+one_operands names [] [] (y ∷ ys) alike p q = absurd q
+one_operands names [] (x ∷ xs) ys alike p q = absurd p
+one_operands names (t ∷ ts) [] ys alike p q = absurd p
+one_operands names (t ∷ ts) (x ∷ xs) [] alike p q = absurd q
+one_operands names (t ∷ ts) (x ∷ xs) (y ∷ ys) alike p q =
+    let head : x ≡ y = one_operand names t x y alike.0 p.0 q.0 in
+    let tail : xs ≡ ys = one_operands names ts xs ys alike.1 p.1 q.1 in
     cc
 
 -- `=` is no operand
-no_equals : (names : List (List ℕ)) (kind : OperandKind) (x : Operand) → ¬ IsOperand names kind Equals x
-no_equals names Number x p = p
-no_equals names Bytes x p = p
-no_equals names Id x p = p
-no_equals names TypeKind x p = p
-no_equals names OptionalBytes x p = p
-no_equals names OptionalNumber x p = p
+no_equals : (names : List (List ℕ)) (x : Operand) → ¬ IsOperand names Equals x
+no_equals names (Number x) p = p
+no_equals names (Bytes x) p = p
+no_equals names (Id x) p = p
+no_equals names (Kind x) p = p
 
 -- operands don't begin with `=`
-pub operands_no_equals : (names : List (List ℕ)) (kinds : List OperandKind) (tokens : List Token) (xs : List Operand) → ¬ AreOperands names kinds (Equals ∷ tokens) xs
-operands_no_equals names [] tokens xs p = p
-operands_no_equals names (k ∷ ks) tokens [] p = p
-operands_no_equals names (k ∷ ks) tokens (x ∷ xs) p = no_equals names k x p.0
+pub operands_no_equals : (names : List (List ℕ)) (tokens : List Token) (xs : List Operand) → ¬ AreOperands names (Equals ∷ tokens) xs
+operands_no_equals names tokens [] p = p
+operands_no_equals names tokens (x ∷ xs) p = no_equals names x p.0

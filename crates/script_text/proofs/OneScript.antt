@@ -2,53 +2,47 @@
 use Rattle.std.proofs.Common.{◌≡◌, ℕ, ◌+◌, List, [], ◌∷◌, ◌++◌, Option, Some, None, refl, sym, ap, subst, ◌∙◌}
 use Rattle.std.specs.Prelude.{option_map}
 use Rattle.std.specs.Str.Lines.{lines}
-use Rattle.mac_calls.specs.declared.table.CallName.{CallName}
 use Rattle.script_lang.specs.declared.line.Name.{Name}
-use Rattle.script_lang.specs.declared.line.Operand.{Operand}
+use Rattle.script_lang.specs.declared.line.NamedCall.{NamedCall}
 use Rattle.script_lang.specs.declared.line.CallLine.{CallLine}
 use Rattle.script_lang.specs.declared.line.Line.{Line}
 use Rattle.script_lang.specs.declared.line.Statement.{Statement}
 use Rattle.script_lang.specs.declared.line.Statement.TheVariants.{Call, Answer}
 use Rattle.script_text.specs.Tokens.{Token, Equals, Word}
-use Rattle.mac_calls.specs.Calls.{signature}
-use Rattle.script_text.specs.Operands.{AreOperands}
+use Rattle.script_lang.specs.Lines.{name_of}
+use Rattle.script_lang.specs.Table.{signature}
+use Rattle.script_text.specs.Operands.{AreOperands, operands_of}
 use Rattle.script_text.specs.Names.{place_for}
 use Rattle.script_text.specs.Script.{assignment, IsCall, IsStatement, IsLine, names_after, AreLines, AreParted, OneReading}
 use Rattle.script_text.proofs.TokenLaws.{one_tokens}
-use Rattle.mac_calls.proofs.CallNames.{one_call}
-use Rattle.script_text.proofs.OneOperand.{one_operands, operands_no_equals}
+use Rattle.script_lang.proofs.CallNames.{one_call}
+use Rattle.script_text.proofs.OneOperand.{operands_no_equals}
+use Rattle.script_text.proofs.OneCall.{one_named}
 use Rattle.script_text.proofs.OneAnswer.{one_answer, not_both}
 
 -- a call of these parts
-abbrev made : Option Name → CallName → List Operand → CallLine
-made assigned call operands = record { assigned = assigned; call = call; operands = operands }
-
-one_made : (a b : CallLine) → a.assigned ≡ b.assigned → a.call ≡ b.call → a.operands ≡ b.operands → a ≡ b
-one_made a b assigned call operands =
-    ap (λ (x : Option Name). made x a.call a.operands) assigned
-    ∙ ap (λ (x : CallName). made b.assigned x a.operands) call
-    ∙ ap (λ (x : List Operand). made b.assigned b.call x) operands
+abbrev made : Option Name → NamedCall → CallLine
+made assigned call = record { assigned = assigned; call = call }
 
 -- what stands behind a name and `=`, and what stands behind a call
-one_assignment : (names : List (List ℕ)) (a b : CallLine) (p q : List Token) → AreOperands names (signature a.call).operands p a.operands → AreOperands names (signature b.call).operands q b.operands → (x y : Option (List ℕ)) → assignment x ++ Word (signature a.call).name ∷ p ≡ assignment y ++ Word (signature b.call).name ∷ q → (x ≡ y) × ((signature a.call).name ≡ (signature b.call).name) × (p ≡ q)
+one_assignment : (names : List (List ℕ)) (a b : CallLine) (p q : List Token) → AreOperands names p (operands_of a.call) → AreOperands names q (operands_of b.call) → (x y : Option (List ℕ)) → assignment x ++ Word (signature (name_of a.call)).name ∷ p ≡ assignment y ++ Word (signature (name_of b.call)).name ∷ q → (x ≡ y) × ((signature (name_of a.call)).name ≡ (signature (name_of b.call)).name) × (p ≡ q)
 one_assignment names a b p q here there None None e = (refl, cc, cc)
 one_assignment names a b p q here there (Some x) (Some y) e = (cc, cc, cc)
 one_assignment names a b p q here there None (Some y) e =
-    let begins : p ≡ Equals ∷ Word (signature b.call).name ∷ q = cc in
-    absurd (operands_no_equals names (signature a.call).operands (Word (signature b.call).name ∷ q) a.operands (subst (λ (t : List Token). AreOperands names (signature a.call).operands t a.operands) begins here))
+    let begins : p ≡ Equals ∷ Word (signature (name_of b.call)).name ∷ q = cc in
+    absurd (operands_no_equals names (Word (signature (name_of b.call)).name ∷ q) (operands_of a.call) (subst (λ (t : List Token). AreOperands names t (operands_of a.call)) begins here))
 one_assignment names a b p q here there (Some x) None e =
-    let begins : q ≡ Equals ∷ Word (signature a.call).name ∷ p = cc in
-    absurd (operands_no_equals names (signature b.call).operands (Word (signature a.call).name ∷ p) b.operands (subst (λ (t : List Token). AreOperands names (signature b.call).operands t b.operands) begins there))
+    let begins : q ≡ Equals ∷ Word (signature (name_of a.call)).name ∷ p = cc in
+    absurd (operands_no_equals names (Word (signature (name_of a.call)).name ∷ p) (operands_of b.call) (subst (λ (t : List Token). AreOperands names t (operands_of b.call)) begins there))
 
 -- tokens make one call at most
 one_made_call : (names : List (List ℕ)) (tokens : List Token) (a b : CallLine) → IsCall names tokens a → IsCall names tokens b → a ≡ b
 one_made_call names tokens a b p q =
     let parts = one_assignment names a b p.1 q.1 p.5 q.5 p.0 q.0 (sym p.2 ∙ q.2) in
-    let call = one_call a.call b.call parts.1 in
-    let there : AreOperands names (signature a.call).operands p.1 b.operands =
-    subst (λ (c : CallName). AreOperands names (signature c).operands p.1 b.operands) (sym call) (subst (λ (t : List Token). AreOperands names (signature b.call).operands t b.operands) (sym parts.2) q.5) in
+    let name = one_call (name_of a.call) (name_of b.call) parts.1 in
+    let there : AreOperands names p.1 (operands_of b.call) = subst (λ (t : List Token). AreOperands names t (operands_of b.call)) (sym parts.2) q.5 in
     let assigned : a.assigned ≡ b.assigned = p.4 ∙ ap (λ (n : Option (List ℕ)). option_map (place_for names) n) parts.0 ∙ sym q.4 in
-    one_made a b assigned call (one_operands names (signature a.call).operands p.1 a.operands b.operands p.5 there)
+    ap (λ (x : Option Name). made x a.call) assigned ∙ ap (made b.assigned) (one_named names p.1 a.call b.call name p.5 there)
 
 -- tokens say one thing at most
 one_statement : (names : List (List ℕ)) (tokens : List Token) (a b : Statement) → IsStatement names tokens a → IsStatement names tokens b → a ≡ b

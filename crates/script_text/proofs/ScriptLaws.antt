@@ -92,7 +92,7 @@ slice_get-at (text ∷ front) here behind = slice_get-at front here behind
 -- a text that is no line
 pub parsing_fails : (text rest behind here : List ℕ) (number : ℕ) (names : List (List ℕ)) (script : List Line) (found : Fault) → length text ≤ max_script → Parsing text rest number names script → lines rest ≡ here ∷ lines behind → Fails (number + 1) names here found → IsFault text found
 parsing_fails text rest behind here number names script fault.HostFull small p split none = tt
-parsing_fails text rest behind here number names script (fault.Line n) small p split none =
+parsing_fails text rest behind here number names script (fault.Line n wrong) small p split none =
     subst (λ (k : ℕ). IsFaultAt text k) (sym (none.0 ∙ add-one number)) stops
   where
     whole : lines text ≡ p.front ++ here ∷ lines behind

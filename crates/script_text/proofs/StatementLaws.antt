@@ -1,13 +1,14 @@
 -- What the tokens of a line say.
-use Rattle.std.proofs.Common.{◌≡◌, ◌≢◌, ℕ, ◌≤◌, List, [], ◌∷◌, Some, refl, subst}
+use Rattle.std.proofs.Common.{◌≡◌, ◌≢◌, ℕ, ◌<◌, ◌≤◌, List, [], ◌∷◌, length, Option, None, Some, refl, subst, arith}
 use Rattle.script_lang.specs.declared.line.CallLine.{CallLine}
 use Rattle.script_lang.specs.declared.line.Statement.{Statement}
 use Rattle.script_lang.specs.declared.line.Statement.TheVariants.{Call, Answer}
 use Rattle.script_lang.specs.declared.line.WrittenAnswer.{WrittenAnswer}
 use Rattle.script_text.specs.Answers.{IsAnswer}
 use Rattle.script_text.specs.Tokens.{Token, AreTokens}
-use Rattle.script_text.specs.Script.{IsCall, IsStatement, MayStand, IsNoLine, names_after, max_lines}
+use Rattle.script_text.specs.Script.{assigned_by, IsCall, IsStatement, MayStand, IsNoLine, names_after, with_assigned, max_lines}
 use Rattle.script_text.specs.Reading.{Says, Reads}
+use Rattle.script_text.proofs.NameLaws.{with_name-few}
 use Rattle.script_text.proofs.TokenLaws.{one_tokens}
 
 says_none : (number : ℕ) (names : List (List ℕ)) (tokens : List Token) → tokens ≢ [] → ((statement : Statement) → ¬ IsStatement names tokens statement) → ¬ MayStand number names tokens
@@ -32,3 +33,11 @@ no_statement names tokens call answer (Answer line) is = answer line is
 -- the tokens of a text that make a call or queue an answer say what its line says
 pub reads_statement : (number : ℕ) (names after : List (List ℕ)) (text : List ℕ) (tokens : List Token) (statement : Statement) → number ≤ max_lines → AreTokens text tokens → tokens ≢ [] → IsStatement names tokens statement → after ≡ names_after names tokens → Reads number names text (Some (record { number = number; statement = statement })) after
 reads_statement number names after text tokens statement small are some is named = record { tokens = tokens; are = are; says = says_line number names tokens statement small some is; named = named }
+
+named_few : (number : ℕ) (names : List (List ℕ)) (name : Option (List ℕ)) → length names < number → length (with_assigned names name) ≤ number
+named_few number names None few = omega (arith, few)
+named_few number names (Some name) few = omega (arith, few, with_name-few names name)
+
+-- a line assigns one name at most
+pub names_after-few : (number : ℕ) (names : List (List ℕ)) (tokens : List Token) → length names < number → length (names_after names tokens) ≤ number
+names_after-few number names tokens few = named_few number names (assigned_by tokens) few

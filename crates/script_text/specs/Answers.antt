@@ -5,7 +5,6 @@ use Rattle.script_lang.specs.declared.line.ReleasingName.TheVariants.{DisposeHan
 use Rattle.script_lang.specs.declared.line.WrittenAnswer.{WrittenAnswer}
 use Rattle.script_lang.specs.declared.line.WrittenCall.{WrittenCall}
 use Rattle.script_lang.specs.Calls.{most_calls}
-use Rattle.script_lang.specs.Numbers.{as_operand}
 use Rattle.script_text.specs.Tokens.{Token, Semicolon, Word}
 use Rattle.script_text.specs.Operands.{IsNumberOperand}
 
@@ -21,7 +20,7 @@ IsNamed token name = token ≡ Word (releasing_text name)
 
 -- two tokens are this call: its name, and its operand, which is a number or a variable that was assigned before
 abbrev pub IsWrittenCall : List (List ℕ) → Token → Token → WrittenCall → Type 0
-IsWrittenCall names name operand written = IsNamed name written.call × IsNumberOperand names operand (as_operand written.operand)
+IsWrittenCall names name operand written = IsNamed name written.call × IsNumberOperand names operand written.operand
 
 -- the tokens are these calls, in order, parted by semicolons
 abbrev pub AreCalls : List (List ℕ) → List Token → List WrittenCall → Type 0
@@ -40,7 +39,7 @@ IsAnswer names tokens answer =
     (value : Token)
     × (calls : List Token)
     × (tokens ≡ Word (codes "gz") ∷ value ∷ calls)
-    × IsNumberOperand names value (as_operand answer.value)
+    × IsNumberOperand names value answer.value
     × AreCalls names calls answer.calls
     × (length answer.calls ≤ most_calls)
 

@@ -1,13 +1,16 @@
 -- What an operand of a script stands for.
-use Rattle.std.specs.Prelude.{◌≡◌, ◌≢◌, ℕ, ◌+◌, ◌*◌, ◌^◌, ◌<◌, ◌≤◌, ◌⊎◌, ℤ, pos, neg_ℤ, Bool, false, ◌==◌, ◌||◌, ◌&&◌, nat_le, IsTrue, List, [], ◌∷◌, Option, Some, None, length}
+use Rattle.std.specs.Prelude.{◌≡◌, ◌≢◌, ℕ, ◌+◌, ◌*◌, ◌^◌, ◌<◌, ◌≤◌, ◌⊎◌, ℤ, pos, neg_ℤ, Bool, false, ◌==◌, ◌||◌, ◌&&◌, nat_le, IsTrue, List, [], ◌∷◌, Some, length, map, option_to_list}
 use Rattle.std.specs.List.{list_all}
 use Rattle.std.specs.Char.{is_ascii_alphabetic, is_ascii_alphanumeric, digit_value}
 use Rattle.std.specs.Str.Parse.{AllDigits, digits_value}
-use Rattle.mac_calls.specs.declared.table.OperandKind.{OperandKind}
-use Rattle.mac_calls.specs.declared.table.OperandKind.TheVariants.{Number, Bytes, Id, «Type» as TypeKind, OptionalBytes, OptionalNumber}
-use Rattle.mac_calls.specs.Calls.{may_be_missing}
-use Rattle.script_lang.specs.declared.line.Operand.{Operand}
-use Rattle.script_lang.specs.declared.line.Operand.TheVariants as operand
+use Rattle.script_lang.specs.declared.line.IdOperand.{IdOperand}
+use Rattle.script_lang.specs.declared.line.IdOperand.TheVariants as id_operand
+use Rattle.script_lang.specs.declared.line.NamedCall.{NamedCall}
+use Rattle.script_lang.specs.declared.line.NamedCall.TheVariants as named
+use Rattle.script_lang.specs.declared.line.NumberOperand.{NumberOperand}
+use Rattle.script_lang.specs.declared.line.NumberOperand.TheVariants as number_operand
+use Rattle.script_lang.specs.declared.table.CallName.{CallName}
+use Rattle.script_lang.specs.Lines.{name_of}
 use Rattle.script_text.specs.Tokens.{Token, Word, Single, Double, Hexadecimal}
 use Rattle.script_text.specs.Names.{place_of}
 
@@ -69,51 +72,69 @@ abbrev pub IsVariable : List (List ℕ) → List ℕ → ℕ → Type 0
 IsVariable names word name = IsTrue (is_name word) × (place_of names word ≡ Some name)
 
 -- a word is this number, or the name of this assigned variable
-abbrev pub IsNumberOperand : List (List ℕ) → Token → Operand → Type 0
-IsNumberOperand names (Word word) (operand.Number n) = IsNumber word n
-IsNumberOperand names (Word word) (operand.Variable name) = IsVariable names word name
+abbrev pub IsNumberOperand : List (List ℕ) → Token → NumberOperand → Type 0
+IsNumberOperand names (Word word) (number_operand.Number n) = IsNumber word n
+IsNumberOperand names (Word word) (number_operand.Variable name) = IsVariable names word name
 IsNumberOperand names token written = ⊥
 
--- a text in double quotes, or of hexadecimal digits, is these bytes
-abbrev pub IsBytesOperand : Token → Operand → Type 0
-IsBytesOperand (Double inner) (operand.Bytes bytes) = (inner ≡ bytes) × IsTrue (list_all is_printable inner)
-IsBytesOperand (Hexadecimal digits) (operand.Bytes bytes) = AreDigitsOf digits bytes
-IsBytesOperand token written = ⊥
-
 -- a word is this id, or the name of this assigned variable
-abbrev pub IsIdOperand : List (List ℕ) → Token → Operand → Type 0
-IsIdOperand names (Word word) (operand.Id id) = IsId word id
-IsIdOperand names (Word word) (operand.Variable name) = IsVariable names word name
+abbrev pub IsIdOperand : List (List ℕ) → Token → IdOperand → Type 0
+IsIdOperand names (Word word) (id_operand.Id id) = IsId word id
+IsIdOperand names (Word word) (id_operand.Variable name) = IsVariable names word name
 IsIdOperand names token written = ⊥
 
+-- a text in double quotes, or of hexadecimal digits, is these bytes
+abbrev pub IsBytesOperand : Token → List ℕ → Type 0
+IsBytesOperand (Double inner) bytes = (inner ≡ bytes) × IsTrue (list_all is_printable inner)
+IsBytesOperand (Hexadecimal digits) bytes = AreDigitsOf digits bytes
+IsBytesOperand token bytes = ⊥
+
 -- four bytes are this type
-abbrev pub IsTypeOfBytes : List ℕ → Operand → Type 0
-IsTypeOfBytes bytes (operand.«Type» four) = (length bytes ≡ 4) × (bytes ≡ four)
-IsTypeOfBytes bytes written = ⊥
+abbrev pub IsTypeOfBytes : List ℕ → List ℕ → Type 0
+IsTypeOfBytes bytes four = (length bytes ≡ 4) × (bytes ≡ four)
 
 -- a text in single quotes, which has no `'` inside, or of hexadecimal digits, is this type
-abbrev pub IsTypeOperand : Token → Operand → Type 0
-IsTypeOperand (Single inner) written = IsTypeOfBytes inner written × IsTrue (list_all is_printable inner)
-IsTypeOperand (Hexadecimal digits) written = (bytes : List ℕ) × AreDigitsOf digits bytes × IsTypeOfBytes bytes written
-IsTypeOperand token written = ⊥
+abbrev pub IsTypeOperand : Token → List ℕ → Type 0
+IsTypeOperand (Single inner) four = IsTypeOfBytes inner four × IsTrue (list_all is_printable inner)
+IsTypeOperand (Hexadecimal digits) four = (bytes : List ℕ) × AreDigitsOf digits bytes × IsTypeOfBytes bytes four
+IsTypeOperand token four = ⊥
 
--- a token is this operand of this kind, where these names have been assigned
-abbrev pub IsOperand : List (List ℕ) → OperandKind → Token → Operand → Type 0
-IsOperand names Number token written = IsNumberOperand names token written
-IsOperand names Bytes token written = IsBytesOperand token written
-IsOperand names Id token written = IsIdOperand names token written
-IsOperand names TypeKind token written = IsTypeOperand token written
-IsOperand names OptionalBytes token written = IsBytesOperand token written
-IsOperand names OptionalNumber token written = IsNumberOperand names token written
+-- an operand of a call
+pub data Operand : Type 0 where
+  Number : NumberOperand → Operand
+  Bytes : List ℕ → Operand
+  Id : IdOperand → Operand
+  -- a type
+  Kind : List ℕ → Operand
 
--- a token is this operand of this kind; where there is no token, one that may be missing is
-abbrev pub IsOperandAt : List (List ℕ) → OperandKind → Option Token → Operand → Type 0
-IsOperandAt names kind (Some token) written = IsOperand names kind token written
-IsOperandAt names kind None written = IsTrue (may_be_missing kind) × (written ≡ operand.Missing)
+-- the operands of a call, in order
+abbrev pub operands_of : NamedCall → List Operand
+operands_of (named.Plain call) = []
+operands_of (named.Number call one) = Number one ∷ []
+operands_of (named.TwoNumbers call first second) = Number first ∷ Number second ∷ []
+operands_of (named.ThreeNumbers call first second third) = Number first ∷ Number second ∷ Number third ∷ []
+operands_of (named.BlockMove from start to offset count) = Number from ∷ Number start ∷ Number to ∷ Number offset ∷ Number count ∷ []
+operands_of (named.Bytes call block offset bytes) = Number block ∷ Number offset ∷ Bytes bytes ∷ []
+operands_of (named.Resource call kind id) = Kind kind ∷ Id id ∷ []
+operands_of (named.GetIndResource kind index) = Kind kind ∷ Number index ∷ []
+operands_of (named.Kind call kind) = Kind kind ∷ []
+-- the name and the file may be left out
+operands_of (named.AddResource handle kind id name) = Number handle ∷ Kind kind ∷ Id id ∷ map Bytes (option_to_list name)
+operands_of (named.File call file) = map Number (option_to_list file)
 
--- the tokens are operands of these kinds, in order, one for each; where no token is left, one that may be missing is
-abbrev pub AreOperands : List (List ℕ) → List OperandKind → List Token → List Operand → Type 0
-AreOperands names [] [] [] = Unit {0}
-AreOperands names (kind ∷ kinds) [] (written ∷ others) = IsOperandAt names kind None written × AreOperands names kinds [] others
-AreOperands names (kind ∷ kinds) (token ∷ tokens) (operand ∷ operands) = IsOperand names kind token operand × AreOperands names kinds tokens operands
-AreOperands names kinds tokens operands = ⊥
+-- a token is this operand, where these names have been assigned
+abbrev pub IsOperand : List (List ℕ) → Token → Operand → Type 0
+IsOperand names token (Number number) = IsNumberOperand names token number
+IsOperand names token (Bytes bytes) = IsBytesOperand token bytes
+IsOperand names token (Id id) = IsIdOperand names token id
+IsOperand names token (Kind four) = IsTypeOperand token four
+
+-- the tokens are these operands, in order, one for each
+abbrev pub AreOperands : List (List ℕ) → List Token → List Operand → Type 0
+AreOperands names [] [] = Unit {0}
+AreOperands names (token ∷ tokens) (operand ∷ operands) = IsOperand names token operand × AreOperands names tokens operands
+AreOperands names tokens operands = ⊥
+
+-- the call has this name, and the tokens are its operands
+abbrev pub IsNamedCall : List (List ℕ) → CallName → List Token → NamedCall → Type 0
+IsNamedCall names name tokens call = (name_of call ≡ name) × AreOperands names tokens (operands_of call)

@@ -25,5 +25,5 @@ Adds number names text script after longer = (found : Option Line) × Reads numb
 
 -- the reason why a text is no line with this number holds; want of memory may come at any time
 abbrev pub Fails : ℕ → List (List ℕ) → List ℕ → Fault → Type 0
-Fails number names text (fault.Line n) = (n ≡ number) × IsNoLine number names text
+Fails number names text (fault.Line n wrong) = (n ≡ number) × IsNoLine number names text
 Fails number names text fault.HostFull = Unit {0}

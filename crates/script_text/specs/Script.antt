@@ -8,10 +8,11 @@ use Rattle.script_lang.specs.declared.line.Statement.TheVariants.{Call, Answer}
 use Rattle.script_text.specs.declared.script.Fault.{Fault}
 use Rattle.script_text.specs.declared.script.Fault.TheVariants as fault
 use Rattle.script_text.specs.Tokens.{Token, Equals, Word, AreTokens}
-use Rattle.mac_calls.specs.declared.table.CallName.{CallName}
-use Rattle.mac_calls.specs.Calls.{signature}
+use Rattle.script_lang.specs.declared.table.CallName.{CallName}
+use Rattle.script_lang.specs.Lines.{name_of}
+use Rattle.script_lang.specs.Table.{signature}
 use Rattle.script_text.specs.Answers.{IsAnswer}
-use Rattle.script_text.specs.Operands.{is_name, AreOperands}
+use Rattle.script_text.specs.Operands.{is_name, operands_of, AreOperands}
 use Rattle.script_text.specs.Names.{place_for, with_name}
 
 -- `name =`, or nothing
@@ -39,13 +40,13 @@ MayAssign is_assignable name = IfSome name (λ word. IsTrue (is_name word) × Is
 -- [name =] Call operand ..; a variable among the operands was assigned before, and the name takes its own place
 abbrev pub IsCall : List (List ℕ) → List Token → CallLine → Type 0
 IsCall names tokens line =
-    let call = signature line.call in
+    let call = signature (name_of line.call) in
     (name : Option (List ℕ))
     × (operands : List Token)
     × (tokens ≡ assignment name ++ Word call.name ∷ operands)
     × IfSome name (λ word. IsTrue (is_name word) × IsTrue call.is_assignable)
     × (line.assigned ≡ option_map (place_for names) name)
-    × AreOperands names call.operands operands line.operands
+    × AreOperands names operands (operands_of line.call)
 
 -- the tokens make this call, or queue this answer
 abbrev pub IsStatement : List (List ℕ) → List Token → Statement → Type 0
@@ -122,7 +123,7 @@ IsFaultAt text (suc count) = StopsBehind text count
 
 -- the reason why bytes are no script holds; want of memory may come at any time
 abbrev pub IsFault : List ℕ → Fault → Type 0
-IsFault text (fault.Line number) = IsFaultAt text number
+IsFault text (fault.Line number wrong) = IsFaultAt text number
 IsFault text fault.HostFull = Unit {0}
 
 -- No bytes have two first lines that are none.

@@ -1,23 +1,22 @@
 //! Operands: numbers, names, bytes, ids and types.
 
-ghost use Rattle.std.specs.Prelude.{◌≡◌, ℕ, ◌<◌, ◌≤◌, ◌^◌, List, IfOk, IfSome, IfNone, SomeIff, [], ◌∷◌, map, option_map};
+ghost use Rattle.std.specs.Prelude.{◌≡◌, ℕ, ◌<◌, ◌≤◌, ◌^◌, IfOk, IfSome, IfNone, SomeIff, ◌∷◌};
 ghost use Rattle.std.specs.Char.{digit_value};
 ghost use Rattle.std.specs.List.{list_all};
 ghost use Rattle.std.specs.Option.{option_copied};
-ghost use Rattle.mac_calls.specs.declared.table.OperandKind.TheVariants as kind;
-ghost use Rattle.script_lang.specs.Numbers.{as_operand};
 ghost use Rattle.script_text.specs.Found.{Finds};
-ghost use Rattle.script_text.specs.Tokens.{Word, Single, Double, Hexadecimal};
+ghost use Rattle.script_text.specs.Tokens.{Single, Double, Hexadecimal};
 ghost use Rattle.script_text.specs.Front.{view};
-ghost use Rattle.script_text.specs.Operands.{IsNumeral, IsNumber, IsByte, AreDigitsOf, is_name, is_name_byte, is_printable, IsPositiveId, IsNegativeId, IsId, IsVariable, IsNumberOperand, IsBytesOperand, IsIdOperand, IsTypeOfBytes, IsTypeOperand, IsOperand, IsOperandAt, AreOperands};
+ghost use Rattle.script_text.specs.Operands.{IsNumeral, IsNumber, IsByte, AreDigitsOf, is_name, is_name_byte, is_printable, IsPositiveId, IsNegativeId, IsId, IsVariable, IsNumberOperand, IsBytesOperand, IsIdOperand, IsTypeOfBytes, IsTypeOperand};
 
 use crate::names::Names;
 use crate::token::Token;
 use bumpalo::Bump;
 use bumpalo::collections::into_bump_slice;
 use mac_base::error::HostFull;
-use mac_calls::OperandKind;
-use script_lang::{Name, NumberOperand, Operand, OperandBytes, Operands, ReadOperands};
+use mac_base::resource::ResType;
+use mac_calls::Span;
+use script_lang::{IdOperand, Name, NumberOperand};
 
 /// The number of digits in a base, if it has at most 32 bits.
 fn numeral(word: &[u8], base: u32) -> Option<u32>
@@ -121,7 +120,7 @@ fn is_printable(byte: u8) -> bool
 }
 
 /// Whether all bytes may stand in quotes.
-fn are_printable(bytes: &[u8]) -> bool
+pub(crate) fn are_printable(bytes: &[u8]) -> bool
     ensures { result ≡ list_all is_printable bytes.now }
 {
     let mut all = true;
@@ -141,10 +140,13 @@ fn variable(word: &[u8], names: &Names<'_>) -> Option<Name>
     names.find(word)
 }
 
-/// A number, or the name of a variable that has been assigned.
-fn number_word(word: &[u8], names: &Names<'_>) -> Option<NumberOperand>
-    ensures { Finds result (λ x. IsNumberOperand names.now (Word word.now) (as_operand x)) }
+/// The number or the variable that a token is.
+pub(crate) fn number_or_variable(token: Token<'_>, names: &Names<'_>) -> Option<NumberOperand>
+    ensures { Finds result (IsNumberOperand names.now (view token.entry)) }
 {
+    let Token::Word(word) = token else {
+        return None;
+    };
     if let Some(number) = number(word) {
         return Some(NumberOperand::Number(number));
     }
@@ -154,47 +156,20 @@ fn number_word(word: &[u8], names: &Names<'_>) -> Option<NumberOperand>
     }
 }
 
-/// The number or the variable that a token is.
-pub(crate) fn number_or_variable(token: Token<'_>, names: &Names<'_>) -> Option<NumberOperand>
-    ensures { Finds result (λ x. IsNumberOperand names.now (view token.entry) (as_operand x)) }
+/// The id or the variable that a token is.
+pub(crate) fn id_or_variable(token: Token<'_>, names: &Names<'_>) -> Option<IdOperand>
+    ensures { Finds result (IsIdOperand names.now (view token.entry)) }
 {
-    match token {
-        Token::Word(word) => number_word(word, names),
-        _ => None,
-    }
-}
-
-/// The operand that is a number or a variable.
-fn number_operand<'a>(word: &[u8], names: &Names<'_>) -> Option<Operand<'a>>
-    ensures { Finds result (IsNumberOperand names.now (Word word.now)) }
-{
-    match number_word(word, names) {
-        Some(number) => Some(number.as_operand()),
-        None => None,
-    }
-}
-
-/// An id, or the name of a variable that has been assigned.
-fn id_operand<'a>(word: &[u8], names: &Names<'_>) -> Option<Operand<'a>>
-    ensures { Finds result (IsIdOperand names.now (Word word.now)) }
-{
+    let Token::Word(word) = token else {
+        return None;
+    };
     if let Some(id) = id(word) {
-        return Some(Operand::Id(id));
+        return Some(IdOperand::Id(id));
     }
     match variable(word, names) {
-        Some(name) => Some(Operand::Variable(name)),
+        Some(name) => Some(IdOperand::Variable(name)),
         None => None,
     }
-}
-
-/// The bytes of a text in double quotes.
-fn quoted_bytes<'a>(inner: &'a [u8]) -> Option<Operand<'a>>
-    ensures { Finds result (IsBytesOperand (Double inner.now)) }
-{
-    if !are_printable(inner) {
-        return None;
-    }
-    Some(Operand::Bytes(OperandBytes::new(inner)))
 }
 
 /// The value of each byte as a hexadecimal digit of either case, and 255 where it is none.
@@ -216,7 +191,7 @@ static DIGIT_VALUES: [u8; 256] = [
 ];
 
 /// The value of a hexadecimal digit of either case.
-fn hexadecimal_digit(digit: u8) -> Option<u8>
+pub(crate) fn hexadecimal_digit(digit: u8) -> Option<u8>
     ensures { SomeIff result (digit_value digit < 16) (digit_value digit) }
 {
     let value = DIGIT_VALUES[digit as usize];
@@ -249,29 +224,60 @@ fn bytes_of_digits<'a>(arena: &'a Bump, digits: &[u8]) -> Result<Option<&'a [u8]
     Ok(Some(into_bump_slice(bytes)))
 }
 
-/// The bytes of a text in quotes behind `$`.
-fn hexadecimal_bytes<'a>(arena: &'a Bump, digits: &[u8]) -> Result<Option<Operand<'a>>, HostFull>
-    ensures { IfOk result (λ found.
-        Finds found (IsBytesOperand (Hexadecimal digits.now))) }
+/// The bytes that a token is.
+pub fn bytes_of<'a>(arena: &'a Bump, token: Token<'a>) -> Result<Option<Span<'a>>, HostFull>
+    ensures { IfOk result (λ found. Finds found (IsBytesOperand (view token.entry))) }
 {
-    let Some(bytes) = bytes_of_digits(arena, digits)? else {
-        return Ok(None);
-    };
-    Ok(Some(Operand::Bytes(OperandBytes::new(bytes))))
+    match token {
+        Token::Double(inner) => Ok(quoted_bytes(inner)),
+        Token::Hexadecimal(digits) => hexadecimal_bytes(arena, digits),
+        _ => Ok(None),
+    }
+}
+
+/// The bytes of a text in double quotes.
+fn quoted_bytes<'a>(inner: &'a [u8]) -> Option<Span<'a>>
+    ensures { Finds result (IsBytesOperand (Double inner.now)) }
+{
+    if !are_printable(inner) {
+        return None;
+    }
+    Some(Span::new(inner))
+}
+
+/// The bytes of a text in quotes behind `$`.
+fn hexadecimal_bytes<'a>(arena: &'a Bump, digits: &[u8]) -> Result<Option<Span<'a>>, HostFull>
+    ensures { IfOk result (λ found. Finds found (IsBytesOperand (Hexadecimal digits.now))) }
+{
+    match bytes_of_digits(arena, digits)? {
+        Some(bytes) => Ok(Some(Span::new(bytes))),
+        None => Ok(None),
+    }
+}
+
+/// The type that a token is.
+pub fn type_of(arena: &Bump, token: Token<'_>) -> Result<Option<ResType>, HostFull>
+    ensures { IfOk result (λ found. Finds found (IsTypeOperand (view token.entry))) }
+{
+    match token {
+        Token::Single(inner) => Ok(quoted_type(inner)),
+        Token::Hexadecimal(digits) => hexadecimal_type(arena, digits),
+        _ => Ok(None),
+    }
 }
 
 /// The type that four bytes are.
-fn type_of_bytes<'a>(bytes: &[u8]) -> Option<Operand<'a>>
+fn type_of_bytes(bytes: &[u8]) -> Option<ResType>
     ensures { Finds result (IsTypeOfBytes bytes.now) }
 {
     match bytes {
-        [first, second, third, fourth] => Some(Operand::Type([*first, *second, *third, *fourth])),
+        [first, second, third, fourth] => Some(ResType::new([*first, *second, *third, *fourth])),
         _ => None,
     }
 }
 
 /// The type that a text in single quotes is.
-fn quoted_type<'a>(inner: &[u8]) -> Option<Operand<'a>>
+fn quoted_type(inner: &[u8]) -> Option<ResType>
     ensures { Finds result (IsTypeOperand (Single inner.now)) }
 {
     if !are_printable(inner) {
@@ -281,132 +287,11 @@ fn quoted_type<'a>(inner: &[u8]) -> Option<Operand<'a>>
 }
 
 /// The type that a text in quotes behind `$` is.
-fn hexadecimal_type<'a>(arena: &'a Bump, digits: &[u8]) -> Result<Option<Operand<'a>>, HostFull>
-    ensures { IfOk result (λ found.
-        Finds found (IsTypeOperand (Hexadecimal digits.now))) }
+fn hexadecimal_type(arena: &Bump, digits: &[u8]) -> Result<Option<ResType>, HostFull>
+    ensures { IfOk result (λ found. Finds found (IsTypeOperand (Hexadecimal digits.now))) }
 {
     match bytes_of_digits(arena, digits)? {
         Some(bytes) => Ok(type_of_bytes(bytes)),
         None => Ok(None),
     }
-}
-
-/// The operand of this kind that a token is.
-#[inline(always)]
-fn operand<'a>(
-    arena: &'a Bump,
-    kind: OperandKind,
-    token: Token<'a>,
-    names: &Names<'_>,
-) -> Result<Option<Operand<'a>>, HostFull>
-    ensures { IfOk result (λ found. Finds found (IsOperand names.now kind (view token.entry))) }
-{
-    use OperandKind::{Bytes, Id, Number, OptionalBytes, OptionalNumber, Type};
-    match (kind, token) {
-        (Number | OptionalNumber, Token::Word(word)) => Ok(number_operand(word, names)),
-        (Bytes | OptionalBytes, Token::Double(inner)) => Ok(quoted_bytes(inner)),
-        (Bytes | OptionalBytes, Token::Hexadecimal(digits)) => hexadecimal_bytes(arena, digits),
-        (Id, Token::Word(word)) => Ok(id_operand(word, names)),
-        (Type, Token::Single(inner)) => Ok(quoted_type(inner)),
-        (Type, Token::Hexadecimal(digits)) => hexadecimal_type(arena, digits),
-        _ => Ok(None),
-    }
-}
-
-/// The operand of this kind that the token at a place is, which is missing where there is none and it may be.
-#[inline(always)]
-fn operand_at<'a>(
-    arena: &'a Bump,
-    kind: OperandKind,
-    token: Option<&Token<'a>>,
-    names: &Names<'_>,
-) -> Result<Option<Operand<'a>>, HostFull>
-    ensures { IfOk result (λ found.
-        Finds found (IsOperandAt names.now kind (option_map view (option_copied token.entry)))) }
-{
-    match token {
-        Some(token) => operand(arena, kind, *token, names),
-        None if kind.may_be_missing() => Ok(Some(Operand::Missing)),
-        None => Ok(None),
-    }
-}
-
-/// The number or the variable that a word is, where a call has no other operand.
-fn one_number<'a>(
-    arena: &'a Bump,
-    word: &[u8],
-    names: &Names<'_>,
-) -> Result<Option<Operands<'a>>, HostFull>
-    ensures { IfOk result (λ found.
-        Finds found (AreOperands names.now (kind.Number ∷ []) (Word word.now ∷ []))) }
-{
-    if let Some(number) = number(word) {
-        return Ok(Some(Operands::one(arena, Operand::Number(number))?));
-    }
-    match variable(word, names) {
-        Some(name) => Ok(Some(Operands::one(arena, Operand::Variable(name))?)),
-        None => Ok(None),
-    }
-}
-
-/// The operand of one kind that the tokens are.
-fn one_operand<'a>(
-    arena: &'a Bump,
-    kind: OperandKind,
-    tokens: &[Token<'a>],
-    names: &Names<'_>,
-) -> Result<Option<Operands<'a>>, HostFull>
-    ensures { IfOk result (λ found.
-        Finds found (AreOperands names.now (kind ∷ []) (map view tokens.now))) }
-{
-    // Most calls of one operand take a number.
-    if let (OperandKind::Number, [Token::Word(word)]) = (kind, tokens) {
-        return one_number(arena, word, names);
-    }
-    if tokens.len() > 1 {
-        return Ok(None);
-    }
-    match operand_at(arena, kind, tokens.first(), names)? {
-        Some(operand) => Ok(Some(Operands::one(arena, operand)?)),
-        None => Ok(None),
-    }
-}
-
-/// The operands of these kinds that the tokens are, one token for each kind but those that are missing.
-pub fn operands<'a>(
-    arena: &'a Bump,
-    kinds: &[OperandKind],
-    tokens: &[Token<'a>],
-    names: &Names<'_>,
-) -> Result<Option<Operands<'a>>, HostFull>
-    ensures { IfOk result (λ found.
-        Finds found (AreOperands names.now kinds.now (map view tokens.now))) }
-{
-    match kinds {
-        [kind] => one_operand(arena, *kind, tokens, names),
-        _ => some_operands(arena, kinds, tokens, names),
-    }
-}
-
-/// The operands of these kinds that the tokens are, for any number of kinds.
-fn some_operands<'a>(
-    arena: &'a Bump,
-    kinds: &[OperandKind],
-    tokens: &[Token<'a>],
-    names: &Names<'_>,
-) -> Result<Option<Operands<'a>>, HostFull>
-    ensures { IfOk result (λ found.
-        Finds found (AreOperands names.now kinds.now (map view tokens.now))) }
-{
-    if kinds.len() < tokens.len() {
-        return Ok(None);
-    }
-    let mut operands = ReadOperands::with_capacity(arena, kinds.len())?;
-    for (index, kind) in kinds.iter().enumerate() {
-        let Some(operand) = operand_at(arena, *kind, tokens.get(index), names)? else {
-            return Ok(None);
-        };
-        operands.push(&operand)?;
-    }
-    Ok(Some(operands.into_operands()))
 }

@@ -1,6 +1,6 @@
 //! The lines of a script.
 
-ghost use Rattle.std.specs.Prelude.{◌≡◌, [], ◌∷◌, ◌++◌, ◌<◌, ◌≤◌, ◌==◌, length, position, IfOk, IfErr, IfSome, OnOk, MatchOption};
+ghost use Rattle.std.specs.Prelude.{◌≡◌, [], ◌∷◌, ◌<◌, ◌≤◌, ◌==◌, length, position, IfOk, IfErr, IfSome, OnOk, MatchOption};
 ghost use Rattle.std.specs.Str.Lines.{lines, strip_carriage_return};
 ghost use Rattle.script_text.specs.Script as spec;
 ghost use Rattle.script_text.specs.declared.script.Fault.TheVariants.{HostFull};
@@ -9,10 +9,11 @@ ghost use Rattle.script_text.specs.Reading.{Reads, Fails, Adds};
 use crate::names::Names;
 use crate::statement::statement;
 use crate::token::{Token, read_tokens};
-use bumpalo::{Bump, ResetError};
+use crate::wrong::{Wrong, what_is_unread, what_is_wrong};
+use bumpalo::Bump;
 use mac_base::error::HostFull;
 use memchr::memchr;
-use script_lang::{Line, Script};
+use script_lang::Line;
 use std::alloc::{AllocFailed, Global};
 use thiserror::Error;
 
@@ -26,9 +27,9 @@ pub const MAX_LINES: u32 = 65536;
 #[derive(Clone, Copy, Debug, Error)]
 pub enum Fault {
     /// The first line that is none. It is 0 where the text has too many bytes, and one more than the largest
-    /// number of lines where it has too many of those.
-    #[error("script fault at line {0}")]
-    Line(u32),
+    /// number of lines where it has too many of those. And what is wrong with it.
+    #[error("script fault at line {0}: {1}")]
+    Line(u32, Wrong),
     /// The host refused memory.
     #[error("the host has no memory")]
     HostFull,
@@ -38,14 +39,6 @@ impl From<HostFull> for Fault {
     ghost from_gives = { λ _ fault. fault ≡ HostFull };
 
     fn from(_: HostFull) -> Fault {
-        Fault::HostFull
-    }
-}
-
-impl From<ResetError> for Fault {
-    ghost from_gives = { λ _ fault. fault ≡ HostFull };
-
-    fn from(_: ResetError) -> Fault {
         Fault::HostFull
     }
 }
@@ -90,71 +83,58 @@ fn first_line(text: &[u8]) -> Option<(&[u8], &[u8])>
     }
 }
 
-/// After so many lines their parts are given up, which a script has kept by then.
-const LINES_IN_ARENA: u32 = 64;
-
 /// Adds the line of this number to those before it, where these names have been assigned: none, if its text says nothing.
 /// The tokens are memory to be used again.
 fn add_line<'a>(
-    arena: &Bump,
+    arena: &'a Bump,
     number: u32,
     text: &'a [u8],
     tokens: &mut Vec<Token<'a>>,
     names: &mut Names<'a>,
-    script: &mut Script,
+    script: &mut Vec<Line<'a>>,
 ) -> Result<(), Fault>
     requires few { length names.old < number }
     ensures few { OnOk result (length names.new ≤ number) }
-    ensures line { OnOk result (Adds number names.old text.now script.old names.new script.new) }
+    ensures line { OnOk result (Adds number names.old text.now script.old.items names.new script.new.items) }
     ensures fault { IfErr result (Fails number names.old text.now) }
 {
     if number > MAX_LINES || !read_tokens(text, tokens)? {
-        return Err(Fault::Line(number));
+        return Err(Fault::Line(number, what_is_unread(number, text, tokens)));
     }
     if tokens.is_empty() {
         return Ok(());
     }
     let Some(statement) = statement(arena, tokens, names)? else {
-        return Err(Fault::Line(number));
+        return Err(Fault::Line(number, what_is_wrong(tokens, names)));
     };
-    script.push(&Line { number, statement })?;
+    script.push(Line { number, statement })?;
     Ok(())
 }
 
-/// Puts the lines of a text into an empty script.
-fn add_lines(alloc: Global, text: &[u8], script: &mut Script) -> Result<(), Fault>
-    requires small { length text.now ≤ spec.max_script }
-    requires none { script.old ≡ [] }
-    ensures script { OnOk result (spec.IsScript text.now script.new) }
+/// The lines of a script that say something. The text is a script exactly where each of its lines makes a call, queues
+/// an answer or says nothing; a fault names the first that does none of them. The lines show bytes of the text; others stand in the
+/// arena.
+pub fn parse_script<'a>(
+    alloc: Global,
+    arena: &'a Bump,
+    text: &'a [u8],
+) -> Result<Vec<Line<'a>>, Fault>
+    ensures script { IfOk result (λ lines. spec.IsScript text.now lines.items) }
     ensures fault { IfErr result (spec.IsFault text.now) }
 {
-    let mut arena = Bump::new(alloc);
+    if text.len() > MAX_SCRIPT {
+        return Err(Fault::Line(0, Wrong::TooLong));
+    }
+    let mut script = Vec::new(alloc);
     let mut names = Names::new(alloc, text);
     let mut tokens = Vec::new(alloc);
     let mut rest = text;
     let mut number = 0;
     while let Some((line, behind)) = first_line(rest) {
         number += 1;
-        add_line(&arena, number, line, &mut tokens, &mut names, script)?;
+        add_line(arena, number, line, &mut tokens, &mut names, &mut script)?;
         rest = behind;
-        if number % LINES_IN_ARENA == 0 {
-            arena.reset()?;
-        }
     }
-    Ok(())
-}
-
-/// The lines of a script that say something. The text is a script exactly where each of its lines makes a call, queues
-/// an answer or says nothing; a fault names the first that does none of them.
-pub fn parse_script(alloc: Global, text: &[u8]) -> Result<Script, Fault>
-    ensures script { IfOk result (λ lines. spec.IsScript text.now lines) }
-    ensures fault { IfErr result (spec.IsFault text.now) }
-{
-    if text.len() > MAX_SCRIPT {
-        return Err(Fault::Line(0));
-    }
-    let mut script = Script::new(alloc);
-    add_lines(alloc, text, &mut script)?;
     Ok(script)
 }
 

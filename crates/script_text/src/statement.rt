@@ -8,19 +8,19 @@ ghost use Rattle.script_text.specs.Tokens as tokens;
 ghost use Rattle.script_text.specs.Front.{view};
 ghost use Rattle.script_text.specs.Names.{place_for};
 ghost use Rattle.script_text.specs.Script.{assignment, assigned_by, HasNoFirstWord, HasNoCall, MayAssign, IsCall, IsStatement, with_assigned, names_after};
-ghost use Rattle.mac_calls.specs.Calls.{signature};
+ghost use Rattle.script_lang.specs.Table.{signature};
 
 use crate::answer::answer_line;
+use crate::call::call_of_tokens;
 use crate::names::Names;
-use crate::operand::{is_name, operands};
+use crate::operand::is_name;
 use crate::token::Token;
 use bumpalo::Bump;
 use mac_base::error::HostFull;
-use mac_calls::CallName;
-use script_lang::{CallLine, Name, Statement};
+use script_lang::{CallLine, CallName, Name, Statement};
 
 /// The name that a line assigns, if it begins so, and the tokens behind `name =`.
-fn assigned_name<'a, 'b>(line: &'b [Token<'a>]) -> (Option<&'a [u8]>, &'b [Token<'a>])
+pub(crate) fn assigned_name<'a, 'b>(line: &'b [Token<'a>]) -> (Option<&'a [u8]>, &'b [Token<'a>])
     ensures parts { map view line.now
         ≡ assignment (option_copied result.0) ++ map view result.1.now }
     ensures name { option_copied result.0 ≡ assigned_by (map view line.now) }
@@ -76,10 +76,10 @@ fn may_assign(name: Option<&[u8]>, is_assignable: bool) -> bool
 }
 
 /// The call that the tokens of a line make, where these names have been assigned.
-fn call_line<'a, 't: 'a>(
+fn call_line<'a>(
     arena: &'a Bump,
-    line: &[Token<'t>],
-    names: &mut Names<'t>,
+    line: &[Token<'a>],
+    names: &mut Names<'a>,
 ) -> Result<Option<CallLine<'a>>, HostFull>
     requires { length names.old < most_names }
     ensures line { IfOk result (λ found. Finds found (IsCall names.old (map view line.now))) }
@@ -91,26 +91,21 @@ fn call_line<'a, 't: 'a>(
     let Some((call, line)) = named_call(line) else {
         return Ok(None);
     };
-    let signature = call.signature();
-    if !may_assign(assigned, signature.is_assignable) {
+    if !may_assign(assigned, call.signature().is_assignable) {
         return Ok(None);
     }
-    let Some(operands) = operands(arena, signature.operands, line, names)? else {
+    let Some(call) = call_of_tokens(arena, call, line, names)? else {
         return Ok(None);
     };
     let assigned = add_assigned(names, assigned)?;
-    Ok(Some(CallLine {
-        assigned,
-        call,
-        operands,
-    }))
+    Ok(Some(CallLine { assigned, call }))
 }
 
 /// What the tokens of a line say, where these names have been assigned: a call or an answer.
-pub fn statement<'a, 't: 'a>(
+pub fn statement<'a>(
     arena: &'a Bump,
-    line: &[Token<'t>],
-    names: &mut Names<'t>,
+    line: &[Token<'a>],
+    names: &mut Names<'a>,
 ) -> Result<Option<Statement<'a>>, HostFull>
     requires { length names.old < most_names }
     ensures line { IfOk result (λ found. Finds found (IsStatement names.old (map view line.now))) }

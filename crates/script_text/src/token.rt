@@ -197,7 +197,7 @@ fn first_token(line: &[u8]) -> Result<Option<(Token<'_>, &[u8])>, NotAToken>
 
 /// No line that makes a call or queues an answer has more tokens: `gz`, a value, and eight calls, each with a name, an operand and
 /// a mark.
-const MAX_TOKENS: usize = 26;
+pub(crate) const MAX_TOKENS: usize = 26;
 
 /// Puts the tokens of a line in place of other tokens, and says whether the line has no bytes that are none, and no more tokens than
 /// a line that says something. So the longest line takes no more memory than any other.

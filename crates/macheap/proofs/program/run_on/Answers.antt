@@ -1,5 +1,5 @@
 use Rattle.std.proofs.Common.{[], refl}
-use Rattle.script_run.proofs.Known.{Gave-none, Took-none}
+use Rattle.script_run.proofs.Known.{Gave-none}
 use Rattle.macheap.proofs.Ending.{none_opened, ran_on, ran_over}
 use Rattle.macheap.proofs.program.run_on.Goals as goal
 
@@ -10,15 +10,16 @@ returns-in-Err-clause-ends g c =
 
 pub returns-clause-ends : goal.returns-clause-ends
 returns-clause-ends g c =
-    let e = c.run-end.ensures.ends in (
+    let e = c.run-stores.ensures.ends in
+    let w = c.tell_wrong.ensures in (
       e.0,
       e.2,
       (
         e.1,
-        [],
+        w.0,
         e.3,
-        Took-none _ _,
+        w.1,
         ran_on g.S.ForkStore c.args.spec _ c.args.stores c.in-Ok.stores c.in-Ok.is
-            (ran_over g.S.ForkStore c.args.spec _ c.in-Ok.stores.items _ _ c.run-end.ensures.read_fault c.run-end.ensures.write_fault e.4 c.status.ensures refl),
+            (ran_over g.S.ForkStore c.args.spec _ c.in-Ok.stores.items _ _ c.run-stores.ensures.read_fault c.run-stores.ensures.write_fault e.4 c.status.ensures w.2),
       ),
     )

@@ -1,6 +1,6 @@
 use Rattle.std.proofs.Common.{[], refl}
 use Rattle.script_run.proofs.Known.{Took-none}
-use Rattle.macheap.proofs.Ending.{no_memory_told, wrote}
+use Rattle.macheap.proofs.Ending.{no_memory_told}
 use Rattle.macheap.proofs.program.tell_no_stores.Goals as goal
 
 pub returns-in-HostFull-clause-ends : goal.returns-in-HostFull-clause-ends
@@ -11,5 +11,5 @@ returns-in-HostFull-clause-ends g c =
 
 pub returns-in-CannotOpen-clause-ends : goal.returns-in-CannotOpen-clause-ends
 returns-in-CannotOpen-clause-ends g c =
-    let w = c.write_whole.ensures in
-    ([], w.written.0, Took-none _ _, w.written.1, rw c.in-CannotOpen.is (record { status = refl; unwritten = refl; says = wrote _ _ _ _ _ w.written.2 w.failures }))
+    let w = c.tell_unopened.ensures in
+    ([], w.0, Took-none _ _, w.1, rw c.in-CannotOpen.is (record { status = refl; unwritten = refl; says = w.2 }))

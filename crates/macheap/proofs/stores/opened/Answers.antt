@@ -1,4 +1,4 @@
-use Rattle.std.proofs.Common.{◌≡◌, List, ℕ, [], ◌∷◌, ◌++◌, ◌+◌, Some, None, take, map, sym, ap, subst, ◌∙◌, refl, append_assoc, slice_index_or, Bor}
+use Rattle.std.proofs.Common.{◌≡◌, List, ℕ, [], ◌∷◌, ◌++◌, ◌+◌, Ok, Err, take, map, sym, ap, subst, ◌∙◌, refl, append_assoc, slice_index_or, Bor}
 use Rattle.std.proofs.lemmas.List.{append-nil}
 use Rattle.clap.specs.Words.{Text}
 use Rattle.macheap.specs.Stores.{Asked, Opening}
@@ -15,19 +15,19 @@ pub loop-path-init : goal.loop-path-init
 loop-path-init g c = (
   [],
   sym (append-nil _),
-  subst (λ (files : List g.row.F.Denot). Asked [] (map Some files) []) (sym c.new-files.ensures.items) (record { paths_are = refl; files_are = refl }),
+  subst (λ (files : List g.row.F.Denot). Asked [] (map Ok files) []) (sym c.new-files.ensures.items) (record { paths_are = refl; files_are = refl }),
 )
 
-pub returns-in_default-clause-files : goal.returns-in_default-clause-files
-returns-in_default-clause-files g c =
+pub returns-in-Err-clause-files : goal.returns-in-Err-clause-files
+returns-in-Err-clause-files g c =
     let paths = c.args.paths.now in
     let i = c.loop-path.invariant in
     let at = c.loop-path.path-index in
     let path = slice_index_or paths at nowhere in
-    let opening : Opening g.row.F.Denot = (path.now, None) in (
+    let opening : Opening g.row.F.Denot = (path.now, Err c.in-Err.why) in (
       i.0 ++ opening ∷ [],
-      c.in_default.ensures ∙ ap (λ (t : List (Opening g.row.F.Denot)). t ++ opening ∷ []) i.1 ∙ append_assoc _ i.0 (opening ∷ []),
-      cant_next [] paths now_of at path c.loop-path.files.items i.0 c.loop-path-test.true (same_default paths at nowhere path c.loop-path-test.true) i.2,
+      c.in-Err.ensures ∙ ap (λ (t : List (Opening g.row.F.Denot)). t ++ opening ∷ []) i.1 ∙ append_assoc _ i.0 (opening ∷ []),
+      cant_next [] paths now_of at path c.in-Err.why c.loop-path.files.items i.0 c.loop-path-test.true (same_default paths at nowhere path c.loop-path-test.true) i.2,
     )
 
 pub loop-path-preserved : goal.loop-path-preserved
@@ -36,25 +36,25 @@ loop-path-preserved g c =
     let i = c.loop-path.invariant in
     let at = c.loop-path.path-index in
     let path = slice_index_or paths at nowhere in
-    let file = c.in-Some.file in
-    let opening : Opening g.row.F.Denot = (path.now, Some file) in
+    let file = c.in-Ok.file in
+    let opening : Opening g.row.F.Denot = (path.now, Ok file) in
     let more = asked_more [] paths now_of at path c.loop-path.files.items file i.0 c.loop-path-test.true (same_default paths at nowhere path c.loop-path-test.true) i.2 in (
       i.0 ++ opening ∷ [],
-      c.in-Some.ensures ∙ ap (λ (t : List (Opening g.row.F.Denot)). t ++ opening ∷ []) i.1 ∙ append_assoc _ i.0 (opening ∷ []),
-      subst (λ (files : List g.row.F.Denot). Asked (map now_of (take (at + 1) paths)) (map Some files) (i.0 ++ opening ∷ [])) (sym c.in-Ok.ensures.items) more,
+      c.in-Ok.ensures ∙ ap (λ (t : List (Opening g.row.F.Denot)). t ++ opening ∷ []) i.1 ∙ append_assoc _ i.0 (opening ∷ []),
+      subst (λ (files : List g.row.F.Denot). Asked (map now_of (take (at + 1) paths)) (map Ok files) (i.0 ++ opening ∷ [])) (sym c.in-Ok-push.ensures.items) more,
     )
 
-pub returns-in-Err-clause-files : goal.returns-in-Err-clause-files
-returns-in-Err-clause-files g c =
+pub returns-in-Err-push-clause-files : goal.returns-in-Err-push-clause-files
+returns-in-Err-push-clause-files g c =
     let paths = c.args.paths.now in
     let i = c.loop-path.invariant in
     let at = c.loop-path.path-index in
     let path = slice_index_or paths at nowhere in
-    let file = c.in-Some.file in
-    let opening : Opening g.row.F.Denot = (path.now, Some file) in
+    let file = c.in-Ok.file in
+    let opening : Opening g.row.F.Denot = (path.now, Ok file) in
     let more = asked_more [] paths now_of at path c.loop-path.files.items file i.0 c.loop-path-test.true (same_default paths at nowhere path c.loop-path-test.true) i.2 in (
       i.0 ++ opening ∷ [],
-      c.in-Some.ensures ∙ ap (λ (t : List (Opening g.row.F.Denot)). t ++ opening ∷ []) i.1 ∙ append_assoc _ i.0 (opening ∷ []),
+      c.in-Ok.ensures ∙ ap (λ (t : List (Opening g.row.F.Denot)). t ++ opening ∷ []) i.1 ∙ append_assoc _ i.0 (opening ∷ []),
       some_first [] paths now_of (at + 1) (c.loop-path.files.items ++ file ∷ []) (i.0 ++ opening ∷ []) more,
     )
 

@@ -1,4 +1,4 @@
-use Rattle.std.proofs.Common.{◌≡◌, List, [], ◌++◌, Some, map, take}
+use Rattle.std.proofs.Common.{◌≡◌, List, [], ◌++◌, Ok, map, take}
 use Rattle.macheap.specs.Stores.{Asked, Opening}
 use Rattle.macheap.proofs.stores.opened.Given as goal
 
@@ -7,4 +7,4 @@ abbrev pub invariant-loop-path : goal.invariant-loop-path
 invariant-loop-path g l =
     (openings : List (Opening g.row.F.Denot))
     × (g.O.Opens.openings l.opener ≡ g.O.Opens.openings l.fn.opener ++ openings)
-    × Asked ([] ++ map (λ path. path.now) (take l.path-index l.paths)) (map Some l.files.items) openings
+    × Asked ([] ++ map (λ path. path.now) (take l.path-index l.paths)) (map Ok l.files.items) openings

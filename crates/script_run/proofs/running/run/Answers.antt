@@ -10,36 +10,36 @@ use Rattle.script_run.proofs.running.run.Goals as goal
 
 pub returns-in-Err-clause-ends : goal.returns-in-Err-clause-ends
 returns-in-Err-clause-ends g c =
-    let r = c.in-Err.ensures.ready in
+    let r = c.read_script-read.ensures.read in
     let f = c.tell_no_script.ensures.ends in
-    (r.0, f.0, r.1, f.1, no_script_told g.S.ForkStore (start_of c.args.spec c.args.stores.items) (unwrap_or (g.R.Read.remaining c.args.reader.now.inner) r.0) c.args.stores.items refl _ _ f.0 r.2 f.2)
+    (r.0, f.0, r.1, f.1, no_script_told g.S.ForkStore (start_of c.args.spec c.args.stores.items) (unwrap_or (g.R.Read.remaining c.args.reader.now.inner) r.0) c.args.stores.items refl _ _ f.0 (c.in-Err.ensures.ready _ r.2) f.2)
 
 pub returns-in_default-clause-ends : goal.returns-in_default-clause-ends
 returns-in_default-clause-ends g c =
-    let r = c.in-Ok.ensures.ready in
+    let r = c.read_script-read.ensures.read in
     let f = c.tell_no_memory.ensures.ends in
     (r.0, f.0, r.1, f.1, none_at_start g.S.ForkStore (start_of c.args.spec c.args.stores.items) (unwrap_or (g.R.Read.remaining c.args.reader.now.inner) r.0) c.args.stores.items refl _ f.0 f.2)
 
 pub returns-clause-ends : goal.returns-clause-ends
 returns-clause-ends g c =
-    let r = c.in-Ok.ensures.ready in
+    let r = c.read_script-read.ensures.read in
     let input = unwrap_or (g.R.Read.remaining c.args.reader.now.inner) r.0 in
     let lines = c.run_lines-end.ensures.ends in
     let start : c.new-machine.result ≡ start_of c.args.spec c.args.stores.items = c.new-machine.ensures.zone c.args.spec (ap (λ m. m.shape) c.in-Ok-create.ensures) (ap (λ m. m.heap) c.in-Ok-create.ensures) in
-    let ends = rw start at (lines.2 input r.2) in
+    let ends = rw start at (lines.2 input (c.in-Ok.ensures.ready input r.2)) in
     (r.0, lines.0, r.1, lines.1, subst (λ left. Ends g.S.ForkStore (start_of c.args.spec c.args.stores.items) input c.run_lines-end.result lines.0 left) (sym c.into_stores.ensures) ends)
 
 pub returns-in-Err-clause-read_fault : goal.returns-in-Err-clause-read_fault
-returns-in-Err-clause-read_fault g c = λ fault. c.in-Err.ensures.fault (ap (λ (why : NoScript). Err why) (c.tell_no_script.ensures.read_fault.0 fault))
+returns-in-Err-clause-read_fault g c = λ fault. c.read_script-read.ensures.fault (c.in-Err.ensures.fault (ap (λ (why : NoScript). Err why) (c.tell_no_script.ensures.read_fault.0 fault)))
 
 pub returns-in-Err-clause-no_read_failed : goal.returns-in-Err-clause-no_read_failed
-returns-in-Err-clause-no_read_failed g c = λ other. c.in-Err.ensures.no_fault (λ same. other (c.tell_no_script.ensures.read_fault.1 cc))
+returns-in-Err-clause-no_read_failed g c = λ other. c.read_script-read.ensures.no_fault (λ same. let kept = c.in-Err.ensures.kept same in other (c.tell_no_script.ensures.read_fault.1 cc))
 
 pub returns-clause-read_fault : goal.returns-clause-read_fault
 returns-clause-read_fault g c = λ fault. absurd (c.run_lines-end.ensures.no_read_fault fault)
 
 pub returns-clause-no_read_failed : goal.returns-clause-no_read_failed
-returns-clause-no_read_failed g c = λ other. c.in-Ok.ensures.no_fault (λ same. cc)
+returns-clause-no_read_failed g c = λ other. c.read_script-read.ensures.no_fault (λ same. let kept = c.in-Ok.ensures.kept same in absurd cc)
 
 pub returns-clause-write_fault : goal.returns-clause-write_fault
 returns-clause-write_fault g c = λ fault. c.run_lines-end.ensures.write_fault fault

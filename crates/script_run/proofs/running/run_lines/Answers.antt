@@ -1,10 +1,11 @@
-use Rattle.std.proofs.Common.{◌≡◌, ◌+◌, ℕ, List, [], ◌∷◌, ◌++◌, inl, inr, refl, sym, subst, ◌∙◌}
+use Rattle.std.proofs.Common.{◌≡◌, ◌+◌, ℕ, List, [], ◌∷◌, ◌++◌, length, inl, inr, refl, sym, subst, ◌∙◌}
 use Rattle.std.specs.List.{concat}
 use Rattle.std.proofs.lemmas.List.{append-nil}
+use Rattle.std.proofs.lemmas.Option.{slice_get_read}
 use Rattle.script_run.specs.Counting.{Took}
 use Rattle.script_run.specs.Run.{IsProperFront}
 use Rattle.script_run.proofs.Known.{Took-then}
-use Rattle.script_run.proofs.Left.{next_at, left_behind}
+use Rattle.script_run.proofs.Left.{left_from, none_left}
 use Rattle.script_run.proofs.Ending.{IsRun-step, all_told, concat-push, none_told, ran_of, reply_cut}
 use Rattle.script_run.proofs.running.run_lines.Goals as goal
 
@@ -26,7 +27,7 @@ loop-line-init g c =
     let w = c.if-not-write_whole.ensures.written in
     let text = c.open_first.new.text in
     let whole : w.0 ≡ text ++ [] = w.2 ∙ c.as_slice.ensures ∙ sym (append-nil text) in
-    (text ∷ [], subst (λ (t : List ℕ). Took g.W.Write.contents c.args.writer.now t c.write_whole.new.writer) whole w.1, 0, sym c.lines-lines.ensures, (c.open_first.new.self, c.in-Ok.ensures.opens, refl), c.if-not-write_whole.ensures.failures)
+    (text ∷ [], subst (λ (t : List ℕ). Took g.W.Write.contents c.args.writer.now t c.write_whole.new.writer) whole w.1, (c.open_first.new.self, c.in-Ok.ensures.opens, refl), c.if-not-write_whole.ensures.failures)
 
 pub returns-in_default-run_line-clause-ends : goal.returns-in_default-run_line-clause-ends
 returns-in_default-run_line-clause-ends g c =
@@ -36,14 +37,14 @@ returns-in_default-run_line-clause-ends g c =
       concat i.0 ++ told.0,
       Took-then _ _ _ _ _ _ i.1 told.1,
       λ input is. none_told g.S.ForkStore c.args.machine.now input _ i.0 _ told.0
-          (inr (ran_of g.S.ForkStore c.args.machine.now input c.args.script.now i.2 i.0 c.loop-line.machine is i.4, c.in-Some.line, _, c.run_line.new.self, i.3 ∙ c.in-Some.ensures.some, stopped, refl, refl)) told.2,
+          (inr (ran_of g.S.ForkStore c.args.machine.now input c.args.script.now c.loop-line.line-index i.0 c.loop-line.machine is i.2, c.line-item.result, _, c.run_line.new.self, left_from c.args.script.now c.loop-line.line-index c.line-item.result c.loop-line-test.true c.line-item.is, stopped, refl, refl)) told.2,
     )
 
 pub returns-in_default-run_line-clause-write_fault : goal.returns-in_default-run_line-clause-write_fault
-returns-in_default-run_line-clause-write_fault g c = λ fault. rw (← c.loop-line.invariant.5) (c.tell_no_memory-in_default-run_line.ensures.write_fault fault)
+returns-in_default-run_line-clause-write_fault g c = λ fault. rw (← c.loop-line.invariant.3) (c.tell_no_memory-in_default-run_line.ensures.write_fault fault)
 
 pub returns-in_default-run_line-clause-no_write_failed : goal.returns-in_default-run_line-clause-no_write_failed
-returns-in_default-run_line-clause-no_write_failed g c = λ other. c.tell_no_memory-in_default-run_line.ensures.no_write_failed other ∙ c.loop-line.invariant.5
+returns-in_default-run_line-clause-no_write_failed g c = λ other. c.tell_no_memory-in_default-run_line.ensures.no_write_failed other ∙ c.loop-line.invariant.3
 
 pub returns-then-not-write_whole-2-clause-ends : goal.returns-then-not-write_whole-2-clause-ends
 returns-then-not-write_whole-2-clause-ends g c =
@@ -52,39 +53,36 @@ returns-then-not-write_whole-2-clause-ends g c =
     let lines = c.args.script.now in
     let machine = c.run_line.new.self in
     let text = c.run_line.new.text in
-    let at = next_at lines _ i.2 c.in-Some.line (i.3 ∙ c.in-Some.ensures.some) in
-    let run = IsRun-step g.S.ForkStore c.args.machine.now lines i.2 i.0 c.loop-line.machine c.in-Some.line text machine at i.4 c.in-Ok-run_line.ensures.does in
-    let front : IsProperFront w.0 text = rw (← c.as_slice-in-Some.ensures) w.2 in (
+    let at = slice_get_read lines (length lines) c.loop-line.line-index c.line-item.result refl c.loop-line-test.true c.line-item.is in
+    let run = IsRun-step g.S.ForkStore c.args.machine.now lines c.loop-line.line-index i.0 c.loop-line.machine c.line-item.result text machine at i.2 c.in-Ok-run_line.ensures.does in
+    let front : IsProperFront w.0 text = rw (← c.as_slice-in-loop-line.ensures) w.2 in (
       concat i.0 ++ w.0,
       Took-then _ _ _ _ _ _ i.1 w.1,
-      λ input is. reply_cut g.S.ForkStore c.args.machine.now input _ (ran_of g.S.ForkStore c.args.machine.now input lines (i.2 + 1) (i.0 ++ text ∷ []) machine is run) i.0 text w.0 refl refl front,
+      λ input is. reply_cut g.S.ForkStore c.args.machine.now input _ (ran_of g.S.ForkStore c.args.machine.now input lines (c.loop-line.line-index + 1) (i.0 ++ text ∷ []) machine is run) i.0 text w.0 refl refl front,
     )
 
 pub returns-then-not-write_whole-2-clause-write_fault : goal.returns-then-not-write_whole-2-clause-write_fault
-returns-then-not-write_whole-2-clause-write_fault g c = λ fault. rw (← c.loop-line.invariant.5) c.if-not-write_whole-2.ensures.failures
+returns-then-not-write_whole-2-clause-write_fault g c = λ fault. rw (← c.loop-line.invariant.3) c.if-not-write_whole-2.ensures.failures
 
 pub loop-line-preserved : goal.loop-line-preserved
 loop-line-preserved g c =
     let w = c.if-not-write_whole-2.ensures.written in
     let i = c.loop-line.invariant in
-    let left = i.3 ∙ c.in-Some.ensures.some in
     let text = c.run_line.new.text in
-    let whole : w.0 ≡ text = w.2 ∙ c.as_slice-in-Some.ensures in
-    let at = next_at c.args.script.now _ i.2 c.in-Some.line left in
-    let run = IsRun-step g.S.ForkStore c.args.machine.now c.args.script.now i.2 i.0 c.loop-line.machine c.in-Some.line text c.run_line.new.self at i.4 c.in-Ok-run_line.ensures.does in
+    let whole : w.0 ≡ text = w.2 ∙ c.as_slice-in-loop-line.ensures in
+    let at = slice_get_read c.args.script.now (length c.args.script.now) c.loop-line.line-index c.line-item.result refl c.loop-line-test.true c.line-item.is in
+    let run = IsRun-step g.S.ForkStore c.args.machine.now c.args.script.now c.loop-line.line-index i.0 c.loop-line.machine c.line-item.result text c.run_line.new.self at i.2 c.in-Ok-run_line.ensures.does in
     let both : concat i.0 ++ w.0 ≡ concat (i.0 ++ text ∷ []) = rw whole (sym (concat-push i.0 text)) in (
       i.0 ++ text ∷ [],
-      subst (λ (t : List ℕ). Took g.W.Write.contents c.args.writer.now t c.write_whole-in-Some.new.writer) both (Took-then _ _ _ _ _ _ i.1 w.1),
-      i.2 + 1,
-      left_behind c.args.script.now _ i.2 c.in-Some.line left,
+      subst (λ (t : List ℕ). Took g.W.Write.contents c.args.writer.now t c.write_whole-in-loop-line.new.writer) both (Took-then _ _ _ _ _ _ i.1 w.1),
       run,
-      c.if-not-write_whole-2.ensures.failures ∙ i.5,
+      c.if-not-write_whole-2.ensures.failures ∙ i.3,
     )
 
 pub returns-clause-ends : goal.returns-clause-ends
 returns-clause-ends g c =
     let i = c.loop-line.invariant in
-    (concat i.0, i.1, λ input is. all_told g.S.ForkStore c.args.machine.now input _ (ran_of g.S.ForkStore c.args.machine.now input c.args.script.now i.2 i.0 c.loop-line.machine is i.4) (i.3 ∙ c.in_default-next.ensures.none.0) refl)
+    (concat i.0, i.1, λ input is. all_told g.S.ForkStore c.args.machine.now input _ (ran_of g.S.ForkStore c.args.machine.now input c.args.script.now c.loop-line.line-index i.0 c.loop-line.machine is i.2) (none_left c.args.script.now c.loop-line.line-index c.loop-line-test.false) refl)
 
 pub returns-clause-no_write_failed : goal.returns-clause-no_write_failed
-returns-clause-no_write_failed g c = λ other. c.loop-line.invariant.5
+returns-clause-no_write_failed g c = λ other. c.loop-line.invariant.3

@@ -1,5 +1,5 @@
 use Rattle.std.proofs.Common.{◌≡◌, refl, sym, inl, inr, ◌∙◌}
-use Rattle.reply_text.specs.Text.{fault_text}
+use Rattle.script_lang.specs.Text.{fault_text}
 use Rattle.script_run.proofs.running.tell_fault.Goals as goal
 
 pub returns-in_default-clause-ends : goal.returns-in_default-clause-ends

@@ -5,7 +5,7 @@ use Rattle.script_text.specs.Front.{view}
 use Rattle.script_text.specs.Tokens.{AreTokens}
 use Rattle.script_text.specs.Tokens.{HasNoFewTokens}
 use Rattle.script_text.proofs.FewTokens.{many_none, beyond_none}
-use Rattle.script_text.proofs.StatementLaws.{no_line, reads_statement}
+use Rattle.script_text.proofs.StatementLaws.{names_after-few, no_line, reads_statement}
 use Rattle.script_text.proofs.script.add_line.Goals as goal
 use Rattle.script_text.proofs.script.add_line.Goals.{then-number-gt-MAX_LINES-via-then-number-gt-MAX_LINES, then-number-gt-MAX_LINES-via-else-number-gt-MAX_LINES+in_ok-read_tokens+then-not-branch}
 
@@ -19,22 +19,27 @@ returns-then-number-gt-MAX_LINES-clause-fault c = elim c.then-number-gt-MAX_LINE
 
 pub returns-in_default-clause-fault : goal.returns-in_default-clause-fault
 returns-in_default-clause-fault c =
-    let tokens = c.deref.result.now in
-    let read : AreTokens c.args.text.now (map view tokens) = rw c.deref.ensures.value (rw c.if-not-branch.false at c.in_ok-read_tokens.ensures) in
-    let count : length tokens ≢ 0 = λ e. eqb-false _ _ (sym c.is_empty.ensures ∙ c.if-is_empty.false) (sym c.deref.ensures.len ∙ e) in
+    let tokens = c.deref-2.result.now in
+    let read : AreTokens c.args.text.now (map view tokens) = rw c.deref-2.ensures.value (rw c.if-not-branch.false at c.in_ok-read_tokens.ensures) in
+    let count : length tokens ≢ 0 = λ e. eqb-false _ _ (sym c.is_empty.ensures ∙ c.if-is_empty.false) (sym c.deref-2.ensures.len ∙ e) in
     let some : map view tokens ≢ [] = λ e. count (sym (length-map tokens view) ∙ ap length e) in
     let none = rw c.in_default.is at c.in_ok-statement.ensures.line in
     (refl, no_line c.args.number c.args.names.now c.args.text.now _ read some none)
 
 pub returns-clause-line : goal.returns-clause-line
 returns-clause-line c =
-    let tokens = c.deref.result.now in
-    let read : AreTokens c.args.text.now (map view tokens) = rw c.deref.ensures.value (rw c.if-not-branch.false at c.in_ok-read_tokens.ensures) in
-    let count : length tokens ≢ 0 = λ e. eqb-false _ _ (sym c.is_empty.ensures ∙ c.if-is_empty.false) (sym c.deref.ensures.len ∙ e) in
+    let tokens = c.deref-2.result.now in
+    let read : AreTokens c.args.text.now (map view tokens) = rw c.deref-2.ensures.value (rw c.if-not-branch.false at c.in_ok-read_tokens.ensures) in
+    let count : length tokens ≢ 0 = λ e. eqb-false _ _ (sym c.is_empty.ensures ∙ c.if-is_empty.false) (sym c.deref-2.ensures.len ∙ e) in
     let some : map view tokens ≢ [] = λ e. count (sym (length-map tokens view) ∙ ap length e) in
     let is = rw c.in-Some.is at c.in_ok-statement.ensures.line in
     let named = rw c.in-Some.is at c.in_ok-statement.ensures.names in (
       Some (record { number = c.args.number; statement = c.in-Some.statement }),
       reads_statement _ _ _ _ (map view tokens) c.in-Some.statement c.if-number-gt-MAX_LINES.false read some is named,
-      c.in_ok-push.ensures.added,
+      c.in_ok-push.ensures.items,
     )
+
+pub returns-clause-few : goal.returns-clause-few
+returns-clause-few c =
+    let named = rw c.in-Some.is at c.in_ok-statement.ensures.names in
+    rw named (names_after-few c.args.number c.args.names.now _ c.requires.few)

@@ -1,9 +1,7 @@
-use Rattle.std.proofs.Common.{◌∷◌, map, List, sym, subst}
+use Rattle.std.proofs.Common.{◌∷◌, map}
 use Rattle.std.specs.Option.{option_copied}
-use Rattle.mac_calls.specs.declared.table.OperandKind.{OperandKind}
-use Rattle.mac_calls.specs.Calls.{signature}
+use Rattle.script_lang.specs.Table.{signature}
 use Rattle.script_text.specs.Front.{view}
-use Rattle.script_text.specs.Operands.{AreOperands}
 use Rattle.script_text.specs.Tokens.{Word}
 use Rattle.script_text.proofs.CallLines.{Parted, no_named, no_assigned, no_operands}
 use Rattle.script_text.proofs.statement.call_line.Goals as goal
@@ -18,7 +16,7 @@ returns-then-not-may_assign-clause-line c =
     let parted : Parted (map view c.args.line.now) (option_copied c.assigned_name.result.0) (Word (signature c.in-Some.call).name ∷ map view c.in-Some.line.now) =
     record { parts = rw (← c.in-Some.ensures.found) c.assigned_name.ensures.parts; by = c.assigned_name.ensures.name }
     in
-    λ x h. no_assigned c.args.names.now _ _ c.in-Some.call _ parted (rw c.signature-signature.ensures.is_assignable at c.if-not-may_assign.ensures) x h
+    λ x h. no_assigned c.args.names.now _ _ c.in-Some.call _ parted (rw c.signature.ensures.is_assignable at c.if-not-may_assign.ensures) x h
 
 pub returns-in_default-2-clause-line : goal.returns-in_default-2-clause-line
 returns-in_default-2-clause-line c =
@@ -26,17 +24,15 @@ returns-in_default-2-clause-line c =
     let parted : Parted (map view c.args.line.now) (option_copied c.assigned_name.result.0) (Word (signature call).name ∷ map view c.in-Some.line.now) =
     record { parts = rw (← c.in-Some.ensures.found) c.assigned_name.ensures.parts; by = c.assigned_name.ensures.name }
     in
-    let none = rw c.in_default-2.is at c.in_ok-operands.ensures in
-    λ x h. no_operands c.args.names.now _ _ call _ parted
-    (λ xs are. none xs (subst (λ (kinds : List OperandKind). AreOperands c.args.names.now kinds (map view c.in-Some.line.now) xs) (sym c.signature-signature.ensures.operands) are)) x h
+    λ x h. no_operands c.args.names.now _ _ call _ parted (rw c.in_default-2.is at c.in_ok-call.ensures) x h
 
 pub returns-clause-line : goal.returns-clause-line
 returns-clause-line c =
-    let are = rw c.in-Some-2.is at c.in_ok-operands.ensures in (
+    let is = rw c.in-Some-2.is at c.in_ok-call.ensures in (
       option_copied c.assigned_name.result.0,
       map view c.in-Some.line.now,
-      rw (← c.in-Some.ensures.found) c.assigned_name.ensures.parts,
-      rw c.signature-signature.ensures.is_assignable at c.if-not-may_assign.ensures,
+      rw is.0 (rw (← c.in-Some.ensures.found) c.assigned_name.ensures.parts),
+      rw is.0 (rw c.signature.ensures.is_assignable at c.if-not-may_assign.ensures),
       c.in_ok-assigned.ensures.name,
-      subst (λ (kinds : List OperandKind). AreOperands c.args.names.now kinds (map view c.in-Some.line.now) c.in-Some-2.operands) c.signature-signature.ensures.operands are,
+      is.1,
     )

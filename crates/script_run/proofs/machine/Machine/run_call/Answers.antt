@@ -8,5 +8,5 @@ returns-in_err-reply-clause-stops g c = on_fault c.from_residual.result (inl (rw
 pub returns-clause-stops : goal.returns-clause-stops
 returns-clause-stops g c =
     let step = rw c.resolve-call.ensures at c.in_ok-reply.ensures.step in
-    let long = rw (c.as_slice.ensures.value, c.asked.ensures) at c.put.ensures.long in
+    let long = rw (c.as_slice.ensures.value, c.asked.ensures, c.name.ensures) at c.put.ensures.long in
     on_fault_of c.put.result (λ long. inr (c.in_ok-reply.reply, c.step_queued.new.queue.asks, step, long)) long

@@ -1,0 +1,12 @@
+-- Why a file isn't opened, as it is told.
+use Rattle.std.specs.Prelude.{ℕ, List, codes}
+use Rattle.macheap.specs.declared.opened.NotOpened.{NotOpened}
+use Rattle.macheap.specs.declared.opened.NotOpened.TheVariants.{NoFolder, Folder, Denied, ReadOnly, Other}
+
+-- the reason and what to do, behind the name of the file
+abbrev pub reason : NotOpened → List ℕ
+reason NoFolder = codes ": there is no such folder; make it first\n"
+reason Folder = codes ": it is a folder; name a file\n"
+reason Denied = codes ": permission denied; ask its owner for it, or name another file\n"
+reason ReadOnly = codes ": it is missing, and nothing can be made there; name another file\n"
+reason Other = codes ": the system refuses it; name another file\n"

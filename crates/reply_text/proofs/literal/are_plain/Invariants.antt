@@ -1,8 +1,0 @@
-use Rattle.std.proofs.Common.{◌≡◌, ◌&&◌, not, nat_le, take}
-use Rattle.std.specs.List.{list_all}
-use Rattle.reply_text.specs.Text as texts
-use Rattle.reply_text.proofs.literal.are_plain.Given as goal
-
--- whether the bytes so far stand for themselves
-abbrev pub invariant-loop-byte : goal.invariant-loop-byte
-invariant-loop-byte l = (nat_le l.most 94 && not l.has_quote) ≡ list_all (texts.is_plain l.quote) (take l.byte-index l.bytes)

@@ -1,8 +1,0 @@
-use Rattle.std.proofs.Common.{◌≡◌, ◌≤◌, ◌++◌, take, vec_capacity}
-use Rattle.std.specs.List.{flat_map}
-use Rattle.reply_text.specs.Text as texts
-use Rattle.reply_text.proofs.printing.push_asked.Given as goal
-
--- the lines of the asks so far stand behind what was there, and the room didn't shrink
-abbrev pub invariant-loop-ask : goal.invariant-loop-ask
-invariant-loop-ask l = (l.text.items ≡ l.fn.text.items ++ flat_map texts.asked_text (take l.ask-index l.asked)) × (vec_capacity l.fn.text ≤ vec_capacity l.text)

@@ -1,8 +1,0 @@
-use Rattle.std.proofs.Common.{◌≡◌, ◌≤◌, ◌++◌, take, vec_capacity}
-use Rattle.std.specs.List.{flat_map}
-use Rattle.reply_text.specs.Text as texts
-use Rattle.reply_text.proofs.printing.push_blocks.Given as goal
-
--- the lines of the blocks so far stand behind what was there, and the room didn't shrink
-abbrev pub invariant-loop-block : goal.invariant-loop-block
-invariant-loop-block l = (l.text.items ≡ l.fn.text.items ++ flat_map texts.block_text (take l.block-index l.blocks)) × (vec_capacity l.fn.text ≤ vec_capacity l.text)

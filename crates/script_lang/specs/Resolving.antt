@@ -1,0 +1,153 @@
+-- The calls that lines make, with the values that variables have.
+use Rattle.std.specs.Prelude.{ℕ, ℤ, pos, List, Option, option_map}
+use Rattle.mac_calls.specs.declared.call.Call.{Call}
+use Rattle.mac_calls.specs.declared.call.Call.TheVariants.{Memory, Loan, Resource, MemError, ResError}
+use Rattle.mac_calls.specs.declared.loan_call.LoanCall.TheVariants as loan
+use Rattle.mac_calls.specs.declared.memory_call.MemoryCall.TheVariants as memory
+use Rattle.mac_calls.specs.declared.resource_call.ResourceCall.TheVariants as resource
+use Rattle.script_lang.specs.declared.line.CallLine.{CallLine}
+use Rattle.script_lang.specs.declared.line.IdOperand.{IdOperand}
+use Rattle.script_lang.specs.declared.line.IdOperand.TheVariants as id_operand
+use Rattle.script_lang.specs.declared.line.NamedCall.{NamedCall}
+use Rattle.script_lang.specs.declared.line.NamedCall.TheVariants as named
+use Rattle.script_lang.specs.declared.line.NumberOperand.{NumberOperand}
+use Rattle.script_lang.specs.declared.line.NumberOperand.TheVariants as number_operand
+use Rattle.script_lang.specs.declared.table.NumberName.{NumberName}
+use Rattle.script_lang.specs.declared.table.NumberName.TheVariants as number_name
+use Rattle.script_lang.specs.declared.table.PlainName.{PlainName}
+use Rattle.script_lang.specs.declared.table.PlainName.TheVariants as plain_name
+use Rattle.script_lang.specs.declared.table.TwoNumbersName.{TwoNumbersName}
+use Rattle.script_lang.specs.declared.table.TwoNumbersName.TheVariants as two_numbers_name
+use Rattle.script_lang.specs.declared.table.ThreeNumbersName.{ThreeNumbersName}
+use Rattle.script_lang.specs.declared.table.ThreeNumbersName.TheVariants as three_numbers_name
+use Rattle.script_lang.specs.declared.table.BytesName.{BytesName}
+use Rattle.script_lang.specs.declared.table.BytesName.TheVariants as bytes_name
+use Rattle.script_lang.specs.declared.table.ResourceName.{ResourceName}
+use Rattle.script_lang.specs.declared.table.ResourceName.TheVariants as resource_name
+use Rattle.script_lang.specs.declared.table.FileName.{FileName}
+use Rattle.script_lang.specs.declared.table.FileName.TheVariants as file_name
+use Rattle.script_lang.specs.declared.table.KindName.{KindName}
+use Rattle.script_lang.specs.declared.table.KindName.TheVariants as kind_name
+use Rattle.script_lang.specs.Variables.{Variables, value_of}
+
+-- a number, or the value of a variable
+abbrev pub number_of : Variables → NumberOperand → ℕ
+number_of variables (number_operand.Number n) = n
+number_of variables (number_operand.Variable name) = value_of variables name
+
+-- an id, or the value of a variable, which may be out of the range of ids
+abbrev pub id_of : Variables → IdOperand → ℤ
+id_of variables (id_operand.Id id) = id
+id_of variables (id_operand.Variable name) = pos (value_of variables name)
+
+-- the call of this name on a number
+abbrev pub number_call : NumberName → ℕ → Call
+number_call number_name.NewHandle number = Memory (memory.NewHandle number)
+number_call number_name.NewPtr number = Memory (memory.NewPtr number)
+number_call number_name.DisposeHandle number = Memory (memory.DisposeHandle number)
+number_call number_name.DisposePtr number = Memory (memory.DisposePtr number)
+number_call number_name.EmptyHandle number = Memory (memory.EmptyHandle number)
+number_call number_name.GetHandleSize number = Memory (memory.GetHandleSize number)
+number_call number_name.GetPtrSize number = Memory (memory.GetPtrSize number)
+number_call number_name.HLock number = Memory (memory.HLock number)
+number_call number_name.HUnlock number = Memory (memory.HUnlock number)
+number_call number_name.HPurge number = Memory (memory.HPurge number)
+number_call number_name.HNoPurge number = Memory (memory.HNoPurge number)
+number_call number_name.HSetRBit number = Memory (memory.HSetRBit number)
+number_call number_name.HClrRBit number = Memory (memory.HClrRBit number)
+number_call number_name.HGetState number = Memory (memory.HGetState number)
+number_call number_name.Deref number = Memory (memory.Deref number)
+number_call number_name.RecoverHandle number = Memory (memory.RecoverHandle number)
+number_call number_name.MoveHHi number = Memory (memory.MoveHHi number)
+number_call number_name.HLockHi number = Memory (memory.HLockHi number)
+number_call number_name.HandToHand number = Memory (memory.HandToHand number)
+number_call number_name.CompactMem number = Memory (memory.CompactMem number)
+number_call number_name.PurgeMem number = Memory (memory.PurgeMem number)
+number_call number_name.ReserveMem number = Memory (memory.ReserveMem number)
+number_call number_name.Lend number = Loan (loan.Lend number)
+number_call number_name.Return number = Loan (loan.Return number)
+number_call number_name.LoadResource number = Resource (resource.LoadResource number)
+number_call number_name.ReleaseResource number = Resource (resource.ReleaseResource number)
+number_call number_name.DetachResource number = Resource (resource.DetachResource number)
+number_call number_name.ChangedResource number = Resource (resource.ChangedResource number)
+number_call number_name.RemoveResource number = Resource (resource.RemoveResource number)
+number_call number_name.WriteResource number = Resource (resource.WriteResource number)
+number_call number_name.GetResAttrs number = Resource (resource.GetResAttrs number)
+number_call number_name.GetResInfo number = Resource (resource.GetResInfo number)
+number_call number_name.SizeResource number = Resource (resource.SizeResource number)
+number_call number_name.HomeResFile number = Resource (resource.HomeResFile number)
+number_call number_name.GetIndType number = Resource (resource.GetIndType number)
+number_call number_name.SetResLoad number = Resource (resource.SetResLoad number)
+number_call number_name.OpenResFile number = Resource (resource.OpenResFile number)
+number_call number_name.UseResFile number = Resource (resource.UseResFile number)
+
+-- the call of this name without operands
+abbrev pub plain_call : PlainName → Call
+plain_call plain_name.NewEmptyHandle = Memory memory.NewEmptyHandle
+plain_call plain_name.MaxMem = Memory memory.MaxMem
+plain_call plain_name.PurgeSpace = Memory memory.PurgeSpace
+plain_call plain_name.MaxBlock = Memory memory.MaxBlock
+plain_call plain_name.FreeMem = Memory memory.FreeMem
+plain_call plain_name.MoreMasters = Memory memory.MoreMasters
+plain_call plain_name.MaxApplZone = Memory memory.MaxApplZone
+plain_call plain_name.ZoneMap = Memory memory.ZoneMap
+plain_call plain_name.MemError = MemError
+plain_call plain_name.CountTypes = Resource resource.CountTypes
+plain_call plain_name.CurResFile = Resource resource.CurResFile
+plain_call plain_name.ResError = ResError
+
+-- the call of this name on two numbers
+abbrev pub two_numbers_call : TwoNumbersName → ℕ → ℕ → Call
+two_numbers_call two_numbers_name.SetHandleSize first second = Memory (memory.SetHandleSize first second)
+two_numbers_call two_numbers_name.SetPtrSize first second = Memory (memory.SetPtrSize first second)
+two_numbers_call two_numbers_name.HSetState first second = Memory (memory.HSetState first second)
+two_numbers_call two_numbers_name.ReallocateHandle first second = Memory (memory.ReallocateHandle first second)
+two_numbers_call two_numbers_name.PtrToHand first second = Memory (memory.PtrToHand first second)
+two_numbers_call two_numbers_name.HandAndHand first second = Memory (memory.HandAndHand first second)
+two_numbers_call two_numbers_name.SetResAttrs first second = Resource (resource.SetResAttrs first second)
+
+-- the call of this name on three numbers
+abbrev pub three_numbers_call : ThreeNumbersName → ℕ → ℕ → ℕ → Call
+three_numbers_call three_numbers_name.PtrToXHand first second third = Memory (memory.PtrToXHand first second third)
+three_numbers_call three_numbers_name.PtrAndHand first second third = Memory (memory.PtrAndHand first second third)
+three_numbers_call three_numbers_name.Peek first second third = Memory (memory.Peek first second third)
+three_numbers_call three_numbers_name.LentPeek first second third = Loan (loan.LentPeek first second third)
+
+-- the call of this name that puts these bytes into a block, from an offset on
+abbrev pub bytes_call : BytesName → ℕ → ℕ → List ℕ → Call
+bytes_call bytes_name.Poke block offset bytes = Memory (memory.Poke block offset bytes)
+bytes_call bytes_name.LentPoke block offset bytes = Loan (loan.LentPoke block offset bytes)
+
+-- the call of this name on a type and an id
+abbrev pub resource_call : ResourceName → List ℕ → ℤ → Call
+resource_call resource_name.GetResource kind id = Resource (resource.GetResource kind id)
+resource_call resource_name.Get1Resource kind id = Resource (resource.Get1Resource kind id)
+
+-- the call of this name on a file, which may be left out
+abbrev pub file_call : FileName → Option ℕ → Call
+file_call file_name.UpdateResFile file = Resource (resource.UpdateResFile file)
+file_call file_name.CloseResFile file = Resource (resource.CloseResFile file)
+
+-- the call of this name on a type
+abbrev pub kind_call : KindName → List ℕ → Call
+kind_call kind_name.UniqueID kind = Resource (resource.UniqueID kind)
+kind_call kind_name.CountResources kind = Resource (resource.CountResources kind)
+
+-- a call, with the values that its operands have
+abbrev pub resolved : Variables → NamedCall → Call
+resolved variables (named.Plain call) = plain_call call
+resolved variables (named.Number call one) = number_call call (number_of variables one)
+resolved variables (named.TwoNumbers call first second) = two_numbers_call call (number_of variables first) (number_of variables second)
+resolved variables (named.ThreeNumbers call first second third) = three_numbers_call call (number_of variables first) (number_of variables second) (number_of variables third)
+resolved variables (named.BlockMove from start to offset count) =
+    Memory (memory.BlockMove (number_of variables from) (number_of variables start) (number_of variables to) (number_of variables offset) (number_of variables count))
+resolved variables (named.Bytes call block offset bytes) = bytes_call call (number_of variables block) (number_of variables offset) bytes
+resolved variables (named.Resource call kind id) = resource_call call kind (id_of variables id)
+resolved variables (named.GetIndResource kind index) = Resource (resource.GetIndResource kind (number_of variables index))
+resolved variables (named.Kind call kind) = kind_call call kind
+resolved variables (named.AddResource handle kind id name) = Resource (resource.AddResource (number_of variables handle) kind (id_of variables id) name)
+resolved variables (named.File call file) = file_call call (option_map (number_of variables) file)
+
+-- the call that a line makes, with the values that its operands have
+abbrev pub call_of : Variables → CallLine → Call
+call_of variables line = resolved variables line.call

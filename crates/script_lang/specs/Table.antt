@@ -1,0 +1,110 @@
+-- The calls that a line may make, and how each is written.
+use Rattle.std.specs.Prelude.{ℕ, ◌==◌, Bool, true, false, List, [], ◌∷◌, length, codes}
+use Rattle.std.specs.List.{filter}
+use Rattle.script_lang.specs.declared.table.CallName.{CallName}
+use Rattle.script_lang.specs.declared.table.CallName.TheVariants as name
+use Rattle.script_lang.specs.declared.table.NumberName.TheVariants as number
+use Rattle.script_lang.specs.declared.table.PlainName.TheVariants as plain
+use Rattle.script_lang.specs.declared.table.TwoNumbersName.TheVariants as two_numbers
+use Rattle.script_lang.specs.declared.table.ThreeNumbersName.TheVariants as three_numbers
+use Rattle.script_lang.specs.declared.table.BytesName.TheVariants as bytes
+use Rattle.script_lang.specs.declared.table.ResourceName.TheVariants as resource
+use Rattle.script_lang.specs.declared.table.FileName.TheVariants as file
+use Rattle.script_lang.specs.declared.table.KindName.TheVariants as kind
+
+-- a call's name, and whether a line may assign its first result
+pub record Signature : Type 0 where
+  pub name : List ℕ
+  pub is_assignable : Bool
+
+-- a call that gives a number, a handle or an address first, so that a line may assign it
+abbrev pub gives : List ℕ → Signature
+gives name = record { name = name; is_assignable = true }
+
+-- a call that gives nothing that a line may assign
+abbrev pub does : List ℕ → Signature
+does name = record { name = name; is_assignable = false }
+
+-- the table of calls
+abbrev pub signature : CallName → Signature
+signature (name.Number number.NewHandle) = gives (codes "NewHandle")
+signature (name.Plain plain.NewEmptyHandle) = gives (codes "NewEmptyHandle")
+signature (name.Number number.NewPtr) = gives (codes "NewPtr")
+signature (name.Number number.DisposeHandle) = does (codes "DisposeHandle")
+signature (name.Number number.DisposePtr) = does (codes "DisposePtr")
+signature (name.Number number.EmptyHandle) = does (codes "EmptyHandle")
+signature (name.Number number.GetHandleSize) = gives (codes "GetHandleSize")
+signature (name.TwoNumbers two_numbers.SetHandleSize) = does (codes "SetHandleSize")
+signature (name.Number number.GetPtrSize) = gives (codes "GetPtrSize")
+signature (name.TwoNumbers two_numbers.SetPtrSize) = does (codes "SetPtrSize")
+signature (name.Number number.HLock) = does (codes "HLock")
+signature (name.Number number.HUnlock) = does (codes "HUnlock")
+signature (name.Number number.HPurge) = does (codes "HPurge")
+signature (name.Number number.HNoPurge) = does (codes "HNoPurge")
+signature (name.Number number.HSetRBit) = does (codes "HSetRBit")
+signature (name.Number number.HClrRBit) = does (codes "HClrRBit")
+signature (name.Number number.HGetState) = gives (codes "HGetState")
+signature (name.TwoNumbers two_numbers.HSetState) = does (codes "HSetState")
+signature (name.Number number.Deref) = gives (codes "Deref")
+signature (name.Number number.RecoverHandle) = gives (codes "RecoverHandle")
+signature (name.TwoNumbers two_numbers.ReallocateHandle) = does (codes "ReallocateHandle")
+signature (name.Number number.MoveHHi) = does (codes "MoveHHi")
+signature (name.Number number.HLockHi) = does (codes "HLockHi")
+signature (name.Number number.HandToHand) = gives (codes "HandToHand")
+signature (name.TwoNumbers two_numbers.PtrToHand) = gives (codes "PtrToHand")
+signature (name.ThreeNumbers three_numbers.PtrToXHand) = does (codes "PtrToXHand")
+signature (name.ThreeNumbers three_numbers.PtrAndHand) = does (codes "PtrAndHand")
+signature (name.TwoNumbers two_numbers.HandAndHand) = does (codes "HandAndHand")
+signature name.BlockMove = does (codes "BlockMove")
+signature (name.Number number.CompactMem) = gives (codes "CompactMem")
+signature (name.Number number.PurgeMem) = does (codes "PurgeMem")
+signature (name.Plain plain.MaxMem) = gives (codes "MaxMem")
+signature (name.Number number.ReserveMem) = does (codes "ReserveMem")
+signature (name.Plain plain.PurgeSpace) = gives (codes "PurgeSpace")
+signature (name.Plain plain.MaxBlock) = gives (codes "MaxBlock")
+signature (name.Plain plain.FreeMem) = gives (codes "FreeMem")
+signature (name.Plain plain.MoreMasters) = does (codes "MoreMasters")
+signature (name.Plain plain.MaxApplZone) = does (codes "MaxApplZone")
+signature (name.Bytes bytes.Poke) = does (codes "Poke")
+signature (name.ThreeNumbers three_numbers.Peek) = does (codes "Peek")
+signature (name.Plain plain.ZoneMap) = gives (codes "ZoneMap")
+signature (name.Number number.Lend) = does (codes "Lend")
+signature (name.ThreeNumbers three_numbers.LentPeek) = does (codes "LentPeek")
+signature (name.Bytes bytes.LentPoke) = does (codes "LentPoke")
+signature (name.Number number.Return) = does (codes "Return")
+signature (name.Plain plain.MemError) = does (codes "MemError")
+signature (name.Resource resource.GetResource) = gives (codes "GetResource")
+signature (name.Resource resource.Get1Resource) = gives (codes "Get1Resource")
+signature name.GetIndResource = gives (codes "GetIndResource")
+signature (name.Number number.LoadResource) = does (codes "LoadResource")
+signature (name.Number number.ReleaseResource) = does (codes "ReleaseResource")
+signature (name.Number number.DetachResource) = does (codes "DetachResource")
+signature name.AddResource = does (codes "AddResource")
+signature (name.Number number.ChangedResource) = does (codes "ChangedResource")
+signature (name.Number number.RemoveResource) = does (codes "RemoveResource")
+signature (name.Number number.WriteResource) = does (codes "WriteResource")
+signature (name.File file.UpdateResFile) = does (codes "UpdateResFile")
+signature (name.File file.CloseResFile) = does (codes "CloseResFile")
+signature (name.Number number.GetResAttrs) = gives (codes "GetResAttrs")
+signature (name.TwoNumbers two_numbers.SetResAttrs) = does (codes "SetResAttrs")
+signature (name.Number number.GetResInfo) = does (codes "GetResInfo")
+signature (name.Number number.SizeResource) = gives (codes "SizeResource")
+signature (name.Number number.HomeResFile) = gives (codes "HomeResFile")
+signature (name.Kind kind.UniqueID) = gives (codes "UniqueID")
+signature (name.Plain plain.CountTypes) = gives (codes "CountTypes")
+signature (name.Kind kind.CountResources) = gives (codes "CountResources")
+signature (name.Number number.GetIndType) = does (codes "GetIndType")
+signature (name.Number number.SetResLoad) = does (codes "SetResLoad")
+signature (name.Number number.OpenResFile) = gives (codes "OpenResFile")
+signature (name.Number number.UseResFile) = does (codes "UseResFile")
+signature (name.Plain plain.CurResFile) = gives (codes "CurResFile")
+signature (name.Plain plain.ResError) = does (codes "ResError")
+
+-- all calls
+abbrev pub all_calls : List CallName
+all_calls =
+    name.Number number.NewHandle ∷ name.Plain plain.NewEmptyHandle ∷ name.Number number.NewPtr ∷ name.Number number.DisposeHandle ∷ name.Number number.DisposePtr ∷ name.Number number.EmptyHandle ∷ name.Number number.GetHandleSize ∷ name.TwoNumbers two_numbers.SetHandleSize ∷ name.Number number.GetPtrSize ∷ name.TwoNumbers two_numbers.SetPtrSize ∷ name.Number number.HLock ∷ name.Number number.HUnlock ∷ name.Number number.HPurge ∷ name.Number number.HNoPurge ∷ name.Number number.HSetRBit ∷ name.Number number.HClrRBit ∷ name.Number number.HGetState ∷ name.TwoNumbers two_numbers.HSetState ∷ name.Number number.Deref ∷ name.Number number.RecoverHandle ∷ name.TwoNumbers two_numbers.ReallocateHandle ∷ name.Number number.MoveHHi ∷ name.Number number.HLockHi ∷ name.Number number.HandToHand ∷ name.TwoNumbers two_numbers.PtrToHand ∷ name.ThreeNumbers three_numbers.PtrToXHand ∷ name.ThreeNumbers three_numbers.PtrAndHand ∷ name.TwoNumbers two_numbers.HandAndHand ∷ name.BlockMove ∷ name.Number number.CompactMem ∷ name.Number number.PurgeMem ∷ name.Plain plain.MaxMem ∷ name.Number number.ReserveMem ∷ name.Plain plain.PurgeSpace ∷ name.Plain plain.MaxBlock ∷ name.Plain plain.FreeMem ∷ name.Plain plain.MoreMasters ∷ name.Plain plain.MaxApplZone ∷ name.Bytes bytes.Poke ∷ name.ThreeNumbers three_numbers.Peek ∷ name.Plain plain.ZoneMap ∷ name.Number number.Lend ∷ name.ThreeNumbers three_numbers.LentPeek ∷ name.Bytes bytes.LentPoke ∷ name.Number number.Return ∷ name.Plain plain.MemError ∷ name.Resource resource.GetResource ∷ name.Resource resource.Get1Resource ∷ name.GetIndResource ∷ name.Number number.LoadResource ∷ name.Number number.ReleaseResource ∷ name.Number number.DetachResource ∷ name.AddResource ∷ name.Number number.ChangedResource ∷ name.Number number.RemoveResource ∷ name.Number number.WriteResource ∷ name.File file.UpdateResFile ∷ name.File file.CloseResFile ∷ name.Number number.GetResAttrs ∷ name.TwoNumbers two_numbers.SetResAttrs ∷ name.Number number.GetResInfo ∷ name.Number number.SizeResource ∷ name.Number number.HomeResFile ∷ name.Kind kind.UniqueID ∷ name.Plain plain.CountTypes ∷ name.Kind kind.CountResources ∷ name.Number number.GetIndType ∷ name.Number number.SetResLoad ∷ name.Number number.OpenResFile ∷ name.Number number.UseResFile ∷ name.Plain plain.CurResFile ∷ name.Plain plain.ResError ∷ []
+
+-- the calls whose names have so many bytes
+abbrev pub of_length : ℕ → List CallName
+of_length n = filter (λ call. length (signature call).name == n) all_calls
