@@ -87,6 +87,6 @@ data_again bytes rest all =
     ∙ ap (λ (t : List ℕ). Ok (t, end)) (joined [] lines ∙ lines_joined bytes)
 
 -- one line, and what doesn't go on with a string
-pub one_line : (bytes end after : List ℕ) → Small bytes → string_at end ≡ Ok (None, after) → data_at (line_text bytes ++ end) ≡ Ok (bytes, after)
+pub one_line : (bytes end after : List ℕ) → Small bytes → string_at end ≡ Ok (None, after) → data_at (10 ∷ (line_text bytes ++ end)) ≡ Ok (bytes, after)
 unfolding data_at
-one_line bytes end after all stop = rw (line_again bytes end all) (rw stop refl)
+one_line bytes end after all stop = rw (next_line (line_text bytes ++ end) ∙ line_again bytes end all) (rw stop refl)

@@ -161,7 +161,7 @@ comment_here : (text : List ℕ) → word_at (42 ∷ 47 ∷ []) CommentEnd (42 �
 unfolding word_at after_blanks
 comment_here text = refl
 
-map_inside : (bytes text : List ℕ) → Small bytes → length bytes ≡ 242 → map_in (line_text bytes ++ 10 ∷ 42 ∷ 47 ∷ text) ≡ Ok (bytes, text)
+map_inside : (bytes text : List ℕ) → Small bytes → length bytes ≡ 242 → map_in (10 ∷ (line_text bytes ++ 10 ∷ 42 ∷ 47 ∷ text)) ≡ Ok (bytes, text)
 unfolding map_in
 map_inside bytes text all whole =
     rw (one_line bytes (10 ∷ 42 ∷ 47 ∷ text) (42 ∷ 47 ∷ text) all (no_string text)) (rw (comment_here text) (rw whole refl))
@@ -208,12 +208,12 @@ module _ (table : Table) (is : IsTable table) where
       let bytes : List ℕ = map_bytes table in
       let tail : List ℕ = 10 ∷ 42 ∷ 47 ∷ 10 ∷ 10 ∷ [] in
       let rest : List ℕ = 10 ∷ 10 ∷ rows in
-      let regrouped : (map_word ++ (line_text bytes ++ tail)) ++ rows ≡ map_word ++ (line_text bytes ++ 10 ∷ 42 ∷ 47 ∷ rest) =
-      append_assoc map_word (line_text bytes ++ tail) rows ∙ ap (λ (t : List ℕ). map_word ++ t) (append_assoc (line_text bytes) tail rows) in
-      let front : map_at ((map_word ++ (line_text bytes ++ tail)) ++ rows) ≡ Ok (bytes, rest) =
-      ap map_at regrouped ∙ map_begins (line_text bytes ++ 10 ∷ 42 ∷ 47 ∷ rest) ∙ map_inside bytes rest small_bytes bytes_long in
+      let regrouped : (map_word ++ 10 ∷ (line_text bytes ++ tail)) ++ rows ≡ map_word ++ 10 ∷ (line_text bytes ++ 10 ∷ 42 ∷ 47 ∷ rest) =
+      append_assoc map_word (10 ∷ (line_text bytes ++ tail)) rows ∙ ap (λ (t : List ℕ). map_word ++ 10 ∷ t) (append_assoc (line_text bytes) tail rows) in
+      let front : map_at ((map_word ++ 10 ∷ (line_text bytes ++ tail)) ++ rows) ≡ Ok (bytes, rest) =
+      ap map_at regrouped ∙ map_begins (10 ∷ (line_text bytes ++ 10 ∷ 42 ∷ 47 ∷ rest)) ∙ map_inside bytes rest small_bytes bytes_long in
       ap (λ (t : List ℕ). table_at (t ++ rows)) (cond-false _ _ _ some)
-      ∙ whole_table ((map_word ++ (line_text bytes ++ tail)) ++ rows) rest bytes table.rows front (rows_later table.rows is.rows)
+      ∙ whole_table ((map_word ++ 10 ∷ (line_text bytes ++ tail)) ++ rows) rest bytes table.rows front (rows_later table.rows is.rows)
       ∙ ap (λ (t : Table). Ok t) (parts_again bytes refl)
 
   pub table_again : table_at (text_of table) ≡ Ok table

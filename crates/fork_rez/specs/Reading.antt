@@ -251,7 +251,7 @@ map_in text = do
   rest ← word_at (codes "*/") CommentEnd bytes.1
   if length bytes.0 == 242 then Ok (bytes.0, rest) else fails text MapBytes
 
--- the map's bytes in the first comment, if it has them, and else zeros
+-- the map's bytes in the comment that the text begins with, if it has them, and else zeros; its lines end as any
 unfoldable pub map_at : List ℕ → Result (List ℕ × List ℕ) Fault
 map_at text = if_there (after_word map_word text) map_in (Ok (replicate 242 0, text))
 

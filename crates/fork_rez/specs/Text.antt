@@ -95,12 +95,12 @@ map_bytes table = table.extra ++ big_bytes 2 table.map_attributes
 
 -- what a comment begins with that has those
 abbrev pub map_word : List ℕ
-map_word = codes "/*resfork: the map's 240 extra bytes and its attributes\n"
+map_word = codes "/*resfork: the map's 240 extra bytes and its attributes"
 
 -- those bytes in a comment, unless all are 0
 abbrev pub map_text : List ℕ → List ℕ
 map_text bytes = if list_all (λ byte. byte == 0) bytes then []
-    else map_word ++ (line_text bytes ++ codes "\n*/\n\n")
+    else map_word ++ (10 ∷ (line_text bytes ++ codes "\n*/\n\n"))
 
 -- a table
 abbrev pub text_of : Table → List ℕ

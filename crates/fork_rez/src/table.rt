@@ -14,7 +14,7 @@ use mac_base::resource::Resource;
 use std::alloc::{AllocError, Global};
 
 /// What a comment begins with that has the map's bytes.
-pub(crate) const MAP_WORD: &[u8] = b"/*resfork: the map's 240 extra bytes and its attributes\n";
+pub(crate) const MAP_WORD: &[u8] = b"/*resfork: the map's 240 extra bytes and its attributes";
 
 /// How many bytes of the map are kept.
 const MAP_LENGTH: usize = 242;
@@ -78,7 +78,7 @@ fn map_in(alloc: Global, text: &[u8]) -> Result<(Vec<u8>, &[u8]), ReadError>
     Ok((bytes, rest))
 }
 
-/// The map's bytes in the first comment, if it has them, and else zeros.
+/// The map's bytes in the comment that the text begins with, if it has them, and else zeros.
 #[tactic(auto, unfolding(crate::specs::Reading::map_at))]
 fn map_at(alloc: Global, text: &[u8]) -> Result<(Vec<u8>, &[u8]), ReadError>
     ensures bytes { Gives (λ x. (x.0.items, x.1.now)) result (map_at text.now) }

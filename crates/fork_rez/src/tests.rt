@@ -88,6 +88,26 @@ fn text_by_hand(rt: HostRuntime) -> Result<(), Fail> {
     Ok(())
 }
 
+#[test]
+fn map_in_lines_that_end_with_two_characters(rt: HostRuntime) -> Result<(), Fail> {
+    let alloc = rt.alloc();
+    let mut table = table_of(alloc, b"Hi")?;
+    table.extra[0] = 7;
+    table.map_attributes = 128;
+    let mut text = Vec::new(alloc);
+    for byte in derez(alloc, &[], &table)?.as_slice() {
+        if *byte == b'\n' {
+            text.push(b'\r')?;
+        }
+        text.push(*byte)?;
+    }
+    let made = rez(alloc, text.as_slice()).ok().ok_or("the text is read")?;
+    assert_eq!(rt; made.extra[0], 7);
+    assert_eq!(rt; made.map_attributes, 128);
+    assert_eq!(rt; made.rows.len(), 1);
+    Ok(())
+}
+
 /// The line and what is expected where a text isn't read.
 fn refusal_of(alloc: Global, text: &[u8]) -> Option<Refusal> {
     match rez(alloc, text) {

@@ -269,6 +269,7 @@ fn push_map(out: &mut Vec<u8>, bytes: &[u8]) -> Result<(), AllocError>
         return Ok(());
     }
     out.extend_from_slice(MAP_WORD)?;
+    out.extend_from_slice(b"\n")?;
     push_line(out, bytes)?;
     out.extend_from_slice(b"\n*/\n\n")?;
     Ok(())
