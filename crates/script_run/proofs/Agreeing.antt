@@ -23,6 +23,7 @@ use Rattle.script_lang.specs.declared.line.CallLine.{CallLine}
 use Rattle.script_lang.specs.declared.line.Line.{Line}
 use Rattle.script_lang.specs.declared.line.Statement.{Statement}
 use Rattle.script_lang.specs.declared.line.Statement.TheVariants.{Call as CallStatement, Answer}
+use Rattle.script_lang.specs.Lines.{name_of}
 use Rattle.script_lang.specs.Text.{reply_text}
 use Rattle.script_lang.specs.Answers.{answer_with}
 use Rattle.script_lang.specs.Taken.{first_number}

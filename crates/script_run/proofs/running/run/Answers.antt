@@ -1,4 +1,5 @@
 use Rattle.std.proofs.Common.{◌≡◌, Err, unwrap_or, refl, sym, ap, subst}
+use Rattle.script_text.specs.Script.{IsScript}
 use Rattle.script_run.specs.Line.{start_of}
 use Rattle.script_run.specs.Run.{Ends}
 use Rattle.script_run.specs.declared.reading.NoScript.{NoScript}
@@ -26,7 +27,8 @@ returns-clause-ends g c =
     let input = unwrap_or (g.R.Read.remaining c.args.reader.now.inner) r.0 in
     let lines = c.run_lines-end.ensures.ends in
     let start : c.new-machine.result ≡ start_of c.args.spec c.args.stores.items = c.new-machine.ensures.zone c.args.spec (ap (λ m. m.shape) c.in-Ok-create.ensures) (ap (λ m. m.heap) c.in-Ok-create.ensures) in
-    let ends = rw start at (lines.2 input (c.in-Ok.ensures.ready input r.2)) in
+    let ready = subst (IsScript input) (sym c.deref.ensures.value) (c.in-Ok.ensures.ready input r.2) in
+    let ends = rw start at (lines.2 input ready) in
     (r.0, lines.0, r.1, lines.1, subst (λ left. Ends g.S.ForkStore (start_of c.args.spec c.args.stores.items) input c.run_lines-end.result lines.0 left) (sym c.into_stores.ensures) ends)
 
 pub returns-in-Err-clause-read_fault : goal.returns-in-Err-clause-read_fault
