@@ -1,5 +1,5 @@
-//! The vocabulary of calls: the calls of the Memory Manager and of the Resource Manager with their operands, what a call
-//! gives, and how each call is written.
+//! The vocabulary of calls: the calls of the Memory Manager and of the Resource Manager with their operands, and what a
+//! call gives.
 #![tactic(auto)]
 
 mod call;
@@ -9,7 +9,6 @@ mod memory_call;
 mod no_procedure;
 mod reply;
 mod resource_call;
-mod table;
 
 pub use call::Call;
 pub use grow_zone::{Answer, Asked, GrowZone};
@@ -18,4 +17,3 @@ pub use memory_call::{MemoryCall, Span};
 pub use no_procedure::NoProcedure;
 pub use reply::{BlockList, Outcome, Reply, ResourceInfo, Results};
 pub use resource_call::ResourceCall;
-pub use table::{ALL_CALLS, CallName, OperandKind, Signature};

@@ -1,9 +1,0 @@
-use Rattle.std.proofs.Common.{sym, ◌∙◌, arith}
-use Rattle.mac_calls.proofs.CallNames.{unnamed, unnamed_further}
-use Rattle.mac_calls.proofs.table.CallName.named.Goals as goal
-
-pub loop-call-preserved : goal.loop-call-preserved
-loop-call-preserved c = unnamed_further c.args.word.now c.calls_of_length-call-items.result.now c.loop-call.call-index c.signature.result.name.now c.signature.ensures.name (sym c.eq.ensures ∙ c.if-eq.false) c.loop-call.invariant
-
-pub returns-clause-none : goal.returns-clause-none
-returns-clause-none c = unnamed c.args.word.now c.calls_of_length-call-items.result.now c.calls_of_length-call-items.ensures (λ k lt. c.loop-call.invariant k (omega arith))
