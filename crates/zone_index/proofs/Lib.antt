@@ -3,6 +3,7 @@ pub mod Begun
 pub mod Bounded
 pub mod Budget
 pub mod Bytes
+pub mod Changed
 pub mod Changing
 pub mod Creating
 pub mod Ending
@@ -36,7 +37,6 @@ pub mod OutOfOrder
 pub mod Owners
 pub mod PagesKept
 pub mod PagesRenewed
-pub mod Parts
 pub mod Passing
 pub mod Placed
 pub mod Raising
