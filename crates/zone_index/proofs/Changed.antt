@@ -1,16 +1,15 @@
 -- What each change makes of a zone: a part of its map is another, and the blocks elsewhere weigh what they did.
-use Rattle.std.proofs.Common.{◌≡◌, ℕ, ◌+◌, ◌-◌, true, false, cond, List, [], ◌∷◌, ◌++◌, Contains, Option, Some, None, drop, inl, inr, refl, ap, sym, ◌∙◌, subst, append-nil, append_assoc, arith}
-use Rattle.std.specs.Prelude.{◌==◌, ◌⊎◌, MatchOption}
-use Rattle.mac_base.specs.declared.block.Entry.{Entry}
+use Rattle.std.proofs.Common.{◌≡◌, ℕ, ◌+◌, ◌-◌, true, false, cond, List, [], ◌∷◌, ◌++◌, Contains, Some, drop, inl, inr, refl, ap, sym, ◌∙◌, subst, append-nil, append_assoc, arith}
+use Rattle.std.specs.Prelude.{◌==◌, ◌⊎◌}
 use Rattle.mac_base.specs.declared.block.Flags.{Flags}
 use Rattle.mac_base.specs.declared.block.Kind.{Kind}
 use Rattle.mac_base.specs.declared.block.Kind.TheVariants.{Free, Master, Ptr, Rel}
 use Rattle.mac_base.specs.Heap.{Heap}
-use Rattle.mac_base.specs.HandleTable.{HandleTable, EmptyHandle, FullHandle, Pointer, bytes_of, is_pointer, live_at, no_flags, resized, with_bytes, zeros}
+use Rattle.mac_base.specs.HandleTable.{EmptyHandle, FullHandle, Pointer, bytes_of, is_pointer, live_at, no_flags, resized, with_bytes, zeros}
 use Rattle.mac_base.specs.HeadKind.{head_size, zone_header}
 use Rattle.mac_base.specs.Loans.{lent_out, returned}
 use Rattle.mac_base.specs.ZoneMap.{ZoneMap, block, free_block, total_size, address_behind}
-use Rattle.mac_base.specs.ZoneState.{ZoneState, with_contents, with_heap}
+use Rattle.mac_base.specs.ZoneState.{ZoneState, with_heap}
 use Rattle.zone_laws.proofs.Arranging.{total_size-free_block}
 use Rattle.zone_laws.proofs.Maps.{total_size-append}
 use Rattle.zone_laws.proofs.ReleasedBlocks.{total_size-marked}
@@ -54,7 +53,7 @@ pub record OneOther (z : ZoneState) (heap : Heap) (at : ℕ) : Type 0 where
   pub same_front : weights heap.table before ≡ weights z.heap.table before
   pub same_back : weights heap.table behind ≡ weights z.heap.table behind
 
-pub other-renews : (z : ZoneState) (heap : Heap) (at : ℕ) → OneOther z heap at → Renews z heap at at
+abbrev pub other-renews : (z : ZoneState) (heap : Heap) (at : ℕ) → OneOther z heap at → Renews z heap at at
 other-renews z heap at o = record {
   front = o.before;
   was = block o.was o.size ∷ [];
@@ -89,7 +88,7 @@ one_below : (n at : ℕ) → AllBelow (at + 1) at (free_block n)
 one_below n at = elim (n == 0) as (λ b. AllBelow (at + 1) at (cond b [] (block Free n ∷ []))) [ true ↦ tt | false ↦ (omega arith, tt) ]
 
 module _ (z : ZoneState) where
-  pub split-renews : {at size : ℕ} (can : CanCut z at size) → Renews z (cut_in_two size z can.free).heap at (at + size)
+  abbrev pub split-renews : {at size : ℕ} (can : CanCut z at size) → Renews z (cut_in_two size z can.free).heap at (at + size)
   split-renews {at} {size} can = record {
     front = can.free.before;
     was = block Free can.free.size ∷ [];
@@ -105,7 +104,7 @@ module _ (z : ZoneState) where
     ends = inr (let smaller = can.smaller in omega arith);
   }
 
-  pub merge-renews : {at : ℕ} (pair : FreePair z at) → Renews z (joined_pair z pair).heap at (at + pair.first)
+  abbrev pub merge-renews : {at : ℕ} (pair : FreePair z at) → Renews z (joined_pair z pair).heap at (at + pair.first)
   merge-renews {at} pair = record {
     front = pair.before;
     was = block Free pair.first ∷ block Free pair.second ∷ [];
@@ -121,7 +120,7 @@ module _ (z : ZoneState) where
     ends = inr (omega arith);
   }
 
-  pub carry-renews : {at end : ℕ} (parcel : ParcelAt z at end) → Renews z (carried_up z parcel).heap at end
+  abbrev pub carry-renews : {at end : ℕ} (parcel : ParcelAt z at end) → Renews z (carried_up z parcel).heap at end
   carry-renews {at} {end} parcel =
       let all = total_size-append parcel.blocks (parcel.here ∷ []) in
       let long = parcel.long in
@@ -140,7 +139,7 @@ module _ (z : ZoneState) where
         ends = inr (omega arith);
       }
 
-  pub sink-renews : {start at : ℕ} (parcel : ParcelUpTo z start at) → Renews z (sunk z parcel).heap start (at + parcel.here.size)
+  abbrev pub sink-renews : {start at : ℕ} (parcel : ParcelUpTo z start at) → Renews z (sunk z parcel).heap start (at + parcel.here.size)
   sink-renews {start} {at} parcel =
       let all = total_size-append parcel.blocks (parcel.here ∷ []) in
       let long = parcel.long in
@@ -218,25 +217,25 @@ module _ (z : ZoneState) where
 
   module _ {at : ℕ} (free : FreeAt z at) where
     -- a free block is another's
-    given : (heap : Heap) (is : Kind) → heap.map ≡ free.before ++ block is free.size ∷ free.behind → weights heap.table free.before ≡ weights z.heap.table free.before → weights heap.table free.behind ≡ weights z.heap.table free.behind → OneOther z heap at
+    abbrev given : (heap : Heap) (is : Kind) → heap.map ≡ free.before ++ block is free.size ∷ free.behind → weights heap.table free.before ≡ weights z.heap.table free.before → weights heap.table free.behind ≡ weights z.heap.table free.behind → OneOther z heap at
     given heap is map front back = record { before = free.before; was = Free; is = is; size = free.size; behind = free.behind; map_was = free.map; map_is = map; place = free.place; same_front = front; same_back = back }
 
-    pub pointed-other : (h k : ℕ) → live_at z.heap.table h ≡ Some EmptyHandle → OneOther z (pointed h k z free).heap at
+    abbrev pub pointed-other : (h k : ℕ) → live_at z.heap.table h ≡ Some EmptyHandle → OneOther z (pointed h k z free).heap at
     pointed-other h k empty =
         let same = weights-with_live h (FullHandle no_flags (zeros k)) z.heap.table (subst Bare (sym empty) bare-empty) (bare-new (zeros k)) in
         given (pointed h k z free).heap (Rel h) refl (same free.before) (same free.behind)
 
-    pub fixed-other : (k : ℕ) → Fits (fixed k z free) → OneOther z (fixed k z free).heap at
+    abbrev pub fixed-other : (k : ℕ) → Fits (fixed k z free) → OneOther z (fixed k z free).heap at
     fixed-other k fits =
         let p : ℕ = at + head_size z.shape.heads in
         let one = names-one (fixed k z free) p free.before (block (Ptr p) free.size) free.behind fits refl (eqb_same p) in
         let agree = with_live_agrees p (Pointer (zeros k)) z.heap.table in
         given (fixed k z free).heap (Ptr p) refl (weights-apart p z.heap.table (fixed k z free).heap.table agree free.before one.front) (weights-apart p z.heap.table (fixed k z free).heap.table agree free.behind one.back)
 
-    pub master-other : OneOther z (with_master z free).heap at
+    abbrev pub master-other : OneOther z (with_master z free).heap at
     master-other = given (with_master z free).heap Master refl refl refl
 
-  pub unfixed-other : {at : ℕ} (p : ℕ) → Fits z → NamedAt z p at → is_pointer z.heap.table p ≡ true → OneOther z (unfixed p z).heap at
+  abbrev pub unfixed-other : {at : ℕ} (p : ℕ) → Fits z → NamedAt z p at → is_pointer z.heap.table p ≡ true → OneOther z (unfixed p z).heap at
   unfixed-other p fits b live =
       let one = names-one z p b.before b.here b.behind fits b.map b.named in
       let same = weights-without p z.heap.table (bare-pointer (live_at z.heap.table p) live) in
@@ -255,21 +254,21 @@ module _ (z : ZoneState) where
 
   module _ {at : ℕ} (h : ℕ) (fits : Fits z) (b : BlockOf z h at) where
     -- a handle's block is another, and the table is another for the handle alone
-    owned : (heap : Heap) (is : Kind) → heap.map ≡ b.before ++ block is b.size ∷ b.behind → weights heap.table b.before ≡ weights z.heap.table b.before → weights heap.table b.behind ≡ weights z.heap.table b.behind → OneOther z heap at
+    abbrev owned : (heap : Heap) (is : Kind) → heap.map ≡ b.before ++ block is b.size ∷ b.behind → weights heap.table b.before ≡ weights z.heap.table b.before → weights heap.table b.behind ≡ weights z.heap.table b.behind → OneOther z heap at
     owned heap is map front back = record { before = b.before; was = Rel h; is = is; size = b.size; behind = b.behind; map_was = b.map; map_is = map; place = b.place; same_front = front; same_back = back }
 
     abbrev one_block : NamesOne h b.before b.behind
     one_block = names-one z h b.before (block (Rel h) b.size) b.behind fits b.map (eqb_same h)
 
-    map_freed : freed h z.heap.map ≡ b.before ++ block Free b.size ∷ b.behind
+    pub map_freed : freed h z.heap.map ≡ b.before ++ block Free b.size ∷ b.behind
     map_freed = freed-one h z.heap.map b.before (block (Rel h) b.size) b.behind b.map (eqb_same h) one_block
 
-    pub emptied-other : OneOther z (without_block h z).heap at
+    abbrev pub emptied-other : OneOther z (without_block h z).heap at
     emptied-other =
         let agree = with_live_agrees h EmptyHandle z.heap.table in
         owned (without_block h z).heap Free map_freed (weights-apart h z.heap.table (without_block h z).heap.table agree b.before one_block.front) (weights-apart h z.heap.table (without_block h z).heap.table agree b.behind one_block.back)
 
-    pub flagged-other : (flags : Flags) → OneOther z (flagged h flags z).heap at
+    abbrev pub flagged-other : (flags : Flags) → OneOther z (flagged h flags z).heap at
     flagged-other flags =
         let agree = with_live_agrees h (FullHandle flags (bytes_of z.heap.table h)) z.heap.table in
         owned (flagged h flags z).heap (Rel h) b.map (weights-apart h z.heap.table (flagged h flags z).heap.table agree b.before one_block.front) (weights-apart h z.heap.table (flagged h flags z).heap.table agree b.behind one_block.back)
@@ -278,13 +277,13 @@ module _ (z : ZoneState) where
     abbrev pub emptied_first : ℕ → Heap
     emptied_first k = record { table = sized h k z.heap.table; map = freed h z.heap.map; free_slots = z.heap.free_slots }
 
-    pub moved_out-other : (k : ℕ) → OneOther z (emptied_first k) at
+    abbrev pub moved_out-other : (k : ℕ) → OneOther z (emptied_first k) at
     moved_out-other k =
         let bytes = resized k (bytes_of z.heap.table h) in
         owned (emptied_first k) Free map_freed (weights-bytes z.heap.table h bytes b.before) (weights-bytes z.heap.table h bytes b.behind)
 
     -- and then the free one is the handle's
-    pub moved_in-other : (k : ℕ) {to : ℕ} (free : FreeAt z to) → OneOther (with_heap (emptied_first k) z) (relocated h k z free).heap to
+    abbrev pub moved_in-other : (k : ℕ) {to : ℕ} (free : FreeAt z to) → OneOther (with_heap (emptied_first k) z) (relocated h k z free).heap to
     moved_in-other k free = record {
       before = freed h free.before;
       was = Free;

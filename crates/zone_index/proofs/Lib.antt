@@ -57,6 +57,5 @@ pub mod Spans
 pub mod Splits
 pub mod Table
 pub mod Tables
-pub mod Taking
 pub mod Turned
 pub mod Walking

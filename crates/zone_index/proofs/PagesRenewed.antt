@@ -4,7 +4,7 @@ use Rattle.std.specs.Prelude.{◌⊎◌}
 use Rattle.mac_base.specs.Heap.{Heap}
 use Rattle.mac_base.specs.HandleTable.{HandleTable}
 use Rattle.mac_base.specs.HeadKind.{Shape, zone_header}
-use Rattle.mac_base.specs.ZoneMap.{ZoneMap, total_size, address_behind}
+use Rattle.mac_base.specs.ZoneMap.{ZoneMap, total_size}
 use Rattle.mac_base.specs.ZoneState.{ZoneState, with_heap}
 use Rattle.zone_index.specs.declared.sums.Sums.{Sums}
 use Rattle.zone_index.specs.declared.weight.Weight.{Weight}
