@@ -428,16 +428,16 @@ def of_t1mac(peers):
                 yield f"t1mac {flag}", path
 
 
-# the kinds of the containers that tools make; what isn't here is BinHex, which resfork reads alone
+# the kinds of the containers that tools make
 KINDS = {"macstream": "MacBinary", "tobin": "MacBinary", "hcopy -m": "MacBinary", "unar": "AppleDouble"}
-KINDS |= {f"t1mac --{kind.lower()}": kind for kind in ("MacBinary", "AppleSingle", "AppleDouble")}
+KINDS |= {way: "BinHex" for way in ("binhex", "Convert::BinHex", "hcopy -b")}
+KINDS |= {f"t1mac --{kind.lower()}": kind for kind in ("MacBinary", "AppleSingle", "AppleDouble", "BinHex")}
 
 
 def written_of(peers, python, way, path):
-    """Has resfork write a container again, where it writes such ones."""
-    if way in KINDS:
-        written(peers, python, KINDS[way], path)
-        made_again(peers, python, KINDS[way], path)
+    """Has resfork write a container again."""
+    written(peers, python, KINDS[way], path)
+    made_again(peers, python, KINDS[way], path)
 
 
 def main():
