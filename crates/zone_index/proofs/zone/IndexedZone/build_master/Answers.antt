@@ -1,4 +1,4 @@
-use Rattle.std.proofs.Common.{◌≡◌, ap, sym, ◌∙◌, set, subst, ◌∷◌, arith}
+use Rattle.std.proofs.Common.{◌≡◌, ap, sym, ◌∙◌, set, subst}
 use Rattle.mac_base.specs.HeadKind.{master_length}
 use Rattle.linked_zone.specs.Changes.{with_master}
 use Rattle.linked_zone.specs.Places.{RoomFor}
@@ -11,10 +11,8 @@ use Rattle.zone_index.specs.Marks.{AreMarked}
 use Rattle.zone_index.proofs.Placed.{placed}
 use Rattle.zone_index.specs.Bounds.{AreBounds}
 use Rattle.zone_index.proofs.Opening.{bounds-master}
-use Rattle.mac_base.specs.declared.block.Kind.TheVariants.{Free}
-use Rattle.mac_base.specs.ZoneMap.{block}
 use Rattle.zone_index.proofs.Changing.{pages-master}
-use Rattle.zone_index.proofs.PagesKept.{forgets-read, pages-kept, part-ends}
+use Rattle.zone_index.proofs.PagesKept.{forgets-read, pages-kept}
 use Rattle.zone_index.proofs.Measured.{lengths-of}
 use Rattle.zone_index.proofs.zone.IndexedZone.build_master.Goals as goal
 

@@ -1,4 +1,4 @@
-use Rattle.std.proofs.Common.{ap, sym, ◌∙◌, set, subst, ◌∷◌, arith, refl}
+use Rattle.std.proofs.Common.{ap, sym, ◌∙◌, set, subst, refl}
 use Rattle.mac_base.specs.Gap.{is_fixed}
 use Rattle.mac_base.specs.ZoneState.{ZoneState}
 use Rattle.linked_zone.specs.Changes.{without_block}
@@ -7,14 +7,11 @@ use Rattle.zone_index.specs.Purging.{may_go}
 use Rattle.zone_index.proofs.Freed.{emptied-marked}
 use Rattle.zone_index.proofs.Placed.{placed}
 use Rattle.zone_index.proofs.Rules.{fixes, goes}
-use Rattle.linked_zone.specs.Places.{BlockOf}
 use Rattle.zone_index.specs.Bounds.{AreBounds}
 use Rattle.zone_index.proofs.Opening.{bounds-emptied}
-use Rattle.mac_base.specs.ZoneMap.{block}
-use Rattle.mac_base.specs.declared.block.Kind.TheVariants.{Rel}
 use Rattle.linked_zone.specs.Fit.{Fits}
 use Rattle.zone_index.proofs.Changing.{pages-emptied}
-use Rattle.zone_index.proofs.PagesKept.{forgets-read, pages-kept, part-ends}
+use Rattle.zone_index.proofs.PagesKept.{forgets-read, pages-kept}
 use Rattle.mac_base.specs.HandleTable.{EmptyHandle}
 use Rattle.zone_index.proofs.Measured.{lengths-given, lengths-of}
 use Rattle.zone_index.proofs.zone.IndexedZone.empty.Goals as goal

@@ -1,4 +1,4 @@
-use Rattle.std.proofs.Common.{◌≡◌, ap, sym, ◌∙◌, set, subst, ◌∷◌, arith, ◌+◌}
+use Rattle.std.proofs.Common.{◌≡◌, ap, sym, ◌∙◌, set, subst, ◌+◌}
 use Rattle.linked_zone.specs.Changes.{fixed}
 use Rattle.linked_zone.specs.Places.{RoomFor}
 use Rattle.mac_base.specs.Gap.{is_fixed}
@@ -11,10 +11,8 @@ use Rattle.zone_index.proofs.Placed.{placed}
 use Rattle.linked_zone.specs.Fit.{Fits}
 use Rattle.zone_index.specs.Bounds.{AreBounds}
 use Rattle.zone_index.proofs.Opening.{bounds-fixed}
-use Rattle.mac_base.specs.declared.block.Kind.TheVariants.{Free}
-use Rattle.mac_base.specs.ZoneMap.{block}
 use Rattle.zone_index.proofs.Changing.{pages-fixed}
-use Rattle.zone_index.proofs.PagesKept.{forgets-read, pages-kept, part-ends}
+use Rattle.zone_index.proofs.PagesKept.{forgets-read, pages-kept}
 use Rattle.std.proofs.lemmas.List.{length-replicate}
 use Rattle.mac_base.specs.HandleTable.{Pointer, zeros}
 use Rattle.mac_base.specs.HeadKind.{head_size}

@@ -1,4 +1,4 @@
-use Rattle.std.proofs.Common.{ℕ, List, ◌≡◌, sym, subst, Some, ◌∷◌, ◌∙◌, arith}
+use Rattle.std.proofs.Common.{ℕ, List, ◌≡◌, sym, subst, Some, ◌∙◌}
 use Rattle.mac_base.specs.ZoneState.{ZoneState}
 use Rattle.linked_zone.specs.Changes.{pointed}
 use Rattle.linked_zone.specs.Places.{RoomFor}
@@ -8,10 +8,8 @@ use Rattle.zone_index.proofs.Rules.{Rule, fixes, goes}
 use Rattle.mac_base.specs.HandleTable.{EmptyHandle, live_at, FullHandle, no_flags, zeros}
 use Rattle.zone_index.specs.Bounds.{AreBounds}
 use Rattle.zone_index.proofs.Moving.{bounds-point}
-use Rattle.mac_base.specs.declared.block.Kind.TheVariants.{Free}
-use Rattle.mac_base.specs.ZoneMap.{block}
 use Rattle.zone_index.proofs.Changing.{pages-pointed}
-use Rattle.zone_index.proofs.PagesKept.{forgets-read, pages-kept, part-ends}
+use Rattle.zone_index.proofs.PagesKept.{forgets-read, pages-kept}
 use Rattle.std.proofs.lemmas.List.{length-replicate}
 use Rattle.zone_index.proofs.Measured.{lengths-given, lengths-of}
 use Rattle.zone_index.proofs.zone.IndexedZone.point.Goals as goal

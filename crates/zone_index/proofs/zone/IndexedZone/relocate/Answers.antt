@@ -1,10 +1,10 @@
-use Rattle.std.proofs.Common.{◌≡◌, ap, slice_index, sym, ◌∙◌, set, subst, IsFalse, ◌∷◌, arith, true}
+use Rattle.std.proofs.Common.{◌≡◌, ap, slice_index, sym, ◌∙◌, set, subst, IsFalse, true}
 use Rattle.std.specs.Prelude.{IsFalse, ◌||◌}
 use Rattle.mac_base.specs.Gap.{is_fixed}
 use Rattle.mac_base.specs.HandleTable.{is_locked, is_full, is_pointer}
 use Rattle.mac_base.specs.ZoneState.{ZoneState}
 use Rattle.linked_zone.specs.Changes.{relocated}
-use Rattle.linked_zone.specs.Places.{RoomFor, BlockOf}
+use Rattle.linked_zone.specs.Places.{RoomFor}
 use Rattle.zone_index.specs.Marks.{AreMarked}
 use Rattle.zone_index.specs.Purging.{may_go}
 use Rattle.zone_index.proofs.Freed.{moved-marked, relocated-marked}
@@ -13,11 +13,9 @@ use Rattle.zone_index.specs.Bounds.{AreBounds}
 use Rattle.zone_index.proofs.Opening.{bounds-relocated}
 use Rattle.std.proofs.lemmas.List.{with_items_is}
 use Rattle.std.specs.Vec.{with_items}
-use Rattle.mac_base.specs.declared.block.Kind.TheVariants.{Free, Rel}
-use Rattle.mac_base.specs.ZoneMap.{block}
 use Rattle.linked_zone.specs.Fit.{Fits}
 use Rattle.zone_index.proofs.Changing.{pages-relocated}
-use Rattle.zone_index.proofs.PagesKept.{forgets-read, pages-kept, part-ends}
+use Rattle.zone_index.proofs.PagesKept.{forgets-read, pages-kept}
 use Rattle.zone_index.proofs.Measured.{lengths-of, lengths-sized}
 use Rattle.zone_index.proofs.zone.IndexedZone.relocate.Goals as goal
 

@@ -1,4 +1,4 @@
-use Rattle.std.proofs.Common.{ap, sym, ◌∙◌, set, subst, IsTrue, ◌∷◌, arith, refl}
+use Rattle.std.proofs.Common.{ap, sym, ◌∙◌, set, subst, IsTrue, refl}
 use Rattle.linked_zone.specs.Changes.{unfixed}
 use Rattle.linked_zone.specs.Places.{NamedAt}
 use Rattle.zone_index.proofs.Freed.{unfixed-kept, unfixed-marked}
@@ -13,7 +13,7 @@ use Rattle.zone_index.specs.Bounds.{AreBounds}
 use Rattle.zone_index.proofs.Opening.{bounds-unfixed}
 use Rattle.linked_zone.specs.Fit.{Fits}
 use Rattle.zone_index.proofs.Changing.{pages-unfixed}
-use Rattle.zone_index.proofs.PagesKept.{forgets-read, pages-kept, part-ends}
+use Rattle.zone_index.proofs.PagesKept.{forgets-read, pages-kept}
 use Rattle.zone_index.proofs.Measured.{lengths-of, lengths-out}
 use Rattle.zone_index.proofs.zone.IndexedZone.unfix.Goals as goal
 
