@@ -21,15 +21,13 @@ invariant_of-self c =
       fixed = keep fixes _ c.self.invariant.fixed;
       purgeable = keep goes _ c.self.invariant.purgeable;
       bounds = subst (λ (z : ZoneState). AreBounds z c.shorten.new.bounds) (sym (c.hold.ensures can)) (c.shorten.ensures can);
-      pages = (let can = subst (λ (z : ZoneState). CanHold z c.args.block c.args.size c.args.length) (sym c.self.view_is) c.requires.room in
-          let named = c.place_of-at.ensures in
+      pages = (let named = c.place_of-at.ensures in
           let fits = c.spec-spec.ensures.fits in
           let place = named-place c.self.inside.zone c.args.block c.place_of-at.result fits named can.before can.here can.behind can.map can.named in
           pages-kept c.self.inside.pages c.forget.new.pages (c.forget.auto.pages ∙ c.deref_mut.ensures.len) (c.hold.ensures can)
           (pages-held c.self.inside.zone c.self.inside.pages.items c.forget.new.pages c.self.invariant.pages can place
           (forgets-read c.place_of-at.result (c.place_of-at.result + c.args.size) c.self.view_is c.deref_mut.ensures.value c.page-first.ensures.value c.page_at-last.ensures.value c.forget.ensures)));
-      lengths = (let can = subst (λ (z : ZoneState). CanHold z c.args.block c.args.size c.args.length) (sym c.self.view_is) c.requires.room in
-          let fits = c.spec-spec.ensures.fits in
+      lengths = (let fits = c.spec-spec.ensures.fits in
           let has = named-owner c.self.inside.zone c.args.block can.before can.here can.behind fits can.map can.named in
           lengths-of c.note.new.self (c.hold.ensures can) (lengths-sized c.self.inside.zone.heap.table c.self.inside.lengths c.note.new.self c.args.block c.args.block c.args.length refl c.self.invariant.lengths c.note.ensures has));
     }

@@ -35,5 +35,5 @@ invariant_of-self c =
           pages-kept c.self.inside.pages c.forget.new.pages (c.forget.auto.pages ∙ c.deref_mut.ensures.len) c.set_flags.ensures
           (pages-flagged c.self.inside.zone c.self.inside.pages.items c.forget.new.pages c.self.invariant.pages c.block_of-at.result
           (forgets-read c.block_of-at.result c.block_of-at.result c.self.view_is c.deref_mut.ensures.value c.page-page.ensures.value c.page-page.ensures.value c.forget.ensures) c.args.handle c.args.flags fits own));
-      lengths = (lengths-of c.self.inside.lengths c.set_flags.ensures (lengths-kept c.self.inside.zone.heap.table (with_flags c.args.handle c.args.flags c.self.inside.zone.heap.table) c.self.inside.lengths c.self.invariant.lengths (same-with_flags c.args.handle c.args.flags c.self.inside.zone.heap.table)));
+      lengths = lengths-of c.self.inside.lengths c.set_flags.ensures (lengths-kept c.self.inside.zone.heap.table (with_flags c.args.handle c.args.flags c.self.inside.zone.heap.table) c.self.inside.lengths c.self.invariant.lengths (same-with_flags c.args.handle c.args.flags c.self.inside.zone.heap.table));
     }

@@ -36,5 +36,5 @@ invariant_of-self c =
           pages-kept c.self.inside.pages c.forget.new.pages (c.forget.auto.pages ∙ c.deref_mut.ensures.len) c.unfix.ensures
           (pages-unfixed c.self.inside.zone c.self.inside.pages.items c.forget.new.pages c.self.invariant.pages c.place_of-at.result
           (forgets-read c.place_of-at.result c.place_of-at.result c.self.view_is c.deref_mut.ensures.value c.page-page.ensures.value c.page-page.ensures.value c.forget.ensures) c.args.pointer fits own live));
-      lengths = (lengths-of c.note.new.self c.unfix.ensures (lengths-out c.self.inside.zone.heap.table c.self.inside.lengths c.note.new.self c.args.pointer c.number-2.result 0 c.number-2.ensures c.self.invariant.lengths c.note.ensures refl));
+      lengths = lengths-of c.note.new.self c.unfix.ensures (lengths-out c.self.inside.zone.heap.table c.self.inside.lengths c.note.new.self c.args.pointer c.number-2.result 0 c.number-2.ensures c.self.invariant.lengths c.note.ensures refl);
     }
