@@ -11,7 +11,7 @@ use Rattle.mac_base.specs.ZoneMap.{block}
 use Rattle.linked_zone.specs.Fit.{Fits}
 use Rattle.zone_index.specs.Bounds.{AreBounds}
 use Rattle.zone_index.proofs.Named.{named-owner}
-use Rattle.zone_index.proofs.PagesKept.{forgets-read, named-place, pages-kept, part-ends}
+use Rattle.zone_index.proofs.PagesKept.{forgets-read, named-place, named-reach, pages-kept}
 use Rattle.zone_index.proofs.Changing.{pages-grown}
 use Rattle.zone_index.proofs.Measured.{lengths-of, lengths-sized}
 use Rattle.zone_index.proofs.zone.IndexedZone.grow.Goals as goal
@@ -48,11 +48,8 @@ place_of-at-requires c =
 pub overflow_add-at : goal.overflow_add-at
 overflow_add-at c =
     let can = c.requires.room in
-    let same = c.self.view_is in
-    let named = subst (λ (z : ZoneState). NamedAt z c.args.block c.place_of-at.result) same c.place_of-at.ensures in
-    let place = named-place c.args.self.now c.args.block c.place_of-at.result c.page-first.ensures.fits named can.before can.here (block Free can.free ∷ can.behind) can.map can.named in
-    let ends = part-ends c.args.self.now can.before (can.here ∷ (block Free can.free ∷ can.behind)) can.map in
-    let within = can.fits.within in
+    let named = subst (λ (z : ZoneState). NamedAt z c.args.block c.place_of-at.result) c.self.view_is c.place_of-at.ensures in
+    let high = named-reach c.args.self.now c.args.block c.place_of-at.result c.args.size c.page-first.ensures.fits named can.before can.here (block Free can.free ∷ can.behind) can.map can.named (let within = can.fits.within in omega arith) in
     let reach = c.page-first.ensures.reach in
     omega arith
 
@@ -66,9 +63,5 @@ page_at-last-requires-clause-low c =
 pub page_at-last-requires-clause-high : goal.page_at-last-requires-clause-high
 page_at-last-requires-clause-high c =
     let can = c.requires.room in
-    let same = c.self.view_is in
-    let named = subst (λ (z : ZoneState). NamedAt z c.args.block c.place_of-at.result) same c.place_of-at.ensures in
-    let place = named-place c.args.self.now c.args.block c.place_of-at.result c.page-first.ensures.fits named can.before can.here (block Free can.free ∷ can.behind) can.map can.named in
-    let ends = part-ends c.args.self.now can.before (can.here ∷ (block Free can.free ∷ can.behind)) can.map in
-    let within = can.fits.within in
-    omega arith
+    let named = subst (λ (z : ZoneState). NamedAt z c.args.block c.place_of-at.result) c.self.view_is c.place_of-at.ensures in
+    named-reach c.args.self.now c.args.block c.place_of-at.result c.args.size c.page-first.ensures.fits named can.before can.here (block Free can.free ∷ can.behind) can.map can.named (let within = can.fits.within in omega arith)
