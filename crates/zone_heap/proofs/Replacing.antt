@@ -20,7 +20,7 @@ use Rattle.zone_laws.proofs.Lent.{KeepsLent, keeps-others}
 use Rattle.zone_laws.proofs.Placing.{TakenAt}
 use Rattle.zone_laws.proofs.SuitsTaken.{addresses-untaken}
 use Rattle.zone_laws.proofs.Tables.{by_number, eqb_swap, handle_no_pointer, live_at-with_live_same, with_live_agrees}
-use Rattle.gap_laws.proofs.FixesSame.{FixesSame, gaps-same}
+use Rattle.gap_laws.proofs.FixesSame.{gaps-same}
 use Rattle.gap_laws.proofs.SoundServed.{sound-attempted, loans_fixed-attempted}
 use Rattle.linked_zone.specs.Changes.{pointed}
 use Rattle.linked_zone.specs.Loans.{KeepsLoans}
@@ -31,14 +31,11 @@ use Rattle.zone_heap.specs.Joins.{CanTake, with_front}
 use Rattle.zone_heap.specs.Room.{IsOpened, LacksRoom}
 use Rattle.zone_heap.proofs.Attempting.{none_of}
 use Rattle.zone_heap.proofs.Clearing.{opened_taken}
+use Rattle.zone_heap.proofs.Emptying.{emptied_zone, fixes-emptied}
 use Rattle.zone_heap.proofs.Loans.{keeps-both, keeps-loans}
 use Rattle.zone_heap.proofs.Moving.{can-take, cut_zone, cut-done, room}
 use Rattle.zone_heap.proofs.Taking.{taken-parts}
 use Rattle.zone_heap.proofs.Twice.{with_live-twice}
-
--- the zone in which a handle is empty, and its block free
-abbrev pub emptied_zone : ℕ → ZoneState → ZoneState
-emptied_zone h z = with_heap (with_emptied z.heap h) z
 
 -- ---- what is asked
 
@@ -55,20 +52,9 @@ module _ (z : ZoneState) (h n : ℕ) (asks : CanAsk z (Replace h n)) where
   pub asked-here : is_lent z.heap.table h ≡ false
   asked-here = not-true _ (and_parts _ _ (and_parts (is_handle z.heap.table h) _ asks.operand).1).1
 
-  -- the same numbers stay once it is empty
-  fixes-emptied : FixesSame z.heap.table (emptied h z.heap.table)
-  fixes-emptied =
-      let t = z.heap.table in
-      let has = live_at-with_live_same h EmptyHandle t in
-      let agree = with_live_agrees h EmptyHandle t in
-      record {
-        locked = by_number (λ x. is_locked (emptied h t) x ≡ is_locked t x) h (ap (λ o. (live_flags o).lock) has ∙ sym asked-unlocked) (λ x apart. ap (λ o. (live_flags o).lock) (agree.others x apart));
-        pointer = by_number (λ x. is_pointer (emptied h t) x ≡ is_pointer t x) h (ap live_pointer has ∙ sym (handle_no_pointer t h asked-handle)) (λ x apart. ap live_pointer (agree.others x apart));
-      }
-
-  -- so the gaps are the same
+  -- the gaps are the same once it is empty
   gaps-emptied : (m : ZoneMap) → gaps (emptied h z.heap.table) m ≡ gaps z.heap.table m
-  gaps-emptied = gaps-same z.heap.table (emptied h z.heap.table) fixes-emptied
+  gaps-emptied = gaps-same z.heap.table (emptied h z.heap.table) (fixes-emptied z.heap.table h asked-handle asked-unlocked)
 
   -- ---- whether there is room
 
