@@ -1,6 +1,6 @@
 -- Whether a gap has room, also where the block of a handle counts as free.
 use Rattle.std.proofs.Common.{◌≡◌, ℕ, ◌+◌, Bool, true, false, cond, List, [], ◌∷◌, ◌++◌, refl, ap, sym, ◌∙◌, arith, Option, Some, None, MatchOption}
-use Rattle.std.specs.Prelude.{◌||◌, ◌&&◌, not, is_some, nat_le, map, find}
+use Rattle.std.specs.Prelude.{◌||◌, is_some, nat_le, map, find}
 use Rattle.std.specs.List.{list_any}
 use Rattle.std.proofs.Math.Bool.{or-true}
 use Rattle.std.proofs.lemmas.Bool.{eqb-true, le-leb, leb-true, or_parts}

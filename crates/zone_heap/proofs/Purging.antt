@@ -1,8 +1,8 @@
 -- One candidate after the other becomes empty: what is left to purge.
-use Rattle.std.proofs.Common.{◌≡◌, ℕ, ◌+◌, ◌<◌, ◌≤◌, Bool, true, false, not, cond, eqb, List, [], ◌∷◌, ◌++◌, length, Contains, refl, ap, sym, ◌∙◌, subst, arith, Option, Some, None}
+use Rattle.std.proofs.Common.{◌≡◌, ℕ, ◌+◌, ◌<◌, ◌≤◌, Bool, true, false, not, cond, eqb, List, [], ◌∷◌, ◌++◌, length, Contains, refl, ap, sym, ◌∙◌, subst, arith, Some, None}
 use Rattle.std.specs.Prelude.{◌&&◌, ◌||◌, filter, filter_map, nat_le}
 use Rattle.std.specs.List.{list_all, slice_get}
-use Rattle.std.proofs.lemmas.Bool.{and_from, and_parts, eqb-true, not-true, not_from_false, or_right, true≢false}
+use Rattle.std.proofs.lemmas.Bool.{and_from, and_parts, eqb-true, not_from_false, or_right, true≢false}
 use Rattle.mac_base.specs.declared.block.Entry.{Entry}
 use Rattle.mac_base.specs.declared.block.Kind.{Kind}
 use Rattle.mac_base.specs.declared.block.Kind.TheVariants.{Free, Master, Ptr, Rel}
@@ -10,7 +10,7 @@ use Rattle.mac_base.specs.declared.request.Request.{Request}
 use Rattle.mac_base.specs.declared.request.Request.TheVariants.{NewBlock, NewEmpty, NewPointer, NewMaster, Reserve, Resize, Replace}
 use Rattle.mac_base.specs.Arrangement.{used_blocks}
 use Rattle.mac_base.specs.Gap.{is_fixed}
-use Rattle.mac_base.specs.HandleTable.{HandleTable, EmptyHandle, emptied, is_full, is_handle, is_lent, is_locked, is_pointer, is_purgeable, live_at, live_flags, live_full, live_handle, live_pointer}
+use Rattle.mac_base.specs.HandleTable.{HandleTable, EmptyHandle, emptied, is_lent, is_locked, is_pointer, is_purgeable, live_at, live_flags, live_full, live_handle, live_pointer}
 use Rattle.mac_base.specs.HeadKind.{Shape}
 use Rattle.mac_base.specs.Heap.{Heap, all_purged, with_all_emptied, with_emptied}
 use Rattle.mac_base.specs.Loans.{LoansAreFixed}
@@ -23,7 +23,7 @@ use Rattle.mac_base.specs.ZoneState.{ZoneState, with_heap}
 use Rattle.zone_laws.proofs.Owners.{no_pointer_block, nothing_passes}
 use Rattle.zone_laws.proofs.SlotPlaces.{Contains-here}
 use Rattle.zone_laws.proofs.SuitsNamed.{full-no_pointer, length-handle_blocks}
-use Rattle.zone_laws.proofs.Tables.{by_number, eqb_same, live_at-with_live_same, with_live_agrees}
+use Rattle.zone_laws.proofs.Tables.{by_number, eqb_same, with_live_agrees}
 use Rattle.gap_laws.proofs.Emptied.{IsCandidate, candidate-is, purged_until-none}
 use Rattle.gap_laws.proofs.FixesSame.{blocks_to_purge-same, fits-same}
 use Rattle.gap_laws.proofs.PurgeBlocks.{blocks_to_purge-is, keeps_fixed, purge_blocks, purge_blocks-filter, purge_handles, purge_handles-used, run, run_behind, used-released}

@@ -8,18 +8,18 @@ use Rattle.mac_base.specs.declared.request.Request.TheVariants.{Replace}
 use Rattle.mac_base.specs.Arrangement.{down}
 use Rattle.mac_base.specs.Attempt.{attempted}
 use Rattle.mac_base.specs.Gap.{Gap, gaps, filled, lowest_gap, some_gap_has}
-use Rattle.mac_base.specs.HandleTable.{HandleTable, EmptyHandle, FullHandle, no_flags, zeros, emptied, is_handle, is_lent, is_locked, is_pointer, live_at, live_flags, live_pointer}
+use Rattle.mac_base.specs.HandleTable.{HandleTable, EmptyHandle, FullHandle, no_flags, zeros, emptied, is_handle, is_lent, is_locked, live_at}
 use Rattle.mac_base.specs.HeadKind.{need}
-use Rattle.mac_base.specs.Heap.{Heap, front_slot, granted, with_emptied}
+use Rattle.mac_base.specs.Heap.{Heap, front_slot, granted}
 use Rattle.mac_base.specs.Serve.{gives, placed_relocatable, taken, take_lowest}
 use Rattle.mac_base.specs.Sound.{Sound}
 use Rattle.mac_base.specs.ZoneMap.{ZoneMap, is_named, released}
-use Rattle.mac_base.specs.ZoneState.{ZoneState, with_heap}
+use Rattle.mac_base.specs.ZoneState.{ZoneState}
 use Rattle.zone_laws.proofs.Fitting.{is_some-lowest_gap, serve-Replace}
 use Rattle.zone_laws.proofs.Lent.{KeepsLent, keeps-others}
 use Rattle.zone_laws.proofs.Placing.{TakenAt}
 use Rattle.zone_laws.proofs.SuitsTaken.{addresses-untaken}
-use Rattle.zone_laws.proofs.Tables.{by_number, eqb_swap, handle_no_pointer, live_at-with_live_same, with_live_agrees}
+use Rattle.zone_laws.proofs.Tables.{eqb_swap, live_at-with_live_same, with_live_agrees}
 use Rattle.gap_laws.proofs.FixesSame.{gaps-same}
 use Rattle.gap_laws.proofs.SoundServed.{sound-attempted, loans_fixed-attempted}
 use Rattle.linked_zone.specs.Changes.{pointed}

@@ -2,7 +2,6 @@ use Rattle.std.proofs.Common.{◌≡◌, ◌+◌, ◌<◌, ◌++◌, ◌∙◌, 
 use Rattle.std.specs.List.{slice_get}
 use Rattle.mac_base.specs.declared.block.Entry.{Entry}
 use Rattle.mac_base.specs.declared.block.Kind.TheVariants.{Rel}
-use Rattle.mac_base.specs.Request.{candidates_in}
 use Rattle.mac_base.specs.ZoneMap.{block}
 use Rattle.linked_zone.specs.Places.{HasOwner}
 use Rattle.zone_index.specs.Purging.{FirstPurgeable}

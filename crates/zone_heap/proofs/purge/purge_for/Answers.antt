@@ -1,6 +1,5 @@
 use Rattle.std.proofs.Common.{◌≡◌, ◌∙◌, ◌∷◌, ℕ, List, sym, subst}
 use Rattle.mac_base.specs.Request.{candidates}
-use Rattle.mac_base.specs.ZoneState.{ZoneState}
 use Rattle.linked_zone.specs.Loans.{KeepsLoans}
 use Rattle.zone_heap.proofs.Emptying.{emptied_zone}
 use Rattle.zone_heap.proofs.Purging.{ask-step, candidate-here, fewer-step, first-candidate, head-none, head-some, purged-fits, purged-none, purged_zone, purged_zone-step, still-step}

@@ -1,4 +1,4 @@
-use Rattle.std.proofs.Common.{◌≡◌, ◌∙◌, ◌∷◌, [], ℕ, List, sym, subst}
+use Rattle.std.proofs.Common.{◌≡◌, ◌∙◌, ◌∷◌, [], ℕ, List, sym}
 use Rattle.mac_base.specs.Request.{candidates_in}
 use Rattle.mac_base.specs.declared.request.Request.TheVariants.{NewEmpty}
 use Rattle.zone_heap.proofs.Purging.{candidate-here, fewer-step, first-candidate, head-none, head-some, purged_to-enough, purged_to-none, purged_to-step, purged_to_zone, still-step}
