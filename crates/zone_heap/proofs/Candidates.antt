@@ -11,9 +11,9 @@ use Rattle.mac_base.specs.HandleTable.{HandleTable, is_purgeable}
 use Rattle.mac_base.specs.HeadKind.{Shape}
 use Rattle.mac_base.specs.Request.{candidates_in, is_among}
 use Rattle.mac_base.specs.ZoneMap.{ZoneMap, address_behind, block, total_size}
-use Rattle.mac_base.specs.ZoneState.{ZoneState, with_heap}
-use Rattle.linked_zone.specs.Fit.{Fits, HasSizes}
-use Rattle.linked_zone.specs.Places.{EntryAt, HasOwner, SplitAt}
+use Rattle.mac_base.specs.ZoneState.{ZoneState}
+use Rattle.linked_zone.specs.Fit.{HasSizes}
+use Rattle.linked_zone.specs.Places.{EntryAt, SplitAt}
 use Rattle.zone_index.specs.Purging.{FirstPurgeable, may_go, none_purgeable}
 use Rattle.zone_index.proofs.Sizes.{all_parts}
 use Rattle.zone_index.proofs.SomeBytes.{no_bytes, total_size-push}
@@ -21,22 +21,8 @@ use Rattle.zone_laws.proofs.GapApart.{sizes_possible}
 use Rattle.zone_laws.proofs.GapParts.{gap_behind-is}
 use Rattle.zone_laws.proofs.Maps.{total_size-append}
 use Rattle.zone_gaps.specs.Gaps.{IsGapOf}
-use Rattle.zone_gaps.specs.Runs.{HasOwners}
 use Rattle.zone_gaps.specs.declared.gap.FoundGap.{FoundGap}
-use Rattle.zone_gaps.proofs.Entries.{entry_owner}
-use Rattle.zone_gaps.proofs.Settling.{owners-settled}
-use Rattle.zone_heap.specs.Purge.{BlocksAt}
-
--- where handles and blocks find each other the owners of blocks are live
-owners-fit : (z : ZoneState) → Fits z → HasSizes z → HasOwners z
-owners-fit z fits sizes =
-    let bare : ZoneState = with_heap (record { table = record { live = z.heap.table.live; lent = [] }; map = z.heap.map; free_slots = z.heap.free_slots }) z in
-    owners-settled bare (record { coherent = record { handles = fits.coherent.handles; pointers = fits.coherent.pointers; in_slots = fits.coherent.in_slots; in_order = fits.coherent.in_order }; sizes = sizes; loans = λ h lent. absurd (cc lent) })
-
--- before the handles of these blocks that may be purged stands that of one more, if it may
-candidates-here : (t : HandleTable) (protected : List ℕ) (h n : ℕ) (m : ZoneMap)
-    → candidates_in t protected (block (Rel h) n ∷ m) ≡ cond (is_purgeable t h && not (is_among protected h)) (h ∷ candidates_in t protected m) (candidates_in t protected m)
-candidates-here t protected h n m = refl
+use Rattle.zone_heap.specs.Purge.{BlocksAt, unprotected}
 
 -- blocks that may not be purged add none
 candidates-kept : (t : HandleTable) (protected : List ℕ) (a b : ZoneMap) → none_purgeable t a ≡ true → candidates_in t protected (a ++ b) ≡ candidates_in t protected b
@@ -116,10 +102,6 @@ module _ {at end : ℕ} (z : ZoneState) (protected : List ℕ) (b : BlocksAt z a
       abbrev pub entry_next : EntryAt z next
       entry_next = record { before = b.before ++ f.passed; here = block (Rel f.handle) f.size; behind = among.0 ++ b.behind; map = map_next; place = place_next }
 
-      -- its owner is live
-      pub owner_next : Fits z → HasSizes z → HasOwner z (Rel f.handle)
-      owner_next fits sizes = entry_owner z next entry_next (owners-fit z fits sizes)
-
       pub long_next : end ≡ next + f.size + total_size among.0
       long_next = let last = b.long in let there = f.place in let all = ap total_size among.1 ∙ total_size-append f.passed (block (Rel f.handle) f.size ∷ among.0) in omega arith
 
@@ -138,23 +120,29 @@ module _ {at end : ℕ} (z : ZoneState) (protected : List ℕ) (b : BlocksAt z a
         long = long_next;
       }
 
-      candidates_next : candidates_in z.heap.table protected b.blocks ≡ cond (is_purgeable z.heap.table f.handle && not (is_among protected f.handle)) (f.handle ∷ candidates_in z.heap.table protected among.0) (candidates_in z.heap.table protected among.0)
-      candidates_next = ap (candidates_in z.heap.table protected) among.1 ∙ candidates-kept z.heap.table protected f.passed (block (Rel f.handle) f.size ∷ among.0) f.kept
+      candidates_next : candidates_in z.heap.table protected b.blocks ≡ cond (is_among protected f.handle) (candidates_in z.heap.table protected among.0) (f.handle ∷ candidates_in z.heap.table protected among.0)
+      candidates_next =
+          let left = candidates_in z.heap.table protected among.0 in
+          ap (candidates_in z.heap.table protected) among.1 ∙ candidates-kept z.heap.table protected f.passed (block (Rel f.handle) f.size ∷ among.0) f.kept
+          ∙ ap (λ c. cond (c && not (is_among protected f.handle)) (f.handle ∷ left) left) f.goes
+          ∙ elim (is_among protected f.handle) as (λ c. cond (not c) (f.handle ∷ left) left ≡ cond c left (f.handle ∷ left)) [ true ↦ refl | false ↦ refl ]
 
       -- it is the first that may be purged
-      pub first_next : (h : ℕ) → cond (is_purgeable z.heap.table f.handle && not (is_among protected f.handle)) (Some f.handle) None ≡ Some h → Some h ≡ slice_get (candidates_in z.heap.table protected b.blocks) 0
-      first_next h found = sym (ap (λ hs. slice_get hs 0) candidates_next ∙ elim (is_purgeable z.heap.table f.handle && not (is_among protected f.handle)) as (λ c. cond c (Some f.handle) None ≡ Some h
-          → slice_get (cond c (f.handle ∷ candidates_in z.heap.table protected among.0) (candidates_in z.heap.table protected among.0)) 0 ≡ Some h) [
-            | true ↦ λ is. is
-            | false ↦ λ is. absurd (cc is)
+      pub first_next : (h : ℕ) → unprotected protected (Rel f.handle) ≡ Some h → Some h ≡ slice_get (candidates_in z.heap.table protected b.blocks) 0
+      first_next h found =
+          let left = candidates_in z.heap.table protected among.0 in
+          sym (ap (λ hs. slice_get hs 0) candidates_next ∙ elim (is_among protected f.handle) as (λ c. cond c None (Some f.handle) ≡ Some h → slice_get (cond c left (f.handle ∷ left)) 0 ≡ Some h) [
+            | true ↦ λ is. absurd (cc is)
+            | false ↦ λ is. is
           ] found)
 
       -- or, where it is protected, that is one behind it
-      pub others_next : cond (is_purgeable z.heap.table f.handle && not (is_among protected f.handle)) (Some f.handle) None ≡ None → candidates_in z.heap.table protected left_next.blocks ≡ candidates_in z.heap.table protected b.blocks
-      others_next none = sym (candidates_next ∙ elim (is_purgeable z.heap.table f.handle && not (is_among protected f.handle)) as (λ c. cond c (Some f.handle) None ≡ None
-          → cond c (f.handle ∷ candidates_in z.heap.table protected among.0) (candidates_in z.heap.table protected among.0) ≡ candidates_in z.heap.table protected among.0) [
-            | true ↦ λ is. absurd (cc is)
-            | false ↦ λ is. refl
+      pub others_next : unprotected protected (Rel f.handle) ≡ None → candidates_in z.heap.table protected left_next.blocks ≡ candidates_in z.heap.table protected b.blocks
+      others_next none =
+          let left = candidates_in z.heap.table protected among.0 in
+          sym (candidates_next ∙ elim (is_among protected f.handle) as (λ c. cond c None (Some f.handle) ≡ None → cond c left (f.handle ∷ left) ≡ left) [
+            | true ↦ λ is. refl
+            | false ↦ λ is. absurd (cc is)
           ] none)
 
 -- all blocks of a zone stand between its start and its end

@@ -276,11 +276,7 @@ pub record StillTo (goal : ZoneState → ZoneState) (start now : ZoneState) : Ty
   pub loans : KeepsLoans start now
   pub same : goal now ≡ goal start
 
--- at first
-pub still-start : (goal : ZoneState → ZoneState) (z : ZoneState) → SoundZone z → StillTo goal z z
-still-start goal z sound = record { sound = sound; loans = λ x loan is. is; same = refl }
-
--- and when one handle more is empty
+-- it is so still when one handle more is empty
 pub still-step : (goal : ZoneState → ZoneState) (start now new : ZoneState) (h : ℕ) → StillTo goal start now → new ≡ emptied_zone h now → KeepsLoans now new → SoundZone new → goal (emptied_zone h now) ≡ goal now → StillTo goal start new
 still-step goal start now new h still is kept sound step = record { sound = sound; loans = keeps-both start now new still.loans kept; same = ap goal is ∙ step ∙ still.same }
 

@@ -1,8 +1,7 @@
 //! Purging: handles that may be purged become empty, in order of address, until it is enough.
 
 impl Zone {
-    ghost use Rattle.std.specs.Prelude.{◌≡◌, nat_le, IsTrue, IsFalse, MatchResult};
-    ghost use Rattle.mac_base.specs.declared.request.Request.TheVariants.{Replace};
+    ghost use Rattle.std.specs.Prelude.{◌≡◌, nat_le, IsTrue, IsFalse};
     ghost use Rattle.mac_base.specs.Heap.{all_purged};
     ghost use Rattle.mac_base.specs.Purging.{purged, purged_for};
     ghost use Rattle.mac_base.specs.Request.{fits};
@@ -10,7 +9,7 @@ impl Zone {
     ghost use Rattle.mac_base.specs.ZoneMap.{largest_free};
     ghost use Rattle.mac_base.specs.ZoneState.{with_heap};
     ghost use Rattle.linked_zone.specs.Loans.{KeepsLoans};
-    ghost use Rattle.zone_heap.specs.Attempts.{CanAsk, IsServed, IsRefused};
+    ghost use Rattle.zone_heap.specs.Attempts.{CanAsk};
     ghost use Rattle.zone_heap.specs.Purge.{is_protected};
 
     /// Purges for a request that doesn't fit: relocatable blocks that are unlocked, purgeable and not protected are purged, in
@@ -51,16 +50,14 @@ impl Zone {
 
 ghost use Rattle.std.specs.Prelude.{◌≡◌, nat_le, IsTrue, []};
 ghost use Rattle.std.specs.List.{slice_get};
-ghost use Rattle.mac_base.specs.HandleTable.{has_block};
 ghost use Rattle.mac_base.specs.Heap.{all_purged};
 ghost use Rattle.mac_base.specs.Purging.{purged, purged_for};
 ghost use Rattle.mac_base.specs.Request.{candidates, candidates_in, fits};
-ghost use Rattle.mac_base.specs.ZoneMap.{address_behind, largest_free};
+ghost use Rattle.mac_base.specs.ZoneMap.{largest_free};
 ghost use Rattle.mac_base.specs.ZoneState.{with_heap};
 ghost use Rattle.linked_zone.specs.Loans.{KeepsLoans};
-ghost use Rattle.linked_zone.specs.Places.{HasOwner};
 ghost use Rattle.zone_heap.specs.Attempts.{CanAsk, SoundZone};
-ghost use Rattle.zone_heap.specs.Purge.{BlocksAt, handle_to_purge, is_protected};
+ghost use Rattle.zone_heap.specs.Purge.{BlocksAt, is_protected, unprotected};
 
 use crate::fitting::fits;
 use crate::size::stays;
@@ -169,7 +166,7 @@ fn next_between(zone: &IndexedZone, start: u32, end: u32, protected: &[u32]) -> 
             return None;
         }
         let here = linked.entry_at(next);
-        if let Some(handle) = handle_to_purge(linked, here.kind, protected) {
+        if let Some(handle) = unprotected(here.kind, protected) {
             return Some(handle);
         }
         at = next + here.size;
@@ -177,18 +174,16 @@ fn next_between(zone: &IndexedZone, start: u32, end: u32, protected: &[u32]) -> 
     None
 }
 
-/// The handle of a block that may be purged: it is purgeable, not locked and not protected.
-fn handle_to_purge(zone: &LinkedZone, kind: Kind, protected: &[u32]) -> Option<Handle>
-    requires { HasOwner zone.now kind }
-    ensures { result ≡ handle_to_purge zone.now.heap.table protected.now kind }
+/// The handle whose block a block of this kind is, unless it is protected.
+fn unprotected(kind: Kind, protected: &[u32]) -> Option<Handle>
+    ensures { result ≡ unprotected protected.now kind }
 {
     let Kind::Rel(handle) = kind else {
         return None;
     };
-    let flags = zone.flags(handle);
-    if flags.purge && !flags.lock && !protected.contains(&handle.number()) {
-        Some(handle)
-    } else {
+    if protected.contains(&handle.number()) {
         None
+    } else {
+        Some(handle)
     }
 }

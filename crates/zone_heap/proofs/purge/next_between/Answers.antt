@@ -3,11 +3,10 @@ use Rattle.std.specs.List.{slice_get}
 use Rattle.mac_base.specs.declared.block.Entry.{Entry}
 use Rattle.mac_base.specs.declared.block.Kind.TheVariants.{Rel}
 use Rattle.mac_base.specs.ZoneMap.{block}
-use Rattle.linked_zone.specs.Places.{HasOwner}
 use Rattle.zone_index.specs.Purging.{FirstPurgeable}
 use Rattle.zone_index.proofs.Entries.{entry_size}
-use Rattle.zone_heap.specs.Purge.{BlocksAt, handle_to_purge}
-use Rattle.zone_heap.proofs.Candidates.{Left, entry_next, first_next, left_next, none_below, none_left, others_next, owner_next, split_left, within_next}
+use Rattle.zone_heap.specs.Purge.{BlocksAt, unprotected}
+use Rattle.zone_heap.proofs.Candidates.{Left, entry_next, first_next, left_next, none_below, none_left, others_next, split_left, within_next}
 use Rattle.zone_heap.proofs.purge.next_between.Goals as goal
 use Rattle.zone_heap.proofs.purge.next_between.Goals.{In-Some, After-entry_at-here}
 
@@ -46,15 +45,6 @@ entry_at-here-requires c =
     let below : c.in-Some.next < c.args.end = omega (arith, c.if-end-next.false) in
     rw c.linked-linked.ensures (entry_next z c.args.protected.now (c.loop-next.invariant b).blocks c.in-Some.next (found (goal.at.entry_at-here-requires c).In-Some b) below)
 
--- the owner of the block is live
-pub handle_to_purge-requires : goal.handle_to_purge-requires
-handle_to_purge-requires c =
-    let z = c.args.zone.now in
-    let b = c.requires.blocks in
-    let w = goal.at.handle_to_purge-requires c in
-    let owner = owner_next z c.args.protected.now (c.loop-next.invariant b).blocks c.in-Some.next (found w.In-Some b) (low w.After-entry_at-here) (rw c.linked-linked.ensures at c.spec-spec.ensures.fits) (rw c.linked-linked.ensures at c.spec-spec.ensures.possible) in
-    rw c.linked-linked.ensures (subst (λ (e : Entry). HasOwner z e.kind) (sym (read w.After-entry_at-here b)) owner)
-
 pub overflow_add-at : goal.overflow_add-at
 overflow_add-at c =
     let b = c.requires.blocks in
@@ -72,14 +62,14 @@ loop-next-smaller c =
     let bytes = entry_size z c.in-Some.next (entry_next z c.args.protected.now (c.loop-next.invariant b).blocks c.in-Some.next f (low w.After-entry_at-here)) (rw c.linked-linked.ensures at c.spec-spec.ensures.possible) in
     omega (arith, bytes, ap (λ (e : Entry). e.size) (read w.After-entry_at-here b), low w.After-entry_at-here, place)
 
-pub returns-in-Some-handle_to_purge : goal.returns-in-Some-handle_to_purge
-returns-in-Some-handle_to_purge c b =
+pub returns-in-Some-unprotected : goal.returns-in-Some-unprotected
+returns-in-Some-unprotected c b =
     let z = c.args.zone.now in
     let p = c.args.protected.now in
-    let w = goal.at.returns-in-Some-handle_to_purge c in
+    let w = goal.at.returns-in-Some-unprotected c in
     let s = c.loop-next.invariant b in
-    let is = sym (rw c.linked-linked.ensures at c.in-Some-handle_to_purge.ensures ∙ ap (λ (e : Entry). handle_to_purge z.heap.table p e.kind) (read w.After-entry_at-here b)) in
-    first_next z p s.blocks c.in-Some.next (found w.In-Some b) (low w.After-entry_at-here) c.in-Some-handle_to_purge.handle is ∙ ap (λ hs. slice_get hs 0) s.same
+    let is = sym (c.in-Some-unprotected.ensures ∙ ap (λ (e : Entry). unprotected p e.kind) (read w.After-entry_at-here b)) in
+    first_next z p s.blocks c.in-Some.next (found w.In-Some b) (low w.After-entry_at-here) c.in-Some-unprotected.handle is ∙ ap (λ hs. slice_get hs 0) s.same
 
 pub loop-next-preserved : goal.loop-next-preserved
 loop-next-preserved c b =
@@ -87,7 +77,7 @@ loop-next-preserved c b =
     let p = c.args.protected.now in
     let w = goal.at.loop-next-preserved c in
     let s = c.loop-next.invariant b in
-    let is = sym (rw c.linked-linked.ensures at c.in_default-handle_to_purge.ensures ∙ ap (λ (e : Entry). handle_to_purge z.heap.table p e.kind) (read w.After-entry_at-here b)) in
+    let is = sym (c.in_default-unprotected.ensures ∙ ap (λ (e : Entry). unprotected p e.kind) (read w.After-entry_at-here b)) in
     let next : Left z p b (c.in-Some.next + (found w.In-Some b).size) = record {
       blocks = left_next z p s.blocks c.in-Some.next (found w.In-Some b) (low w.After-entry_at-here);
       same = others_next z p s.blocks c.in-Some.next (found w.In-Some b) (low w.After-entry_at-here) is ∙ s.same;
