@@ -6,8 +6,12 @@ ghost use Rattle.zone_index.specs.Around.{IsAround};
 ghost use Rattle.zone_index.specs.Marks.{AreMarked};
 
 use crate::fixed::gap_start;
+use crate::raise::turn;
 use linked_zone::LinkedZone;
+use mac_base::block::Flags;
+use mac_base::handle::Handle;
 use place_numbers::marks::Marks;
+use place_numbers::sizes::Sizes;
 
 /// Where the gap before or around a block begins, and where the block ends.
 #[derive(Clone, Copy)]
@@ -30,4 +34,32 @@ pub fn gap_around(zone: &LinkedZone, marks: &Marks, at: u32) -> Around
     let base = zone.spec().base();
     let end = at + zone.entry_at(at).size;
     Around { base, start, end }
+}
+
+ghost use Rattle.std.specs.Prelude.{IsTrue};
+ghost use Rattle.mac_base.specs.HandleTable.{is_full};
+ghost use Rattle.linked_zone.specs.Changes.{flagged};
+ghost use Rattle.linked_zone.specs.Places.{BlockOf};
+ghost use Rattle.zone_index.specs.Bounds.{AreBounds};
+
+/// Makes the bounds right for a handle whose block gets these flags. Where it stays as locked as it is no gap is looked at.
+pub fn relock(
+    zone: &LinkedZone,
+    marks: &Marks,
+    bounds: &mut Sizes,
+    handle: Handle,
+    at: u32,
+    flags: Flags,
+)
+    requires full { IsTrue (is_full zone.now.heap.table handle) }
+    requires own { BlockOf zone.now handle at }
+    requires marked { AreMarked is_fixed zone.now marks.now }
+    requires bounds { AreBounds zone.now bounds.old }
+    ensures { AreBounds (flagged handle flags zone.now) bounds.new }
+{
+    if zone.flags(handle).lock == flags.lock {
+        return;
+    }
+    let gap = gap_around(zone, marks, at);
+    turn(bounds, gap, at, flags.lock);
 }

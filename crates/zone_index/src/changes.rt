@@ -1,7 +1,7 @@
 //! The changes of a zone. Each keeps the index right: it turns the marks of the blocks that it changes, raises the bounds of their gaps,
 //! forgets the sums of their pages, and notes how many bytes a handle has then.
 
-use crate::around::gap_around;
+use crate::around::{gap_around, relock};
 use crate::fixed::gap_start;
 use crate::marking::{carry, sink, write};
 use crate::pages::forget;
@@ -55,7 +55,7 @@ impl IndexedZone {
         let spec = self.zone.spec();
         let base = spec.base();
         let end = base + spec.size();
-        let page = self.page(end);
+        let page = self.page_at(end);
         forget(&mut self.pages, page, page);
         let start = gap_start(&self.zone, &self.marks, end);
         self.zone.extend();
@@ -70,7 +70,7 @@ impl IndexedZone {
         ensures { (can : CanCut self.old at size) → self.new ≡ cut_in_two size self.old can.free }
     {
         let first = self.page(at);
-        let last = self.page(at + size);
+        let last = self.page_at(at + size);
         forget(&mut self.pages, first, last);
         self.zone.split(at, size);
     }
@@ -81,7 +81,7 @@ impl IndexedZone {
         ensures { (pair : FreePair self.old at) → self.new ≡ joined_pair self.old pair }
     {
         let first = self.page(at);
-        let last = self.page(at + self.zone.free_size(at));
+        let last = self.page_at(at + self.zone.free_size(at));
         forget(&mut self.pages, first, last);
         self.zone.merge(at);
     }
@@ -95,7 +95,7 @@ impl IndexedZone {
     {
         let first = self.place(at);
         let from = self.page(at);
-        let to = self.page(end);
+        let to = self.page_at(end);
         forget(&mut self.pages, from, to);
         let size = self.zone.entry_at(at).size;
         let others = end - at - size;
@@ -118,7 +118,7 @@ impl IndexedZone {
         let first = self.place(start);
         let size = self.zone.entry_at(at).size;
         let from = self.page(start);
-        let to = self.page(at + size);
+        let to = self.page_at(at + size);
         forget(&mut self.pages, from, to);
         let others = at - start;
         sink(
@@ -155,7 +155,7 @@ impl IndexedZone {
         self.marks.set(place, 1);
         let pointer = self.zone.fix(at, length);
         let _spec = self.zone.spec();
-        part(&mut self.bounds, gap);
+        part(&mut self.bounds, gap, at, gap.end - at);
         self.lengths.note(pointer.number(), length);
         pointer
     }
@@ -206,7 +206,7 @@ impl IndexedZone {
         let gap = gap_around(&self.zone, &self.marks, at);
         self.marks.set(place, 1);
         self.zone.build_master(at);
-        part(&mut self.bounds, gap);
+        part(&mut self.bounds, gap, at, gap.end - at);
     }
 
     /// Sets the flags of a handle that has a block.
@@ -218,15 +218,10 @@ impl IndexedZone {
         let place = self.place(at);
         let page = self.page(at);
         forget(&mut self.pages, page, page);
-        let gap = gap_around(&self.zone, &self.marks, at);
+        relock(&self.zone, &self.marks, &mut self.bounds, handle, at, flags);
         write(&mut self.marks, place, u8::from(flags.lock));
         write(&mut self.purgeable, place, u8::from(may_purge(flags)));
         self.zone.set_flags(handle, flags);
-        if flags.lock {
-            part(&mut self.bounds, gap);
-        } else {
-            join(&mut self.bounds, gap, 0);
-        }
     }
 
     /// The block of a handle in a new place: the free block at an address is its block now, with `length` bytes: those
@@ -264,7 +259,7 @@ impl IndexedZone {
         let _spec = self.zone.spec();
         let at = self.zone.place_of(block);
         let first = self.page(at);
-        let last = self.page(at + size);
+        let last = self.page_at(at + size);
         forget(&mut self.pages, first, last);
         let gap = gap_around(&self.zone, &self.marks, at);
         self.zone.hold(block, size, length);
@@ -282,7 +277,7 @@ impl IndexedZone {
         let _spec = self.zone.spec();
         let at = self.zone.place_of(block);
         let first = self.page(at);
-        let last = self.page(at + size);
+        let last = self.page_at(at + size);
         forget(&mut self.pages, first, last);
         let gap = gap_around(&self.zone, &self.marks, at);
         self.zone.grow(block, size, length);
