@@ -12,7 +12,7 @@ pub mod row;
 mod search;
 mod setting;
 
-pub use comparing::{Difference, diff, first_difference};
+pub use comparing::{Difference, Differences, compare, first_difference, is_same_table};
 pub use copying::{Choice, Collision, copy};
 pub use laws::change_laws;
 pub use putting::{put, put_new};
