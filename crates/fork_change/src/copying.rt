@@ -15,6 +15,7 @@ use crate::search::{is_at, is_there};
 use fork_bytes::table::{Contents, Row, Rows, Table};
 use mac_base::error::HostFull;
 use mac_base::resource::{ResType, Resource};
+use std::alloc::Global;
 
 /// The least id of a program's own resources: those below are the system's.
 const FIRST_OWN_ID: usize = 128;
@@ -44,7 +45,7 @@ pub enum Collision {
 }
 
 /// Whether a choice means a row.
-fn is_meant(choice: &Choice, row: &Row) -> bool
+pub fn is_meant(choice: &Choice, row: &Row) -> bool
     ensures { result ≡ is_meant choice.now row.now }
 {
     match choice {
@@ -71,6 +72,22 @@ fn same_row<'a>(row: &Row<'a>) -> Result<Row<'a>, HostFull>
         name: same_name(&row.name)?,
         attributes: row.attributes,
         datum: Contents::new(row.datum.as_slice()),
+    })
+}
+
+/// The same table once more. The bytes of its resources stay where they are. The only error is that the host has no
+/// memory.
+pub fn same_table<'a>(alloc: Global, table: &Table<'a>) -> Result<Table<'a>, HostFull>
+    ensures { IfOk result (λ copy. copy ≡ table.now) }
+{
+    let mut rows = Vec::new(alloc);
+    for row in table.rows.as_slice() {
+        rows.push(same_row(row)?)?;
+    }
+    Ok(Table {
+        rows: Rows::new(rows),
+        extra: table.extra,
+        map_attributes: table.map_attributes,
     })
 }
 
