@@ -21,11 +21,17 @@ any_found test (row ∷ rows) = by_case (test row) (any_found test rows)
     by_case true rest = refl
     by_case false rest = rest
 
+-- rows, or why there are none
+abbrev made : List Row → Result (List Row) Refusal
+made rows = Ok rows
+
+abbrev refused_by : Refusal → Result (List Row) Refusal
+refused_by fault = Err fault
+
 -- a table with these rows
-with_new : (table new : Table) (rows : List Row) → new ≡ with_rows table rows → (Ok rows ≡ Ok new.rows) × (new ≡ with_rows table new.rows)
+with_new : (table new : Table) (rows : List Row) → new ≡ with_rows table rows → (made rows ≡ made new.rows) × (new ≡ with_rows table new.rows)
 with_new table new rows is =
-    let same : new.rows ≡ rows = ap (λ (t : Table). t.rows) is in
-    (ap (λ (r : List Row). let all : Result (List Row) Refusal = Ok r in all) (sym same), is ∙ ap (with_rows table) (sym same))
+    let same : new.rows ≡ rows = ap (λ (t : Table). t.rows) is in (ap made (sym same), is ∙ ap (with_rows table) (sym same))
 
 pub set_becomes : (table : Table) (what : ResourceId) (change : Change) (result : Result Table Refusal) →
     IfOk result (λ new. IfSome (find (is_at what) table.rows) (λ old. new ≡ with_rows table (changed_to what (row_as change old) table.rows))) →
@@ -46,7 +52,8 @@ set_becomes table what change result changed there free missing gone refused fau
         IfErr result (λ fault. fault ≡ why.Taken → is_refused what change.to table.rows ≡ true) →
         IfErr result (λ fault. (fault ≡ why.Missing what) ⊎ ((fault ≡ why.Taken) ⊎ (fault ≡ why.HostFull))) → Becomes table (set_in what change found table.rows) result
     by_case None is (Ok new) changed there free missing gone refused fault = absurd (both_ways (is_there what table.rows) is there)
-    by_case None is (Err told) changed there free missing gone refused fault = inr (sym (missing is))
+    by_case None is (Err told) changed there free missing gone refused fault =
+        let same : why.Missing what ≡ told = cc (missing is) in inr (ap refused_by same)
     by_case (Some old) is (Ok new) changed there free missing gone refused fault =
         let rows = changed_to what (row_as change old) table.rows in
         let both = with_new table new rows changed in
@@ -54,7 +61,7 @@ set_becomes table what change result changed there free missing gone refused fau
     by_case (Some old) is (Err told) changed there free missing gone refused (inl lost) = absurd (both_ways (is_there what table.rows) (gone lost) is)
     by_case (Some old) is (Err told) changed there free missing gone refused (inr (inl taken)) =
         inr (cond-true (is_refused what change.to table.rows) (Err why.Taken) (Ok (changed_to what (row_as change old) table.rows)) (refused taken)
-        ∙ ap (λ (f : Refusal). let all : Result (List Row) Refusal = Err f in all) (sym taken))
+        ∙ ap refused_by (sym taken))
     by_case (Some old) is (Err told) changed there free missing gone refused (inr (inr full)) = inl full
 
 -- what is put has the type and the id that it is to have
@@ -75,12 +82,12 @@ put_becomes table change bytes is_new row result new is put_is free taken fault 
         OnOk result (is_there (id_of row) table.rows ≡ false) → IfErr result (λ fault. fault ≡ why.Taken → is_there (id_of row) table.rows ≡ true) →
         IfErr result (λ fault. (fault ≡ why.Taken) ⊎ (fault ≡ why.HostFull)) → Becomes table (put_in change bytes is_new table.rows) result
     by_case (Ok after) put_is free taken fault =
-        let made = row_to_put change bytes (find (is_at change.to) table.rows) in
-        let both = with_new table after (put made table.rows) (put_is ∙ ap (λ (r : Row). with_rows table (put r table.rows)) is) in
+        let row' = row_to_put change bytes (find (is_at change.to) table.rows) in
+        let both = with_new table after (put row' table.rows) (put_is ∙ ap (λ (r : Row). with_rows table (put r table.rows)) is) in
         let none = ap (λ (w : ResourceId). is_there w table.rows) (sym own) ∙ free in
-        (cond-false (is_new && is_there change.to table.rows) (Err why.Taken) (Ok (put made table.rows)) (and_right is_new (is_there change.to table.rows) none) ∙ both.0, both.1)
+        (cond-false (is_new && is_there change.to table.rows) (Err why.Taken) (Ok (put row' table.rows)) (and_right is_new (is_there change.to table.rows) none) ∙ both.0, both.1)
     by_case (Err told) put_is free taken (inl is_taken) =
         let there = ap (λ (w : ResourceId). is_there w table.rows) (sym own) ∙ taken is_taken in
         inr (cond-true (is_new && is_there change.to table.rows) (Err why.Taken) (Ok (put (row_to_put change bytes (find (is_at change.to) table.rows)) table.rows))
-        (and_from is_new (is_there change.to table.rows) new there) ∙ ap (λ (f : Refusal). let all : Result (List Row) Refusal = Err f in all) (sym is_taken))
+        (and_from is_new (is_there change.to table.rows) new there) ∙ ap refused_by (sym is_taken))
     by_case (Err told) put_is free taken (inr full) = inl full
