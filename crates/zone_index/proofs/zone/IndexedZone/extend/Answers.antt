@@ -13,7 +13,7 @@ use Rattle.zone_index.proofs.Extending.{bounds-extended, last-low, last-place, s
 use Rattle.zone_index.proofs.Fronts.{front_split}
 use Rattle.zone_index.proofs.Known.{zone-known, base-known, size-known, limit-known}
 use Rattle.zone_index.proofs.PagesKept.{forgets-read, pages-kept}
-use Rattle.zone_index.proofs.Parts.{pages-extended}
+use Rattle.zone_index.proofs.Changing.{pages-extended}
 use Rattle.zone_index.proofs.Measured.{lengths-of}
 use Rattle.zone_index.proofs.zone.IndexedZone.extend.Goals as goal
 
@@ -48,7 +48,7 @@ invariant_of-self c =
           let end : c.base-base.result + c.size.result ≡ address_behind c.self.inside.zone.shape c.self.inside.zone.heap.map = omega arith in
           pages-kept c.self.inside.pages c.forget.new.pages (c.forget.auto.pages ∙ c.deref_mut.ensures.len) c.extend.ensures
           (pages-extended c.self.inside.zone c.self.inside.pages.items c.forget.new.pages c.self.invariant.pages end
-          (forgets-read (c.base-base.result + c.size.result) (c.base-base.result + c.size.result) c.self.view_is c.deref_mut.ensures.value c.page-page.ensures.value c.page-page.ensures.value c.forget.ensures)));
+          (forgets-read (c.base-base.result + c.size.result) (c.base-base.result + c.size.result) c.self.view_is c.deref_mut.ensures.value c.page_at-page.ensures.value c.page_at-page.ensures.value c.forget.ensures)));
       lengths = (lengths-of c.self.inside.lengths c.extend.ensures c.self.invariant.lengths);
     }
 
