@@ -8,7 +8,7 @@ use Rattle.fork_change.specs.Copies.{copied, is_chosen}
 use Rattle.fork_change.specs.declared.row.Change.{Change}
 use Rattle.fork_change.specs.declared.row.ResourceId.{ResourceId}
 use Rattle.fork_change.specs.declared.copying.Collision.{Collision}
-use Rattle.fork_change.specs.declared.copying.Collision.TheVariants.{Refuse, Replace, Skip, Renumber}
+use Rattle.fork_change.specs.declared.copying.Collision.TheVariants.{Renumber}
 use Rattle.fork_change.specs.declared.refusal.Refusal.{Refusal}
 use Rattle.fork_change.specs.declared.refusal.Refusal.TheVariants as why
 use Rattle.fork_edit.specs.declared.edit.Edit.{Edit}
