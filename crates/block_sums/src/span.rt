@@ -1,7 +1,12 @@
-//! Neighbouring blocks, and the most bytes of a sort that one gap has of them.
+//! What gaps have of a sort of bytes: the gaps are parted by blocks that don't move.
+
+ghost use Rattle.std.specs.Prelude.{◌≡◌, nat_le};
+ghost use Rattle.block_sums.specs.Span.{most_in};
+
+use sum_tree::{Monoid, Test};
 
 /// What neighbouring blocks have of a sort of bytes.
-#[derive(Clone, Copy)]
+#[derive(Clone, Copy, PartialEq, Eq)]
 pub enum Span {
     /// None is fixed: so many.
     Whole(u32),
@@ -10,7 +15,7 @@ pub enum Span {
 }
 
 /// What blocks, some of them fixed, have of a sort of bytes.
-#[derive(Clone, Copy)]
+#[derive(Clone, Copy, PartialEq, Eq)]
 pub struct Parts {
     /// Those before the first fixed one.
     pub first: u32,
@@ -20,22 +25,22 @@ pub struct Parts {
     pub last: u32,
 }
 
-impl Span {
-    ghost use Rattle.std.specs.Prelude.{◌≡◌, ◌+◌, ◌^◌, ◌<◌};
-    ghost use Rattle.zone_index.specs.Spans.{joined, most_in};
+impl Monoid for Span {
+    ghost use Rattle.block_sums.specs.Span.{no_span, joined, SpanFits, span_laws};
 
-    /// One fixed block.
-    pub const FIXED: Span = Span::Parted(Parts {
-        first: 0,
-        most: 0,
-        last: 0,
-    });
+    ghost empty = { no_span };
 
-    /// These blocks and those behind them.
-    pub fn join(self, next: Span) -> Span
-        requires { most_in self + most_in next < 2 ^ 32 }
-        ensures { result ≡ joined self next }
-    {
+    ghost op = { joined };
+
+    ghost fits = { SpanFits };
+
+    ghost laws = { span_laws };
+
+    fn none() -> Span {
+        Span::Whole(0)
+    }
+
+    fn join(self, next: Span) -> Span {
         match (self, next) {
             (Span::Whole(here), Span::Whole(there)) => Span::Whole(here + there),
             (Span::Whole(here), Span::Parted(parts)) => Span::Parted(Parts {
@@ -57,6 +62,19 @@ impl Span {
         }
     }
 
+    fn is_same(self, other: Span) -> bool {
+        self == other
+    }
+}
+
+impl Span {
+    /// One fixed block.
+    pub const FIXED: Span = Span::Parted(Parts {
+        first: 0,
+        most: 0,
+        last: 0,
+    });
+
     /// The most that one gap has of them.
     pub fn most(self) -> u32
         ensures { result ≡ most_in self }
@@ -65,5 +83,19 @@ impl Span {
             Span::Whole(here) => here,
             Span::Parted(parts) => parts.first.max(parts.most.max(parts.last)),
         }
+    }
+}
+
+/// Whether some gap has so many bytes.
+#[derive(Drop)]
+pub struct HasRoom {
+    pub bytes: u32,
+}
+
+impl Test<Span> for HasRoom {
+    ghost passes = { λ test sum. nat_le test.bytes (most_in sum) };
+
+    fn holds(&self, sum: Span) -> bool {
+        self.bytes <= sum.most()
     }
 }
