@@ -2,8 +2,7 @@
 
 ghost use Rattle.std.specs.Prelude.{◌≡◌};
 
-use crate::mem_place::{MemFile, MemPlace};
-use crate::replacement::{Fault, Step, replace};
+use file_replace::{Fault, MemFile, MemPlace, Step, replace};
 use std::alloc::AllocError;
 use std::process::Abort;
 
