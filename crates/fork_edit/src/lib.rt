@@ -5,4 +5,3 @@ pub mod change;
 pub mod difference;
 pub mod edit;
 pub mod file;
-pub mod same;

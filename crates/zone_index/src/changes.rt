@@ -1,12 +1,12 @@
 //! The changes of a zone. Each keeps the index right: it turns the marks of the blocks that it changes, raises the bounds of their gaps,
 //! forgets the sums of their pages, and notes how many bytes a handle has then.
 
-use crate::around::{gap_around, relock};
+use crate::around::{gap_around, lengthen, relock, shorten};
 use crate::fixed::gap_start;
 use crate::marking::{carry, sink, write};
 use crate::pages::forget;
 use crate::purging::may_purge;
-use crate::raise::{bound_at, join, part, raise, shift};
+use crate::raise::{bound_at, join, part, raise};
 use crate::zone::IndexedZone;
 use mac_base::block::Flags;
 use mac_base::handle::{Handle, Ptr};
@@ -261,9 +261,16 @@ impl IndexedZone {
         let first = self.page(at);
         let last = self.page_at(at + size);
         forget(&mut self.pages, first, last);
-        let gap = gap_around(&self.zone, &self.marks, at);
+        shorten(
+            &self.zone,
+            &self.marks,
+            &mut self.bounds,
+            block,
+            at,
+            size,
+            length,
+        );
         self.zone.hold(block, size, length);
-        shift(&mut self.bounds, gap, at + size, gap.end - at - size);
         self.lengths.note(block, length);
     }
 
@@ -279,9 +286,16 @@ impl IndexedZone {
         let first = self.page(at);
         let last = self.page_at(at + size);
         forget(&mut self.pages, first, last);
-        let gap = gap_around(&self.zone, &self.marks, at);
+        lengthen(
+            &self.zone,
+            &self.marks,
+            &mut self.bounds,
+            block,
+            at,
+            size,
+            length,
+        );
         self.zone.grow(block, size, length);
-        shift(&mut self.bounds, gap, at + size, 0);
         self.lengths.note(block, length);
     }
 
