@@ -86,6 +86,9 @@ pub enum Problem {
     /// A folder isn't one to which resources were unpacked.
     #[error("{0}")]
     Pack(PackFault),
+    /// A resource stands apart from one before it of its type.
+    #[error("{0} stands apart from the other resources of its type: put those of one type together")]
+    Apart(String),
     /// A file of a folder is no text.
     #[error("{0} is no UTF-8 text")]
     NoText(String),
@@ -182,7 +185,10 @@ impl Problem {
             | Problem::Rez(RezFault::HostFull)
             | Problem::Pack(PackFault::HostFull)
             | Problem::HostFull => CANT_GO_ON,
-            Problem::Rez(RezFault::Refused(_)) | Problem::Pack(_) | Problem::NoText(_) => NO_FORK,
+            Problem::Rez(RezFault::Refused(_))
+            | Problem::Pack(_)
+            | Problem::Apart(_)
+            | Problem::NoText(_) => NO_FORK,
         }
     }
 
