@@ -13,7 +13,9 @@ from checks.fork_questions import Difference
 from checks.forks import Choices
 from checks.kept import write
 from checks.shown import must
+from model.change import table_of
 from model.contents import READERS, TO_2000, WRITERS, Contents, held, lost
+from model.fork import NoFork
 
 APART = ("raw", "appledouble")
 
@@ -112,10 +114,15 @@ def main(program, count=12):
         try:
             rows = try_words(program, folder)
             for number in range(1, 1 + count):
+                it = some_contents(number)
+                try:
+                    table_of(it.resource)
+                except NoFork:
+                    continue
                 for source in WRITERS:
                     for target in WRITERS:
                         what = f"file {number}, {source} to {target}"
-                        try_pair(program, folder, source, target, some_contents(number))
+                        try_pair(program, folder, source, target, it)
                         tried += 1
         except (Difference, AssertionError) as difference:
             print(f"{what}: {difference}")
