@@ -2,7 +2,7 @@
  *
  * Each function is one call, and answers with an OSErr: 0 (noErr) or a negative code. A call that is refused writes
  * nothing through its pointers. What each does, to the byte, is what the project's contracts say of the call of that
- * name: crates/macheap_c/specs, and docs/PROMISES.md.
+ * name: crates/macheap_c/specs, and docs/THEOREM.md.
  *
  * What the caller promises, and nothing tests:
  *  - An MhZone begins as MH_NO_ZONE, and then only these functions write it. It may be moved, but a copy of one with a

@@ -1,7 +1,7 @@
 /* The resource forks of the classic Macintosh, for programs in C and C++: the bytes of a fork are read, a fork is written for resources,
  * and nothing is kept. Each function that reads is given all bytes of a fork, and reads them anew. Each answers with an OSErr: 0 (noErr)
  * or a negative code, after which nothing was written. What each says of the bytes is what the project's contracts say:
- * crates/fork_c/specs, and docs/FORKS.md.
+ * crates/fork_c/specs, and docs/FORMAT.md.
  *
  * What the caller promises, and nothing tests: a pointer is not null, is aligned, and leads to what its type and the number behind it
  * say, to be read, or where it isn't const, written; those of one call don't overlap. This holds where the number is 0, too. A bool is 0
