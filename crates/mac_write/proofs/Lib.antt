@@ -12,3 +12,8 @@ pub mod AppleKept
 pub mod AppleRead
 pub mod AppleTold
 pub mod AppleChanged
+pub mod HexDigits
+pub mod HexLines
+pub mod HexRead
+pub mod Places
+pub mod ReadAgain

@@ -6,6 +6,7 @@ use Rattle.std.proofs.lemmas.Bool.{cases_lt}
 use Rattle.std.proofs.lemmas.List.{get_or-append_right, get_or-drop, get_or_append_left, get_or-take, get_or_past, length-take}
 use Rattle.std.proofs.lemmas.Nat.{xor_lt}
 use Rattle.byteorder.specs.Endian.{big_bytes}
+use Rattle.mac_write.specs.Bytes.{AreBytes}
 use Rattle.mac_write.proofs.BinaryKept.{at, before, counted}
 use Rattle.mac_files.specs.Crc.{crc_of, with_byte}
 use Rattle.mac_files.proofs.BinHexCrc.{bits_lt}
@@ -31,11 +32,11 @@ byte_lt : (crc byte : ℕ) → crc < 65536 → byte < 256 → with_byte crc byte
 unfolding with_byte
 byte_lt crc byte hc hb = bits_lt 8 (bit_xor crc (byte * 256)) (xor_lt 16 crc (byte * 256) hc (omega arith))
 
-fold_lt : (crc : ℕ) (bytes : List ℕ) → crc < 65536 → ((k : ℕ) → get_or bytes k 0 < 256) → fold with_byte crc bytes < 65536
+pub fold_lt : (crc : ℕ) (bytes : List ℕ) → crc < 65536 → ((k : ℕ) → get_or bytes k 0 < 256) → fold with_byte crc bytes < 65536
 fold_lt crc [] hc hb = hc
 fold_lt crc (byte ∷ bytes) hc hb = fold_lt (with_byte crc byte) bytes (byte_lt crc byte hc (hb 0)) (λ k. hb (suc k))
 
-take_lt : (n : ℕ) (bytes : List ℕ) (k : ℕ) → ((k : ℕ) → get_or bytes k 0 < 256) → get_or (take n bytes) k 0 < 256
+pub take_lt : (n : ℕ) (bytes : List ℕ) (k : ℕ) → ((k : ℕ) → get_or bytes k 0 < 256) → get_or (take n bytes) k 0 < 256
 take_lt n bytes k hb = elim (cases_lt k n) [
   | inl below ↦ subst (λ (b : ℕ). b < 256) (sym (get_or-take n bytes k 0 below)) (hb k)
   | inr past ↦ subst (λ (b : ℕ). b < 256) (sym (get_or_past (take n bytes) k 0 (omega (arith, length-take n bytes)))) (omega arith)
@@ -46,24 +47,21 @@ crc_lt n bytes hb = fold_lt 0 (take n bytes) (omega arith) (λ k. take_lt n byte
 
 -- Bytes are below 256.
 
-abbrev pub AreBytes : List ℕ → Type 0
-AreBytes bytes = (k : ℕ) → get_or bytes k 0 < 256
-
-append_lt : (xs ys : List ℕ) → AreBytes xs → AreBytes ys → AreBytes (xs ++ ys)
+pub append_lt : (xs ys : List ℕ) → AreBytes xs → AreBytes ys → AreBytes (xs ++ ys)
 append_lt xs ys hx hy k = elim (cases_lt k (length xs)) [
   | inl below ↦ subst (λ (b : ℕ). b < 256) (sym (get_or_append_left xs ys 0 k below)) (hx k)
   | inr past ↦ subst (λ (b : ℕ). b < 256) (sym (get_or-append_right xs ys (length xs) k 0 refl past)) (hy (k - length xs))
 ]
 
-drop_lt : (n : ℕ) (xs : List ℕ) → AreBytes xs → AreBytes (drop n xs)
+pub drop_lt : (n : ℕ) (xs : List ℕ) → AreBytes xs → AreBytes (drop n xs)
 drop_lt n xs hx k = subst (λ (b : ℕ). b < 256) (sym (get_or-drop n xs k 0)) (hx (n + k))
 
-zeros_lt : (n : ℕ) → AreBytes (replicate n 0)
+pub zeros_lt : (n : ℕ) → AreBytes (replicate n 0)
 zeros_lt zero k = omega arith
 zeros_lt (suc n) zero = omega arith
 zeros_lt (suc n) (suc k) = zeros_lt n k
 
-number_lt : (x : ℕ) → AreBytes (big_bytes 4 x)
+pub number_lt : (x : ℕ) → AreBytes (big_bytes 4 x)
 number_lt x zero = omega arith
 number_lt x (suc zero) = omega arith
 number_lt x (suc (suc zero)) = omega arith

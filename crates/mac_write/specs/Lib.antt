@@ -3,5 +3,7 @@ pub mod Apple
 pub mod MacBinary
 pub mod Forks
 pub mod Parts
+pub mod HexText
 pub mod Targets
+pub mod Written
 pub mod Laws

@@ -1,5 +1,5 @@
 -- What a file is, out of any container. What a container doesn't tell is empty or zero.
-use Rattle.std.specs.Prelude.{ℕ, ◌+◌, ◌-◌, ◌==◌, nat_lt, if◌then◌else◌, List, [], replicate, Option, None, Some, unwrap_or}
+use Rattle.std.specs.Prelude.{◌≡◌, ◌<◌, ◌^◌, length, ℕ, ◌+◌, ◌-◌, ◌==◌, nat_lt, if◌then◌else◌, List, [], replicate, Option, None, Some, unwrap_or}
 use Rattle.mac_files.specs.declared.part.Part.{Part}
 use Rattle.mac_files.specs.declared.contents.Dates.{Dates}
 use Rattle.mac_files.specs.declared.contents.FinderInfo.{FinderInfo}
@@ -8,6 +8,7 @@ use Rattle.mac_files.specs.declared.container.Container.TheVariants.{Raw, AppleS
 use Rattle.mac_files.specs.BinHex.{File}
 use Rattle.mac_files.specs.Containers.{contents_of}
 use Rattle.mac_files.specs.Parts.{bytes_of}
+use Rattle.mac_write.specs.Bytes.{AreBytes}
 use Rattle.mac_write.specs.declared.mac_file.MacFile.{MacFile}
 
 pub record Parts : Type 0 where
@@ -29,6 +30,18 @@ view file = record {
   data_fork = file.data_fork.now;
   resource_fork = file.resource_fork.now;
 }
+
+-- such a file is one of bytes
+pub record IsFile (file : Parts) : Type 0 where
+  pub name : AreBytes file.name
+  pub comment : AreBytes file.comment
+  pub data_fork : AreBytes file.data_fork
+  pub resource_fork : AreBytes file.resource_fork
+  pub kind : AreBytes file.finder.kind
+  pub kind_length : length file.finder.kind ≡ 4
+  pub creator : AreBytes file.finder.creator
+  pub creator_length : length file.finder.creator ≡ 4
+  pub flags : file.finder.flags < 2 ^ 16
 
 -- a date of AppleSingle, which counts from the beginning of 2000 with a sign, in seconds from the beginning of 1904; the least one
 -- and 0 are dates that aren't known

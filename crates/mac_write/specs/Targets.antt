@@ -8,9 +8,10 @@ use Rattle.mac_files.specs.MacBinary.{padded}
 use Rattle.mac_write.specs.declared.refusal.Refusal.{Refusal}
 use Rattle.mac_write.specs.declared.refusal.Refusal.TheVariants.{CommentTooLong, DateOutside, NameCharacter, NameTooLong, NoName}
 use Rattle.mac_write.specs.declared.target.Target.{Target}
-use Rattle.mac_write.specs.declared.target.Target.TheVariants.{Raw, AppleDouble, AppleSingle, MacBinary}
+use Rattle.mac_write.specs.declared.target.Target.TheVariants.{Raw, AppleDouble, AppleSingle, MacBinary, BinHex}
 use Rattle.mac_write.specs.Apple.{length_refusal}
 use Rattle.mac_write.specs.Bytes.{filled}
+use Rattle.mac_write.specs.HexText.{hex_file, hex_text}
 use Rattle.mac_write.specs.Parts.{Parts}
 
 -- AppleSingle and AppleDouble.
@@ -82,6 +83,7 @@ text_of Raw file = file.resource_fork
 text_of AppleDouble file = double_text file
 text_of AppleSingle file = single_text file
 text_of MacBinary file = binary_text file
+text_of BinHex file = hex_text (hex_file file)
 
 -- What a container can't hold.
 
@@ -94,14 +96,17 @@ apple_date_refusal date = if is_apple_date date then None else Some (DateOutside
 abbrev pub binary_date_refusal : ℕ → Option Refusal
 binary_date_refusal date = if nat_lt date 0x100000000 then None else Some (DateOutside date)
 
--- a name of MacBinary has 1 to 63 characters. With a character 0, or with $16 as the first, it could be taken for another container
+-- a name of MacBinary and BinHex has 1 to 63 characters
+abbrev pub name_length_refusal : ℕ → Option Refusal
+name_length_refusal count =
+    if nat_lt count 1 then Some NoName else if nat_lt 63 count then Some (NameTooLong count) else None
+
+-- with a character 0, or with $16 as the first, a file of MacBinary could be taken for another container
+abbrev pub name_character_refusal : List ℕ → Option Refusal
+name_character_refusal name = if (slice_index name 0 == 22) || list_any (λ c. c == 0) name then Some NameCharacter else None
+
 abbrev pub name_refusal : List ℕ → Option Refusal
-name_refusal name =
-    if nat_lt (length name) 1 then Some NoName
-    else if nat_lt 63 (length name) then Some (NameTooLong (length name))
-    else if slice_index name 0 == 22 then Some NameCharacter
-    else if list_any (λ c. c == 0) name then Some NameCharacter
-    else None
+name_refusal name = option_or (name_length_refusal (length name)) (name_character_refusal name)
 
 abbrev pub comment_refusal : ℕ → Option Refusal
 comment_refusal count = if nat_lt 65535 count then Some (CommentTooLong count) else None
@@ -121,6 +126,10 @@ binary_unwritten file = option_or (name_refusal file.name) (option_or (binary_da
     (option_or (binary_date_refusal file.modified) (option_or (length_refusal (length file.data_fork))
     (option_or (length_refusal (length file.resource_fork)) (comment_refusal (length file.comment))))))
 
+abbrev pub hex_unwritten : Parts → Option Refusal
+hex_unwritten file = option_or (name_length_refusal (length file.name))
+    (option_or (length_refusal (length file.data_fork)) (length_refusal (length file.resource_fork)))
+
 -- why the file isn't written
 abbrev pub unwritten : Target → Parts → Option Refusal
 unwritten Raw file = None
@@ -128,3 +137,4 @@ unwritten AppleDouble file = option_or (parts_refusal file) (apple_unwritten (86
 unwritten AppleSingle file = option_or (parts_refusal file)
     (apple_unwritten (98 + told_length file + length file.data_fork + length file.resource_fork) file)
 unwritten MacBinary file = binary_unwritten file
+unwritten BinHex file = hex_unwritten file

@@ -6,18 +6,15 @@ ghost use Rattle.std.specs.List.{list_any};
 ghost use Rattle.mac_write.specs.declared.target.Target.TheVariants.{MacBinary};
 ghost use Rattle.mac_write.specs.Forks.{Refuses};
 ghost use Rattle.mac_write.specs.Parts.{view};
-ghost use Rattle.mac_write.specs.Targets.{binary_date_refusal, binary_head, binary_text, binary_unwritten, block, comment_refusal, name_refusal};
+ghost use Rattle.mac_write.specs.Targets.{binary_date_refusal, binary_head, binary_text, binary_unwritten, block, comment_refusal, name_character_refusal, name_refusal};
 
 use crate::bytes::{push_filled, push_four, push_two, push_zeros};
-use crate::length::check_length;
+use crate::length::{LONGEST_NAME, check_length, check_name_length};
 use crate::mac_file::MacFile;
 use crate::refusal::Refusal;
 use mac_files::crc::crc_of;
 use mac_files::mac_binary::padded;
 use std::alloc::{AllocError, Global};
-
-/// The most characters of a name.
-const LONGEST_NAME: usize = 63;
 
 /// Whether a name has a character 0.
 fn has_zero(name: &[u8]) -> bool
@@ -26,23 +23,24 @@ fn has_zero(name: &[u8]) -> bool
     name.iter().any(|character| *character == 0)
 }
 
+/// Checks that the header can hold the characters of a name.
+fn check_characters(name: &[u8]) -> Result<(), Refusal>
+    requires { 1 ≤ length name.now }
+    ensures { result_err result ≡ name_character_refusal name.now }
+{
+    if name[0] == 22 || has_zero(name) {
+        return Err(Refusal::NameCharacter);
+    }
+    Ok(())
+}
+
 /// Checks that the header can hold a name.
 fn check_name(name: &[u8]) -> Result<(), Refusal>
     ensures refusal { result_err result ≡ name_refusal name.now }
     ensures short { OnOk result (length name.now ≤ 63) }
 {
-    let length = name.len();
-    if length < 1 {
-        Err(Refusal::NoName)
-    } else if length > LONGEST_NAME {
-        Err(Refusal::NameTooLong(length))
-    } else if name[0] == 22 {
-        Err(Refusal::NameCharacter)
-    } else if has_zero(name) {
-        Err(Refusal::NameCharacter)
-    } else {
-        Ok(())
-    }
+    check_name_length(name.len())?;
+    check_characters(name)
 }
 
 /// Checks that the header can hold a date.

@@ -1,13 +1,21 @@
 //! A file with another resource fork.
 
-ghost use Rattle.std.specs.Prelude.{◌≡◌, ℕ, List, length, IfOk};
+ghost use Rattle.std.specs.Prelude.{◌≡◌, ℕ, List, length, None, Ok, true, IfOk};
 ghost use Rattle.std.specs.Result.{result_err};
 ghost use Rattle.mac_files.specs.declared.container.Container.TheVariants.{Raw};
+ghost use Rattle.mac_files.specs.BinHex.{bin_hex_of, is_bin_hex};
+ghost use Rattle.mac_files.specs.BinHexFiles.{view as bin_hex_view};
+ghost use Rattle.mac_files.specs.Containers.{container_of};
+ghost use Rattle.mac_write.specs.Parts.{bin_hex_parts};
+ghost use Rattle.mac_write.specs.Targets.{hex_unwritten};
 ghost use Rattle.mac_write.specs.Forks.{ChangesFork, KeepsRest, Refuses, refusal, with_fork};
 
 use crate::apple::apple_with_fork;
 use crate::binary::binary_with_fork;
+use crate::mac_file::{MacFile, bin_hex_parts};
 use crate::refusal::Refusal;
+use crate::target::{Target, write_file};
+use mac_files::bin_hex::file::BinHexFile;
 use mac_files::container::Container;
 use std::alloc::{AllocError, Global};
 
@@ -39,4 +47,18 @@ pub fn with_fork(
         Container::AppleSingle | Container::AppleDouble => apple_with_fork(alloc, file, fork),
         Container::MacBinary(version) => binary_with_fork(alloc, version, file, fork),
     }
+}
+
+/// The file of a BinHex text with these bytes as its resource fork, as a BinHex text of its own: what comes before the text and after
+/// it isn't in this one. A refusal comes exactly where it is defined, but for HostFull.
+pub fn text_with_fork(alloc: Global, file: &BinHexFile, fork: &[u8]) -> Result<Vec<u8>, Refusal>
+    ensures file { IfOk result (λ new. bin_hex_of new.items ≡ Ok (record (bin_hex_view file.now) { resource_fork = fork.now })) }
+    ensures known { IfOk result (λ new. (container_of new.items ≡ None) × (is_bin_hex new.items ≡ true)) }
+    ensures refusal { Refuses (result_err result) (hex_unwritten (record (bin_hex_parts (bin_hex_view file.now)) { resource_fork = fork.now })) }
+{
+    let file = MacFile {
+        resource_fork: fork,
+        ..bin_hex_parts(file)
+    };
+    write_file(alloc, Target::BinHex, &file)
 }

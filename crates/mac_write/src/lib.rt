@@ -8,6 +8,8 @@ mod binary;
 mod binary_text;
 mod bytes;
 mod fork;
+mod hex_text;
+mod known;
 mod laws;
 mod length;
 pub mod mac_file;
@@ -15,7 +17,7 @@ mod plan;
 pub mod refusal;
 mod target;
 
-pub use fork::with_fork;
+pub use fork::{text_with_fork, with_fork};
 pub use laws::written_laws;
 pub use mac_file::{bin_hex_parts, parts_of};
 pub use target::{Target, write_file};

@@ -27,6 +27,7 @@ use Rattle.zone_index.proofs.Sizes.{first_bytes}
 use Rattle.zone_index.specs.Gaps.{GapAt, GapWith, IsLowestGap}
 use Rattle.zone_index.specs.Bounds.{AreBounds}
 use Rattle.zone_index.proofs.Begins.{split_gap}
+use Rattle.zone_index.proofs.Lowering.{bounds-but}
 use Rattle.zone_index.proofs.Lowest.{FewBelow, first_run-is, later-found, none-bounded}
 use Rattle.zone_index.proofs.Rooms.{free-among, none-among}
 
@@ -84,22 +85,9 @@ lowest-begins t s k (b ∷ bs) run rest sizes ends moves above fits few =
 
 -- where the gap that begins at a place has no more than n free bytes, its bound may be n
 pub bounds-lowered : (z : ZoneState) → HasSizes z → (bounds : List ℕ) → AreBounds z bounds → (p n : ℕ) → p < length bounds → ((gap : GapAt z (z.shape.base + 4 * p)) → free_bytes gap.rest.blocks ≤ n) → AreBounds z (set bounds p n)
-bounds-lowered z sizes bounds kept p n inside few = record {
-  places = length-set bounds p n ∙ kept.places;
-  bounded = λ start rest below. elim (nat_eq (place z.shape start) p) as (λ b. nat_eq (place z.shape start) p ≡ b → free_bytes rest.blocks ≤ slice_index (set bounds p n) (place z.shape start)) [
-    | true ↦ λ is.
-        let same : place z.shape start ≡ p = grind (arith, nat_tests) in
-        let back = place-back z start sizes (record { before = rest.before; behind = rest.blocks ++ rest.behind; map = rest.map; place = rest.place }) in
-        let here : start ≡ z.shape.base + 4 * p = omega (arith, back, same) in
-        let most = few (record { rest = record { before = rest.before; blocks = rest.blocks; behind = rest.behind; map = rest.map; place = sym here ∙ rest.place; moves = rest.moves; above = rest.above }; below = below }) in
-        let bound : slice_index (set bounds p n) (place z.shape start) ≡ n = ap (slice_index (set bounds p n)) same ∙ get_or-set_same bounds p n 0 inside in
-        omega (arith, most, bound)
-    | false ↦ λ is.
-        let other = get_or-set_other bounds p (place z.shape start) n 0 (λ same. let e : nat_eq (place z.shape start) p ≡ true = grind (arith, nat_tests) in absurd (cc (sym e ∙ is))) in
-        let most = kept.bounded start rest below in
-        omega (arith, other, most)
-  ] refl;
-}
+bounds-lowered z sizes bounds kept p n inside few =
+    bounds-but z sizes bounds (set bounds p n) kept (length-set bounds p n) p (λ j other. let e = get_or-set_other bounds p j n 0 other in omega (arith, e))
+    (λ gap. let most = few gap in let e = get_or-set_same bounds p n 0 inside in omega (arith, most, e))
 
 -- The bounds below a place are lower than k.
 pub record Searched (z : ZoneState) (bounds : List ℕ) (k from : ℕ) : Type 0 where

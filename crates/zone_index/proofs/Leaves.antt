@@ -31,8 +31,8 @@ module _ (t u : HandleTable) (β γ : Bounds) (start at : ℕ) where
       let takes : j ≤ β (at + e.size) = behind-fixed t β k at e [] j was h in
       run-lasts u γ _ at new j is (omega arith)
 
-  -- a fixed block in the place of such blocks: one gap is two
-  pub loose-fixed : (old : ZoneMap) (e : Entry) → none_fixed t old ≡ true → is_fixed u e.kind ≡ true → β start ≤ γ (at + e.size) → Leaves t u β γ start at old (e ∷ [])
+  -- a fixed block in the place of such blocks: one gap is two, without their bytes
+  pub loose-fixed : (old : ZoneMap) (e : Entry) → none_fixed t old ≡ true → is_fixed u e.kind ≡ true → β start ≤ γ (at + e.size) + free_bytes old → Leaves t u β γ start at old (e ∷ [])
   loose-fixed old e was is fits k j low h =
       let takes = run-takes t β k at old j was h in
       with-fixed u γ _ at e [] j is (omega arith)

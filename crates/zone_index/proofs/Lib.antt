@@ -21,6 +21,7 @@ pub mod Kept
 pub mod Known
 pub mod Leaves
 pub mod Locks
+pub mod Lowering
 pub mod Lowest
 pub mod MarksKept
 pub mod MarksReplaced

@@ -1,5 +1,5 @@
 -- Changes for which the bounds of the gaps around a block are raised.
-use Rattle.std.proofs.Common.{◌≡◌, ℕ, ◌+◌, ◌≤◌, Bool, true, false, not, List, [], ◌∷◌, ◌++◌, refl, ap, sym, ◌∙◌, subst, arith}
+use Rattle.std.proofs.Common.{◌≡◌, ℕ, ◌+◌, ◌-◌, ◌≤◌, Bool, true, false, not, List, [], ◌∷◌, ◌++◌, refl, ap, sym, ◌∙◌, subst, arith}
 use Rattle.std.specs.Prelude.{min, slice_index}
 use Rattle.std.proofs.lemmas.Bool.{and_from}
 use Rattle.mac_base.specs.declared.block.Entry.{Entry}
@@ -74,26 +74,26 @@ module _ (z : ZoneState) (heap : Heap) (old new : List ℕ) (a : AreBounds z old
       by_fixed d raised true fixed = fixed-loose z.heap.table heap.table (bound_in z.shape old) (lifted_in z.shape d new) start here r.was (r.is ∷ []) fixed (and_from _ _ (ap not loose) refl) (omega arith)
       by_fixed d raised false unfixed = loose-loose z.heap.table heap.table (bound_in z.shape old) (lifted_in z.shape d new) start here (r.was ∷ []) (r.is ∷ []) (and_from _ _ (ap not unfixed) refl) (and_from _ _ (ap not loose) refl) (omega arith)
 
-  -- a fixed block in the place of another: a gap begins behind it, which had that much room before
-  pub bounds-parted : r.old ≡ [] → r.new ≡ [] → is_fixed heap.table r.is.kind ≡ true
-      → min (slice_index old (place z.shape start)) most_room ≤ slice_index new (place z.shape (here + r.was.size)) → AreBounds (with_heap heap z) new
-  bounds-parted none_old none_new fixed high =
+  -- a fixed block in the place of another: a gap begins behind it, which had that much room before but for the bytes that the block takes
+  pub bounds-parted : (taken : ℕ) → r.old ≡ [] → r.new ≡ [] → is_fixed heap.table r.is.kind ≡ true → taken ≤ free_bytes (r.was ∷ [])
+      → min (slice_index old (place z.shape start) - taken) most_room ≤ slice_index new (place z.shape (here + r.was.size)) → AreBounds (with_heap heap z) new
+  bounds-parted taken none_old none_new fixed few high =
       let d : ℕ = slice_index old (place z.shape start) in
       renewed (slice_index old (place z.shape start))
       (subst (λ ys. Leaves z.heap.table heap.table (bound_in z.shape old) (lifted_in z.shape d new) start here (r.was ∷ ys) (r.is ∷ r.new)) (sym none_old)
       (subst (λ ys. Leaves z.heap.table heap.table (bound_in z.shape old) (lifted_in z.shape d new) start here (r.was ∷ []) (r.is ∷ ys)) (sym none_new)
-      (by_fixed d (lifted-high d d (slice_index new (place z.shape (here + r.was.size))) (omega arith) high) (is_fixed z.heap.table r.was.kind) refl)))
+      (by_fixed d (lifted-high d (d - taken) (slice_index new (place z.shape (here + r.was.size))) (omega arith) high) (is_fixed z.heap.table r.was.kind) refl)))
     where
       same_end : (d : ℕ) → lifted_in z.shape d new (here + r.is.size) ≡ lifted_in z.shape d new (here + r.was.size)
       same_end d = ap (λ n. lifted_in z.shape d new (here + n)) (let sizes = r.sizes in let olds = ap total_size none_old in let news = ap total_size none_new in let e : r.is.size ≡ r.was.size = omega arith in e)
 
-      by_fixed : (d : ℕ) → slice_index old (place z.shape start) ≤ lifted_in z.shape d new (here + r.was.size)
+      by_fixed : (d : ℕ) → slice_index old (place z.shape start) - taken ≤ lifted_in z.shape d new (here + r.was.size)
           → (b : Bool) → is_fixed z.heap.table r.was.kind ≡ b → Leaves z.heap.table heap.table (bound_in z.shape old) (lifted_in z.shape d new) start here (r.was ∷ []) (r.is ∷ [])
       by_fixed d raised true was =
           fixed-fixed z.heap.table heap.table (bound_in z.shape old) (lifted_in z.shape d new) start here r.was [] r.is [] was refl fixed refl
           (let same = same_end d in let more = lifted-higher z.shape d old new higher (here + r.was.size) in omega arith)
       by_fixed d raised false was =
-          loose-fixed z.heap.table heap.table (bound_in z.shape old) (lifted_in z.shape d new) start here (r.was ∷ []) r.is (and_from _ _ (ap not was) refl) fixed (let same = same_end d in omega arith)
+          loose-fixed z.heap.table heap.table (bound_in z.shape old) (lifted_in z.shape d new) start here (r.was ∷ []) r.is (and_from _ _ (ap not was) refl) fixed (let same = same_end d in let bytes = few in omega arith)
 
   -- a block of another size in its place: it is fixed as before, and the gap around or behind it has the bytes that are freed
   pub bounds-resized : (freed : ℕ) → is_fixed heap.table r.is.kind ≡ is_fixed z.heap.table r.was.kind → none_fixed z.heap.table r.old ≡ true → none_fixed heap.table r.new ≡ true

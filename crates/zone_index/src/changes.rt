@@ -6,7 +6,7 @@ use crate::fixed::gap_start;
 use crate::marking::{carry, sink, write};
 use crate::pages::forget;
 use crate::purging::may_purge;
-use crate::raise::{bound_at, join, part, raise, shift};
+use crate::raise::{bound_at, join, part, raise, shift, turn};
 use crate::zone::IndexedZone;
 use mac_base::block::Flags;
 use mac_base::handle::{Handle, Ptr};
@@ -155,7 +155,7 @@ impl IndexedZone {
         self.marks.set(place, 1);
         let pointer = self.zone.fix(at, length);
         let _spec = self.zone.spec();
-        part(&mut self.bounds, gap);
+        part(&mut self.bounds, gap, at, gap.end - at);
         self.lengths.note(pointer.number(), length);
         pointer
     }
@@ -206,7 +206,7 @@ impl IndexedZone {
         let gap = gap_around(&self.zone, &self.marks, at);
         self.marks.set(place, 1);
         self.zone.build_master(at);
-        part(&mut self.bounds, gap);
+        part(&mut self.bounds, gap, at, gap.end - at);
     }
 
     /// Sets the flags of a handle that has a block.
@@ -222,11 +222,7 @@ impl IndexedZone {
         write(&mut self.marks, place, u8::from(flags.lock));
         write(&mut self.purgeable, place, u8::from(may_purge(flags)));
         self.zone.set_flags(handle, flags);
-        if flags.lock {
-            part(&mut self.bounds, gap);
-        } else {
-            join(&mut self.bounds, gap, 0);
-        }
+        turn(&mut self.bounds, gap, at, flags.lock);
     }
 
     /// The block of a handle in a new place: the free block at an address is its block now, with `length` bytes: those

@@ -12,7 +12,7 @@ use Rattle.zone_index.proofs.Rules.{fixes, goes}
 use mir.Val.{bool_byte}
 use Rattle.linked_zone.specs.Places.{BlockOf}
 use Rattle.zone_index.specs.Bounds.{AreBounds}
-use Rattle.zone_index.proofs.Opening.{bounds-locked, bounds-unlocked}
+use Rattle.zone_index.proofs.Opening.{bounds-flagged}
 use Rattle.mac_base.specs.ZoneMap.{block}
 use Rattle.mac_base.specs.declared.block.Kind.TheVariants.{Rel}
 use Rattle.zone_index.proofs.Changing.{pages-flagged}
@@ -34,32 +34,8 @@ invariant_of-self c =
           (subst (AreMarked may_go (flagged c.args.handle c.args.flags z)) (sym (c.write-2.ensures ∙ ap (λ p. set c.self.inside.purgeable p c.from-2.result) p.value))
           (flagged-marked goes z c.self.inside.purgeable c.self.invariant.purgeable c.args.handle c.block_of-at.result c.args.flags fits p.sizes full c.block_of-at.ensures p.inside c.from-2.result (λ is. goes_now ∙ ap bool_byte is) (λ is. goes_now ∙ ap bool_byte is)));
       bounds = (let own = c.block_of-at.ensures in
-          subst (λ (z : ZoneState). AreBounds z c.part.new.bounds) (sym c.set_flags.ensures)
-          (bounds-locked c.self.inside.zone c.self.inside.bounds c.part.new.bounds c.self.invariant.bounds c.block_of-at.result c.gap_around-gap.result c.gap_around-gap.ensures c.args.handle c.args.flags own c.if-flags.true c.part.ensures));
-      pages = (let own = c.block_of-at.ensures in
-          let fits = subst Fits (sym c.self.view_is) c.page-page.ensures.fits in
-          pages-kept c.self.inside.pages c.forget.new.pages (c.forget.auto.pages ∙ c.deref_mut.ensures.len) c.set_flags.ensures
-          (pages-flagged c.self.inside.zone c.self.inside.pages.items c.forget.new.pages c.self.invariant.pages c.block_of-at.result
-          (forgets-read c.block_of-at.result c.block_of-at.result c.self.view_is c.deref_mut.ensures.value c.page-page.ensures.value c.page-page.ensures.value c.forget.ensures) c.args.handle c.args.flags fits own));
-      lengths = (lengths-of c.self.inside.lengths c.set_flags.ensures (lengths-kept c.self.inside.zone.heap.table (with_flags c.args.handle c.args.flags c.self.inside.zone.heap.table) c.self.inside.lengths c.self.invariant.lengths (same-with_flags c.args.handle c.args.flags c.self.inside.zone.heap.table)));
-    }
-
-pub invariant_of-self-else-flags : goal.invariant_of-self-else-flags
-invariant_of-self-else-flags c =
-    let z = c.self.inside.zone in
-    let p = placed z c.args.self.now c.self.view_is c.block_of-at.result c.place-place.result c.place-place.ensures.value c.place-place.ensures.inside c.place-place.ensures.sizes in
-    let fits = subst (λ (z : ZoneState). Fits z) (sym c.self.view_is) c.place-place.ensures.fits in
-    let full = subst (λ (z : ZoneState). is_full z.heap.table c.args.handle ≡ true) (sym c.self.view_is) c.requires in
-    let goes_now = c.from-2.ensures ∙ ap bool_byte c.may_purge.ensures in record {
-      fixed = subst (λ (z : ZoneState). AreMarked is_fixed z c.write.new.marks) (sym c.set_flags.ensures)
-          (subst (AreMarked is_fixed (flagged c.args.handle c.args.flags z)) (sym (c.write.ensures ∙ ap (λ p. set c.self.inside.marks p c.from.result) p.value))
-          (flagged-marked fixes z c.self.inside.marks c.self.invariant.fixed c.args.handle c.block_of-at.result c.args.flags fits p.sizes full c.block_of-at.ensures p.inside c.from.result (λ is. c.from.ensures ∙ ap bool_byte is) (λ is. c.from.ensures ∙ ap bool_byte is)));
-      purgeable = subst (λ (z : ZoneState). AreMarked may_go z c.write-2.new.marks) (sym c.set_flags.ensures)
-          (subst (AreMarked may_go (flagged c.args.handle c.args.flags z)) (sym (c.write-2.ensures ∙ ap (λ p. set c.self.inside.purgeable p c.from-2.result) p.value))
-          (flagged-marked goes z c.self.inside.purgeable c.self.invariant.purgeable c.args.handle c.block_of-at.result c.args.flags fits p.sizes full c.block_of-at.ensures p.inside c.from-2.result (λ is. goes_now ∙ ap bool_byte is) (λ is. goes_now ∙ ap bool_byte is)));
-      bounds = (let own = c.block_of-at.ensures in
-          subst (λ (z : ZoneState). AreBounds z c.join.new.bounds) (sym c.set_flags.ensures)
-          (bounds-unlocked c.self.inside.zone c.self.inside.bounds c.join.new.bounds c.self.invariant.bounds c.block_of-at.result c.gap_around-gap.result c.gap_around-gap.ensures c.args.handle c.args.flags own c.if-flags.false c.join.ensures));
+          subst (λ (z : ZoneState). AreBounds z c.turn.new.bounds) (sym c.set_flags.ensures)
+          (bounds-flagged c.self.inside.zone c.self.inside.bounds c.turn.new.bounds c.self.invariant.bounds c.block_of-at.result c.gap_around-gap.result c.gap_around-gap.ensures c.args.handle c.args.flags own c.turn.ensures.parted c.turn.ensures.joined));
       pages = (let own = c.block_of-at.ensures in
           let fits = subst Fits (sym c.self.view_is) c.page-page.ensures.fits in
           pages-kept c.self.inside.pages c.forget.new.pages (c.forget.auto.pages ∙ c.deref_mut.ensures.len) c.set_flags.ensures
