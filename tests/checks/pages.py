@@ -25,8 +25,8 @@ LINES = {
     "docs/THEOREM.md": 150,
 }
 WIDTH = 100
-# the most words of all pages, as `wc -w` counts them
-WORDS = 17500
+# the most words of all pages, code blocks aside
+WORDS = 15000
 GLOSSARY = "docs/DESIGN.md"
 # the line of the glossary that has the words that no page uses, and what is allowed of them
 ALLOWED = re.compile(r"\bstands? for\b")
@@ -86,13 +86,18 @@ def wrong_lines(page, text, unused):
             yield f"it uses the word '{word}'"
 
 
+def words_of(text):
+    """The words of a page, but for those of code blocks: what has a letter or a digit, between blanks."""
+    return [word for word in re.sub(r"^    .*$", "", BLOCK.sub("", text), flags=re.M).split() if re.search(r"\w", word)]
+
+
 def wrong_in_all(texts):
     """What is wrong with all pages together."""
     targets = [it.partition("#")[0] for it in LINK.findall(texts["README.md"])]
     for page in texts:
         if page != "README.md" and page not in targets:
             yield f"README.md does not link {page}"
-    words = sum(len(text.split()) for text in texts.values())
+    words = sum(len(words_of(text)) for text in texts.values())
     if words > WORDS:
         yield f"all pages have {words} words, and at most {WORDS} are allowed"
     with open("crates.txt", encoding="utf-8") as it:
@@ -119,5 +124,6 @@ def main():
         print(it)
     if not faults:
         links, quotes = (sum(len(it.findall(text)) for text in texts.values()) for it in (LINK, QUOTE))
-        print(f"pages: {len(texts)} pages with {links} links and {quotes} quotes")
+        words = sum(len(words_of(text)) for text in texts.values())
+        print(f"pages: {len(texts)} pages with {words} words, {links} links and {quotes} quotes")
     return 1 if faults else 0

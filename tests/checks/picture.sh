@@ -1,7 +1,8 @@
 #!/usr/bin/env bash
 # Checks that tools/zone_picture.py reads what the program prints: that it draws each block of each example's output once,
 # refuses what it can't read, and that docs/zone.svg is the picture of examples/kinds.output. (That the outputs of the
-# examples are what the program prints is checked by tests/checks/examples.sh.) With --write it writes docs/zone.svg.
+# examples are what the program prints is checked by tests/checks/examples.sh.) And that tools/fork_picture.py draws each byte
+# of a fork, refuses what is none, and that docs/fork.svg is its picture of the sample. With --write it writes both pictures.
 #
 #     tests/checks/picture.sh [--write]
 #
@@ -18,6 +19,8 @@ fail() {
     failed=1
 }
 
+sample=crates/resfork/data/sample.rsrc
+
 draw() {
     tools/zone_picture.py --script examples/kinds.script examples/kinds.output
 }
@@ -33,7 +36,8 @@ refuses() {
 }
 
 if [ "${1-}" = --write ]; then
-    draw >"$folder/picture" && cp "$folder/picture" docs/zone.svg
+    draw >"$folder/picture" && cp "$folder/picture" docs/zone.svg &&
+        tools/fork_picture.py "$sample" >"$folder/picture" && cp "$folder/picture" docs/fork.svg
     exit
 fi
 
@@ -73,7 +77,27 @@ refuses 'a line that is none' "1 ZoneMap 1 0\\n${master}hello\\n"
 if ! draw >"$folder/picture" || ! cmp -s "$folder/picture" docs/zone.svg; then
     fail 'docs/zone.svg is not the picture of examples/kinds.output: write it anew by tests/checks/picture.sh --write'
 fi
+# refuses_fork FILE: the tool must draw nothing of these bytes
+refuses_fork() {
+    if tools/fork_picture.py "$1" >"$folder/picture" 2>"$folder/messages"; then
+        fail "tools/fork_picture.py draws $1"
+    elif [ -s "$folder/picture" ] || [ ! -s "$folder/messages" ]; then
+        fail "tools/fork_picture.py does not say why it refuses $1, or has drawn something"
+    fi
+}
+
+if ! tools/fork_picture.py "$sample" >"$folder/picture" || ! cmp -s "$folder/picture" docs/fork.svg; then
+    fail "docs/fork.svg is not the picture of $sample: write it anew by tests/checks/picture.sh --write"
+fi
+# all bytes but the 240 extra ones, which are zeros and left out
+if [ "$(grep -c 'height="22" class="byte"' docs/fork.svg)" -ne $(($(wc -c <"$sample") - 240)) ]; then
+    fail 'docs/fork.svg has not just the bytes of its fork'
+fi
+refuses_fork examples/damaged.rsrc
+refuses_fork examples/short.rsrc
+head -c 400 "$sample" >"$folder/cut"
+refuses_fork "$folder/cut"
 if [ "$failed" -eq 0 ]; then
-    echo "picture: $maps outputs drawn"
+    echo "picture: $maps outputs and a fork drawn"
 fi
 exit "$failed"
