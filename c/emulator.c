@@ -37,7 +37,7 @@ static void draw(uint8_t *pixels, size_t count) {
     for (size_t at = 0; at < count; at++) pixels[at] = (uint8_t)(at % 8 == 0 ? '#' : '.');
 }
 
-/* The block that A0 names is the display's while it draws, and the program's again behind it. */
+/* The block that A0 names is the display's while it draws, and the program's again after it. */
 static MhErr show(Machine *m) {
     MhWindow window = {NULL, 0};
     MhErr code = mh_lend(&m->zone, m->a0);

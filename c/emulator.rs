@@ -59,7 +59,7 @@ impl Machine {
         println!("${word:04X}: A0 ${a0:08X}, D0 {}", *d0 as i32);
     }
 
-    /// The block that A0 names is the display's while it draws, and the program's again behind it.
+    /// The block that A0 names is the display's while it draws, and the program's again after it.
     fn show(&mut self) -> bool {
         let Machine { zone, a0, .. } = self;
         let mut window = MhWindow { start: ptr::null_mut(), length: 0 };

@@ -9,12 +9,12 @@
  *    zone is never passed to them.
  *  - A pointer is not null, is aligned, and leads to what its type says, to be read, or where it isn't const, written.
  *    Those of one call don't overlap. This holds where a count is 0, too.
- *  - Bytes behind a window (mh_window) are read and written only while their block is lent, not beyond its length, and not
+ *  - Bytes of a window (mh_window) are read and written only while their block is lent, not beyond its length, and not
  *    while a call on their zone runs, by another thread, say. No pointer into a window is passed to a call on its zone.
  *  - One call at a time on one zone, on one thread, and none from a signal handler. Two zones are independent.
  *  - malloc, realloc and free of the program are those of one C library.
  *
- * What is tested, and answered with a code that changes nothing: any call before mh_make_zone or behind mh_end_zone,
+ * What is tested, and answered with a code that changes nothing: any call before mh_make_zone or after mh_end_zone,
  * mh_make_zone on a zone that is there, mh_end_zone twice (paramErr); any number as a handle, a pointer, a size, an
  * offset or an address, live or not. A zone that is forgotten keeps its memory: end it. All memory of the host is taken
  * by mh_make_zone.
@@ -85,7 +85,7 @@ MhErr mh_hclr_rbit(MhZone *zone, uint32_t handle);
 MhErr mh_hget_state(MhZone *zone, uint32_t handle, uint32_t *number);
 MhErr mh_hset_state(MhZone *zone, uint32_t handle, uint32_t state);
 
-/* Where they stand. mh_deref gives what the handle's master pointer says: where the contents begin. */
+/* Where they are. mh_deref gives what the handle's master pointer says: where the contents begin. */
 MhErr mh_deref(MhZone *zone, uint32_t handle, uint32_t *address);
 MhErr mh_move_hhi(MhZone *zone, uint32_t handle);
 MhErr mh_hlock_hi(MhZone *zone, uint32_t handle);
@@ -134,8 +134,8 @@ typedef struct MhWindow {
 } MhWindow;
 MhErr mh_window(MhZone *zone, uint32_t block, MhWindow *window);
 
-/* The walk over the zone's blocks, lowest first: from mh_first_block on, the next header stands at address + size, and
- * behind the last block memWZErr is answered. */
+/* The walk over the zone's blocks, lowest first: from mh_first_block on, the next header is at address + size, and
+ * after the last block the code is memWZErr. */
 enum { MH_FREE = 0, MH_MASTER = 1, MH_PTR = 2, MH_REL = 3 };
 typedef struct MhBlock {
     uint32_t address; /* of its header */
@@ -149,7 +149,7 @@ MhErr mh_first_block(MhZone *zone, uint32_t *at);
 MhErr mh_block(MhZone *zone, uint32_t at, MhBlock *block);
 
 /* The bytes of the zone, from its start to the end of its last block: its header, and its blocks with their headers, master
- * pointers and contents. mh_image_size tells how many there are, and mh_image copies just so many; paramErr where count is another
+ * pointers and contents. mh_image_size says how many there are, and mh_image copies just so many; paramErr where count is another
  * number. memLockedErr while a block is lent. */
 MhErr mh_image_size(MhZone *zone, size_t *size);
 MhErr mh_image(MhZone *zone, uint8_t *bytes, size_t count);

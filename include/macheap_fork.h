@@ -3,7 +3,7 @@
  * or a negative code, after which nothing was written. What each says of the bytes is what the project's contracts say:
  * crates/fork_c/specs, and docs/FORMAT.md.
  *
- * What the caller promises, and nothing tests: a pointer is not null, is aligned, and leads to what its type and the number behind it
+ * What the caller promises, and nothing tests: a pointer is not null, is aligned, and leads to what its type and the number after it
  * say, to be read, or where it isn't const, written; those of one call don't overlap. This holds where the number is 0, too. A bool is 0
  * or 1. Any bytes at all may be given as a fork, and any rows, names and data. malloc, realloc and free of the program are those of one
  * C library.
@@ -68,10 +68,10 @@ typedef struct MfExtra {
 } MfExtra;
 MfErr mf_extra(const uint8_t *fork, size_t fork_length, MfExtra *extra);
 
-/* A fork is written for rows, as mf_row shows them, with the bytes of all their names, one behind the other, and those of their
- * data. mf_written_length tells how many bytes it has, and mf_write writes just so many. What is written is read again as these rows.
+/* A fork is written for rows, as mf_row shows them, with the bytes of all their names, one after the other, and those of their
+ * data. mf_written_length says how many bytes it has, and mf_write writes just so many. What is written is read again as these rows.
  * paramErr where the names or the data are fewer bytes than the rows say, or more; where a name has more than 255, or where a row
- * without one has some; where rows of one type don't stand together; and of mf_write where fork_length is another number. dskFulErr
+ * without one has some; where rows of one type aren't next to each other; and of mf_write where fork_length is another number. dskFulErr
  * where the fork would have more than 4194304 bytes, or one of its lists more than its two bytes of offset can say. */
 MfErr mf_written_length(const MfRow *rows, size_t count, const uint8_t *names, size_t names_length, const uint8_t *data, size_t data_length,
                         const MfExtra *extra, size_t *length);
