@@ -6,7 +6,9 @@ use Rattle.mac_base.specs.declared.block.Entry.{Entry}
 use Rattle.mac_base.specs.HandleTable.{HandleTable}
 use Rattle.mac_base.specs.Gap.{is_fixed}
 use Rattle.mac_base.specs.ZoneMap.{ZoneMap, total_size, free_bytes, free_size}
+use Rattle.zone_index.specs.declared.weight.Weight.{Weight}
 use Rattle.zone_index.specs.Runs.{none_fixed, ends_fixed}
+use Rattle.zone_index.specs.Weights.{weigh, weights}
 
 -- a bound at each address, for the room of a gap that begins there
 abbrev pub Bounds : Type 0
@@ -34,6 +36,14 @@ Alike t u (e ∷ es) = (is_fixed u e.kind ≡ is_fixed t e.kind) × Alike t u es
 pub alike-same : (t : HandleTable) (m : ZoneMap) → Alike t t m
 alike-same t [] = tt
 alike-same t (e ∷ es) = (refl, alike-same t es)
+
+-- as where they weigh the same
+pub alike-weights : (t u : HandleTable) (m : ZoneMap) → weights u m ≡ weights t m → Alike t u m
+alike-weights t u [] same = tt
+alike-weights t u (e ∷ es) same =
+    let all : weigh u e ∷ weights u es ≡ weigh t e ∷ weights t es = same in
+    let first : weigh u e ≡ weigh t e = cc all in
+    (ap (λ (w : Weight). w.fixed) first, alike-weights t u es (cc all))
 
 pub none_fixed-alike : (t u : HandleTable) (m : ZoneMap) → Alike t u m → none_fixed u m ≡ none_fixed t m
 none_fixed-alike t u [] same = refl

@@ -1,6 +1,6 @@
 -- The search for the lowest gap with room: bounds below it are lower.
 use Rattle.std.proofs.Common.{cond, ◌≡◌, ℕ, ◌+◌, ◌*◌, ◌<◌, ◌≤◌, Bool, true, false, [], ◌∷◌, ◌++◌, refl, ap, sym, ◌∙◌, arith, Option, Some, None, List, length, set, MatchOption}
-use Rattle.std.specs.Prelude.{IfNone, IfSome, IsTrue, nat_eq, nat_lt, slice_index}
+use Rattle.std.specs.Prelude.{IfNone, IfSome, IsTrue, nat_lt, slice_index}
 use Rattle.std.proofs.lemmas.Bool.{and_parts, false_from_ne_true, le-leb, leb-true}
 use Rattle.std.proofs.lemmas.Bool.Decides.{nat_tests}
 use Rattle.std.proofs.lemmas.List.{get_or_past, get_or-set_other, get_or-set_same}

@@ -3,6 +3,7 @@ pub mod Begun
 pub mod Bounded
 pub mod Budget
 pub mod Bytes
+pub mod Changed
 pub mod Changing
 pub mod Creating
 pub mod Ending
@@ -36,7 +37,6 @@ pub mod OutOfOrder
 pub mod Owners
 pub mod PagesKept
 pub mod PagesRenewed
-pub mod Parts
 pub mod Passing
 pub mod Placed
 pub mod Raising
@@ -57,6 +57,5 @@ pub mod Spans
 pub mod Splits
 pub mod Table
 pub mod Tables
-pub mod Taking
 pub mod Turned
 pub mod Walking

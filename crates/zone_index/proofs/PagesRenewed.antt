@@ -4,7 +4,7 @@ use Rattle.std.specs.Prelude.{◌⊎◌}
 use Rattle.mac_base.specs.Heap.{Heap}
 use Rattle.mac_base.specs.HandleTable.{HandleTable}
 use Rattle.mac_base.specs.HeadKind.{Shape, zone_header}
-use Rattle.mac_base.specs.ZoneMap.{ZoneMap, total_size, address_behind}
+use Rattle.mac_base.specs.ZoneMap.{ZoneMap, total_size}
 use Rattle.mac_base.specs.ZoneState.{ZoneState, with_heap}
 use Rattle.zone_index.specs.declared.sums.Sums.{Sums}
 use Rattle.zone_index.specs.declared.weight.Weight.{Weight}
@@ -12,22 +12,8 @@ use Rattle.zone_index.specs.Weights.{weights}
 use Rattle.zone_index.specs.Spans.{IsSum}
 use Rattle.zone_index.specs.Pages.{ArePages, Forgets, begun, page, page_start, page_weights}
 use Rattle.zone_index.specs.Walk.{AllBelow}
+use Rattle.zone_index.proofs.Changed.{Renews}
 use Rattle.zone_index.proofs.Begun.{weights-append, bytes-weights, begun-append, begun-above, begun-below, below-shift}
-
--- Another heap's map is the old one but for a part, whose blocks begin from one address on and at another or below.
-pub record Renews (z : ZoneState) (heap : Heap) (from to : ℕ) : Type 0 where
-  pub front : ZoneMap
-  pub was : ZoneMap
-  pub is : ZoneMap
-  pub back : ZoneMap
-  pub map_was : z.heap.map ≡ front ++ (was ++ back)
-  pub map_is : heap.map ≡ front ++ (is ++ back)
-  pub same_front : weights heap.table front ≡ weights z.heap.table front
-  pub same_back : weights heap.table back ≡ weights z.heap.table back
-  pub place : from ≡ address_behind z.shape front
-  pub below_was : AllBelow (to + 1) from was
-  pub below_is : AllBelow (to + 1) from is
-  pub ends : (back ≡ []) ⊎ (total_size is ≡ total_size was)
 
 -- a page that has none of these
 abbrev Outside : Shape → ℕ → ℕ → ℕ → Type 0

@@ -17,7 +17,9 @@ use Rattle.zone_index.specs.Bounds.{AreBounds}
 use Rattle.zone_index.specs.Raised.{Raised}
 use Rattle.zone_index.proofs.Grounds.{resized-around}
 use Rattle.zone_index.proofs.Named.{names-one, same-place}
-use Rattle.zone_index.proofs.Locks.{alike-locks, kind-locks, locks-bytes}
+use Rattle.zone_index.proofs.Budget.{alike-weights}
+use Rattle.zone_index.proofs.Bytes.{weights-bytes}
+use Rattle.zone_index.proofs.Locks.{kind-locks, locks-bytes}
 
 -- what is over is not fixed
 pub over_loose : (t : HandleTable) (n : ℕ) → none_fixed t (free_block n) ≡ true
@@ -78,7 +80,7 @@ module _ (z : ZoneState) (x at : ℕ) (gap : Around) (g : IsAround z at gap) (b 
         let within = can.fits.within in
         let end = g.end (hold_entry can) in
         resized-around z at gap g (hold_entry can) (held_there z can).heap old new a [] (block can.here.kind size) (free_block (can.here.size - size)) can.behind (at + size) refl (append_assoc can.before (block can.here.kind size ∷ free_block (can.here.size - size)) can.behind) (omega arith) refl
-        (alike-locks z.heap.table (held_there z can).heap.table locks can.before) (alike-locks z.heap.table (held_there z can).heap.table locks can.behind)
+        (alike-weights z.heap.table (held_there z can).heap.table can.before (weights-bytes z.heap.table x _ can.before)) (alike-weights z.heap.table (held_there z can).heap.table can.behind (weights-bytes z.heap.table x _ can.behind))
         (gap.end - at - size) (kind-locks z.heap.table (held_there z can).heap.table locks can.here.kind) refl (over_loose (held_there z can).heap.table (can.here.size - size))
         (omega arith) (omega arith) raised.start raised.end
 
@@ -91,6 +93,6 @@ module _ (z : ZoneState) (x at : ℕ) (gap : Around) (g : IsAround z at gap) (b 
         let within = can.fits.within in
         let larger = can.larger in
         resized-around z at gap g (grow_entry can) (enlarged z can).heap old new a (block Free can.free ∷ []) (block can.here.kind size) (free_block (can.here.size + can.free - size)) can.behind (at + size) refl (append_assoc can.before (block can.here.kind size ∷ free_block (can.here.size + can.free - size)) can.behind) (omega arith) refl
-        (alike-locks z.heap.table (enlarged z can).heap.table locks can.before) (alike-locks z.heap.table (enlarged z can).heap.table locks can.behind)
+        (alike-weights z.heap.table (enlarged z can).heap.table can.before (weights-bytes z.heap.table x _ can.before)) (alike-weights z.heap.table (enlarged z can).heap.table can.behind (weights-bytes z.heap.table x _ can.behind))
         0 (kind-locks z.heap.table (enlarged z can).heap.table locks can.here.kind) refl (over_loose (enlarged z can).heap.table (can.here.size + can.free - size))
         (omega arith) (omega arith) raised.start raised.end

@@ -1,51 +1,17 @@
 //! Where gaps begin and end, found by marks of the fixed blocks.
 
-ghost use Rattle.std.specs.Prelude.{◌≡◌, ◌+◌, ◌↔◌, IfNone, IfSome, IsTrue};
+ghost use Rattle.std.specs.Prelude.{◌≡◌, ◌+◌, IfNone, IfSome};
 ghost use Rattle.mac_base.specs.Gap.{is_fixed};
 ghost use Rattle.mac_base.specs.ZoneMap.{total_size};
 ghost use Rattle.linked_zone.specs.Places.{SplitAt};
-ghost use Rattle.zone_index.specs.Marks.{AreMarked, FixedAt};
+ghost use Rattle.zone_index.specs.Marks.{AreMarked};
 ghost use Rattle.zone_index.specs.Runs.{FrontAt, RestAt};
-ghost use Rattle.zone_index.specs.Search.{LastFixed, NextFixed, NoneBelow, NoneFrom};
+ghost use Rattle.zone_index.specs.Search.{LastFixed, NoneBelow};
 
+use crate::search::{Fixed, next_passing, passes_at};
 use linked_zone::LinkedZone;
-use mac_base::block::Kind;
 use mac_base::size::ZONE_HEADER;
 use place_numbers::marks::Marks;
-
-/// Whether a fixed block's header stands at this address. One header is read.
-fn is_fixed_at(zone: &LinkedZone, at: u32) -> bool
-    ensures { IsTrue result ↔ FixedAt zone.now at }
-{
-    let _spec = zone.spec();
-    match zone.entry(at) {
-        Some(block) => match block.entry.kind {
-            Kind::Free => false,
-            Kind::Master | Kind::Ptr(_) => true,
-            Kind::Rel(_) => block.flags.lock,
-        },
-        None => false,
-    }
-}
-
-/// The address of the first fixed block from an address on, if there is one.
-fn next_fixed(zone: &LinkedZone, marks: &Marks, from: u32) -> Option<u32>
-    requires split { SplitAt zone.now from }
-    requires marked { AreMarked is_fixed zone.now marks.now }
-    ensures next { IfSome result (λ at. NextFixed zone.now from at) }
-    ensures none { IfNone result (NoneFrom zone.now from) }
-{
-    let base = zone.spec().base();
-    let mut place = (from - base) as usize / 4;
-    while let Some(found) = marks.first_at_least(1, place) {
-        let at = base + 4 * found as u32;
-        if is_fixed_at(zone, at) {
-            return Some(at);
-        }
-        place = found + 1;
-    }
-    None
-}
 
 /// The address of the last fixed block below an address, if there is one.
 fn last_fixed(zone: &LinkedZone, marks: &Marks, end: u32) -> Option<u32>
@@ -58,7 +24,7 @@ fn last_fixed(zone: &LinkedZone, marks: &Marks, end: u32) -> Option<u32>
     let mut place = (end - base) as usize / 4;
     while let Some(found) = marks.last_at_least(1, place) {
         let at = base + 4 * found as u32;
-        if is_fixed_at(zone, at) {
+        if passes_at::<Fixed>(zone, at) {
             return Some(at);
         }
         place = found;
@@ -73,7 +39,7 @@ pub(crate) fn gap_end(zone: &LinkedZone, marks: &Marks, start: u32) -> u32
     ensures { (rest : RestAt zone.now start) → result ≡ start + total_size rest.blocks }
 {
     let spec = zone.spec();
-    match next_fixed(zone, marks, start) {
+    match next_passing::<Fixed>(zone, marks, start) {
         Some(at) => at,
         None => spec.base() + spec.size(),
     }

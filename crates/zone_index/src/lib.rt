@@ -13,6 +13,7 @@ mod order;
 mod pages;
 mod purging;
 mod raise;
+mod search;
 mod span;
 mod sums;
 mod weight;

@@ -3,6 +3,7 @@
 ghost use Rattle.std.specs.Prelude.{◌≡◌};
 ghost use Rattle.zone_index.specs.Purging.{may_purge};
 
+use crate::search::{Going, next_passing};
 use crate::zone::IndexedZone;
 use mac_base::block::Flags;
 
@@ -14,11 +15,9 @@ pub(crate) fn may_purge(flags: Flags) -> bool
 }
 
 impl IndexedZone {
-    ghost use Rattle.std.specs.Prelude.{◌↔◌, IfNone, IfSome, IsTrue};
+    ghost use Rattle.std.specs.Prelude.{IfNone, IfSome, IsTrue};
     ghost use Rattle.linked_zone.specs.Places.{SplitAt};
-    ghost use Rattle.zone_index.specs.Marks.{PassesAt};
-    ghost use Rattle.zone_index.specs.Purging.{FirstPurgeable, may_go, none_purgeable};
-    ghost use Rattle.zone_index.specs.Search.{NextPassing, NonePassing};
+    ghost use Rattle.zone_index.specs.Purging.{FirstPurgeable, none_purgeable};
 
     /// The address of the first block from an address on that may be purged, if there is one: that of a handle that is purgeable and
     /// not locked. Besides such blocks at most those are read that were so once.
@@ -28,35 +27,6 @@ impl IndexedZone {
         ensures none { IfNone result ((split : SplitAt self.now from) → IsTrue (none_purgeable self.now.heap.table split.behind)) }
     {
         let _spec = self.zone.spec();
-        self.next_going(from)
-    }
-
-    /// The same by addresses alone.
-    fn next_going(&self, from: u32) -> Option<u32>
-        requires { SplitAt self.now from }
-        ensures next { IfSome result (λ at. NextPassing may_go self.now from at) }
-        ensures none { IfNone result (NonePassing may_go self.now from) }
-    {
-        let base = self.zone.spec().base();
-        let mut place = (from - base) as usize / 4;
-        while let Some(found) = self.purgeable.first_at_least(1, place) {
-            let at = base + 4 * found as u32;
-            if self.goes_at(at) {
-                return Some(at);
-            }
-            place = found + 1;
-        }
-        None
-    }
-
-    /// Whether the header of a block that may be purged stands at this address. One header is read.
-    fn goes_at(&self, at: u32) -> bool
-        ensures { IsTrue result ↔ PassesAt may_go self.now at }
-    {
-        let _spec = self.zone.spec();
-        match self.zone.entry(at) {
-            Some(block) => may_purge(block.flags),
-            None => false,
-        }
+        next_passing::<Going>(&self.zone, &self.purgeable, from)
     }
 }

@@ -17,7 +17,7 @@ use Rattle.zone_index.proofs.Turned.{carried-fits, carried-turned, parcel-entry}
 use Rattle.zone_index.specs.Bounds.{AreBounds}
 use Rattle.zone_index.proofs.Moving.{bounds-carry}
 use Rattle.zone_index.proofs.PagesKept.{forgets-read, pages-kept, part-ends}
-use Rattle.zone_index.proofs.Parts.{pages-carry}
+use Rattle.zone_index.proofs.Changing.{pages-carry}
 use Rattle.zone_index.proofs.Measured.{lengths-of}
 use Rattle.zone_laws.proofs.Maps.{total_size-append}
 use Rattle.zone_index.proofs.zone.IndexedZone.carry.Goals as goal

@@ -13,7 +13,7 @@ use Rattle.zone_index.proofs.Extending.{bounds-extended, last-low, last-place, s
 use Rattle.zone_index.proofs.Fronts.{front_split}
 use Rattle.zone_index.proofs.Known.{zone-known, base-known, size-known, limit-known}
 use Rattle.zone_index.proofs.PagesKept.{forgets-read, pages-kept}
-use Rattle.zone_index.proofs.Parts.{pages-extended}
+use Rattle.zone_index.proofs.Changing.{pages-extended}
 use Rattle.zone_index.proofs.Measured.{lengths-of}
 use Rattle.zone_index.proofs.zone.IndexedZone.extend.Goals as goal
 

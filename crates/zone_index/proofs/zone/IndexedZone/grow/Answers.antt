@@ -13,7 +13,7 @@ use Rattle.zone_index.specs.Bounds.{AreBounds}
 use Rattle.zone_index.proofs.Named.{named-owner}
 use Rattle.zone_index.proofs.Resizing.{bounds-grown, grow-end, end-place}
 use Rattle.zone_index.proofs.PagesKept.{forgets-read, named-place, pages-kept, part-ends}
-use Rattle.zone_index.proofs.Parts.{pages-grown}
+use Rattle.zone_index.proofs.Changing.{pages-grown}
 use Rattle.zone_index.proofs.Measured.{lengths-of, lengths-sized}
 use Rattle.zone_index.proofs.zone.IndexedZone.grow.Goals as goal
 

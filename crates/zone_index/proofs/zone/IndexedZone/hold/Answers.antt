@@ -11,7 +11,7 @@ use Rattle.zone_index.specs.Bounds.{AreBounds}
 use Rattle.zone_index.proofs.Named.{named-owner}
 use Rattle.zone_index.proofs.Resizing.{bounds-held, hold-end, end-place}
 use Rattle.zone_index.proofs.PagesKept.{forgets-read, named-place, pages-kept, part-ends}
-use Rattle.zone_index.proofs.Parts.{pages-held}
+use Rattle.zone_index.proofs.Changing.{pages-held}
 use Rattle.zone_index.proofs.Measured.{lengths-of, lengths-sized}
 use Rattle.zone_index.proofs.zone.IndexedZone.hold.Goals as goal
 

@@ -11,7 +11,8 @@ use Rattle.mac_base.specs.declared.block.Kind.TheVariants.{Free}
 use Rattle.mac_base.specs.ZoneMap.{block}
 use Rattle.zone_index.specs.Pages.{page}
 use Rattle.zone_index.proofs.PagesKept.{forgets-read, pages-kept, part-ends}
-use Rattle.zone_index.proofs.Parts.{first_free, pages-merge}
+use Rattle.zone_index.proofs.Changed.{first_free}
+use Rattle.zone_index.proofs.Changing.{pages-merge}
 use Rattle.zone_index.proofs.Measured.{lengths-of}
 use Rattle.zone_index.proofs.zone.IndexedZone.merge.Goals as goal
 

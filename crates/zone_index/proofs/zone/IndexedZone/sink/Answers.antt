@@ -18,7 +18,8 @@ use Rattle.zone_index.specs.Bounds.{AreBounds}
 use Rattle.zone_index.proofs.Moving.{bounds-sink}
 use Rattle.zone_index.specs.Pages.{page}
 use Rattle.zone_index.proofs.PagesKept.{forgets-read, pages-kept, part-ends}
-use Rattle.zone_index.proofs.Parts.{last_entry, pages-sink}
+use Rattle.zone_index.proofs.Changed.{last_entry}
+use Rattle.zone_index.proofs.Changing.{pages-sink}
 use Rattle.zone_index.proofs.Measured.{lengths-of}
 use Rattle.zone_laws.proofs.Maps.{total_size-append}
 use Rattle.zone_index.proofs.zone.IndexedZone.sink.Goals as goal

@@ -10,7 +10,7 @@ use Rattle.zone_index.proofs.Moving.{bounds-split}
 use Rattle.mac_base.specs.declared.block.Kind.TheVariants.{Free}
 use Rattle.mac_base.specs.ZoneMap.{block}
 use Rattle.zone_index.proofs.PagesKept.{forgets-read, pages-kept, part-ends}
-use Rattle.zone_index.proofs.Parts.{pages-split}
+use Rattle.zone_index.proofs.Changing.{pages-split}
 use Rattle.zone_index.proofs.Measured.{lengths-of}
 use Rattle.zone_index.proofs.zone.IndexedZone.split.Goals as goal
 

@@ -1,7 +1,7 @@
 use Rattle.zone_index.proofs.Rules.{fixes, goes}
 use Rattle.zone_index.proofs.Table.{take-marked}
 use Rattle.std.proofs.Common.{refl}
-use Rattle.zone_index.proofs.Taking.{bounds-taken}
+use Rattle.zone_index.proofs.Moving.{bounds-taken}
 use Rattle.mac_base.specs.HandleTable.{EmptyHandle}
 use Rattle.zone_index.proofs.Changing.{pages-taken}
 use Rattle.zone_index.proofs.Measured.{lengths-given, lengths-of, lengths-still}

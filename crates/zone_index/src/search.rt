@@ -1,0 +1,90 @@
+//! The search for the next block that passes a test, by the marks of those that do.
+
+ghost use Rattle.std.specs.Prelude.{IfNone, IfSome};
+ghost use Rattle.linked_zone.specs.Places.{SplitAt};
+ghost use Rattle.zone_index.specs.Marks.{AreMarked};
+ghost use Rattle.zone_index.specs.Search.{NextPassing, NonePassing};
+
+use crate::purging::may_purge;
+use linked_zone::LinkedZone;
+use mac_base::block::{Block, Kind};
+use place_numbers::marks::Marks;
+
+/// A test of blocks, for which marks are kept.
+pub(crate) trait BlockTest {
+    ghost use Rattle.std.specs.Prelude.{◌≡◌, Bool};
+    ghost use Rattle.mac_base.specs.BlockReport.{block_flags};
+    ghost use Rattle.mac_base.specs.declared.block.Kind.{Kind};
+    ghost use Rattle.mac_base.specs.HandleTable.{HandleTable};
+
+    /// Which blocks pass.
+    ghost test: { HandleTable → Kind → Bool };
+
+    /// Whether a block passes, by what is read of it.
+    fn passes(block: Block) -> bool
+        ensures { (t : HandleTable) → block.flags ≡ block_flags t block.entry.kind → result ≡ test t block.entry.kind };
+}
+
+/// A block that may not move: a master block, a nonrelocatable one or that of a locked handle.
+pub(crate) struct Fixed;
+
+/// A block that may be purged: that of a handle that is purgeable and not locked.
+pub(crate) struct Going;
+
+impl BlockTest for Fixed {
+    ghost use Rattle.mac_base.specs.Gap.{is_fixed};
+
+    ghost test = { is_fixed };
+
+    fn passes(block: Block) -> bool {
+        match block.entry.kind {
+            Kind::Free => false,
+            Kind::Master | Kind::Ptr(_) => true,
+            Kind::Rel(_) => block.flags.lock,
+        }
+    }
+}
+
+impl BlockTest for Going {
+    ghost use Rattle.zone_index.specs.Purging.{may_go};
+
+    ghost test = { may_go };
+
+    fn passes(block: Block) -> bool {
+        may_purge(block.flags)
+    }
+}
+
+ghost use Rattle.std.specs.Prelude.{◌↔◌, IsTrue};
+ghost use Rattle.zone_index.specs.Marks.{PassesAt};
+
+/// Whether the header of a block that passes stands at this address. One header is read.
+pub(crate) fn passes_at<T: BlockTest>(zone: &LinkedZone, at: u32) -> bool
+    ensures { IsTrue result ↔ PassesAt T.test zone.now at }
+{
+    let _spec = zone.spec();
+    match zone.entry(at) {
+        Some(block) => T::passes(block),
+        None => false,
+    }
+}
+
+/// The address of the first block from an address on that passes, if there is one. Besides such blocks at most those are read that
+/// passed once.
+pub(crate) fn next_passing<T: BlockTest>(zone: &LinkedZone, marks: &Marks, from: u32) -> Option<u32>
+    requires split { SplitAt zone.now from }
+    requires marked { AreMarked T.test zone.now marks.now }
+    ensures next { IfSome result (λ at. NextPassing T.test zone.now from at) }
+    ensures none { IfNone result (NonePassing T.test zone.now from) }
+{
+    let base = zone.spec().base();
+    let mut place = (from - base) as usize / 4;
+    while let Some(found) = marks.first_at_least(1, place) {
+        let at = base + 4 * found as u32;
+        if passes_at::<T>(zone, at) {
+            return Some(at);
+        }
+        place = found + 1;
+    }
+    None
+}
