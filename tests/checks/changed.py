@@ -340,16 +340,16 @@ def lines_of_session():
 
 
 def try_session(program, folder):
-    """Runs the session of docs/FILES.md on copies of the sample."""
+    """Runs the session of docs/FILES.md on copies of the sample. In one of them the first datum has a length that is too large."""
     os.mkdir(folder)
-    for name in ("Game.rsrc", "Old.rsrc"):
-        shutil.copy(os.path.join(TOP, "crates/resfork/data/sample.rsrc"), os.path.join(folder, name))
+    sample = read(os.path.join(TOP, "crates/resfork/data/sample.rsrc"))
+    for name, data in (("Game.rsrc", sample), ("Old.rsrc", sample), ("bad.rsrc", sample[:256] + b"\xff" + sample[257:])):
+        write(os.path.join(folder, name), data)
     lines = lines_of_session()
     for words, printed in lines:
         script = f'resfork() {{ "{os.path.abspath(program)}" "$@"; }}\n{words}'
-        done = subprocess.run(["bash", "-c", script], cwd=folder, stdin=subprocess.DEVNULL, capture_output=True, text=True, check=False)
-        wanted = printed.rstrip("\n")
-        must((done.stdout.rstrip("\n"), done.stderr) == (wanted, ""), f"{words}: it wrote {done.stdout!r} and {done.stderr!r}")
+        done = subprocess.run(["bash", "-c", script], cwd=folder, stdin=subprocess.DEVNULL, stdout=subprocess.PIPE, stderr=subprocess.STDOUT, text=True, check=False)
+        must(done.stdout.rstrip("\n") == printed.rstrip("\n"), f"{words}: it wrote {done.stdout!r}")
     return len(lines)
 
 

@@ -8,6 +8,3 @@ pub mod rows;
 pub use laws::pack_laws;
 pub use manifest::manifest_of;
 pub use rows::packed;
-
-#[cfg(test)]
-mod tests;

@@ -19,36 +19,21 @@ struct Resource {
     file: String,
 }
 
-/// The manifest.
+/// What is packed of a manifest. What else it says, of the container that the fork came from, is passed over.
 #[derive(Debug, Drop, Deserialize)]
 struct Manifest {
-    container: Option<String>,
-    #[serde(rename = "type")]
-    kind: Option<String>,
-    creator: Option<String>,
-    flags: Option<u16>,
-    created: Option<u32>,
-    modified: Option<u32>,
     extra: String,
     map_attributes: u16,
     resources: Vec<Resource>,
 }
 
-/// What is packed: the resources with the paths of their files, all else of the fork, and what the container told of the file.
+/// What is packed: the resources with the paths of their files, and all else of the fork.
 #[derive(Drop)]
 pub struct Packing {
     pub entries: Vec<Entry>,
     /// The 112 bytes for the system and the 128 for the application.
     pub extra: [u8; 240],
     pub map_attributes: u16,
-    /// The container's name in words, where the fork came from one.
-    pub container: Option<String>,
-    pub kind: Option<[u8; 4]>,
-    pub creator: Option<[u8; 4]>,
-    pub flags: Option<u16>,
-    /// In seconds, as the container counts them.
-    pub created: Option<u32>,
-    pub modified: Option<u32>,
 }
 
 /// Four bytes that a text in UTF-8 shows. None where it doesn't show four, or has a character that MacRoman lacks.
@@ -140,21 +125,6 @@ fn extra_of(text: &str) -> Option<[u8; 240]> {
     Some(extra)
 }
 
-/// A type or a creator, if there is one.
-fn code_of(
-    alloc: Global,
-    text: &Option<String>,
-    what: &'static str,
-) -> Result<Option<[u8; 4]>, PackFault> {
-    let Some(text) = text else {
-        return Ok(None);
-    };
-    match four_of(alloc, text.as_str())? {
-        Some(four) => Ok(Some(four)),
-        None => Err(PackFault::BadField(what)),
-    }
-}
-
 /// What a manifest says that `unpack` wrote. An error says what isn't so, and in which file's entry.
 pub fn manifest_of(alloc: Global, text: &str) -> Result<Packing, PackFault> {
     let manifest: Manifest = match serde_json::from_str(alloc, text) {
@@ -162,10 +132,8 @@ pub fn manifest_of(alloc: Global, text: &str) -> Result<Packing, PackFault> {
         Err(error) => return Err(PackFault::BadManifest(error.to_string(alloc)?)),
     };
     let Some(extra) = extra_of(manifest.extra.as_str()) else {
-        return Err(PackFault::BadField("`extra`, of 480 hexadecimal digits,"));
+        return Err(PackFault::BadExtra);
     };
-    let kind = code_of(alloc, &manifest.kind, "the file's type")?;
-    let creator = code_of(alloc, &manifest.creator, "the file's creator")?;
     let mut entries = Vec::new(alloc);
     for resource in manifest.resources {
         entries.push(entry_of(alloc, resource)?)?;
@@ -174,11 +142,5 @@ pub fn manifest_of(alloc: Global, text: &str) -> Result<Packing, PackFault> {
         entries,
         extra,
         map_attributes: manifest.map_attributes,
-        container: manifest.container,
-        kind,
-        creator,
-        flags: manifest.flags,
-        created: manifest.created,
-        modified: manifest.modified,
     })
 }

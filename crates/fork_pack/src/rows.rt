@@ -30,9 +30,9 @@ pub enum PackFault {
     /// What it says of the resource in this file isn't so of any.
     #[error("what it says of the resource in {file} is bad: {what}")]
     BadEntry { file: String, what: &'static str },
-    /// The 240 extra bytes, or the file's type or creator, are none.
-    #[error("{0} is bad")]
-    BadField(&'static str),
+    /// What it says of the 240 extra bytes are none.
+    #[error("`extra`, of 480 hexadecimal digits, is bad")]
+    BadExtra,
     /// The file of this path, which the manifest names, isn't there.
     #[error("the manifest names {0}, which isn't there")]
     NoFile(String),

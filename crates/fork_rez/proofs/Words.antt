@@ -6,7 +6,7 @@ use Rattle.std.proofs.lemmas.Bool.{cond-true, cond-false, cases_Bool, eq-eqb}
 use Rattle.fork_rez.specs.declared.blanks.Skipping.{Skipping}
 use Rattle.fork_rez.specs.declared.blanks.Skipping.TheVariants.{Between, Block}
 use Rattle.fork_rez.specs.Text.{gap_of, is_printable, shown}
-use Rattle.fork_rez.specs.Reading.{after_blanks, after_word, if_there, is_blank, skip, skipped, skipping}
+use Rattle.fork_rez.specs.Reading.{after_blanks, after_word, if_there, is_blank, is_map, skip, skipped, skipping}
 
 -- bytes are the same as themselves
 pub same : (word : List ℕ) → bytes_eq word word ≡ true
@@ -25,16 +25,20 @@ pub other_mark : (mark byte : ℕ) (rest : List ℕ) → eqb byte mark ≡ false
 other_mark mark byte rest other = rw other refl
 
 -- a byte that is skipped, and one that isn't
-pub goes : (at next : Skipping) (byte : ℕ) (text : List ℕ) → skipping at byte ≡ Some next → skip at (byte ∷ text) ≡ skip next text
-goes at next byte text is = ap (λ (o : Option Skipping). if_there o (λ after. skip after text) (skipped at (byte ∷ text))) is
+pub goes : (at next : Skipping) (byte : ℕ) (text : List ℕ) → is_map at (byte ∷ text) ≡ false → skipping at byte ≡ Some next → skip at (byte ∷ text) ≡ skip next text
+goes at next byte text apart is = cond-false _ _ _ apart ∙ ap (λ (o : Option Skipping). if_there o (λ after. skip after text) (skipped at (byte ∷ text))) is
 
-pub ends : (at : Skipping) (byte : ℕ) (text : List ℕ) → skipping at byte ≡ None → skip at (byte ∷ text) ≡ skipped at (byte ∷ text)
-ends at byte text is = ap (λ (o : Option Skipping). if_there o (λ after. skip after text) (skipped at (byte ∷ text))) is
+pub ends : (at : Skipping) (byte : ℕ) (text : List ℕ) → is_map at (byte ∷ text) ≡ false → skipping at byte ≡ None → skip at (byte ∷ text) ≡ skipped at (byte ∷ text)
+ends at byte text apart is = cond-false _ _ _ apart ∙ ap (λ (o : Option Skipping). if_there o (λ after. skip after text) (skipped at (byte ∷ text))) is
+
+-- no comment begins with another byte
+no_map : (byte : ℕ) (rest : List ℕ) → eqb byte 47 ≡ false → is_map Between (byte ∷ rest) ≡ false
+no_map byte rest other = rw other refl
 
 -- a byte that is no blank and begins no comment
 pub stays : (byte : ℕ) (rest : List ℕ) → is_blank byte ≡ false → eqb byte 47 ≡ false → after_blanks (byte ∷ rest) ≡ Ok (byte ∷ rest)
 unfolding after_blanks
-stays byte rest blank slash = ends Between byte rest (cond-false _ _ _ blank ∙ cond-false _ _ _ slash)
+stays byte rest blank slash = ends Between byte rest (no_map byte rest slash) (cond-false _ _ _ blank ∙ cond-false _ _ _ slash)
 
 -- blanks
 pub blanks : (n : ℕ) (rest : List ℕ) → skip Between (replicate n 32 ++ rest) ≡ skip Between rest
@@ -57,7 +61,7 @@ shown_apart byte =
 pub comment : (bytes rest : List ℕ) → skip Block (map shown bytes ++ 32 ∷ 42 ∷ 47 ∷ rest) ≡ skip Between rest
 comment [] rest = refl
 comment (byte ∷ bytes) rest =
-    goes Block Block (shown byte) (map shown bytes ++ 32 ∷ 42 ∷ 47 ∷ rest) (cond-false _ _ _ (shown_apart byte)) ∙ comment bytes rest
+    goes Block Block (shown byte) (map shown bytes ++ 32 ∷ 42 ∷ 47 ∷ rest) refl (cond-false _ _ _ (shown_apart byte)) ∙ comment bytes rest
 
 -- what stands between a line of data and the next
 abbrev pub gap : List ℕ → List ℕ

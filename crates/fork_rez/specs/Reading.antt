@@ -1,5 +1,5 @@
 -- How a text of `data` statements is read, from left to right, and the first place where it is none.
-use Rattle.std.specs.Prelude.{◌≡◌, ℕ, ℤ, pos, zero, suc, ◌+◌, ◌-◌, ◌*◌, ◌==◌, ◌&&◌, ◌||◌, Bool, nat_le, nat_lt, if◌then◌else◌, List, [], ◌∷◌, ◌++◌, length, take, drop, replicate, codes, bytes_eq, Option, None, Some, Result, Ok, Err, neg_ℤ}
+use Rattle.std.specs.Prelude.{◌≡◌, ℕ, ℤ, pos, zero, suc, ◌+◌, ◌-◌, ◌*◌, ◌==◌, ◌&&◌, ◌||◌, Bool, false, nat_le, nat_lt, if◌then◌else◌, List, [], ◌∷◌, ◌++◌, length, take, drop, replicate, codes, bytes_eq, Option, None, Some, is_some, Result, Ok, Err, neg_ℤ}
 use Rattle.std.specs.List.{push}
 use Rattle.std.specs.Int.RustNames.{bit_or}
 use Rattle.std.specs.Char.{digit_value}
@@ -8,7 +8,7 @@ use Rattle.fork_bytes.specs.Rows.{Row}
 use Rattle.fork_bytes.specs.declared.table.Table.{Table}
 use Rattle.fork_rez.specs.declared.attribute.Attribute.{Attribute}
 use Rattle.fork_rez.specs.declared.fault.Expected.{Expected}
-use Rattle.fork_rez.specs.declared.fault.Expected.TheVariants.{Statement, Mark, Kind, Id, NameInQuotes, AttributeWord, Character, Digits, CommentEnd, MapBytes}
+use Rattle.fork_rez.specs.declared.fault.Expected.TheVariants.{Statement, Mark, Kind, Id, NameInQuotes, AttributeWord, Character, Digits, CommentEnd, MapBytes, MapFirst}
 use Rattle.fork_rez.specs.declared.fault.Fault.{Fault}
 use Rattle.fork_rez.specs.declared.fault.ReadError.{ReadError}
 use Rattle.fork_rez.specs.declared.fault.ReadError.TheVariants as errors
@@ -65,17 +65,27 @@ skipped Slash text = fails text CommentEnd
 skipped Block text = fails text CommentEnd
 skipped Star text = fails text CommentEnd
 
--- the text after blanks and comments
-abbrev pub skip : Skipping → List ℕ → Result (List ℕ) Fault
-skip at [] = skipped at []
-skip at (byte ∷ text) = if_there (skipping at byte) (λ next. skip next text) (skipped at (byte ∷ text))
-
-unfoldable pub after_blanks : List ℕ → Result (List ℕ) Fault
-after_blanks text = skip Between text
-
 -- the text after this word, if it begins with it
 abbrev pub after_word : List ℕ → List ℕ → Option (List ℕ)
 after_word word text = if bytes_eq (take (length word) text) word then Some (drop (length word) text) else None
+
+-- whether the comment with the map's bytes begins here
+abbrev pub is_map : Skipping → List ℕ → Bool
+is_map Between text = is_some (after_word map_word text)
+is_map Slash text = false
+is_map Line text = false
+is_map Block text = false
+is_map Star text = false
+
+-- the text after blanks and comments, none of which may be that with the map's bytes
+abbrev pub skip : Skipping → List ℕ → Result (List ℕ) Fault
+skip at [] = skipped at []
+skip at (byte ∷ text) =
+    if is_map at (byte ∷ text) then fails (byte ∷ text) MapFirst
+    else if_there (skipping at byte) (λ next. skip next text) (skipped at (byte ∷ text))
+
+unfoldable pub after_blanks : List ℕ → Result (List ℕ) Fault
+after_blanks text = skip Between text
 
 -- the text after blanks and this word
 unfoldable pub word_at : List ℕ → Expected → List ℕ → Result (List ℕ) Fault

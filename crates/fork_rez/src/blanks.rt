@@ -1,9 +1,12 @@
 //! Blanks, comments and words.
 
 ghost use Rattle.std.specs.Prelude.{◌≡◌, option_map};
-ghost use Rattle.fork_rez.specs.Reading.{Gives, after_blanks, after_word, is_blank, skipped, skipping, word_at};
+ghost use Rattle.fork_rez.specs.Reading.{Gives, after_blanks, after_word, is_blank, is_map, skipped, skipping, word_at};
 
 use crate::fault::{Expected, ReadError, refused};
+
+/// What a comment begins with that has the map's bytes.
+pub(crate) const MAP_WORD: &[u8] = b"/*resfork: the map's 240 extra bytes and its attributes";
 
 /// Where a text is between two words.
 #[derive(Clone, Copy)]
@@ -49,6 +52,16 @@ impl Skipping {
         }
     }
 
+    /// Whether the comment with the map's bytes begins here.
+    fn is_map(self, text: &[u8]) -> bool
+        ensures { result ≡ is_map self text.now }
+    {
+        match self {
+            Skipping::Between => after_word(MAP_WORD, text).is_some(),
+            Skipping::Slash | Skipping::Line | Skipping::Block | Skipping::Star => false,
+        }
+    }
+
     /// The text from here on, where no comment is open.
     fn end(self, text: &[u8]) -> Result<&[u8], ReadError>
         ensures { Gives (λ rest. rest.now) result (skipped self text.now) }
@@ -62,7 +75,7 @@ impl Skipping {
     }
 }
 
-/// The text after blanks and comments.
+/// The text after blanks and comments, among which the comment with the map's bytes isn't passed over.
 #[tactic(auto, unfolding(crate::specs::Reading::after_blanks))]
 pub(crate) fn after_blanks(text: &[u8]) -> Result<&[u8], ReadError>
     ensures { Gives (λ rest. rest.now) result (after_blanks text.now) }
@@ -70,6 +83,9 @@ pub(crate) fn after_blanks(text: &[u8]) -> Result<&[u8], ReadError>
     let mut at = Skipping::Between;
     let mut rest = text;
     while let Some((byte, after)) = rest.split_first() {
+        if at.is_map(rest) {
+            return Err(refused(rest, Expected::MapFirst));
+        }
         let Some(next) = at.after(*byte) else {
             return at.end(rest);
         };

@@ -30,6 +30,8 @@ pub enum Expected {
     CommentEnd,
     /// The 240 extra bytes and the two of the map's attributes.
     MapBytes,
+    /// Anything but the comment with these bytes, which only begins a text.
+    MapFirst,
 }
 
 impl fmt::Display for Expected {
@@ -54,6 +56,10 @@ impl fmt::Display for Expected {
             Expected::Digits => write!(f, "two hexadecimal digits are expected"),
             Expected::CommentEnd => write!(f, "the end of a comment is expected"),
             Expected::MapBytes => write!(f, "the 242 bytes of the map are expected"),
+            Expected::MapFirst => write!(
+                f,
+                "the comment with the map's bytes is read only where it begins the text: move it there, or remove it"
+            ),
         }
     }
 }

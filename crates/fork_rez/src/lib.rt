@@ -15,6 +15,3 @@ mod text;
 pub use laws::rez_laws;
 pub use table::rez;
 pub use text::derez;
-
-#[cfg(test)]
-mod tests;

@@ -6,15 +6,12 @@ ghost use Rattle.fork_bytes.specs.Written.{plain_row, plain_rows};
 ghost use Rattle.fork_rez.specs.Reading.{Gives, all_of, map_at, map_in, row_at, table_at};
 ghost use Rattle.fork_rez.specs.Said.{Answers, line_at, made_table, table_of};
 
-use crate::blanks::{after_blanks, after_word, word_at};
+use crate::blanks::{MAP_WORD, after_blanks, after_word, word_at};
 use crate::fault::{Expected, ReadError, Refusal, RezFault, refused};
 use crate::statement::{data_at, row_at};
 use fork_bytes::table::{Contents, Row, Rows, Table};
 use mac_base::resource::Resource;
 use std::alloc::{AllocError, Global};
-
-/// What a comment begins with that has the map's bytes.
-pub(crate) const MAP_WORD: &[u8] = b"/*resfork: the map's 240 extra bytes and its attributes";
 
 /// How many bytes of the map are kept.
 const MAP_LENGTH: usize = 242;
@@ -47,15 +44,23 @@ fn row_of<'a>(row: &'a Resource<Vec<u8>>) -> Result<Row<'a>, AllocError>
     })
 }
 
+/// The rows that borrow the bytes of these.
+fn rows_of<'a>(alloc: Global, rows: &'a [Resource<Vec<u8>>]) -> Result<Vec<Row<'a>>, AllocError>
+    ensures { IfOk result (λ made. made.items ≡ plain_rows (λ v. v.items) rows.now) }
+{
+    let mut made = Vec::new(alloc);
+    for row in rows {
+        made.push(row_of(row)?)?;
+    }
+    Ok(made)
+}
+
 impl Made {
     /// The table. The only error is that the host has no memory.
     pub fn table(&self, alloc: Global) -> Result<Table<'_>, AllocError>
         ensures { IfOk result (λ table. table ≡ made_table self.now) }
     {
-        let mut rows = Vec::new(alloc);
-        for row in &self.rows {
-            rows.push(row_of(row)?)?;
-        }
+        let rows = rows_of(alloc, self.rows.as_slice())?;
         Ok(Table {
             rows: Rows::new(rows),
             extra: self.extra,
@@ -145,7 +150,8 @@ fn line_at(text: &[u8], left: usize) -> usize
 
 /// The table that a text of `data` statements says, with blanks and comments anywhere between words. Data are strings in hexadecimal
 /// digits, `$"4869"`, or in letters, `"Hi"`, one after the other. A byte in letters that isn't printable ASCII is `\0x` and two digits.
-/// A text is refused at the first place that isn't such a text, with its line; the other error is that the host has no memory.
+/// The comment with the map's bytes begins the text, if there is one. A text is refused at the first place that isn't such a text, with
+/// its line; the other error is that the host has no memory.
 pub fn rez(alloc: Global, text: &[u8]) -> Result<Made, RezFault>
     ensures { Answers result (table_of text.now) }
 {

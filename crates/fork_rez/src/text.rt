@@ -1,14 +1,14 @@
 //! The text of a table.
 
-ghost use Rattle.std.specs.Prelude.{◌≡◌, ◌≤◌, ◌==◌, ◌++◌, IfOk, OnOk, drop, length, map, take};
+ghost use Rattle.std.specs.Prelude.{◌≡◌, ◌≤◌, ◌==◌, ◌++◌, IfOk, OnOk, drop, length, map, replicate, take};
 ghost use Rattle.std.specs.List.{flat_map, list_all};
 ghost use Rattle.std.specs.Fmt.{signed_decimal};
 ghost use Rattle.byteorder.specs.Endian.{big_bytes};
 ghost use Rattle.fork_rez.specs.Text.{attribute_text, attributes_text, chosen, chosen_rows, commented, digits_text, gap_of, hexadecimal, line_text, lines_of, map_text, name_text, row_text, shown, text_of, written};
 
 use crate::attribute::Attribute;
+use crate::blanks::MAP_WORD;
 use crate::quoted::is_printable;
-use crate::table::MAP_WORD;
 use bitflags::Flags;
 use fork_bytes::table::{Row, Table};
 use fork_list::is_chosen;
@@ -156,16 +156,23 @@ fn gap_of(count: usize) -> usize
     GAP + FULL_WIDTH.saturating_sub(width)
 }
 
+/// Adds so many blanks.
+fn push_blanks(out: &mut Vec<u8>, count: usize) -> Result<(), AllocError>
+    ensures { OnOk result (out.new.items ≡ out.old.items ++ replicate count 32) }
+{
+    for _blank in 0..count {
+        out.push(b' ')?;
+    }
+    Ok(())
+}
+
 /// Adds a line of data with its comment.
 fn push_commented(out: &mut Vec<u8>, bytes: &[u8]) -> Result<(), AllocError>
     requires { length bytes.now ≤ 16 }
     ensures { OnOk result (out.new.items ≡ out.old.items ++ commented bytes.now) }
 {
     push_line(out, bytes)?;
-    let gap = gap_of(bytes.len());
-    for _blank in 0..gap {
-        out.push(b' ')?;
-    }
+    push_blanks(out, gap_of(bytes.len()))?;
     out.extend_from_slice(b"/* ")?;
     push_shown(out, bytes)?;
     out.extend_from_slice(b" */\n")?;

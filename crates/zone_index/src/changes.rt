@@ -55,7 +55,7 @@ impl IndexedZone {
         let spec = self.zone.spec();
         let base = spec.base();
         let end = base + spec.size();
-        let page = self.page(end);
+        let page = self.page_at(end);
         forget(&mut self.pages, page, page);
         let start = gap_start(&self.zone, &self.marks, end);
         self.zone.extend();
@@ -70,7 +70,7 @@ impl IndexedZone {
         ensures { (can : CanCut self.old at size) → self.new ≡ cut_in_two size self.old can.free }
     {
         let first = self.page(at);
-        let last = self.page(at + size);
+        let last = self.page_at(at + size);
         forget(&mut self.pages, first, last);
         self.zone.split(at, size);
     }
@@ -81,7 +81,7 @@ impl IndexedZone {
         ensures { (pair : FreePair self.old at) → self.new ≡ joined_pair self.old pair }
     {
         let first = self.page(at);
-        let last = self.page(at + self.zone.free_size(at));
+        let last = self.page_at(at + self.zone.free_size(at));
         forget(&mut self.pages, first, last);
         self.zone.merge(at);
     }
@@ -95,7 +95,7 @@ impl IndexedZone {
     {
         let first = self.place(at);
         let from = self.page(at);
-        let to = self.page(end);
+        let to = self.page_at(end);
         forget(&mut self.pages, from, to);
         let size = self.zone.entry_at(at).size;
         let others = end - at - size;
@@ -118,7 +118,7 @@ impl IndexedZone {
         let first = self.place(start);
         let size = self.zone.entry_at(at).size;
         let from = self.page(start);
-        let to = self.page(at + size);
+        let to = self.page_at(at + size);
         forget(&mut self.pages, from, to);
         let others = at - start;
         sink(
@@ -260,7 +260,7 @@ impl IndexedZone {
         let _spec = self.zone.spec();
         let at = self.zone.place_of(block);
         let first = self.page(at);
-        let last = self.page(at + size);
+        let last = self.page_at(at + size);
         forget(&mut self.pages, first, last);
         let gap = gap_around(&self.zone, &self.marks, at);
         self.zone.hold(block, size, length);
@@ -278,7 +278,7 @@ impl IndexedZone {
         let _spec = self.zone.spec();
         let at = self.zone.place_of(block);
         let first = self.page(at);
-        let last = self.page(at + size);
+        let last = self.page_at(at + size);
         forget(&mut self.pages, first, last);
         let gap = gap_around(&self.zone, &self.marks, at);
         self.zone.grow(block, size, length);

@@ -170,8 +170,20 @@ impl IndexedZone {
         (at - spec.base()) as usize / 4
     }
 
-    /// The page of an address.
+    /// The page in which a block begins.
     pub(crate) fn page(&self, at: u32) -> usize
+        requires { EntryAt self.now at }
+        ensures value { result ≡ page self.now.shape at }
+        ensures inside { result ≤ self.now.shape.limit / page_size }
+        ensures reach { address_behind self.now.shape self.now.heap.map < 2 ^ 32 }
+        ensures fits { Fits self.now }
+        ensures sizes { HasSizes self.now }
+    {
+        self.page_at(at)
+    }
+
+    /// The page of an address of the zone, or that at which it ends.
+    pub(crate) fn page_at(&self, at: u32) -> usize
         requires low { self.now.shape.base ≤ at }
         requires high { at ≤ address_behind self.now.shape self.now.heap.map }
         ensures value { result ≡ page self.now.shape at }

@@ -38,10 +38,3 @@ invariant_of-self c =
 pub returns : goal.returns
 returns c =
     subst (λ (z : ZoneState). (r : RoomFor z c.args.at master_length) → c.build_master.new.self ≡ with_master z r.free) c.self.view_is c.build_master.ensures
-
-pub page-page-requires-clause-high : goal.page-page-requires-clause-high
-page-page-requires-clause-high c =
-    let free = c.requires.free in
-    let place = free.place in
-    let ends = part-ends c.args.self.now free.before (block Free free.size ∷ free.behind) free.map in
-    omega arith

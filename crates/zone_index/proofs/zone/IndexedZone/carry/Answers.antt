@@ -39,7 +39,7 @@ invariant_of-self c =
       pages = (let parcel = subst (λ (z : ZoneState). ParcelAt z c.args.at c.args.end) (sym c.self.view_is) c.requires.parcel in
           pages-kept c.self.inside.pages c.forget.new.pages (c.forget.auto.pages ∙ c.deref_mut.ensures.len) (c.carry-2.ensures parcel)
           (pages-carry c.self.inside.zone c.self.inside.pages.items c.forget.new.pages c.self.invariant.pages parcel
-          (forgets-read c.args.at c.args.end c.self.view_is c.deref_mut.ensures.value c.page-from.ensures.value c.page-to.ensures.value c.forget.ensures)));
+          (forgets-read c.args.at c.args.end c.self.view_is c.deref_mut.ensures.value c.page-from.ensures.value c.page_at-to.ensures.value c.forget.ensures)));
       lengths = (let parcel = subst (λ (z : ZoneState). ParcelAt z c.args.at c.args.end) (sym c.self.view_is) c.requires.parcel in lengths-of c.self.inside.lengths (c.carry-2.ensures parcel) c.self.invariant.lengths);
     }
 
@@ -71,15 +71,8 @@ pub returns : goal.returns
 returns c =
     subst (λ (z : ZoneState). (parcel : ParcelAt z c.args.at c.args.end) → c.carry-2.new.self ≡ carried_up z parcel) c.self.view_is c.carry-2.ensures
 
-pub page-from-requires-clause-high : goal.page-from-requires-clause-high
-page-from-requires-clause-high c =
-    let parcel = c.requires.parcel in
-    let place = parcel.place in
-    let ends = part-ends c.args.self.now parcel.before (parcel.here ∷ parcel.blocks ++ parcel.behind) parcel.map in
-    omega arith
-
-pub page-to-requires-clause-high : goal.page-to-requires-clause-high
-page-to-requires-clause-high c =
+pub page_at-to-requires-clause-high : goal.page_at-to-requires-clause-high
+page_at-to-requires-clause-high c =
     let parcel = c.requires.parcel in
     let place = parcel.place in
     let long = parcel.long in

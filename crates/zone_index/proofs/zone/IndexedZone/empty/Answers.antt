@@ -39,10 +39,3 @@ invariant_of-self c =
           (forgets-read c.block_of-at.result c.block_of-at.result c.self.view_is c.deref_mut.ensures.value c.page-page.ensures.value c.page-page.ensures.value c.forget.ensures) c.args.handle fits own));
       lengths = (lengths-of c.note.new.self c.empty.ensures (lengths-given c.self.inside.zone.heap.table c.self.inside.lengths c.note.new.self c.args.handle c.number.result 0 c.number.ensures c.self.invariant.lengths c.note.ensures EmptyHandle refl));
     }
-
-pub page-page-requires-clause-high : goal.page-page-requires-clause-high
-page-page-requires-clause-high c =
-    let own = subst (λ (z : ZoneState). BlockOf z c.args.handle c.block_of-at.result) (c.self.view_is) c.block_of-at.ensures in
-    let place = own.place in
-    let ends = part-ends c.args.self.now own.before (block (Rel c.args.handle) own.size ∷ own.behind) own.map in
-    omega arith

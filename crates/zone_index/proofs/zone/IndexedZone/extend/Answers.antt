@@ -48,7 +48,7 @@ invariant_of-self c =
           let end : c.base-base.result + c.size.result ≡ address_behind c.self.inside.zone.shape c.self.inside.zone.heap.map = omega arith in
           pages-kept c.self.inside.pages c.forget.new.pages (c.forget.auto.pages ∙ c.deref_mut.ensures.len) c.extend.ensures
           (pages-extended c.self.inside.zone c.self.inside.pages.items c.forget.new.pages c.self.invariant.pages end
-          (forgets-read (c.base-base.result + c.size.result) (c.base-base.result + c.size.result) c.self.view_is c.deref_mut.ensures.value c.page-page.ensures.value c.page-page.ensures.value c.forget.ensures)));
+          (forgets-read (c.base-base.result + c.size.result) (c.base-base.result + c.size.result) c.self.view_is c.deref_mut.ensures.value c.page_at-page.ensures.value c.page_at-page.ensures.value c.forget.ensures)));
       lengths = (lengths-of c.self.inside.lengths c.extend.ensures c.self.invariant.lengths);
     }
 

@@ -45,10 +45,3 @@ invariant_of-self c =
 pub returns-clause-zone : goal.returns-clause-zone
 returns-clause-zone c =
     subst (λ (z : ZoneState). (r : RoomFor z c.args.at c.args.length) → c.fix-pointer.new.self ≡ fixed c.args.length z r.free) c.self.view_is c.fix-pointer.ensures.zone
-
-pub page-page-requires-clause-high : goal.page-page-requires-clause-high
-page-page-requires-clause-high c =
-    let free = c.requires.free in
-    let place = free.place in
-    let ends = part-ends c.args.self.now free.before (block Free free.size ∷ free.behind) free.map in
-    omega arith

@@ -32,7 +32,7 @@ invariant_of-self c =
           let place = named-place c.self.inside.zone c.args.block c.place_of-at.result fits named can.before can.here can.behind can.map can.named in
           pages-kept c.self.inside.pages c.forget.new.pages (c.forget.auto.pages ∙ c.deref_mut.ensures.len) (c.hold.ensures can)
           (pages-held c.self.inside.zone c.self.inside.pages.items c.forget.new.pages c.self.invariant.pages can place
-          (forgets-read c.place_of-at.result (c.place_of-at.result + c.args.size) c.self.view_is c.deref_mut.ensures.value c.page-first.ensures.value c.page-last.ensures.value c.forget.ensures)));
+          (forgets-read c.place_of-at.result (c.place_of-at.result + c.args.size) c.self.view_is c.deref_mut.ensures.value c.page-first.ensures.value c.page_at-last.ensures.value c.forget.ensures)));
       lengths = (let can = subst (λ (z : ZoneState). CanHold z c.args.block c.args.size c.args.length) (sym c.self.view_is) c.requires.room in
           let fits = c.spec-spec.ensures.fits in
           let has = named-owner c.self.inside.zone c.args.block can.before can.here can.behind fits can.map can.named in
@@ -77,31 +77,15 @@ overflow_sub-gap-2 c =
     let high = hold-end c.self.inside.zone c.args.block c.place_of-at.result c.gap_around-gap.result c.gap_around-gap.ensures named can in
     omega arith
 
-pub page-first-requires-clause-low : goal.page-first-requires-clause-low
-page-first-requires-clause-low c =
-    let can = c.requires.room in
+pub page_at-last-requires-clause-low : goal.page_at-last-requires-clause-low
+page_at-last-requires-clause-low c =
     let same = c.self.view_is in
     let named = subst (λ (z : ZoneState). NamedAt z c.args.block c.place_of-at.result) same c.place_of-at.ensures in
     let place = named.place in
     omega arith
 
-pub page-first-requires-clause-high : goal.page-first-requires-clause-high
-page-first-requires-clause-high c =
-    let same = c.self.view_is in
-    let named = subst (λ (z : ZoneState). NamedAt z c.args.block c.place_of-at.result) same c.place_of-at.ensures in
-    let place = named.place in
-    let ends = part-ends c.args.self.now named.before (named.here ∷ named.behind) named.map in
-    omega arith
-
-pub page-last-requires-clause-low : goal.page-last-requires-clause-low
-page-last-requires-clause-low c =
-    let same = c.self.view_is in
-    let named = subst (λ (z : ZoneState). NamedAt z c.args.block c.place_of-at.result) same c.place_of-at.ensures in
-    let place = named.place in
-    omega arith
-
-pub page-last-requires-clause-high : goal.page-last-requires-clause-high
-page-last-requires-clause-high c =
+pub page_at-last-requires-clause-high : goal.page_at-last-requires-clause-high
+page_at-last-requires-clause-high c =
     let can = c.requires.room in
     let same = c.self.view_is in
     let named = subst (λ (z : ZoneState). NamedAt z c.args.block c.place_of-at.result) same c.place_of-at.ensures in

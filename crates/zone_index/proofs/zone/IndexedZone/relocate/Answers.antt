@@ -58,17 +58,3 @@ invariant_of-self c =
 pub returns : goal.returns
 returns c =
     subst (λ (z : ZoneState). (r : RoomFor z c.args.at c.args.length) → c.relocate.new.self ≡ relocated c.args.handle c.args.length z r.free) c.self.view_is c.relocate.ensures
-
-pub page-from_page-requires-clause-high : goal.page-from_page-requires-clause-high
-page-from_page-requires-clause-high c =
-    let own = subst (λ (z : ZoneState). BlockOf z c.args.handle c.block_of-from.result) (c.self.view_is) c.block_of-from.ensures in
-    let place = own.place in
-    let ends = part-ends c.args.self.now own.before (block (Rel c.args.handle) own.size ∷ own.behind) own.map in
-    omega arith
-
-pub page-to_page-requires-clause-high : goal.page-to_page-requires-clause-high
-page-to_page-requires-clause-high c =
-    let free = c.requires.room.free in
-    let place = free.place in
-    let ends = part-ends c.args.self.now free.before (block Free free.size ∷ free.behind) free.map in
-    omega arith

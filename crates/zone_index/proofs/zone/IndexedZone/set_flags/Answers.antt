@@ -43,10 +43,3 @@ invariant_of-self c =
           (forgets-read c.block_of-at.result c.block_of-at.result c.self.view_is c.deref_mut.ensures.value c.page-page.ensures.value c.page-page.ensures.value c.forget.ensures) c.args.handle c.args.flags fits own));
       lengths = (lengths-of c.self.inside.lengths c.set_flags.ensures (lengths-kept c.self.inside.zone.heap.table (with_flags c.args.handle c.args.flags c.self.inside.zone.heap.table) c.self.inside.lengths c.self.invariant.lengths (same-with_flags c.args.handle c.args.flags c.self.inside.zone.heap.table)));
     }
-
-pub page-page-requires-clause-high : goal.page-page-requires-clause-high
-page-page-requires-clause-high c =
-    let own = subst (λ (z : ZoneState). BlockOf z c.args.handle c.block_of-at.result) (c.self.view_is) c.block_of-at.ensures in
-    let place = own.place in
-    let ends = part-ends c.args.self.now own.before (block (Rel c.args.handle) own.size ∷ own.behind) own.map in
-    omega arith

@@ -43,12 +43,17 @@ invariant_of-self c =
           pages-kept c.self.inside.pages c.forget.new.pages (c.forget.auto.pages ∙ c.deref_mut.ensures.len) (c.sink-2.ensures parcel)
           (pages-sink c.self.inside.zone c.self.inside.pages.items c.forget.new.pages c.self.invariant.pages parcel
           (forgets-read c.args.start (c.args.at + parcel.here.size) c.self.view_is c.deref_mut.ensures.value c.page-from.ensures.value
-          (subst (λ n. c.page-to.result ≡ page c.args.self.now.shape (c.args.at + n)) size c.page-to.ensures.value) c.forget.ensures)));
+          (subst (λ n. c.page_at-to.result ≡ page c.args.self.now.shape (c.args.at + n)) size c.page_at-to.ensures.value) c.forget.ensures)));
       lengths = (let parcel = subst (λ (z : ZoneState). ParcelUpTo z c.args.start c.args.at) (sym c.self.view_is) c.requires.parcel in lengths-of c.self.inside.lengths (c.sink-2.ensures parcel) c.self.invariant.lengths);
     }
 
 pub place-first-requires : goal.place-first-requires
 place-first-requires c =
+    let parcel = c.requires.parcel in
+    run-entry c.args.self.now c.args.start parcel.before parcel.blocks parcel.here parcel.behind parcel.map parcel.place
+
+pub page-from-requires : goal.page-from-requires
+page-from-requires c =
     let parcel = c.requires.parcel in
     run-entry c.args.self.now c.args.start parcel.before parcel.blocks parcel.here parcel.behind parcel.map parcel.place
 
@@ -78,13 +83,6 @@ pub returns : goal.returns
 returns c =
     subst (λ (z : ZoneState). (parcel : ParcelUpTo z c.args.start c.args.at) → c.sink-2.new.self ≡ sunk z parcel) c.self.view_is c.sink-2.ensures
 
-pub page-from-requires-clause-high : goal.page-from-requires-clause-high
-page-from-requires-clause-high c =
-    let parcel = c.requires.parcel in
-    let place = parcel.place in
-    let ends = part-ends c.args.self.now parcel.before (parcel.blocks ++ parcel.here ∷ parcel.behind) parcel.map in
-    omega arith
-
 pub overflow_add-at : goal.overflow_add-at
 overflow_add-at c =
     let parcel = c.requires.parcel in
@@ -96,8 +94,8 @@ overflow_add-at c =
     let all = total_size-append parcel.blocks (parcel.here ∷ parcel.behind) in
     omega arith
 
-pub page-to-requires-clause-high : goal.page-to-requires-clause-high
-page-to-requires-clause-high c =
+pub page_at-to-requires-clause-high : goal.page_at-to-requires-clause-high
+page_at-to-requires-clause-high c =
     let parcel = c.requires.parcel in
     let place = parcel.place in
     let long = parcel.long in

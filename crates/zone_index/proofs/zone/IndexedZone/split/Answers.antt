@@ -25,20 +25,13 @@ invariant_of-self c =
       pages = (let can = subst (λ (z : ZoneState). CanCut z c.args.at c.args.size) (sym c.self.view_is) c.requires in
           pages-kept c.self.inside.pages c.forget.new.pages (c.forget.auto.pages ∙ c.deref_mut.ensures.len) (c.split.ensures can)
           (pages-split c.self.inside.zone c.self.inside.pages.items c.forget.new.pages c.self.invariant.pages can
-          (forgets-read c.args.at (c.args.at + c.args.size) c.self.view_is c.deref_mut.ensures.value c.page-first.ensures.value c.page-last.ensures.value c.forget.ensures)));
+          (forgets-read c.args.at (c.args.at + c.args.size) c.self.view_is c.deref_mut.ensures.value c.page-first.ensures.value c.page_at-last.ensures.value c.forget.ensures)));
       lengths = (let can = subst (λ (z : ZoneState). CanCut z c.args.at c.args.size) (sym c.self.view_is) c.requires in lengths-of c.self.inside.lengths (c.split.ensures can) c.self.invariant.lengths);
     }
 
 pub returns : goal.returns
 returns c =
     subst (λ (z : ZoneState). (can : CanCut z c.args.at c.args.size) → c.split.new.self ≡ cut_in_two c.args.size z can.free) c.self.view_is c.split.ensures
-
-pub page-first-requires-clause-high : goal.page-first-requires-clause-high
-page-first-requires-clause-high c =
-    let free = c.requires.free in
-    let place = free.place in
-    let ends = part-ends c.args.self.now free.before (block Free free.size ∷ free.behind) free.map in
-    omega arith
 
 pub overflow_add-at : goal.overflow_add-at
 overflow_add-at c =
@@ -49,8 +42,8 @@ overflow_add-at c =
     let ends = part-ends c.args.self.now free.before (block Free free.size ∷ free.behind) free.map in
     omega arith
 
-pub page-last-requires-clause-high : goal.page-last-requires-clause-high
-page-last-requires-clause-high c =
+pub page_at-last-requires-clause-high : goal.page_at-last-requires-clause-high
+page_at-last-requires-clause-high c =
     let free = c.requires.free in
     let place = free.place in
     let smaller = c.requires.smaller in

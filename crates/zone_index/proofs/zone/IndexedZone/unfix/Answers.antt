@@ -38,10 +38,3 @@ invariant_of-self c =
           (forgets-read c.place_of-at.result c.place_of-at.result c.self.view_is c.deref_mut.ensures.value c.page-page.ensures.value c.page-page.ensures.value c.forget.ensures) c.args.pointer fits own live));
       lengths = (lengths-of c.note.new.self c.unfix.ensures (lengths-out c.self.inside.zone.heap.table c.self.inside.lengths c.note.new.self c.args.pointer c.number-2.result 0 c.number-2.ensures c.self.invariant.lengths c.note.ensures refl));
     }
-
-pub page-page-requires-clause-high : goal.page-page-requires-clause-high
-page-page-requires-clause-high c =
-    let named = subst (λ (z : ZoneState). NamedAt z c.number.result c.place_of-at.result) (c.self.view_is) c.place_of-at.ensures in
-    let place = named.place in
-    let ends = part-ends c.args.self.now named.before (named.here ∷ named.behind) named.map in
-    omega arith

@@ -1,5 +1,5 @@
 use Rattle.std.proofs.Common.{◌≡◌, ◌++◌, replicate}
-use Rattle.fork_rez.proofs.text.push_commented.Given as goal
+use Rattle.fork_rez.proofs.text.push_blanks.Given as goal
 
 -- the blanks so far
 abbrev pub invariant-loop-blank : goal.invariant-loop-blank

@@ -1,0 +1,147 @@
+"""Checks the texts that resfork rez reads and derez writes, and the folders that pack reads.
+
+Texts by hand give the rows beside them, or are refused in the line and with the words there; a fork gives the text that DeRez writes of it, byte for
+byte. Folders by hand give their rows, or are refused with the words beside what is bad in them.
+"""
+import json
+import os
+import tempfile
+
+from checks.fork_questions import Difference
+from checks.forks import compare, run
+from checks.shown import fork_of, must, write
+from model.change import table_of
+from model.fork import Row
+
+NOTHING = (bytes(240), 0)
+MAP = b"/*resfork: the map's 240 extra bytes and its attributes"
+# the map of tests/checks/shown.py's forks, as its comment
+SOME_MAP = (bytes(range(240)), 3)
+COMMENT = MAP + b"\n\t$\"" + (bytes(range(240)) + b"\0\3").hex(" ", -2).upper().encode() + b"\"\n*/\n\n"
+
+# what DeRez writes of a resource of 18 bytes, but for the dots
+ROW = Row(b"STR ", -128, b'A "b" \x8a', 36, b"\x11Hello, *world*!\r\0")
+TEXT = rb"""data 'STR ' (-128, "A \"b\" \0x8A", purgeable, preload) {
+	$"1148 656C 6C6F 2C20 2A77 6F72 6C64 2A21"            /* .Hello, .world.! */
+	$"0D00"                                               /* .. */
+};
+
+"""
+
+# texts with their rows and the map's bytes
+READ = [
+    (b"// a text\r\ndata'TEXT'(128,$A2)/* a * b **/{\"Hi\\\\\" $\"00 fF\"\n};", [(b"TEXT", 128, None, 0xA2, b"Hi\\\0\xff")], NOTHING),
+    (b"", [], NOTHING),
+    (COMMENT, [], SOME_MAP),
+    ((COMMENT + TEXT).replace(b"\n", b"\r\n"), [(ROW.kind, ROW.ident, ROW.name, ROW.attributes, ROW.data)], SOME_MAP),
+    # the words of the map's comment within a name and within other comments
+    (b"data 'ABCD' (1, \"" + MAP + b"\") {};", [(b"ABCD", 1, MAP, 0, b"")], NOTHING),
+    (b"// " + MAP + b"\n/* " + MAP + b" */", [], NOTHING),
+]
+
+# texts that are refused, with the line and words of what is told
+MISPLACED = "the comment with the map's bytes is read only where it begins the text: move it there, or remove it"
+REFUSED = [
+    (b"// a text\r\ndata'TEXT'(128,$A2)/* a * b **/{\"Hi\\\\\" $\"0 0\"\n};", 2, "two hexadecimal digits are expected"),
+    (b"\n\ndata 'ABC' (1) {};", 3, "a type of four characters is expected"),
+    (b"data 'ABCD' (32768) {};", 1, "an id from -32768 to 32767 is expected"),
+    (b"data 'ABCD' (1, locket) {};", 1, "sysheap, purgeable, locked, protected, preload, or $ and two digits is expected"),
+    (b"data 'ABCD' (1) {\n$\"123\"};", 2, "two hexadecimal digits are expected"),
+    (b"data 'ABCD' (1) {\n\"a\n\"};", 2, "a printable character of ASCII is expected"),
+    (b"data 'ABCD' (1) {}", 1, "`;` is expected"),
+    (b"\n/* open", 2, "the end of a comment is expected"),
+    (b"resource 'ABCD' (1) {};", 1, "`data` is expected, or the end"),
+    (MAP + b"\n$\"00\"\n*/", 1, "the 242 bytes of the map are expected"),
+    (b"// by hand\n" + COMMENT, 2, MISPLACED),
+    (COMMENT + TEXT + COMMENT, 10, MISPLACED),
+    (b"data 'ABCD' (1) {" + COMMENT + b"};", 1, MISPLACED),
+]
+
+# a folder's manifest and files, and their rows
+MANIFEST = {
+    "container": "a MacBinary file",
+    "type": "ttro",
+    "creator": "ttxt",
+    "flags": 256,
+    "created": 3000000000,
+    "modified": None,
+    "extra": "00" * 239 + "fE",
+    "map_attributes": 128,
+    "resources": [
+        {"type": "STR ", "id": -1, "name": None, "attributes": 4, "file": "STR_/-1.bin"},
+        {"type": "\u2122abc", "id": 128, "name": "\u00c4", "attributes": 129, "file": "~%AA~abc/128 %80.bin"},
+    ],
+}
+FILES = {"STR_/-1.bin": b"\x02Hi", "~%AA~abc/128 %80.bin": b"\0"}
+ROWS = [(b"STR ", -1, None, 4, b"\x02Hi"), (b"\xaaabc", 128, b"\x80", 129, b"\0")]
+
+# what makes a manifest a bad one: the fields of its second resource, or its own, with words of what is told
+BAD_ENTRIES = [
+    ({"type": "abc"}, "isn't four characters of MacRoman"),
+    ({"type": "\u4e00abc"}, "isn't four characters of MacRoman"),
+    ({"name": "x" * 256}, "isn't at most 255 characters of MacRoman"),
+    *[({"file": file}, "isn't one in a folder of the folder") for file in ("1.bin", "../1.bin", "a/..", "/1.bin", "a/b/1.bin")],
+]
+BAD_FIELDS = [
+    ({"extra": "00"}, "480 hexadecimal digits"),
+    ({"resources": None}, "it isn't what unpack writes"),
+    ({"map_attributes": 65536}, "it isn't what unpack writes"),
+]
+
+
+def read(path):
+    with open(path, "rb") as file:
+        return file.read()
+
+
+def try_texts(program, folder):
+    """Compares what texts say, and what is written of forks."""
+    text, out = os.path.join(folder, "text"), os.path.join(folder, "out")
+    for given, rows, kept in READ:
+        write(text, given)
+        compare(f"rez {given[:60]}", run(program, ["rez", "-q", text, "-o", out]), 0, b"", "")
+        must(table_of(read(out)) == (rows, kept), f"rez {given[:60]}: other resources are read")
+        os.remove(out)
+    for given, line, words in REFUSED:
+        write(text, given)
+        compare(f"rez {given[:60]}", run(program, ["rez", text, "-o", out]), 3, b"", f"{text}: line {line}: {words}")
+        must(not os.path.exists(out), f"rez {given[:60]}: it is refused, and a file is written")
+    write(text, fork_of([ROW]))
+    compare("derez", run(program, ["derez", text]), 0, COMMENT + TEXT, "")
+    compare("derez -t none", run(program, ["derez", "-t", "none", text]), 0, COMMENT, "")
+
+
+def try_folders(program, folder):
+    """Compares what is packed of folders."""
+    out = os.path.join(folder, "out")
+    for path, data in FILES.items():
+        os.makedirs(os.path.dirname(os.path.join(folder, path)))
+        write(os.path.join(folder, path), data)
+
+    def packed(manifest):
+        write(os.path.join(folder, "resources.json"), json.dumps(manifest).encode())
+        return run(program, ["pack", "-q", folder, out])
+
+    compare("pack", packed(MANIFEST), 0, b"", "")
+    must(table_of(read(out)) == (ROWS, (bytes(239) + b"\xfe", 128)), "pack: other resources are read")
+    os.remove(out)
+    first, second = MANIFEST["resources"]
+    bad = [({"resources": [first, {**second, **fields}]}, words) for fields, words in BAD_ENTRIES] + BAD_FIELDS
+    for fields, words in bad:
+        compare(f"pack {fields}", packed({**MANIFEST, **fields}), 3, b"", words)
+    os.remove(os.path.join(folder, first["file"]))
+    compare("pack without a file", packed(MANIFEST), 4, b"", f"{first['file']} can't be read")
+    must(not os.path.exists(out), "pack: it is refused, and a file is written")
+
+
+def main(program):
+    """Tries all rows."""
+    with tempfile.TemporaryDirectory() as folder:
+        try:
+            try_texts(program, folder)
+            try_folders(program, folder)
+        except Difference as difference:
+            print(difference)
+            return 1
+    print(f"{len(READ)} texts read and {len(REFUSED)} refused, {len(BAD_ENTRIES) + len(BAD_FIELDS)} manifests refused")
+    return 0
