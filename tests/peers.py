@@ -10,7 +10,12 @@ Raw forks are made by t1mac, fontforge, ufond and lumper of a font of this machi
 named are added. Each is put in containers by macstream, binhex, tobin, hcopy, t1mac and Convert::BinHex, and taken out again by unar as
 AppleDouble. Of each raw fork `resfork ls` must list what fontTools and exiftool list; of each other file, what it lists of the fork that went
 into it. Each resource has to have the same bytes by `resfork get`, and the outline fonts that fondu takes out of a fork are those of its
-resources. It stops after 120 seconds, or N.
+resources.
+
+Then resfork writes: each file gets a resource more, which is renamed, and removed again; each fork is written of its text and of the folder that
+it is unpacked to. Of what is written fontTools and exiftool list what resfork lists, FreeType, fontforge, fondu and t1unmac find the fonts of the file
+before, and the fork that macunpack, macsave, frombin, unar, hcopy or hexbin takes out of a container has the resources that resfork lists in it. What was
+changed and changed back has the resources that it had. It stops after 120 seconds, or N.
 """
 import argparse
 import glob
@@ -24,6 +29,7 @@ import tempfile
 import time
 
 from checks.forks import Choices
+from model.container import resource_fork
 from model.fork import NoFork, read_fork
 from places import TOP
 
@@ -94,6 +100,13 @@ class Peers:
             return None
         return done.stdout.decode()
 
+    def does(self, words):
+        """Whether resfork does something, as it should, in silence."""
+        done = subprocess.run([self.resfork, *words], capture_output=True, timeout=60)
+        if done.returncode:
+            self.fault(f"resfork {' '.join(map(os.path.basename, words))}: status {done.returncode}, {(done.stderr or done.stdout).decode(errors='replace').strip()[:200]}")
+        return done.returncode == 0
+
     def datum(self, path, kind, nth, ident):
         words = [self.resfork, "get", path, kind, str(ident)] + (["--nth", str(nth)] if nth > 1 else [])
         done = subprocess.run(words, capture_output=True, timeout=20)
@@ -124,8 +137,10 @@ def python_with_font_tools():
 def beside_font_tools(peers, python, path):
     """Compares the list and all bytes with those that fontTools reads. It is None where fontTools doesn't read the file."""
     done = peers.run([python, "-c", READ, path])
-    if done is None or done.returncode:
-        last = done.stderr.decode(errors="replace").strip().splitlines()[-1:] if done else []
+    if done is None:
+        return
+    if done.returncode:
+        last = done.stderr.decode(errors="replace").strip().splitlines()[-1:]
         peers.failed.append(f"fontTools on {os.path.basename(path)}: {' '.join(last)[:100]}")
         return
     text = peers.listed(path)
@@ -195,6 +210,120 @@ def beside_fork(peers, way, path, fork):
     tried(peers, way)
 
 
+# what programs that read fonts are told of a file: of a raw fork, and of a container of each kind
+FONTS = {
+    "fork": [["ftdump", "-n"], ["fontforge", "-quiet", "-lang=ff", "-c", 'Open($1); Print($fontname, " ", CharCnt())'], ["t1unmac", "--raw"]],
+    "MacBinary": [["ftdump", "-n"], ["t1unmac", "--macbinary"]],
+    "AppleSingle": [["ftdump", "-n"], ["t1unmac", "--applesingle"]],
+    "AppleDouble": [["ftdump", "-n"], ["t1unmac", "--appledouble"]],
+    "BinHex": [["t1unmac", "--binhex"]],
+}
+
+
+def beside_fonts(peers, kind, path, old):
+    """Compares what readers of fonts find in a file with what they find in the one before."""
+    for words in FONTS[kind]:
+        before, after = peers.run([*words, old]), peers.run([*words, path])
+        if before is None or after is None or before.returncode:
+            continue
+        if (after.returncode, after.stdout) != (0, before.stdout):
+            peers.fault(f"{words[0]} finds other fonts in {os.path.basename(path)} than in {os.path.basename(old)}")
+        tried(peers, f"{words[0]} on what resfork writes")
+
+
+# by way of an HFS volume, and as BinHex out of it
+BY_HFS = (
+    'truncate -s 8M v && hformat -l Test v >/dev/null && hmount v >/dev/null && cp "$0" h.bin '
+    "&& hcopy -m h.bin :kept && hcopy -b :kept h.hqx && rm h.bin && hexbin -r h.hqx"
+)
+
+# what takes the resource fork out of a file of each kind, in a folder of its own
+TAKEN = {
+    "MacBinary": [
+        ("macunpack", ["macunpack", "-r"]),
+        ("macsave", ["sh", "-c", 'macsave -r < "$0"']),
+        ("frombin", ["frombin"]),
+        ("unar", ["unar", "-q", "-k", "hidden"]),
+        ("hcopy", ["sh", "-c", BY_HFS]),
+    ],
+    "AppleSingle": [("unar", ["unar", "-q", "-k", "hidden"])],
+    "AppleDouble": [],
+    "BinHex": [("hexbin", ["hexbin", "-r"]), ("unar", ["unar", "-q", "-k", "hidden"])],
+}
+
+
+ENDINGS = {"MacBinary": "bin", "BinHex": "hqx"}
+
+
+def taken_out(peers, words, kind, path):
+    """The fork that a program takes out of a container, as a file, or None."""
+    out, fork = os.path.join(peers.folder, "taken"), os.path.join(peers.folder, "taken.rsrc")
+    shutil.rmtree(out, ignore_errors=True)
+    os.mkdir(out)
+    there = shutil.copy(path, f"{out}.{ENDINGS.get(kind, 'as')}")
+    done = peers.run([*words, there], cwd=out)
+    found = glob.glob(f"{out}/**/*.rsrc", recursive=True) + glob.glob(f"{out}/**/._*", recursive=True)
+    if done is None or done.returncode or len(found) != 1:
+        return None
+    with open(found[0], "rb") as file, open(fork, "wb") as other:
+        other.write(resource_fork(file.read()))
+    return fork
+
+
+def beside_takers(peers, kind, path, old):
+    """Compares the resources of the fork that other programs take out of a container with those that resfork lists in it."""
+    for name, words in TAKEN[kind]:
+        fork = taken_out(peers, words, kind, path)
+        if fork:
+            beside_fork(peers, f"{name} on what resfork writes", path, fork)
+        elif taken_out(peers, words, kind, old):
+            peers.fault(f"{name} takes no fork out of {os.path.basename(path)}, and does so of {os.path.basename(old)}")
+
+
+def beside_all(peers, python, kind, path, old):
+    """Compares a file that resfork wrote with what other programs read in it."""
+    beside_fonts(peers, kind, path, old)
+    if kind != "fork":
+        beside_takers(peers, kind, path, old)
+    elif not os.path.basename(path).startswith("model"):
+        if python:
+            beside_font_tools(peers, python, path)
+        beside_exif_tool(peers, path)
+        beside_fondu(peers, path)
+
+
+def written(peers, python, kind, path):
+    """Has resfork change a file and change it back."""
+    front, ending = os.path.splitext(path)
+    added, back = f"{front}.added{ending}", f"{front}.back{ending}"
+    if (
+        peers.does(["put", "--new", path, "PEER", "-77", "-i", sys.argv[0], "--name", "peers", "-o", added])
+        and peers.does(["set", added, "PEER", "-77", "--id", "77", "--name", "caf\u00e9", "--attrs", "locked,preload"])
+        and peers.does(["rm", added, "PEER", "77", "-o", back])
+        and peers.does(["diff", path, back])
+    ):
+        beside_all(peers, python, kind, added, path)
+        beside_all(peers, python, kind, back, path)
+        tried(peers, "changed and changed back")
+
+
+def made_again(peers, python, kind, path):
+    """Has resfork write a file of its text, and of the folder that it is unpacked to."""
+    front, ending = os.path.splitext(path)
+    text, folder, packed = f"{front}.r", f"{front}.unpacked", f"{front}.packed{ending}"
+    shutil.rmtree(folder, ignore_errors=True)
+    like = [] if kind == "fork" else ["--like", path]
+    if peers.does(["unpack", path, folder]) and peers.does(["pack", *like, folder, packed]) and peers.does(["diff", path, packed]):
+        beside_all(peers, python, kind, packed, path)
+        tried(peers, "unpacked and packed")
+    with open(text, "wb") as file:
+        file.write(subprocess.run([peers.resfork, "derez", path], capture_output=True, timeout=60).stdout)
+    fork = f"{front}.rez.rsrc"
+    if peers.does(["rez", text, "-o", fork]) and peers.does(["diff", path, fork]) and kind == "fork":
+        beside_all(peers, python, kind, fork, path)
+        tried(peers, "text and back")
+
+
 def some_font():
     for path in sorted(glob.glob("/usr/share/fonts/**/*.ttf", recursive=True), key=os.path.getsize):
         return path
@@ -262,19 +391,19 @@ def containers(peers, fork):
 
 
 def by_hcopy(peers, binary, name):
-    """MacBinary and BinHex by way of an HFS volume."""
+    """MacBinary and BinHex by way of an HFS volume. (FreeType takes a longer file with a name of two letters for a font of Windows.)"""
     image = os.path.join(peers.folder, "hfs.img")
     with open(image, "wb") as file:
         file.truncate(8000000)
     inside = os.path.join(peers.folder, "h.bin")
     shutil.copy(binary, inside)
-    for words in (["hformat", "-l", "Test", image], ["hmount", image], ["hcopy", "-m", "h.bin", ":it"]):
+    for words in (["hformat", "-l", "Test", image], ["hmount", image], ["hcopy", "-m", "h.bin", ":kept"]):
         done = peers.run(words)
         if done is None or done.returncode:
             peers.failed += [f"{words[0]} of {name}: {done.stderr.decode(errors='replace').strip()[:100]}"] if done else []
             return
     for flag, ending in (("-m", "hc.bin"), ("-b", "hc.hqx")):
-        path = peers.made(["hcopy", flag, ":it", f"{name}.{ending}"], f"{name}.{ending}")
+        path = peers.made(["hcopy", flag, ":kept", f"{name}.{ending}"], f"{name}.{ending}")
         if path:
             yield f"hcopy {flag}", path
 
@@ -299,6 +428,18 @@ def of_t1mac(peers):
                 yield f"t1mac {flag}", path
 
 
+# the kinds of the containers that tools make
+KINDS = {"macstream": "MacBinary", "tobin": "MacBinary", "hcopy -m": "MacBinary", "unar": "AppleDouble"}
+KINDS |= {way: "BinHex" for way in ("binhex", "Convert::BinHex", "hcopy -b")}
+KINDS |= {f"t1mac --{kind.lower()}": kind for kind in ("MacBinary", "AppleSingle", "AppleDouble", "BinHex")}
+
+
+def written_of(peers, python, way, path):
+    """Has resfork write a container again."""
+    written(peers, python, KINDS[way], path)
+    made_again(peers, python, KINDS[way], path)
+
+
 def main():
     words = argparse.ArgumentParser(description=__doc__, formatter_class=argparse.RawDescriptionHelpFormatter)
     words.add_argument("--resfork", default=os.path.join(TOP, "crates/resfork/out/resfork"))
@@ -316,11 +457,15 @@ def main():
                     beside_font_tools(peers, python, fork)
                 beside_exif_tool(peers, fork)
                 beside_fondu(peers, fork)
+            written(peers, python, "fork", fork)
+            made_again(peers, python, "fork", fork)
             for way, path in containers(peers, fork):
                 beside_fork(peers, way, path, fork)
+                written_of(peers, python, way, path)
         t1 = os.path.join(folder, "t1.rsrc")
         for way, path in of_t1mac(peers) if os.path.exists(t1) else []:
             beside_fork(peers, way, path, t1)
+            written_of(peers, python, way, path)
         over = time.monotonic() > peers.end
     for text in sorted(set(peers.failed)):
         print(f"not compared: {text}")

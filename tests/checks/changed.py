@@ -1,6 +1,6 @@
 """Checks what resfork makes of files that it changes and compares.
 
-Each command is tried on random forks of tests/checks/forks.py, alone and in AppleSingle, AppleDouble and MacBinary I, II and III: what
+Each command is tried on random forks of tests/checks/forks.py, alone and in AppleSingle, AppleDouble, MacBinary I, II, III and BinHex: what
 is read of the new file, and what of it is no resource fork, are those of a model; so is what the command prints. Where nothing changes, the file
 isn't touched. Before them come rows by hand, with their status and what is told. Number: how many random forks.
 """
@@ -284,7 +284,7 @@ def try_fork(program, folder, fork, number, seen):
     """Tries a command of each kind on a fork, in one of the containers."""
     choices = random.Random(number)
     rows, extra = table_of(fork)
-    keep, kept_as, _ = choices.choice([RAW, *KEPT][:-1])
+    keep, kept_as, _ = choices.choice([RAW, *KEPT])
     path, from_path = os.path.join(folder, "in", "file"), os.path.join(folder, "from")
     other = table_of(fork_of([Row(kind, ident, b"from", 0, b"other") for kind, ident in [(b"TEXT", 128), (b"TEXT", 5), (b"new ", 0)]]))[0]
     other += [(*row[:2], None, 4, b"another") for row in rows[:1] if place(other, *row[:2]) is None]

@@ -201,10 +201,10 @@ def told(bench, jobs, same):
 
 
 def containers():
-    """A fork of two resources as it is, and in each container but BinHex, which isn't written: the kind, and the file."""
+    """A fork of two resources as it is, and in each container: the kind, and the file."""
     fork = File(1, [Row(b"TEXT", 128, b"first", 0, b"Hi"), Row(b"TEXT", 129, None, 0x20, bytes(range(256)) * 20)]).fork(lambda row: row.disk)
     yield "a fork", fork
-    for keep, kind, _ in KEPT[:-1]:
+    for keep, kind, _ in KEPT:
         yield kind, keep(fork)
 
 

@@ -9,8 +9,6 @@ mod links;
 mod mem_place;
 mod place;
 mod replacement;
-#[cfg(test)]
-mod tests;
 mod told;
 mod world;
 

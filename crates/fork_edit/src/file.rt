@@ -1,11 +1,11 @@
 //! The table of the resource fork in a file, and the file with another table in its place.
 
-ghost use Rattle.std.specs.Prelude.{◌≡◌, IfErr, IfOk, OnOk};
+ghost use Rattle.std.specs.Prelude.{◌≡◌, true, IfErr, IfOk, OnOk};
 ghost use Rattle.mac_files.specs.Containers.{container_of};
 ghost use Rattle.mac_write.specs.Forks.{with_fork};
 ghost use Rattle.fork_answer.specs.Answer.{IsTableOf};
 ghost use Rattle.fork_answer.specs.Source.{IsForkIn, IsNoForkIn, fork_of};
-ghost use Rattle.fork_edit.specs.Files.{HasTable, IsKeptAs, IsSourceOf};
+ghost use Rattle.fork_edit.specs.Files.{HasTable, IsKeptAs, IsKeptElsewhere, IsSourceOf};
 
 use crate::same::is_same_table;
 use fork_answer::{Found, NoFork, read_table, resource_fork};
@@ -13,20 +13,21 @@ use fork_bytes::fault::{ForkFault, WriteFault};
 use fork_bytes::layout::Limits;
 use fork_bytes::table::Table;
 use fork_bytes::write_fork_within;
-use mac_files::bin_hex::is_bin_hex;
+use mac_files::bin_hex::fault::BinHexFault;
+use mac_files::bin_hex::{is_bin_hex, read_bin_hex};
 use mac_files::container::{Container, Version};
 use mac_files::container_of;
 use mac_write::refusal::Refusal;
-use mac_write::with_fork;
+use mac_write::{text_with_fork, with_fork};
 use std::alloc::Global;
 use thiserror::Error;
 
 /// Why a file isn't written with another table.
 #[derive(Debug, Drop, Error)]
 pub enum NotWritten {
-    /// It is a BinHex text.
-    #[error("a BinHex text can be read, and not be written yet")]
-    Text,
+    /// It is a BinHex text that can't be read.
+    #[error("{0}")]
+    Text(BinHexFault),
     /// The table is too big.
     #[error("more than a resource fork can say: 16777216 bytes of resources, of which each takes 4 more, or names and ids that end 65535 bytes after the type list")]
     TooBig,
@@ -46,6 +47,15 @@ impl From<Refusal> for NotWritten {
         match refusal {
             Refusal::HostFull => NotWritten::HostFull,
             refusal => NotWritten::Container(refusal),
+        }
+    }
+}
+
+impl From<BinHexFault> for NotWritten {
+    fn from(fault: BinHexFault) -> NotWritten {
+        match fault {
+            BinHexFault::HostFull => NotWritten::HostFull,
+            fault => NotWritten::Text(fault),
         }
     }
 }
@@ -109,7 +119,7 @@ fn kept_with(alloc: Global, file: &[u8], fork: Vec<u8>) -> Result<Vec<u8>, NotWr
     match container_of(file) {
         Some(Container::Raw) => kept_alone(alloc, fork),
         Some(container) => kept_in(alloc, container, file, &fork),
-        None if is_bin_hex(file) => Err(NotWritten::Text),
+        None if is_bin_hex(file) => kept_in_text(alloc, file, &fork),
         None => kept_alone(alloc, fork),
     }
 }
@@ -135,5 +145,15 @@ fn kept_in(
 {
     let new = with_fork(alloc, container, file, fork)?;
     read_again(alloc, &new, fork)?;
+    Ok(new)
+}
+
+/// The file of a BinHex text with these bytes as its resource fork. What comes before the text and after it isn't kept.
+fn kept_in_text(alloc: Global, file: &[u8], fork: &[u8]) -> Result<Vec<u8>, NotWritten>
+    ensures found { IfOk result (λ new. IsForkIn new.items fork.now) }
+    ensures kept { IfOk result (λ new. IsKeptElsewhere true file.now fork.now new.items) }
+{
+    let text = read_bin_hex(alloc, file)?;
+    let new = text_with_fork(alloc, &text, fork)?;
     Ok(new)
 }

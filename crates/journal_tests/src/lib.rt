@@ -1,4 +1,5 @@
-//! Tests of the journal: crashes at each moment of an update and of a recovery.
+//! Tests of how files are changed: crashes at each moment of an update with a journal and of a recovery, and each call of a
+//! replacement that fails.
 #![tactic(auto)]
 
 #[cfg(test)]
@@ -7,5 +8,7 @@ mod crashes;
 mod forks;
 #[cfg(test)]
 mod lengths;
+#[cfg(test)]
+mod replacing;
 #[cfg(test)]
 mod sides;

@@ -48,14 +48,14 @@ resource_is version file fork long few =
 
 -- The faults.
 
-lies : (total : ℕ) (part : Part) → part.offset + part.length ≤ total → lies_within total part ≡ true
+pub lies : (total : ℕ) (part : Part) → part.offset + part.length ≤ total → lies_within total part ≡ true
 lies total part h = ap (λ (b : Bool). (part.length == 0) || b) (le-leb (part.offset + part.length) total h) ∙ or_true (part.length == 0)
   where
     or_true : (b : Bool) → (b || true) ≡ true
     or_true true = refl
     or_true false = refl
 
-no_fork_fault : (fork : Fork) (part : Part) (file : List ℕ) → lies_within (length file) part ≡ true → fork_fault fork part file ≡ None
+pub no_fork_fault : (fork : Fork) (part : Part) (file : List ℕ) → lies_within (length file) part ≡ true → fork_fault fork part file ≡ None
 no_fork_fault fork part file is = ap (λ (b : Bool). if b then None else Some (ForkOutside fork part (length file))) is
 
 -- the checksum is that of the header

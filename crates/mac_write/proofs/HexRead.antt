@@ -15,7 +15,7 @@ use Rattle.mac_files.proofs.BinHexFaults.{HasLengths, no_fault}
 use Rattle.mac_write.specs.HexText.{digits, escaped, hex_bytes, hex_header, hex_text, in_lines, with_crc}
 use Rattle.mac_write.proofs.HexDigits.{Reads, text_read}
 use Rattle.mac_write.specs.Bytes.{AreBytes}
-use Rattle.mac_write.proofs.Refused.{append_lt, crc_lt, number_lt}
+use Rattle.mac_write.proofs.Refused.{append_lt, cons_lt, crc_lt, number_lt}
 use Rattle.mac_write.proofs.Segments.{number_at}
 
 -- Parts of joined lists.
@@ -57,7 +57,7 @@ pub crc_small : (bytes : List ℕ) → AreBytes bytes → bin_hex_crc bytes < 65
 crc_small bytes are =
     subst (λ (n : ℕ). n < 65536) (ap crc_of (take_all (length bytes) bytes (omega arith)) ∙ bin_hex_crc_is bytes are) (crc_lt (length bytes) bytes are)
 
-two_lt : (x : ℕ) → AreBytes (big_bytes 2 x)
+pub two_lt : (x : ℕ) → AreBytes (big_bytes 2 x)
 two_lt x zero = omega arith
 two_lt x (suc zero) = omega arith
 two_lt x (suc (suc k)) = omega arith
@@ -167,11 +167,7 @@ header_lt file is (suc k) =
     let are_flags : AreBytes flags = append_lt (big_bytes 2 file.flags) forks (two_lt file.flags) are_forks in
     let are_creator : AreBytes creator = append_lt file.creator flags is.creator are_flags in
     let are_kind : AreBytes kind = append_lt file.kind creator is.kind are_creator in
-    append_lt file.name (0 ∷ kind) is.name (after kind are_kind) k
-  where
-    after : (xs : List ℕ) → AreBytes xs → AreBytes (0 ∷ xs)
-    after xs are zero = omega arith
-    after xs are (suc k) = are k
+    append_lt file.name (0 ∷ kind) is.name (cons_lt 0 kind (omega arith) are_kind) k
 
 -- The file.
 

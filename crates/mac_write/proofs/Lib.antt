@@ -16,4 +16,6 @@ pub mod HexDigits
 pub mod HexLines
 pub mod HexRead
 pub mod Places
+pub mod ReadBinary
 pub mod ReadAgain
+pub mod Held

@@ -1,27 +1,29 @@
 -- What is written is read again.
-use Rattle.std.proofs.Common.{◌≡◌, ℕ, ◌≤◌, ◌<◌, Bool, true, false, List, [], ◌∷◌, length, None, Some, Result, Ok, Err, IfOk, refl, sym, subst, inr, arith}
-use Rattle.std.specs.Prelude.{slice_index, nat_le, nat_lt, ◌==◌, ◌&&◌, if◌then◌else◌}
+use Rattle.std.proofs.Common.{◌≡◌, ◌≢◌, ℕ, ◌≤◌, ◌<◌, Bool, true, false, List, [], ◌∷◌, length, None, Some, Result, Ok, Err, IfOk, refl, sym, subst, inr, arith}
+use Rattle.std.specs.Prelude.{slice_index, nat_le, nat_lt, ◌==◌, ◌&&◌, ◌||◌, if◌then◌else◌}
+use Rattle.std.specs.List.{list_any}
 use Rattle.std.specs.Option.{option_or}
 use Rattle.std.specs.Result.{result_err}
-use Rattle.std.proofs.lemmas.Bool.{and_left, and_right, cond-false, ltb-false, ne_eqb}
+use Rattle.std.proofs.lemmas.Bool.{and_left, and_right, cond-false, eqb-false, ltb-false, ltb-true, ne_eqb}
 use Rattle.std.proofs.lemmas.List.{take_all}
 use Rattle.mac_files.specs.declared.container.Container.TheVariants.{Raw}
 use Rattle.mac_files.specs.BinHex.{is_bin_hex, line_from}
 use Rattle.mac_files.specs.Containers.{container_of, is_fork_header}
 use Rattle.mac_files.specs.MacBinary.{has_form, version_of}
 use Rattle.mac_write.specs.declared.refusal.Refusal.{Refusal}
-use Rattle.mac_write.specs.declared.refusal.Refusal.TheVariants.{NameTooLong, NoName, TooLong}
+use Rattle.mac_write.specs.declared.refusal.Refusal.TheVariants.{CommentTooLong, DateOutside, NameCharacter, NameTooLong, NoName, TooLong}
 use Rattle.mac_write.specs.declared.target.Target.{Target}
 use Rattle.mac_write.specs.declared.target.Target.TheVariants as target
 use Rattle.mac_write.specs.Apple.{length_refusal}
 use Rattle.mac_write.specs.Forks.{Refuses}
 use Rattle.mac_write.specs.HexText.{hex_file, hex_text}
 use Rattle.mac_write.specs.Parts.{IsFile, Parts, no_finder, parts_of}
-use Rattle.mac_write.specs.Targets.{double_text, hex_unwritten, name_length_refusal, single_text, text_of, unwritten}
+use Rattle.mac_write.specs.Targets.{binary_date_refusal, binary_unwritten, name_character_refusal, name_refusal, double_text, hex_unwritten, name_length_refusal, single_text, text_of, unwritten}
 use Rattle.mac_write.specs.Written.{IsReadAgain, IsReadAsText, held}
 use Rattle.mac_files.proofs.Known.{double, single}
 use Rattle.mac_write.proofs.HexRead.{IsHexFile, text_is}
-use Rattle.mac_write.proofs.Refused.{else_none, or_none}
+use Rattle.mac_write.proofs.ReadBinary.{FitsHeader, binary_again}
+use Rattle.mac_write.proofs.Refused.{then_none, else_none, or_none}
 
 -- Lengths that aren't refused.
 
@@ -88,13 +90,50 @@ text_again file is none =
     } in
     record { no_container = text_unknown file; known = text_known file; told = text_is (hex_file file) fits }
 
+-- MacBinary.
+
+no_character : (name : List ℕ) → name_character_refusal name ≡ None → (slice_index name 0 ≢ 22) × (list_any (λ c. c == 0) name ≡ false)
+no_character name none =
+    let both = neither (slice_index name 0 == 22) (list_any (λ c. c == 0) name) (else_none _ NameCharacter none) in
+    (eqb-false (slice_index name 0) 22 both.0, both.1)
+  where
+    neither : (a b : Bool) → (a || b) ≡ false → (a ≡ false) × (b ≡ false)
+    neither true b none = absurd (cc none)
+    neither false b none = (refl, none)
+
+date_fits : (date : ℕ) → binary_date_refusal date ≡ None → date < 4294967296
+date_fits date none = ltb-true date 4294967296 (then_none (nat_lt date 4294967296) (DateOutside date) none)
+
+fits_header : (file : Parts) → binary_unwritten file ≡ None → FitsHeader file
+fits_header file none =
+    let a = or_none (name_refusal file.name) _ none in
+    let name = or_none (name_length_refusal (length file.name)) (name_character_refusal file.name) a.0 in
+    let b = or_none (binary_date_refusal file.created) _ a.1 in
+    let d = or_none (binary_date_refusal file.modified) _ b.1 in
+    let e = or_none (length_refusal (length file.data_fork)) _ d.1 in
+    let f = or_none (length_refusal (length file.resource_fork)) _ e.1 in
+    let size = name_fits (length file.name) name.0 in
+    let characters = no_character file.name name.1 in
+    let high = ltb-false 65535 (length file.comment) (else_none (nat_lt 65535 (length file.comment)) (CommentTooLong (length file.comment)) f.1) in
+    record {
+      some = size.0;
+      short = size.1;
+      first = characters.0;
+      characters = characters.1;
+      created = date_fits file.created b.0;
+      modified = date_fits file.modified d.0;
+      data_fork = length_fits (length file.data_fork) e.0;
+      resource_fork = length_fits (length file.resource_fork) f.0;
+      comment = (let few : length file.comment < 65536 = omega arith in few);
+    }
+
 -- All of them.
 
 pub again : (target : Target) (file : Parts) → IsFile file → unwritten target file ≡ None → IsReadAgain target file (text_of target file)
 again target.Raw file is none = (raw_known file.resource_fork, raw_again file.resource_fork)
 again target.AppleDouble file is none = double (double_text file) refl (inr refl)
 again target.AppleSingle file is none = single (single_text file) refl (inr refl)
-again target.MacBinary file is none = tt
+again target.MacBinary file is none = binary_again file is (fits_header file none)
 again target.BinHex file is none = text_again file is none
 
 -- what was written without a refusal

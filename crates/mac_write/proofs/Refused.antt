@@ -68,6 +68,13 @@ number_lt x (suc (suc zero)) = omega arith
 number_lt x (suc (suc (suc zero))) = omega arith
 number_lt x (suc (suc (suc (suc k)))) = omega arith
 
+pub none_lt : AreBytes []
+none_lt k = omega arith
+
+pub cons_lt : (x : ℕ) (xs : List ℕ) → x < 256 → AreBytes xs → AreBytes (x ∷ xs)
+cons_lt x xs small are zero = small
+cons_lt x xs small are (suc k) = are k
+
 -- the bytes that the checksum is of
 pub counted_lt : (file : List ℕ) (count : ℕ) → AreBytes file → crc_of (take 124 (counted file count)) < 65536
 counted_lt file count bytes =

@@ -6,4 +6,5 @@ pub mod Parts
 pub mod HexText
 pub mod Targets
 pub mod Written
+pub mod Lost
 pub mod Laws

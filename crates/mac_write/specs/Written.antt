@@ -1,7 +1,8 @@
 -- What a file that is written is read as.
-use Rattle.std.specs.Prelude.{◌≡◌, ℕ, List, [], None, Some, Ok, true, ⊤}
+use Rattle.std.specs.Prelude.{◌≡◌, ℕ, List, [], None, Some, Ok, true}
 use Rattle.mac_files.specs.declared.container.Container.{Container}
-use Rattle.mac_files.specs.declared.container.Container.TheVariants.{Raw, AppleSingle, AppleDouble}
+use Rattle.mac_files.specs.declared.container.Container.TheVariants.{Raw, AppleSingle, AppleDouble, MacBinary}
+use Rattle.mac_files.specs.declared.container.Version.TheVariants.{III}
 use Rattle.mac_files.specs.BinHex.{bin_hex_of, is_bin_hex}
 use Rattle.mac_files.specs.Containers.{container_of, fault_of, is_fork_header}
 use Rattle.mac_write.specs.declared.target.Target.{Target}
@@ -43,5 +44,5 @@ abbrev pub IsReadAgain : Target → Parts → List ℕ → Type 0
 IsReadAgain target.Raw file new = (is_fork_header file.resource_fork ≡ true → container_of new ≡ Some Raw) × (parts_of Raw new ≡ held target.Raw file)
 IsReadAgain target.AppleDouble file new = container_of new ≡ Some AppleDouble
 IsReadAgain target.AppleSingle file new = container_of new ≡ Some AppleSingle
-IsReadAgain target.MacBinary file new = ⊤
+IsReadAgain target.MacBinary file new = IsReadAs (MacBinary III) (held target.MacBinary file) new
 IsReadAgain target.BinHex file new = IsReadAsText (held target.BinHex file) new

@@ -60,12 +60,21 @@ fn write_sum(version: Version, header: &mut [u8])
     }
 }
 
+/// Writes the length of the resource fork into a header.
+fn write_length(count: u32, header: &mut [u8])
+    requires { 128 ≤ length header.old }
+    ensures header { header.new ≡ put 87 (big_bytes 4 count) header.old }
+    ensures same_length { length header.new ≡ length header.old }
+{
+    BigEndian::write_u32(&mut header[LENGTH_PLACE..], count);
+}
+
 /// Writes the length of the resource fork into a header, and its checksum.
 fn write_header(version: Version, count: u32, header: &mut [u8])
     requires { 128 ≤ length header.old }
     ensures { header.new ≡ with_sum version (put 87 (big_bytes 4 count) header.old) }
 {
-    BigEndian::write_u32(&mut header[LENGTH_PLACE..], count);
+    write_length(count, header);
     write_sum(version, header);
 }
 

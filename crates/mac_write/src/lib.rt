@@ -7,6 +7,7 @@ mod apple_text;
 mod binary;
 mod binary_text;
 mod bytes;
+pub mod detail;
 mod fork;
 mod hex_text;
 mod known;

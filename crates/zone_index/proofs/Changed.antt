@@ -84,7 +84,7 @@ last_entry z parcel = record {
 }
 
 -- what is over begins at one place
-one_below : (n at : ℕ) → AllBelow (at + 1) at (free_block n)
+pub one_below : (n at : ℕ) → AllBelow (at + 1) at (free_block n)
 one_below n at = elim (n == 0) as (λ b. AllBelow (at + 1) at (cond b [] (block Free n ∷ []))) [ true ↦ tt | false ↦ (omega arith, tt) ]
 
 module _ (z : ZoneState) where
@@ -178,7 +178,7 @@ module _ (z : ZoneState) where
         ends = inr (omega arith);
       }
 
-  pub grown-renews : {x size n at : ℕ} (can : CanGrow z x size n) → at ≡ address_behind z.shape can.before → Renews z (enlarged z can).heap at (at + size)
+  abbrev pub grown-renews : {x size n at : ℕ} (can : CanGrow z x size n) → at ≡ address_behind z.shape can.before → Renews z (enlarged z can).heap at (at + size)
   grown-renews {x} {size} {n} {at} can place =
       let bytes = resized n (bytes_of z.heap.table x) in
       let over = total_size-free_block (can.here.size + can.free - size) in

@@ -1,5 +1,5 @@
 -- Bounds around the block at an address, once it is another.
-use Rattle.std.proofs.Common.{◌≡◌, ℕ, ◌+◌, ◌-◌, ◌*◌, ◌/◌, ◌<◌, ◌≤◌, true, false, List, [], ◌∷◌, ◌++◌, length, length-set, refl, ap, sym, ◌∙◌, subst, append_assoc, arith}
+use Rattle.std.proofs.Common.{◌≡◌, ℕ, ◌+◌, ◌-◌, ◌*◌, ◌/◌, ◌<◌, ◌≤◌, Bool, true, false, List, [], ◌∷◌, ◌++◌, length, length-set, refl, ap, sym, ◌∙◌, subst, append_assoc, arith}
 use Rattle.std.specs.Prelude.{◌&&◌, max, min, slice_index}
 use Rattle.mac_base.specs.declared.block.Entry.{Entry}
 use Rattle.mac_base.specs.Gap.{is_fixed}
@@ -17,7 +17,7 @@ use Rattle.zone_index.specs.Runs.{FrontAt, none_fixed}
 use Rattle.zone_index.specs.declared.around.Around.{Around}
 use Rattle.zone_index.specs.Around.{IsAround}
 use Rattle.zone_index.specs.Bounds.{AreBounds}
-use Rattle.zone_index.specs.Raised.{Joined, Parted, Raised, RaisedBut, most_room}
+use Rattle.zone_index.specs.Raised.{Higher, Joined, Parted, Raised, RaisedBut, most_room}
 use Rattle.zone_index.proofs.Budget.{Alike}
 use Rattle.zone_index.proofs.Fronts.{split_entry}
 use Rattle.zone_index.proofs.Lowering.{at_others, bounds-but, none-at_fixed, none-behind_loose, unlowered, unlowered-raised}
@@ -143,12 +143,16 @@ module _ (z : ZoneState) (at : ℕ) (gap : Around) (g : IsAround z at gap) (e : 
 
     pub resized-around : (freed : ℕ) → is_fixed heap.table is.kind ≡ is_fixed z.heap.table e.here.kind → none_fixed z.heap.table rest ≡ true → none_fixed heap.table more ≡ true
         → free_bytes (is ∷ more) ≤ free_bytes rest + freed → free_bytes more ≤ free_bytes rest + freed
-        → Raised old new ((gap.start - gap.base) / 4) (slice_index old ((gap.start - gap.base) / 4) + freed) → Raised old new ((end - gap.base) / 4) (slice_index old ((gap.end - gap.base) / 4) + freed)
-        → AreBounds (with_heap heap z) new
+        → (is_fixed z.heap.table e.here.kind ≡ false → Raised old new ((gap.start - gap.base) / 4) (slice_index old ((gap.start - gap.base) / 4) + freed))
+        → (is_fixed z.heap.table e.here.kind ≡ true → Raised old new ((end - gap.base) / 4) (slice_index old ((gap.end - gap.base) / 4) + freed)) → AreBounds (with_heap heap z) new
     resized-around freed same loose_rest loose_more bytes behind low high =
-        bounds-resized z heap old new a within-around low.higher
+        bounds-resized z heap old new a within-around (higher (is_fixed z.heap.table e.here.kind) refl)
         (record { front = e.before; was = e.here; old = rest; is = is; new = more; back = back; map_was = e.map ∙ ap (λ m. e.before ++ e.here ∷ m) map_was; map_is = map_is; same_front = same_front; same_back = same_back; sizes = sizes })
         freed same loose_rest loose_more bytes behind
-        (subst (λ p. min (slice_index old p + freed) most_room ≤ slice_index new p) place_start low.high)
-        (subst (λ p. min (slice_index old (place z.shape (address_behind z.shape [] + total_size e.before + e.here.size)) + freed) most_room ≤ slice_index new p) here_end
-        (subst (λ q. min (slice_index old q + freed) most_room ≤ slice_index new ((end - gap.base) / 4)) place_end high.high))
+        (λ loose. subst (λ p. min (slice_index old p + freed) most_room ≤ slice_index new p) place_start (low loose).high)
+        (λ fixed. subst (λ p. min (slice_index old (place z.shape (address_behind z.shape [] + total_size e.before + e.here.size)) + freed) most_room ≤ slice_index new p) here_end
+        (subst (λ q. min (slice_index old q + freed) most_room ≤ slice_index new ((end - gap.base) / 4)) place_end (high fixed).high))
+      where
+        higher : (b : Bool) → is_fixed z.heap.table e.here.kind ≡ b → Higher old new
+        higher true fixed = (high fixed).higher
+        higher false loose = (low loose).higher

@@ -7,7 +7,7 @@ use Rattle.mac_base.specs.ZoneState.{ZoneState, with_heap}
 use Rattle.zone_index.specs.Runs.{none_fixed}
 use Rattle.zone_index.specs.Bounds.{AreBounds}
 use Rattle.zone_index.specs.Weights.{weights}
-use Rattle.zone_index.proofs.Budget.{alike-weights}
+use Rattle.zone_index.proofs.Budget.{Alike, alike-weights}
 use Rattle.zone_index.proofs.Changed.{Renews}
 use Rattle.zone_index.proofs.Leaves.{loose-loose}
 use Rattle.zone_index.proofs.Renewed.{bound_in, bounds-still}
@@ -34,19 +34,24 @@ bounds-rearranged z heap bounds a r loose_was loose_is fewer sizes =
       };
     })
 
--- so where only the table changes, and all blocks weigh the same
+-- so where only the table changes, and the same blocks are fixed
+pub bounds-alike : (z : ZoneState) (u : HandleTable) (slots : List ℕ) (bounds : List ℕ) → AreBounds z bounds → Alike z.heap.table u z.heap.map → AreBounds (with_heap (record { table = u; map = z.heap.map; free_slots = slots }) z) bounds
+bounds-alike z u slots bounds a same =
+    bounds-still z (record { table = u; map = z.heap.map; free_slots = slots }) bounds a (record {
+      front = [];
+      was = [];
+      is = [];
+      back = z.heap.map;
+      map_was = refl;
+      map_is = refl;
+      replaces = record {
+        before = record { same = tt; run = last_run z.heap.table [] };
+        higher = λ x. omega arith;
+        leaves = loose-loose z.heap.table u (bound_in z.shape bounds) (bound_in z.shape bounds) _ (address_behind z.shape [] + 0) [] [] refl refl (omega arith);
+        behind = behind-same z.heap.table u (bound_in z.shape bounds) (bound_in z.shape bounds) (address_behind z.shape [] + 0) [] [] z.heap.map same (λ x. omega arith) refl;
+      };
+    })
+
+-- as where all weigh the same
 pub bounds-table : (z : ZoneState) (u : HandleTable) (slots : List ℕ) (bounds : List ℕ) → AreBounds z bounds → weights u z.heap.map ≡ weights z.heap.table z.heap.map → AreBounds (with_heap (record { table = u; map = z.heap.map; free_slots = slots }) z) bounds
-bounds-table z u slots bounds a same = bounds-rearranged z (record { table = u; map = z.heap.map; free_slots = slots }) bounds a {from = address_behind z.shape []} {to = address_behind z.shape []} (record {
-  front = [];
-  was = [];
-  is = [];
-  back = z.heap.map;
-  map_was = refl;
-  map_is = refl;
-  same_front = refl;
-  same_back = same;
-  place = refl;
-  below_was = tt;
-  below_is = tt;
-  ends = inr refl;
-}) refl refl (omega arith) refl
+bounds-table z u slots bounds a same = bounds-alike z u slots bounds a (alike-weights z.heap.table u z.heap.map same)

@@ -95,23 +95,21 @@ module _ (z : ZoneState) (heap : Heap) (old new : List ℕ) (a : AreBounds z old
       by_fixed d raised false was =
           loose-fixed z.heap.table heap.table (bound_in z.shape old) (lifted_in z.shape d new) start here (r.was ∷ []) r.is (and_from _ _ (ap not was) refl) fixed (let same = same_end d in let bytes = few in omega arith)
 
-  -- a block of another size in its place: it is fixed as before, and the gap around or behind it has the bytes that are freed
+  -- a block of another size in its place: it is fixed as before, and the gap around it or that behind it has the bytes that are freed
   pub bounds-resized : (freed : ℕ) → is_fixed heap.table r.is.kind ≡ is_fixed z.heap.table r.was.kind → none_fixed z.heap.table r.old ≡ true → none_fixed heap.table r.new ≡ true
       → free_bytes (r.is ∷ r.new) ≤ free_bytes r.old + freed → free_bytes r.new ≤ free_bytes r.old + freed
-      → min (slice_index old (place z.shape start) + freed) most_room ≤ slice_index new (place z.shape start)
-      → min (slice_index old (place z.shape (here + r.was.size)) + freed) most_room ≤ slice_index new (place z.shape (here + r.is.size)) → AreBounds (with_heap heap z) new
+      → (is_fixed z.heap.table r.was.kind ≡ false → min (slice_index old (place z.shape start) + freed) most_room ≤ slice_index new (place z.shape start))
+      → (is_fixed z.heap.table r.was.kind ≡ true → min (slice_index old (place z.shape (here + r.was.size)) + freed) most_room ≤ slice_index new (place z.shape (here + r.is.size))) → AreBounds (with_heap heap z) new
   bounds-resized freed same loose_old loose_new bytes behind low high =
       let d : ℕ = slice_index old (place z.shape start) + freed + (slice_index old (place z.shape (here + r.was.size)) + freed) in
-      renewed d
-      (by_fixed d (lifted-high d (slice_index old (place z.shape start) + freed) (slice_index new (place z.shape start)) (omega arith) low)
-      (lifted-high d (slice_index old (place z.shape (here + r.was.size)) + freed) (slice_index new (place z.shape (here + r.is.size))) (omega arith) high)
-      (is_fixed z.heap.table r.was.kind) refl)
+      renewed d (by_fixed d (omega arith) (omega arith) (is_fixed z.heap.table r.was.kind) refl)
     where
-      by_fixed : (d : ℕ) → slice_index old (place z.shape start) + freed ≤ lifted_in z.shape d new start
-          → slice_index old (place z.shape (here + r.was.size)) + freed ≤ lifted_in z.shape d new (here + r.is.size)
+      by_fixed : (d : ℕ) → slice_index old (place z.shape start) + freed ≤ d → slice_index old (place z.shape (here + r.was.size)) + freed ≤ d
           → (b : Bool) → is_fixed z.heap.table r.was.kind ≡ b → Leaves z.heap.table heap.table (bound_in z.shape old) (lifted_in z.shape d new) start here (r.was ∷ r.old) (r.is ∷ r.new)
-      by_fixed d raised_low raised_high true was =
+      by_fixed d few_low few_high true was =
+          let raised = lifted-high d (slice_index old (place z.shape (here + r.was.size)) + freed) (slice_index new (place z.shape (here + r.is.size))) few_high (high was) in
           fixed-fixed z.heap.table heap.table (bound_in z.shape old) (lifted_in z.shape d new) start here r.was r.old r.is r.new was loose_old (same ∙ was) loose_new (omega arith)
-      by_fixed d raised_low raised_high false was =
+      by_fixed d few_low few_high false was =
+          let raised = lifted-high d (slice_index old (place z.shape start) + freed) (slice_index new (place z.shape start)) few_low (low was) in
           loose-loose z.heap.table heap.table (bound_in z.shape old) (lifted_in z.shape d new) start here (r.was ∷ r.old) (r.is ∷ r.new)
           (and_from _ _ (ap not was) loose_old) (and_from _ _ (ap not (same ∙ was)) loose_new) (omega arith)

@@ -1,5 +1,5 @@
 -- Changes of a block's size, for which the bounds of the gaps around it are raised.
-use Rattle.std.proofs.Common.{◌≡◌, ℕ, ◌+◌, ◌-◌, ◌/◌, ◌≤◌, ◌<◌, true, false, cond, List, [], ◌∷◌, ◌++◌, length, refl, ap, sym, ◌∙◌, append_assoc, arith}
+use Rattle.std.proofs.Common.{◌≡◌, ℕ, ◌+◌, ◌-◌, ◌/◌, ◌≤◌, ◌<◌, true, false, not, cond, List, [], ◌∷◌, ◌++◌, length, refl, ap, sym, ◌∙◌, subst, append_assoc, arith}
 use Rattle.std.specs.Prelude.{slice_index, ◌==◌}
 use Rattle.mac_base.specs.declared.block.Entry.{Entry}
 use Rattle.mac_base.specs.declared.block.Kind.TheVariants.{Free}
@@ -12,6 +12,10 @@ use Rattle.linked_zone.specs.Changes.{held_there, enlarged}
 use Rattle.linked_zone.specs.Places.{CanGrow, CanHold, EntryAt, NamedAt}
 use Rattle.zone_index.specs.Runs.{none_fixed}
 use Rattle.zone_index.specs.declared.around.Around.{Around}
+use Rattle.std.proofs.lemmas.Bool.{and_from, false≢true}
+use Rattle.mac_base.specs.Gap.{is_fixed}
+use Rattle.zone_index.proofs.Changed.{grown-renews}
+use Rattle.zone_index.proofs.Kept.{bounds-rearranged}
 use Rattle.zone_index.specs.Around.{IsAround}
 use Rattle.zone_index.specs.Bounds.{AreBounds}
 use Rattle.zone_index.specs.Raised.{Raised}
@@ -32,11 +36,6 @@ over_bytes n = elim (n == 0) as (λ b. free_bytes (cond b [] (block Free n ∷ [
 -- a block that x names has no free bytes
 named_bytes : (x : ℕ) (e : Entry) → is_named x e.kind ≡ true → free_size e ≡ 0
 named_bytes x e named = ap (λ b. cond b e.size 0) (named-used x e.kind named)
-
--- raised where the gap around or before a block begins, and where the block ends now
-pub record Shifted (old new : List ℕ) (gap : Around) (stop n : ℕ) : Type 0 where
-  pub start : Raised old new ((gap.start - gap.base) / 4) (slice_index old ((gap.start - gap.base) / 4) + n)
-  pub end : Raised old new ((stop - gap.base) / 4) (slice_index old ((gap.end - gap.base) / 4) + n)
 
 module _ (z : ZoneState) (x at : ℕ) (gap : Around) (g : IsAround z at gap) (b : NamedAt z x at) where
   pub same_place : (before : ZoneMap) (here : Entry) (behind : ZoneMap) → z.heap.map ≡ before ++ here ∷ behind → is_named x here.kind ≡ true → at ≡ address_behind z.shape before
@@ -71,8 +70,9 @@ module _ (z : ZoneState) (x at : ℕ) (gap : Around) (g : IsAround z at gap) (b 
   end-place bounds a end high = let places = a.places in let base = g.base in omega arith
 
   module _ (old new : List ℕ) (a : AreBounds z old) where
-    pub bounds-held : {size n : ℕ} (can : CanHold z x size n) → Shifted old new gap (at + size) (gap.end - at - size) → AreBounds (held_there z can) new
-    bounds-held {size = size} {n = n} can raised =
+    pub bounds-held : {size n : ℕ} (can : CanHold z x size n) → (is_fixed z.heap.table can.here.kind ≡ false → Raised old new ((gap.start - gap.base) / 4) (slice_index old ((gap.start - gap.base) / 4) + (gap.end - at - size)))
+        → (is_fixed z.heap.table can.here.kind ≡ true → Raised old new ((at + size - gap.base) / 4) (slice_index old ((gap.end - gap.base) / 4) + (gap.end - at - size))) → AreBounds (held_there z can) new
+    bounds-held {size = size} {n = n} can loose fixed =
         let locks = locks-bytes x (resized n (bytes_of z.heap.table x)) z.heap.table in
         let over = total_size-free_block (can.here.size - size) in
         let bytes = over_bytes (can.here.size - size) in
@@ -82,10 +82,10 @@ module _ (z : ZoneState) (x at : ℕ) (gap : Around) (g : IsAround z at gap) (b 
         resized-around z at gap g (hold_entry can) (held_there z can).heap old new a [] (block can.here.kind size) (free_block (can.here.size - size)) can.behind (at + size) refl (append_assoc can.before (block can.here.kind size ∷ free_block (can.here.size - size)) can.behind) (omega arith) refl
         (alike-weights z.heap.table (held_there z can).heap.table can.before (weights-bytes z.heap.table x _ can.before)) (alike-weights z.heap.table (held_there z can).heap.table can.behind (weights-bytes z.heap.table x _ can.behind))
         (gap.end - at - size) (kind-locks z.heap.table (held_there z can).heap.table locks can.here.kind) refl (over_loose (held_there z can).heap.table (can.here.size - size))
-        (omega arith) (omega arith) raised.start raised.end
+        (omega arith) (omega arith) loose fixed
 
-    pub bounds-grown : {size n : ℕ} (can : CanGrow z x size n) → Shifted old new gap (at + size) 0 → AreBounds (enlarged z can) new
-    bounds-grown {size = size} {n = n} can raised =
+    pub bounds-grown : {size n : ℕ} (can : CanGrow z x size n) → is_fixed z.heap.table can.here.kind ≡ true → Raised old new ((at + size - gap.base) / 4) (slice_index old ((gap.end - gap.base) / 4)) → AreBounds (enlarged z can) new
+    bounds-grown {size = size} {n = n} can fixed raised =
         let locks = locks-bytes x (resized n (bytes_of z.heap.table x)) z.heap.table in
         let over = total_size-free_block (can.here.size + can.free - size) in
         let bytes = over_bytes (can.here.size + can.free - size) in
@@ -95,4 +95,17 @@ module _ (z : ZoneState) (x at : ℕ) (gap : Around) (g : IsAround z at gap) (b 
         resized-around z at gap g (grow_entry can) (enlarged z can).heap old new a (block Free can.free ∷ []) (block can.here.kind size) (free_block (can.here.size + can.free - size)) can.behind (at + size) refl (append_assoc can.before (block can.here.kind size ∷ free_block (can.here.size + can.free - size)) can.behind) (omega arith) refl
         (alike-weights z.heap.table (enlarged z can).heap.table can.before (weights-bytes z.heap.table x _ can.before)) (alike-weights z.heap.table (enlarged z can).heap.table can.behind (weights-bytes z.heap.table x _ can.behind))
         0 (kind-locks z.heap.table (enlarged z can).heap.table locks can.here.kind) refl (over_loose (enlarged z can).heap.table (can.here.size + can.free - size))
-        (omega arith) (omega arith) raised.start raised.end
+        (omega arith) (omega arith) (λ loose. absurd (false≢true (sym loose ∙ fixed)))
+        (λ _. subst (λ n. Raised old new ((at + size - gap.base) / 4) n) (let e : slice_index old ((gap.end - gap.base) / 4) ≡ slice_index old ((gap.end - gap.base) / 4) + 0 = omega arith in e) raised)
+
+-- a block that isn't fixed grows within its gap
+pub bounds-grown_loose : (z : ZoneState) (bounds : List ℕ) → AreBounds z bounds → {x size n at : ℕ} (can : CanGrow z x size n) → at ≡ address_behind z.shape can.before → is_fixed z.heap.table can.here.kind ≡ false → AreBounds (enlarged z can) bounds
+bounds-grown_loose z bounds a {x} {size} {n} can place loose =
+    let locks = locks-bytes x (resized n (bytes_of z.heap.table x)) z.heap.table in
+    let now = kind-locks z.heap.table (enlarged z can).heap.table locks can.here.kind ∙ loose in
+    let over = total_size-free_block (can.here.size + can.free - size) in
+    let bytes = over_bytes (can.here.size + can.free - size) in
+    let none : free_size (block can.here.kind size) ≡ 0 = named_bytes x (block can.here.kind size) can.named in
+    let within = can.fits.within in
+    let larger = can.larger in
+    bounds-rearranged z (enlarged z can).heap bounds a (grown-renews z can place) (and_from _ _ (ap not loose) refl) (and_from _ _ (ap not now) (over_loose (enlarged z can).heap.table (can.here.size + can.free - size))) (omega arith) (omega arith)

@@ -1,12 +1,12 @@
 //! The changes of a zone. Each keeps the index right: it turns the marks of the blocks that it changes, raises the bounds of their gaps,
 //! forgets the sums of their pages, and notes how many bytes a handle has then.
 
-use crate::around::gap_around;
+use crate::around::{gap_around, lengthen, relock, shorten};
 use crate::fixed::gap_start;
 use crate::marking::{carry, sink, write};
 use crate::pages::forget;
 use crate::purging::may_purge;
-use crate::raise::{bound_at, join, part, raise, shift, turn};
+use crate::raise::{bound_at, join, part, raise};
 use crate::zone::IndexedZone;
 use mac_base::block::Flags;
 use mac_base::handle::{Handle, Ptr};
@@ -218,11 +218,10 @@ impl IndexedZone {
         let place = self.place(at);
         let page = self.page(at);
         forget(&mut self.pages, page, page);
-        let gap = gap_around(&self.zone, &self.marks, at);
+        relock(&self.zone, &self.marks, &mut self.bounds, handle, at, flags);
         write(&mut self.marks, place, u8::from(flags.lock));
         write(&mut self.purgeable, place, u8::from(may_purge(flags)));
         self.zone.set_flags(handle, flags);
-        turn(&mut self.bounds, gap, at, flags.lock);
     }
 
     /// The block of a handle in a new place: the free block at an address is its block now, with `length` bytes: those
@@ -262,9 +261,16 @@ impl IndexedZone {
         let first = self.page(at);
         let last = self.page_at(at + size);
         forget(&mut self.pages, first, last);
-        let gap = gap_around(&self.zone, &self.marks, at);
+        shorten(
+            &self.zone,
+            &self.marks,
+            &mut self.bounds,
+            block,
+            at,
+            size,
+            length,
+        );
         self.zone.hold(block, size, length);
-        shift(&mut self.bounds, gap, at + size, gap.end - at - size);
         self.lengths.note(block, length);
     }
 
@@ -280,9 +286,16 @@ impl IndexedZone {
         let first = self.page(at);
         let last = self.page_at(at + size);
         forget(&mut self.pages, first, last);
-        let gap = gap_around(&self.zone, &self.marks, at);
+        lengthen(
+            &self.zone,
+            &self.marks,
+            &mut self.bounds,
+            block,
+            at,
+            size,
+            length,
+        );
         self.zone.grow(block, size, length);
-        shift(&mut self.bounds, gap, at + size, 0);
         self.lengths.note(block, length);
     }
 

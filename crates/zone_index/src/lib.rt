@@ -14,7 +14,6 @@ mod pages;
 mod purging;
 mod raise;
 mod search;
-mod span;
 mod sums;
 mod weight;
 mod zone;

@@ -86,19 +86,3 @@ pub fn turn(bounds: &mut Sizes, gap: Around, at: u32, fixed: bool)
         join(bounds, gap, 0);
     }
 }
-
-/// A block ends elsewhere, and `freed` bytes around or behind it are free.
-pub fn shift(bounds: &mut Sizes, gap: Around, end: u32, freed: u32)
-    requires low { gap.base ≤ gap.start }
-    requires order { gap.start ≤ gap.end }
-    requires here { gap.base ≤ end }
-    requires high { (gap.end - gap.base) / 4 < length bounds.old }
-    requires inside { (end - gap.base) / 4 < length bounds.old }
-    ensures start { Raised bounds.old bounds.new ((gap.start - gap.base) / 4) (slice_index bounds.old ((gap.start - gap.base) / 4) + freed) }
-    ensures end { Raised bounds.old bounds.new ((end - gap.base) / 4) (slice_index bounds.old ((gap.end - gap.base) / 4) + freed) }
-{
-    let before = bound_at(bounds, gap.base, gap.start);
-    let behind = bound_at(bounds, gap.base, gap.end);
-    raise(bounds, gap.base, gap.start, before.saturating_add(freed));
-    raise(bounds, gap.base, end, behind.saturating_add(freed));
-}

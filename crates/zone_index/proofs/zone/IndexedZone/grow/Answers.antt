@@ -11,7 +11,6 @@ use Rattle.mac_base.specs.ZoneMap.{block}
 use Rattle.linked_zone.specs.Fit.{Fits}
 use Rattle.zone_index.specs.Bounds.{AreBounds}
 use Rattle.zone_index.proofs.Named.{named-owner}
-use Rattle.zone_index.proofs.Resizing.{bounds-grown, grow-end, end-place}
 use Rattle.zone_index.proofs.PagesKept.{forgets-read, named-place, pages-kept, part-ends}
 use Rattle.zone_index.proofs.Changing.{pages-grown}
 use Rattle.zone_index.proofs.Measured.{lengths-of, lengths-sized}
@@ -23,11 +22,7 @@ invariant_of-self c =
     let keep : (r : Rule) (marks : List ℕ) → AreMarked r.test c.self.inside.zone marks → AreMarked r.test c.grow.new.self marks = λ r marks are. subst (λ (z : ZoneState). AreMarked r.test z marks) (sym (c.grow.ensures can)) (enlarged-marked r c.self.inside.zone marks are can) in record {
       fixed = keep fixes _ c.self.invariant.fixed;
       purgeable = keep goes _ c.self.invariant.purgeable;
-      bounds = (let can = subst (λ (z : ZoneState). CanGrow z c.args.block c.args.size c.args.length) (sym c.self.view_is) c.requires.room in
-          let named = c.place_of-at.ensures in
-          subst (λ (z : ZoneState). AreBounds z c.shift.new.bounds) (sym (c.grow.ensures can))
-          (bounds-grown c.self.inside.zone c.args.block c.place_of-at.result c.gap_around-gap.result c.gap_around-gap.ensures named c.self.inside.bounds c.shift.new.bounds c.self.invariant.bounds can
-          (record { start = c.shift.ensures.start; end = c.shift.ensures.end })));
+      bounds = subst (λ (z : ZoneState). AreBounds z c.lengthen.new.bounds) (sym (c.grow.ensures can)) (c.lengthen.ensures can);
       pages = (let can = subst (λ (z : ZoneState). CanGrow z c.args.block c.args.size c.args.length) (sym c.self.view_is) c.requires.room in
           let named = c.place_of-at.ensures in
           let fits = c.spec-spec.ensures.fits in
@@ -62,15 +57,6 @@ overflow_add-at c =
     let within = can.fits.within in
     let reach = c.page-first.ensures.reach in
     omega arith
-
-pub shift-requires-clause-inside : goal.shift-requires-clause-inside
-shift-requires-clause-inside c =
-    let can = subst (λ (z : ZoneState). CanGrow z c.args.block c.args.size c.args.length) (sym c.self.view_is) c.requires.room in
-    let named = c.place_of-at.ensures in
-    let high = grow-end c.self.inside.zone c.args.block c.place_of-at.result c.gap_around-gap.result c.gap_around-gap.ensures named can in
-    let top = c.gap_around-gap.ensures.high in
-    let base = c.gap_around-gap.ensures.base in
-    end-place c.self.inside.zone c.args.block c.place_of-at.result c.gap_around-gap.result c.gap_around-gap.ensures named c.self.inside.bounds c.self.invariant.bounds (c.place_of-at.result + c.args.size) (omega arith)
 
 pub page_at-last-requires-clause-low : goal.page_at-last-requires-clause-low
 page_at-last-requires-clause-low c =

@@ -9,7 +9,6 @@ use Rattle.mac_base.specs.HandleTable.{has_block}
 use Rattle.linked_zone.specs.Fit.{Fits}
 use Rattle.zone_index.specs.Bounds.{AreBounds}
 use Rattle.zone_index.proofs.Named.{named-owner}
-use Rattle.zone_index.proofs.Resizing.{bounds-held, hold-end, end-place}
 use Rattle.zone_index.proofs.PagesKept.{forgets-read, named-place, pages-kept, part-ends}
 use Rattle.zone_index.proofs.Changing.{pages-held}
 use Rattle.zone_index.proofs.Measured.{lengths-of, lengths-sized}
@@ -21,11 +20,7 @@ invariant_of-self c =
     let keep : (r : Rule) (marks : List ℕ) → AreMarked r.test c.self.inside.zone marks → AreMarked r.test c.hold.new.self marks = λ r marks are. subst (λ (z : ZoneState). AreMarked r.test z marks) (sym (c.hold.ensures can)) (held-marked r c.self.inside.zone marks are can) in record {
       fixed = keep fixes _ c.self.invariant.fixed;
       purgeable = keep goes _ c.self.invariant.purgeable;
-      bounds = (let can = subst (λ (z : ZoneState). CanHold z c.args.block c.args.size c.args.length) (sym c.self.view_is) c.requires.room in
-          let named = c.place_of-at.ensures in
-          subst (λ (z : ZoneState). AreBounds z c.shift.new.bounds) (sym (c.hold.ensures can))
-          (bounds-held c.self.inside.zone c.args.block c.place_of-at.result c.gap_around-gap.result c.gap_around-gap.ensures named c.self.inside.bounds c.shift.new.bounds c.self.invariant.bounds can
-          (record { start = c.shift.ensures.start; end = c.shift.ensures.end })));
+      bounds = subst (λ (z : ZoneState). AreBounds z c.shorten.new.bounds) (sym (c.hold.ensures can)) (c.shorten.ensures can);
       pages = (let can = subst (λ (z : ZoneState). CanHold z c.args.block c.args.size c.args.length) (sym c.self.view_is) c.requires.room in
           let named = c.place_of-at.ensures in
           let fits = c.spec-spec.ensures.fits in
@@ -59,22 +54,6 @@ overflow_add-at c =
     let ends = part-ends c.args.self.now can.before (can.here ∷ can.behind) can.map in
     let within = can.fits.within in
     let reach = c.page-first.ensures.reach in
-    omega arith
-
-pub shift-requires-clause-inside : goal.shift-requires-clause-inside
-shift-requires-clause-inside c =
-    let can = subst (λ (z : ZoneState). CanHold z c.args.block c.args.size c.args.length) (sym c.self.view_is) c.requires.room in
-    let named = c.place_of-at.ensures in
-    let high = hold-end c.self.inside.zone c.args.block c.place_of-at.result c.gap_around-gap.result c.gap_around-gap.ensures named can in
-    let top = c.gap_around-gap.ensures.high in
-    let base = c.gap_around-gap.ensures.base in
-    end-place c.self.inside.zone c.args.block c.place_of-at.result c.gap_around-gap.result c.gap_around-gap.ensures named c.self.inside.bounds c.self.invariant.bounds (c.place_of-at.result + c.args.size) (omega arith)
-
-pub overflow_sub-gap-2 : goal.overflow_sub-gap-2
-overflow_sub-gap-2 c =
-    let can = subst (λ (z : ZoneState). CanHold z c.args.block c.args.size c.args.length) (sym c.self.view_is) c.requires.room in
-    let named = c.place_of-at.ensures in
-    let high = hold-end c.self.inside.zone c.args.block c.place_of-at.result c.gap_around-gap.result c.gap_around-gap.ensures named can in
     omega arith
 
 pub page_at-last-requires-clause-low : goal.page_at-last-requires-clause-low

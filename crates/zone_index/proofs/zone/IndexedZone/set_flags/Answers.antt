@@ -12,7 +12,6 @@ use Rattle.zone_index.proofs.Rules.{fixes, goes}
 use mir.Val.{bool_byte}
 use Rattle.linked_zone.specs.Places.{BlockOf}
 use Rattle.zone_index.specs.Bounds.{AreBounds}
-use Rattle.zone_index.proofs.Opening.{bounds-flagged}
 use Rattle.mac_base.specs.ZoneMap.{block}
 use Rattle.mac_base.specs.declared.block.Kind.TheVariants.{Rel}
 use Rattle.zone_index.proofs.Changing.{pages-flagged}
@@ -33,9 +32,7 @@ invariant_of-self c =
       purgeable = subst (λ (z : ZoneState). AreMarked may_go z c.write-2.new.marks) (sym c.set_flags.ensures)
           (subst (AreMarked may_go (flagged c.args.handle c.args.flags z)) (sym (c.write-2.ensures ∙ ap (λ p. set c.self.inside.purgeable p c.from-2.result) p.value))
           (flagged-marked goes z c.self.inside.purgeable c.self.invariant.purgeable c.args.handle c.block_of-at.result c.args.flags fits p.sizes full c.block_of-at.ensures p.inside c.from-2.result (λ is. goes_now ∙ ap bool_byte is) (λ is. goes_now ∙ ap bool_byte is)));
-      bounds = (let own = c.block_of-at.ensures in
-          subst (λ (z : ZoneState). AreBounds z c.turn.new.bounds) (sym c.set_flags.ensures)
-          (bounds-flagged c.self.inside.zone c.self.inside.bounds c.turn.new.bounds c.self.invariant.bounds c.block_of-at.result c.gap_around-gap.result c.gap_around-gap.ensures c.args.handle c.args.flags own c.turn.ensures.parted c.turn.ensures.joined));
+      bounds = subst (λ (z : ZoneState). AreBounds z c.relock.new.bounds) (sym c.set_flags.ensures) c.relock.ensures;
       pages = (let own = c.block_of-at.ensures in
           let fits = subst Fits (sym c.self.view_is) c.page-page.ensures.fits in
           pages-kept c.self.inside.pages c.forget.new.pages (c.forget.auto.pages ∙ c.deref_mut.ensures.len) c.set_flags.ensures
