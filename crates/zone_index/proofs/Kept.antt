@@ -1,5 +1,5 @@
 -- Changes for which no bound need be raised.
-use Rattle.std.proofs.Common.{◌≡◌, ℕ, ◌+◌, ◌≤◌, true, List, [], inr, refl, arith}
+use Rattle.std.proofs.Common.{◌≡◌, ℕ, ◌+◌, ◌≤◌, true, List, [], refl, arith}
 use Rattle.mac_base.specs.Heap.{Heap}
 use Rattle.mac_base.specs.HandleTable.{HandleTable}
 use Rattle.mac_base.specs.ZoneMap.{total_size, free_bytes, address_behind}

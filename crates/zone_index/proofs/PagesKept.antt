@@ -1,5 +1,5 @@
 -- Pages that are forgotten before a zone changes.
-use Rattle.std.proofs.Common.{◌≡◌, ℕ, ◌+◌, List, ◌∷◌, ◌++◌, length, Option, IsTrue, ap, sym, ◌∙◌, subst, arith}
+use Rattle.std.proofs.Common.{◌≡◌, ℕ, ◌+◌, ◌≤◌, List, ◌∷◌, ◌++◌, length, Option, IsTrue, ap, sym, ◌∙◌, subst, arith}
 use Rattle.std.specs.Vec.{with_items}
 use Rattle.std.proofs.lemmas.List.{with_items_is}
 use Rattle.std.specs.declared.vec.Vec.{Vec}
@@ -37,4 +37,12 @@ named-place z x at fits b before here behind map named =
     let one = names-one z x before here behind fits map named in
     let same = same-place x b.before b.here b.behind before here behind (sym b.map ∙ map) b.named named mine.front one.front in
     let place = b.place in
+    omega arith
+
+-- and made so long, within the blocks behind it, it ends where the zone does or below
+pub named-reach : (z : ZoneState) (x at size : ℕ) → Fits z → NamedAt z x at → (before : ZoneMap) (here : Entry) (behind : ZoneMap) → z.heap.map ≡ before ++ here ∷ behind → IsTrue (is_named x here.kind) → size ≤ here.size + total_size behind
+    → at + size ≤ address_behind z.shape z.heap.map
+named-reach z x at size fits b before here behind map named within =
+    let place = named-place z x at fits b before here behind map named in
+    let ends = part-ends z before (here ∷ behind) map in
     omega arith

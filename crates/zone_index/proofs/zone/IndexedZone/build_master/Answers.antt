@@ -1,4 +1,4 @@
-use Rattle.std.proofs.Common.{◌≡◌, ap, sym, ◌∙◌, set, subst, ◌∷◌, arith}
+use Rattle.std.proofs.Common.{◌≡◌, ap, sym, ◌∙◌, set, subst}
 use Rattle.mac_base.specs.HeadKind.{master_length}
 use Rattle.linked_zone.specs.Changes.{with_master}
 use Rattle.linked_zone.specs.Places.{RoomFor}
@@ -11,10 +11,8 @@ use Rattle.zone_index.specs.Marks.{AreMarked}
 use Rattle.zone_index.proofs.Placed.{placed}
 use Rattle.zone_index.specs.Bounds.{AreBounds}
 use Rattle.zone_index.proofs.Opening.{bounds-master}
-use Rattle.mac_base.specs.declared.block.Kind.TheVariants.{Free}
-use Rattle.mac_base.specs.ZoneMap.{block}
 use Rattle.zone_index.proofs.Changing.{pages-master}
-use Rattle.zone_index.proofs.PagesKept.{forgets-read, pages-kept, part-ends}
+use Rattle.zone_index.proofs.PagesKept.{forgets-read, pages-kept}
 use Rattle.zone_index.proofs.Measured.{lengths-of}
 use Rattle.zone_index.proofs.zone.IndexedZone.build_master.Goals as goal
 
@@ -25,14 +23,12 @@ invariant_of-self c =
       fixed = subst (λ (z : ZoneState). AreMarked is_fixed z c.set.new.self) (sym (c.build_master.ensures room))
           (subst (AreMarked is_fixed (with_master c.self.inside.zone room.free)) (sym (c.set.ensures ∙ ap (λ p. set c.self.inside.marks p 1) p.value)) (master-marked c.self.inside.zone c.self.inside.marks c.self.invariant.fixed c.args.at room.free p.inside));
       purgeable = subst (λ (z : ZoneState). AreMarked may_go z c.self.inside.purgeable) (sym (c.build_master.ensures room)) (master-kept c.self.inside.zone c.self.inside.purgeable c.self.invariant.purgeable c.args.at room.free);
-      bounds = (let room = subst (λ (z : ZoneState). RoomFor z c.args.at master_length) (sym c.self.view_is) c.requires in
-          subst (λ (z : ZoneState). AreBounds z c.part.new.bounds) (sym (c.build_master.ensures room))
-          (bounds-master c.self.inside.zone c.self.inside.bounds c.part.new.bounds c.self.invariant.bounds c.args.at c.gap_around-gap.result c.gap_around-gap.ensures room.free c.part.ensures));
-      pages = (let room = subst (λ (z : ZoneState). RoomFor z c.args.at master_length) (sym c.self.view_is) c.requires in
-          pages-kept c.self.inside.pages c.forget.new.pages (c.forget.auto.pages ∙ c.deref_mut.ensures.len) (c.build_master.ensures room)
+      bounds = subst (λ (z : ZoneState). AreBounds z c.part.new.bounds) (sym (c.build_master.ensures room))
+          (bounds-master c.self.inside.zone c.self.inside.bounds c.part.new.bounds c.self.invariant.bounds c.args.at c.gap_around-gap.result c.gap_around-gap.ensures room.free c.part.ensures);
+      pages = pages-kept c.self.inside.pages c.forget.new.pages (c.forget.auto.pages ∙ c.deref_mut.ensures.len) (c.build_master.ensures room)
           (pages-master c.self.inside.zone c.self.inside.pages.items c.forget.new.pages c.self.invariant.pages c.args.at
-          (forgets-read c.args.at c.args.at c.self.view_is c.deref_mut.ensures.value c.page-page.ensures.value c.page-page.ensures.value c.forget.ensures) room.free));
-      lengths = (let room = subst (λ (z : ZoneState). RoomFor z c.args.at master_length) (sym c.self.view_is) c.requires in lengths-of c.self.inside.lengths (c.build_master.ensures room) c.self.invariant.lengths);
+          (forgets-read c.args.at c.args.at c.self.view_is c.deref_mut.ensures.value c.page-page.ensures.value c.page-page.ensures.value c.forget.ensures) room.free);
+      lengths = lengths-of c.self.inside.lengths (c.build_master.ensures room) c.self.invariant.lengths;
     }
 
 pub returns : goal.returns

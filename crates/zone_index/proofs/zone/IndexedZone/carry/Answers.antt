@@ -33,14 +33,11 @@ invariant_of-self c =
       fixed = subst (λ (z : ZoneState). AreMarked is_fixed z c.self.inside.marks) (sym (c.carry-2.ensures parcel)) (carried-marked z c.self.inside.marks c.self.invariant.fixed c.args.at c.args.end parcel loose);
       purgeable = subst (λ (z : ZoneState). AreMarked may_go z c.carry.new.marks) (sym (c.carry-2.ensures parcel))
           (carried-turned may_go z c.self.inside.purgeable c.carry.new.marks c.self.invariant.purgeable p.sizes c.args.at c.args.end parcel _ _ _ p.value (ap (λ n. n / 4) size) (ap (λ n. n / 4) run) c.carry.ensures);
-      bounds = (let parcel = subst (λ (z : ZoneState). ParcelAt z c.args.at c.args.end) (sym c.self.view_is) c.requires.parcel in
-          let loose = subst (λ (z : ZoneState). (parcel : ParcelAt z c.args.at c.args.end) → IsTrue (none_fixed z.heap.table (parcel.here ∷ parcel.blocks))) (sym c.self.view_is) c.requires.loose parcel in
-          subst (λ (z : ZoneState). AreBounds z c.self.inside.bounds) (sym (c.carry-2.ensures parcel)) (bounds-carry c.self.inside.zone c.self.inside.bounds c.self.invariant.bounds parcel loose));
-      pages = (let parcel = subst (λ (z : ZoneState). ParcelAt z c.args.at c.args.end) (sym c.self.view_is) c.requires.parcel in
-          pages-kept c.self.inside.pages c.forget.new.pages (c.forget.auto.pages ∙ c.deref_mut.ensures.len) (c.carry-2.ensures parcel)
+      bounds = subst (λ (z : ZoneState). AreBounds z c.self.inside.bounds) (sym (c.carry-2.ensures parcel)) (bounds-carry c.self.inside.zone c.self.inside.bounds c.self.invariant.bounds parcel loose);
+      pages = pages-kept c.self.inside.pages c.forget.new.pages (c.forget.auto.pages ∙ c.deref_mut.ensures.len) (c.carry-2.ensures parcel)
           (pages-carry c.self.inside.zone c.self.inside.pages.items c.forget.new.pages c.self.invariant.pages parcel
-          (forgets-read c.args.at c.args.end c.self.view_is c.deref_mut.ensures.value c.page-from.ensures.value c.page_at-to.ensures.value c.forget.ensures)));
-      lengths = (let parcel = subst (λ (z : ZoneState). ParcelAt z c.args.at c.args.end) (sym c.self.view_is) c.requires.parcel in lengths-of c.self.inside.lengths (c.carry-2.ensures parcel) c.self.invariant.lengths);
+          (forgets-read c.args.at c.args.end c.self.view_is c.deref_mut.ensures.value c.page-from.ensures.value c.page_at-to.ensures.value c.forget.ensures));
+      lengths = lengths-of c.self.inside.lengths (c.carry-2.ensures parcel) c.self.invariant.lengths;
     }
 
 pub overflow_sub-others-2 : goal.overflow_sub-others-2

@@ -12,7 +12,7 @@ invariant_of-self-lent c ws =
     record {
       fixed = rewritten-marked fixes c.self.inside.zone c.self.inside.marks c.self.invariant.fixed c.args.block _;
       purgeable = rewritten-marked goes c.self.inside.zone c.self.inside.purgeable c.self.invariant.purgeable c.args.block _;
-      bounds = (bounds-written c.self.inside.zone c.self.inside.bounds c.self.invariant.bounds c.args.block ws);
+      bounds = bounds-written c.self.inside.zone c.self.inside.bounds c.self.invariant.bounds c.args.block ws;
       pages = (let t = c.self.inside.zone.heap.table in
           let x = c.args.block in
           let bytes = overwritten (bytes_of t x) ws in pages-written c.self.inside.zone c.self.inside.pages.items c.self.invariant.pages x ws);

@@ -16,8 +16,8 @@ invariant_of-self c =
     let keep : (r : Rule) (marks : List ℕ) → AreMarked r.test c.self.inside.zone marks → AreMarked r.test c.copy.new.self marks = λ r marks are. subst (λ (z : ZoneState). AreMarked r.test z marks) (sym c.copy.ensures) (rewritten-marked r c.self.inside.zone marks are c.args.to _) in record {
       fixed = keep fixes _ c.self.invariant.fixed;
       purgeable = keep goes _ c.self.invariant.purgeable;
-      bounds = (subst (λ (z : ZoneState). AreBounds z c.self.inside.bounds) (sym c.copy.ensures) (bounds-copied c.self.inside.zone c.self.inside.bounds c.self.invariant.bounds c.args.from c.args.start c.args.to c.args.offset c.args.count));
-      pages = (subst (λ (z : ZoneState). ArePages z c.self.inside.pages.items) (sym c.copy.ensures) (pages-copied c.self.inside.zone c.self.inside.pages.items c.self.invariant.pages c.args.from c.args.start c.args.to c.args.offset c.args.count));
+      bounds = subst (λ (z : ZoneState). AreBounds z c.self.inside.bounds) (sym c.copy.ensures) (bounds-copied c.self.inside.zone c.self.inside.bounds c.self.invariant.bounds c.args.from c.args.start c.args.to c.args.offset c.args.count);
+      pages = subst (λ (z : ZoneState). ArePages z c.self.inside.pages.items) (sym c.copy.ensures) (pages-copied c.self.inside.zone c.self.inside.pages.items c.self.invariant.pages c.args.from c.args.start c.args.to c.args.offset c.args.count);
       lengths = (let can = subst (λ (z : ZoneState). CanCopy z c.args.from c.args.start c.args.to c.args.offset c.args.count) (sym c.self.view_is) c.requires in
           lengths-of c.self.inside.lengths c.copy.ensures (lengths-kept c.self.inside.zone.heap.table (copied c.args.from c.args.start c.args.to c.args.offset c.args.count c.self.inside.zone).heap.table c.self.inside.lengths c.self.invariant.lengths (same-copied c.self.inside.zone c.args.from c.args.start c.args.to c.args.offset c.args.count can)));
     }

@@ -1,4 +1,4 @@
-use Rattle.std.proofs.Common.{ap, sym, ◌∙◌, set, subst, ◌∷◌, arith, refl}
+use Rattle.std.proofs.Common.{ap, sym, ◌∙◌, set, subst, refl}
 use Rattle.mac_base.specs.Gap.{is_fixed}
 use Rattle.mac_base.specs.ZoneState.{ZoneState}
 use Rattle.linked_zone.specs.Changes.{without_block}
@@ -7,14 +7,11 @@ use Rattle.zone_index.specs.Purging.{may_go}
 use Rattle.zone_index.proofs.Freed.{emptied-marked}
 use Rattle.zone_index.proofs.Placed.{placed}
 use Rattle.zone_index.proofs.Rules.{fixes, goes}
-use Rattle.linked_zone.specs.Places.{BlockOf}
 use Rattle.zone_index.specs.Bounds.{AreBounds}
 use Rattle.zone_index.proofs.Opening.{bounds-emptied}
-use Rattle.mac_base.specs.ZoneMap.{block}
-use Rattle.mac_base.specs.declared.block.Kind.TheVariants.{Rel}
 use Rattle.linked_zone.specs.Fit.{Fits}
 use Rattle.zone_index.proofs.Changing.{pages-emptied}
-use Rattle.zone_index.proofs.PagesKept.{forgets-read, pages-kept, part-ends}
+use Rattle.zone_index.proofs.PagesKept.{forgets-read, pages-kept}
 use Rattle.mac_base.specs.HandleTable.{EmptyHandle}
 use Rattle.zone_index.proofs.Measured.{lengths-given, lengths-of}
 use Rattle.zone_index.proofs.zone.IndexedZone.empty.Goals as goal
@@ -37,5 +34,5 @@ invariant_of-self c =
           pages-kept c.self.inside.pages c.forget.new.pages (c.forget.auto.pages ∙ c.deref_mut.ensures.len) c.empty.ensures
           (pages-emptied c.self.inside.zone c.self.inside.pages.items c.forget.new.pages c.self.invariant.pages c.block_of-at.result
           (forgets-read c.block_of-at.result c.block_of-at.result c.self.view_is c.deref_mut.ensures.value c.page-page.ensures.value c.page-page.ensures.value c.forget.ensures) c.args.handle fits own));
-      lengths = (lengths-of c.note.new.self c.empty.ensures (lengths-given c.self.inside.zone.heap.table c.self.inside.lengths c.note.new.self c.args.handle c.number.result 0 c.number.ensures c.self.invariant.lengths c.note.ensures EmptyHandle refl));
+      lengths = lengths-of c.note.new.self c.empty.ensures (lengths-given c.self.inside.zone.heap.table c.self.inside.lengths c.note.new.self c.args.handle c.number.result 0 c.number.ensures c.self.invariant.lengths c.note.ensures EmptyHandle refl);
     }

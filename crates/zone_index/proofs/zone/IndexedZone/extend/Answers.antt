@@ -49,7 +49,7 @@ invariant_of-self c =
           pages-kept c.self.inside.pages c.forget.new.pages (c.forget.auto.pages ∙ c.deref_mut.ensures.len) c.extend.ensures
           (pages-extended c.self.inside.zone c.self.inside.pages.items c.forget.new.pages c.self.invariant.pages end
           (forgets-read (c.base-base.result + c.size.result) (c.base-base.result + c.size.result) c.self.view_is c.deref_mut.ensures.value c.page_at-page.ensures.value c.page_at-page.ensures.value c.forget.ensures)));
-      lengths = (lengths-of c.self.inside.lengths c.extend.ensures c.self.invariant.lengths);
+      lengths = lengths-of c.self.inside.lengths c.extend.ensures c.self.invariant.lengths;
     }
 
 pub gap_start-start-requires : goal.gap_start-start-requires

@@ -1,4 +1,4 @@
-use Rattle.std.proofs.Common.{◌≡◌, ap, sym, ◌∙◌, set, subst, ◌∷◌, arith, ◌+◌}
+use Rattle.std.proofs.Common.{◌≡◌, ap, sym, ◌∙◌, set, subst, ◌+◌}
 use Rattle.linked_zone.specs.Changes.{fixed}
 use Rattle.linked_zone.specs.Places.{RoomFor}
 use Rattle.mac_base.specs.Gap.{is_fixed}
@@ -11,10 +11,8 @@ use Rattle.zone_index.proofs.Placed.{placed}
 use Rattle.linked_zone.specs.Fit.{Fits}
 use Rattle.zone_index.specs.Bounds.{AreBounds}
 use Rattle.zone_index.proofs.Opening.{bounds-fixed}
-use Rattle.mac_base.specs.declared.block.Kind.TheVariants.{Free}
-use Rattle.mac_base.specs.ZoneMap.{block}
 use Rattle.zone_index.proofs.Changing.{pages-fixed}
-use Rattle.zone_index.proofs.PagesKept.{forgets-read, pages-kept, part-ends}
+use Rattle.zone_index.proofs.PagesKept.{forgets-read, pages-kept}
 use Rattle.std.proofs.lemmas.List.{length-replicate}
 use Rattle.mac_base.specs.HandleTable.{Pointer, zeros}
 use Rattle.mac_base.specs.HeadKind.{head_size}
@@ -28,17 +26,14 @@ invariant_of-self c =
       fixed = subst (λ (z : ZoneState). AreMarked is_fixed z c.set.new.self) (sym (c.fix-pointer.ensures.zone room))
           (subst (AreMarked is_fixed (fixed c.args.length c.self.inside.zone room.free)) (sym (c.set.ensures ∙ ap (λ p. set c.self.inside.marks p 1) p.value)) (fixed-marked c.self.inside.zone c.self.inside.marks c.self.invariant.fixed c.args.length c.args.at room.free p.inside));
       purgeable = subst (λ (z : ZoneState). AreMarked may_go z c.self.inside.purgeable) (sym (c.fix-pointer.ensures.zone room)) (fixed-kept c.self.inside.zone c.self.inside.purgeable c.self.invariant.purgeable c.args.length c.args.at room.free);
-      bounds = (let room = subst (λ (z : ZoneState). RoomFor z c.args.at c.args.length) (sym c.self.view_is) c.requires in
-          let fits = subst Fits (c.fix-pointer.ensures.zone room) c.spec-spec.ensures.fits in
+      bounds = (let fits = subst Fits (c.fix-pointer.ensures.zone room) c.spec-spec.ensures.fits in
           subst (λ (z : ZoneState). AreBounds z c.part.new.bounds) (sym (c.fix-pointer.ensures.zone room))
           (bounds-fixed c.self.inside.zone c.self.inside.bounds c.part.new.bounds c.self.invariant.bounds c.args.at c.gap_around-gap.result c.gap_around-gap.ensures c.args.length room.free fits c.part.ensures));
-      pages = (let room = subst (λ (z : ZoneState). RoomFor z c.args.at c.args.length) (sym c.self.view_is) c.requires in
-          let fits = subst Fits (c.fix-pointer.ensures.zone room) c.spec-spec.ensures.fits in
+      pages = (let fits = subst Fits (c.fix-pointer.ensures.zone room) c.spec-spec.ensures.fits in
           pages-kept c.self.inside.pages c.forget.new.pages (c.forget.auto.pages ∙ c.deref_mut.ensures.len) (c.fix-pointer.ensures.zone room)
           (pages-fixed c.self.inside.zone c.self.inside.pages.items c.forget.new.pages c.self.invariant.pages c.args.at
           (forgets-read c.args.at c.args.at c.self.view_is c.deref_mut.ensures.value c.page-page.ensures.value c.page-page.ensures.value c.forget.ensures) c.args.length room.free fits));
-      lengths = (let room = subst (λ (z : ZoneState). RoomFor z c.args.at c.args.length) (sym c.self.view_is) c.requires in
-          let long = length-replicate c.args.length 0 in
+      lengths = (let long = length-replicate c.args.length 0 in
           lengths-of c.note.new.self (c.fix-pointer.ensures.zone room) (lengths-given c.self.inside.zone.heap.table c.self.inside.lengths c.note.new.self (c.args.at + head_size c.self.inside.zone.shape.heads) c.number.result c.args.length (c.number.ensures ∙ c.fix-pointer.ensures.pointer) c.self.invariant.lengths c.note.ensures (Pointer (zeros c.args.length)) long));
     }
 

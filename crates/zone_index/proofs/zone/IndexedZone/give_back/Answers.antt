@@ -17,8 +17,8 @@ invariant_of-self c =
     let keep : (r : Rule) (marks : List ℕ) → AreMarked r.test c.self.inside.zone marks → AreMarked r.test c.give_back.new.self marks = λ r marks are. subst (λ (z : ZoneState). AreMarked r.test z marks) (sym c.give_back.ensures) (returned-marked r c.self.inside.zone marks are c.args.block c.args.loan.bytes) in record {
       fixed = keep fixes _ c.self.invariant.fixed;
       purgeable = keep goes _ c.self.invariant.purgeable;
-      bounds = (subst (λ (z : ZoneState). AreBounds z c.self.inside.bounds) (sym c.give_back.ensures) (bounds-returned c.self.inside.zone c.self.inside.bounds c.self.invariant.bounds c.args.block c.args.loan.bytes));
-      pages = (subst (λ (z : ZoneState). ArePages z c.self.inside.pages.items) (sym c.give_back.ensures) (pages-returned c.self.inside.zone c.self.inside.pages.items c.self.invariant.pages c.args.block c.args.loan.bytes));
+      bounds = subst (λ (z : ZoneState). AreBounds z c.self.inside.bounds) (sym c.give_back.ensures) (bounds-returned c.self.inside.zone c.self.inside.bounds c.self.invariant.bounds c.args.block c.args.loan.bytes);
+      pages = subst (λ (z : ZoneState). ArePages z c.self.inside.pages.items) (sym c.give_back.ensures) (pages-returned c.self.inside.zone c.self.inside.pages.items c.self.invariant.pages c.args.block c.args.loan.bytes);
       lengths = (let loan = subst (λ (z : ZoneState). IsLoanOf z c.args.block c.args.loan) (sym c.self.view_is) c.requires in
           lengths-of c.self.inside.lengths c.give_back.ensures (lengths-kept c.self.inside.zone.heap.table (returned c.args.block c.args.loan.bytes c.self.inside.zone.heap).table c.self.inside.lengths c.self.invariant.lengths (same-with_bytes c.args.block c.args.loan.bytes c.self.inside.zone.heap.table loan.long)));
     }

@@ -11,7 +11,7 @@ use Rattle.mac_base.specs.ZoneMap.{block}
 use Rattle.linked_zone.specs.Fit.{Fits}
 use Rattle.zone_index.specs.Bounds.{AreBounds}
 use Rattle.zone_index.proofs.Named.{named-owner}
-use Rattle.zone_index.proofs.PagesKept.{forgets-read, named-place, pages-kept, part-ends}
+use Rattle.zone_index.proofs.PagesKept.{forgets-read, named-place, named-reach, pages-kept}
 use Rattle.zone_index.proofs.Changing.{pages-grown}
 use Rattle.zone_index.proofs.Measured.{lengths-of, lengths-sized}
 use Rattle.zone_index.proofs.zone.IndexedZone.grow.Goals as goal
@@ -23,15 +23,13 @@ invariant_of-self c =
       fixed = keep fixes _ c.self.invariant.fixed;
       purgeable = keep goes _ c.self.invariant.purgeable;
       bounds = subst (λ (z : ZoneState). AreBounds z c.lengthen.new.bounds) (sym (c.grow.ensures can)) (c.lengthen.ensures can);
-      pages = (let can = subst (λ (z : ZoneState). CanGrow z c.args.block c.args.size c.args.length) (sym c.self.view_is) c.requires.room in
-          let named = c.place_of-at.ensures in
+      pages = (let named = c.place_of-at.ensures in
           let fits = c.spec-spec.ensures.fits in
           let place = named-place c.self.inside.zone c.args.block c.place_of-at.result fits named can.before can.here (block Free can.free ∷ can.behind) can.map can.named in
           pages-kept c.self.inside.pages c.forget.new.pages (c.forget.auto.pages ∙ c.deref_mut.ensures.len) (c.grow.ensures can)
           (pages-grown c.self.inside.zone c.self.inside.pages.items c.forget.new.pages c.self.invariant.pages can place
           (forgets-read c.place_of-at.result (c.place_of-at.result + c.args.size) c.self.view_is c.deref_mut.ensures.value c.page-first.ensures.value c.page_at-last.ensures.value c.forget.ensures)));
-      lengths = (let can = subst (λ (z : ZoneState). CanGrow z c.args.block c.args.size c.args.length) (sym c.self.view_is) c.requires.room in
-          let fits = c.spec-spec.ensures.fits in
+      lengths = (let fits = c.spec-spec.ensures.fits in
           let has = named-owner c.self.inside.zone c.args.block can.before can.here (block Free can.free ∷ can.behind) fits can.map can.named in
           lengths-of c.note.new.self (c.grow.ensures can) (lengths-sized c.self.inside.zone.heap.table c.self.inside.lengths c.note.new.self c.args.block c.args.block c.args.length refl c.self.invariant.lengths c.note.ensures has));
     }
@@ -50,11 +48,8 @@ place_of-at-requires c =
 pub overflow_add-at : goal.overflow_add-at
 overflow_add-at c =
     let can = c.requires.room in
-    let same = c.self.view_is in
-    let named = subst (λ (z : ZoneState). NamedAt z c.args.block c.place_of-at.result) same c.place_of-at.ensures in
-    let place = named-place c.args.self.now c.args.block c.place_of-at.result c.page-first.ensures.fits named can.before can.here (block Free can.free ∷ can.behind) can.map can.named in
-    let ends = part-ends c.args.self.now can.before (can.here ∷ (block Free can.free ∷ can.behind)) can.map in
-    let within = can.fits.within in
+    let named = subst (λ (z : ZoneState). NamedAt z c.args.block c.place_of-at.result) c.self.view_is c.place_of-at.ensures in
+    let high = named-reach c.args.self.now c.args.block c.place_of-at.result c.args.size c.page-first.ensures.fits named can.before can.here (block Free can.free ∷ can.behind) can.map can.named (let within = can.fits.within in omega arith) in
     let reach = c.page-first.ensures.reach in
     omega arith
 
@@ -68,9 +63,5 @@ page_at-last-requires-clause-low c =
 pub page_at-last-requires-clause-high : goal.page_at-last-requires-clause-high
 page_at-last-requires-clause-high c =
     let can = c.requires.room in
-    let same = c.self.view_is in
-    let named = subst (λ (z : ZoneState). NamedAt z c.args.block c.place_of-at.result) same c.place_of-at.ensures in
-    let place = named-place c.args.self.now c.args.block c.place_of-at.result c.page-first.ensures.fits named can.before can.here (block Free can.free ∷ can.behind) can.map can.named in
-    let ends = part-ends c.args.self.now can.before (can.here ∷ (block Free can.free ∷ can.behind)) can.map in
-    let within = can.fits.within in
-    omega arith
+    let named = subst (λ (z : ZoneState). NamedAt z c.args.block c.place_of-at.result) c.self.view_is c.place_of-at.ensures in
+    named-reach c.args.self.now c.args.block c.place_of-at.result c.args.size c.page-first.ensures.fits named can.before can.here (block Free can.free ∷ can.behind) can.map can.named (let within = can.fits.within in omega arith)

@@ -15,7 +15,7 @@ invariant_of-self c =
     let keep : (r : Rule) (marks : List ℕ) → AreMarked r.test c.self.inside.zone marks → AreMarked r.test c.lend.new.self marks = λ r marks are. subst (λ (z : ZoneState). AreMarked r.test z marks) (sym c.lend.ensures.zone) (lent_out-marked r c.self.inside.zone marks are c.args.block) in record {
       fixed = keep fixes _ c.self.invariant.fixed;
       purgeable = keep goes _ c.self.invariant.purgeable;
-      bounds = (subst (λ (z : ZoneState). AreBounds z c.self.inside.bounds) (sym c.lend.ensures.zone) (bounds-lent c.self.inside.zone c.self.inside.bounds c.self.invariant.bounds c.args.block));
-      pages = (subst (λ (z : ZoneState). ArePages z c.self.inside.pages.items) (sym c.lend.ensures.zone) (pages-lent c.self.inside.zone c.self.inside.pages.items c.self.invariant.pages c.args.block));
-      lengths = (lengths-of c.self.inside.lengths c.lend.ensures.zone c.self.invariant.lengths);
+      bounds = subst (λ (z : ZoneState). AreBounds z c.self.inside.bounds) (sym c.lend.ensures.zone) (bounds-lent c.self.inside.zone c.self.inside.bounds c.self.invariant.bounds c.args.block);
+      pages = subst (λ (z : ZoneState). ArePages z c.self.inside.pages.items) (sym c.lend.ensures.zone) (pages-lent c.self.inside.zone c.self.inside.pages.items c.self.invariant.pages c.args.block);
+      lengths = lengths-of c.self.inside.lengths c.lend.ensures.zone c.self.invariant.lengths;
     }

@@ -22,15 +22,13 @@ invariant_of-self c =
     let keep : (r : Rule) (marks : List ℕ) → AreMarked r.test c.self.inside.zone marks → AreMarked r.test c.merge.new.self marks = λ r marks are. subst (λ (z : ZoneState). AreMarked r.test z marks) (sym (c.merge.ensures pair)) (joined-marked r c.self.inside.zone marks are c.args.at pair) in record {
       fixed = keep fixes _ c.self.invariant.fixed;
       purgeable = keep goes _ c.self.invariant.purgeable;
-      bounds = (let pair = subst (λ (z : ZoneState). FreePair z c.args.at) (sym c.self.view_is) c.requires in
-          subst (λ (z : ZoneState). AreBounds z c.self.inside.bounds) (sym (c.merge.ensures pair)) (bounds-merge c.self.inside.zone c.self.inside.bounds c.self.invariant.bounds pair));
-      pages = (let pair = subst (λ (z : ZoneState). FreePair z c.args.at) (sym c.self.view_is) c.requires in
-          let size = c.free_size.ensures (first_free c.self.inside.zone pair) in
+      bounds = subst (λ (z : ZoneState). AreBounds z c.self.inside.bounds) (sym (c.merge.ensures pair)) (bounds-merge c.self.inside.zone c.self.inside.bounds c.self.invariant.bounds pair);
+      pages = (let size = c.free_size.ensures (first_free c.self.inside.zone pair) in
           pages-kept c.self.inside.pages c.forget.new.pages (c.forget.auto.pages ∙ c.deref_mut.ensures.len) (c.merge.ensures pair)
           (pages-merge c.self.inside.zone c.self.inside.pages.items c.forget.new.pages c.self.invariant.pages pair
           (forgets-read c.args.at (c.args.at + pair.first) c.self.view_is c.deref_mut.ensures.value c.page-first.ensures.value
           (subst (λ n. c.page_at-last.result ≡ page c.args.self.now.shape (c.args.at + n)) size c.page_at-last.ensures.value) c.forget.ensures)));
-      lengths = (let pair = subst (λ (z : ZoneState). FreePair z c.args.at) (sym c.self.view_is) c.requires in lengths-of c.self.inside.lengths (c.merge.ensures pair) c.self.invariant.lengths);
+      lengths = lengths-of c.self.inside.lengths (c.merge.ensures pair) c.self.invariant.lengths;
     }
 
 pub returns : goal.returns

@@ -1,4 +1,4 @@
-use Rattle.std.proofs.Common.{ℕ, List, ◌≡◌, sym, subst, Some, ◌∷◌, ◌∙◌, arith}
+use Rattle.std.proofs.Common.{ℕ, List, ◌≡◌, sym, subst, Some, ◌∙◌}
 use Rattle.mac_base.specs.ZoneState.{ZoneState}
 use Rattle.linked_zone.specs.Changes.{pointed}
 use Rattle.linked_zone.specs.Places.{RoomFor}
@@ -8,10 +8,8 @@ use Rattle.zone_index.proofs.Rules.{Rule, fixes, goes}
 use Rattle.mac_base.specs.HandleTable.{EmptyHandle, live_at, FullHandle, no_flags, zeros}
 use Rattle.zone_index.specs.Bounds.{AreBounds}
 use Rattle.zone_index.proofs.Moving.{bounds-point}
-use Rattle.mac_base.specs.declared.block.Kind.TheVariants.{Free}
-use Rattle.mac_base.specs.ZoneMap.{block}
 use Rattle.zone_index.proofs.Changing.{pages-pointed}
-use Rattle.zone_index.proofs.PagesKept.{forgets-read, pages-kept, part-ends}
+use Rattle.zone_index.proofs.PagesKept.{forgets-read, pages-kept}
 use Rattle.std.proofs.lemmas.List.{length-replicate}
 use Rattle.zone_index.proofs.Measured.{lengths-given, lengths-of}
 use Rattle.zone_index.proofs.zone.IndexedZone.point.Goals as goal
@@ -22,16 +20,13 @@ invariant_of-self c =
     let keep : (r : Rule) (marks : List ℕ) → AreMarked r.test c.self.inside.zone marks → AreMarked r.test c.point.new.self marks = λ r marks are. subst (λ (z : ZoneState). AreMarked r.test z marks) (sym (c.point.ensures room)) (pointed-marked r c.self.inside.zone marks are c.args.handle c.args.length c.args.at room.free) in record {
       fixed = keep fixes _ c.self.invariant.fixed;
       purgeable = keep goes _ c.self.invariant.purgeable;
-      bounds = (let room = subst (λ (z : ZoneState). RoomFor z c.args.at c.args.length) (sym c.self.view_is) c.requires.room in
-          let empty = subst (λ (z : ZoneState). live_at z.heap.table c.args.handle ≡ Some EmptyHandle) (sym c.self.view_is) c.requires.empty in
+      bounds = (let empty = subst (λ (z : ZoneState). live_at z.heap.table c.args.handle ≡ Some EmptyHandle) (sym c.self.view_is) c.requires.empty in
           subst (λ (z : ZoneState). AreBounds z c.self.inside.bounds) (sym (c.point.ensures room)) (bounds-point c.self.inside.zone c.self.inside.bounds c.self.invariant.bounds c.args.handle c.args.length room.free empty));
-      pages = (let room = subst (λ (z : ZoneState). RoomFor z c.args.at c.args.length) (sym c.self.view_is) c.requires.room in
-          let empty = subst (λ (z : ZoneState). live_at z.heap.table c.args.handle ≡ Some EmptyHandle) (sym c.self.view_is) c.requires.empty in
+      pages = (let empty = subst (λ (z : ZoneState). live_at z.heap.table c.args.handle ≡ Some EmptyHandle) (sym c.self.view_is) c.requires.empty in
           pages-kept c.self.inside.pages c.forget.new.pages (c.forget.auto.pages ∙ c.deref_mut.ensures.len) (c.point.ensures room)
           (pages-pointed c.self.inside.zone c.self.inside.pages.items c.forget.new.pages c.self.invariant.pages c.args.at
           (forgets-read c.args.at c.args.at c.self.view_is c.deref_mut.ensures.value c.page-page.ensures.value c.page-page.ensures.value c.forget.ensures) c.args.handle c.args.length room.free empty));
-      lengths = (let room = subst (λ (z : ZoneState). RoomFor z c.args.at c.args.length) (sym c.self.view_is) c.requires.room in
-          let long = length-replicate c.args.length 0 in
+      lengths = (let long = length-replicate c.args.length 0 in
           lengths-of c.note.new.self (c.point.ensures room) (lengths-given c.self.inside.zone.heap.table c.self.inside.lengths c.note.new.self c.args.handle c.number.result c.args.length c.number.ensures c.self.invariant.lengths c.note.ensures (FullHandle no_flags (zeros c.args.length)) long));
     }
 

@@ -1,10 +1,10 @@
-use Rattle.std.proofs.Common.{◌≡◌, ap, slice_index, sym, ◌∙◌, set, subst, IsFalse, ◌∷◌, arith, true}
+use Rattle.std.proofs.Common.{◌≡◌, ap, slice_index, sym, ◌∙◌, set, subst, IsFalse, true}
 use Rattle.std.specs.Prelude.{IsFalse, ◌||◌}
 use Rattle.mac_base.specs.Gap.{is_fixed}
 use Rattle.mac_base.specs.HandleTable.{is_locked, is_full, is_pointer}
 use Rattle.mac_base.specs.ZoneState.{ZoneState}
 use Rattle.linked_zone.specs.Changes.{relocated}
-use Rattle.linked_zone.specs.Places.{RoomFor, BlockOf}
+use Rattle.linked_zone.specs.Places.{RoomFor}
 use Rattle.zone_index.specs.Marks.{AreMarked}
 use Rattle.zone_index.specs.Purging.{may_go}
 use Rattle.zone_index.proofs.Freed.{moved-marked, relocated-marked}
@@ -13,11 +13,9 @@ use Rattle.zone_index.specs.Bounds.{AreBounds}
 use Rattle.zone_index.proofs.Opening.{bounds-relocated}
 use Rattle.std.proofs.lemmas.List.{with_items_is}
 use Rattle.std.specs.Vec.{with_items}
-use Rattle.mac_base.specs.declared.block.Kind.TheVariants.{Free, Rel}
-use Rattle.mac_base.specs.ZoneMap.{block}
 use Rattle.linked_zone.specs.Fit.{Fits}
 use Rattle.zone_index.proofs.Changing.{pages-relocated}
-use Rattle.zone_index.proofs.PagesKept.{forgets-read, pages-kept, part-ends}
+use Rattle.zone_index.proofs.PagesKept.{forgets-read, pages-kept}
 use Rattle.zone_index.proofs.Measured.{lengths-of, lengths-sized}
 use Rattle.zone_index.proofs.zone.IndexedZone.relocate.Goals as goal
 
@@ -37,12 +35,9 @@ invariant_of-self c =
           (subst (AreMarked may_go (relocated c.args.handle c.args.length z room.free)) (sym both)
           (moved-marked z marks c.self.invariant.purgeable old.sizes c.args.handle c.args.length c.block_of-from.result c.args.at room.free c.block_of-from.ensures old.inside new.inside));
       bounds = (let own = c.block_of-from.ensures in
-          let room = subst (λ (z : ZoneState). RoomFor z c.args.at c.args.length) (sym c.self.view_is) c.requires.room in
-          let unlocked = subst (λ (z : ZoneState). IsFalse (is_locked z.heap.table c.args.handle)) (sym c.self.view_is) c.requires.unlocked in
           subst (λ (z : ZoneState). AreBounds z c.join.new.bounds) (sym (c.relocate.ensures room))
           (bounds-relocated c.self.inside.zone c.self.inside.bounds c.join.new.bounds c.self.invariant.bounds c.block_of-from.result c.gap_around-gap.result c.gap_around-gap.ensures c.args.handle c.args.length room.free own unlocked c.join.ensures));
       pages = (let own = c.block_of-from.ensures in
-          let room = subst (λ (z : ZoneState). RoomFor z c.args.at c.args.length) (sym c.self.view_is) c.requires.room in
           let fits = subst Fits (sym c.self.view_is) c.page-from_page.ensures.fits in
           let first = with_items_is c.self.inside.pages c.forget.new.pages (c.forget.auto.pages ∙ c.deref_mut.ensures.len) in
           pages-kept (with_items c.self.inside.pages c.forget.new.pages) c.forget-2.new.pages (c.forget-2.auto.pages ∙ c.deref_mut-2.ensures.len) (c.relocate.ensures room)
@@ -50,8 +45,7 @@ invariant_of-self c =
           (forgets-read c.block_of-from.result c.block_of-from.result c.self.view_is c.deref_mut.ensures.value c.page-from_page.ensures.value c.page-from_page.ensures.value c.forget.ensures)
           c.args.handle c.args.length c.args.at c.forget-2.new.pages room.free fits own
           (forgets-read c.args.at c.args.at c.self.view_is (c.deref_mut-2.ensures.value ∙ first) c.page-to_page.ensures.value c.page-to_page.ensures.value c.forget-2.ensures)));
-      lengths = (let room = subst (λ (z : ZoneState). RoomFor z c.args.at c.args.length) (sym c.self.view_is) c.requires.room in
-          let full = subst (λ (z : ZoneState). is_full z.heap.table c.args.handle ≡ true) (sym c.self.view_is) c.requires.full in
+      lengths = (let full = subst (λ (z : ZoneState). is_full z.heap.table c.args.handle ≡ true) (sym c.self.view_is) c.requires.full in
           lengths-of c.note.new.self (c.relocate.ensures room) (lengths-sized c.self.inside.zone.heap.table c.self.inside.lengths c.note.new.self c.args.handle c.number.result c.args.length c.number.ensures c.self.invariant.lengths c.note.ensures (ap (λ b. b || is_pointer c.self.inside.zone.heap.table c.args.handle) full)));
     }
 

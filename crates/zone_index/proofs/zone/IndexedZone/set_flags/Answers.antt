@@ -1,4 +1,4 @@
-use Rattle.std.proofs.Common.{◌≡◌, ap, sym, ◌∙◌, set, subst, true, ◌∷◌, arith}
+use Rattle.std.proofs.Common.{◌≡◌, ap, sym, ◌∙◌, set, subst, true}
 use Rattle.mac_base.specs.Gap.{is_fixed}
 use Rattle.mac_base.specs.HandleTable.{is_full, with_flags}
 use Rattle.mac_base.specs.ZoneState.{ZoneState}
@@ -10,12 +10,9 @@ use Rattle.zone_index.proofs.Fresh.{flagged-marked}
 use Rattle.zone_index.proofs.Placed.{placed}
 use Rattle.zone_index.proofs.Rules.{fixes, goes}
 use mir.Val.{bool_byte}
-use Rattle.linked_zone.specs.Places.{BlockOf}
 use Rattle.zone_index.specs.Bounds.{AreBounds}
-use Rattle.mac_base.specs.ZoneMap.{block}
-use Rattle.mac_base.specs.declared.block.Kind.TheVariants.{Rel}
 use Rattle.zone_index.proofs.Changing.{pages-flagged}
-use Rattle.zone_index.proofs.PagesKept.{forgets-read, pages-kept, part-ends}
+use Rattle.zone_index.proofs.PagesKept.{forgets-read, pages-kept}
 use Rattle.zone_index.proofs.Measured.{lengths-of, lengths-kept, same-with_flags}
 use Rattle.zone_index.proofs.zone.IndexedZone.set_flags.Goals as goal
 
@@ -38,5 +35,5 @@ invariant_of-self c =
           pages-kept c.self.inside.pages c.forget.new.pages (c.forget.auto.pages ∙ c.deref_mut.ensures.len) c.set_flags.ensures
           (pages-flagged c.self.inside.zone c.self.inside.pages.items c.forget.new.pages c.self.invariant.pages c.block_of-at.result
           (forgets-read c.block_of-at.result c.block_of-at.result c.self.view_is c.deref_mut.ensures.value c.page-page.ensures.value c.page-page.ensures.value c.forget.ensures) c.args.handle c.args.flags fits own));
-      lengths = (lengths-of c.self.inside.lengths c.set_flags.ensures (lengths-kept c.self.inside.zone.heap.table (with_flags c.args.handle c.args.flags c.self.inside.zone.heap.table) c.self.inside.lengths c.self.invariant.lengths (same-with_flags c.args.handle c.args.flags c.self.inside.zone.heap.table)));
+      lengths = lengths-of c.self.inside.lengths c.set_flags.ensures (lengths-kept c.self.inside.zone.heap.table (with_flags c.args.handle c.args.flags c.self.inside.zone.heap.table) c.self.inside.lengths c.self.invariant.lengths (same-with_flags c.args.handle c.args.flags c.self.inside.zone.heap.table));
     }

@@ -35,16 +35,13 @@ invariant_of-self c =
       fixed = subst (λ (z : ZoneState). AreMarked is_fixed z c.self.inside.marks) (sym (c.sink-2.ensures parcel)) (sunk-marked z c.self.inside.marks c.self.invariant.fixed c.args.start c.args.at parcel loose);
       purgeable = subst (λ (z : ZoneState). AreMarked may_go z c.sink.new.marks) (sym (c.sink-2.ensures parcel))
           (sunk-turned may_go z c.self.inside.purgeable c.sink.new.marks c.self.invariant.purgeable p.sizes c.args.start c.args.at parcel _ _ _ p.value (ap (λ n. n / 4) size) (ap (λ n. n / 4) run) c.sink.ensures);
-      bounds = (let parcel = subst (λ (z : ZoneState). ParcelUpTo z c.args.start c.args.at) (sym c.self.view_is) c.requires.parcel in
-          let loose = subst (λ (z : ZoneState). (parcel : ParcelUpTo z c.args.start c.args.at) → IsTrue (none_fixed z.heap.table (parcel.blocks ++ parcel.here ∷ []))) (sym c.self.view_is) c.requires.loose parcel in
-          subst (λ (z : ZoneState). AreBounds z c.self.inside.bounds) (sym (c.sink-2.ensures parcel)) (bounds-sink c.self.inside.zone c.self.inside.bounds c.self.invariant.bounds parcel loose));
-      pages = (let parcel = subst (λ (z : ZoneState). ParcelUpTo z c.args.start c.args.at) (sym c.self.view_is) c.requires.parcel in
-          let size = ap (λ (e : Entry). e.size) (c.entry_at-size.ensures (last_entry c.self.inside.zone parcel)) in
+      bounds = subst (λ (z : ZoneState). AreBounds z c.self.inside.bounds) (sym (c.sink-2.ensures parcel)) (bounds-sink c.self.inside.zone c.self.inside.bounds c.self.invariant.bounds parcel loose);
+      pages = (let size = ap (λ (e : Entry). e.size) (c.entry_at-size.ensures (last_entry c.self.inside.zone parcel)) in
           pages-kept c.self.inside.pages c.forget.new.pages (c.forget.auto.pages ∙ c.deref_mut.ensures.len) (c.sink-2.ensures parcel)
           (pages-sink c.self.inside.zone c.self.inside.pages.items c.forget.new.pages c.self.invariant.pages parcel
           (forgets-read c.args.start (c.args.at + parcel.here.size) c.self.view_is c.deref_mut.ensures.value c.page-from.ensures.value
           (subst (λ n. c.page_at-to.result ≡ page c.args.self.now.shape (c.args.at + n)) size c.page_at-to.ensures.value) c.forget.ensures)));
-      lengths = (let parcel = subst (λ (z : ZoneState). ParcelUpTo z c.args.start c.args.at) (sym c.self.view_is) c.requires.parcel in lengths-of c.self.inside.lengths (c.sink-2.ensures parcel) c.self.invariant.lengths);
+      lengths = lengths-of c.self.inside.lengths (c.sink-2.ensures parcel) c.self.invariant.lengths;
     }
 
 pub place-first-requires : goal.place-first-requires

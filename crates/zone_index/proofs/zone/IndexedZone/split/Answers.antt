@@ -20,13 +20,11 @@ invariant_of-self c =
     let keep : (r : Rule) (marks : List ℕ) → AreMarked r.test c.self.inside.zone marks → AreMarked r.test c.split.new.self marks = λ r marks are. subst (λ (z : ZoneState). AreMarked r.test z marks) (sym (c.split.ensures can)) (cut-marked r c.self.inside.zone marks are c.args.at c.args.size can) in record {
       fixed = keep fixes _ c.self.invariant.fixed;
       purgeable = keep goes _ c.self.invariant.purgeable;
-      bounds = (let can = subst (λ (z : ZoneState). CanCut z c.args.at c.args.size) (sym c.self.view_is) c.requires in
-          subst (λ (z : ZoneState). AreBounds z c.self.inside.bounds) (sym (c.split.ensures can)) (bounds-split c.self.inside.zone c.self.inside.bounds c.self.invariant.bounds can));
-      pages = (let can = subst (λ (z : ZoneState). CanCut z c.args.at c.args.size) (sym c.self.view_is) c.requires in
-          pages-kept c.self.inside.pages c.forget.new.pages (c.forget.auto.pages ∙ c.deref_mut.ensures.len) (c.split.ensures can)
+      bounds = subst (λ (z : ZoneState). AreBounds z c.self.inside.bounds) (sym (c.split.ensures can)) (bounds-split c.self.inside.zone c.self.inside.bounds c.self.invariant.bounds can);
+      pages = pages-kept c.self.inside.pages c.forget.new.pages (c.forget.auto.pages ∙ c.deref_mut.ensures.len) (c.split.ensures can)
           (pages-split c.self.inside.zone c.self.inside.pages.items c.forget.new.pages c.self.invariant.pages can
-          (forgets-read c.args.at (c.args.at + c.args.size) c.self.view_is c.deref_mut.ensures.value c.page-first.ensures.value c.page_at-last.ensures.value c.forget.ensures)));
-      lengths = (let can = subst (λ (z : ZoneState). CanCut z c.args.at c.args.size) (sym c.self.view_is) c.requires in lengths-of c.self.inside.lengths (c.split.ensures can) c.self.invariant.lengths);
+          (forgets-read c.args.at (c.args.at + c.args.size) c.self.view_is c.deref_mut.ensures.value c.page-first.ensures.value c.page_at-last.ensures.value c.forget.ensures));
+      lengths = lengths-of c.self.inside.lengths (c.split.ensures can) c.self.invariant.lengths;
     }
 
 pub returns : goal.returns

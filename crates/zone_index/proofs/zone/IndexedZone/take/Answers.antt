@@ -12,7 +12,7 @@ invariant_of-self c =
     record {
       fixed = take-marked fixes c.self.inside.zone c.self.inside.marks c.self.invariant.fixed c.take.new.self c.take.result c.take.ensures;
       purgeable = take-marked goes c.self.inside.zone c.self.inside.purgeable c.self.invariant.purgeable c.take.new.self c.take.result c.take.ensures;
-      bounds = (bounds-taken c.self.inside.zone c.self.inside.bounds c.self.invariant.bounds (c.spec-spec.ensures.fits) c.take.result c.take.new.self c.take.ensures);
+      bounds = bounds-taken c.self.inside.zone c.self.inside.bounds c.self.invariant.bounds (c.spec-spec.ensures.fits) c.take.result c.take.new.self c.take.ensures;
       pages = pages-taken c.self.inside.zone c.self.inside.pages.items c.self.invariant.pages (c.spec-spec.ensures.fits) c.take.result c.take.new.self c.take.ensures;
       lengths = lengths-of c.self.inside.lengths c.in_err-handle.ensures.1 c.self.invariant.lengths;
     }

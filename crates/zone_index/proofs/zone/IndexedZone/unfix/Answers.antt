@@ -1,4 +1,4 @@
-use Rattle.std.proofs.Common.{ap, sym, ◌∙◌, set, subst, IsTrue, ◌∷◌, arith, refl}
+use Rattle.std.proofs.Common.{ap, sym, ◌∙◌, set, subst, IsTrue, refl}
 use Rattle.linked_zone.specs.Changes.{unfixed}
 use Rattle.linked_zone.specs.Places.{NamedAt}
 use Rattle.zone_index.proofs.Freed.{unfixed-kept, unfixed-marked}
@@ -13,7 +13,7 @@ use Rattle.zone_index.specs.Bounds.{AreBounds}
 use Rattle.zone_index.proofs.Opening.{bounds-unfixed}
 use Rattle.linked_zone.specs.Fit.{Fits}
 use Rattle.zone_index.proofs.Changing.{pages-unfixed}
-use Rattle.zone_index.proofs.PagesKept.{forgets-read, pages-kept, part-ends}
+use Rattle.zone_index.proofs.PagesKept.{forgets-read, pages-kept}
 use Rattle.zone_index.proofs.Measured.{lengths-of, lengths-out}
 use Rattle.zone_index.proofs.zone.IndexedZone.unfix.Goals as goal
 
@@ -36,5 +36,5 @@ invariant_of-self c =
           pages-kept c.self.inside.pages c.forget.new.pages (c.forget.auto.pages ∙ c.deref_mut.ensures.len) c.unfix.ensures
           (pages-unfixed c.self.inside.zone c.self.inside.pages.items c.forget.new.pages c.self.invariant.pages c.place_of-at.result
           (forgets-read c.place_of-at.result c.place_of-at.result c.self.view_is c.deref_mut.ensures.value c.page-page.ensures.value c.page-page.ensures.value c.forget.ensures) c.args.pointer fits own live));
-      lengths = (lengths-of c.note.new.self c.unfix.ensures (lengths-out c.self.inside.zone.heap.table c.self.inside.lengths c.note.new.self c.args.pointer c.number-2.result 0 c.number-2.ensures c.self.invariant.lengths c.note.ensures refl));
+      lengths = lengths-of c.note.new.self c.unfix.ensures (lengths-out c.self.inside.zone.heap.table c.self.inside.lengths c.note.new.self c.args.pointer c.number-2.result 0 c.number-2.ensures c.self.invariant.lengths c.note.ensures refl);
     }
