@@ -36,15 +36,16 @@ LINES = [
     (["put", "FILE", "TEXT", "1", "--backup", "-o", "OUT"], 2, "cannot be used with"),
     (["put", "FILE", "TEXT", "128", "--new"], 1, "FILE: there is such a resource already"),
     (["put", "DAMAGED", "TEXT", "128"], 3, "DAMAGED: 'TEXT' 128: its length"),
-    (["rm", "FILE", "TEXT", "128", "129"], 1, "FILE: there is no such resource"),
-    (["rm", "FILE", "TEXT", "128", "128"], 1, "FILE: there is no such resource"),
+    (["rm", "FILE", "TEXT", "128", "129"], 1, "FILE: there is no resource TEXT 129"),
+    (["rm", "FILE", "TEXT", "128", "128"], 1, "FILE: there is no resource TEXT 128"),
     (["rm", "NO_SUCH_FILE", "TEXT", "128"], 4, "NO_SUCH_FILE"),
     (["set", "FILE", "TEXT", "128", "--name", "a", "--no-name"], 2, "cannot be used with"),
     (["set", "FILE", "TEXT", "128", "--id", "5"], 1, "FILE: there is such a resource already"),
-    (["set", "FILE", "TEXT", "1", "--id", "5"], 1, "FILE: there is no such resource"),
+    (["set", "FILE", "TEXT", "1", "--id", "5"], 1, "FILE: there is no resource TEXT 1"),
     (["cp", "NO_SUCH_FILE", "FILE"], 4, "NO_SUCH_FILE: can't be read"),
     (["cp", "FILE", "FILE"], 1, "FILE: there is such a resource already"),
-    (["cp", "FILE", "TEXT:7", "FILE"], 1, "FILE: there is no such resource"),
+    (["cp", "FILE", "TEXT:7", "FILE"], 1, "FILE: there is no resource TEXT 7"),
+    (["cp", "FILE", "none", "FILE"], 1, "FILE: there is no resource of the type none"),
     (["cp", "DAMAGED", "FILE"], 3, "DAMAGED: "),
     (["cp", "FILE"], 2, ""),
     (["cp", "TWO", "OUT"], 1, "one type and id"),
@@ -112,10 +113,10 @@ def keyed(rows):
 
 
 def diff(a, b):
-    """The lines of the rows that differ, by type and id: of those of the first table, and then of those that only the second has."""
+    """The lines of the rows that differ: of those of the first table in its order, and then of those that only the second has."""
     a, b = keyed(a), keyed(b)
-    lines = [difference_of(row, b[key]) if key in b else f"- {title(row)}\n" for key, row in sorted(a.items())]
-    return "".join(lines + [f"+ {title(row)}\n" for key, row in sorted(b.items()) if key not in a])
+    lines = [difference_of(row, b[key]) if key in b else f"- {title(row)}\n" for key, row in a.items()]
+    return "".join(lines + [f"+ {title(row)}\n" for key, row in b.items() if key not in a])
 
 
 # the commands
@@ -234,7 +235,7 @@ def try_case(program, path, old, case, rows, extra):
     try:
         after = case.change(rows)
     except (Missing, Taken) as refused:
-        told = "no such resource" if isinstance(refused, Missing) else "such a resource already"
+        told = "there is no resource" if isinstance(refused, Missing) else "such a resource already"
         compare(what, run(program, words, case.given), 1, b"", told)
         must(state(path) == before, f"{what}: a file that is refused is touched")
         return "refused"

@@ -4,4 +4,5 @@ mod Changing
 mod Told
 mod Same
 mod Applied
+mod Tables
 mod Free

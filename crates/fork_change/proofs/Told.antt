@@ -68,7 +68,7 @@ others_first test new (row ∷ rows) own = by_case (test row) refl (others_first
         cond-true (not (test row)) (row ∷ others test (first_to test (new ∷ []) rows)) (others test (first_to test (new ∷ []) rows)) (not_from_false (test row) is)
         ∙ ap (λ (all : List Row). row ∷ all) rest
 
-others_added : (test : Row → Bool) (new : Row) (rows : List Row) → test new ≡ false → filter test (added new rows) ≡ filter test rows
+pub others_added : (test : Row → Bool) (new : Row) (rows : List Row) → test new ≡ false → filter test (added new rows) ≡ filter test rows
 others_added test new [] own = cond-false (test new) (new ∷ []) [] own
 others_added test new (row ∷ rows) own = by_case (bytes_eq row.kind new.kind && not (has_kind new.kind rows)) (others_added test new rows own)
   where

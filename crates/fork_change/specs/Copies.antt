@@ -1,5 +1,5 @@
 -- Rows that are copied to others.
-use Rattle.std.specs.Prelude.{ℕ, ℤ, pos, zero, suc, ◌+◌, ◌<◌, ◌⊎◌, nat_lt, Bool, true, if◌then◌else◌, List, [], ◌∷◌, bytes_eq, length, Option, None, Some}
+use Rattle.std.specs.Prelude.{ℕ, ℤ, pos, zero, suc, ◌+◌, nat_lt, Bool, true, if◌then◌else◌, List, [], ◌∷◌, bytes_eq, length, Option, None, Some}
 use Rattle.std.specs.List.{list_any}
 use Rattle.std.specs.Option.{option_and_then}
 use Rattle.fork_bytes.specs.Rows.{Row}
@@ -49,7 +49,3 @@ copied_one how row rows = if is_there (id_of row) rows then collided how row row
 abbrev pub copied : Collision → List Row → List Row → Option (List Row)
 copied how [] rows = Some rows
 copied how (row ∷ others) rows = option_and_then (copied how others) (copied_one how row rows)
-
--- more rows than a fork has that is written
-abbrev pub IsTooMany : List Row → List Row → Type 0
-IsTooMany rows chosen = (5458 < length rows) ⊎ (5458 < length chosen)

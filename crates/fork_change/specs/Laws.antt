@@ -7,7 +7,7 @@ use Rattle.fork_bytes.specs.Laws.{IsRow, IsTable}
 use Rattle.fork_change.specs.declared.row.ResourceId.{ResourceId}
 use Rattle.fork_change.specs.declared.copying.Collision.{Collision}
 use Rattle.fork_change.specs.Copies.{copied}
-use Rattle.fork_change.specs.Differences.{applied, diff}
+use Rattle.fork_change.specs.Differences.{applied, diff, rows_at}
 use Rattle.fork_change.specs.Rows.{id_of, is_at, is_there, put, removed, changed_to, added, with_rows}
 
 -- what is found of its type and id is the row that was put; any others with them stay after it
@@ -33,13 +33,13 @@ abbrev pub IsMovedBack : Type 0
 IsMovedBack = (what : ResourceId) (old new : Row) (rows : List Row) → find (is_at what) rows ≡ Some old →
     bytes_eq new.kind what.kind ≡ false → is_there (id_of new) rows ≡ false → changed_to (id_of new) old (changed_to what new rows) ≡ added old (removed what rows)
 
--- nothing differs exactly where the same row is found for each type and id
+-- no row differs exactly where each type and id has the same rows, in the same order
 abbrev pub IsNoDifference : Type 0
-IsNoDifference = (first second : List Row) → (diff first second ≡ []) ↔ ((what : ResourceId) → find (is_at what) first ≡ find (is_at what) second)
+IsNoDifference = (first second : List Row) → (diff first second ≡ []) ↔ ((what : ResourceId) → rows_at what first ≡ rows_at what second)
 
--- and what differs, applied to the first, gives the rows that are found in the second
+-- and what differs, applied to the first, gives each type and id the rows that it has in the second
 abbrev pub IsApplied : Type 0
-IsApplied = (first second : List Row) (what : ResourceId) → find (is_at what) (applied (diff first second) first) ≡ find (is_at what) second
+IsApplied = (first second : List Row) (what : ResourceId) → rows_at what (applied (diff first second) first) ≡ rows_at what second
 
 -- what comes of a table is one, so that it can be written and read again
 pub record KeepsTables : Type 0 where

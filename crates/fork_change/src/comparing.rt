@@ -1,25 +1,49 @@
 //! What differs between two tables.
 
-ghost use Rattle.std.specs.Prelude.{◌≡◌, ◌≢◌, ◌⊎◌, ◌++◌, [], drop, map, slice_get, take, IfErr, IfNone, IfOk, IfSome, OnOk};
-ghost use Rattle.fork_change.specs.Copies.{IsTooMany};
-ghost use Rattle.fork_change.specs.Differences.{added_in, changed_in, diff, is_same, same_name, shown};
-ghost use Rattle.fork_change.specs.declared.refusal.Refusal.TheVariants as why;
+ghost use Rattle.std.specs.Prelude.{◌≡◌, ◌≢◌, ◌++◌, ◌↔◌, [], false, map, slice_get, take, IfNone, IfOk, IfSome, IsTrue, OnOk, option_copied};
+ghost use Rattle.fork_change.specs.Differences.{IsEmpty, added_in, attributes_diff, changed_in, count_at, diff, is_same, nth_at, same_name, shown};
 
-use crate::copying::MOST_ROWS;
 use crate::putting::id_of;
-use crate::refusal::Refusal;
-use crate::search::{find_row, is_there};
+use crate::row::ResourceId;
+use crate::search::is_at;
 use bitflags::Flags;
-use fork_bytes::table::Row;
+use fork_bytes::table::{Row, Table};
 use mac_base::error::HostFull;
 use mac_base::name::Name;
 use std::alloc::Global;
 
-/// What differs of a type and id: the row of the first table and that of the second, if there are such.
+/// What differs of the n-th rows, from 0 on, of a type and id: that of the first table and that of the second, if there
+/// are such.
 #[derive(Clone, Copy)]
 pub struct Difference<'r, 'a> {
+    pub nth: usize,
     pub old: Option<&'r Row<'a>>,
     pub new: Option<&'r Row<'a>>,
+}
+
+/// What differs between two tables.
+#[derive(Drop)]
+pub struct Differences<'r, 'a> {
+    /// The rows that differ: those of the first table in its order, and then those that only the second has, in its own.
+    pub rows: Vec<Difference<'r, 'a>>,
+    /// Whether no row differs, and they come in another order.
+    pub is_reordered: bool,
+    /// The attributes of both maps, where they aren't the same.
+    pub map_attributes: Option<(u16, u16)>,
+    /// The first of the 240 extra bytes that differs, from 0 on.
+    pub extra: Option<usize>,
+}
+
+impl Differences<'_, '_> {
+    /// Whether nothing differs.
+    pub fn is_empty(&self) -> bool
+        ensures { IsTrue result ↔ IsEmpty self.now }
+    {
+        self.rows.is_empty()
+            && !self.is_reordered
+            && self.map_attributes.is_none()
+            && self.extra.is_none()
+    }
 }
 
 /// Whether two names are the same, or there are none.
@@ -42,6 +66,38 @@ fn is_same(row: &Row, other: &Row) -> bool
         && row.datum.as_slice() == other.datum.as_slice()
 }
 
+/// Whether two rows are the same.
+#[tactic(auto, using(crate::proofs::Same::row_from, crate::proofs::Same::at_from, crate::proofs::Same::same_from))]
+fn is_row(row: &Row, other: &Row) -> bool
+    ensures { IsTrue result ↔ (row.now ≡ other.now) }
+{
+    is_at(other, &id_of(row)) && is_same(row, other)
+}
+
+/// Whether two lists of rows are the same.
+fn are_same(rows: &[Row], others: &[Row]) -> bool
+    ensures { IsTrue result ↔ (rows.now ≡ others.now) }
+{
+    if rows.len() != others.len() {
+        return false;
+    }
+    for at in 0..rows.len() {
+        if !is_row(&rows[at], &others[at]) {
+            return false;
+        }
+    }
+    true
+}
+
+/// Whether two tables are the same.
+pub fn is_same_table(table: &Table, other: &Table) -> bool
+    ensures { IsTrue result ↔ (table.now ≡ other.now) }
+{
+    are_same(table.rows.as_slice(), other.rows.as_slice())
+        && table.extra == other.extra
+        && table.map_attributes == other.map_attributes
+}
+
 /// The first place at which bytes differ from others, or at which one of them ends. None exactly where they are the
 /// same.
 pub fn first_difference(bytes: &[u8], other: &[u8]) -> Option<usize>
@@ -62,6 +118,29 @@ pub fn first_difference(bytes: &[u8], other: &[u8]) -> Option<usize>
     }
 }
 
+/// How many rows there are of a type and id.
+fn count_at(rows: &[Row], what: &ResourceId) -> usize
+    ensures { result ≡ count_at what.now rows.now }
+{
+    rows.iter().filter(|row| is_at(row, what)).count()
+}
+
+/// The n-th row of a type and id.
+fn nth_at<'r, 'a>(rows: &'r [Row<'a>], what: &ResourceId, nth: usize) -> Option<&'r Row<'a>>
+    ensures { option_copied result ≡ nth_at what.now nth rows.now }
+{
+    let mut left = nth;
+    for row in rows {
+        if is_at(row, what) {
+            if left == 0 {
+                return Some(row);
+            }
+            left -= 1;
+        }
+    }
+    None
+}
+
 /// Adds what differs of the rows of the first table.
 fn push_changed<'r, 'a>(
     found: &mut Vec<Difference<'r, 'a>>,
@@ -73,13 +152,12 @@ fn push_changed<'r, 'a>(
     for at in 0..first.len() {
         let row = &first[at];
         let what = id_of(row);
-        if is_there(&first[..at], &what) {
-            continue;
-        }
-        let new = find_row(second, &what);
+        let nth = count_at(&first[..at], &what);
+        let new = nth_at(second, &what, nth);
         match new {
             Some(other) if is_same(row, other) => {}
             _ => found.push(Difference {
+                nth,
                 old: Some(row),
                 new,
             })?,
@@ -99,8 +177,10 @@ fn push_added<'r, 'a>(
     for at in 0..second.len() {
         let row = &second[at];
         let what = id_of(row);
-        if !is_there(&second[..at], &what) && !is_there(first, &what) {
+        let nth = count_at(&second[..at], &what);
+        if nth_at(first, &what, nth).is_none() {
             found.push(Difference {
+                nth,
                 old: None,
                 new: Some(row),
             })?;
@@ -109,25 +189,63 @@ fn push_added<'r, 'a>(
     Ok(())
 }
 
-/// What differs between two tables: of each type and id the rows that are found by it, where they aren't the same.
-/// Those of the first table come in its order, and then those that only the second has, in its own. A row after another
-/// with its type and id isn't found by them, and isn't compared; nor is the order of rows. It is TooMany exactly where
-/// one table has more than 5,458 rows.
-pub fn diff<'r, 'a>(
+/// What differs between the rows of two tables.
+fn diff<'r, 'a>(
     alloc: Global,
     first: &'r [Row<'a>],
     second: &'r [Row<'a>],
-) -> Result<Vec<Difference<'r, 'a>>, Refusal>
-    ensures found { IfOk result (λ found. map shown found.items ≡ diff first.now second.now) }
-    ensures too_many { IfErr result (λ fault. fault ≡ why.TooMany → IsTooMany first.now second.now) }
-    ensures few { OnOk result (¬ IsTooMany first.now second.now) }
-    ensures fault { IfErr result (λ fault. (fault ≡ why.TooMany) ⊎ (fault ≡ why.HostFull)) }
+) -> Result<Vec<Difference<'r, 'a>>, HostFull>
+    ensures { IfOk result (λ found. map shown found.items ≡ diff first.now second.now) }
 {
-    if first.len() > MOST_ROWS || second.len() > MOST_ROWS {
-        return Err(Refusal::TooMany);
-    }
     let mut found = Vec::new(alloc);
     push_changed(&mut found, first, second)?;
     push_added(&mut found, first, second)?;
     Ok(found)
+}
+
+/// Whether no row differs, and they come in another order.
+fn is_reordered(found: &[Difference], first: &[Row], second: &[Row]) -> bool
+    ensures order { IsTrue result ↔ ((found.now ≡ []) × (first.now ≢ second.now)) }
+    ensures kept { result ≡ false → found.now ≡ [] → first.now ≡ second.now }
+{
+    found.is_empty() && !are_same(first, second)
+}
+
+/// The attributes of two maps, where they aren't the same.
+fn attributes_of(first: &Table, second: &Table) -> Option<(u16, u16)>
+    ensures { result ≡ attributes_diff first.now.map_attributes second.now.map_attributes }
+{
+    if first.map_attributes == second.map_attributes {
+        None
+    } else {
+        Some((first.map_attributes, second.map_attributes))
+    }
+}
+
+/// What differs between two tables: nothing exactly where they are the same. The n-th row of a type and id is compared
+/// with the n-th. The only error is that the host has no memory.
+pub fn compare<'r, 'a>(
+    alloc: Global,
+    first: &'r Table<'a>,
+    second: &'r Table<'a>,
+) -> Result<Differences<'r, 'a>, HostFull>
+    ensures rows { IfOk result (λ found. map shown found.rows.items ≡ diff first.now.rows second.now.rows) }
+    ensures order { IfOk result (λ found. IsTrue found.is_reordered
+        ↔ ((diff first.now.rows second.now.rows ≡ []) × (first.now.rows ≢ second.now.rows))) }
+    ensures attributes { IfOk result (λ found. found.map_attributes
+        ≡ attributes_diff first.now.map_attributes second.now.map_attributes) }
+    ensures before { IfOk result (λ found. IfSome found.extra (λ at. take at first.now.extra ≡ take at second.now.extra)) }
+    ensures differs { IfOk result (λ found. IfSome found.extra (λ at. slice_get first.now.extra at ≢ slice_get second.now.extra at)) }
+    ensures none { IfOk result (λ found. IsEmpty found ↔ (first.now ≡ second.now)) }
+{
+    let old = first.rows.as_slice();
+    let new = second.rows.as_slice();
+    let rows = diff(alloc, old, new)?;
+    let is_reordered = is_reordered(&rows, old, new);
+    Ok(Differences {
+        rows,
+        is_reordered,
+        map_attributes: attributes_of(first, second),
+        extra: first_difference(&first.extra, &second.extra),
+    })
 }

@@ -1,10 +1,11 @@
 //! Resources are copied from one table into another.
 
-ghost use Rattle.std.specs.Prelude.{◌≡◌, ◌≢◌, ◌⊎◌, None, Some, IfErr, IfOk, OnOk, length};
+ghost use Rattle.std.specs.Prelude.{◌≡◌, ◌≢◌, ◌⊎◌, None, Some, IfErr, IfOk, OnOk};
 ghost use Rattle.std.specs.List.{filter};
-ghost use Rattle.fork_change.specs.Copies.{IsTooMany, copied, copied_one, free_id, is_chosen, is_meant, renumbered};
+ghost use Rattle.fork_change.specs.Copies.{copied, copied_one, free_id, is_chosen, is_meant, renumbered};
 ghost use Rattle.fork_change.specs.Rows.{with_rows};
 ghost use Rattle.fork_change.specs.declared.copying.Collision.TheVariants.{Refuse, Renumber};
+ghost use Rattle.fork_change.specs.declared.row.ResourceId.{ResourceId};
 ghost use Rattle.fork_change.specs.declared.refusal.Refusal.TheVariants as why;
 
 use crate::putting::{add_row, id_of, replace_row};
@@ -14,10 +15,7 @@ use crate::search::{is_at, is_there};
 use fork_bytes::table::{Contents, Row, Rows, Table};
 use mac_base::error::HostFull;
 use mac_base::resource::{ResType, Resource};
-
-/// The most resources of a fork that is written: two bytes hold the offset of its name list, and each has 12 bytes
-/// before it.
-pub(crate) const MOST_ROWS: usize = 5458;
+use std::alloc::Global;
 
 /// The least id of a program's own resources: those below are the system's.
 const FIRST_OWN_ID: usize = 128;
@@ -47,7 +45,7 @@ pub enum Collision {
 }
 
 /// Whether a choice means a row.
-fn is_meant(choice: &Choice, row: &Row) -> bool
+pub fn is_meant(choice: &Choice, row: &Row) -> bool
     ensures { result ≡ is_meant choice.now row.now }
 {
     match choice {
@@ -64,13 +62,6 @@ fn is_chosen(choices: &[Choice], row: &Row) -> bool
     choices.iter().any(|choice| is_meant(choice, row))
 }
 
-/// How many rows are chosen.
-fn count_chosen(from: &[Row], choices: &[Choice]) -> usize
-    ensures { result ≡ length (filter (is_chosen choices.now) from.now) }
-{
-    from.iter().filter(|row| is_chosen(choices, row)).count()
-}
-
 /// The same row once more. Its bytes stay where they are.
 fn same_row<'a>(row: &Row<'a>) -> Result<Row<'a>, HostFull>
     ensures { IfOk result (λ copy. copy ≡ row.now) }
@@ -81,6 +72,22 @@ fn same_row<'a>(row: &Row<'a>) -> Result<Row<'a>, HostFull>
         name: same_name(&row.name)?,
         attributes: row.attributes,
         datum: Contents::new(row.datum.as_slice()),
+    })
+}
+
+/// The same table once more. The bytes of its resources stay where they are. The only error is that the host has no
+/// memory.
+pub fn same_table<'a>(alloc: Global, table: &Table<'a>) -> Result<Table<'a>, HostFull>
+    ensures { IfOk result (λ copy. copy ≡ table.now) }
+{
+    let mut rows = Vec::new(alloc);
+    for row in table.rows.as_slice() {
+        rows.push(same_row(row)?)?;
+    }
+    Ok(Table {
+        rows: Rows::new(rows),
+        extra: table.extra,
+        map_attributes: table.map_attributes,
     })
 }
 
@@ -134,10 +141,9 @@ fn copy_row<'a>(rows: &mut Vec<Row<'a>>, row: &Row<'a>, how: Collision) -> Resul
     ensures copied { OnOk result (copied_one how row.now rows.old.items ≡ Some rows.new.items) }
     ensures refused { IfErr result (λ fault. fault ≡ why.Taken → copied_one how row.now rows.old.items ≡ None) }
     ensures none_free { IfErr result (λ fault. fault ≡ why.NoFreeId → copied_one how row.now rows.old.items ≡ None) }
-    ensures fault { IfErr result (λ fault. fault ≢ why.TooMany) }
     ensures collision { IfErr result (λ fault. fault ≡ why.Taken → how ≡ Refuse) }
     ensures renumbering { IfErr result (λ fault. fault ≡ why.NoFreeId → how ≡ Renumber) }
-    ensures known { IfErr result (λ fault. fault ≢ why.Missing) }
+    ensures known { IfErr result (λ fault. (what : ResourceId) → fault ≢ why.Missing what) }
 {
     let what = id_of(row);
     if !is_there(rows, &what) {
@@ -165,10 +171,9 @@ fn copy_rows<'a>(
     ensures copied { OnOk result (copied how (filter (is_chosen choices.now) from.now) rows.old.items ≡ Some rows.new.items) }
     ensures refused { IfErr result (λ fault. fault ≡ why.Taken → copied how (filter (is_chosen choices.now) from.now) rows.old.items ≡ None) }
     ensures none_free { IfErr result (λ fault. fault ≡ why.NoFreeId → copied how (filter (is_chosen choices.now) from.now) rows.old.items ≡ None) }
-    ensures fault { IfErr result (λ fault. fault ≢ why.TooMany) }
     ensures collision { IfErr result (λ fault. fault ≡ why.Taken → how ≡ Refuse) }
     ensures renumbering { IfErr result (λ fault. fault ≡ why.NoFreeId → how ≡ Renumber) }
-    ensures known { IfErr result (λ fault. fault ≢ why.Missing) }
+    ensures known { IfErr result (λ fault. (what : ResourceId) → fault ≢ why.Missing what) }
 {
     for row in from {
         if is_chosen(choices, row) {
@@ -179,8 +184,7 @@ fn copy_rows<'a>(
 }
 
 /// The table with the chosen rows of another, each in its place or as the last of its type. It is Taken exactly where a
-/// collision is refused, NoFreeId where no id of a type is free, and TooMany exactly where the table has, or the chosen
-/// are, more than 5,458 rows: no fork that is written has more.
+/// collision is refused, and NoFreeId where no id of a type is free.
 pub fn copy<'a>(
     to: Table<'a>,
     from: &[Row<'a>],
@@ -191,15 +195,10 @@ pub fn copy<'a>(
     ensures rest { IfOk result (λ new. new ≡ with_rows to.entry new.rows) }
     ensures refused { IfErr result (λ fault. fault ≡ why.Taken → copied how (filter (is_chosen choices.now) from.now) to.entry.rows ≡ None) }
     ensures none_free { IfErr result (λ fault. fault ≡ why.NoFreeId → copied how (filter (is_chosen choices.now) from.now) to.entry.rows ≡ None) }
-    ensures too_many { IfErr result (λ fault. fault ≡ why.TooMany → IsTooMany to.entry.rows (filter (is_chosen choices.now) from.now)) }
-    ensures few { OnOk result (¬ IsTooMany to.entry.rows (filter (is_chosen choices.now) from.now)) }
     ensures collision { IfErr result (λ fault. fault ≡ why.Taken → how ≡ Refuse) }
     ensures renumbering { IfErr result (λ fault. fault ≡ why.NoFreeId → how ≡ Renumber) }
-    ensures known { IfErr result (λ fault. fault ≢ why.Missing) }
+    ensures known { IfErr result (λ fault. (what : ResourceId) → fault ≢ why.Missing what) }
 {
-    if to.rows.as_slice().len() > MOST_ROWS || count_chosen(from, choices) > MOST_ROWS {
-        return Err(Refusal::TooMany);
-    }
     let Table {
         rows,
         extra,

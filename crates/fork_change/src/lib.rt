@@ -12,8 +12,8 @@ pub mod row;
 mod search;
 mod setting;
 
-pub use comparing::{Difference, diff, first_difference};
-pub use copying::{Choice, Collision, copy};
+pub use comparing::{Difference, Differences, compare, first_difference, is_same_table};
+pub use copying::{Choice, Collision, copy, is_meant, same_table};
 pub use laws::change_laws;
 pub use putting::{put, put_new};
 pub use refusal::Refusal;

@@ -14,10 +14,10 @@ use fork_bytes::table::{Rows, Table};
 pub fn remove<'a>(table: Table<'a>, what: &ResourceId) -> Result<Table<'a>, Refusal>
     ensures removed { IfOk result (λ new. new ≡ with_rows table.entry (removed what.now table.entry.rows)) }
     ensures there { OnOk result (is_there what.now table.entry.rows ≡ true) }
-    ensures missing { IfErr result (λ fault. (fault ≡ why.Missing) × (is_there what.now table.entry.rows ≡ false)) }
+    ensures missing { IfErr result (λ fault. (fault ≡ why.Missing what.now) × (is_there what.now table.entry.rows ≡ false)) }
 {
     if !is_there(table.rows.as_slice(), what) {
-        return Err(Refusal::Missing);
+        return Err(Refusal::Missing(*what));
     }
     let Table {
         rows,

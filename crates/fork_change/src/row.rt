@@ -12,7 +12,7 @@ use mac_base::name::Name;
 use mac_base::resource::{ResAttrs, ResType, Resource};
 
 /// The type and the id of a resource.
-#[derive(Clone, Copy, PartialEq, Eq)]
+#[derive(Clone, Copy, Debug, PartialEq, Eq)]
 pub struct ResourceId {
     pub kind: ResType,
     pub id: i16,

@@ -41,14 +41,14 @@ pub fn set<'a>(table: Table<'a>, what: &ResourceId, change: Change) -> Result<Ta
         (λ old. new ≡ with_rows table.entry (changed_to what.now (row_as change old) table.entry.rows))) }
     ensures there { OnOk result (is_there what.now table.entry.rows ≡ true) }
     ensures free { OnOk result (is_refused what.now change.to table.entry.rows ≡ false) }
-    ensures missing { is_there what.now table.entry.rows ≡ false → result ≡ Err why.Missing }
+    ensures missing { is_there what.now table.entry.rows ≡ false → result ≡ Err (why.Missing what.now) }
     ensures taken { is_there what.now table.entry.rows ≡ true → is_refused what.now change.to table.entry.rows ≡ true → result ≡ Err why.Taken }
-    ensures gone { IfErr result (λ fault. fault ≡ why.Missing → is_there what.now table.entry.rows ≡ false) }
+    ensures gone { IfErr result (λ fault. fault ≡ why.Missing what.now → is_there what.now table.entry.rows ≡ false) }
     ensures refused { IfErr result (λ fault. fault ≡ why.Taken → is_refused what.now change.to table.entry.rows ≡ true) }
-    ensures fault { IfErr result (λ fault. (fault ≡ why.Missing) ⊎ ((fault ≡ why.Taken) ⊎ (fault ≡ why.HostFull))) }
+    ensures fault { IfErr result (λ fault. (fault ≡ why.Missing what.now) ⊎ ((fault ≡ why.Taken) ⊎ (fault ≡ why.HostFull))) }
 {
     let Some(old) = find_row(table.rows.as_slice(), what) else {
-        return Err(Refusal::Missing);
+        return Err(Refusal::Missing(*what));
     };
     if is_refused(table.rows.as_slice(), what, &change.to) {
         return Err(Refusal::Taken);

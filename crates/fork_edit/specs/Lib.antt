@@ -1,1 +1,4 @@
 pub mod Files
+pub mod Edits
+pub mod Changes
+pub mod Convert

@@ -1,13 +1,15 @@
 //! A file whose resources are changed.
 
-use crate::difference::differences;
+ghost use Rattle.fork_edit.specs.Changes.{Comes, IsTableIn};
+
+use crate::difference::text_of;
 use crate::edit::{Edit, edited};
 use crate::file::{NotWritten, fork_or_none, with_table};
-use crate::same::is_same_table;
 use fork_answer::{Failure, read_table};
 use fork_bytes::table::{Row, Table};
-use fork_change::Refusal;
-use std::alloc::{AllocError, Global};
+use fork_change::{Refusal, compare, same_table};
+use mac_base::error::HostFull;
+use std::alloc::Global;
 use thiserror::Error;
 
 /// Why the resources of a file aren't changed.
@@ -27,8 +29,13 @@ pub enum NotChanged {
     HostFull,
 }
 
-impl From<AllocError> for NotChanged {
-    fn from(_: AllocError) -> NotChanged {
+impl From<HostFull> for NotChanged {
+    ghost use Rattle.std.specs.Prelude.{◌≡◌};
+    ghost use Rattle.fork_edit.specs.declared.change.NotChanged.TheVariants as not;
+
+    ghost from_gives = { λ _ fault. fault ≡ not.HostFull };
+
+    fn from(_: HostFull) -> NotChanged {
         NotChanged::HostFull
     }
 }
@@ -40,37 +47,50 @@ pub struct NewFile {
     pub told: String,
 }
 
-/// The table of a fork.
-fn table_of_fork<'a>(alloc: Global, fork: &'a [u8]) -> Result<Table<'a>, NotChanged> {
-    match read_table(alloc, fork) {
-        Ok(table) => Ok(table),
-        Err(fault) => Err(NotChanged::Read(Failure::Fork(fault))),
-    }
-}
-
-/// The file after a change of its table, to which resources are copied from these rows, and all else as it was. None where the change leaves the table as it is: then nothing is to
-/// be written.
+/// The file after a change of its table, to which resources are copied from these rows, and all else as it was. None exactly where
+/// the change leaves the table as it is: then nothing is to be written.
 pub fn changed(
     alloc: Global,
     file: &[u8],
     from: &[Row<'_>],
     edit: Edit<'_>,
-) -> Result<Option<NewFile>, NotChanged> {
+) -> Result<Option<NewFile>, NotChanged>
+    ensures { Comes file.now from.now edit.entry result }
+{
     let found = match fork_or_none(alloc, file) {
         Ok(found) => found,
         Err(fault) => return Err(NotChanged::Read(Failure::NoFork(fault))),
     };
-    let before = table_of_fork(alloc, found.fork())?;
-    let after = match edited(table_of_fork(alloc, found.fork())?, from, edit) {
+    let before = match read_table(alloc, found.fork()) {
+        Ok(table) => table,
+        Err(fault) => return Err(NotChanged::Read(Failure::Fork(fault))),
+    };
+    changed_from(alloc, file, &before, from, edit)
+}
+
+/// The file after a change of its table, which is this one.
+fn changed_from<'a>(
+    alloc: Global,
+    file: &[u8],
+    before: &Table<'a>,
+    from: &[Row<'a>],
+    edit: Edit<'a>,
+) -> Result<Option<NewFile>, NotChanged>
+    ensures { IsTableIn file.now before.now → Comes file.now from.now edit.entry result }
+{
+    let after = match edited(same_table(alloc, before)?, from, edit) {
         Ok(table) => table,
         Err(fault) => return Err(NotChanged::Edit(fault)),
     };
-    if is_same_table(&before, &after) {
+    let differences = compare(alloc, before, &after)?;
+    if differences.is_empty() {
         return Ok(None);
     }
-    let told = differences(alloc, &before, &after)?;
     match with_table(alloc, file, &after) {
-        Ok(file) => Ok(Some(NewFile { file, told })),
+        Ok(file) => Ok(Some(NewFile {
+            file,
+            told: text_of(alloc, &differences)?,
+        })),
         Err(fault) => Err(NotChanged::Write(fault)),
     }
 }

@@ -1,31 +1,12 @@
-//! What differs between two tables.
+//! What differs between two tables, as text.
 
-use crate::same::are_same;
-use fork_bytes::table::{Row, Table};
+use fork_bytes::table::Row;
+use fork_change::{Difference, Differences, first_difference};
 use fork_list::{Attributes, KindText, NamePart};
+use mac_base::error::HostFull;
 use mac_text::Quoted;
 use mac_text::letters::Letters;
 use std::alloc::{AllocError, Global};
-use std::collections::BTreeMap;
-
-/// A type, an id, and which of several rows that have them.
-type Place = ([u8; 4], i16, usize);
-
-/// The rows by their types and ids.
-fn by_place<'r, 'a>(
-    alloc: Global,
-    rows: &'r [Row<'a>],
-) -> Result<BTreeMap<Place, &'r Row<'a>>, AllocError> {
-    let mut counts: BTreeMap<([u8; 4], i16), usize> = BTreeMap::new(alloc);
-    let mut placed = BTreeMap::new(alloc);
-    for row in rows {
-        let kind = row.kind.bytes();
-        let before = counts.get(&(kind, row.id)).copied().unwrap_or(0);
-        counts.insert((kind, row.id), before.saturating_add(1))?;
-        placed.insert((kind, row.id, before), row)?;
-    }
-    Ok(placed)
-}
 
 /// The name of a row, if it has one.
 fn name_of<'r>(row: &'r Row<'_>) -> Option<&'r [u8]> {
@@ -54,24 +35,13 @@ fn push_name(text: &mut String, row: &Row) -> Result<(), AllocError> {
     }
 }
 
-/// The first byte that differs, or how many bytes the shorter one has.
-fn first_difference(a: &[u8], b: &[u8]) -> usize {
-    for (at, (x, y)) in a.iter().zip(b).enumerate() {
-        if x != y {
-            return at;
-        }
-    }
-    a.len().min(b.len())
-}
-
 /// Adds how the bytes of a row differ, if they do.
 fn push_bytes(text: &mut String, a: &Row, b: &Row) -> Result<(), AllocError> {
     let old = a.datum.as_slice();
     let new = b.datum.as_slice();
-    if old == new {
+    let Some(at) = first_difference(old, new) else {
         return Ok(());
-    }
-    let at = first_difference(old, new);
+    };
     let old_length = old.len();
     let new_length = new.len();
     write!(
@@ -103,40 +73,33 @@ fn push_changed(alloc: Global, text: &mut String, a: &Row, b: &Row) -> Result<()
     Ok(())
 }
 
-/// Adds the lines of rows that differ, by type and id: those that the first table has, and then those that only the second has.
-fn push_rows(alloc: Global, text: &mut String, a: &[Row], b: &[Row]) -> Result<(), AllocError> {
-    let old = by_place(alloc, a)?;
-    let new = by_place(alloc, b)?;
-    for (place, row) in &old {
-        match new.get(place) {
-            Some(other) => push_changed(alloc, text, row, other)?,
-            None => push_row(text, '-', row)?,
-        }
+/// Adds the line of what differs of a row.
+fn push_difference(
+    alloc: Global,
+    text: &mut String,
+    difference: &Difference,
+) -> Result<(), AllocError> {
+    match (difference.old, difference.new) {
+        (Some(old), Some(new)) => push_changed(alloc, text, old, new),
+        (Some(old), None) => push_row(text, '-', old),
+        (None, Some(new)) => push_row(text, '+', new),
+        (None, None) => Ok(()),
     }
-    for (place, row) in &new {
-        if old.get(place).is_none() {
-            push_row(text, '+', row)?;
-        }
-    }
-    Ok(())
 }
 
 /// What differs between two tables, a line for each resource and for each other field.
-pub fn differences(alloc: Global, a: &Table, b: &Table) -> Result<String, AllocError> {
+pub fn text_of(alloc: Global, differences: &Differences) -> Result<String, HostFull> {
     let mut text = String::new(alloc);
-    let old = a.rows.as_slice();
-    let new = b.rows.as_slice();
-    push_rows(alloc, &mut text, old, new)?;
-    if text.as_str().is_empty() && !are_same(old, new) {
+    for difference in &differences.rows {
+        push_difference(alloc, &mut text, difference)?;
+    }
+    if differences.is_reordered {
         text.push_str("~ order\n")?;
     }
-    if a.map_attributes != b.map_attributes {
-        let old = a.map_attributes;
-        let new = b.map_attributes;
+    if let Some((old, new)) = differences.map_attributes {
         writeln!(text, "~ map attributes {old} -> {new}")?;
     }
-    if a.extra != b.extra {
-        let at = first_difference(&a.extra, &b.extra);
+    if let Some(at) = differences.extra {
         writeln!(text, "~ system and application bytes, from byte {at} on")?;
     }
     Ok(text)

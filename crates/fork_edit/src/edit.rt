@@ -1,13 +1,17 @@
 //! The changes of a table that the commands make.
 
+ghost use Rattle.std.specs.List.{filter, find};
+ghost use Rattle.fork_change.specs.Copies.{copied, is_chosen};
+ghost use Rattle.fork_change.specs.Rows.{is_at};
+ghost use Rattle.fork_edit.specs.Edits.{Becomes, copied_to, edited, put_in, removed_from, set_in};
+
 use fork_bytes::table::{Contents, Row, Table};
 use fork_change::row::{Change, ResourceId};
 use fork_change::{
-    Choice, Collision, Refusal, copy, is_there, put, put_new, remove, row_to_put, set,
+    Choice, Collision, Refusal, copy, is_meant, put, put_new, remove, row_to_put, set,
 };
-
-/// More rows than any fork has whose map has one list for each type.
-const MOST_ROWS: usize = 65_536;
+use std::alloc::{AllocError, Global};
+use std::collections::BTreeSet;
 
 /// A change of a table.
 #[derive(Drop)]
@@ -33,8 +37,27 @@ pub enum Edit<'a> {
     },
 }
 
-/// The table without these resources. Where one is missing, the result is Missing.
-fn remove_all<'a>(table: Table<'a>, whats: &[ResourceId]) -> Result<Table<'a>, Refusal> {
+/// The table with a resource that has these bytes.
+fn put_in<'a>(
+    table: Table<'a>,
+    change: Change,
+    bytes: &'a [u8],
+    is_new: bool,
+) -> Result<Table<'a>, Refusal>
+    ensures { Becomes table.entry (put_in change bytes.now is_new table.entry.rows) result }
+{
+    let row = row_to_put(table.rows.as_slice(), change, Contents::new(bytes))?;
+    if is_new {
+        put_new(table, row)
+    } else {
+        Ok(put(table, row)?)
+    }
+}
+
+/// The table without these resources. It is Missing where one of them isn't there.
+fn remove_all<'a>(table: Table<'a>, whats: &[ResourceId]) -> Result<Table<'a>, Refusal>
+    ensures { Becomes table.entry (removed_from whats.now table.entry.rows) result }
+{
     let mut table = table;
     for what in whats {
         table = remove(table, what)?;
@@ -42,66 +65,66 @@ fn remove_all<'a>(table: Table<'a>, whats: &[ResourceId]) -> Result<Table<'a>, R
     Ok(table)
 }
 
-/// Whether a choice means a row.
-fn is_meant(choice: &Choice, row: &Row) -> bool {
-    match choice {
-        Choice::All => true,
-        Choice::Kind(kind) => row.kind == *kind,
-        Choice::One(what) => row.kind == what.kind && row.id == what.id,
-    }
+/// The table in which a resource is another one.
+fn set_in<'a>(table: Table<'a>, what: &ResourceId, change: Change) -> Result<Table<'a>, Refusal>
+    ensures { Becomes table.entry (set_in what.now change (find (is_at what.now) table.entry.rows) table.entry.rows) result }
+{
+    set(table, what, change)
 }
 
-/// Whether no two of the rows that are meant have one type and id. No answer of more rows than a fork has is true.
-pub fn are_single(choices: &[Choice], rows: &[Row]) -> bool {
-    if rows.len() > MOST_ROWS {
-        return false;
-    }
-    for at in 0..rows.len() {
-        let row = &rows[at];
-        let what = ResourceId {
-            kind: row.kind,
-            id: row.id,
-        };
-        if is_there(&rows[..at], &what) && choices.iter().any(|choice| is_meant(choice, row)) {
-            return false;
-        }
-    }
-    true
-}
-
-/// Whether each choice but that of all means some row.
-pub fn are_meant(choices: &[Choice], rows: &[Row]) -> bool {
-    choices.iter().all(|choice| match choice {
-        Choice::All => true,
-        choice => rows.iter().any(|row| is_meant(choice, row)),
-    })
-}
-
-/// The table after a change, to which resources are copied from these. It is Missing where a resource that is named isn't there, and
-/// Taken where one is there that must not be.
-pub fn edited<'a>(
+/// The table to which the chosen ones of these rows are copied.
+fn copy_in<'a>(
     table: Table<'a>,
     from: &[Row<'a>],
-    edit: Edit<'a>,
-) -> Result<Table<'a>, Refusal> {
+    chosen: &[Choice],
+    how: Collision,
+) -> Result<Table<'a>, Refusal>
+    ensures { Becomes table.entry (copied_to how (copied how (filter (is_chosen chosen.now) from.now) table.entry.rows)) result }
+{
+    copy(table, from, chosen, how)
+}
+
+/// The table after a change, to which resources are copied from these: exactly that of the definitions, or refused as they say. It is
+/// Missing where a resource that is named isn't there, and Taken where one is there that must not be.
+pub fn edited<'a>(table: Table<'a>, from: &[Row<'a>], edit: Edit<'a>) -> Result<Table<'a>, Refusal>
+    ensures { Becomes table.entry (edited edit.entry from.now table.entry.rows) result }
+{
     match edit {
         Edit::Put {
             change,
             bytes,
             is_new,
-        } => {
-            let row = row_to_put(table.rows.as_slice(), change, Contents::new(bytes))?;
-            if is_new {
-                put_new(table, row)
-            } else {
-                Ok(put(table, row)?)
-            }
-        }
+        } => put_in(table, change, bytes, is_new),
         Edit::Remove(whats) => remove_all(table, whats),
-        Edit::Set { what, change } => set(table, &what, change),
+        Edit::Set { what, change } => set_in(table, &what, change),
         Edit::Copy {
             chosen,
             on_collision,
-        } => copy(table, from, chosen, on_collision),
+        } => copy_in(table, from, chosen, on_collision),
     }
+}
+
+/// The first choice, but that of all, that means no row.
+pub fn unmet<'c>(choices: &'c [Choice], rows: &[Row]) -> Option<&'c Choice> {
+    choices.iter().find(|choice| match choice {
+        Choice::All => false,
+        choice => !rows.iter().any(|row| is_meant(choice, row)),
+    })
+}
+
+/// The first row that is meant and has the type and the id of another one before it.
+pub fn second_of<'r, 'a>(
+    alloc: Global,
+    choices: &[Choice],
+    rows: &'r [Row<'a>],
+) -> Result<Option<&'r Row<'a>>, AllocError> {
+    let mut seen = BTreeSet::new(alloc);
+    for row in rows {
+        if choices.iter().any(|choice| is_meant(choice, row))
+            && !seen.insert((row.kind.bytes(), row.id))?
+        {
+            return Ok(Some(row));
+        }
+    }
+    Ok(None)
 }

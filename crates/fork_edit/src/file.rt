@@ -7,12 +7,12 @@ ghost use Rattle.fork_answer.specs.Answer.{IsTableOf};
 ghost use Rattle.fork_answer.specs.Source.{IsForkIn, IsNoForkIn, fork_of};
 ghost use Rattle.fork_edit.specs.Files.{HasTable, IsKeptAs, IsKeptElsewhere, IsSourceOf};
 
-use crate::same::is_same_table;
 use fork_answer::{Found, NoFork, read_table, resource_fork};
 use fork_bytes::fault::{ForkFault, WriteFault};
 use fork_bytes::layout::Limits;
 use fork_bytes::table::Table;
 use fork_bytes::write_fork_within;
+use fork_change::is_same_table;
 use mac_files::bin_hex::fault::BinHexFault;
 use mac_files::bin_hex::{is_bin_hex, read_bin_hex};
 use mac_files::container::{Container, Version};

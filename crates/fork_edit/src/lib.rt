@@ -2,7 +2,8 @@
 #![tactic(auto)]
 
 pub mod change;
+pub mod convert;
 pub mod difference;
 pub mod edit;
+pub mod extra;
 pub mod file;
-pub mod same;

@@ -50,7 +50,7 @@ digit_step value at cs h =
       ap (λ (x : Bool × Bool × Option ℕ). x.2) read,
     ) refl
 
-line_step : (at : ℕ) (cs : List ℕ) → digits_from at (13 ∷ cs) ≡ digits_from (at + 1) cs
+line_step : (at : ℕ) (cs : List ℕ) → digits_from at (10 ∷ cs) ≡ digits_from (at + 1) cs
 unfolding digits_from
 line_step at cs = refl
 
@@ -65,7 +65,7 @@ digits_read [] zero at are = record { values_are = refl; at = at + 1; closed = r
 digits_read [] (suc room) at are = record { values_are = refl; at = at; closed = refl }
 digits_read (value ∷ values) zero at are =
     let cs = in_lines 63 (map digit values ++ 58 ∷ []) in
-    let e : digits_from at (13 ∷ digit value ∷ cs) ≡ before (record { value = value; at = at + 1 } ∷ []) (digits_from (at + 1 + 1) cs) =
+    let e : digits_from at (10 ∷ digit value ∷ cs) ≡ before (record { value = value; at = at + 1 } ∷ []) (digits_from (at + 1 + 1) cs) =
     line_step at (digit value ∷ cs) ∙ digit_step value (at + 1) cs are.0 in
     subst (λ (r : Reading). Reads r (value ∷ values)) (sym e) (reads_before (digits_from (at + 1 + 1) cs) (record { value = value; at = at + 1 }) value values refl (digits_read values 63 (at + 1 + 1) are.1))
 digits_read (value ∷ values) (suc room) at are =

@@ -3,7 +3,7 @@ use Rattle.std.proofs.Common.{◌≡◌, ◌≤◌, ℕ, suc, ◌+◌, ◌-◌, 
 use Rattle.std.proofs.lemmas.List.{drop-drop, length-drop}
 use Rattle.mac_write.specs.HexText.{digits, in_lines, sixes}
 
-pub line_starts : (room c : ℕ) (rest : List ℕ) → room ≡ 0 → in_lines room (c ∷ rest) ≡ 13 ∷ c ∷ in_lines 63 rest
+pub line_starts : (room c : ℕ) (rest : List ℕ) → room ≡ 0 → in_lines room (c ∷ rest) ≡ 10 ∷ c ∷ in_lines 63 rest
 unfolding in_lines
 line_starts room c rest is = rw is refl
 
@@ -11,7 +11,7 @@ pub line_goes_on : (room c : ℕ) (rest : List ℕ) → 1 ≤ room → in_lines 
 unfolding in_lines
 line_goes_on room c rest some = let one_more : room ≡ suc (room - 1) = omega arith in ap (λ (n : ℕ). in_lines n (c ∷ rest)) one_more
 
-pub line_ends : (room : ℕ) → in_lines room [] ≡ 13 ∷ []
+pub line_ends : (room : ℕ) → in_lines room [] ≡ 10 ∷ []
 unfolding in_lines
 line_ends room = refl
 

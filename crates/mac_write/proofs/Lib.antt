@@ -17,5 +17,6 @@ pub mod HexLines
 pub mod HexRead
 pub mod Places
 pub mod ReadBinary
+pub mod ReadApple
 pub mod ReadAgain
 pub mod Held

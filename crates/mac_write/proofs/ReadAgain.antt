@@ -1,14 +1,15 @@
 -- What is written is read again.
-use Rattle.std.proofs.Common.{◌≡◌, ◌≢◌, ℕ, ◌≤◌, ◌<◌, Bool, true, false, List, [], ◌∷◌, length, None, Some, Result, Ok, Err, IfOk, refl, sym, subst, inr, arith}
+use Rattle.std.proofs.Common.{◌≡◌, ◌≢◌, ℕ, ◌≤◌, ◌<◌, Bool, true, false, List, [], ◌∷◌, length, ◌+◌, None, Some, Result, Ok, Err, IfOk, refl, sym, subst, inr, arith}
 use Rattle.std.specs.Prelude.{slice_index, nat_le, nat_lt, ◌==◌, ◌&&◌, ◌||◌, if◌then◌else◌}
 use Rattle.std.specs.List.{list_any}
 use Rattle.std.specs.Option.{option_or}
 use Rattle.std.specs.Result.{result_err}
 use Rattle.std.proofs.lemmas.Bool.{and_left, and_right, cond-false, eqb-false, ltb-false, ltb-true, ne_eqb}
 use Rattle.std.proofs.lemmas.List.{take_all}
-use Rattle.mac_files.specs.declared.container.Container.TheVariants.{Raw}
+use Rattle.mac_files.specs.declared.container.Container.TheVariants.{AppleDouble, AppleSingle, Raw}
 use Rattle.mac_files.specs.BinHex.{is_bin_hex, line_from}
 use Rattle.mac_files.specs.Containers.{container_of, is_fork_header}
+use Rattle.mac_files.specs.Faults.{apple_fault}
 use Rattle.mac_files.specs.MacBinary.{has_form, version_of}
 use Rattle.mac_write.specs.declared.refusal.Refusal.{Refusal}
 use Rattle.mac_write.specs.declared.refusal.Refusal.TheVariants.{CommentTooLong, DateOutside, NameCharacter, NameTooLong, NoName, TooLong}
@@ -18,10 +19,11 @@ use Rattle.mac_write.specs.Apple.{length_refusal}
 use Rattle.mac_write.specs.Forks.{Refuses}
 use Rattle.mac_write.specs.HexText.{hex_file, hex_text}
 use Rattle.mac_write.specs.Parts.{IsFile, Parts, no_finder, parts_of}
-use Rattle.mac_write.specs.Targets.{binary_date_refusal, binary_unwritten, name_character_refusal, name_refusal, double_text, hex_unwritten, name_length_refusal, single_text, text_of, unwritten}
+use Rattle.mac_write.specs.Targets.{apple_date_refusal, apple_unwritten, is_apple_date, parts_refusal, told_length, binary_date_refusal, binary_unwritten, name_character_refusal, name_refusal, double_text, hex_unwritten, name_length_refusal, single_text, text_of, unwritten}
 use Rattle.mac_write.specs.Written.{IsReadAgain, IsReadAsText, held}
 use Rattle.mac_files.proofs.Known.{double, single}
 use Rattle.mac_write.proofs.HexRead.{IsHexFile, text_is}
+use Rattle.mac_write.proofs.ReadApple.{FitsApple, double_again, single_again}
 use Rattle.mac_write.proofs.ReadBinary.{FitsHeader, binary_again}
 use Rattle.mac_write.proofs.Refused.{then_none, else_none, or_none}
 
@@ -127,12 +129,30 @@ fits_header file none =
       comment = (let few : length file.comment < 65536 = omega arith in few);
     }
 
+-- AppleSingle and AppleDouble.
+
+fits_apple : (file : Parts) (count : ℕ) → apple_unwritten count file ≡ None → FitsApple file count
+fits_apple file count none =
+    let a = or_none (apple_date_refusal file.created) _ none in
+    let b = or_none (apple_date_refusal file.modified) (length_refusal count) a.1 in
+    record {
+      created = then_none (is_apple_date file.created) (DateOutside file.created) a.0;
+      modified = then_none (is_apple_date file.modified) (DateOutside file.modified) b.0;
+      small = length_fits count b.1;
+    }
+
 -- All of them.
 
 pub again : (target : Target) (file : Parts) → IsFile file → unwritten target file ≡ None → IsReadAgain target file (text_of target file)
 again target.Raw file is none = (raw_known file.resource_fork, raw_again file.resource_fork)
-again target.AppleDouble file is none = double (double_text file) refl (inr refl)
-again target.AppleSingle file is none = single (single_text file) refl (inr refl)
+again target.AppleDouble file is none = record { known = double (double_text file) refl (inr refl); whole = both.0; told = both.1 }
+  where
+    both : (apple_fault (double_text file) ≡ None) × (parts_of AppleDouble (double_text file) ≡ record file { data_fork = [] })
+    both = double_again file is (fits_apple file (86 + told_length file + length file.resource_fork) (or_none (parts_refusal file) _ none).1)
+again target.AppleSingle file is none = record { known = single (single_text file) refl (inr refl); whole = both.0; told = both.1 }
+  where
+    both : (apple_fault (single_text file) ≡ None) × (parts_of AppleSingle (single_text file) ≡ file)
+    both = single_again file is (fits_apple file (98 + told_length file + length file.data_fork + length file.resource_fork) (or_none (parts_refusal file) _ none).1)
 again target.MacBinary file is none = binary_again file is (fits_header file none)
 again target.BinHex file is none = text_again file is none
 

@@ -50,15 +50,15 @@ digit value = slice_index (codes "!\"#$%&'()*+,-012345689@ABCDEFGHIJKLMNPQRSTUVX
 abbrev pub digits : List ℕ → List ℕ
 digits bytes = map digit (sixes bytes)
 
--- characters in lines of 64, the first of which has room for so many. A return ends each line, as on a Macintosh
+-- characters in lines of 64, the first of which has room for so many. A line feed ends each, which all readers take
 unfoldable pub in_lines : ℕ → List ℕ → List ℕ
-in_lines room [] = 13 ∷ []
-in_lines zero (c ∷ cs) = 13 ∷ c ∷ in_lines 63 cs
+in_lines room [] = 10 ∷ []
+in_lines zero (c ∷ cs) = 10 ∷ c ∷ in_lines 63 cs
 in_lines (suc room) (c ∷ cs) = c ∷ in_lines room cs
 
 -- the line that comes before each text, and an empty one
 abbrev pub comment_line : List ℕ
-comment_line = codes "(This file must be converted with BinHex 4.0)" ++ 13 ∷ 13 ∷ []
+comment_line = codes "(This file must be converted with BinHex 4.0)" ++ 10 ∷ 10 ∷ []
 
 -- the digits between two colons
 abbrev pub hex_text : File → List ℕ

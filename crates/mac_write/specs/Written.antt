@@ -42,7 +42,7 @@ pub record IsReadAsText (file : Parts) (bytes : List ℕ) : Type 0 where
 -- alone.
 abbrev pub IsReadAgain : Target → Parts → List ℕ → Type 0
 IsReadAgain target.Raw file new = (is_fork_header file.resource_fork ≡ true → container_of new ≡ Some Raw) × (parts_of Raw new ≡ held target.Raw file)
-IsReadAgain target.AppleDouble file new = container_of new ≡ Some AppleDouble
-IsReadAgain target.AppleSingle file new = container_of new ≡ Some AppleSingle
+IsReadAgain target.AppleDouble file new = IsReadAs AppleDouble (held target.AppleDouble file) new
+IsReadAgain target.AppleSingle file new = IsReadAs AppleSingle (held target.AppleSingle file) new
 IsReadAgain target.MacBinary file new = IsReadAs (MacBinary III) (held target.MacBinary file) new
 IsReadAgain target.BinHex file new = IsReadAsText (held target.BinHex file) new

@@ -24,7 +24,7 @@ const LINE_LENGTH: usize = 64;
 const DIGITS: &[u8; 64] = b"!\"#$%&'()*+,-012345689@ABCDEFGHIJKLMNPQRSTUVXYZ[`abcdefhijklmpqr";
 
 /// The line that comes before each text, and an empty one.
-const COMMENT: &[u8] = b"(This file must be converted with BinHex 4.0)\r\r";
+const COMMENT: &[u8] = b"(This file must be converted with BinHex 4.0)\n\n";
 
 /// Checks that the header can hold all that it tells.
 fn check_head(file: &MacFile) -> Result<(), Refusal>
@@ -151,7 +151,7 @@ fn push_character(new: &mut Vec<u8>, room: usize, character: u8) -> Result<usize
     ensures left { IfOk result (λ left. left ≤ 64) }
 {
     if room == 0 {
-        new.extend_from_slice(&[b'\r', character])?;
+        new.extend_from_slice(&[b'\n', character])?;
         Ok(LINE_LENGTH - 1)
     } else {
         new.extend_from_slice(&[character])?;
@@ -167,7 +167,7 @@ fn push_lines(new: &mut Vec<u8>, characters: &[u8]) -> Result<(), AllocError>
     for character in characters {
         room = push_character(new, room, *character)?;
     }
-    new.extend_from_slice(b"\r")?;
+    new.extend_from_slice(b"\n")?;
     Ok(())
 }
 

@@ -8,6 +8,10 @@ use file_replace::{Held, save};
 use fork_bytes::table::Row;
 use fork_edit::change::{NewFile, changed};
 use fork_edit::edit::Edit;
+use std::io::{IsTerminal, Write};
+
+/// The word for the standard output, in place of a file's name.
+const OUTPUT: &str = "-";
 
 /// Changes the resources of a file, in its own place or in another. The result is the exit status.
 pub fn change(
@@ -100,8 +104,14 @@ pub fn write_output(rt: &HostRuntime, target: &Target<'_>, bytes: &[u8]) -> Resu
     }
 }
 
-/// Writes a file: it is whole then, or as it was.
+/// Writes a file, which is whole then, or as it was; or bytes to the standard output, unless it is a terminal.
 pub fn save_to(rt: &HostRuntime, output: &str, bytes: &[u8]) -> Result<(), Problem> {
+    if output == OUTPUT {
+        if rt.stdout().is_terminal() {
+            return Err(Problem::Terminal);
+        }
+        return rt.stdout().write_all(bytes).map_err(Problem::Print);
+    }
     match save(rt, output, bytes) {
         Ok(_) => Ok(()),
         Err(error) => Err(Problem::Output {
@@ -111,9 +121,9 @@ pub fn save_to(rt: &HostRuntime, output: &str, bytes: &[u8]) -> Result<(), Probl
     }
 }
 
-/// Says what was done, or would be.
+/// Says what was done, or would be, unless the file itself goes to the standard output.
 pub fn say(rt: &HostRuntime, target: &Target<'_>, text: &String) -> Result<u8, Problem> {
-    if !target.is_quiet {
+    if !target.is_quiet && (target.is_dry || target.output != Some(OUTPUT)) {
         write_text(rt, text)?;
     }
     Ok(DONE)

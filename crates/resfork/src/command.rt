@@ -1,6 +1,5 @@
-//! The commands and options of the command line.
+//! The commands and words of the command line, as tables.
 
-use crate::change_command as change;
 use clap::{Arg, ArgAction, Command};
 use std::alloc::{AllocError, Global};
 
@@ -40,232 +39,204 @@ Exit status:
   3  a file holds no resource fork, or a damaged one
   4  a file can't be read, or the output can't be written";
 
-/// The files that a command is for.
-fn files<'a>(alloc: Global) -> Arg<'a> {
-    Arg::new(alloc, "file")
-        .value_name("FILE")
-        .required(true)
-        .num_args(1..)
-        .action(ArgAction::Append)
-        .help("The files; - is the standard input")
+/// The commands, in the order of the help. A line has a name; what the command does; and what its own help tells, if that is more.
+const COMMANDS: &str =
+    "ls;Lists resources;Lists resources: a line for each, with its type, its id, how many bytes it has, its attributes, and its name in double quotes
+get;Writes the bytes of a resource;
+info;Tells what a file is;Tells what a file is: its container, its type and creator, how many bytes its forks have, and how many resources of each type there are
+check;Tells all faults of a fork;Tells all faults of a fork, each with its place, and what is odd about it though it can be read: data that overlap, and bytes that no resource has
+salvage;Shows what can still be read of a damaged fork;
+show;Shows what is in resources;Shows what is in resources: 'STR ', 'STR#', 'TEXT' and 'vers' as text, and others in hexadecimal digits; one 'ICON', 'ICN#', 'ics#', 'CURS' or 'SICN' as a PNG file
+unpack;Writes each resource to a file of its own;Writes each resource to a file DIR/TYPE/ID NAME.bin, and all else of the fork to DIR/resources.json. Nothing is overwritten
+put;Replaces the bytes of a resource, or adds one;Replaces the bytes of the resource of this type and id, or adds it at the end of its type. Name and attributes stay where none are given; a new resource has none
+rm;Removes resources;Removes the resources of a type with these ids. Where one isn't there, none is removed
+set;Changes a resource's id, type, name or attributes;
+cp;Copies resources from a file to another;Copies resources from a file to another. Where a type and an id are there already, nothing is copied, unless one of --replace, --skip and --renumber is given
+diff;Compares the resources of two files;Compares the resources of two files by type and id: - for one that only the first has, + for one that only the second has, ~ for one that differs, with what differs. The status is 1 where they differ
+pack;Writes a fork of what unpack wrote;Writes a fork of the files in a folder, of which DIR/resources.json says what they are. unpack writes both
+derez;Writes resources as a text that rez reads;
+rez;Writes a fork of a text that derez wrote;";
+
+/// The words of the commands, options and then operands in their order. A line has the commands of a word; its name; its letter and
+/// its long form, if it is an option; what the help calls its value, if it has one; its marks; a word beside which it can't stand; and
+/// its help. The marks: a `required` word; a value `each` time that it stands, or `many` values; values that may be negative `numbers`,
+/// or begin with `-`.
+const WORDS: &str =
+    "ls unpack derez;type;t;type;TYPE;each;;Only resources of this type, as ls shows it (STR is 'STR '); it may stand several times
+ls;types;;types;;;;Lists types: a line for each, with how many resources it has
+salvage;list;;list;;;output;Lists what can be read, and why the rest can't be; so it does without -o
+ls salvage;raw;;raw;;;;Shows letters that aren't ASCII as \\xHH, and not as the characters that they are in MacRoman
+ls info check;json;;json;;;;One line of JSON for each file
+ls;data;;data;FORM;;;With --json: the bytes of each resource too, as base64
+show;as;;as;FORM;;;text, hex or png, in place of what suits the type
+get;nth;;nth;N;;;Of several such resources the N-th, counted from 1
+put;input;i;input;IN;;;The file with the resource's bytes, in place of the standard input
+set;id;;id;N;numbers;;Its new id
+set;type;;type;T;;;Its new type; it goes to the end of that type
+put;name;;name;N;;;The resource's name, as ls shows it
+set;name;;name;N;;;Its new name, as ls shows it
+set;no-name;;no-name;;;name;It has no name any more
+put set;attrs;;attrs;A;-;;Its attributes: words of ls with commas between them, - for none, or +purgeable,-locked to change some
+put;new;;new;;;;Refuses a type and an id that are there
+put;create;;create;;;;Makes a new raw fork where there is no FILE
+cp;replace;;replace;;;renumber;Takes the place of a resource that is there
+cp;skip;;skip;;;replace;Leaves out a resource that is there
+cp;renumber;;renumber;;;skip;Gives a resource whose id is taken the lowest id from 128 on that is free
+pack;like;;like;FILE;;;Puts the fork in a file like this one, in its container
+get;output;o;output;OUT;;;The file that the bytes are written to, in place of the standard output
+salvage;output;o;output;OUT;;;The file that a fork with all resources that can be read is written to
+show;output;o;output;OUT;;;The file that is written, in place of the standard output
+put rm set cp;output;o;output;OUT;;;The file that is written, in place of the one that is read
+rez;output;o;output;OUT;required;;The file that is written
+put rm set cp;backup;;backup;;;output;Keeps the old file as FILE~
+put rm set cp pack rez;dry;n;dry-run;;;;Says what would be done, and writes nothing
+put rm set cp pack rez;quiet;q;quiet;;;;Doesn't say what was done
+ls info check;file;;;FILE;required many;;The files; - is the standard input
+get salvage show unpack put rm set derez rez;file;;;FILE;required;;The file; - is the standard input
+get put rm;type;;;TYPE;required;;The resource's type, as ls shows it (STR is 'STR ')
+show;type;;;TYPE;;;Only resources of this type, as ls shows it (STR is 'STR ')
+get;key;;;ID|NAME;required numbers;;Its id, or its name; a name that is a number has double quotes
+show;key;;;ID|NAME;numbers;;Only the one with this id, or this name
+put;id;;;ID;required numbers;;The resource's id, from -32768 to 32767
+rm;id;;;ID;required many numbers;;The ids of the resources, from -32768 to 32767
+set;old-type;;;TYPE;required;;The resource's type, as ls shows it (STR is 'STR ')
+set;old-id;;;ID;required numbers;;The resource's id, from -32768 to 32767
+unpack;folder;;;DIR;required;;The folder: a new one, or an empty one
+pack;folder;;;DIR;required;;The folder
+pack;output;;;OUT;required;;The file that is written
+cp;from;;;FROM;required;;The file that resources are copied from
+cp;words;;;TYPE[:ID]|TO;required many;;Which resources, else all; and last the file that they are copied to
+diff;a;;;A;required;;The first file
+diff;b;;;B;required;;The second file";
+
+/// A word of commands.
+#[derive(Clone, Copy)]
+struct Word<'a> {
+    name: &'a str,
+    short: &'a str,
+    long: &'a str,
+    value: &'a str,
+    marks: &'a str,
+    rival: &'a str,
+    help: &'a str,
 }
 
-/// The file that a command is for.
-pub fn file<'a>(alloc: Global) -> Arg<'a> {
-    Arg::new(alloc, "file")
-        .value_name("FILE")
-        .required(true)
-        .action(ArgAction::Set)
-        .help("The file; - is the standard input")
+/// Whether a word stands in a text that has blanks between words.
+fn has(text: &str, word: &str) -> bool {
+    text.split(" ").any(|other| other == word)
 }
 
-/// The types that a command is for.
-pub fn kinds<'a>(alloc: Global) -> Arg<'a> {
-    Arg::new(alloc, "type")
-        .short('t')
-        .long("type")
-        .value_name("TYPE")
-        .action(ArgAction::Append)
-        .help(
-            "Only resources of this type, as ls shows it (STR is 'STR '); it may stand several times",
-        )
+/// The word of a line, where it is one of this command.
+fn word_of<'a>(line: &'a str, command: &str) -> Option<Word<'a>> {
+    let mut fields = line.splitn(8, ";");
+    if !has(fields.next()?, command) {
+        return None;
+    }
+    Some(Word {
+        name: fields.next()?,
+        short: fields.next()?,
+        long: fields.next()?,
+        value: fields.next()?,
+        marks: fields.next()?,
+        rival: fields.next()?,
+        help: fields.next()?,
+    })
 }
 
-/// How letters are shown.
-fn raw<'a>(alloc: Global) -> Arg<'a> {
-    Arg::new(alloc, "raw")
-        .long("raw")
-        .action(ArgAction::SetTrue)
-        .help(
-            "Shows letters that aren't ASCII as \\xHH, and not as the characters that they are in MacRoman",
-        )
+/// The forms of an option, where it is one.
+fn with_forms<'a>(arg: Arg<'a>, word: &Word<'a>) -> Arg<'a> {
+    if word.long.is_empty() {
+        return arg;
+    }
+    let arg = arg.long(word.long);
+    match word.short.chars().next() {
+        Some(short) => arg.short(short),
+        None => arg,
+    }
 }
 
-/// Whether a line of JSON is written for each file.
-fn json<'a>(alloc: Global) -> Arg<'a> {
-    Arg::new(alloc, "json")
-        .long("json")
-        .action(ArgAction::SetTrue)
-        .help("One line of JSON for each file")
+/// The values of a word, where it has some.
+fn with_values<'a>(arg: Arg<'a>, word: &Word<'a>) -> Arg<'a> {
+    if word.value.is_empty() {
+        return arg.action(ArgAction::SetTrue);
+    }
+    let arg = arg.value_name(word.value);
+    if has(word.marks, "many") {
+        arg.num_args(1..).action(ArgAction::Append)
+    } else if has(word.marks, "each") {
+        arg.action(ArgAction::Append)
+    } else {
+        arg.action(ArgAction::Set)
+    }
 }
 
-/// `ls`.
-fn list<'a>(alloc: Global) -> Result<Command<'a>, AllocError> {
-    let only_types = Arg::new(alloc, "types")
-        .long("types")
-        .action(ArgAction::SetTrue)
-        .help("Lists types: a line for each, with how many resources it has");
-    let data = Arg::new(alloc, "data")
-        .long("data")
-        .value_name("FORM")
-        .action(ArgAction::Set)
-        .help("With --json: the bytes of each resource too, as base64");
-    Command::new(alloc, "ls")
-        .about("Lists resources")
-        .long_about(
-            "Lists resources: a line for each, with its type, its id, how many bytes it has, its attributes, and its name in double quotes",
-        )
-        .arg(kinds(alloc))?
-        .arg(only_types)?
-        .arg(raw(alloc))?
-        .arg(json(alloc))?
-        .arg(data)?
-        .arg(files(alloc))
+/// Whether values may begin with -.
+fn with_dash<'a>(arg: Arg<'a>, marks: &str) -> Arg<'a> {
+    if has(marks, "numbers") {
+        arg.allow_negative_numbers(true)
+    } else if has(marks, "-") {
+        arg.allow_hyphen_values(true)
+    } else {
+        arg
+    }
 }
 
-/// `info`.
-fn info<'a>(alloc: Global) -> Result<Command<'a>, AllocError> {
-    Command::new(alloc, "info")
-        .about("Tells what a file is")
-        .long_about(
-            "Tells what a file is: its container, its type and creator, how many bytes its forks have, and how many resources of each type there are",
-        )
-        .arg(json(alloc))?
-        .arg(files(alloc))
+/// A word, as clap takes it.
+fn arg_of<'a>(alloc: Global, word: &Word<'a>) -> Result<Arg<'a>, AllocError> {
+    let arg = Arg::new(alloc, word.name)
+        .required(has(word.marks, "required"))
+        .help(word.help);
+    let arg = with_dash(with_values(with_forms(arg, word), word), word.marks);
+    if word.rival.is_empty() {
+        Ok(arg)
+    } else {
+        arg.conflicts_with(word.rival)
+    }
 }
 
-/// `check`.
-fn check<'a>(alloc: Global) -> Result<Command<'a>, AllocError> {
-    Command::new(alloc, "check")
-        .about("Tells all faults of a fork")
-        .long_about(
-            "Tells all faults of a fork, each with its place, and what is odd about it though it can be read: data that overlap, and bytes that no resource has",
-        )
-        .arg(json(alloc))?
-        .arg(files(alloc))
+/// The command of a line, without words.
+fn bare_command<'a>(alloc: Global, name: &'a str, about: &'a str, long: &'a str) -> Command<'a> {
+    let command = Command::new(alloc, name).about(about);
+    if long.is_empty() {
+        command
+    } else {
+        command.long_about(long)
+    }
 }
 
-/// `salvage`.
-fn salvage<'a>(alloc: Global) -> Result<Command<'a>, AllocError> {
-    let list = Arg::new(alloc, "list")
-        .long("list")
-        .action(ArgAction::SetTrue)
-        .conflicts_with("output")?
-        .help("Lists what can be read, and why the rest can't be; so it does without -o");
-    let output = Arg::new(alloc, "output")
-        .short('o')
-        .long("output")
-        .value_name("OUT")
-        .action(ArgAction::Set)
-        .help("The file that a fork with all resources that can be read is written to");
-    Command::new(alloc, "salvage")
-        .about("Shows what can still be read of a damaged fork")
-        .arg(list)?
-        .arg(raw(alloc))?
-        .arg(output)?
-        .arg(file(alloc))
+/// The command of a line.
+fn command_of<'a>(alloc: Global, line: &'a str) -> Result<Command<'a>, AllocError> {
+    let mut fields = line.splitn(3, ";");
+    let name = fields.next().unwrap_or("");
+    let about = fields.next().unwrap_or("");
+    let long = fields.next().unwrap_or("");
+    let mut command = bare_command(alloc, name, about, long);
+    for line in WORDS.lines() {
+        if let Some(word) = word_of(line, name) {
+            command = command.arg(arg_of(alloc, &word)?)?;
+        }
+    }
+    Ok(command)
 }
 
-/// `get`.
-fn get<'a>(alloc: Global) -> Result<Command<'a>, AllocError> {
-    let kind = Arg::new(alloc, "type")
-        .value_name("TYPE")
-        .required(true)
-        .action(ArgAction::Set)
-        .help("The resource's type, as ls shows it (STR is 'STR ')");
-    let key = Arg::new(alloc, "key")
-        .value_name("ID|NAME")
-        .required(true)
-        .allow_negative_numbers(true)
-        .action(ArgAction::Set)
-        .help("Its id, or its name; a name that is a number has double quotes");
-    let nth = Arg::new(alloc, "nth")
-        .long("nth")
-        .value_name("N")
-        .action(ArgAction::Set)
-        .help("Of several such resources the N-th, counted from 1");
-    let output = Arg::new(alloc, "output")
-        .short('o')
-        .long("output")
-        .value_name("OUT")
-        .action(ArgAction::Set)
-        .help("The file that the bytes are written to, in place of the standard output");
-    Command::new(alloc, "get")
-        .about("Writes the bytes of a resource")
-        .arg(file(alloc))?
-        .arg(kind)?
-        .arg(key)?
-        .arg(nth)?
-        .arg(output)
-}
-
-/// The file that something is written to.
-fn output<'a>(alloc: Global) -> Arg<'a> {
-    Arg::new(alloc, "output")
-        .short('o')
-        .long("output")
-        .value_name("OUT")
-        .action(ArgAction::Set)
-        .help("The file that is written, in place of the standard output")
-}
-
-/// `show`.
-fn show<'a>(alloc: Global) -> Result<Command<'a>, AllocError> {
-    let kind = Arg::new(alloc, "type")
-        .value_name("TYPE")
-        .action(ArgAction::Set)
-        .help("Only resources of this type, as ls shows it (STR is 'STR ')");
-    let key = Arg::new(alloc, "key")
-        .value_name("ID|NAME")
-        .allow_negative_numbers(true)
-        .action(ArgAction::Set)
-        .help("Only the one with this id, or this name");
-    let form = Arg::new(alloc, "as")
-        .long("as")
-        .value_name("FORM")
-        .action(ArgAction::Set)
-        .help("text, hex or png, in place of what suits the type");
-    Command::new(alloc, "show")
-        .about("Shows what is in resources")
-        .long_about(
-            "Shows what is in resources: 'STR ', 'STR#', 'TEXT' and 'vers' as text, and others in hexadecimal digits; one 'ICON', 'ICN#', 'ics#', 'CURS' or 'SICN' as a PNG file",
-        )
-        .arg(form)?
-        .arg(output(alloc))?
-        .arg(file(alloc))?
-        .arg(kind)?
-        .arg(key)
-}
-
-/// `unpack`.
-fn unpack<'a>(alloc: Global) -> Result<Command<'a>, AllocError> {
-    let folder = Arg::new(alloc, "folder")
-        .value_name("DIR")
-        .required(true)
-        .action(ArgAction::Set)
-        .help("The folder: a new one, or an empty one");
-    Command::new(alloc, "unpack")
-        .about("Writes each resource to a file of its own")
-        .long_about(
-            "Writes each resource to a file DIR/TYPE/ID NAME.bin, and all else of the fork to DIR/resources.json. Nothing is overwritten",
-        )
-        .arg(kinds(alloc))?
-        .arg(file(alloc))?
-        .arg(folder)
+/// The program, without commands.
+fn program<'a>(alloc: Global) -> Result<Command<'a>, AllocError> {
+    Ok(
+        Command::new(alloc, "resfork")
+            .bin_name("resfork")?
+            .version("1.0")
+            .about(ABOUT)
+            .after_long_help(EXAMPLES)
+            .subcommand_required(true)
+            .arg_required_else_help(true),
+    )
 }
 
 /// The program, with its commands.
 pub fn command<'a>(alloc: Global) -> Result<Command<'a>, AllocError> {
-    Command::new(alloc, "resfork")
-        .bin_name("resfork")?
-        .version("1.0")
-        .about(ABOUT)
-        .after_long_help(EXAMPLES)
-        .subcommand_required(true)
-        .arg_required_else_help(true)
-        .subcommand(list(alloc)?)?
-        .subcommand(get(alloc)?)?
-        .subcommand(info(alloc)?)?
-        .subcommand(check(alloc)?)?
-        .subcommand(salvage(alloc)?)?
-        .subcommand(show(alloc)?)?
-        .subcommand(unpack(alloc)?)?
-        .subcommand(change::put(alloc)?)?
-        .subcommand(change::remove(alloc)?)?
-        .subcommand(change::set(alloc)?)?
-        .subcommand(change::copy(alloc)?)?
-        .subcommand(change::compare(alloc)?)?
-        .subcommand(change::pack(alloc)?)?
-        .subcommand(change::derez(alloc)?)?
-        .subcommand(change::rez(alloc)?)
+    let mut command = program(alloc)?;
+    for line in COMMANDS.lines() {
+        command = command.subcommand(command_of(alloc, line)?)?;
+    }
+    Ok(command)
 }

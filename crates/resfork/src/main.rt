@@ -4,7 +4,6 @@
 mod asked;
 mod asked_change;
 mod change;
-mod change_command;
 mod command;
 mod input;
 mod message;

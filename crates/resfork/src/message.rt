@@ -3,13 +3,18 @@
 use crate::asked::NotAsked;
 use file_replace::NotReplaced;
 use fork_answer::Failure;
+use fork_change::row::ResourceId;
 use fork_edit::change::NotChanged;
 use fork_edit::file::NotWritten;
+use fork_list::KindText;
 use fork_pack::rows::PackFault;
 use fork_report::Refusal;
 use fork_rez::fault::RezFault;
 use fork_view::{NotShown, NotUnpacked};
+use mac_base::error::HostFull;
+use mac_base::resource::ResType;
 use mac_files::archive::Archive;
+use mac_text::letters::Letters;
 use std::alloc::{AllocError, Global};
 use std::io;
 use std::io::ErrorKind;
@@ -45,6 +50,9 @@ pub enum Problem {
     /// It is changed, but the standard output takes no more.
     #[error("it is changed, but what changed can't be told: {0}")]
     Said(io::Error),
+    /// No resource that is to be copied has this type.
+    #[error("there is no such resource")]
+    NoKind(ResType),
     /// Two resources that are copied have one type and id.
     #[error("two of these resources have one type and id: copy them one by one, by get and put")]
     Twice,
@@ -78,6 +86,9 @@ pub enum Problem {
     /// A folder isn't one to which resources were unpacked.
     #[error("{0}")]
     Pack(PackFault),
+    /// A resource stands apart from one before it of its type.
+    #[error("{0} stands apart from the other resources of its type: put those of one type together")]
+    Apart(String),
     /// A file of a folder is no text.
     #[error("{0} is no UTF-8 text")]
     NoText(String),
@@ -94,6 +105,12 @@ pub enum Problem {
 
 impl From<AllocError> for Problem {
     fn from(_: AllocError) -> Problem {
+        Problem::HostFull
+    }
+}
+
+impl From<HostFull> for Problem {
+    fn from(_: HostFull) -> Problem {
         Problem::HostFull
     }
 }
@@ -144,8 +161,9 @@ impl Problem {
         match self {
             Problem::Refused(refusal) => status_of_refusal(refusal),
             Problem::View(NotShown::NotFound)
-            | Problem::Edit(fork_change::Refusal::Missing)
+            | Problem::Edit(fork_change::Refusal::Missing(_))
             | Problem::Edit(fork_change::Refusal::Taken)
+            | Problem::NoKind(_)
             | Problem::Twice => NOT_FOUND,
             Problem::Terminal
             | Problem::View(NotShown::NoPicture)
@@ -159,7 +177,6 @@ impl Problem {
             | Problem::View(NotShown::HostFull)
             | Problem::Print(_)
             | Problem::Edit(fork_change::Refusal::HostFull)
-            | Problem::Edit(fork_change::Refusal::TooMany)
             | Problem::Edit(fork_change::Refusal::NoFreeId)
             | Problem::Write(_)
             | Problem::Replace(_)
@@ -168,7 +185,10 @@ impl Problem {
             | Problem::Rez(RezFault::HostFull)
             | Problem::Pack(PackFault::HostFull)
             | Problem::HostFull => CANT_GO_ON,
-            Problem::Rez(RezFault::Refused(_)) | Problem::Pack(_) | Problem::NoText(_) => NO_FORK,
+            Problem::Rez(RezFault::Refused(_))
+            | Problem::Pack(_)
+            | Problem::Apart(_)
+            | Problem::NoText(_) => NO_FORK,
         }
     }
 
@@ -196,10 +216,22 @@ pub fn tell_problem(rt: &HostRuntime, file: &str, problem: &Problem) {
                 is_readable: true,
             },
         ) => eprintln!(rt; "{file}: {told}: resfork salvage {file} -o OUT"),
+        Problem::Edit(fork_change::Refusal::Missing(what)) => tell_missing(rt, file, *what),
+        Problem::NoKind(kind) => {
+            let kind = KindText::new(Letters::Roman, *kind);
+            eprintln!(rt; "{file}: there is no resource of the type {kind}")
+        }
         Problem::Output { path, error } => eprintln!(rt; "{path}: {error}"),
         Problem::Container(path) => eprintln!(rt; "{path}: {problem}"),
         problem => eprintln!(rt; "{file}: {problem}"),
     };
+}
+
+/// Tells that the file of this name has no resource of this type and id.
+fn tell_missing(rt: &HostRuntime, file: &str, what: ResourceId) -> io::Result<()> {
+    let kind = KindText::new(Letters::Roman, what.kind);
+    let id = what.id;
+    eprintln!(rt; "{file}: there is no resource {kind} {id}")
 }
 
 /// Tells that the file of this name is an archive, and what opens it.

@@ -4,7 +4,7 @@ use crate::asked_change::Target;
 use crate::change::{say, write_output};
 use crate::message::{DONE, Problem};
 use crate::{fork_found, read, table_found};
-use fork_bytes::table::Table;
+use fork_bytes::table::{Row, Table};
 use fork_edit::file::with_table;
 use fork_pack::manifest::manifest_of;
 use fork_pack::rows::{Entry, packed};
@@ -13,6 +13,9 @@ use mac_base::resource::ResType;
 use mac_files::bin_hex::is_bin_hex;
 use mac_files::container::Container;
 use mac_files::container_of;
+use mac_text::Quoted;
+use mac_text::letters::Letters;
+use std::alloc::Global;
 use std::collections::BTreeMap;
 use std::fs;
 use std::io::Write;
@@ -59,6 +62,28 @@ fn is_container(rt: &HostRuntime, name: &str) -> bool {
     }
 }
 
+/// The first row that stands apart from one before it of its type.
+fn apart<'r, 'a>(rows: &'r [Row<'a>]) -> Option<&'r Row<'a>> {
+    for at in 1..rows.len() {
+        let kind = rows[at].kind;
+        if rows[at - 1].kind != kind && rows[..at].iter().any(|row| row.kind == kind) {
+            return Some(&rows[at]);
+        }
+    }
+    None
+}
+
+/// Refuses rows of which some of one type stand apart: a fork can't say so.
+fn check_together(alloc: Global, rows: &[Row<'_>]) -> Result<(), Problem> {
+    let Some(row) = apart(rows) else {
+        return Ok(());
+    };
+    let four = row.kind.bytes();
+    let kind = Quoted::single(Letters::Raw, &four);
+    let id = row.id;
+    Err(Problem::Apart(format!(in alloc; "{kind} {id}")?))
+}
+
 /// Writes a file like another one, with a table as that of its resource fork; like none, a raw fork.
 fn write_table(
     rt: &HostRuntime,
@@ -71,6 +96,7 @@ fn write_table(
     if like.is_empty() && is_container(rt, name) {
         return Err(Problem::Container(String::from_str(alloc, name)?));
     }
+    check_together(alloc, table.rows.as_slice())?;
     let file = with_table(alloc, like, table).map_err(Problem::Write)?;
     write_output(rt, target, &file)?;
     let count = table.rows.as_slice().len();

@@ -5,9 +5,10 @@ use crate::change::{change, create};
 use crate::message::{DONE, NOT_FOUND, Problem, tell_problem};
 use crate::rez::{derez_file, pack_folder, rez_file};
 use crate::{INPUT, fork_found, read, table_found, write_text};
+use fork_bytes::table::{Row, Table};
 use fork_change::{Choice, Collision, Refusal};
-use fork_edit::difference::differences;
-use fork_edit::edit::{Edit, are_meant, are_single};
+use fork_edit::difference::text_of;
+use fork_edit::edit::{Edit, second_of, unmet};
 use std::fs;
 use std::io::ErrorKind;
 
@@ -97,17 +98,25 @@ fn copy_from<'a>(
     let found = of_file(from, fork_found(rt, &bytes))?;
     let table = of_file(from, table_found(rt, &found, &bytes))?;
     let rows = table.rows.as_slice();
-    if !are_meant(chosen, rows) {
-        return of_file(from, Err(Problem::Edit(Refusal::Missing)));
-    }
-    if !are_single(chosen, rows) {
-        return of_file(from, Err(Problem::Twice));
-    }
+    of_file(from, can_copy(rt, chosen, rows))?;
     let edit = Edit::Copy {
         chosen,
         on_collision,
     };
     of_file(target.file, change(rt, &target, rows, edit))
+}
+
+/// Whether each choice means a row, and no two rows that are meant have one type and id.
+fn can_copy(rt: &HostRuntime, chosen: &[Choice], rows: &[Row<'_>]) -> Result<(), Problem> {
+    match unmet(chosen, rows) {
+        Some(Choice::One(what)) => return Err(Problem::Edit(Refusal::Missing(*what))),
+        Some(Choice::Kind(kind)) => return Err(Problem::NoKind(*kind)),
+        _ => {}
+    }
+    match second_of(rt.alloc(), chosen, rows)? {
+        Some(_) => Err(Problem::Twice),
+        None => Ok(()),
+    }
 }
 
 /// Writes what differs between two files. The result says whether something does.
@@ -118,13 +127,18 @@ fn compare<'a>(rt: &HostRuntime, a: &'a str, b: &'a str) -> Result<u8, Failed<'a
     let new = of_file(b, read(rt, b).map_err(Problem::Read))?;
     let new_fork = of_file(b, fork_found(rt, &new))?;
     let new_table = of_file(b, table_found(rt, &new_fork, &new))?;
-    let Ok(text) = differences(rt.alloc(), &old_table, &new_table) else {
-        return of_file(b, Err(Problem::HostFull));
-    };
-    if text.as_str().is_empty() {
+    of_file(b, write_differences(rt, &old_table, &new_table))
+}
+
+/// Writes what differs between two tables. The result says whether something does.
+fn write_differences(rt: &HostRuntime, old: &Table<'_>, new: &Table<'_>) -> Result<u8, Problem> {
+    let alloc = rt.alloc();
+    let differences = fork_change::compare(alloc, old, new)?;
+    if differences.is_empty() {
         return Ok(DONE);
     }
-    of_file(b, write_text(rt, &text))?;
+    let text = text_of(alloc, &differences)?;
+    write_text(rt, &text)?;
     Ok(NOT_FOUND)
 }
 

@@ -1,5 +1,4 @@
 pub mod Between
-pub mod Entries
 pub mod Settling
 pub mod Pressing
 pub mod Fronts

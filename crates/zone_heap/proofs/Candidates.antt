@@ -1,54 +1,45 @@
--- The search for the next block that may be purged.
-use Rattle.std.proofs.Common.{◌≡◌, ℕ, ◌+◌, ◌<◌, ◌≤◌, Bool, true, false, not, List, [], ◌∷◌, ◌++◌, refl, ap, sym, ◌∙◌, subst, arith}
+-- The search for the first of the handles that may be purged.
+use Rattle.std.proofs.Common.{◌≡◌, ℕ, ◌+◌, ◌<◌, ◌≤◌, true, false, not, cond, List, [], ◌∷◌, ◌++◌, append_assoc, append-nil, refl, ap, sym, ◌∙◌, subst, arith, Some, None}
 use Rattle.std.specs.Prelude.{◌&&◌}
-use Rattle.std.proofs.lemmas.Bool.{and_parts, not-true}
+use Rattle.std.specs.List.{slice_get}
+use Rattle.std.proofs.lemmas.Bool.{and_from, and_parts, not-true}
 use Rattle.mac_base.specs.declared.block.Entry.{Entry}
 use Rattle.mac_base.specs.declared.block.Kind.{Kind}
 use Rattle.mac_base.specs.declared.block.Kind.TheVariants.{Free, Master, Ptr, Rel}
-use Rattle.mac_base.specs.HandleTable.{HandleTable}
+use Rattle.mac_base.specs.Gap.{gap_behind, gaps}
+use Rattle.mac_base.specs.HandleTable.{HandleTable, is_purgeable}
 use Rattle.mac_base.specs.HeadKind.{Shape}
 use Rattle.mac_base.specs.Request.{candidates_in, is_among}
-use Rattle.mac_base.specs.ZoneMap.{ZoneMap, block, total_size}
-use Rattle.mac_base.specs.ZoneState.{ZoneState, with_heap}
-use Rattle.linked_zone.specs.Fit.{Fits, HasSizes}
-use Rattle.linked_zone.specs.Places.{HasOwner, SplitAt}
+use Rattle.mac_base.specs.ZoneMap.{ZoneMap, address_behind, block, total_size}
+use Rattle.mac_base.specs.ZoneState.{ZoneState}
+use Rattle.linked_zone.specs.Fit.{HasSizes}
+use Rattle.linked_zone.specs.Places.{EntryAt, SplitAt}
 use Rattle.zone_index.specs.Purging.{FirstPurgeable, may_go, none_purgeable}
 use Rattle.zone_index.proofs.Sizes.{all_parts}
+use Rattle.zone_index.proofs.SomeBytes.{no_bytes, total_size-push}
 use Rattle.zone_laws.proofs.GapApart.{sizes_possible}
-use Rattle.zone_index.proofs.SomeBytes.{no_bytes}
-use Rattle.zone_gaps.specs.Runs.{HasOwners}
-use Rattle.zone_gaps.proofs.Entries.{entry_owner}
-use Rattle.zone_gaps.proofs.Settling.{owners-settled}
-use Rattle.zone_heap.specs.Purge.{AllStay, BlocksAt, FirstToPurge, may_purge}
-use Rattle.zone_heap.proofs.Runs.{all_stay-append}
-use Rattle.zone_heap.proofs.Walks.{Walked, Facing, end_walked, entry_facing, map_rest, none_walked, place_rest, rest_walked, walked_on, walked_over}
-use Rattle.zone_heap.specs.declared.purge.Candidate.{Candidate}
-use Rattle.zone_heap.proofs.FreedBlocks.{candidates-append}
-use Rattle.zone_heap.proofs.Until.{none-candidates}
+use Rattle.zone_laws.proofs.GapParts.{gap_behind-is}
+use Rattle.zone_laws.proofs.Maps.{total_size-append}
+use Rattle.zone_gaps.specs.Gaps.{IsGapOf}
+use Rattle.zone_gaps.specs.declared.gap.FoundGap.{FoundGap}
+use Rattle.zone_heap.specs.Purge.{BlocksAt, unprotected}
 
--- where handles and blocks find each other the owners of blocks are live
-owners-fit : (z : ZoneState) → Fits z → HasSizes z → HasOwners z
-owners-fit z fits sizes =
-    let bare : ZoneState = with_heap (record { table = record { live = z.heap.table.live; lent = [] }; map = z.heap.map; free_slots = z.heap.free_slots }) z in
-    owners-settled bare (record { coherent = record { handles = fits.coherent.handles; pointers = fits.coherent.pointers; in_slots = fits.coherent.in_slots; in_order = fits.coherent.in_order }; sizes = sizes; loans = λ h lent. absurd (cc lent) })
-
--- blocks that may not be purged stay
-stays-kept : (t : HandleTable) (protected : List ℕ) (kind : Kind) → may_go t kind ≡ false → may_purge t protected kind ≡ false
-stays-kept t protected Free kept = refl
-stays-kept t protected Master kept = refl
-stays-kept t protected (Ptr p) kept = refl
-stays-kept t protected (Rel h) kept = ap (λ may. may && not (is_among protected h)) kept
-
-pub all-kept : (t : HandleTable) (protected : List ℕ) (m : ZoneMap) → none_purgeable t m ≡ true → AllStay (may_purge t protected) m
-all-kept t protected [] kept = tt
-all-kept t protected (e ∷ es) kept =
+-- blocks that may not be purged add none
+candidates-kept : (t : HandleTable) (protected : List ℕ) (a b : ZoneMap) → none_purgeable t a ≡ true → candidates_in t protected (a ++ b) ≡ candidates_in t protected b
+candidates-kept t protected [] b kept = refl
+candidates-kept t protected (e ∷ es) b kept =
     let parts = and_parts (not (may_go t e.kind)) (none_purgeable t es) kept in
-    (stays-kept t protected e.kind (not-true _ parts.0), all-kept t protected es parts.1)
+    by_kind e.size e.kind parts.0 (candidates-kept t protected es b parts.1)
+  where
+    by_kind : (n : ℕ) (kind : Kind) → not (may_go t kind) ≡ true → candidates_in t protected (es ++ b) ≡ candidates_in t protected b → candidates_in t protected (block kind n ∷ (es ++ b)) ≡ candidates_in t protected b
+    by_kind n Free kept rest = rest
+    by_kind n Master kept rest = rest
+    by_kind n (Ptr p) kept rest = rest
+    by_kind n (Rel h) kept rest = ap (λ c. cond (c && not (is_among protected h)) (h ∷ candidates_in t protected (es ++ b)) (candidates_in t protected (es ++ b))) (not-true (is_purgeable t h) kept) ∙ rest
 
--- the first blocks of a list that stay do
-front-stays : (test : Kind → Bool) (a b : ZoneMap) → AllStay test (a ++ b) → AllStay test a
-front-stays test [] b all = tt
-front-stays test (e ∷ es) b all = (all.0, front-stays test es b all.1)
+-- so where none may be purged there are none
+candidates-none : (t : HandleTable) (protected : List ℕ) (a : ZoneMap) → none_purgeable t a ≡ true → candidates_in t protected a ≡ []
+candidates-none t protected a kept = ap (candidates_in t protected) (sym (append-nil a)) ∙ candidates-kept t protected a [] kept
 
 -- a block that begins before these end is one of them
 block-among : (blocks behind passed : ZoneMap) (here : Entry) (more : ZoneMap) → blocks ++ behind ≡ passed ++ here ∷ more → total_size passed < total_size blocks → (rest : ZoneMap) × (blocks ≡ passed ++ here ∷ rest)
@@ -62,87 +53,111 @@ block-among (e ∷ es) behind (p ∷ passed) here more is low =
     (later.0, ap (λ f. f ∷ es) same ∙ ap (λ m. p ∷ m) later.1)
 
 -- where one begins where they end, or behind, they are among those passed
-all-passed : (s : Shape) (blocks behind passed : ZoneMap) (here : Entry) (more : ZoneMap) (test : Kind → Bool) → sizes_possible s blocks ≡ true → blocks ++ behind ≡ passed ++ here ∷ more → total_size blocks ≤ total_size passed → AllStay test passed → AllStay test blocks
-all-passed s [] behind passed here more test possible is high stay = tt
-all-passed s (e ∷ es) behind [] here more test possible is high stay = absurd (cc (no_bytes s (e ∷ es) possible (omega arith)))
-all-passed s (e ∷ es) behind (p ∷ passed) here more test possible is high stay =
+all-passed : (s : Shape) (t : HandleTable) (blocks behind passed : ZoneMap) (here : Entry) (more : ZoneMap) → sizes_possible s blocks ≡ true → blocks ++ behind ≡ passed ++ here ∷ more → total_size blocks ≤ total_size passed → none_purgeable t passed ≡ true → none_purgeable t blocks ≡ true
+all-passed s t [] behind passed here more possible is high kept = refl
+all-passed s t (e ∷ es) behind [] here more possible is high kept = absurd (cc (no_bytes s (e ∷ es) possible (omega arith)))
+all-passed s t (e ∷ es) behind (p ∷ passed) here more possible is high kept =
     let same : e ≡ p = cc is in
     let others : es ++ behind ≡ passed ++ here ∷ more = cc is in
     let bytes = ap (λ (e : Entry). e.size) same in
-    (ap (λ (e : Entry). test e.kind) same ∙ stay.0, all-passed s es behind passed here more test (all_parts _ (e ∷ []) es possible).1 others (omega arith) stay.1)
+    let parts = and_parts (not (may_go t p.kind)) (none_purgeable t passed) kept in
+    and_from (not (may_go t e.kind)) (none_purgeable t es) (ap (λ (e : Entry). not (may_go t e.kind)) same ∙ parts.0)
+    (all-passed s t es behind passed here more (all_parts _ (e ∷ []) es possible).1 others (omega arith) parts.1)
 
--- The blocks below an address are passed, and none of them may be purged.
-pub record Passed {start end : ℕ} (z : ZoneState) (b : BlocksAt z start end) (protected : List ℕ) (at : ℕ) : Type 0 where
-  pub walked : Walked z b at
-  pub stay : AllStay (may_purge z.heap.table protected) walked.done
+-- The blocks from an address on have the same handles that may be purged as all.
+pub record Left {start end : ℕ} (z : ZoneState) (protected : List ℕ) (all : BlocksAt z start end) (at : ℕ) : Type 0 where
+  pub blocks : BlocksAt z at end
+  pub same : candidates_in z.heap.table protected blocks.blocks ≡ candidates_in z.heap.table protected all.blocks
 
-module _ {start end : ℕ} (z : ZoneState) (b : BlocksAt z start end) (protected : List ℕ) where
-  -- at first none is passed
-  pub none_passed : Passed z b protected start
-  none_passed = record { walked = none_walked z b; stay = tt }
+module _ {at end : ℕ} (z : ZoneState) (protected : List ℕ) (b : BlocksAt z at end) where
+  -- the address parts the map
+  abbrev pub split_left : SplitAt z at
+  split_left = record { before = b.before; behind = b.blocks ++ b.behind; map = b.map; place = b.place }
 
-  module _ (at : ℕ) (s : Passed z b protected at) where
-    -- the address parts the map
-    abbrev pub split_passed : SplitAt z at
-    split_passed = record { before = b.before ++ (s.walked).done; behind = (s.walked).rest ++ b.behind; map = map_rest z b at s.walked; place = place_rest z b at s.walked }
+  -- none may be purged
+  pub none_left : none_purgeable z.heap.table (b.blocks ++ b.behind) ≡ true → candidates_in z.heap.table protected b.blocks ≡ []
+  none_left kept = candidates-none z.heap.table protected b.blocks (all_parts _ b.blocks b.behind kept).0
 
-    all_stay : AllStay (may_purge z.heap.table protected) (s.walked).rest → AllStay (may_purge z.heap.table protected) b.blocks
-    all_stay rest = subst (AllStay (may_purge z.heap.table protected)) (sym (s.walked).parts) (all_stay-append (may_purge z.heap.table protected) (s.walked).done (s.walked).rest s.stay rest)
+  module _ (next : ℕ) (f : FirstPurgeable z.heap.table (b.blocks ++ b.behind) at next) where
+    -- as where the first that may be begins at the end or behind it
+    pub none_below : HasSizes z → end ≤ next → candidates_in z.heap.table protected b.blocks ≡ []
+    none_below sizes high =
+        let last = b.long in
+        let there = f.place in
+        let possible = (all_parts _ b.blocks b.behind (all_parts _ b.before (b.blocks ++ b.behind) (subst (λ m. sizes_possible z.shape m ≡ true) b.map sizes)).1).0 in
+        candidates-none z.heap.table protected b.blocks (all-passed z.shape z.heap.table b.blocks b.behind f.passed (block (Rel f.handle) f.size) f.behind possible f.splits (omega arith) f.kept)
 
-    -- where none behind may be purged all stay
-    pub passed_last : none_purgeable z.heap.table ((s.walked).rest ++ b.behind) ≡ true → AllStay (may_purge z.heap.table protected) b.blocks
-    passed_last none = all_stay (front-stays (may_purge z.heap.table protected) (s.walked).rest b.behind (all-kept z.heap.table protected ((s.walked).rest ++ b.behind) none))
+    module _ (low : next < end) where
+      -- else it is one of them
+      pub among : (rest : ZoneMap) × (b.blocks ≡ f.passed ++ block (Rel f.handle) f.size ∷ rest)
+      among = block-among b.blocks b.behind f.passed (block (Rel f.handle) f.size) f.behind f.splits (let last = b.long in let there = f.place in omega arith)
 
-    module _ (next : ℕ) (f : FirstPurgeable z.heap.table ((s.walked).rest ++ b.behind) at next) where
-      -- where the next one begins at the end or behind it too
-      pub passed_behind : HasSizes z → end ≤ next → AllStay (may_purge z.heap.table protected) b.blocks
-      passed_behind sizes high =
-          let last = end_walked z b at s.walked in
-          let there = f.place in
-          let possible = (all_parts _ (s.walked).rest b.behind (all_parts _ (b.before ++ (s.walked).done) ((s.walked).rest ++ b.behind) (subst (λ m. sizes_possible z.shape m ≡ true) (map_rest z b at s.walked) sizes)).1).0 in
-          all_stay (all-passed z.shape (s.walked).rest b.behind f.passed (block (Rel f.handle) f.size) f.behind (may_purge z.heap.table protected) possible f.splits (omega arith) (all-kept z.heap.table protected f.passed f.kept))
+      pub place_next : next ≡ address_behind z.shape (b.before ++ f.passed)
+      place_next = let first = b.place in let there = f.place in let all = total_size-append b.before f.passed in omega arith
 
-      module _ (low : next < end) where
-        pub among : (rest : ZoneMap) × ((s.walked).rest ≡ f.passed ++ block (Rel f.handle) f.size ∷ rest)
-        among = block-among (s.walked).rest b.behind f.passed (block (Rel f.handle) f.size) f.behind f.splits (let last = end_walked z b at s.walked in let there = f.place in omega arith)
+      pub map_next : z.heap.map ≡ (b.before ++ f.passed) ++ block (Rel f.handle) f.size ∷ (among.0 ++ b.behind)
+      map_next = b.map ∙ ap (λ m. b.before ++ (m ++ b.behind)) among.1 ∙ simp append_assoc
 
-        -- else those before it are passed
-        abbrev pub passed_over : Passed z b protected next
-        passed_over = record {
-          walked = walked_over z b at s.walked f.passed (block (Rel f.handle) f.size ∷ among.0) among.1 next f.place;
-          stay = all_stay-append (may_purge z.heap.table protected) (s.walked).done f.passed s.stay (all-kept z.heap.table protected f.passed f.kept);
-        }
+      -- it stands there
+      abbrev pub entry_next : EntryAt z next
+      entry_next = record { before = b.before ++ f.passed; here = block (Rel f.handle) f.size; behind = among.0 ++ b.behind; map = map_next; place = place_next }
 
-        -- and it stands there
-        abbrev pub facing_next : Facing z b next passed_over.walked
-        facing_next = record { here = block (Rel f.handle) f.size; after = among.0; is = refl }
+      pub long_next : end ≡ next + f.size + total_size among.0
+      long_next = let last = b.long in let there = f.place in let all = ap total_size among.1 ∙ total_size-append f.passed (block (Rel f.handle) f.size ∷ among.0) in omega arith
 
-    module _ (f : Facing z b at s.walked) where
-      -- the owner of one more is live
-      pub owner_passed : Fits z → HasSizes z → HasOwner z (f.here).kind
-      owner_passed fits sizes = entry_owner z at (entry_facing z b at s.walked f) (owners-fit z fits sizes)
+      -- it ends at the end or below
+      pub within_next : next + f.size ≤ end
+      within_next = let last = long_next in omega arith
 
-      -- one more that may not be purged
-      pub passed_on : may_purge z.heap.table protected (f.here).kind ≡ false → Passed z b protected (at + (f.here).size)
-      passed_on stays = record { walked = walked_on z b at s.walked f; stay = all_stay-append (may_purge z.heap.table protected) (s.walked).done (f.here ∷ []) s.stay (stays, tt) }
-
-      -- or that may be
-      pub passed_found : (h : ℕ) → may_purge z.heap.table protected (f.here).kind ≡ true → (f.here).kind ≡ Rel h → FirstToPurge z.heap.table protected b.blocks start (record { at = at; size = (f.here).size; handle = h })
-      passed_found h may is = record {
-        front = (s.walked).done;
-        back = f.after;
-        parts = (s.walked).parts ∙ ap (λ m. (s.walked).done ++ m) (f.is ∙ ap (λ kind. block kind (f.here).size ∷ f.after) is);
-        stay = s.stay;
-        may = ap (may_purge z.heap.table protected) (sym is) ∙ may;
-        place = (s.walked).at_is;
+      -- more are behind it
+      abbrev pub left_next : BlocksAt z (next + f.size) end
+      left_next = record {
+        before = (b.before ++ f.passed) ++ block (Rel f.handle) f.size ∷ [];
+        blocks = among.0;
+        behind = b.behind;
+        map = map_next ∙ sym (append_assoc (b.before ++ f.passed) (block (Rel f.handle) f.size ∷ []) (among.0 ++ b.behind));
+        place = (let here = place_next in let all = total_size-push (b.before ++ f.passed) (block (Rel f.handle) f.size) in omega arith);
+        long = long_next;
       }
 
--- those that may be purged stand from the first on
-pub first-candidates : (t : HandleTable) (protected : List ℕ) (blocks : ZoneMap) (from : ℕ) (c : Candidate) (f : FirstToPurge t protected blocks from c) → candidates_in t protected (block (Rel c.handle) c.size ∷ f.back) ≡ candidates_in t protected blocks
-first-candidates t protected blocks from c f =
-    let rest = block (Rel c.handle) c.size ∷ f.back in
-    sym (ap (candidates_in t protected) f.parts ∙ candidates-append t protected f.front rest ∙ ap (λ hs. hs ++ candidates_in t protected rest) (none-candidates t protected f.front f.stay))
+      candidates_next : candidates_in z.heap.table protected b.blocks ≡ cond (is_among protected f.handle) (candidates_in z.heap.table protected among.0) (f.handle ∷ candidates_in z.heap.table protected among.0)
+      candidates_next =
+          let left = candidates_in z.heap.table protected among.0 in
+          ap (candidates_in z.heap.table protected) among.1 ∙ candidates-kept z.heap.table protected f.passed (block (Rel f.handle) f.size ∷ among.0) f.kept
+          ∙ ap (λ c. cond (c && not (is_among protected f.handle)) (f.handle ∷ left) left) f.goes
+          ∙ elim (is_among protected f.handle) as (λ c. cond (not c) (f.handle ∷ left) left ≡ cond c left (f.handle ∷ left)) [ true ↦ refl | false ↦ refl ]
 
--- and those blocks stand there
-abbrev pub blocks_first : {start end : ℕ} (z : ZoneState) (b : BlocksAt z start end) (protected : List ℕ) (c : Candidate) → FirstToPurge z.heap.table protected b.blocks start c → BlocksAt z c.at end
-blocks_first {start} z b protected c f = rest_walked z b c.at (walked_over z b start (none_walked z b) f.front (block (Rel c.handle) c.size ∷ f.back) f.parts c.at f.place)
+      -- it is the first that may be purged
+      pub first_next : (h : ℕ) → unprotected protected (Rel f.handle) ≡ Some h → Some h ≡ slice_get (candidates_in z.heap.table protected b.blocks) 0
+      first_next h found =
+          let left = candidates_in z.heap.table protected among.0 in
+          sym (ap (λ hs. slice_get hs 0) candidates_next ∙ elim (is_among protected f.handle) as (λ c. cond c None (Some f.handle) ≡ Some h → slice_get (cond c left (f.handle ∷ left)) 0 ≡ Some h) [
+            | true ↦ λ is. absurd (cc is)
+            | false ↦ λ is. is
+          ] found)
+
+      -- or, where it is protected, that is one behind it
+      pub others_next : unprotected protected (Rel f.handle) ≡ None → candidates_in z.heap.table protected left_next.blocks ≡ candidates_in z.heap.table protected b.blocks
+      others_next none =
+          let left = candidates_in z.heap.table protected among.0 in
+          sym (candidates_next ∙ elim (is_among protected f.handle) as (λ c. cond c None (Some f.handle) ≡ None → cond c left (f.handle ∷ left) ≡ left) [
+            | true ↦ λ is. refl
+            | false ↦ λ is. absurd (cc is)
+          ] none)
+
+-- all blocks of a zone stand between its start and its end
+abbrev pub whole_zone : (z : ZoneState) (start end : ℕ) → start ≡ address_behind z.shape [] → end ≡ address_behind z.shape z.heap.map → BlocksAt z start end
+whole_zone z start end first last = record {
+  before = [];
+  blocks = z.heap.map;
+  behind = [];
+  map = sym (append-nil z.heap.map);
+  place = first;
+  long = last ∙ (let all : address_behind z.shape z.heap.map ≡ start + total_size z.heap.map = omega arith in all);
+}
+
+-- and those of the gap right behind a block that stays between its ends
+abbrev pub blocks_behind : (z : ZoneState) (x : ℕ) (found : FoundGap) → (is : IsGapOf z (gap_behind x (gaps z.heap.table z.heap.map)) found) → BlocksAt z found.start found.end
+blocks_behind z x found is =
+    let gap = (gap_behind-is z.heap.table z.heap.map x is.gap is.is).0 in
+    record { before = is.gap.before; blocks = is.gap.blocks; behind = is.gap.behind; map = gap.parts ∙ append_assoc is.gap.before is.gap.blocks is.gap.behind; place = is.start; long = is.end }

@@ -8,25 +8,40 @@ use Rattle.std.proofs.lemmas.Bool.Decides.{nat_tests}
 use Rattle.std.proofs.lemmas.Bool.{eqb-true}
 use Rattle.mac_base.specs.HeadKind.{Shape}
 use Rattle.mac_base.specs.ZoneMap.{ZoneMap, is_named, joined, released, sizes}
-use Rattle.mac_base.specs.HandleTable.{HandleTable, Live, EmptyHandle, FullHandle, Pointer, live_at, live_full, live_handle, live_pointer, is_full, is_handle, is_lent, is_pointer, with_live, without}
+use Rattle.mac_base.specs.HandleTable.{HandleTable, Live, EmptyHandle, FullHandle, Pointer, emptied, live_at, live_flags, live_full, live_handle, live_pointer, is_full, is_handle, is_lent, is_locked, is_pointer, with_live, without}
 use Rattle.mac_base.specs.Suits.{Suits}
-use Rattle.mac_base.specs.Heap.{Heap}
+use Rattle.mac_base.specs.Heap.{Heap, with_emptied}
 use Rattle.mac_base.specs.declared.releasing.ReleasingCall.TheVariants.{DisposesHandle, Empties}
 use Rattle.mac_base.specs.Releasing.{heap_released}
 use Rattle.mac_base.specs.Sound.{Sound}
-use Rattle.mac_base.specs.ZoneState.{ZoneState}
+use Rattle.mac_base.specs.ZoneState.{ZoneState, with_heap}
 use Rattle.zone_laws.proofs.JoinedBlocks.{joined-apart}
 use Rattle.zone_laws.proofs.Lent.{KeepsLent, keeps-others}
 use Rattle.zone_laws.proofs.ReleasedBlocks.{marked-none}
 use Rattle.zone_laws.proofs.SoundReleased.{sound-disposed}
 use Rattle.zone_laws.proofs.SuitsNamed.{length-sizes_of}
-use Rattle.zone_laws.proofs.Tables.{live_at-with_live, in_order-with_live, without_agrees, tested}
+use Rattle.zone_laws.proofs.Tables.{by_number, handle_no_pointer, live_at-with_live, live_at-with_live_same, in_order-with_live, with_live_agrees, without_agrees, tested}
+use Rattle.gap_laws.proofs.FixesSame.{FixesSame}
 use Rattle.linked_zone.specs.Changes.{given_back}
 use Rattle.zone_heap.proofs.Twice.{without-with_live}
 
 -- numbers that tie are one
 tied : (x y : ℕ) → nat_cmp x y ≡ Equal → x ≡ y
 tied x y h = grind (arith, nat_tests)
+
+-- the zone in which a handle is empty, and its block free
+abbrev pub emptied_zone : ℕ → ZoneState → ZoneState
+emptied_zone h z = with_heap (with_emptied z.heap h) z
+
+-- the same numbers stay once an unlocked handle is empty
+pub fixes-emptied : (t : HandleTable) (h : ℕ) → is_handle t h ≡ true → is_locked t h ≡ false → FixesSame t (emptied h t)
+fixes-emptied t h handle unlocked =
+    let has = live_at-with_live_same h EmptyHandle t in
+    let agree = with_live_agrees h EmptyHandle t in
+    record {
+      locked = by_number (λ x. is_locked (emptied h t) x ≡ is_locked t x) h (ap (λ o. (live_flags o).lock) has ∙ sym unlocked) (λ x apart. ap (λ o. (live_flags o).lock) (agree.others x apart));
+      pointer = by_number (λ x. is_pointer (emptied h t) x ≡ is_pointer t x) h (ap live_pointer has ∙ sym (handle_no_pointer t h handle)) (λ x apart. ap live_pointer (agree.others x apart));
+    }
 
 -- what x is already may be said again
 pub with_live-again : (x : ℕ) (l : Live) (t : HandleTable) → IsTrue (is_sorted nat_cmp t.live) → live_at t x ≡ Some l → with_live x l t ≡ t

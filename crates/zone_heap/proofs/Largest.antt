@@ -1,9 +1,9 @@
 -- The search for the largest free block.
-use Rattle.std.proofs.Common.{◌≡◌, ℕ, ◌+◌, ◌≤◌, Bool, true, false, not, cond, [], ◌∷◌, ◌++◌, ap, arith}
-use Rattle.std.specs.Prelude.{◌&&◌, nat_le}
+use Rattle.std.proofs.Common.{◌≡◌, ℕ, ◌+◌, ◌-◌, ◌<◌, ◌≤◌, Bool, true, false, not, cond, [], ◌∷◌, ◌++◌, ap, sym, subst, arith, Option, Some, None}
+use Rattle.std.specs.Prelude.{◌&&◌, IfNone, IfSome, is_some, nat_le}
 use Rattle.std.specs.List.{list_all}
 use Rattle.std.proofs.lemmas.Bool.Decides.{nat_tests}
-use Rattle.std.proofs.lemmas.Bool.{and_parts}
+use Rattle.std.proofs.lemmas.Bool.{and_parts, le-leb, lt-leb}
 use Rattle.mac_base.specs.declared.block.Entry.{Entry}
 use Rattle.mac_base.specs.declared.block.Kind.TheVariants.{Free}
 use Rattle.mac_base.specs.ZoneMap.{ZoneMap, block, has_free, is_free, largest_free, total_size}
@@ -47,3 +47,11 @@ module _ (z : ZoneState) (k at : ℕ) (low : LowestAt z k at) where
       let most = free-most low.free.size low.free.before low.free.behind in
       let same = ap largest_free low.free.map in
       omega (arith, most, same)
+
+-- a search for a free block of k bytes finds one where the largest has them
+pub found-large : (z : ZoneState) (k : ℕ) (o : Option ℕ) → 0 < k → IfSome o (λ at. LowestAt z k at) → IfNone o (list_all (λ (e : Entry). not (has_free k e)) z.heap.map ≡ true) → is_some o ≡ nat_le k (largest_free z.heap.map)
+found-large z k (Some at) some found none = sym (le-leb k (largest_free z.heap.map) (let most = found-most z k at found in omega (arith, found.large, most)))
+found-large z k None some found none =
+    let before : k ≡ (k - 1) + 1 = omega arith in
+    let most = most-none (k - 1) z.heap.map (subst (λ k. list_all (λ (e : Entry). not (has_free k e)) z.heap.map ≡ true) before none) in
+    sym (lt-leb k (largest_free z.heap.map) (omega arith))

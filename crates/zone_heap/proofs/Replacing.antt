@@ -8,19 +8,19 @@ use Rattle.mac_base.specs.declared.request.Request.TheVariants.{Replace}
 use Rattle.mac_base.specs.Arrangement.{down}
 use Rattle.mac_base.specs.Attempt.{attempted}
 use Rattle.mac_base.specs.Gap.{Gap, gaps, filled, lowest_gap, some_gap_has}
-use Rattle.mac_base.specs.HandleTable.{HandleTable, EmptyHandle, FullHandle, no_flags, zeros, emptied, is_handle, is_lent, is_locked, is_pointer, live_at, live_flags, live_pointer}
+use Rattle.mac_base.specs.HandleTable.{HandleTable, EmptyHandle, FullHandle, no_flags, zeros, emptied, is_handle, is_lent, is_locked, live_at}
 use Rattle.mac_base.specs.HeadKind.{need}
-use Rattle.mac_base.specs.Heap.{Heap, front_slot, granted, with_emptied}
+use Rattle.mac_base.specs.Heap.{Heap, front_slot, granted}
 use Rattle.mac_base.specs.Serve.{gives, placed_relocatable, taken, take_lowest}
 use Rattle.mac_base.specs.Sound.{Sound}
 use Rattle.mac_base.specs.ZoneMap.{ZoneMap, is_named, released}
-use Rattle.mac_base.specs.ZoneState.{ZoneState, with_heap}
+use Rattle.mac_base.specs.ZoneState.{ZoneState}
 use Rattle.zone_laws.proofs.Fitting.{is_some-lowest_gap, serve-Replace}
 use Rattle.zone_laws.proofs.Lent.{KeepsLent, keeps-others}
 use Rattle.zone_laws.proofs.Placing.{TakenAt}
 use Rattle.zone_laws.proofs.SuitsTaken.{addresses-untaken}
-use Rattle.zone_laws.proofs.Tables.{by_number, eqb_swap, handle_no_pointer, live_at-with_live_same, with_live_agrees}
-use Rattle.gap_laws.proofs.FixesSame.{FixesSame, gaps-same}
+use Rattle.zone_laws.proofs.Tables.{eqb_swap, live_at-with_live_same, with_live_agrees}
+use Rattle.gap_laws.proofs.FixesSame.{gaps-same}
 use Rattle.gap_laws.proofs.SoundServed.{sound-attempted, loans_fixed-attempted}
 use Rattle.linked_zone.specs.Changes.{pointed}
 use Rattle.linked_zone.specs.Loans.{KeepsLoans}
@@ -31,14 +31,11 @@ use Rattle.zone_heap.specs.Joins.{CanTake, with_front}
 use Rattle.zone_heap.specs.Room.{IsOpened, LacksRoom}
 use Rattle.zone_heap.proofs.Attempting.{none_of}
 use Rattle.zone_heap.proofs.Clearing.{opened_taken}
+use Rattle.zone_heap.proofs.Emptying.{emptied_zone, fixes-emptied}
 use Rattle.zone_heap.proofs.Loans.{keeps-both, keeps-loans}
 use Rattle.zone_heap.proofs.Moving.{can-take, cut_zone, cut-done, room}
 use Rattle.zone_heap.proofs.Taking.{taken-parts}
 use Rattle.zone_heap.proofs.Twice.{with_live-twice}
-
--- the zone in which a handle is empty, and its block free
-abbrev pub emptied_zone : ℕ → ZoneState → ZoneState
-emptied_zone h z = with_heap (with_emptied z.heap h) z
 
 -- ---- what is asked
 
@@ -55,20 +52,9 @@ module _ (z : ZoneState) (h n : ℕ) (asks : CanAsk z (Replace h n)) where
   pub asked-here : is_lent z.heap.table h ≡ false
   asked-here = not-true _ (and_parts _ _ (and_parts (is_handle z.heap.table h) _ asks.operand).1).1
 
-  -- the same numbers stay once it is empty
-  fixes-emptied : FixesSame z.heap.table (emptied h z.heap.table)
-  fixes-emptied =
-      let t = z.heap.table in
-      let has = live_at-with_live_same h EmptyHandle t in
-      let agree = with_live_agrees h EmptyHandle t in
-      record {
-        locked = by_number (λ x. is_locked (emptied h t) x ≡ is_locked t x) h (ap (λ o. (live_flags o).lock) has ∙ sym asked-unlocked) (λ x apart. ap (λ o. (live_flags o).lock) (agree.others x apart));
-        pointer = by_number (λ x. is_pointer (emptied h t) x ≡ is_pointer t x) h (ap live_pointer has ∙ sym (handle_no_pointer t h asked-handle)) (λ x apart. ap live_pointer (agree.others x apart));
-      }
-
-  -- so the gaps are the same
+  -- the gaps are the same once it is empty
   gaps-emptied : (m : ZoneMap) → gaps (emptied h z.heap.table) m ≡ gaps z.heap.table m
-  gaps-emptied = gaps-same z.heap.table (emptied h z.heap.table) fixes-emptied
+  gaps-emptied = gaps-same z.heap.table (emptied h z.heap.table) (fixes-emptied z.heap.table h asked-handle asked-unlocked)
 
   -- ---- whether there is room
 

@@ -4,6 +4,7 @@
 mod attempt;
 mod compact;
 mod copying;
+mod fitting;
 mod growth;
 mod place;
 mod purge;

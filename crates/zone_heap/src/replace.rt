@@ -1,13 +1,14 @@
 //! A new block for a handle, in place of the one that it has.
 
-ghost use Rattle.std.specs.Prelude.{◌≡◌, ◌<◌, MatchResult, Some};
+ghost use Rattle.std.specs.Prelude.{◌≡◌, ◌<◌, IsFalse, IsTrue, MatchResult};
 ghost use Rattle.mac_base.specs.Gap.{gaps, some_gap_has};
+ghost use Rattle.mac_base.specs.HandleTable.{is_handle, is_locked};
 ghost use Rattle.mac_base.specs.declared.request.Request.TheVariants.{Replace};
 ghost use Rattle.linked_zone.specs.Loans.{KeepsLoans};
 ghost use Rattle.mac_base.specs.ZoneMap.{released};
 ghost use Rattle.zone_heap.specs.Attempts.{CanAsk, IsRefused, IsServed, SoundZone};
-ghost use Rattle.zone_heap.specs.Purge.{CanCount};
 
+use crate::fitting::some_gap_has;
 use crate::place::open_lowest;
 use crate::shortage::Shortage;
 use crate::size::{gap_to_grow, grows_to};
@@ -39,15 +40,15 @@ pub(crate) fn replace(zone: &mut IndexedZone, handle: Handle, length: u32) -> Re
 }
 
 /// Whether some gap has room for `needed` bytes, where the block of an unlocked handle counts as free, if it has one.
-fn has_room(zone: &mut IndexedZone, needed: u32, handle: Handle) -> bool
+pub(crate) fn has_room(zone: &mut IndexedZone, needed: u32, handle: Handle) -> bool
     requires some { 0 < needed }
     requires sound { SoundZone zone.old }
-    requires handle { CanCount zone.old (Some handle) }
+    requires live { IsTrue (is_handle zone.old.heap.table handle) }
+    requires unlocked { IsFalse (is_locked zone.old.heap.table handle) }
     ensures zone { zone.new ≡ zone.old }
     ensures room { result ≡ some_gap_has needed (gaps zone.old.heap.table (released handle zone.old.heap.map)) }
 {
-    let found = zone.lowest_gap(needed);
-    if found.is_some() {
+    if some_gap_has(zone, needed) {
         return true;
     }
     let block = handle.number();

@@ -45,7 +45,7 @@ pub(crate) fn resize_block(zone: &mut IndexedZone, block: u32, length: u32) -> R
 }
 
 /// Whether a block stays where it is: that of a pointer or of a locked handle.
-fn stays(zone: &LinkedZone, block: u32) -> bool
+pub(crate) fn stays(zone: &LinkedZone, block: u32) -> bool
     requires { IsTrue (has_block zone.now.heap.table block) }
     ensures { result ≡ stays zone.now.heap.table block }
 {

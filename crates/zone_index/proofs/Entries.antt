@@ -1,8 +1,6 @@
 -- What is known of a block by its address.
-use Rattle.std.proofs.Common.{◌≡◌, ℕ, ◌+◌, ◌<◌, ◌≤◌, Bool, true, ◌∷◌, ap, sym, ◌∙◌, arith}
-use Rattle.std.specs.List.{list_all}
+use Rattle.std.proofs.Common.{ℕ, ◌+◌, ◌<◌, ◌≤◌, ◌∷◌, ap, sym, ◌∙◌, arith}
 use Rattle.std.proofs.lemmas.Bool.{and_parts}
-use Rattle.mac_base.specs.declared.block.Entry.{Entry}
 use Rattle.mac_base.specs.ZoneMap.{total_size, address_behind}
 use Rattle.mac_base.specs.ZoneState.{ZoneState}
 use Rattle.zone_laws.proofs.GapApart.{sizes_possible}
@@ -11,11 +9,7 @@ use Rattle.linked_zone.specs.Fit.{HasSizes}
 use Rattle.linked_zone.specs.Places.{EntryAt}
 use Rattle.zone_index.proofs.Sizes.{all_parts, first_bytes}
 
--- what holds of each block holds of one that is read
-pub entry_passes : (p : Entry → Bool) (z : ZoneState) (at : ℕ) (e : EntryAt z at) → list_all p z.heap.map ≡ true → p e.here ≡ true
-entry_passes p z at e h = (and_parts _ _ (all_parts p e.before (e.here ∷ e.behind) (ap (list_all p) (sym e.map) ∙ h)).1).0
-
--- it has bytes
+-- a block that is read has bytes
 pub entry_size : (z : ZoneState) (at : ℕ) (e : EntryAt z at) → HasSizes z → 0 < (e.here).size
 entry_size z at e h = first_bytes z.shape e.here e.behind (all_parts _ e.before (e.here ∷ e.behind) (ap (sizes_possible z.shape) (sym e.map) ∙ h)).1
 

@@ -1,5 +1,5 @@
 -- What is remembered of neighbouring blocks.
-use Rattle.std.proofs.Common.{◌≡◌, ℕ, ◌+◌, ◌^◌, ◌<◌, ◌≤◌, Bool, true, false, cond, List, [], ◌∷◌, ◌++◌, refl, ap, sym, ◌∙◌, append_assoc, append-nil, arith}
+use Rattle.std.proofs.Common.{◌≡◌, ℕ, ◌+◌, ◌≤◌, Bool, true, false, cond, List, [], ◌∷◌, ◌++◌, refl, ap, sym, ◌∙◌, append_assoc, append-nil, arith}
 use Rattle.std.specs.Prelude.{max, nat_lt, not, ◌&&◌, ◌||◌}
 use Rattle.mac_base.specs.declared.block.Entry.{Entry}
 use Rattle.mac_base.specs.Gap.{is_fixed}
@@ -7,21 +7,13 @@ use Rattle.mac_base.specs.HandleTable.{HandleTable}
 use Rattle.mac_base.specs.ZoneMap.{ZoneMap, total_size, free_size, is_free}
 use Rattle.zone_index.specs.declared.order.Order.{Order}
 use Rattle.zone_index.specs.declared.order.Passed.{Passed}
-use Rattle.block_sums.specs.declared.span.Span.{Span}
-use Rattle.block_sums.specs.declared.span.Span.TheVariants.{Whole, Parted}
-use Rattle.block_sums.specs.Span.{SpanFits, joined, most_in}
+use Rattle.zone_index.specs.declared.span.Span.{Span}
+use Rattle.zone_index.specs.declared.span.Span.TheVariants.{Whole, Parted}
 use Rattle.zone_index.specs.declared.sums.Sums.{Sums}
 use Rattle.zone_index.specs.declared.weight.Weight.{Weight}
 use Rattle.zone_index.specs.Weights.{is_space, space_size, weigh, weights, bytes_of, space_of, in_order, most}
-use Rattle.zone_index.specs.Spans.{span_of, passed, behind_of, ordered, order_of, passed_on, IsOrder, IsSpan, IsSum, IsWithin, both, one}
+use Rattle.zone_index.specs.Spans.{most_in, joined, span_of, passed, behind_of, ordered, order_of, passed_on, IsOrder, IsSpan, IsSum, IsWithin, both, one}
 use Rattle.zone_index.proofs.Begun.{bytes-weights}
-
--- there is room for the sum of two where their gaps have few bytes
-pub joined-fits : (s q : Span) → most_in s + most_in q < 2 ^ 32 → SpanFits (joined s q)
-joined-fits (Whole n) (Whole k) few = omega arith
-joined-fits (Whole n) (Parted q) few = (omega arith, omega arith, omega arith)
-joined-fits (Parted p) (Whole k) few = (omega arith, omega arith, omega arith)
-joined-fits (Parted p) (Parted q) few = (omega arith, omega arith, omega arith)
 
 -- what is said of blocks and those behind them
 joined-passed : (s q : Span) (r : ℕ) (f : ℕ → ℕ) → passed (joined s q) r f ≡ passed s r (λ n. passed q n f)

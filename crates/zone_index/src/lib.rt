@@ -14,6 +14,7 @@ mod pages;
 mod purging;
 mod raise;
 mod search;
+mod span;
 mod sums;
 mod weight;
 mod zone;

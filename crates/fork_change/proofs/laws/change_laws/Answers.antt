@@ -1,6 +1,5 @@
 use Rattle.fork_change.proofs.Changing.{keeps_tables}
-use Rattle.fork_change.proofs.Applied.{is_applied}
-use Rattle.fork_change.proofs.Same.{is_no_difference}
+use Rattle.fork_change.proofs.Applied.{is_applied, is_no_difference}
 use Rattle.fork_change.proofs.Told.{is_found_put, keeps_others, is_removed_put, is_set_back, is_moved_back}
 use Rattle.fork_change.proofs.laws.change_laws.Goals as goal
 

@@ -1,18 +1,15 @@
-use Rattle.std.proofs.Common.{◌≡◌, ◌<◌, ◌∙◌, sym, arith, refl, true, false}
-use Rattle.std.specs.Prelude.{is_some, nat_le}
+use Rattle.std.proofs.Common.{◌≡◌, ℕ, ◌∙◌, arith}
+use Rattle.std.specs.Prelude.{◌==◌, nat_le}
+use Rattle.std.proofs.lemmas.Bool.Decides.{nat_tests}
 use Rattle.mac_base.specs.ZoneMap.{largest_free}
-use Rattle.zone_heap.proofs.RunWalks.{large-found, large-none, none-needed}
+use Rattle.zone_heap.proofs.Largest.{found-large}
 use Rattle.zone_heap.proofs.purge.has_free.Goals as goal
 
+none_needed : (k n : ℕ) → k ≡ 0 → (k == 0) ≡ nat_le k n
+none_needed k n none = grind (arith, nat_tests)
+
 pub returns-then-needed-eq0 : goal.returns-then-needed-eq0
-returns-then-needed-eq0 c = none-needed c.args.needed (largest_free c.args.zone.now.heap.map) c.if-needed-eq0.true
+returns-then-needed-eq0 c = none_needed c.args.needed (largest_free c.args.zone.now.heap.map) c.if-needed-eq0.true
 
 pub returns-else-needed-eq0 : goal.returns-else-needed-eq0
-returns-else-needed-eq0 c =
-    let z = c.args.zone.now in
-    let k = c.args.needed in
-    let some : 0 < k = omega (arith, c.if-needed-eq0.false) in
-    c.is_some.ensures ∙ (elim (is_some c.lowest_free.result) as (λ b. is_some c.lowest_free.result ≡ b → b ≡ nat_le k (largest_free z.heap.map)) [
-      | true ↦ λ is. sym (large-found z k c.lowest_free.result c.lowest_free.ensures.lowest is)
-      | false ↦ λ is. sym (large-none z k c.lowest_free.result some c.lowest_free.ensures.none is)
-    ] refl)
+returns-else-needed-eq0 c = c.is_some.ensures ∙ found-large c.args.zone.now c.args.needed c.lowest_free.result (omega (arith, c.if-needed-eq0.false)) c.lowest_free.ensures.lowest c.lowest_free.ensures.none

@@ -1,36 +1,65 @@
-use Rattle.std.proofs.Common.{◌∙◌, sym, ap}
-use Rattle.mac_base.specs.Heap.{with_all_emptied}
-use Rattle.mac_base.specs.Request.{candidates_in, fits}
-use Rattle.mac_base.specs.ZoneState.{ZoneState, with_heap}
-use Rattle.zone_heap.specs.Purge.{PurgesFor, all_emptied, all_released}
-use Rattle.zone_heap.proofs.FreedBlocks.{emptied-parts}
-use Rattle.zone_heap.proofs.Limits.{same-fits, same-purged}
+use Rattle.std.proofs.Common.{◌≡◌, ◌∙◌, ◌∷◌, ℕ, List, sym, subst}
+use Rattle.mac_base.specs.Request.{candidates}
+use Rattle.linked_zone.specs.Loans.{KeepsLoans}
+use Rattle.zone_heap.proofs.Emptying.{emptied_zone}
+use Rattle.zone_heap.proofs.Purging.{ask-step, candidate-here, fewer-step, first-candidate, head-none, head-some, purged-fits, purged-none, purged_zone, purged_zone-step, still-step}
 use Rattle.zone_heap.proofs.purge.purge_for.Goals as goal
-use Rattle.zone_heap.proofs.purge.purge_for.Goals.{After-limit_for-limit}
+use Rattle.zone_heap.proofs.purge.purge_for.Goals.{In-Some, After-empty}
 
--- what is purged
-abbrev limit : (c : After-limit_for-limit) → PurgesFor c.args.zone.now c.args.protected.now c.args.request c.limit_for-limit.result
-limit c = c.limit_for-limit.ensures
+-- the first of the handles that may be purged
+first : (c : In-Some) → (hs : List ℕ) × (let z = c.loop-request.zone in candidates z.heap.table c.args.protected.now c.args.request z.heap.map ≡ c.in-Some.handle ∷ hs)
+first c = let z = c.loop-request.zone in head-some (candidates z.heap.table c.args.protected.now c.args.request z.heap.map) c.in-Some.handle (rw c.fits.ensures.zone at c.in-Some.ensures)
 
-pub purge_between-requires-clause-blocks : goal.purge_between-requires-clause-blocks
-purge_between-requires-clause-blocks c = (limit (goal.at.purge_between-requires-clause-blocks c).After-limit_for-limit).between
+-- it is empty then
+after : (c : After-empty) → c.empty.new.pointers ≡ emptied_zone c.in-Some.handle c.loop-request.zone
+after c = rw c.fits.ensures.zone at c.empty.ensures.zone
+
+pub returns-in_default-clause-zone : goal.returns-in_default-clause-zone
+returns-in_default-clause-zone c =
+    let z = c.loop-request.zone in
+    c.fits.ensures.zone ∙ purged-none c.args.protected.now c.args.request z (head-none (candidates z.heap.table c.args.protected.now c.args.request z.heap.map) (rw c.fits.ensures.zone at c.in_default.ensures)) ∙ c.loop-request.invariant.0.same
+
+pub returns-in_default-clause-loans : goal.returns-in_default-clause-loans
+returns-in_default-clause-loans c = subst (KeepsLoans c.args.zone.now) (sym c.fits.ensures.zone) c.loop-request.invariant.0.loans
+
+pub empty-requires-clause-live : goal.empty-requires-clause-live
+empty-requires-clause-live c =
+    let z = c.loop-request.zone in
+    let f = first (goal.at.empty-requires-clause-live c).In-Some in
+    rw c.fits.ensures.zone (first-candidate z.shape c.args.protected.now c.args.request z.heap c.in-Some.handle f.0 c.loop-request.invariant.0.sound.sound f.1).may.handle
+
+pub empty-requires-clause-here : goal.empty-requires-clause-here
+empty-requires-clause-here c =
+    let z = c.loop-request.zone in
+    let f = first (goal.at.empty-requires-clause-here c).In-Some in
+    let s = c.loop-request.invariant.0.sound in
+    rw c.fits.ensures.zone (candidate-here z.heap c.args.protected.now c.in-Some.handle s.fixed (first-candidate z.shape c.args.protected.now c.args.request z.heap c.in-Some.handle f.0 s.sound f.1))
+
+pub loop-request-smaller : goal.loop-request-smaller
+loop-request-smaller c =
+    let w = goal.at.loop-request-smaller c in
+    let f = first w.In-Some in
+    fewer-step c.args.protected.now c.args.request c.args.zone.now c.loop-request.zone c.empty.new.pointers c.in-Some.handle f.0 f.1 (after w.After-empty) c.loop-request.invariant.0.sound
+
+pub loop-request-preserved : goal.loop-request-preserved
+loop-request-preserved c =
+    let w = goal.at.loop-request-preserved c in
+    let p = c.args.protected.now in
+    let r = c.args.request in
+    let start = c.args.zone.now in
+    let z = c.loop-request.zone in
+    let h = c.in-Some.handle in
+    let f = first w.In-Some in
+    let still = c.loop-request.invariant.0 in
+    let is = after w.After-empty in (
+      still-step (purged_zone p r) start z c.empty.new.pointers h still is (subst (λ v. KeepsLoans v c.empty.new.pointers) c.fits.ensures.zone c.empty.ensures.loans) c.empty.ensures.sound
+          (purged_zone-step p r start z c.empty.new.pointers h f.0 f.1 is still.sound (sym c.fits.ensures.fits ∙ c.loop-request-test.true)),
+      ask-step p r start z c.empty.new.pointers h f.0 f.1 is still.sound c.requires.protects c.loop-request.invariant.1,
+    )
 
 pub returns-clause-zone : goal.returns-clause-zone
 returns-clause-zone c =
-    let z = c.args.zone.now in
-    let l = limit (goal.at.returns-clause-zone c).After-limit_for-limit in
-    c.purge_between.ensures.zone l.between ∙ ap (λ hs. with_heap (with_all_emptied hs z.heap) z) l.these
+    c.fits.ensures.zone ∙ purged-fits c.args.protected.now c.args.request c.loop-request.zone (sym c.fits.ensures.fits ∙ c.loop-request-test.false) ∙ c.loop-request.invariant.0.same
 
-pub returns-clause-fits : goal.returns-clause-fits
-returns-clause-fits c =
-    let z = c.args.zone.now in
-    let t = z.heap.table in
-    let r = c.args.request in
-    let p = c.args.protected.now in
-    let l = limit (goal.at.returns-clause-fits c).After-limit_for-limit in
-    let blocks = l.between.blocks in
-    let hs = candidates_in t p blocks in
-    l.enough
-    ∙ ap (λ hs. fits z.shape t r (all_released hs z.heap.map)) (sym l.these)
-    ∙ sym (same-fits z.shape t (all_emptied hs t) (same-purged t p blocks) r (all_released hs z.heap.map))
-    ∙ sym (ap (λ (w : ZoneState). fits w.shape w.heap.table r w.heap.map) (c.purge_between.ensures.zone l.between ∙ ap (λ heap. with_heap heap z) (emptied-parts hs z.heap)))
+pub returns-clause-loans : goal.returns-clause-loans
+returns-clause-loans c = subst (KeepsLoans c.args.zone.now) (sym c.fits.ensures.zone) c.loop-request.invariant.0.loans

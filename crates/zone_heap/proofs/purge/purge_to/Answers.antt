@@ -1,57 +1,46 @@
-use Rattle.std.proofs.Common.{◌≡◌, ◌∙◌, sym, ap, subst, refl, [], None}
-use Rattle.std.specs.Prelude.{nat_le}
-use Rattle.mac_base.specs.Heap.{with_all_emptied}
+use Rattle.std.proofs.Common.{◌≡◌, ◌∙◌, ◌∷◌, [], ℕ, List, sym}
 use Rattle.mac_base.specs.Request.{candidates_in}
-use Rattle.mac_base.specs.ZoneMap.{largest_free}
-use Rattle.mac_base.specs.ZoneState.{ZoneState, with_heap}
-use Rattle.zone_heap.specs.Purge.{IsLimit, PurgesTo, ShortBlocks, all_released, bounds_free, counts, may_purge}
-use Rattle.zone_heap.proofs.EmptyingBlocks.{whole-zone}
-use Rattle.zone_heap.proofs.FreedBlocks.{emptied-parts}
-use Rattle.zone_heap.proofs.RunWalks.{largest-less, purged-already, purges-to}
+use Rattle.mac_base.specs.declared.request.Request.TheVariants.{NewEmpty}
+use Rattle.zone_heap.proofs.Purging.{candidate-here, fewer-step, first-candidate, head-none, head-some, purged_to-enough, purged_to-none, purged_to-step, purged_to_zone, still-step}
 use Rattle.zone_heap.proofs.purge.purge_to.Goals as goal
-use Rattle.zone_heap.proofs.purge.purge_to.Goals.{After-zone_end-end, After-block_limit-limit}
+use Rattle.zone_heap.proofs.purge.purge_to.Goals.{In-Some}
 
-pub returns-then-has_free-clause-zone : goal.returns-then-has_free-clause-zone
-returns-then-has_free-clause-zone c = purged-already c.args.zone.now c.args.needed (sym (rw c.linked-linked.ensures at c.has_free.ensures) ∙ c.if-has_free.true)
+-- the first of the handles that may be purged
+first : (c : In-Some) → (hs : List ℕ) × (let z = c.loop-zone.zone in candidates_in z.heap.table [] z.heap.map ≡ c.in-Some.handle ∷ hs)
+first c = let z = c.loop-zone.zone in head-some (candidates_in z.heap.table [] z.heap.map) c.in-Some.handle c.in-Some.ensures
 
--- no block is large enough
-abbrev short : (c : After-zone_end-end) → ShortBlocks c.args.zone.now c.zone_start-start.result c.zone_end-end.result c.args.needed
-short c =
-    let z = c.args.zone.now in
-    record {
-      at = whole-zone z c.zone_start-start.result c.zone_end-end.result (rw c.linked-linked.ensures at c.zone_start-start.ensures) (rw c.linked-linked.ensures at c.zone_end-end.ensures.address);
-      short = largest-less z.shape z.heap.table c.args.needed z.heap.map c.requires.sound.sound.suits (sym (rw c.linked-linked.ensures at c.has_free.ensures) ∙ c.if-has_free.false);
-    }
+pub returns-in_default-clause-zone : goal.returns-in_default-clause-zone
+returns-in_default-clause-zone c =
+    let z = c.loop-zone.zone in
+    purged_to-none c.args.needed z (head-none (candidates_in z.heap.table [] z.heap.map) c.in_default.ensures) ∙ c.loop-zone.invariant.same
 
-pub block_limit-limit-requires-clause-blocks : goal.block_limit-limit-requires-clause-blocks
-block_limit-limit-requires-clause-blocks c = (short (goal.at.block_limit-limit-requires-clause-blocks c).After-zone_end-end)
+pub empty-requires-clause-live : goal.empty-requires-clause-live
+empty-requires-clause-live c =
+    let z = c.loop-zone.zone in
+    let f = first (goal.at.empty-requires-clause-live c).In-Some in
+    (first-candidate z.shape [] NewEmpty z.heap c.in-Some.handle f.0 c.loop-zone.invariant.sound.sound f.1).may.handle
 
--- what is purged
-purges : (c : After-block_limit-limit) → ((short : ShortBlocks c.args.zone.now c.zone_start-start.result c.zone_end-end.result c.args.needed) → IsLimit bounds_free (counts None) (may_purge c.args.zone.now.heap.table []) c.args.needed short.at.blocks c.zone_start-start.result c.block_limit-limit.result)
-    → (b : ShortBlocks c.args.zone.now c.zone_start-start.result c.zone_end-end.result c.args.needed) → b.at.blocks ≡ c.args.zone.now.heap.map → PurgesTo c.args.zone.now c.args.needed c.block_limit-limit.result
-purges c found b all =
-    purges-to c.args.zone.now c.args.needed c.zone_start-start.result c.block_limit-limit.result c.requires.sound (rw c.linked-linked.ensures at c.zone_start-start.ensures)
-    (subst (λ m. IsLimit bounds_free (counts None) (may_purge c.args.zone.now.heap.table []) c.args.needed m c.zone_start-start.result c.block_limit-limit.result) all (found b))
+pub empty-requires-clause-here : goal.empty-requires-clause-here
+empty-requires-clause-here c =
+    let z = c.loop-zone.zone in
+    let f = first (goal.at.empty-requires-clause-here c).In-Some in
+    let s = c.loop-zone.invariant.sound in
+    candidate-here z.heap [] c.in-Some.handle s.fixed (first-candidate z.shape [] NewEmpty z.heap c.in-Some.handle f.0 s.sound f.1)
 
-pub purge_between-requires-clause-blocks : goal.purge_between-requires-clause-blocks
-purge_between-requires-clause-blocks c =
-    let v = (goal.at.purge_between-requires-clause-blocks c).After-block_limit-limit in
-    let w = short (goal.at.purge_between-requires-clause-blocks c).After-zone_end-end in
-    (purges v c.block_limit-limit.ensures w refl).between
+pub loop-zone-smaller : goal.loop-zone-smaller
+loop-zone-smaller c =
+    let f = first (goal.at.loop-zone-smaller c).In-Some in
+    fewer-step [] NewEmpty c.args.zone.now c.loop-zone.zone c.empty.new.pointers c.in-Some.handle f.0 f.1 c.empty.ensures.zone c.loop-zone.invariant.sound
+
+pub loop-zone-preserved : goal.loop-zone-preserved
+loop-zone-preserved c =
+    let z = c.loop-zone.zone in
+    let h = c.in-Some.handle in
+    let f = first (goal.at.loop-zone-preserved c).In-Some in
+    let still = c.loop-zone.invariant in
+    still-step (purged_to_zone c.args.needed) c.args.zone.now z c.empty.new.pointers h still c.empty.ensures.zone c.empty.ensures.loans c.empty.ensures.sound
+    (purged_to-step z h f.0 f.1 still.sound c.args.needed (sym (rw c.linked.ensures at c.has_free.ensures) ∙ c.loop-zone-test.true))
 
 pub returns-clause-zone : goal.returns-clause-zone
 returns-clause-zone c =
-    let z = c.args.zone.now in
-    let v = (goal.at.returns-clause-zone c).After-block_limit-limit in
-    let p = purges v c.block_limit-limit.ensures (short (goal.at.returns-clause-zone c).After-zone_end-end) refl in
-    c.purge_between.ensures.zone p.between ∙ ap (λ hs. with_heap (with_all_emptied hs z.heap) z) p.these
-
-pub returns-clause-enough : goal.returns-clause-enough
-returns-clause-enough c =
-    let z = c.args.zone.now in
-    let k = c.args.needed in
-    let v = (goal.at.returns-clause-enough c).After-block_limit-limit in
-    let p = purges v c.block_limit-limit.ensures (short (goal.at.returns-clause-enough c).After-zone_end-end) refl in
-    let hs = candidates_in z.heap.table [] p.between.blocks in
-    p.enough ∙ ap (λ hs. nat_le k (largest_free (all_released hs z.heap.map))) (sym p.these)
-    ∙ sym (ap (λ (w : ZoneState). nat_le k (largest_free w.heap.map)) (c.purge_between.ensures.zone p.between ∙ ap (λ heap. with_heap heap z) (emptied-parts hs z.heap)))
+    purged_to-enough c.args.needed c.loop-zone.zone (sym (rw c.linked.ensures at c.has_free.ensures) ∙ c.loop-zone-test.false) ∙ c.loop-zone.invariant.same

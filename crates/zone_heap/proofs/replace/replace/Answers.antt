@@ -6,7 +6,8 @@ use Rattle.linked_zone.specs.Loans.{KeepsLoans}
 use Rattle.zone_heap.specs.Attempts.{IsRefused, SoundZone}
 use Rattle.zone_heap.specs.declared.shortage.Shortage.TheVariants.{NoRoom}
 use Rattle.zone_heap.specs.Room.{IsOpened}
-use Rattle.zone_heap.proofs.Replacing.{emptied_zone, replace-refused, replace-room, replace-cuts, replace-empty, replace-point, replace-done, replaced_zone, replace-served, replace-sound, replace-loans}
+use Rattle.zone_heap.proofs.Emptying.{emptied_zone}
+use Rattle.zone_heap.proofs.Replacing.{replace-refused, replace-room, replace-cuts, replace-empty, replace-point, replace-done, replaced_zone, replace-served, replace-sound, replace-loans}
 use Rattle.zone_heap.proofs.replace.replace.Goals as goal
 use Rattle.zone_heap.proofs.replace.replace.Goals.{After-need_for-needed, After-has_room, In-Some, After-point}
 

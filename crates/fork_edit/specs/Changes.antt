@@ -1,0 +1,35 @@
+-- What comes of a change of a file's table.
+use Rattle.std.specs.Prelude.{◌≡◌, ◌≢◌, ℕ, ◌⊎◌, List, Option, None, Some, Result, Ok, Err, ⊤}
+use Rattle.fork_bytes.specs.Rows.{Row}
+use Rattle.fork_bytes.specs.declared.table.Table.{Table}
+use Rattle.fork_answer.specs.Answer.{IsReadOf, IsTableOf}
+use Rattle.fork_answer.specs.Source.{IsNoForkIn}
+use Rattle.fork_answer.specs.declared.answer.Failure.TheVariants as failure
+use Rattle.fork_change.specs.Rows.{with_rows}
+use Rattle.fork_change.specs.declared.refusal.Refusal.TheVariants as why
+use Rattle.fork_edit.specs.Edits.{edited}
+use Rattle.fork_edit.specs.Files.{HasTable, IsSourceOf}
+use Rattle.fork_edit.specs.declared.edit.Edit.{Edit}
+use Rattle.fork_edit.specs.declared.change.NewFile.{NewFile}
+use Rattle.fork_edit.specs.declared.change.NotChanged.{NotChanged}
+use Rattle.fork_edit.specs.declared.change.NotChanged.TheVariants as not
+
+-- the table of the resource fork in a file; without a fork, one without resources
+abbrev pub IsTableIn : List ℕ → Table → Type 0
+IsTableIn file table = (fork : List ℕ) × IsSourceOf file fork × IsTableOf fork table
+
+-- a change gives a file's table these rows, which aren't those that it has
+abbrev pub Differs : List ℕ → List Row → Edit → Table → List Row → Type 0
+Differs file from edit table rows = IsTableIn file table × (edited edit from table.rows ≡ Ok rows) × (rows ≢ table.rows)
+
+-- what comes of a change of a file: nothing where its table stays as it is, else the file with the new table; or it is refused,
+-- as the change is, or since the file has no table. Where the file can't hold the new table, or the host has no memory, that is told.
+abbrev pub Comes : List ℕ → List Row → Edit → Result (Option NewFile) NotChanged → Type 0
+Comes file from edit (Ok None) = (table : Table) × IsTableIn file table × (edited edit from table.rows ≡ Ok table.rows)
+Comes file from edit (Ok (Some new)) = (table : Table) × (rows : List Row) × Differs file from edit table rows × HasTable file (with_rows table rows) new.file.items
+Comes file from edit (Err (not.Edit fault)) = (table : Table) × IsTableIn file table × ((fault ≡ why.HostFull) ⊎ (edited edit from table.rows ≡ Err fault))
+Comes file from edit (Err (not.Write fault)) = (table : Table) × (rows : List Row) × Differs file from edit table rows
+Comes file from edit (Err (not.Read (failure.NoFork fault))) = IsNoForkIn file fault
+Comes file from edit (Err (not.Read (failure.Fork fault))) = (fork : List ℕ) × IsSourceOf file fork × IsReadOf fork (Err fault)
+Comes file from edit (Err (not.Read other)) = ⊥
+Comes file from edit (Err not.HostFull) = ⊤
