@@ -452,6 +452,8 @@ def main():
         if not python:
             peers.missing.add("fontTools")
         for fork in forks:
+            if time.monotonic() > peers.end:
+                break
             if not os.path.basename(fork).startswith("model"):  # these are odd in ways that fontTools and exiftool don't read
                 if python:
                     beside_font_tools(peers, python, fork)

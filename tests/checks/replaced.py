@@ -219,6 +219,7 @@ def jobs_of(program):
             ("put -o over a file", ["put", "from", "TEXT", "5", "-i", "in", "-o", "f"], {"f": five, "from": data, "in": b"Hello"}),
             ("rm", ["rm", "f", "TEXT", "129"], {"f": data}),
             ("cp", ["cp", "from", "TEXT:5", "f"], {"f": data, "from": five}),
+            ("convert over a file", ["convert", "--to", "binhex", "--lossy", "from", "f"], {"f": five, "from": data}),
         ):
             yield Job(f"{what}, {kind}", words, files, made(program, words, files), "f~" if "backup" in what else None)
 

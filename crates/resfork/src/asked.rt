@@ -92,6 +92,9 @@ pub enum NotAsked {
     /// What `--nth` has is no count from 1 on.
     #[error("error: --nth takes a count from 1 on\n")]
     NoCount,
+    /// What `--to` has is no container.
+    #[error("error: --to takes raw, appledouble, applesingle, macbinary or binhex\n")]
+    NoContainer,
     /// What `--as` has is no form.
     #[error("error: --as takes text, hex or png\n")]
     NoForm,

@@ -8,6 +8,7 @@ use fork_change::row::{AttributeChange, Change, NameChange, ResourceId};
 use fork_change::{Choice, Collision};
 use mac_base::name::Name;
 use mac_base::resource::{ResAttrs, ResType};
+use mac_write::Target as Kind;
 use std::alloc::{AllocError, Global};
 
 /// Where a changed file goes, and what is said of it.
@@ -23,6 +24,19 @@ pub struct Target<'a> {
     pub is_dry: bool,
     /// Whether nothing is said of what was done.
     pub is_quiet: bool,
+}
+
+/// A file to be written in another container.
+#[derive(Drop)]
+pub struct Conversion<'a> {
+    pub kind: Kind,
+    /// The file with the data fork, where that stands in a file of its own.
+    pub data: Option<&'a str>,
+    /// The new file's name.
+    pub name: Option<Vec<u8>>,
+    /// Whether what the container can't hold is left out.
+    pub is_lossy: bool,
+    pub target: Target<'a>,
 }
 
 /// What is to be done.
@@ -77,6 +91,8 @@ pub enum Work<'a> {
         like: Option<&'a str>,
         target: Target<'a>,
     },
+    /// To write a file in another container.
+    Convert(Conversion<'a>),
 }
 
 /// What the words after this command ask for. None where it is no command that changes or compares files.
@@ -103,6 +119,7 @@ pub fn work_of<'a>(
             like: matches.get_str("like"),
             target: target_of(matches, word(matches, "folder")),
         },
+        "convert" => Work::Convert(asked_conversion(alloc, matches)?),
         _ => return Ok(None),
     };
     Ok(Some(work))
@@ -349,4 +366,39 @@ fn compare<'a>(matches: &ArgMatches<'a>) -> Result<Work<'a>, NotAsked> {
         return Err(NotAsked::TwoInputs);
     }
     Ok(Work::Compare { a, b })
+}
+
+/// The container that a word names.
+fn kind_of_container(word: &str) -> Result<Kind, NotAsked> {
+    match word {
+        "raw" => Ok(Kind::Raw),
+        "appledouble" => Ok(Kind::AppleDouble),
+        "applesingle" => Ok(Kind::AppleSingle),
+        "macbinary" => Ok(Kind::MacBinary),
+        "binhex" => Ok(Kind::BinHex),
+        _ => Err(NotAsked::NoContainer),
+    }
+}
+
+/// What `convert` asks for.
+fn asked_conversion<'a>(
+    alloc: Global,
+    matches: &ArgMatches<'a>,
+) -> Result<Conversion<'a>, NotAsked> {
+    let name = match matches.get_str("name") {
+        Some(word) => Some(name_named(alloc, word)?),
+        None => None,
+    };
+    let data = matches.get_str("data");
+    let file = word(matches, "file");
+    if file == INPUT && data == Some(INPUT) {
+        return Err(NotAsked::TwoInputs);
+    }
+    Ok(Conversion {
+        kind: kind_of_container(word(matches, "to"))?,
+        data,
+        name,
+        is_lossy: matches.get_flag("lossy"),
+        target: target_of(matches, file),
+    })
 }

@@ -31,6 +31,8 @@ Examples:
                                        resources of another file, too
   resfork diff Old.rsrc Game.rsrc      what differs
   resfork derez Game.rsrc > Game.r     as a text; resfork rez Game.r -o New.rsrc
+  resfork convert Game.bin Game.hqx --to binhex --lossy
+                                       in another container
 
 Exit status:
   0  done
@@ -55,7 +57,8 @@ cp;Copies resources from a file to another;Copies resources from a file to anoth
 diff;Compares the resources of two files;Compares the resources of two files by type and id: - for one that only the first has, + for one that only the second has, ~ for one that differs, with what differs. The status is 1 where they differ
 pack;Writes a fork of what unpack wrote;Writes a fork of the files in a folder, of which DIR/resources.json says what they are. unpack writes both
 derez;Writes resources as a text that rez reads;
-rez;Writes a fork of a text that derez wrote;";
+rez;Writes a fork of a text that derez wrote;
+convert;Writes a file in another container;Writes a file in another container. What this can't hold is told, and the file isn't written, unless --lossy leaves it out";
 
 /// The words of the commands, options and then operands in their order. A line has the commands of a word; its name; its letter and
 /// its long form, if it is an option; what the help calls its value, if it has one; its marks; a word beside which it can't stand; and
@@ -89,8 +92,12 @@ show;output;o;output;OUT;;;The file that is written, in place of the standard ou
 put rm set cp;output;o;output;OUT;;;The file that is written, in place of the one that is read
 rez;output;o;output;OUT;required;;The file that is written
 put rm set cp;backup;;backup;;;output;Keeps the old file as FILE~
-put rm set cp pack rez;dry;n;dry-run;;;;Says what would be done, and writes nothing
-put rm set cp pack rez;quiet;q;quiet;;;;Doesn't say what was done
+convert;to;;to;KIND;required;;The container: raw, appledouble, applesingle, macbinary or binhex
+convert;data;;data;FILE;;;The data fork, where it is a file of its own: read for an IN that is a fork alone or AppleDouble, and written for such an OUT
+convert;name;;name;N;;;The file's name, as ls shows names; else its own, or that of IN where OUT needs one
+convert;lossy;;lossy;;;;Leaves out what the container can't hold, and tells it
+put rm set cp pack rez convert;dry;n;dry-run;;;;Says what would be done, and writes nothing
+put rm set cp pack rez convert;quiet;q;quiet;;;;Doesn't say what was done
 ls info check;file;;;FILE;required many;;The files; - is the standard input
 get salvage show unpack put rm set derez rez;file;;;FILE;required;;The file; - is the standard input
 get put rm;type;;;TYPE;required;;The resource's type, as ls shows it (STR is 'STR ')
@@ -106,6 +113,8 @@ pack;folder;;;DIR;required;;The folder
 pack;output;;;OUT;required;;The file that is written
 cp;from;;;FROM;required;;The file that resources are copied from
 cp;words;;;TYPE[:ID]|TO;required many;;Which resources, else all; and last the file that they are copied to
+convert;file;;;IN;required;;The file that is read; - is the standard input
+convert;output;;;OUT;required;;The file that is written
 diff;a;;;A;required;;The first file
 diff;b;;;B;required;;The second file";
 

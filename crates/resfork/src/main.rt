@@ -5,6 +5,7 @@ mod asked;
 mod asked_change;
 mod change;
 mod command;
+mod convert;
 mod input;
 mod message;
 mod rez;

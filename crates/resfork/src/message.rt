@@ -92,6 +92,21 @@ pub enum Problem {
     /// A file of a folder is no text.
     #[error("{0} is no UTF-8 text")]
     NoText(String),
+    /// A container can't hold these things of the file.
+    #[error("{0} would be lost; --lossy leaves it out")]
+    Lost(String),
+    /// Its data fork would be lost.
+    #[error("its data fork would be lost; --data FILE writes it to a file of its own")]
+    DataLost,
+    /// `--data` names a file where none is read or written.
+    #[error("--data names the file of a data fork that stands alone, and there is none here")]
+    NoDataFile,
+    /// Two files that are written are one.
+    #[error("the data fork would take the place of the file that is written")]
+    OneFile,
+    /// The container can't hold it.
+    #[error("not written: {0}")]
+    Convert(mac_write::refusal::Refusal),
     /// There is no such file.
     #[error("there is no such file; --create makes a new one")]
     NoFile,
@@ -166,6 +181,8 @@ impl Problem {
             | Problem::NoKind(_)
             | Problem::Twice => NOT_FOUND,
             Problem::Terminal
+            | Problem::NoDataFile
+            | Problem::OneFile
             | Problem::View(NotShown::NoPicture)
             | Problem::View(NotShown::NoText)
             | Problem::View(NotShown::ManyPictures) => BAD_WORDS,
@@ -182,6 +199,9 @@ impl Problem {
             | Problem::Replace(_)
             | Problem::Unread { .. }
             | Problem::NoFile
+            | Problem::Lost(_)
+            | Problem::DataLost
+            | Problem::Convert(_)
             | Problem::Rez(RezFault::HostFull)
             | Problem::Pack(PackFault::HostFull)
             | Problem::HostFull => CANT_GO_ON,

@@ -2,6 +2,7 @@
 
 use crate::asked_change::{Target, Work};
 use crate::change::{change, create};
+use crate::convert::convert;
 use crate::message::{DONE, NOT_FOUND, Problem, tell_problem};
 use crate::rez::{derez_file, pack_folder, rez_file};
 use crate::{INPUT, fork_found, read, table_found, write_text};
@@ -83,6 +84,7 @@ fn done<'a>(rt: &HostRuntime, work: Work<'a>) -> Result<u8, Failed<'a>> {
             like,
             target,
         } => pack(rt, folder, like, target),
+        Work::Convert(asked) => of_file(asked.target.file, convert(rt, &asked)),
     }
 }
 

@@ -1,0 +1,218 @@
+//! A file is written in another container.
+
+use crate::asked_change::{Conversion, Target};
+use crate::change::{save_to, say};
+use crate::message::{DONE, Problem};
+use crate::{INPUT, fork_found, read, table_found};
+use fork_answer::Failure;
+use fork_edit::convert::{converted, file_of};
+use fork_edit::extra::extras;
+use fork_report::Refusal;
+use mac_files::bin_hex::is_bin_hex;
+use mac_files::container::{Container, Version};
+use mac_files::container_of;
+use mac_text::byte_of;
+use mac_write::Target as Kind;
+use mac_write::detail::{DETAILS, Detail, is_lost};
+use mac_write::mac_file::MacFile;
+use std::alloc::{AllocError, Global};
+
+/// Where the data fork of a file is.
+#[derive(Clone, Copy, PartialEq, Eq)]
+enum Place {
+    /// In the file.
+    Inside,
+    /// In no file that is known: a resource fork stands alone.
+    Nowhere,
+    /// In a file beside an AppleDouble file.
+    Beside,
+}
+
+/// Where the data fork of bytes is.
+fn place_of(bytes: &[u8]) -> Place {
+    match container_of(bytes) {
+        Some(Container::AppleDouble) => Place::Beside,
+        Some(Container::Raw) => Place::Nowhere,
+        None if !is_bin_hex(bytes) => Place::Nowhere,
+        _ => Place::Inside,
+    }
+}
+
+/// Whether a container holds data forks.
+fn holds_data(kind: Kind) -> bool {
+    match kind {
+        Kind::Raw | Kind::AppleDouble => false,
+        Kind::AppleSingle | Kind::MacBinary | Kind::BinHex => true,
+    }
+}
+
+/// The name that a path gives a file: its last part, without "._" and the last extension, as far as MacRoman has its characters.
+fn name_of_path(alloc: Global, path: &str) -> Result<Vec<u8>, AllocError> {
+    let last = match path.rsplit_once("/") {
+        Some((_, last)) => last,
+        None => path,
+    };
+    let last = last.strip_prefix("._").unwrap_or(last);
+    let stem = match last.rsplit_once(".") {
+        Some((stem, _)) if !stem.is_empty() => stem,
+        _ => last,
+    };
+    let mut name = Vec::new(alloc);
+    for character in stem.chars() {
+        name.push(byte_of(character).unwrap_or(b'_'))
+            .map_err(AllocError::from)?;
+    }
+    Ok(name)
+}
+
+/// The name of the new file: the one that is asked for, its own, or in MacBinary and BinHex that of the path.
+fn name_for(alloc: Global, asked: &Conversion<'_>, file: &MacFile) -> Result<Vec<u8>, AllocError> {
+    match (&asked.name, asked.kind) {
+        (Some(name), _) => Vec::from_slice(alloc, name.as_slice()),
+        (None, Kind::MacBinary | Kind::BinHex)
+            if file.name.is_empty() && asked.target.file != INPUT => {
+            name_of_path(alloc, asked.target.file)
+        }
+        _ => Vec::from_slice(alloc, file.name),
+    }
+}
+
+/// Adds something to a list of what is lost.
+fn add(text: &mut String, thing: &str) -> Result<(), AllocError> {
+    if !text.as_str().is_empty() {
+        text.push_str(", ")?;
+    }
+    text.push_str(thing)
+}
+
+/// What of a file would be lost, in words.
+fn lost_words(
+    alloc: Global,
+    asked: &Conversion<'_>,
+    bytes: &[u8],
+    file: &MacFile,
+) -> Result<String, AllocError> {
+    let mut text = String::new(alloc);
+    for detail in DETAILS {
+        if detail != Detail::DataFork && is_lost(detail, asked.kind, file) {
+            let word = format!(in alloc; "{detail}")?;
+            add(&mut text, word.as_str())?;
+        }
+    }
+    if place_of(bytes) == Place::Beside && holds_data(asked.kind) && asked.data.is_none() {
+        add(
+            &mut text,
+            "its data fork, which is in another file (--data FILE)",
+        )?;
+    }
+    let more = extras(alloc, bytes)?;
+    for extra in more.as_slice() {
+        let word = format!(in alloc; "{extra}")?;
+        add(&mut text, word.as_str())?;
+    }
+    Ok(text)
+}
+
+/// Checks that bytes in no container that is known for sure are a resource fork.
+fn check_fork(rt: &HostRuntime, bytes: &[u8]) -> Result<(), Problem> {
+    let is_sure = match container_of(bytes) {
+        Some(Container::MacBinary(Version::I)) => false,
+        Some(_) => true,
+        None => is_bin_hex(bytes),
+    };
+    if !is_sure {
+        let found = fork_found(rt, bytes)?;
+        table_found(rt, &found, bytes)?;
+    }
+    Ok(())
+}
+
+/// The data fork of the new file, which `--data` names where it stands in a file of its own.
+fn data_for(
+    rt: &HostRuntime,
+    asked: &Conversion<'_>,
+    bytes: &[u8],
+    file: &MacFile,
+) -> Result<Vec<u8>, Problem> {
+    let is_read = place_of(bytes) != Place::Inside && holds_data(asked.kind);
+    match asked.data {
+        Some(path) if is_read && file.data_fork.is_empty() => match read(rt, path) {
+            Ok(data) => Ok(data),
+            Err(error) => Err(Problem::Unread {
+                path: String::from_str(rt.alloc(), path)?,
+                error,
+            }),
+        },
+        Some(_) if holds_data(asked.kind) || place_of(bytes) != Place::Inside => Err(
+            Problem::NoDataFile,
+        ),
+        None if !holds_data(asked.kind) && !file.data_fork.is_empty() => Err(Problem::DataLost),
+        _ => Ok(Vec::from_slice(rt.alloc(), file.data_fork)?),
+    }
+}
+
+/// Writes the new file, and the data fork where it gets a file of its own. The file that is read is replaced last.
+fn write_both(
+    rt: &HostRuntime,
+    asked: &Conversion<'_>,
+    new: &[u8],
+    data: &[u8],
+) -> Result<(), Problem> {
+    let output = asked.target.output.unwrap_or(asked.target.file);
+    match asked.data {
+        Some(path) if !holds_data(asked.kind) => {
+            if path == asked.target.file {
+                save_to(rt, output, new)?;
+                save_to(rt, path, data)
+            } else {
+                save_to(rt, path, data)?;
+                save_to(rt, output, new)
+            }
+        }
+        _ => save_to(rt, output, new),
+    }
+}
+
+/// Writes a file in another container. The result is the exit status.
+pub fn convert(rt: &HostRuntime, asked: &Conversion<'_>) -> Result<u8, Problem> {
+    let alloc = rt.alloc();
+    let Target {
+        file: input,
+        output,
+        is_dry,
+        ..
+    } = asked.target;
+    let output = output.unwrap_or(input);
+    if asked.data == Some(output) {
+        return Err(Problem::OneFile);
+    }
+    let bytes = read(rt, input).map_err(Problem::Read)?;
+    check_fork(rt, &bytes)?;
+    let source = file_of(alloc, &bytes).map_err(|fault| {
+        Refusal::of_failure(alloc, Failure::NoFork(fault), &bytes)
+    })?;
+    let file = source.file();
+    let data = data_for(rt, asked, &bytes, &file)?;
+    let name = name_for(alloc, asked, &file)?;
+    let lost = lost_words(
+        alloc,
+        asked,
+        &bytes,
+        &MacFile {
+            name: &name,
+            ..file
+        },
+    )?;
+    if !lost.as_str().is_empty() && !asked.is_lossy {
+        return Err(Problem::Lost(lost));
+    }
+    let new = converted(alloc, &file, &name, &data, asked.kind).map_err(Problem::Convert)?;
+    if !is_dry {
+        write_both(rt, asked, &new, &data)?;
+    }
+    if !lost.as_str().is_empty() {
+        let _ = eprintln!(rt; "{input}: not in {output}: {lost}");
+    }
+    let said = format!(in alloc; "{output}: {length} bytes\n", length = new.len())?;
+    say(rt, &asked.target, &said)
+}
