@@ -1,6 +1,7 @@
-"""Checks README.md and the pages of docs/: that their links lead somewhere, that README links each page, and that what a page
-quotes is there. A quote is a block between ``` whose first line names the file, as '```text PATH': its
-lines stand in that file in this order, whatever blanks are before them.
+"""Checks README.md and the pages of docs/: that their links lead to a page and to a heading, that README links each page, that what a
+page quotes is there, that DESIGN.md names each crate, and that lines, pages and all of them are short and use no word that the glossary
+rules out. A quote is a block between ``` whose first line names the file, as '```text PATH': its lines are in that file in this
+order, whatever blanks are before them. Tables and quotes may be wider than other lines.
 """
 import glob
 import os
@@ -8,38 +9,121 @@ import re
 
 LINK = re.compile(r"\]\(([^)\s]+)\)")
 QUOTE = re.compile(r"^```\w+ (\S+)\n(.*?)^```$", re.M | re.S)
+BLOCK = re.compile(r"^```.*?^```$", re.M | re.S)
+CODE = re.compile(r"`[^`\n]*`|^    .*$", re.M)
+# the most lines that each page may have; there are no others
+LINES = {
+    "README.md": 90,
+    "docs/CONTRIBUTING.md": 80,
+    "docs/DECISIONS.md": 120,
+    "docs/DESIGN.md": 250,
+    "docs/DIFFERENCES.md": 120,
+    "docs/EMULATORS.md": 150,
+    "docs/FILES.md": 120,
+    "docs/FORMAT.md": 100,
+    "docs/SCRIPT.md": 300,
+    "docs/THEOREM.md": 150,
+}
+WIDTH = 100
+# the most words of all pages, code blocks aside
+WORDS = 15500
+GLOSSARY = "docs/DESIGN.md"
+# the line of the glossary that has the words that no page uses, and what is allowed of them
+ALLOWED = re.compile(r"\bstands? for\b")
+UNUSED = re.compile(r"^Not used on these pages: ([^.]*)\.$", re.M)
 
 
 def lacks(file, quoted):
-    """The first line of a quote that doesn't stand in the file behind those before it, if there is one."""
+    """The first line of a quote that the file doesn't have after those before it, if there is one."""
     with open(file, encoding="utf-8") as it:
         lines = iter([line.strip() for line in it.read().split("\n")])
     for line in quoted.strip("\n").split("\n"):
-        # (a test of membership goes on behind the line that it found)
+        # (a test of membership goes on after the line that it found)
         if line.strip() not in lines:
             return line
     return None
 
 
+def wrong_quotes(text):
+    """What is wrong with the quotes of a page."""
+    for file, quoted in QUOTE.findall(text):
+        line = lacks(file, quoted) if os.path.isfile(file) else "(there is no such file)"
+        if line is not None:
+            yield f"it quotes what {file} does not have: {line}"
+
+
+def anchors(text):
+    """The names by which links reach the headings of a page."""
+    heads = re.findall(r"^#+ (.*)$", BLOCK.sub("", text), re.M)
+    return {re.sub(r"[^\w -]", "", head.lower()).replace(" ", "-") for head in heads}
+
+
+def wrong_links(page, text, texts):
+    """What is wrong with the links of a page, where these are the texts of all pages."""
+    for link in LINK.findall(text):
+        file, _, anchor = link.partition("#")
+        path = os.path.normpath(os.path.join(os.path.dirname(page), file)) if file else page
+        if re.match(r"\w+:", link):
+            continue
+        if not os.path.exists(path):
+            yield f"the link to {link} leads nowhere"
+        elif anchor and anchor not in anchors(texts.get(path, "")):
+            yield f"{path} has no heading for the link to {link}"
+
+
+def wrong_lines(page, text, unused):
+    """What is wrong with the lines of a page: how many and how wide they are, and which words they use."""
+    lines = text.rstrip("\n").split("\n")
+    if len(lines) > LINES.get(page, 0):
+        yield f"it has {len(lines)} lines, and at most {LINES.get(page, 0)} are allowed"
+    # quotes and tables may be wide
+    for line in QUOTE.sub("", text).split("\n"):
+        if len(line) > WIDTH and not line.startswith("|"):
+            yield f"a line has {len(line)} columns: {line}"
+    prose = ALLOWED.sub("", CODE.sub("", BLOCK.sub("", UNUSED.sub("", text))))
+    for word in unused:
+        if re.search(rf"\b{word}\b", prose, re.I):
+            yield f"it uses the word '{word}'"
+
+
+def words_of(text):
+    """The words of a page, but for those of code blocks: what has a letter or a digit, between blanks."""
+    return [word for word in re.sub(r"^    .*$", "", BLOCK.sub("", text), flags=re.M).split() if re.search(r"\w", word)]
+
+
+def wrong_in_all(texts):
+    """What is wrong with all pages together."""
+    targets = [it.partition("#")[0] for it in LINK.findall(texts["README.md"])]
+    for page in texts:
+        if page != "README.md" and page not in targets:
+            yield f"README.md does not link {page}"
+    words = sum(len(words_of(text)) for text in texts.values())
+    if words > WORDS:
+        yield f"all pages have {words} words, and at most {WORDS} are allowed"
+    with open("crates.txt", encoding="utf-8") as it:
+        crates = [line.split(":")[0].split()[0] for line in it if ":" in line and not line.startswith("#")]
+    for crate in crates:
+        if not re.search(rf"\b{crate}\b", texts[GLOSSARY]):
+            yield f"{GLOSSARY} does not name the crate {crate}"
+
+
 def main():
-    faults, links, quotes = [], 0, 0
-    pages = sorted(glob.glob("docs/*.md"))
-    for page in ["README.md", *pages]:
+    texts = {}
+    for page in ["README.md", *sorted(glob.glob("docs/*.md"))]:
         with open(page, encoding="utf-8") as it:
-            text = it.read()
-        targets = [it.partition("#")[0] for it in LINK.findall(text) if not re.match(r"\w+:", it)]
-        links += len(targets)
-        around = os.path.dirname(page)
-        faults += [f"{page}: the link to {it} leads nowhere" for it in targets if it and not os.path.exists(os.path.join(around, it))]
-        if page == "README.md":
-            faults += [f"{page} does not link {it}" for it in pages if it not in targets]
-        for file, quoted in QUOTE.findall(text):
-            quotes += 1
-            line = lacks(file, quoted) if os.path.isfile(file) else "(there is no such file)"
-            if line is not None:
-                faults.append(f"{page} quotes what {file} does not have: {line}")
+            texts[page] = it.read()
+    found = UNUSED.search(texts[GLOSSARY])
+    unused = re.findall(r"\*(\w+)\*", found[1]) if found else []
+    faults = list(wrong_in_all(texts))
+    if not unused:
+        faults.append(f"{GLOSSARY} has no line 'Not used on these pages: *WORD*, ..'")
+    for page, text in texts.items():
+        wrong = [*wrong_links(page, text, texts), *wrong_quotes(text), *wrong_lines(page, text, unused)]
+        faults += [f"{page}: {it}" for it in wrong]
     for it in faults:
         print(it)
     if not faults:
-        print(f"pages: {links} links and {quotes} quotes found")
+        links, quotes = (sum(len(it.findall(text)) for text in texts.values()) for it in (LINK, QUOTE))
+        words = sum(len(words_of(text)) for text in texts.values())
+        print(f"pages: {len(texts)} pages with {words} words, {links} links and {quotes} quotes")
     return 1 if faults else 0

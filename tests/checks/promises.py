@@ -1,9 +1,10 @@
-"""Checks that the clauses and edits that docs/PROMISES.md names are there, and that it names each edit of the gate.
+"""Checks that the clauses that README.md and the pages of docs/ name are there, and that tests/cases/bugs.txt says of each edit of the gate
+which bug it is.
 
-The page names a clause as `CRATE: function: clause` or `CRATE: Type::function: clause`, and one without a name as `CRATE: function`;
-and an edit by its path from the top, as `crates/CRATE/must-fail/NAME.edit`. What `tools/list_promises.py` finds in the sources is there.
+A page names a clause as `CRATE: function: clause` or `CRATE: Type::function: clause`, and one without a name as `CRATE: function`. What
+`tools/list_promises.py` finds in the sources is there.
 """
-import os
+import glob
 import re
 import sys
 
@@ -12,9 +13,12 @@ from places import TOP
 sys.path.append(f"{TOP}/tools")
 from list_promises import crates, edits, functions  # noqa: E402
 
-PAGE = "docs/PROMISES.md"
+BUGS = "tests/cases/bugs.txt"
+THEOREM = "docs/THEOREM.md"
+BLOCK = re.compile(r"^```.*?^```$", re.M | re.S)
 CODE = re.compile(r"`([^`\n]+)`")
 CLAUSE = re.compile(r"(\w+): (?:(\w+)::)?(\w+)(?:: (\w+))?")
+BUG = re.compile(r"(\w+)/(\w+): \S.*")
 
 
 def lacks(name, known):
@@ -33,30 +37,50 @@ def lacks(name, known):
     return None
 
 
+def clauses_of(page):
+    """The names of clauses on a page: what is between ` and ` with a colon and a blank, but for the form itself. And the lines with a
+    name that goes on in the next one."""
+    with open(page, encoding="utf-8") as it:
+        text = BLOCK.sub("", it.read())
+    lines = [line for line in text.split("\n") if not line.startswith("    ")]
+    names = [name for line in lines for name in CODE.findall(line) if re.match(r"\w+: \w", name)]
+    cut = [line for line in lines if line.count("`") % 2 and re.search(r"`\w+: \w[^`]*$", line)]
+    return [it for it in names if it != "crate: function: clause"], cut
+
+
+def wrong_bugs():
+    """What is wrong with the list of bugs."""
+    with open(BUGS, encoding="utf-8") as it:
+        lines = [line.rstrip("\n") for line in it if line.strip() and not line.startswith("#")]
+    named = []
+    for line in lines:
+        bug = BUG.fullmatch(line)
+        if bug:
+            named.append(f"crates/{bug[1]}/must-fail/{bug[2]}.edit")
+        else:
+            yield f"{BUGS}: no 'CRATE/EDIT: what the bug is': {line}"
+    there = [path for crate in crates() for path in edits(crate)[0]]
+    for path in sorted(set(named) - set(there)):
+        yield f"{BUGS}: there is no {path}"
+    for path in sorted(set(there) - set(named)):
+        yield f"{BUGS} does not say which bug {path} is"
+    for path in sorted({path for path in named if named.count(path) > 1}):
+        yield f"{BUGS} has {path} twice"
+
+
 def main():
-    with open(PAGE, encoding="utf-8") as it:
-        lines = it.read().split("\n")
     known = {crate: functions(crate) for crate in crates()}
-    faults, named, clauses = [], set(), 0
-    for number, line in enumerate(lines, 1):
-        if line.count("`") % 2:
-            faults.append(f"{PAGE}:{number}: a name between ` and ` goes on in the next line")
-        for name in CODE.findall(line):
-            if name.endswith(".edit"):
-                named.add(name)
-                if not os.path.isfile(name):
-                    faults.append(f"{PAGE}:{number}: there is no file {name}")
-            elif ": " in name:
-                clauses += 1
-                wrong = lacks(name, known)
-                if wrong:
-                    faults.append(f"{PAGE}:{number}: {wrong}")
-    for crate in crates():
-        faults += [f"{PAGE}: it does not name {it}" for it in edits(crate)[0] if it not in named]
-    if not clauses:
-        faults.append(f"{PAGE}: it names no clause")
+    faults, clauses = list(wrong_bugs()), 0
+    for page in ["README.md", *sorted(glob.glob("docs/*.md"))]:
+        names, cut = clauses_of(page)
+        clauses += len(names)
+        faults += [f"{page}: a name between ` and ` goes on in the next line: {line}" for line in cut]
+        faults += [f"{page}: {wrong}" for wrong in (lacks(name, known) for name in names) if wrong]
+        if page == THEOREM and not names:
+            faults.append(f"{page}: it names no clause")
     for it in faults:
         print(it)
     if not faults:
-        print(f"promises: {clauses} clauses and {len(named)} edits found")
+        count = sum(len(edits(crate)[0]) for crate in crates())
+        print(f"promises: {clauses} clauses and {count} edits found")
     return 1 if faults else 0

@@ -1,9 +1,9 @@
 """Checks a macheap program with resource files against a small model, on random scripts in zones of both modes.
 
-The model is written from the rules of docs/SCRIPT.md and docs/RESOURCES.md alone, and shares nothing with the program: a file is a
+The model is written from the rules of docs/SCRIPT.md and docs/DESIGN.md alone, and shares nothing with the program: a file is a
 list of rows, a disk the bytes of a fork. What a zone does is the model of a zone, and how a fork is read that of
 forks.py. Each script runs over one to three files, which are empty, forks, or damaged. Half of the scripts run with a journal beside each file,
-by docs/JOURNAL.md: it is empty, shut, cut short, or open with a fork that is to be recovered. The output is compared, and every byte of the files and
+by docs/DESIGN.md: it is empty, shut, cut short, or open with a fork that is to be recovered. The output is compared, and every byte of the files and
 their journals behind it. By default it runs 40 scripts of 300 lines. Each is made from its number, so a difference can be made again.
 Numbers: how many scripts, how many lines, and the number of the first script.
 """

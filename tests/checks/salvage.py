@@ -3,7 +3,7 @@
 Three forks of more than 100 resources are made from fixed numbers, and in each one byte of the map is changed, 300 times. Whatever `ls`
 refuses then is salvaged, and compared with the resources that were there: at least 95 of 100 are right on average. Before that come forks
 that aren't damaged, which are salvaged as they are, a type that stands twice, and what is odd about forks that can be read. The forks are
-written here, from the rules of docs/FORKS.md.
+written here, from the rules of docs/FORMAT.md.
 """
 import base64
 import collections

@@ -1,6 +1,6 @@
 """Which bytes are a resource fork, and its rows, as a small model.
 
-It is written from the rules of docs/FORKS.md alone, and shares nothing with the program.
+It is written from the rules of docs/FORMAT.md alone, and shares nothing with the program.
 """
 import re
 import struct

@@ -1,6 +1,6 @@
 """Resource files over a zone, as a small model.
 
-It is written from the rules of docs/SCRIPT.md and docs/RESOURCES.md alone, and shares nothing with the program: a file is a list of rows, a disk
+It is written from the rules of docs/SCRIPT.md and docs/DESIGN.md alone, and shares nothing with the program: a file is a list of rows, a disk
 the bytes of a fork.
 """
 import struct
