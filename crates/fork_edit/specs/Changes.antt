@@ -12,7 +12,7 @@ use Rattle.fork_edit.specs.Files.{HasTable, IsSourceOf}
 use Rattle.fork_edit.specs.declared.edit.Edit.{Edit}
 use Rattle.fork_edit.specs.declared.change.NewFile.{NewFile}
 use Rattle.fork_edit.specs.declared.change.NotChanged.{NotChanged}
-use Rattle.fork_edit.specs.declared.change.NotChanged.TheVariants as not
+use Rattle.fork_edit.specs.declared.change.NotChanged.TheVariants as unchanged
 
 -- the table of the resource fork in a file; without a fork, one without resources
 abbrev pub IsTableIn : List ℕ → Table → Type 0
@@ -27,9 +27,9 @@ Differs file from edit table rows = IsTableIn file table × (edited edit from ta
 abbrev pub Comes : List ℕ → List Row → Edit → Result (Option NewFile) NotChanged → Type 0
 Comes file from edit (Ok None) = (table : Table) × IsTableIn file table × (edited edit from table.rows ≡ Ok table.rows)
 Comes file from edit (Ok (Some new)) = (table : Table) × (rows : List Row) × Differs file from edit table rows × HasTable file (with_rows table rows) new.file.items
-Comes file from edit (Err (not.Edit fault)) = (table : Table) × IsTableIn file table × ((fault ≡ why.HostFull) ⊎ (edited edit from table.rows ≡ Err fault))
-Comes file from edit (Err (not.Write fault)) = (table : Table) × (rows : List Row) × Differs file from edit table rows
-Comes file from edit (Err (not.Read (failure.NoFork fault))) = IsNoForkIn file fault
-Comes file from edit (Err (not.Read (failure.Fork fault))) = (fork : List ℕ) × IsSourceOf file fork × IsReadOf fork (Err fault)
-Comes file from edit (Err (not.Read other)) = ⊥
-Comes file from edit (Err not.HostFull) = ⊤
+Comes file from edit (Err (unchanged.Edit fault)) = (table : Table) × IsTableIn file table × ((fault ≡ why.HostFull) ⊎ (edited edit from table.rows ≡ Err fault))
+Comes file from edit (Err (unchanged.Write fault)) = (table : Table) × (rows : List Row) × Differs file from edit table rows
+Comes file from edit (Err (unchanged.Read (failure.NoFork fault))) = IsNoForkIn file fault
+Comes file from edit (Err (unchanged.Read (failure.Fork fault))) = (fork : List ℕ) × IsSourceOf file fork × IsReadOf fork (Err fault)
+Comes file from edit (Err (unchanged.Read other)) = ⊥
+Comes file from edit (Err unchanged.HostFull) = ⊤

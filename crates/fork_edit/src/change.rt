@@ -31,9 +31,9 @@ pub enum NotChanged {
 
 impl From<HostFull> for NotChanged {
     ghost use Rattle.std.specs.Prelude.{◌≡◌};
-    ghost use Rattle.fork_edit.specs.declared.change.NotChanged.TheVariants as not;
+    ghost use Rattle.fork_edit.specs.declared.change.NotChanged.TheVariants as unchanged;
 
-    ghost from_gives = { λ _ fault. fault ≡ not.HostFull };
+    ghost from_gives = { λ _ fault. fault ≡ unchanged.HostFull };
 
     fn from(_: HostFull) -> NotChanged {
         NotChanged::HostFull
