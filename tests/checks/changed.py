@@ -4,6 +4,7 @@ Each command is tried on random forks of tests/checks/forks.py, alone and in App
 is read of the new file, and what of it is no resource fork, are those of a model; so is what the command prints. Where nothing changes, the file
 isn't touched. Before them come rows by hand, with their status and what is told. Number: how many random forks.
 """
+import json
 import os
 import random
 import re
@@ -118,6 +119,9 @@ def diff(a, b):
     lines = [difference_of(row, b[key]) if key in b else f"- {title(row)}\n" for key, row in a.items()]
     return "".join(lines + [f"+ {title(row)}\n" for key, row in b.items() if key not in a])
 
+
+# what a line of JSON has where nothing differs
+SAME = {"differences": [], "reordered": False, "map_attributes": None, "extra_byte": None}
 
 # the commands
 
@@ -254,8 +258,38 @@ def try_case(program, path, old, case, rows, extra):
     return "changed"
 
 
+def side(row):
+    """A row as JSON has it."""
+    kind, ident, name, attributes, data = row
+    words = words_of(attributes)
+    return {"type": kind.decode("mac_roman"), "id": ident, "size": len(data), "attributes": [] if words == "-" else words.split(","), "name": None if name is None else name.decode("mac_roman")}
+
+
+def differences(a, b):
+    """The rows that differ, as JSON has them."""
+    a, b = keyed(a), keyed(b)
+    found = []
+    for key in [*a, *(key for key in b if key not in a)]:
+        old, new = a.get(key), b.get(key)
+        if old != new:
+            first = first_difference(old[4], new[4]) if old and new and old[4] != new[4] else None
+            found.append({"nth": key[2], "old": side(old) if old else None, "new": side(new) if new else None, "first_byte": first})
+    return found
+
+
+def try_json(program, path, other_path, rows, other):
+    """Compares two files, as a line of JSON."""
+    status, output, told = run(program, ["diff", "--json", path, other_path])
+    line = json.loads(output)
+    must(output.count(b"\n") == 1 and (line.pop("old"), line.pop("new"), told) == (path, other_path, ""), f"diff --json: {output!r} {told!r}")
+    must(line["differences"] == differences(rows, other) and sorted(line) == sorted(SAME), f"diff --json: {output!r}")
+    must(status == (0 if line == SAME else 1), f"diff --json: {status} {output!r}")
+
+
 def try_diff(program, path, other_path, rows, other):
     """Compares two files, and one with itself."""
+    try_json(program, path, other_path, rows, other)
+    try_json(program, path, path, rows, rows)
     lines = diff(rows, other).encode()
     got = run(program, ["diff", path, other_path])
     must(got[:2] == ((1, got[1]) if got[1] else (0, b"")) and got[1].startswith(lines), f"diff: {got} and not {lines!r}")

@@ -24,7 +24,7 @@ fn members_of(alloc: Global, file: &str) -> Result<Members, AllocError> {
 }
 
 /// An object as a line.
-fn line_of(alloc: Global, members: Members) -> Result<String, AllocError> {
+pub(crate) fn line_of(alloc: Global, members: Members) -> Result<String, AllocError> {
     let mut line = Value::Object(members).to_string(alloc)?;
     line.push('\n')?;
     Ok(line)

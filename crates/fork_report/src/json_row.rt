@@ -40,7 +40,7 @@ fn name_value(alloc: Global, name: &Option<Name>) -> Result<Value, AllocError> {
 }
 
 /// A resource.
-fn row_value(alloc: Global, bytes: Bytes, row: &Row) -> Result<Value, AllocError> {
+pub(crate) fn row_value(alloc: Global, bytes: Bytes, row: &Row) -> Result<Value, AllocError> {
     let mut members = Map::new(alloc);
     let data = row.datum.as_slice();
     put(&mut members, alloc, "type", kind_value(alloc, row.kind)?)?;

@@ -4,6 +4,7 @@
 mod damage;
 mod info;
 mod json;
+mod json_diff;
 mod json_row;
 mod json_text;
 mod refusal;
@@ -12,6 +13,7 @@ mod request;
 
 pub use damage::Tally;
 pub use json::refused_line;
+pub use json_diff::difference_line;
 pub use json_row::Bytes;
 pub use refusal::Refusal;
 pub use report::{Told, report_on, salvage, salvage_list};

@@ -1,11 +1,12 @@
 //! The words of the commands that change files, and of those that compare them.
 
 use crate::INPUT;
-use crate::asked::{NotAsked, kind_named, kinds_named, name_named};
+use crate::asked::{NotAsked, form_of, kind_named, kinds_named, name_named};
 use bitflags::Flags;
 use clap::ArgMatches;
 use fork_change::row::{AttributeChange, Change, NameChange, ResourceId};
 use fork_change::{Choice, Collision};
+use fork_report::Form;
 use mac_base::name::Name;
 use mac_base::resource::{ResAttrs, ResType};
 use mac_write::Target as Kind;
@@ -75,6 +76,7 @@ pub enum Work<'a> {
     Compare {
         a: &'a str,
         b: &'a str,
+        form: Form,
     },
     /// To write resources as a text.
     Derez {
@@ -365,7 +367,8 @@ fn compare<'a>(matches: &ArgMatches<'a>) -> Result<Work<'a>, NotAsked> {
     if a == INPUT && b == INPUT {
         return Err(NotAsked::TwoInputs);
     }
-    Ok(Work::Compare { a, b })
+    let form = form_of(matches);
+    Ok(Work::Compare { a, b, form })
 }
 
 /// The container that a word names.

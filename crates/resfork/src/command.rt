@@ -70,6 +70,7 @@ ls;types;;types;;;;Lists types: a line for each, with how many resources it has
 salvage;list;;list;;;output;Lists what can be read, and why the rest can't be; so it does without -o
 ls salvage;raw;;raw;;;;Shows letters that aren't ASCII as \\xHH, and not as the characters that they are in MacRoman
 ls info check;json;;json;;;;One line of JSON for each file
+diff;json;;json;;;;What differs as a line of JSON
 ls;data;;data;FORM;;;With --json: the bytes of each resource too, as base64
 show;as;;as;FORM;;;text, hex or png, in place of what suits the type
 get;nth;;nth;N;;;Of several such resources the N-th, counted from 1

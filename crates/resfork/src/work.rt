@@ -7,9 +7,10 @@ use crate::message::{DONE, NOT_FOUND, Problem, tell_problem};
 use crate::rez::{derez_file, pack_folder, rez_file};
 use crate::{INPUT, fork_found, read, table_found, write_text};
 use fork_bytes::table::{Row, Table};
-use fork_change::{Choice, Collision, Refusal};
+use fork_change::{Choice, Collision, Differences, Refusal};
 use fork_edit::difference::text_of;
 use fork_edit::edit::{Edit, second_of, unmet};
+use fork_report::{Form, difference_line};
 use std::fs;
 use std::io::ErrorKind;
 
@@ -76,7 +77,7 @@ fn done<'a>(rt: &HostRuntime, work: Work<'a>) -> Result<u8, Failed<'a>> {
             on_collision,
             target,
         } => copy_from(rt, from, chosen.as_slice(), on_collision, target),
-        Work::Compare { a, b } => compare(rt, a, b),
+        Work::Compare { a, b, form } => compare(rt, form, a, b),
         Work::Derez { file, kinds } => of_file(file, derez_file(rt, file, kinds.as_slice())),
         Work::Rez { target } => of_file(target.file, rez_file(rt, &target)),
         Work::Pack {
@@ -122,26 +123,44 @@ fn can_copy(rt: &HostRuntime, chosen: &[Choice], rows: &[Row<'_>]) -> Result<(),
 }
 
 /// Writes what differs between two files. The result says whether something does.
-fn compare<'a>(rt: &HostRuntime, a: &'a str, b: &'a str) -> Result<u8, Failed<'a>> {
+fn compare<'a>(rt: &HostRuntime, form: Form, a: &'a str, b: &'a str) -> Result<u8, Failed<'a>> {
     let old = of_file(a, read(rt, a).map_err(Problem::Read))?;
     let old_fork = of_file(a, fork_found(rt, &old))?;
     let old_table = of_file(a, table_found(rt, &old_fork, &old))?;
     let new = of_file(b, read(rt, b).map_err(Problem::Read))?;
     let new_fork = of_file(b, fork_found(rt, &new))?;
     let new_table = of_file(b, table_found(rt, &new_fork, &new))?;
-    of_file(b, write_differences(rt, &old_table, &new_table))
+    let differences = of_file(b, differences_of(rt, &old_table, &new_table))?;
+    of_file(b, write_differences(rt, form, [a, b], &differences))
 }
 
-/// Writes what differs between two tables. The result says whether something does.
-fn write_differences(rt: &HostRuntime, old: &Table<'_>, new: &Table<'_>) -> Result<u8, Problem> {
+/// What differs between two tables.
+fn differences_of<'r, 'a>(
+    rt: &HostRuntime,
+    old: &'r Table<'a>,
+    new: &'r Table<'a>,
+) -> Result<Differences<'r, 'a>, Problem> {
+    Ok(fork_change::compare(rt.alloc(), old, new)?)
+}
+
+/// Writes what differs between the files of these names. The result says whether something does.
+fn write_differences(
+    rt: &HostRuntime,
+    form: Form,
+    files: [&str; 2],
+    differences: &Differences<'_, '_>,
+) -> Result<u8, Problem> {
     let alloc = rt.alloc();
-    let differences = fork_change::compare(alloc, old, new)?;
-    if differences.is_empty() {
-        return Ok(DONE);
-    }
-    let text = text_of(alloc, &differences)?;
+    let text = match form {
+        Form::Text => text_of(alloc, differences)?,
+        Form::Json => difference_line(alloc, files[0], files[1], differences)?,
+    };
     write_text(rt, &text)?;
-    Ok(NOT_FOUND)
+    Ok(if differences.is_empty() {
+        DONE
+    } else {
+        NOT_FOUND
+    })
 }
 
 /// Writes a fork of the files in a folder, alone or in a file like another one.
