@@ -121,7 +121,7 @@ def diff(a, b):
 
 
 # what a line of JSON has where nothing differs
-SAME = {"differences": [], "reordered": False, "map_attributes": None, "extra_byte": None}
+SAME = {"differences": [], "reordered": False, "mapAttributes": None, "extraByte": None}
 
 # the commands
 
@@ -273,7 +273,7 @@ def differences(a, b):
         old, new = a.get(key), b.get(key)
         if old != new:
             first = first_difference(old[4], new[4]) if old and new and old[4] != new[4] else None
-            found.append({"nth": key[2], "old": side(old) if old else None, "new": side(new) if new else None, "first_byte": first})
+            found.append({"nth": key[2], "old": side(old) if old else None, "new": side(new) if new else None, "firstByte": first})
     return found
 
 

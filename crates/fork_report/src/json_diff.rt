@@ -40,7 +40,7 @@ fn row_difference(alloc: Global, difference: &Difference) -> Result<Value, Alloc
     let new = side_value(alloc, difference.new)?;
     put(&mut members, alloc, "new", new)?;
     let place = place_value(first_byte(difference));
-    put(&mut members, alloc, "first_byte", place)?;
+    put(&mut members, alloc, "firstByte", place)?;
     Ok(Value::Object(members))
 }
 
@@ -74,8 +74,8 @@ pub fn difference_line(
     let is_reordered = Value::from(differences.is_reordered);
     put(&mut members, alloc, "reordered", is_reordered)?;
     let attributes = attributes_pair(alloc, differences.map_attributes)?;
-    put(&mut members, alloc, "map_attributes", attributes)?;
+    put(&mut members, alloc, "mapAttributes", attributes)?;
     let extra = place_value(differences.extra);
-    put(&mut members, alloc, "extra_byte", extra)?;
+    put(&mut members, alloc, "extraByte", extra)?;
     line_of(alloc, members)
 }
