@@ -7,7 +7,7 @@ use crate::message::{DONE, NOT_FOUND, Problem, tell_problem};
 use crate::rez::{derez_file, pack_folder, rez_file};
 use crate::{INPUT, fork_found, read, table_found, write_text};
 use fork_bytes::table::{Row, Table};
-use fork_change::{Choice, Collision, Differences, Refusal};
+use fork_change::{Choice, Collision, Refusal};
 use fork_edit::difference::text_of;
 use fork_edit::edit::{Edit, second_of, unmet};
 use fork_report::{Form, difference_line};
@@ -130,30 +130,25 @@ fn compare<'a>(rt: &HostRuntime, form: Form, a: &'a str, b: &'a str) -> Result<u
     let new = of_file(b, read(rt, b).map_err(Problem::Read))?;
     let new_fork = of_file(b, fork_found(rt, &new))?;
     let new_table = of_file(b, table_found(rt, &new_fork, &new))?;
-    let differences = of_file(b, differences_of(rt, &old_table, &new_table))?;
-    of_file(b, write_differences(rt, form, [a, b], &differences))
+    of_file(
+        b,
+        write_differences(rt, form, [a, b], &old_table, &new_table),
+    )
 }
 
-/// What differs between two tables.
-fn differences_of<'r, 'a>(
-    rt: &HostRuntime,
-    old: &'r Table<'a>,
-    new: &'r Table<'a>,
-) -> Result<Differences<'r, 'a>, Problem> {
-    Ok(fork_change::compare(rt.alloc(), old, new)?)
-}
-
-/// Writes what differs between the files of these names. The result says whether something does.
+/// Writes what differs between two tables of the files of these names. The result says whether something does.
 fn write_differences(
     rt: &HostRuntime,
     form: Form,
     files: [&str; 2],
-    differences: &Differences<'_, '_>,
+    old: &Table<'_>,
+    new: &Table<'_>,
 ) -> Result<u8, Problem> {
     let alloc = rt.alloc();
+    let differences = fork_change::compare(alloc, old, new)?;
     let text = match form {
-        Form::Text => text_of(alloc, differences)?,
-        Form::Json => difference_line(alloc, files[0], files[1], differences)?,
+        Form::Text => text_of(alloc, &differences)?,
+        Form::Json => difference_line(alloc, files[0], files[1], &differences)?,
     };
     write_text(rt, &text)?;
     Ok(if differences.is_empty() {
