@@ -1,11 +1,18 @@
 """Checks README.md and the pages of docs/: that their links lead to a page and to a heading, that README links each page, that what a
 page quotes is there, that DESIGN.md names each crate, and that lines, pages and all of them are short and use no word that the glossary
-rules out. A quote is a block between ``` whose first line names the file, as '```text PATH': its lines are in that file in this
-order, whatever blanks are before them. Tables and quotes may be wider than other lines.
+rules out; and that docs/macheap.1 and docs/macheap.3 are what tools/man_pages.py makes. A quote is a block between ``` whose first line
+names the file, as '```text PATH': its lines are in that file in this order, whatever blanks are before them. Tables and quotes may be
+wider than other lines.
 """
 import glob
 import os
 import re
+import sys
+
+from places import TOP
+
+sys.path.append(f"{TOP}/tools")
+import man_pages  # noqa: E402
 
 LINK = re.compile(r"\]\(([^)\s]+)\)")
 QUOTE = re.compile(r"^```\w+ (\S+)\n(.*?)^```$", re.M | re.S)
@@ -107,6 +114,13 @@ def wrong_in_all(texts):
             yield f"{GLOSSARY} does not name the crate {crate}"
 
 
+def wrong_man_pages():
+    """What is wrong with the man pages that a tool makes."""
+    for page, made in man_pages.pages().items():
+        if not os.path.exists(page) or man_pages.read(page) != made:
+            yield f"{page} is not what tools/man_pages.py makes: run it"
+
+
 def main():
     texts = {}
     for page in ["README.md", *sorted(glob.glob("docs/*.md"))]:
@@ -114,7 +128,7 @@ def main():
             texts[page] = it.read()
     found = UNUSED.search(texts[GLOSSARY])
     unused = re.findall(r"\*(\w+)\*", found[1]) if found else []
-    faults = list(wrong_in_all(texts))
+    faults = [*wrong_in_all(texts), *wrong_man_pages()]
     if not unused:
         faults.append(f"{GLOSSARY} has no line 'Not used on these pages: *WORD*, ..'")
     for page, text in texts.items():

@@ -1,13 +1,15 @@
 """Checks that docs/SCRIPT.md has each call of the program's table of calls, and no other.
 
-The table has names in the form b"NewHandle". On the page a call stands in the first column of a table whose header begins with 'Call', as `NewHandle n` or `CloseResFile [k]`.
+The table has names in the form b"NewHandle". On the page calls are in the first column of a table whose header begins with 'Call', as
+`NewHandle n` or `CloseResFile [k]`; several in one row have commas between them.
 """
 import re
 
 PAGE = "docs/SCRIPT.md"
 TABLE = "crates/script_lang/src/table.rt"
 NAME = re.compile(r'\bb"([A-Z][A-Za-z0-9]*)"')
-ROW = re.compile(r"\| `([A-Z][A-Za-z0-9]*)((?: [a-z]+| \[[a-z]+\])*)` \|")
+CALL = r"`([A-Z][A-Za-z0-9]*)(?: [a-z]+| \[[a-z]+\])*`"
+ROW = re.compile(rf"\| {CALL}(?:, {CALL})* \|")
 
 
 def table():
@@ -28,7 +30,7 @@ def of_page():
             elif is_calls and not line.startswith("|---"):
                 row = ROW.match(line)
                 if row:
-                    calls.append(row[1])
+                    calls += re.findall(CALL, row[0])
                 else:
                     strange.append(number)
     return calls, strange
@@ -40,7 +42,7 @@ def main():
         print(f'tests/checks/script_page.py: {TABLE} has no b"NewHandle": where is the table of calls?')
         return 1
     calls, strange = of_page()
-    faults = [f"{PAGE}:{it}: the row does not begin with a call, as '| `NewHandle n` |'" for it in strange]
+    faults = [f"{PAGE}:{it}: the row does not begin with calls, as '| `HLock h`, `HUnlock h` |'" for it in strange]
     faults += [f"{PAGE} lacks {it}, which {TABLE} has" for it in sorted(names - set(calls))]
     faults += [f"{PAGE} has {it}, which {TABLE} lacks" for it in sorted(set(calls) - names)]
     faults += [f"{PAGE} has {it} twice" for it in sorted({it for it in calls if calls.count(it) > 1})]

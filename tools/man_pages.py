@@ -1,0 +1,140 @@
+#!/usr/bin/env python3
+"""Makes the man pages docs/macheap.1 and docs/macheap.3, and writes them: tools/man_pages.py.
+
+macheap(1) has the program's own texts: its options and their help from crates/macheap/src, the exit statuses and the first example from
+docs/SCRIPT.md. macheap(3) has the comments and declarations of the headers in include/. `tests/run pages` sees that what is written is
+what is made.
+"""
+import os
+import re
+import sys
+import textwrap
+
+TOP = os.path.dirname(os.path.dirname(os.path.abspath(__file__)))
+HEAD = '.TH MACHEAP {} 2026-11-27 "macheap 1.0"'
+OPTION = re.compile(r'\.arg\(\w+_option\(alloc, "(\w+)", (\w+)\)\)')
+HELP = re.compile(r'let (\w+_help) =\s*"([^"]*)";')
+ABOUT = re.compile(r'const ABOUT: &\[u8\] =\s*b"([^"\\]*)')
+FILES = ("fork", "journal")
+QUOTE = re.compile(r"^```text \S+\n(.*?)^```$", re.M | re.S)
+COLUMNS = 70
+# a comment of a header that begins a line, or what is between two of them
+ITEM = re.compile(r"^/\*(.*?)\*/\n|((?:(?!/\*)[^\n]*\n)+)", re.M | re.S)
+GUARD = re.compile(r'^#.*\n|^extern "C" \{\n|^\}\n', re.M)
+
+
+def read(path):
+    with open(os.path.join(TOP, path), encoding="utf-8") as it:
+        return it.read()
+
+
+def safe(line):
+    """A line of text as roff takes it."""
+    line = line.replace("\\", "\\e")
+    line = re.sub(r"(?<!\w)-(?=[\w-])|(?<=-)-", r"\\-", line)
+    return "\\&" + line if line[:1] in (".", "'") else line
+
+
+def words(text):
+    """A text of Markdown: code in bold, links as their words, a sentence a line."""
+    text = re.sub(r"\[([^\]]*)\]\([^)]*\)", r"\1", " ".join(text.split()))
+    text = re.sub(r"`([^`]*)`", r"<<\1>>", text)
+    sentences = re.split(r"(?<=[a-z0-9)>]\.) (?=[A-Z<])", text)
+    lines = [safe(line) for it in sentences for line in textwrap.wrap(it, COLUMNS, break_on_hyphens=False)]
+    return "\n".join(lines).replace("<<", "\\fB").replace(">>", "\\fR")
+
+
+def code(text):
+    """Lines that are shown as they are; where one is too long, the rest comes on the next."""
+    lines = []
+    for line in re.sub(r",\n {8,}", ", ", text.rstrip("\n")).split("\n"):
+        rest = " " * (len(line) - len(line.lstrip()) + 4)
+        whole = re.sub(r" (?=\*|\w+[,)])", "\0", line)
+        lines += textwrap.wrap(whole, COLUMNS, subsequent_indent=rest, break_on_hyphens=False) or [""]
+    shown = [safe(it.replace("\0", " ")).replace("\\-", "-").replace("-", "\\-") for it in lines]
+    return "\n".join([".RS 2", ".nf", *shown, ".fi", ".RE"])
+
+
+def options():
+    """The program's options: name, what its value is called, and its help."""
+    source = read("crates/macheap/src/asked.rt")
+    helps = dict(HELP.findall(source))
+    return [(name, "FILE" if name in FILES else "N", helps[text]) for name, text in OPTION.findall(source)]
+
+
+def statuses():
+    """The rows of the table of exit statuses: what happened, both outputs, the status."""
+    table = read("docs/SCRIPT.md").partition("| What happened |")[2].split("\n\n")[0]
+    return [[it.strip() for it in row.strip("|").split("|")] for row in table.split("\n")[2:]]
+
+
+def program():
+    """macheap(1)."""
+    about = ABOUT.search(read("crates/macheap/src/program.rt"))[1]
+    script, printed = QUOTE.findall(read("docs/SCRIPT.md"))[:2]
+    made = [HEAD.format(1), ".SH NAME", f"macheap \\- {about[0].lower()}{about[1:]}", ".SH SYNOPSIS", ".B macheap"]
+    for name, value, _ in options():
+        made += [f".RB [ \\-\\-{name}", f".IR {value} ]" + ("...\\&" if name in FILES else "")]
+    made += [".I < SCRIPT", ".SH DESCRIPTION", words("A script has a call of the Memory Manager or the Resource Manager in each line.")]
+    made += [words("Each call prints its line number, name, result and code. docs/SCRIPT.md has the language and all calls.")]
+    made += [".SH OPTIONS"]
+    for name, value, said in options():
+        made += [".TP", f'.BI \\-\\-{name} " {value}"', words(said) + "."]
+    made += [".TP", ".BR \\-h \", \" \\-\\-help", "Prints a help text, and runs nothing.", ".SH EXIT STATUS"]
+    for what, output, message, status in statuses():
+        made += [".TP", f".B {status}", words(f"{what[0].upper()}{what[1:]}. Standard output: {output}. Standard error: {message}.")]
+    made += [".SH EXAMPLES", "The script", code(script), "prints", code(printed), ".SH SEE ALSO", ".BR resfork (1),", ".BR macheap (3)"]
+    return "\n".join(made) + "\n"
+
+
+def comment(text):
+    """A comment of a header: its paragraphs, and the points of a list."""
+    lines = [re.sub(r"^ ?\* ?", "", it) for it in text.strip().split("\n")]
+    made = []
+    for part in re.split(r"\n\s*\n", "\n".join(lines)):
+        first, *points = re.split(r"^ *- ", part, flags=re.M)
+        made += [".PP", words(first)]
+        for point in points:
+            made += [".IP \\(bu 3", words(point)]
+    return made
+
+
+def header(path):
+    """What a header says of itself, and its declarations, each group before its comment."""
+    first, *items = ITEM.finditer(read(path))
+    made, said = [], []
+    for item in items:
+        if item[1] is not None:
+            made, said = made + said, comment(item[1])
+            continue
+        declared = GUARD.sub("", item[2]).strip("\n")
+        if declared:
+            made += [".PP", code(re.sub(r"\n{2,}", "\n", declared)), *said]
+            said = []
+    return comment(first[1]), made + said
+
+
+def library():
+    """macheap(3)."""
+    made = [HEAD.format(3), ".SH NAME", "macheap, macheap_fork \\- the classic Macintosh Memory Manager and resource forks, for C and C++"]
+    made += [".SH SYNOPSIS", code('#include "macheap.h"\n#include "macheap_fork.h"'), "docs/EMULATORS.md says how a program is linked."]
+    for path, title in [("include/macheap.h", "MEMORY MANAGER"), ("include/macheap_fork.h", "RESOURCE FORKS")]:
+        said, declared = header(path)
+        made += [f".SH {title}", *said[1:], *declared]
+    return "\n".join([*made, ".SH SEE ALSO", ".BR macheap (1),", ".BR resfork (1)"]) + "\n"
+
+
+def pages():
+    """The pages, by where each is written."""
+    return {"docs/macheap.1": program(), "docs/macheap.3": library()}
+
+
+def main():
+    for path, made in pages().items():
+        with open(os.path.join(TOP, path), "w", encoding="utf-8") as it:
+            it.write(made)
+    return 0
+
+
+if __name__ == "__main__":
+    sys.exit(main())
