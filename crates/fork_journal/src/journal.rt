@@ -2,12 +2,9 @@
 
 ghost use Rattle.std.specs.Prelude.{◌≡◌, ◌<◌, ◌^◌, ⊤, [], ◌∷◌, length};
 ghost use Rattle.std.proofs.Common.{refl, ◌∙◌, ap};
-ghost use Rattle.fork_disk.specs.Disk.{Counts};
-ghost use Rattle.fork_disk.specs.Faults.{CountsDevice};
-ghost use Rattle.fork_disk.specs.OnStore.{CanRead};
 ghost use Rattle.fork_journal.specs.Crash.{Event, Found, History, MayLeave};
 ghost use Rattle.fork_journal.specs.Recovery.{copied_length, settled_fork, IsReady, IsRecoverable, IsStable, IsEither, MayFind};
-ghost use Rattle.fork_journal.specs.Updates.{pair_fork, IsPairReady, RecoversPair, MeasuresPair, ReadsPair, ReplacesPair};
+ghost use Rattle.fork_journal.specs.Updates.{pair_fork, IsPairReady};
 
 use crate::pair::{PairDisk, Side};
 use crate::{recovery, update};
@@ -76,36 +73,20 @@ impl<P: PairDisk> ForkStore for Journal<P> {
     ghost ready_finds = { λ store journal honest ready found may. may.2 ∙ ap settled_fork (ready.settled may.0 may.1) };
 
     /// Makes the fork ready. Where the host has no memory for the journal's fork, only the journal was synced.
-    fn recover(&mut self) -> Result<(), RecoverFault>
-        ensures recovers { P.is_honest self.new.pair → RecoversPair P.PairDisk self.old.pair self.new.pair result }
-        ensures cause { CountsDevice (P.failures self.old.pair) (P.failures self.new.pair) result }
-    {
+    fn recover(&mut self) -> Result<(), RecoverFault> {
         recovery::recover(self.alloc, &mut self.pair)
     }
 
-    fn len(&mut self) -> Result<u64, DiskFault>
-        requires { P.is_honest self.old.pair → IsReady (P.contents self.old.pair) (P.history self.old.pair) }
-        ensures measures { P.is_honest self.new.pair → MeasuresPair P.PairDisk self.old.pair self.new.pair result }
-        ensures cause { Counts (P.failures self.old.pair) (P.failures self.new.pair) result }
-    {
+    fn len(&mut self) -> Result<u64, DiskFault> {
         self.pair.len(Side::Fork)
     }
 
-    fn read_at(&mut self, at: u64, buffer: &mut [u8]) -> Result<(), DiskFault>
-        requires { P.is_honest self.old.pair → CanRead (pair_fork P.PairDisk) (IsPairReady P.PairDisk) self.old.pair at (length buffer.old) }
-        ensures reads { P.is_honest self.new.pair → ReadsPair P.PairDisk self.old.pair self.new.pair at buffer.old buffer.new result }
-        ensures cause { Counts (P.failures self.old.pair) (P.failures self.new.pair) result }
-    {
+    fn read_at(&mut self, at: u64, buffer: &mut [u8]) -> Result<(), DiskFault> {
         self.pair.read_at(Side::Fork, at, buffer)
     }
 
     /// Puts another fork in the place of the one that is there. Where it succeeds, a crash leaves the new one.
-    fn replace(&mut self, new: &[u8]) -> Result<(), ReplaceFault>
-        requires ready { P.is_honest self.old.pair → IsReady (P.contents self.old.pair) (P.history self.old.pair) }
-        requires short { length new.now < 2 ^ 32 }
-        ensures replaces { P.is_honest self.new.pair → ReplacesPair P.PairDisk self.old.pair self.new.pair new.now result }
-        ensures cause { Counts (P.failures self.old.pair) (P.failures self.new.pair) result }
-    {
+    fn replace(&mut self, new: &[u8]) -> Result<(), ReplaceFault> {
         update::replace(&mut self.pair, new)
     }
 }

@@ -2,11 +2,9 @@
 //! leaves what it might have left before, but for the part that the step writes.
 
 ghost use Rattle.std.specs.Prelude.{◌+◌, ◌<◌, ◌≤◌, ◌^◌, ◌∷◌, ◌++◌, length, take, drop};
-ghost use Rattle.byteorder.specs.Endian.{big_bytes};
 ghost use Rattle.fork_disk.specs.Disk.{Counts};
 ghost use Rattle.fork_journal.specs.Crash.{side_of};
 ghost use Rattle.fork_journal.specs.Form.{text_of, IsSameFront, IsSameText};
-ghost use Rattle.fork_journal.specs.OnPair.{WritesSide};
 ghost use Rattle.fork_journal.specs.Pairs.{PutsSide};
 
 use crate::pair::{PairDisk, Side};
@@ -22,18 +20,6 @@ pub(crate) fn put_gate<P: PairDisk>(pair: &mut P, gate: u8) -> Result<(), DiskFa
     pair.write_at(Side::Journal, 0, &[gate])?;
     pair.sync(Side::Journal)?; // before anything else is written
     Ok(())
-}
-
-/// Writes how many bytes a fork has, behind the gate.
-fn put_length<P: PairDisk>(pair: &mut P, len: u32) -> Result<(), DiskFault>
-    requires { P.is_honest pair.old → 1 ≤ length (P.contents pair.old).journal }
-    ensures writes { P.is_honest pair.new
-        → WritesSide P.contents P.history P.is_honest pair.old pair.new Side.Journal 1 (big_bytes 4 len) result }
-    ensures cause { Counts (P.failures pair.old) (P.failures pair.new) result }
-{
-    let mut bytes = [0; 4];
-    BigEndian::write_u32(&mut bytes, len);
-    pair.write_at(Side::Journal, 1, &bytes)
 }
 
 /// Writes bytes at an offset of a side, cuts it to their end, and makes sure of it.
@@ -55,7 +41,7 @@ pub(crate) fn put_rest<P: PairDisk>(
     Ok(())
 }
 
-/// Writes the text of a fork behind the gate, and makes sure of it.
+/// Writes the text of a fork after the gate, its length and its bytes, and makes sure of it.
 pub(crate) fn put_text<P: PairDisk>(pair: &mut P, fork: &[u8]) -> Result<(), DiskFault>
     requires gate { P.is_honest pair.old → 1 ≤ length (P.contents pair.old).journal }
     requires short { length fork.now < 2 ^ 32 }
@@ -63,6 +49,8 @@ pub(crate) fn put_text<P: PairDisk>(pair: &mut P, fork: &[u8]) -> Result<(), Dis
         (take 1 (P.contents pair.old).journal ++ text_of fork.now) result }
     ensures cause { Counts (P.failures pair.old) (P.failures pair.new) result }
 {
-    put_length(pair, fork.len() as u32)?;
+    let mut length = [0; 4];
+    BigEndian::write_u32(&mut length, fork.len() as u32);
+    pair.write_at(Side::Journal, 1, &length)?;
     put_rest(pair, Side::Journal, 5, fork)
 }
