@@ -83,7 +83,8 @@ def program():
     made += [".TP", ".BR \\-h \", \" \\-\\-help", "Prints a help text, and runs nothing.", ".SH EXIT STATUS"]
     for what, output, message, status in statuses():
         made += [".TP", f".B {status}", words(f"{what[0].upper()}{what[1:]}. Standard output: {output}. Standard error: {message}.")]
-    made += [".SH EXAMPLES", "The script", code(script), "prints", code(printed), ".SH SEE ALSO", ".BR resfork (1),", ".BR macheap (3)"]
+    made += [".SH EXAMPLES", "After three lines of comment, the script", code(script), "prints", code(printed)]
+    made += [".SH SEE ALSO", ".BR resfork (1),", ".BR macheap (3)"]
     return "\n".join(made) + "\n"
 
 
