@@ -43,12 +43,12 @@ emptied-FixesSame t h may =
     }
 
 -- no pointer's block is named by a handle
-none_pass : (at : ℕ) (test : Kind → Bool) (m : ZoneMap) → addresses_from at test m ≡ [] → list_all (λ (e : Entry). not (test e.kind)) m ≡ true
+pub none_pass : (at : ℕ) (test : Kind → Bool) (m : ZoneMap) → addresses_from at test m ≡ [] → list_all (λ (e : Entry). not (test e.kind)) m ≡ true
 none_pass at test [] h = refl
 none_pass at test (e ∷ es) h = let parts = nothing_passes (test e.kind) at (addresses_from (at + e.size) test es) h in and_from (not (test e.kind)) _ (not_from_false (test e.kind) parts.0) (none_pass (at + e.size) test es parts.1)
 
 -- so an unlocked handle names no fixed block in use
-keeps-unlocked : (t : HandleTable) (h : ℕ) (m : ZoneMap) → is_locked t h ≡ false → list_all (λ (e : Entry). not (is_pointer_block h e.kind)) m ≡ true → keeps_fixed t (λ (e : Entry). not (is_named h e.kind)) (used_blocks m) ≡ true
+pub keeps-unlocked : (t : HandleTable) (h : ℕ) (m : ZoneMap) → is_locked t h ≡ false → list_all (λ (e : Entry). not (is_pointer_block h e.kind)) m ≡ true → keeps_fixed t (λ (e : Entry). not (is_named h e.kind)) (used_blocks m) ≡ true
 keeps-unlocked t h [] unlocked none = refl
 keeps-unlocked t h (e ∷ es) unlocked none =
     let parts = and_parts (not (is_pointer_block h e.kind)) (list_all (λ (e : Entry). not (is_pointer_block h e.kind)) es) none in

@@ -1,5 +1,5 @@
 -- Where the blocks of pointers and of locked handles are.
-use Rattle.std.proofs.Common.{◌≡◌, ℕ, ◌+◌, true, false, cond, [], ◌∷◌, ◌++◌, map, Some, None, Option, refl, ap, sym, ◌∙◌, inl, inr}
+use Rattle.std.proofs.Common.{◌≡◌, ℕ, ◌+◌, Bool, true, false, cond, [], ◌∷◌, ◌++◌, map, Some, None, Option, refl, ap, sym, ◌∙◌, inl, inr}
 use Rattle.std.specs.Prelude.{◌⊎◌, slice_index}
 use Rattle.std.proofs.lemmas.Bool.{true≢false, or_cases}
 use Rattle.mac_base.specs.declared.block.Kind.{Kind}
@@ -16,39 +16,34 @@ use Rattle.zone_laws.proofs.Tables.{handle_no_pointer, pointer_no_handle}
 use Rattle.gap_laws.proofs.Emptied.{MayEmpty}
 use Rattle.gap_laws.proofs.RearrangedSuits.{handle_block-kind}
 
-pointer_only : (at x : ℕ) (m : ZoneMap) → addresses_from at (is_handle_block x) m ≡ [] → addresses_from at (is_named x) m ≡ addresses_from at (is_pointer_block x) m
-pointer_only at x [] none = refl
-pointer_only at x (e ∷ es) none =
-    let parts = nothing_passes (is_handle_block x e.kind) at (addresses_from (at + e.size) (is_handle_block x) es) none in
-    ap (λ b. cond b (at ∷ []) [] ++ addresses_from (at + e.size) (is_named x) es) (by_kind e.kind parts.0) ∙ ap (λ found. cond (is_pointer_block x e.kind) (at ∷ []) [] ++ found) (pointer_only (at + e.size) x es parts.1)
-  where
-    by_kind : (k : Kind) → is_handle_block x k ≡ false → is_named x k ≡ is_pointer_block x k
-    by_kind Free h = refl
-    by_kind Master h = refl
-    by_kind (Ptr p) h = refl
-    by_kind (Rel g) h = h
+-- where no block passes one of two tests, those of a number pass the other
+named_only : (x : ℕ) (one other : Kind → Bool) → ((k : Kind) → one k ≡ false → is_named x k ≡ other k) → (at : ℕ) (m : ZoneMap) → addresses_from at one m ≡ [] → addresses_from at (is_named x) m ≡ addresses_from at other m
+named_only x one other either at [] none = refl
+named_only x one other either at (e ∷ es) none =
+    let parts = nothing_passes (one e.kind) at (addresses_from (at + e.size) one es) none in
+    ap (λ b. cond b (at ∷ []) [] ++ addresses_from (at + e.size) (is_named x) es) (either e.kind parts.0) ∙ ap (λ found. cond (other e.kind) (at ∷ []) [] ++ found) (named_only x one other either (at + e.size) es parts.1)
 
-handle_only : (at x : ℕ) (m : ZoneMap) → addresses_from at (is_pointer_block x) m ≡ [] → addresses_from at (is_named x) m ≡ addresses_from at (is_handle_block x) m
-handle_only at x [] none = refl
-handle_only at x (e ∷ es) none =
-    let parts = nothing_passes (is_pointer_block x e.kind) at (addresses_from (at + e.size) (is_pointer_block x) es) none in
-    ap (λ b. cond b (at ∷ []) [] ++ addresses_from (at + e.size) (is_named x) es) (by_kind e.kind parts.0) ∙ ap (λ found. cond (is_handle_block x e.kind) (at ∷ []) [] ++ found) (handle_only (at + e.size) x es parts.1)
-  where
-    by_kind : (k : Kind) → is_pointer_block x k ≡ false → is_named x k ≡ is_handle_block x k
-    by_kind Free h = refl
-    by_kind Master h = refl
-    by_kind (Ptr p) h = h
-    by_kind (Rel g) h = refl
+no_handle : (x : ℕ) (k : Kind) → is_handle_block x k ≡ false → is_named x k ≡ is_pointer_block x k
+no_handle x Free h = refl
+no_handle x Master h = refl
+no_handle x (Ptr p) h = refl
+no_handle x (Rel g) h = h
+
+no_pointer : (x : ℕ) (k : Kind) → is_pointer_block x k ≡ false → is_named x k ≡ is_handle_block x k
+no_pointer x Free h = refl
+no_pointer x Master h = refl
+no_pointer x (Ptr p) h = h
+no_pointer x (Rel g) h = refl
 
 -- the contents of a pointer's block begin at its number
 pub contents-pointer : (s : Shape) (t : HandleTable) (m : ZoneMap) (p : ℕ) → Suits s t m → is_pointer t p ≡ true → contents_of s p m ≡ p
 contents-pointer s t m p suits live =
-    ap (λ found. slice_index (map (λ a. a + head_size s.heads) found) 0) (pointer_only (address_behind s []) p m (no_handle_block s t m suits p (pointer_no_handle t p live).1))
+    ap (λ found. slice_index (map (λ a. a + head_size s.heads) found) 0) (named_only p (is_handle_block p) (is_pointer_block p) (no_handle p) (address_behind s []) m (no_handle_block s t m suits p (pointer_no_handle t p live).1))
     ∙ ap (λ found. slice_index found 0) (suits.coherent.pointers p ∙ ap (λ b. cond b (p ∷ []) []) live)
 
 -- and a handle's block stands where its number does
 pub addresses-handle : (s : Shape) (t : HandleTable) (m : ZoneMap) (h : ℕ) → Suits s t m → is_handle t h ≡ true → addresses s (is_named h) m ≡ addresses s (is_handle_block h) m
-addresses-handle s t m h suits live = handle_only (address_behind s []) h m (no_pointer_block s t m suits h (handle_no_pointer t h live))
+addresses-handle s t m h suits live = named_only h (is_pointer_block h) (is_handle_block h) (no_pointer h) (address_behind s []) m (no_pointer_block s t m suits h (handle_no_pointer t h live))
 
 -- a locked handle has a block
 pub locked_full : (o : Option Live) → (live_flags o).lock ≡ true → live_handle o ≡ true

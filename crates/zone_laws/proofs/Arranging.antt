@@ -164,40 +164,35 @@ pub used_blocks-down : (b : ZoneMap) → used_blocks (down b) ≡ used_blocks b
 used_blocks-down b = filter-append _ (used_blocks b) (free_block (free_bytes b)) ∙ ap (λ c. used_blocks (used_blocks b) ++ c) (used_blocks-free_block (free_bytes b))
     ∙ append-nil (used_blocks (used_blocks b)) ∙ used_blocks-same (used_blocks b) (used_blocks-all_used b)
 
--- down is an arrangement
-pub down-IsArrangement : (b : ZoneMap) → IsArrangement b (down b)
-down-IsArrangement b =
-    let n : ℕ = free_bytes b in
-    let total = total_size-append (used_blocks b) (free_block n) in
-    let same = total_size-used b in
-    let free = total_size-free_block n in
-    let free_total = free_bytes-append (used_blocks b) (free_block n) in
-    let free_used = free_bytes-all_used (used_blocks b) (used_blocks-all_used b) in
-    let free_free = free_bytes-free_block n in
-    record {
-      kept = λ p h free. list_all-append p (used_blocks b) (free_block n) ∙ and_from _ _ (list_all-used p b h) (list_all-free_block p n free);
-      same_sizes = λ k used. sizes-append (is_kind k) (used_blocks b) (free_block n) ∙ ap (λ ns. sizes (is_kind k) (used_blocks b) ++ ns) (sizes-free_block (is_kind k) n (is_kind-free k used))
-          ∙ append-nil (sizes (is_kind k) (used_blocks b)) ∙ sizes-used (is_kind k) b (is_kind-free k used);
-      same_total = omega arith;
-      same_free = omega arith;
-      apart = ap (λ c. free_apart (used_blocks b ++ c)) (sym (append-nil (free_block n))) ∙ free_apart-around (used_blocks b) [] n (used_blocks-all_used b) refl;
-    }
+-- a block with all free bytes, and those in use
+module _ (b : ZoneMap) where
+  abbrev n : ℕ
+  n = free_bytes b
 
--- up is an arrangement
-pub up-IsArrangement : (b : ZoneMap) → IsArrangement b (up b)
-up-IsArrangement b =
-    let n : ℕ = free_bytes b in
-    let total = total_size-append (free_block n) (used_blocks b) in
-    let same = total_size-used b in
-    let free = total_size-free_block n in
-    let free_total = free_bytes-append (free_block n) (used_blocks b) in
-    let free_used = free_bytes-all_used (used_blocks b) (used_blocks-all_used b) in
-    let free_free = free_bytes-free_block n in
-    record {
-      kept = λ p h free. list_all-append p (free_block n) (used_blocks b) ∙ and_from _ _ (list_all-free_block p n free) (list_all-used p b h);
-      same_sizes = λ k used. sizes-append (is_kind k) (free_block n) (used_blocks b) ∙ ap (λ ns. ns ++ sizes (is_kind k) (used_blocks b)) (sizes-free_block (is_kind k) n (is_kind-free k used))
-          ∙ sizes-used (is_kind k) b (is_kind-free k used);
-      same_total = omega arith;
-      same_free = omega arith;
-      apart = free_apart-around [] (used_blocks b) n refl (used_blocks-all_used b);
-    }
+  used : total_size (used_blocks b) + n ≡ total_size b
+  used = let same = total_size-used b in omega arith
+
+  none_free : free_bytes (used_blocks b) ≡ 0
+  none_free = free_bytes-all_used (used_blocks b) (used_blocks-all_used b)
+
+  -- down is an arrangement
+  pub down-IsArrangement : IsArrangement b (down b)
+  down-IsArrangement = record {
+    kept = λ p h free. list_all-append p (used_blocks b) (free_block n) ∙ and_from _ _ (list_all-used p b h) (list_all-free_block p n free);
+    same_sizes = λ k used. sizes-append (is_kind k) (used_blocks b) (free_block n) ∙ ap (λ ns. sizes (is_kind k) (used_blocks b) ++ ns) (sizes-free_block (is_kind k) n (is_kind-free k used))
+        ∙ append-nil (sizes (is_kind k) (used_blocks b)) ∙ sizes-used (is_kind k) b (is_kind-free k used);
+    same_total = (let all = total_size-append (used_blocks b) (free_block n) in omega (arith, all, total_size-free_block n, used));
+    same_free = (let all = free_bytes-append (used_blocks b) (free_block n) in omega (arith, all, free_bytes-free_block n, none_free));
+    apart = ap (λ c. free_apart (used_blocks b ++ c)) (sym (append-nil (free_block n))) ∙ free_apart-around (used_blocks b) [] n (used_blocks-all_used b) refl;
+  }
+
+  -- up is an arrangement
+  pub up-IsArrangement : IsArrangement b (up b)
+  up-IsArrangement = record {
+    kept = λ p h free. list_all-append p (free_block n) (used_blocks b) ∙ and_from _ _ (list_all-free_block p n free) (list_all-used p b h);
+    same_sizes = λ k used. sizes-append (is_kind k) (free_block n) (used_blocks b) ∙ ap (λ ns. ns ++ sizes (is_kind k) (used_blocks b)) (sizes-free_block (is_kind k) n (is_kind-free k used))
+        ∙ sizes-used (is_kind k) b (is_kind-free k used);
+    same_total = (let all = total_size-append (free_block n) (used_blocks b) in omega (arith, all, total_size-free_block n, used));
+    same_free = (let all = free_bytes-append (free_block n) (used_blocks b) in omega (arith, all, free_bytes-free_block n, none_free));
+    apart = free_apart-around [] (used_blocks b) n refl (used_blocks-all_used b);
+  }
