@@ -1,5 +1,5 @@
 -- What bounds say of the numbers under them.
-use Rattle.std.proofs.Common.{◌≡◌, ◌≢◌, ℕ, zero, suc, [], ◌∷◌, ◌++◌, replicate, refl, sym, ap, ◌∙◌, append_assoc, length-append, ◌+◌, ◌-◌, ◌*◌, ◌/◌, ◌<◌, ◌≤◌, inl, inr, List, length, get_or, take, drop, arith, get_or-set_same, get_or-set_other, get_or-take, get_or-drop, length-set}
+use Rattle.std.proofs.Common.{◌≡◌, ◌≢◌, ℕ, zero, suc, [], ◌∷◌, ◌++◌, replicate, refl, sym, ap, subst, ◌∙◌, append_assoc, length-append, ◌+◌, ◌-◌, ◌*◌, ◌/◌, ◌<◌, ◌≤◌, inl, inr, List, length, get_or, take, drop, arith, get_or-set_same, get_or-set_other, get_or-take, get_or-drop, length-set}
 use Rattle.std.proofs.Math.ListN.{set}
 use Rattle.std.proofs.lemmas.Bool.{cases_eq, cases_lt}
 use Rattle.std.proofs.lemmas.List.{get_or_default, get_or_past, length-replicate, replicate-append-replicate, set-append_left}
@@ -104,36 +104,48 @@ set-padded xs ys now p n count is inside all fits view =
     ∙ sym (set-append_left ys (replicate (count - length ys) 0) p n (omega arith))
     ∙ ap (λ (l : List ℕ). set l p n) (ap (λ (l : List ℕ). l ++ replicate (count - length l) 0) is ∙ less-padded xs (p + 1) count (omega arith) fits ∙ view)
 
-module _ {xs lows middles highs : List ℕ} {count room : ℕ} (bounded : AreLevels xs lows middles highs count room) (k at v j : ℕ) (low : v < k) where
+module _ {xs lows middles highs : List ℕ} {count room : ℕ} (bounded : AreLevels xs lows middles highs count room) (k j : ℕ) where
   -- what is below k where it is written is so where it is seen
   seen : get_or xs j 0 < k → get_or (padded xs count) j 0 < k
   seen below = let same = padded-at xs (count - length xs) j in omega arith
 
-  -- no number is at least k under a bound v below k of the lowest level
-  pub under-low : at < length lows → v ≡ get_or lows at v → j / 32 ≡ at → get_or (padded xs count) j 0 < k
-  under-low inside read under =
-      let one : get_or xs j 0 ≤ get_or lows at 0 = rw under at (bounded.low.above j) in
-      let same = get_or_default lows at 0 v inside in
-      seen (omega arith)
+  -- no number is at least k under a bound below k of the lowest level
+  pub under-low : get_or lows (j / 32) 0 < k → get_or (padded xs count) j 0 < k
+  under-low low = let one = bounded.low.above j in seen (omega arith)
 
   -- nor under one of the middle level
-  pub under-middle : at < length middles → v ≡ get_or middles at v → j / 1024 ≡ at → get_or (padded xs count) j 0 < k
-  under-middle inside read under =
-      let up : j / 32 / 32 ≡ at = omega arith in
-      let one = bounded.low.above j in
-      let two : get_or lows (j / 32) 0 ≤ get_or middles at 0 = rw up at (bounded.middle.above (j / 32)) in
-      let same = get_or_default middles at 0 v inside in
-      seen (omega arith)
+  pub under-middle : get_or middles (j / 1024) 0 < k → get_or (padded xs count) j 0 < k
+  under-middle low =
+      let up : j / 32 / 32 ≡ j / 1024 = omega arith in
+      let two : get_or lows (j / 32) 0 ≤ get_or middles (j / 1024) 0 = rw up at (bounded.middle.above (j / 32)) in
+      under-low (omega arith)
 
   -- nor under one of the highest
-  pub under-high : at < length highs → v ≡ get_or highs at v → j / 32768 ≡ at → get_or (padded xs count) j 0 < k
-  under-high inside read under =
-      let up : j / 32 / 32 / 32 ≡ at = omega arith in
-      let one = bounded.low.above j in
+  pub under-high : get_or highs (j / 32768) 0 < k → get_or (padded xs count) j 0 < k
+  under-high low =
+      let up : j / 32 / 32 / 32 ≡ j / 32768 = omega arith in
       let two = bounded.middle.above (j / 32) in
-      let three : get_or middles (j / 32 / 32) 0 ≤ get_or highs at 0 = rw up at (bounded.high.above (j / 32 / 32)) in
-      let same = get_or_default highs at 0 v inside in
-      seen (omega arith)
+      let three : get_or middles (j / 32 / 32) 0 ≤ get_or highs (j / 32768) 0 = rw up at (bounded.high.above (j / 32 / 32)) in
+      under-low (omega arith)
+
+-- a number below k that is read at a place
+module _ (bs ls : List ℕ) (k at v r i : ℕ) (same : ls ≡ bs) (inside : at < length bs) (read : v ≡ get_or bs at v) (low : v < k) where
+  here : i ≡ at → get_or bs i 0 < k
+  here is = let there = get_or_default bs at 0 v inside in rw is (omega arith)
+
+  -- so are it and those behind it up to another place
+  pub small-ahead : ((n : ℕ) → at + 1 ≤ n → n < r → get_or ls n 0 < k) → at ≤ i → i < r → get_or bs i 0 < k
+  small-ahead passed from below = elim (cases_lt at i) [
+    | inl above ↦ subst (λ (l : List ℕ). get_or l i 0 < k) same (passed i (omega arith) below)
+    | inr not ↦ here (omega arith)
+  ]
+
+  -- or it and those before it down to another
+  pub small-back : ((n : ℕ) → r ≤ n → n < at → get_or ls n 0 < k) → r ≤ i → i ≤ at → get_or bs i 0 < k
+  small-back passed from below = elim (cases_lt i at) [
+    | inl under ↦ subst (λ (l : List ℕ). get_or l i 0 < k) same (passed i from under)
+    | inr not ↦ here (omega arith)
+  ]
 
 -- where a number is written, zeros maybe put before it, the bounds are right at the other places
 pub but-written : (bs old xs ys zs : List ℕ) (k p n : ℕ) → AreBounds old xs → bs ≡ old → ys ≡ xs ++ replicate k 0 → zs ≡ set ys p n → length ys ≤ 32 * length old → AreBoundsBut bs zs p

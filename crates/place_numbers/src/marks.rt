@@ -10,7 +10,7 @@ use std::marker::Model;
 mod searches;
 mod shifts;
 
-use searches::{first_in, last_in};
+use searches::{ahead, back, first_in, last_in};
 
 /// So many numbers, each at its place from 0 on. A contract sees their list. After `create` no call takes memory of the
 /// host.
@@ -222,16 +222,16 @@ impl Marks {
         while at < len {
             if least <= self.low[at / 32] {
                 let end = (at + 32).min(len);
-                if let Some(ahead) = first_in(&self.numbers[at..end], least) {
-                    return Some(at + ahead);
+                if let Some(there) = first_in(&self.numbers[at..end], least) {
+                    return Some(at + there);
                 }
                 at = end;
             } else if least <= self.middle[at / 0x400] {
-                at += 32 - at % 32;
+                at = 32 * ahead(&self.low, at / 32 + 1, least);
             } else if least <= self.high[at / 0x8000] {
-                at += 0x400 - at % 0x400;
+                at = 0x400 * ahead(&self.middle, at / 0x400 + 1, least);
             } else {
-                at += 0x8000 - at % 0x8000;
+                at = 0x8000 * ahead(&self.high, at / 0x8000 + 1, least);
             }
         }
         None
@@ -250,16 +250,16 @@ impl Marks {
             let at = behind - 1;
             if least <= self.low[at / 32] {
                 let start = behind.saturating_sub(32);
-                if let Some(ahead) = last_in(&self.numbers[start..behind], least) {
-                    return Some(start + ahead);
+                if let Some(there) = last_in(&self.numbers[start..behind], least) {
+                    return Some(start + there);
                 }
                 behind = start;
             } else if least <= self.middle[at / 0x400] {
-                behind = at - at % 32;
+                behind = 32 * back(&self.low, at / 32, least);
             } else if least <= self.high[at / 0x8000] {
-                behind = at - at % 0x400;
+                behind = 0x400 * back(&self.middle, at / 0x400, least);
             } else {
-                behind = at - at % 0x8000;
+                behind = 0x8000 * back(&self.high, at / 0x8000, least);
             }
         }
         None

@@ -1,6 +1,6 @@
 //! Searches in a run of numbers.
 
-ghost use Rattle.std.specs.Prelude.{◌≡◌, ℕ, ◌≤◌, ◌<◌, length, slice_index, IfSome, IfNone};
+ghost use Rattle.std.specs.Prelude.{◌≡◌, ℕ, ◌+◌, ◌≤◌, ◌<◌, length, slice_index, IfSome, IfNone};
 ghost use Rattle.place_numbers.specs.Numbers.{FirstAtLeast, LastAtLeast};
 
 /// The bits of all these numbers in one. It is 0 only if they all are.
@@ -91,4 +91,34 @@ pub(crate) fn last_in(numbers: &[u8], least: u8) -> Option<usize>
         behind = start;
     }
     None
+}
+
+/// The place before which no number from `from` on is at least `least`, as far as those go that have one bound with it.
+pub(crate) fn ahead(numbers: &[u8], from: usize, least: u8) -> usize
+    requires some { 0 < least }
+    requires inside { from ≤ length numbers.now }
+    ensures order { from ≤ result }
+    ensures near { result ≤ from + 32 }
+    ensures passed { (j : ℕ) → from ≤ j → j < result → slice_index numbers.now j < least }
+{
+    let end = numbers.len().min(from + 32 - from % 32);
+    match first_in(&numbers[from..end], least) {
+        Some(ahead) => from + ahead,
+        None => end,
+    }
+}
+
+/// The place from which on no number before `end` is at least `least`, as far as those go that have one bound with the last.
+pub(crate) fn back(numbers: &[u8], end: usize, least: u8) -> usize
+    requires some { 0 < least }
+    requires inside { end ≤ length numbers.now }
+    ensures order { result ≤ end }
+    ensures passed { (j : ℕ) → result ≤ j → j < end → slice_index numbers.now j < least }
+{
+    let last = end.saturating_sub(1);
+    let start = last - last % 32;
+    match last_in(&numbers[start..end], least) {
+        Some(at) => start + at + 1,
+        None => start,
+    }
 }
