@@ -13,7 +13,7 @@ into it. Each resource has to have the same bytes by `resfork get`, and the outl
 resources.
 
 Then resfork writes: each file gets a resource more, which is renamed, and removed again; each fork is written of its text and of the folder that
-it is unpacked to. Of what is written fontTools and exiftool list what resfork lists, FreeType, fontforge, fondu and t1unmac find the fonts of the file
+it is unpacked to, and is converted to each container. Of what is written fontTools and exiftool list what resfork lists, FreeType, fontforge, fondu and t1unmac find the fonts of the file
 before, and the fork that macunpack, macsave, frombin, unar, hcopy or hexbin takes out of a container has the resources that resfork lists in it. What was
 changed and changed back has the resources that it had. It stops after 120 seconds, or N.
 """
@@ -220,10 +220,12 @@ FONTS = {
 }
 
 
-def beside_fonts(peers, kind, path, old):
-    """Compares what readers of fonts find in a file with what they find in the one before."""
+def beside_fonts(peers, kind, path, old, old_kind=None):
+    """Compares what readers of fonts find in a file with what they find in the one before, which may be of another kind."""
+    known = {words[0]: words for words in FONTS[old_kind or kind]}
     for words in FONTS[kind]:
-        before, after = peers.run([*words, old]), peers.run([*words, path])
+        before = peers.run([*known[words[0]], old]) if words[0] in known else None
+        after = peers.run([*words, path])
         if before is None or after is None or before.returncode:
             continue
         if (after.returncode, after.stdout) != (0, before.stdout):
@@ -322,6 +324,33 @@ def made_again(peers, python, kind, path):
     if peers.does(["rez", text, "-o", fork]) and peers.does(["diff", path, fork]) and kind == "fork":
         beside_all(peers, python, kind, fork, path)
         tried(peers, "text and back")
+
+
+# what `convert` calls each kind, and those that hold no data fork
+TARGETS = {"fork": "raw", "AppleDouble": "appledouble", "AppleSingle": "applesingle", "MacBinary": "macbinary", "BinHex": "binhex"}
+APART = ("fork", "AppleDouble")
+
+
+def converted(peers, python, kind, path):
+    """Has resfork write a file in each container, and other programs take the fork out of it."""
+    front = os.path.splitext(path)[0]
+    for other, word in TARGETS.items():
+        new = f"{front}.to.{ENDINGS.get(other, word)}"
+        data = ["--data", f"{front}.data"] if other in APART and kind not in APART else []
+        if not peers.does(["convert", "--lossy", *data, "--to", word, path, new]) or not peers.does(["diff", path, new]):
+            continue
+        tried(peers, f"converted to {word}")
+        beside_fonts(peers, other, new, path, kind)
+        if other == "fork" and not os.path.basename(path).startswith("model"):
+            if python:
+                beside_font_tools(peers, python, new)
+            beside_exif_tool(peers, new)
+        for name, words in TAKEN.get(other, []):
+            fork = taken_out(peers, words, other, new)
+            if fork:
+                beside_fork(peers, f"{name} on what convert writes", new, fork)
+            elif shutil.which(words[0]) and time.monotonic() < peers.end:
+                peers.failed.append(f"{name} takes no fork out of a file that was converted to {word}")
 
 
 def some_font():
@@ -438,6 +467,7 @@ def written_of(peers, python, way, path):
     """Has resfork write a container again."""
     written(peers, python, KINDS[way], path)
     made_again(peers, python, KINDS[way], path)
+    converted(peers, python, KINDS[way], path)
 
 
 def main():
@@ -461,6 +491,7 @@ def main():
                 beside_fondu(peers, fork)
             written(peers, python, "fork", fork)
             made_again(peers, python, "fork", fork)
+            converted(peers, python, "fork", fork)
             for way, path in containers(peers, fork):
                 beside_fork(peers, way, path, fork)
                 written_of(peers, python, way, path)

@@ -230,7 +230,7 @@ def made(program, words, files):
         for name, it in files.items():
             with open(os.path.join(folder, name), "wb") as file:
                 file.write(it)
-        subprocess.run([program, *words], cwd=folder, stdout=subprocess.DEVNULL, check=True)
+        subprocess.run([program, *words], cwd=folder, capture_output=True, check=True)
         with open(os.path.join(folder, "f"), "rb") as file:
             return file.read()
 
