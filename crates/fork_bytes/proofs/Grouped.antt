@@ -53,23 +53,23 @@ abbrev pub entered : TypeEntry → List ℕ
 entered entry = entry.kind
 
 -- only the first may be of this type
-abbrev OnlyFirst : List ℕ → List TypeCount → Type 0
+abbrev pub OnlyFirst : List ℕ → List TypeCount → Type 0
 OnlyFirst kind [] = Unit {0}
 OnlyFirst kind (first ∷ others) = Apart counted kind others
 
 -- no two types are one, only the first may be this one, and they are this one or among those of the others
-record IsRun (kind : List ℕ) (others types : List TypeCount) : Type 0 where
-  distinct : Distinct counted types
-  only : OnlyFirst kind types
-  apart : (other : List ℕ) → other ≢ kind → Apart counted other others → Apart counted other types
+pub record IsRun (kind : List ℕ) (others types : List TypeCount) : Type 0 where
+  pub distinct : Distinct counted types
+  pub only : OnlyFirst kind types
+  pub apart : (other : List ℕ) → other ≢ kind → Apart counted other others → Apart counted other types
 
 -- types without this one
-only_from : (kind : List ℕ) (types : List TypeCount) → Apart counted kind types → OnlyFirst kind types
+pub only_from : (kind : List ℕ) (types : List TypeCount) → Apart counted kind types → OnlyFirst kind types
 only_from kind [] h = tt
 only_from kind (first ∷ others) h = h.1
 
 -- one more row of the type
-run_more : (kind : List ℕ) (others types : List TypeCount) → IsRun kind others types → IsRun kind others (counted_before kind 1 types)
+pub run_more : (kind : List ℕ) (others types : List TypeCount) → IsRun kind others types → IsRun kind others (counted_before kind 1 types)
 run_more kind others [] run = record { distinct = (tt, tt); only = tt; apart = λ other apart rest. (apart, tt) }
 run_more kind others (first ∷ types) run = by_case (bytes_eq kind first.kind) refl
   where

@@ -234,12 +234,6 @@ RefusesWithin limits fork HostFull = ⊤
 abbrev pub HasParts : ℕ → Header → Type 0
 HasParts = HasPartsWithin macheap_limits
 
-abbrev pub HasFewRows : List ℕ → Type 0
-HasFewRows = HasFewRowsWithin macheap_limits
-
-abbrev pub HasFewBytes : List ℕ → List MapRow → Type 0
-HasFewBytes = HasFewBytesWithin macheap_limits
-
 abbrev pub Holds : Condition → List ℕ → Type 0
 Holds = HoldsWithin macheap_limits
 

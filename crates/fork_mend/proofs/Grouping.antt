@@ -3,7 +3,6 @@ use Rattle.std.proofs.Common.{◌≡◌, ◌≢◌, ℕ, suc, ◌+◌, ◌<◌, 
 use Rattle.std.specs.List.{flat_map, list_any}
 use Rattle.std.proofs.Math.Seq.{drop-cons}
 use Rattle.std.proofs.lemmas.Bool.{false≢true, or_left, or_right, cond-true, cond-false}
-use Rattle.std.proofs.lemmas.Bool.Decides.{not_from_Decides}
 use Rattle.std.proofs.lemmas.List.{map-append}
 use Rattle.std.proofs.lemmas.List.Folds.{list_any-append}
 use Rattle.std.proofs.lemmas.Slice.Eq.{bytes_eq-Decides}
@@ -11,7 +10,7 @@ use Rattle.fork_bytes.specs.declared.layout.TypeCount.{TypeCount}
 use Rattle.fork_bytes.specs.Rows.{Row}
 use Rattle.fork_bytes.specs.Written.{types_of, counted_before}
 use Rattle.fork_bytes.specs.Laws.{IsGrouped}
-use Rattle.fork_bytes.proofs.Grouped.{Apart, Distinct, counted, distinct_at}
+use Rattle.fork_bytes.proofs.Grouped.{Apart, Distinct, IsRun, counted, distinct_at, only_from, run_more}
 use Rattle.fork_salvage.specs.declared.found.FoundRow.{FoundRow}
 use Rattle.fork_salvage.specs.Laws.{row_of}
 use Rattle.fork_mend.specs.Salvaged.{each_once, found_of_type, found_grouped, kind_of}
@@ -70,33 +69,6 @@ pub new_more : (seen : List (List ℕ)) (rows : List FoundRow) (i : ℕ) (row : 
 new_more seen rows i row whole within is among so_far =
     append_assoc seen (row.kind ∷ []) (each_once (seen ++ row.kind ∷ []) (map kind_of (drop (i + 1) rows)))
     ∙ ap (λ (rest : List (List ℕ)). seen ++ rest) (sym (once_step seen rows i row within is ∙ cond-false _ _ _ among)) ∙ so_far
-
--- only the first may be of this type
-abbrev OnlyFirst : List ℕ → List TypeCount → Type 0
-OnlyFirst kind [] = Unit {0}
-OnlyFirst kind (first ∷ others) = Apart counted kind others
-
--- no two types are one, only the first may be this one, and they are this one or among those of the others
-record IsRun (kind : List ℕ) (others types : List TypeCount) : Type 0 where
-  distinct : Distinct counted types
-  only : OnlyFirst kind types
-  apart : (other : List ℕ) → other ≢ kind → Apart counted other others → Apart counted other types
-
-only_from : (kind : List ℕ) (types : List TypeCount) → Apart counted kind types → OnlyFirst kind types
-only_from kind [] h = tt
-only_from kind (first ∷ others) h = h.1
-
--- one more row of the type
-run_more : (kind : List ℕ) (others types : List TypeCount) → IsRun kind others types → IsRun kind others (counted_before kind 1 types)
-run_more kind others [] run = record { distinct = (tt, tt); only = tt; apart = λ other apart rest. (apart, tt) }
-run_more kind others (first ∷ types) run = by_case (bytes_eq kind first.kind) refl
-  where
-    by_case : (b : Bool) → bytes_eq kind first.kind ≡ b →
-        IsRun kind others (if b then record { kind = kind; count = 1 + first.count } ∷ types else record { kind = kind; count = 1 } ∷ first ∷ types)
-    by_case true is = record { distinct = (run.only, run.distinct.1); only = run.only; apart = λ other apart rest. (apart, (run.apart other apart rest).1) }
-    by_case false is =
-        let differ = not_from_Decides (bytes_eq kind first.kind) (bytes_eq-Decides kind first.kind) is in
-        record { distinct = ((differ, run.only), run.distinct); only = (differ, run.only); apart = λ other apart rest. (apart, run.apart other apart rest) }
 
 -- the rows of one type before others
 type_run : (fork kind : List ℕ) (rows : List FoundRow) (others : List Row) → Distinct counted (types_of others) → Apart counted kind (types_of others) →
