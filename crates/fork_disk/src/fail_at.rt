@@ -2,7 +2,7 @@
 
 ghost use Rattle.std.specs.Prelude.{◌≡◌, ◌+◌, ◌≤◌, ◌↔◌, length, IsErr};
 ghost use Rattle.fork_disk.specs.Disk.{Counts};
-ghost use Rattle.fork_disk.specs.Calls.{next_call, Takes};
+ghost use Rattle.fork_disk.specs.Calls.{next_call};
 ghost use Rattle.fork_disk.specs.OnDisk.{MeasuresDisk, ReadsDisk, WritesDisk, CutsDisk, SyncsDisk};
 
 use crate::disk::{DiskFault, ForkDisk};
@@ -38,13 +38,6 @@ impl<D: ForkDisk> FailAt<D> {
         ensures { result ≡ self.now.calls }
     {
         self.calls
-    }
-
-    /// Says which call fails from now on.
-    pub fn set_turn(&mut self, turn: u64)
-        ensures { self.new ≡ record self.old { turn = turn } }
-    {
-        self.turn = turn;
     }
 
     /// The disk inside.

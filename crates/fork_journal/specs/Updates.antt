@@ -3,7 +3,7 @@ use Rattle.std.specs.Prelude.{◌≡◌, ℕ, true, List, ◌∷◌, drop, Resul
 use Rattle.fork_disk.specs.declared.faults.RecoverFault.{RecoverFault}
 use Rattle.fork_disk.specs.declared.store.ReplaceFault.{ReplaceFault}
 use Rattle.fork_disk.specs.declared.store.ReplaceFault.TheVariants.{BeforeFirstWrite, Later}
-use Rattle.fork_disk.specs.OnStore.{MeasuresFork, ReadsFork, RecoversFork, ReplacesFork}
+use Rattle.fork_disk.specs.OnStore.{RecoversFork, ReplacesFork}
 use Rattle.fork_journal.specs.declared.pair.PairDisk.{Ghosts}
 use Rattle.fork_journal.specs.Crash.{Contents, Leaves, AlwaysLeaves}
 use Rattle.fork_journal.specs.Form.{text_of, fork_in, is_usable}
@@ -67,12 +67,3 @@ module _ {P : Type 0} (pair : Ghosts P) where
       pub one_fork : IsPairStable old → AlwaysLeaves (λ c. settled_fork c ≡ pair_fork old) (pair.history old) (pair.history new)
       pub recovered : OnOk result (pair.contents new ≡ recovered (pair.contents old))
       pub store : RecoversFork pair_fork IsPairReady IsPairStable pair.is_honest pair.history old new MayFind (λ now. copied_length (pair.contents now)) result
-
-    -- a store's fork is measured or read: both sides stay the same
-    pub record MeasuresPair {E : Type 0} (result : Result ℕ E) : Type 0 where
-      pub keeps : OnlyReadsPair pair old new
-      pub store : MeasuresFork pair_fork IsPairReady IsPairStable pair.is_honest pair.history old new result
-
-    pub record ReadsPair {T E : Type 0} (at : ℕ) (before after : List ℕ) (result : Result T E) : Type 0 where
-      pub keeps : OnlyReadsPair pair old new
-      pub store : ReadsFork pair_fork IsPairReady IsPairStable pair.is_honest pair.history old new at before after result
