@@ -1,5 +1,5 @@
 #!/usr/bin/env python3
-"""Prints the declarations of crates/*/specs and crates/*/proofs that nothing uses:
+"""Prints the definitions, laws and functions of the crates that nothing reaches:
 unused.py [--count] [CRATE..]
 
 A declaration is a name at the start of a line, or of a line of a module's body, with all that
@@ -9,7 +9,11 @@ that word isn't in a comment or an import, and stands in what is used itself. Us
 files, at the answers of goals (what is `pub` in Answers, Proof and Invariants.antt), and at worked
 examples. `--count` prints how many there are of each crate.
 
-It knows words and not scopes, so a bound variable of the same name counts as a use.
+A function of a .rt file is used by its name as a word in any .rt file, but for its own head.
+Programs, tests, what C calls, and what a trait calls need no such word.
+
+It knows words and not scopes, so a bound variable of the same name counts as a use: what it prints
+is unused, but more may be.
 """
 
 import re
@@ -28,38 +32,77 @@ EXAMPLES = {
     "res_calls.proofs.Worked",
     "script_lang.proofs.Rows",
 }
+# what may stay though nothing reaches it, and why
+STAYS = {
+    "crates/fork_rez/proofs/Loops.antt: stops_here": "goes with the next change of fork_rez",
+    "crates/fork_rez/proofs/Loops.antt: all_read": "goes with the next change of fork_rez",
+    "crates/mac_write/proofs/ReadApple.antt: fork_entry": "goes with the next change of mac_write",
+    "crates/script_tests/src/files.rt: run_over_files": "a theorem, which nothing calls",
+    "crates/script_tests/src/files.rt: run_over_journalled_files": "a theorem, which nothing calls",
+    "crates/script_tests/src/files.rt: files_can_be_honest": "a theorem, which nothing calls",
+}
 
 NAMES, AS = r"(?:\.\{(.*?)\})?", r"(?:\s+as\s+(\S+?))?"
 IMPORT = re.compile(r"\buse\s+(?:Rattle\.)?([\w.]+?)" + NAMES + AS + r"\s*(?:;|$)", re.M | re.S)
-USING = re.compile(r"(\w+)::(proofs(?:::\w+)*)::(\w+)")
+USING = re.compile(r"(\w+)::((?:proofs|specs)(?:::\w+)*)::(\w+)")
 DECLARED = re.compile(r"((?:(?:pub|abbrev|unfoldable|data|record|ruleset)\s+)*)(\S+)")
+CONSTRUCTOR = re.compile(r"(\S+) :")
 COMMENT = re.compile(r"(^|\s)--(\s.*|$)")
+NOTE = re.compile(r"//.*")
+FUNCTION = re.compile(r"^( *)((?:pub(?:\(\w+\))? |const |unsafe |final )*)fn (\w+)", re.M)
+OF_TRAIT = re.compile(r"(?:unsafe )?(?:impl\b.* for |(?:pub(?:\(\w+\))? )?trait )")
 
 
 def words(text):
     """The words of a text, and the parts of those with dots."""
-    found = set(re.findall(r"[^\s(){}\[\],;:]+", text))
-    return found.union(*(word.split(".") for word in found))
+    for mark in "(){}[],;:":
+        text = text.replace(mark, " ")
+    return {*text.split(), *text.replace(".", " ").split()}
+
+
+def functions(code):
+    """The functions of a .rt file that somebody has to call by name, without comments."""
+    lines, owner = code.split("\n"), ""
+    for number, line in enumerate(lines):
+        if line and not line[0].isspace() and line[0] not in "})>{":
+            owner = line
+        elif owner.startswith(("impl", "unsafe impl")) and "{" not in owner:
+            owner += " " + line.strip()
+        it = FUNCTION.match(line)
+        if not it or it[3] == "main" or it[1] and OF_TRAIT.match(owner):
+            continue
+        above = number
+        while above and lines[above - 1].strip().startswith("#["):
+            above -= 1
+        if not any("test" in mark or "no_mangle" in mark for mark in lines[above:number]):
+            yield it[3]
 
 
 class File:
-    """A file: what it imports; of what it declares the words, which of it is `pub`, and the names
-    by which it is used; and all words of a .rt file."""
+    """A file: what it imports; of what it declares the text, which of it is `pub`, and the names by
+    which it is used; and of a .rt file all words, and the functions."""
 
     def __init__(self, path):
         self.path, self.module = path, ".".join(path.relative_to(TOP).with_suffix("").parts)
         self.crate, self.answers = self.module.split(".")[0], path.stem in ANSWERS
         self.imported, self.modules, self.passed = {}, {}, {}
-        self.declared, self.public, self.called, self.words = {}, set(), {}, set()
+        self.declared, self.public, self.called = {}, set(), {}
+        self.words, self.functions, self.uses = set(), [], Counter()
+        text = path.read_text()
         if path.suffix == ".rt":
-            code = re.sub(r"//.*", "", path.read_text())
+            code = NOTE.sub("", text)
             self.imports(code)
             for crate, proofs, name in USING.findall(code):
                 module = [self.crate if crate == "crate" else crate, *proofs.split("::")]
                 self.imported.setdefault(name, set()).add((".".join(module), name))
             self.words = words(IMPORT.sub("", code))
+            self.functions = list(functions(code))
+            self.uses = Counter(re.findall(r"\w+", code))
+            self.uses.subtract(it[3] for it in FUNCTION.finditer(code))
         else:
-            self.read(path.read_text().split("\n"))
+            self.read(text.split("\n"))
+        self.operators = [name for name in self.imported if "◌" in name]
+        self.own_operators = [name for name in self.declared if "◌" in name]
 
     def imports(self, code):
         for path, names, other in IMPORT.findall(code):
@@ -72,25 +115,26 @@ class File:
                     self.passed[was] = path
 
     def read(self, lines):
-        heads = []  # of the modules round a line: how far their bodies stand in, and their words
+        heads = []  # of the modules round a line: how far their bodies stand in, and their text
         name, is_data = None, False  # of the declaration that lines further in belong to
         for line in lines:
-            code = COMMENT.sub("", line).rstrip()
+            code = (COMMENT.sub("", line) if "--" in line else line).rstrip()
             indent = len(code) - len(code.lstrip())
             code = code.strip()
             if not code:
                 continue
             while heads and indent < heads[-1][0]:
                 heads.pop()
-            if indent > (heads[-1][0] if heads else 0) or code[0] in "])}":
-                constructor = re.match(r"(\S+) :", code)
+            # a line that begins with a parenthesis has an argument before its operator
+            if indent > (heads[-1][0] if heads else 0) or code[0] in "])}(":
+                constructor = CONSTRUCTOR.match(code)
                 if is_data and constructor:
                     self.called[constructor[1]] = name
             elif code.startswith(("use ", "pub use ")):
                 self.imports(code)
                 name = None
             elif code.startswith("module "):
-                heads.append((indent + 2, words(code)))
+                heads.append((indent + 2, code))
                 name = None
             elif code.startswith(("mod ", "pub mod ", "infix", "open ")):
                 name = None
@@ -100,13 +144,13 @@ class File:
                 if "pub" in marks.split():
                     self.public.add(name)
                 self.called[name] = name
-                self.declared.setdefault(name, set()).update(*(head[1] for head in heads))
+                self.declared.setdefault(name, []).extend(head[1] for head in heads)
             if name:
-                self.declared[name] |= words(code)
+                self.declared[name].append(code)
 
 
-def unused(files):
-    """The files and names of what isn't used."""
+def unreached(files):
+    """The files and names of what is declared and isn't used."""
     live, waiting = set(), []
 
     def use(module, name):
@@ -115,19 +159,18 @@ def unused(files):
         if module in files:
             file = files[module]
             # what stands between its operands is used by other words than its name
-            for one in [file.called.get(name), *(other for other in file.declared if "◌" in other)]:
+            for one in (file.called.get(name), *file.own_operators):
                 if one and (module, one) not in live:
                     live.add((module, one))
-                    waiting.append((file, file.declared[one]))
+                    waiting.append((file, words(" ".join(file.declared[one]))))
 
     def follow(file, said):
         for name in said & file.called.keys():
             use(file.module, name)
-        for name, imported in file.imported.items():
-            if name in said or "◌" in name:
-                for module, original in imported:
-                    use(module, original)
-        for word in said:
+        for name in (*(said & file.imported.keys()), *file.operators):
+            for module, original in file.imported[name]:
+                use(module, original)
+        for word in said if file.modules else ():
             first, dot, rest = word.partition(".")
             if dot and first in file.modules:
                 use(file.modules[first], rest.split(".")[0])
@@ -143,19 +186,42 @@ def unused(files):
     return [(file, name) for file, name in all_declared if (file.module, name) not in live]
 
 
+def uncalled(files):
+    """The files and names of the functions whose names stand nowhere else."""
+    uses = Counter()
+    for file in files:
+        uses.update(file.uses)
+    return [(file, name) for file in files for name in file.functions if not uses[name]]
+
+
+class Unused:
+    """A name that nothing reaches, and where it is."""
+
+    def __init__(self, file, name):
+        self.crate = file.crate
+        self.line = f"crates/{file.path.relative_to(TOP)}: {name}"
+
+
+def unused():
+    """What nothing reaches, and may not stay; and what may stay, but is reached or isn't there."""
+    paths = [path for part in ("src", "specs", "proofs") for path in TOP.glob(f"*/{part}/**/*")]
+    read = [File(path) for path in sorted(paths) if path.suffix in (".rt", ".antt")]
+    found = unreached({file.module: file for file in read}) + uncalled(read)
+    lines = [Unused(*each) for each in found]
+    return [it for it in lines if it.line not in STAYS], STAYS.keys() - {it.line for it in lines}
+
+
 def main():
     wanted = [word for word in sys.argv[1:] if word != "--count"]
-    paths = [path for part in ("src", "specs", "proofs") for path in TOP.glob(f"*/{part}/**/*")]
-    files = [File(path) for path in sorted(paths) if path.suffix in (".rt", ".antt")]
-    found = unused({file.module: file for file in files})
-    found = [(file, name) for file, name in found if not wanted or file.crate in wanted]
+    found = [it for it in unused()[0] if not wanted or it.crate in wanted]
     if "--count" in sys.argv:
-        for crate, count in Counter(file.crate for file, _ in found).items():
+        for crate, count in Counter(it.crate for it in found).items():
             print(f"{count:5} {crate}")
         print(f"{len(found):5} in all")
     else:
-        for file, name in found:
-            print(f"crates/{file.path.relative_to(TOP)}: {name}")
+        for it in found:
+            print(it.line)
 
 
-main()
+if __name__ == "__main__":
+    main()
