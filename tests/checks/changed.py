@@ -9,8 +9,10 @@ import os
 import random
 import re
 import shutil
+import struct
 import subprocess
 import tempfile
+import time
 
 from checks.fork_questions import Difference
 from checks.forks import Choices, compare, operand
@@ -388,6 +390,27 @@ def try_session(program, folder):
     return len(lines)
 
 
+def many(count, last):
+    """A fork of so many resources 'TEST' with four bytes, those of their ids and at last these."""
+    data = b"".join(struct.pack(">2I", 4, ident) for ident in range(count - 1)) + struct.pack(">I", 4) + last
+    references = b"".join(struct.pack(">hHI", ident - 30000, 0xFFFF, 8 * ident) + bytes(4) for ident in range(count))
+    header = struct.pack(">4I", 256, 256 + len(data), len(data), 38 + len(references))
+    return header + bytes(240) + data + bytes(24) + struct.pack(">2H", 28, min(38 + len(references), 65535)) + struct.pack(">H4s2H", 0, b"TEST", count - 1, 10) + references
+
+
+def try_many(program, folder):
+    """Compares forks of 60,000 resources, and copies 2,000 into their own file with other ids. Neither takes long."""
+    old, new = (os.path.join(folder, name) for name in ("old", "new"))
+    write(old, many(60000, b"last"))
+    write(new, many(60000, b"lost"))
+    begun = time.monotonic()
+    compare("diff of many", run(program, ["diff", old, new]), 1, b"~ TEST 29999: data 4 -> 4 bytes, from byte 1 on\n", "")
+    write(old, many(2000, b"last"))
+    added = "".join(f"+ TEST {ident}\n" for ident in range(128, 2128)).encode()
+    compare("cp of many", run(program, ["cp", "--renumber", old, old]), 0, added, "")
+    must(time.monotonic() - begun < 60, "tables of many rows take long")
+
+
 def main(program, count=150):
     """Tries the rows by hand, and so many random forks."""
     seen, tried = {}, 0
@@ -399,6 +422,8 @@ def main(program, count=150):
             what = "the command lines"
             os.mkdir(os.path.join(folder, "lines"))
             try_lines(program, os.path.join(folder, "lines"))
+            what = "many resources"
+            try_many(program, os.path.join(folder, "lines"))
             for number in range(1, 1 + count):
                 fork, what = Choices(number).fork(), f"fork {number}"
                 try:

@@ -6,3 +6,5 @@ mod Same
 mod Applied
 mod Tables
 mod Free
+pub mod Indexed
+pub mod Known

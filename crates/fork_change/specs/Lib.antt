@@ -1,4 +1,5 @@
 pub mod Rows
 pub mod Copies
 pub mod Differences
+pub mod Index
 pub mod Laws

@@ -1,8 +1,9 @@
 //! What differs between two tables.
 
 ghost use Rattle.std.specs.Prelude.{◌≡◌, ◌≢◌, ◌++◌, ◌↔◌, [], false, map, slice_get, take, IfNone, IfOk, IfSome, IsTrue, OnOk, option_copied};
-ghost use Rattle.fork_change.specs.Differences.{IsEmpty, added_in, attributes_diff, changed_in, count_at, diff, is_same, nth_at, same_name, shown};
+ghost use Rattle.fork_change.specs.Differences.{IsEmpty, added_in, against, attributes_diff, changed_in, diff, is_same, only_new, same_name, shown};
 
+use crate::index::{Counts, count_row, index_of, nth_at};
 use crate::putting::id_of;
 use crate::row::ResourceId;
 use crate::search::is_at;
@@ -118,73 +119,81 @@ pub fn first_difference(bytes: &[u8], other: &[u8]) -> Option<usize>
     }
 }
 
-/// How many rows there are of a type and id.
-fn count_at(rows: &[Row], what: &ResourceId) -> usize
-    ensures { result ≡ count_at what.now rows.now }
+/// Adds what differs of a row of the first table, the n-th of its type and id, where the second has this one.
+#[tactic(auto, using(std::proofs::lemmas::List::map_push))]
+fn push_against<'r, 'a>(
+    found: &mut Vec<Difference<'r, 'a>>,
+    nth: usize,
+    row: &'r Row<'a>,
+    new: Option<&'r Row<'a>>,
+) -> Result<(), HostFull>
+    ensures { OnOk result (map shown found.new.items ≡ map shown found.old.items ++ against nth row.now (option_copied new.entry)) }
 {
-    rows.iter().filter(|row| is_at(row, what)).count()
-}
-
-/// The n-th row of a type and id.
-fn nth_at<'r, 'a>(rows: &'r [Row<'a>], what: &ResourceId, nth: usize) -> Option<&'r Row<'a>>
-    ensures { option_copied result ≡ nth_at what.now nth rows.now }
-{
-    let mut left = nth;
-    for row in rows {
-        if is_at(row, what) {
-            if left == 0 {
-                return Some(row);
-            }
-            left -= 1;
-        }
+    match new {
+        Some(other) if is_same(row, other) => {}
+        _ => found.push(Difference {
+            nth,
+            old: Some(row),
+            new,
+        })?,
     }
-    None
+    Ok(())
 }
 
 /// Adds what differs of the rows of the first table.
 fn push_changed<'r, 'a>(
+    alloc: Global,
     found: &mut Vec<Difference<'r, 'a>>,
     first: &'r [Row<'a>],
     second: &'r [Row<'a>],
 ) -> Result<(), HostFull>
     ensures { OnOk result (map shown found.new.items ≡ map shown found.old.items ++ changed_in second.now [] first.now) }
 {
+    let others = index_of(alloc, second)?;
+    let mut counts = Counts::new(alloc);
     for at in 0..first.len() {
         let row = &first[at];
-        let what = id_of(row);
-        let nth = count_at(&first[..at], &what);
-        let new = nth_at(second, &what, nth);
-        match new {
-            Some(other) if is_same(row, other) => {}
-            _ => found.push(Difference {
-                nth,
-                old: Some(row),
-                new,
-            })?,
-        }
+        let nth = count_row(&mut counts, row)?;
+        push_against(found, nth, row, nth_at(&others, &id_of(row), nth))?;
+    }
+    Ok(())
+}
+
+/// Adds a row of the second table, the n-th of its type and id, unless the first has one.
+#[tactic(auto, using(std::proofs::lemmas::List::map_push))]
+fn push_only_new<'r, 'a>(
+    found: &mut Vec<Difference<'r, 'a>>,
+    nth: usize,
+    row: &'r Row<'a>,
+    old: Option<&'r Row<'a>>,
+) -> Result<(), HostFull>
+    ensures { OnOk result (map shown found.new.items ≡ map shown found.old.items ++ only_new nth row.now (option_copied old.entry)) }
+{
+    if old.is_none() {
+        found.push(Difference {
+            nth,
+            old: None,
+            new: Some(row),
+        })?;
     }
     Ok(())
 }
 
 /// Adds the rows of the second table that the first hasn't.
 fn push_added<'r, 'a>(
+    alloc: Global,
     found: &mut Vec<Difference<'r, 'a>>,
     first: &'r [Row<'a>],
     second: &'r [Row<'a>],
 ) -> Result<(), HostFull>
     ensures { OnOk result (map shown found.new.items ≡ map shown found.old.items ++ added_in first.now [] second.now) }
 {
+    let others = index_of(alloc, first)?;
+    let mut counts = Counts::new(alloc);
     for at in 0..second.len() {
         let row = &second[at];
-        let what = id_of(row);
-        let nth = count_at(&second[..at], &what);
-        if nth_at(first, &what, nth).is_none() {
-            found.push(Difference {
-                nth,
-                old: None,
-                new: Some(row),
-            })?;
-        }
+        let nth = count_row(&mut counts, row)?;
+        push_only_new(found, nth, row, nth_at(&others, &id_of(row), nth))?;
     }
     Ok(())
 }
@@ -198,8 +207,8 @@ fn diff<'r, 'a>(
     ensures { IfOk result (λ found. map shown found.items ≡ diff first.now second.now) }
 {
     let mut found = Vec::new(alloc);
-    push_changed(&mut found, first, second)?;
-    push_added(&mut found, first, second)?;
+    push_changed(alloc, &mut found, first, second)?;
+    push_added(alloc, &mut found, first, second)?;
     Ok(found)
 }
 

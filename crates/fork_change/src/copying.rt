@@ -3,15 +3,17 @@
 ghost use Rattle.std.specs.Prelude.{◌≡◌, ◌≢◌, ◌⊎◌, None, Some, IfErr, IfOk, OnOk};
 ghost use Rattle.std.specs.List.{filter};
 ghost use Rattle.fork_change.specs.Copies.{copied, copied_one, free_id, is_chosen, is_meant, renumbered};
-ghost use Rattle.fork_change.specs.Rows.{with_rows};
+ghost use Rattle.fork_change.specs.Index.{HasIds};
+ghost use Rattle.fork_change.specs.Rows.{added, with_rows};
 ghost use Rattle.fork_change.specs.declared.copying.Collision.TheVariants.{Refuse, Renumber};
 ghost use Rattle.fork_change.specs.declared.row.ResourceId.{ResourceId};
 ghost use Rattle.fork_change.specs.declared.refusal.Refusal.TheVariants as why;
 
+use crate::ids::{Ids, add_id, has_id, ids_of};
 use crate::putting::{add_row, id_of, replace_row};
 use crate::refusal::Refusal;
 use crate::row::{ResourceId, same_name};
-use crate::search::{is_at, is_there};
+use crate::search::is_at;
 use fork_bytes::table::{Contents, Row, Rows, Table};
 use mac_base::error::HostFull;
 use mac_base::resource::{ResType, Resource};
@@ -92,7 +94,8 @@ pub fn same_table<'a>(alloc: Global, table: &Table<'a>) -> Result<Table<'a>, Hos
 }
 
 /// The least id from 128 on that no row of a type has.
-fn free_id(rows: &[Row], kind: ResType) -> Option<i16>
+fn free_id(rows: &[Row], ids: &Ids, kind: ResType) -> Option<i16>
+    requires { HasIds ids.now rows.now }
     ensures { result ≡ free_id kind rows.now }
 {
     for n in 0..rows.len() + 1 {
@@ -100,20 +103,33 @@ fn free_id(rows: &[Row], kind: ResType) -> Option<i16>
             return None;
         }
         let id = (FIRST_OWN_ID + n) as i16;
-        if !is_there(rows, &ResourceId { kind, id }) {
+        if !has_id(ids, &ResourceId { kind, id }) {
             return Some(id);
         }
     }
     None
 }
 
+/// Adds a row as the last of its type, and its type and id to those that are there.
+fn add_known<'a>(rows: &mut Vec<Row<'a>>, ids: &mut Ids, row: Row<'a>) -> Result<(), HostFull>
+    requires { HasIds ids.old rows.old.items }
+    ensures rows { OnOk result (rows.new.items ≡ added row.entry rows.old.items) }
+    ensures ids { OnOk result (HasIds ids.new rows.new.items) }
+{
+    add_id(ids, &row)?;
+    add_row(rows, row)?;
+    Ok(())
+}
+
 /// Adds a row with an id that is free.
-fn add_renumbered<'a>(rows: &mut Vec<Row<'a>>, row: Row<'a>) -> Result<(), Refusal>
+fn add_renumbered<'a>(rows: &mut Vec<Row<'a>>, ids: &mut Ids, row: Row<'a>) -> Result<(), Refusal>
+    requires { HasIds ids.old rows.old.items }
+    ensures ids { OnOk result (HasIds ids.new rows.new.items) }
     ensures copied { OnOk result (renumbered row.entry rows.old.items (free_id row.entry.kind rows.old.items) ≡ Some rows.new.items) }
     ensures refused { IfErr result (λ fault. fault ≡ why.NoFreeId → free_id row.entry.kind rows.old.items ≡ None) }
     ensures fault { IfErr result (λ fault. (fault ≡ why.NoFreeId) ⊎ (fault ≡ why.HostFull)) }
 {
-    let Some(id) = free_id(rows, row.kind) else {
+    let Some(id) = free_id(rows, ids, row.kind) else {
         return Err(Refusal::NoFreeId);
     };
     let Resource {
@@ -123,8 +139,9 @@ fn add_renumbered<'a>(rows: &mut Vec<Row<'a>>, row: Row<'a>) -> Result<(), Refus
         datum,
         ..
     } = row;
-    add_row(
+    add_known(
         rows,
+        ids,
         Resource {
             kind,
             id,
@@ -136,8 +153,15 @@ fn add_renumbered<'a>(rows: &mut Vec<Row<'a>>, row: Row<'a>) -> Result<(), Refus
     Ok(())
 }
 
-/// Copies a row to others.
-fn copy_row<'a>(rows: &mut Vec<Row<'a>>, row: &Row<'a>, how: Collision) -> Result<(), Refusal>
+/// Copies a row to others, which have these types and ids.
+fn copy_row<'a>(
+    rows: &mut Vec<Row<'a>>,
+    ids: &mut Ids,
+    row: &Row<'a>,
+    how: Collision,
+) -> Result<(), Refusal>
+    requires { HasIds ids.old rows.old.items }
+    ensures ids { OnOk result (HasIds ids.new rows.new.items) }
     ensures copied { OnOk result (copied_one how row.now rows.old.items ≡ Some rows.new.items) }
     ensures refused { IfErr result (λ fault. fault ≡ why.Taken → copied_one how row.now rows.old.items ≡ None) }
     ensures none_free { IfErr result (λ fault. fault ≡ why.NoFreeId → copied_one how row.now rows.old.items ≡ None) }
@@ -146,8 +170,8 @@ fn copy_row<'a>(rows: &mut Vec<Row<'a>>, row: &Row<'a>, how: Collision) -> Resul
     ensures known { IfErr result (λ fault. (what : ResourceId) → fault ≢ why.Missing what) }
 {
     let what = id_of(row);
-    if !is_there(rows, &what) {
-        add_row(rows, same_row(row)?)?;
+    if !has_id(ids, &what) {
+        add_known(rows, ids, same_row(row)?)?;
         return Ok(());
     }
     match how {
@@ -157,7 +181,7 @@ fn copy_row<'a>(rows: &mut Vec<Row<'a>>, row: &Row<'a>, how: Collision) -> Resul
             Ok(())
         }
         Collision::Skip => Ok(()),
-        Collision::Renumber => add_renumbered(rows, same_row(row)?),
+        Collision::Renumber => add_renumbered(rows, ids, same_row(row)?),
     }
 }
 
@@ -175,9 +199,10 @@ fn copy_rows<'a>(
     ensures renumbering { IfErr result (λ fault. fault ≡ why.NoFreeId → how ≡ Renumber) }
     ensures known { IfErr result (λ fault. (what : ResourceId) → fault ≢ why.Missing what) }
 {
+    let mut ids = ids_of(*rows.allocator(), rows)?;
     for row in from {
         if is_chosen(choices, row) {
-            copy_row(rows, row, how)?;
+            copy_row(rows, &mut ids, row, how)?;
         }
     }
     Ok(())

@@ -4,6 +4,8 @@
 
 pub mod comparing;
 pub mod copying;
+mod ids;
+mod index;
 mod laws;
 mod putting;
 mod refusal;

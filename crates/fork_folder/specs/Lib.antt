@@ -2,3 +2,5 @@ pub mod Names
 pub mod Unpacked
 pub mod Counts
 pub mod Laws
+pub mod Packed
+pub mod PackedAgain

@@ -1,10 +1,16 @@
-//! No two resources are unpacked to one file, and file systems take the names.
+//! No two resources are unpacked to one file, file systems take the names, and what was unpacked is packed again.
 
 ghost use Rattle.fork_folder.specs.Laws.{AreSafe, IsOneToOne};
+ghost use Rattle.fork_folder.specs.PackedAgain.{IsPackedAgain};
 
 /// Each resource has a path of its own, for a file system that has no regard to case too, and names that file systems take. It computes
 /// nothing.
 pub fn folder_laws()
     ensures own { IsOneToOne }
     ensures safe { AreSafe }
+{}
+
+/// The files that the rows of a fork are unpacked to, packed again by what their manifest says, are those rows. It computes nothing.
+pub fn pack_laws()
+    ensures again { IsPackedAgain }
 {}

@@ -1,5 +1,5 @@
 //! The files that the resources of a fork are unpacked to: TYPE/ID NAME.bin, with types and names made safe for file systems, and no two
-//! files of one path.
+//! files of one path. The resources of such a folder: what `resources.json` says of each, and the bytes of its file.
 #![tactic(auto)]
 
 mod counts;
@@ -7,6 +7,10 @@ mod file_name;
 pub mod files;
 mod folder;
 mod laws;
+pub mod manifest;
+pub mod rows;
 
 pub use files::unpacked;
-pub use laws::folder_laws;
+pub use laws::{folder_laws, pack_laws};
+pub use manifest::manifest_of;
+pub use rows::packed;

@@ -27,6 +27,19 @@ pub struct Target<'a> {
     pub is_quiet: bool,
 }
 
+/// Bytes to be put in the place of a resource's, or as those of a new one.
+#[derive(Drop)]
+pub struct Putting<'a> {
+    pub change: Change,
+    /// The file with the bytes, or the standard input.
+    pub input: Option<&'a str>,
+    /// Whether a resource that is there is refused.
+    pub is_new: bool,
+    /// Whether a file that isn't there is made.
+    pub creates: bool,
+    pub target: Target<'a>,
+}
+
 /// A file to be written in another container.
 #[derive(Drop)]
 pub struct Conversion<'a> {
@@ -44,16 +57,7 @@ pub struct Conversion<'a> {
 #[derive(Drop)]
 pub enum Work<'a> {
     /// To put bytes in the place of a resource's, or to add it.
-    Put {
-        change: Change,
-        /// The file with the bytes, or the standard input.
-        input: Option<&'a str>,
-        /// Whether a resource that is there is refused.
-        is_new: bool,
-        /// Whether a file that isn't there is made.
-        creates: bool,
-        target: Target<'a>,
-    },
+    Put(Putting<'a>),
     /// To remove resources.
     Remove {
         whats: Vec<ResourceId>,
@@ -264,7 +268,7 @@ fn put<'a>(alloc: Global, matches: &ArgMatches<'a>) -> Result<Work<'a>, NotAsked
         name: name_change(alloc, matches)?,
         attributes: attribute_change(matches)?,
     };
-    Ok(Work::Put {
+    Ok(Work::Put(Putting {
         change,
         input: matches.get_str("input"),
         is_new: matches.get_flag("new"),
@@ -274,7 +278,7 @@ fn put<'a>(alloc: Global, matches: &ArgMatches<'a>) -> Result<Work<'a>, NotAsked
             word(matches, "file"),
             matches.get_str("input").unwrap_or(INPUT),
         )?,
-    })
+    }))
 }
 
 /// What `rm` asks for.

@@ -7,7 +7,7 @@ use fork_change::row::ResourceId;
 use fork_edit::change::NotChanged;
 use fork_edit::file::NotWritten;
 use fork_list::KindText;
-use fork_pack::rows::PackFault;
+use fork_folder::rows::PackFault;
 use fork_report::Refusal;
 use fork_rez::fault::RezFault;
 use fork_view::{NotShown, NotUnpacked};

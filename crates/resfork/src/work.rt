@@ -1,6 +1,6 @@
 //! What the commands do that change files, and those that compare them.
 
-use crate::asked_change::{Target, Work};
+use crate::asked_change::{Putting, Target, Work};
 use crate::change::{change, create};
 use crate::convert::convert;
 use crate::message::{DONE, NOT_FOUND, Problem, tell_problem};
@@ -43,22 +43,7 @@ fn of_file<'a, T>(file: &'a str, done: Result<T, Problem>) -> Result<T, Failed<'
 /// Does what is asked for. The result is the exit status, or which file is in the way.
 fn done<'a>(rt: &HostRuntime, work: Work<'a>) -> Result<u8, Failed<'a>> {
     match work {
-        Work::Put {
-            change,
-            input,
-            is_new,
-            creates,
-            target,
-        } => {
-            let input = input.unwrap_or(INPUT);
-            let bytes = of_file(input, read(rt, input).map_err(Problem::Read))?;
-            let edit = Edit::Put {
-                change,
-                bytes: &bytes,
-                is_new,
-            };
-            of_file(target.file, put_into(rt, &target, creates, edit))
-        }
+        Work::Put(asked) => put(rt, asked),
         Work::Remove { whats, target } => of_file(
             target.file,
             change(rt, &target, &[], Edit::Remove(whats.as_slice())),
@@ -87,6 +72,25 @@ fn done<'a>(rt: &HostRuntime, work: Work<'a>) -> Result<u8, Failed<'a>> {
         } => pack(rt, folder, like, target),
         Work::Convert(asked) => of_file(asked.target.file, convert(rt, &asked)),
     }
+}
+
+/// Puts bytes in the place of a resource's, or adds it.
+fn put<'a>(rt: &HostRuntime, asked: Putting<'a>) -> Result<u8, Failed<'a>> {
+    let Putting {
+        change,
+        input,
+        is_new,
+        creates,
+        target,
+    } = asked;
+    let input = input.unwrap_or(INPUT);
+    let bytes = of_file(input, read(rt, input).map_err(Problem::Read))?;
+    let edit = Edit::Put {
+        change,
+        bytes: &bytes,
+        is_new,
+    };
+    of_file(target.file, put_into(rt, &target, creates, edit))
 }
 
 /// Copies resources of a file to another.

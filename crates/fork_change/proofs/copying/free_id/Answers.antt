@@ -11,4 +11,4 @@ loop-n-preserved c =
     let P : ℤ → Type 0 = λ id. is_there (record { kind = kind; id = id }) rows ≡ true in
     c.loop-n.invariant
     ∙ least_step kind rows (length rows + 1) n (omega (arith, c.loop-n-test.true)) (omega (arith, c.if-n-gt-MOST_OWN_IDS.false))
-    (subst P (to_z_pos w16 (128 + n) (omega (arith, c.if-n-gt-MOST_OWN_IDS.false))) (sym c.is_there.ensures ∙ c.if-not-is_there.false))
+    (subst P (to_z_pos w16 (128 + n) (omega (arith, c.if-n-gt-MOST_OWN_IDS.false))) (sym (c.requires _) ∙ sym c.has_id.ensures ∙ c.if-not-has_id.false))

@@ -1,5 +1,5 @@
-use Rattle.fork_pack.proofs.Again.{packed_again}
-use Rattle.fork_pack.proofs.laws.pack_laws.Goals as goal
+use Rattle.fork_folder.proofs.Again.{packed_again}
+use Rattle.fork_folder.proofs.laws.pack_laws.Goals as goal
 
 pub returns : goal.returns
 returns c = record { again = λ kinds rows named few. packed_again kinds rows named few }

@@ -7,7 +7,7 @@ use Rattle.std.proofs.lemmas.Slice.Eq.{bytes_eq-Decides}
 use Rattle.fork_folder.specs.Names.{folded}
 use Rattle.fork_folder.specs.Unpacked.{Unpacked}
 use Rattle.fork_folder.specs.Laws.{AreApart, HaveOwnPaths, path_of}
-use Rattle.fork_pack.specs.Laws.{folder_with}
+use Rattle.fork_folder.specs.PackedAgain.{folder_with}
 
 -- a folder has the bytes of a file
 abbrev pub IsIn : (List ℕ → Option (List ℕ)) → Unpacked → Type 0

@@ -8,9 +8,9 @@ use Rattle.fork_list.specs.Listing.{is_chosen}
 use Rattle.fork_folder.specs.Unpacked.{file_of, files_from, unpacked}
 use Rattle.fork_folder.specs.Laws.{IsNamed}
 use Rattle.fork_folder.proofs.Apart.{own_paths}
-use Rattle.fork_pack.specs.Packed.{before, packed, with_row}
-use Rattle.fork_pack.specs.Laws.{entries_from, entry_of, folder_with, manifest}
-use Rattle.fork_pack.proofs.Found.{IsIn, all_found}
+use Rattle.fork_folder.specs.Packed.{before, packed, with_row}
+use Rattle.fork_folder.specs.PackedAgain.{entries_from, entry_of, folder_with, manifest}
+use Rattle.fork_folder.proofs.Found.{IsIn, all_found}
 
 -- the rows of a folder that has their files
 rows_again : (folder : List ℕ → Option (List ℕ)) (kinds : List (List ℕ)) (done rows : List Row) → AllByRecursion (IsIn folder) (files_from kinds done rows)

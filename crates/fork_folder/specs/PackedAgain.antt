@@ -5,7 +5,7 @@ use Rattle.fork_bytes.specs.Rows.{Row}
 use Rattle.fork_list.specs.Listing.{is_chosen}
 use Rattle.fork_folder.specs.Laws.{IsNamed, path_of}
 use Rattle.fork_folder.specs.Unpacked.{Unpacked, file_of, unpacked}
-use Rattle.fork_pack.specs.Packed.{Listed, packed}
+use Rattle.fork_folder.specs.Packed.{Listed, packed}
 
 -- what the manifest says of a row in this file
 abbrev pub entry_of : Row → Unpacked → Listed

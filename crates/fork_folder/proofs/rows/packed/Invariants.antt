@@ -1,7 +1,7 @@
 use Rattle.std.proofs.Common.{◌≡◌, length, map}
-use Rattle.fork_pack.specs.Packed.{folder_of, listed, packed}
-use Rattle.fork_pack.proofs.Front.{after_rows}
-use Rattle.fork_pack.proofs.rows.packed.Given as goal
+use Rattle.fork_folder.specs.Packed.{folder_of, listed, packed}
+use Rattle.fork_folder.proofs.Front.{after_rows}
+use Rattle.fork_folder.proofs.rows.packed.Given as goal
 
 -- the rows so far, with those of the entries that are left, are all
 abbrev pub invariant-loop-entry : goal.invariant-loop-entry

@@ -1,7 +1,7 @@
 //! The rows of a manifest's entries.
 
 ghost use Rattle.std.specs.Prelude.{◌≡◌, IfOk, Err, map, option_map};
-ghost use Rattle.fork_pack.specs.Packed.{Answers, Fails, folder_of, listed, packed, row_with};
+ghost use Rattle.fork_folder.specs.Packed.{Answers, Fails, folder_of, listed, packed, row_with};
 
 use fork_bytes::table::{Contents, Row, Rows};
 use mac_base::name::Name;
@@ -43,7 +43,7 @@ pub enum PackFault {
 
 impl From<AllocError> for PackFault {
     ghost use Rattle.std.specs.Prelude.{◌≡◌};
-    ghost use Rattle.fork_pack.specs.declared.rows.PackFault.TheVariants.{HostFull};
+    ghost use Rattle.fork_folder.specs.declared.rows.PackFault.TheVariants.{HostFull};
 
     ghost from_gives = { λ _ e. e ≡ HostFull };
 
@@ -54,7 +54,7 @@ impl From<AllocError> for PackFault {
 
 impl<T: Drop> From<AllocFailed<T>> for PackFault {
     ghost use Rattle.std.specs.Prelude.{◌≡◌};
-    ghost use Rattle.fork_pack.specs.declared.rows.PackFault.TheVariants.{HostFull};
+    ghost use Rattle.fork_folder.specs.declared.rows.PackFault.TheVariants.{HostFull};
 
     ghost from_gives = { λ _ e. e ≡ HostFull };
 

@@ -1,8 +1,8 @@
 -- Rows before others.
 use Rattle.std.proofs.Common.{◌≡◌, List, [], ◌∷◌, ◌++◌, ℕ, Option, Some, None, Result, Ok, Err, map, refl, sym, ap, ◌∙◌, append_assoc}
 use Rattle.fork_bytes.specs.Rows.{Row}
-use Rattle.fork_pack.specs.declared.rows.Entry.{Entry}
-use Rattle.fork_pack.specs.Packed.{before, listed, packed, row_with, with_row}
+use Rattle.fork_folder.specs.declared.rows.Entry.{Entry}
+use Rattle.fork_folder.specs.Packed.{before, listed, packed, row_with, with_row}
 
 -- these rows before others, unless those lack a file
 abbrev pub after_rows : List Row → Result (List Row) (List ℕ) → Result (List Row) (List ℕ)

@@ -1,9 +1,9 @@
 use Rattle.std.proofs.Common.{◌≡◌, ◌∙◌, ◌++◌, ◌∷◌, [], List, ℕ, Some, None, Result, map, sym, ap, subst}
 use Rattle.std.specs.Prelude.{option_map}
 use Rattle.fork_bytes.specs.Rows.{Row}
-use Rattle.fork_pack.specs.Packed.{Fails, folder_of, listed, packed}
-use Rattle.fork_pack.proofs.Front.{after_rows, goes_on, lacks}
-use Rattle.fork_pack.proofs.rows.packed.Goals as goal
+use Rattle.fork_folder.specs.Packed.{Fails, folder_of, listed, packed}
+use Rattle.fork_folder.proofs.Front.{after_rows, goes_on, lacks}
+use Rattle.fork_folder.proofs.rows.packed.Goals as goal
 
 pub returns-in_default-bytes_at : goal.returns-in_default-bytes_at
 returns-in_default-bytes_at c =

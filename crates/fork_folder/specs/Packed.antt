@@ -4,9 +4,9 @@ use Rattle.std.specs.BTreeMap.{BTreeMap, get_by_text}
 use Rattle.std.specs.Global.{Global, Vec}
 use Rattle.mac_base.specs.declared.resource.ResAttrs.{ResAttrs}
 use Rattle.fork_bytes.specs.Rows.{Row}
-use Rattle.fork_pack.specs.declared.rows.Entry.{Entry}
-use Rattle.fork_pack.specs.declared.rows.PackFault.{PackFault}
-use Rattle.fork_pack.specs.declared.rows.PackFault.TheVariants.{HostFull, NoFile}
+use Rattle.fork_folder.specs.declared.rows.Entry.{Entry}
+use Rattle.fork_folder.specs.declared.rows.PackFault.{PackFault}
+use Rattle.fork_folder.specs.declared.rows.PackFault.TheVariants.{HostFull, NoFile}
 
 -- what a manifest says of a resource: all but its bytes, and the path of the file that has those
 pub record Listed : Type 0 where

@@ -1,3 +1,0 @@
-pub mod Found
-pub mod Again
-pub mod Front
