@@ -55,9 +55,7 @@ pub extern "C" fn mf_rows(
     if !fits(sizes_of(found), rows.len(), names.len(), contents.len()) {
         return OsErr::ParamErr.code();
     }
-    put_rows(found, rows);
-    put_names(found, names);
-    put_contents(found, contents);
+    put_rows(found, rows, names, contents);
     NO_ERR
 }
 
@@ -86,48 +84,34 @@ fn fits(sizes: MfSizes, rows: usize, names: usize, contents: usize) -> bool
     sizes.rows == rows && sizes.names == names && sizes.contents == contents
 }
 
-/// Puts the rows as C is shown them.
-fn put_rows(found: &[Row], rows: &mut [MfRow])
-    requires { length rows.old ≡ length found.now }
-    ensures { rows.new ≡ map shown_row found.now }
+/// Puts the rows as C is shown them, the bytes of all names one after the other, and those of all data.
+fn put_rows(found: &[Row], rows: &mut [MfRow], names: &mut [u8], contents: &mut [u8])
+    requires rows { length rows.old ≡ length found.now }
+    requires names { length names.old ≡ length (flat_map name_of found.now) }
+    requires contents { length contents.old ≡ length (flat_map (λ (row : Row). row.datum) found.now) }
+    ensures rows { rows.new ≡ map shown_row found.now }
+    ensures names { names.new ≡ flat_map name_of found.now }
+    ensures contents { contents.new ≡ flat_map (λ (row : Row). row.datum) found.now }
 {
+    let mut names_end = 0;
+    let mut contents_end = 0;
     for i in 0..found.len() {
-        rows[i] = shown_row(&found[i]);
+        let row = &found[i];
+        rows[i] = shown_row(row);
+        names_end = put(name_of(row), names, names_end);
+        contents_end = put(row.datum.as_slice(), contents, contents_end);
     }
 }
 
-/// Puts the bytes of all names, one after the other.
-fn put_names(found: &[Row], names: &mut [u8])
-    requires { length names.old ≡ length (flat_map name_of found.now) }
-    ensures { names.new ≡ flat_map name_of found.now }
-{
-    let mut at = 0;
-    for row in found {
-        let name = name_of(row);
-        if !name.is_empty() {
-            put(name, names, at);
-            at += name.len();
-        }
-    }
-}
-
-/// Puts the bytes of all data, one after the other.
-fn put_contents(found: &[Row], contents: &mut [u8])
-    requires { length contents.old ≡ length (flat_map (λ (row : Row). row.datum) found.now) }
-    ensures { contents.new ≡ flat_map (λ (row : Row). row.datum) found.now }
-{
-    let mut at = 0;
-    for row in found {
-        let datum = row.datum.as_slice();
-        put(datum, contents, at);
-        at += datum.len();
-    }
-}
-
-/// Puts bytes over others, from a place on.
-fn put(bytes: &[u8], others: &mut [u8], at: usize)
+/// Puts bytes over others, from a place on. The result is the place after them.
+fn put(bytes: &[u8], others: &mut [u8], at: usize) -> usize
     requires { at + length bytes.now ≤ length others.old }
-    ensures { others.new ≡ take at others.old ++ (bytes.now ++ drop (at + length bytes.now) others.old) }
+    ensures put { others.new ≡ take at others.old ++ (bytes.now ++ drop (at + length bytes.now) others.old) }
+    ensures end { result ≡ at + length bytes.now }
 {
-    others[at..at + bytes.len()].copy_from_slice(bytes);
+    let end = at + bytes.len();
+    if at < end {
+        others[at..end].copy_from_slice(bytes);
+    }
+    end
 }
