@@ -34,9 +34,6 @@ EXAMPLES = {
 }
 # what may stay though nothing reaches it, and why
 STAYS = {
-    "crates/fork_rez/proofs/Loops.antt: stops_here": "goes with the next change of fork_rez",
-    "crates/fork_rez/proofs/Loops.antt: all_read": "goes with the next change of fork_rez",
-    "crates/mac_write/proofs/ReadApple.antt: fork_entry": "goes with the next change of mac_write",
     "crates/script_tests/src/files.rt: run_over_files": "a theorem, which nothing calls",
     "crates/script_tests/src/files.rt: run_over_journalled_files": "a theorem, which nothing calls",
     "crates/script_tests/src/files.rt: files_can_be_honest": "a theorem, which nothing calls",

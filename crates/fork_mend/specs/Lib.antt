@@ -1,2 +1,3 @@
 pub mod Salvaged
 pub mod Lines
+pub mod Warnings

@@ -11,7 +11,7 @@ use std::fmt;
 
 /// A place in a fork: a dollar sign, and six hexadecimal digits or more.
 #[derive(Clone, Copy)]
-struct Place(usize);
+pub(crate) struct Place(pub(crate) usize);
 
 impl fmt::Display for Place {
     ghost output = { λ p. Some (place_text p.0) };

@@ -1,5 +1,5 @@
 -- A loop reads one thing after the other.
-use Rattle.std.proofs.Common.{◌≡◌, ℕ, suc, ◌+◌, ◌-◌, ◌<◌, ◌≤◌, List, Option, Some, None, Result, Ok, Err, refl, sym, ◌∙◌, arith}
+use Rattle.std.proofs.Common.{◌≡◌, ℕ, suc, ◌+◌, ◌-◌, ◌<◌, List, Option, Some, Result, Ok, Err, refl, sym, ◌∙◌, arith}
 use Rattle.fork_rez.specs.declared.fault.Fault.{Fault}
 use Rattle.fork_rez.specs.declared.fault.ReadError.{ReadError}
 use Rattle.fork_rez.specs.declared.fault.ReadError.TheVariants as errors
@@ -13,20 +13,6 @@ module _ {A B : Type 0} (add : B → A → B) (item : List ℕ → Result (Optio
       let left : n - i ≡ suc (n - (i + 1)) = omega arith in
       let turn : many add item (n - i) so_far text ≡ many add item (n - (i + 1)) (add so_far one) after = rw (left, read) refl in
       sym turn ∙ is
-
-  -- no other
-  pub stops_here : (after : List ℕ) → i < n → item text ≡ Ok (None, after) → total ≡ Ok (so_far, after)
-  stops_here after less read =
-      let left : n - i ≡ suc (n - (i + 1)) = omega arith in
-      let turn : many add item (n - i) so_far text ≡ Ok (so_far, after) = rw (left, read) refl in
-      sym is ∙ turn
-
-  -- as many as there may be
-  pub all_read : n ≤ i → total ≡ Ok (so_far, text)
-  all_read past =
-      let left : n - i ≡ 0 = omega arith in
-      let turn : many add item (n - i) so_far text ≡ Ok (so_far, text) = rw left refl in
-      sym is ∙ turn
 
   -- something else is expected
   pub refused_here : (e : ReadError) → i < n → Fails e (item text) → Fails e total

@@ -138,9 +138,6 @@ whole text entries long version has =
     entry_told None = None
     entry_told (Some e) = Some (EntryOutside e (length text))
 
-abbrev fork_entry : ℕ → ℕ → ℕ → List ℕ → Entry
-fork_entry at id offset fork = entry at id offset (length fork)
-
 name_told : (text : List ℕ) (file : Parts) (base : ℕ) (more : List Entry) → SaysTold text file base → entries_of text ≡ told_entries base file more
     → told_bytes (part_of 3 text) text ≡ file.name
 name_told text file base more says are =
