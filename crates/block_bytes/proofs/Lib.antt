@@ -16,6 +16,7 @@ pub mod Here
 pub mod Same
 pub mod LowestFree
 pub mod Holders
+pub mod FirstFrom
 pub mod Walks
 pub mod WrittenBack
 pub mod Copied

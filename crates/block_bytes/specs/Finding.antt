@@ -65,3 +65,13 @@ pub record LowestFree (l : Layout) (k at : ℕ) : Type 0 where
 -- no free block has so many bytes
 abbrev pub NoneFree : Layout → ℕ → Type 0
 NoneFree l k = IsTrue (list_all (λ b. not (has_room l.heads k b)) l.blocks)
+
+-- the block at an address is the first that begins at another or after it
+pub record FirstFrom (l : Layout) (from at : ℕ) : Type 0 where
+  pub block : BlockAt l at
+  pub reached : from ≤ at
+  pub first : (other : ℕ) → BlockAt l other → from ≤ other → at ≤ other
+
+-- all blocks begin before an address
+abbrev pub NoneFrom : Layout → ℕ → Type 0
+NoneFrom l from = (at : ℕ) → BlockAt l at → at < from

@@ -148,7 +148,7 @@ impl Blocks {
     ghost use Rattle.raw_region.specs.Bytes.{part};
     ghost use Rattle.block_bytes.specs.declared.header.Role.TheVariants.{Free};
     ghost use Rattle.block_bytes.specs.Layout.{Layout, BlockAt, UnlentAt, WordAt, CanBe, CanTurn, CanResize, CanSplit, ParcelAt, Carried, ParcelUpTo, Sunk, CanMerge, CanLend, IsLoanOf, NothingLent, in_role, front_of, rest_of, with_word, cleared, cleared_from, CanClear, body, raw_block, free_raw_block, size_of, header_of, is_possible, joint_body, zone_bytes, with_blocks, with_front, extended, address_behind, free_total, lent_count, most_lent, loan_of, lent_block, given_back};
-    ghost use Rattle.block_bytes.specs.Finding.{HoldsByte, LiesOutside, FreeAt, LowestFree, NoneFree, SplitAt, FirstFree, LastFree, none_free};
+    ghost use Rattle.block_bytes.specs.Finding.{HoldsByte, LiesOutside, FreeAt, LowestFree, NoneFree, SplitAt, FirstFree, LastFree, none_free, FirstFrom, NoneFrom};
     ghost use Rattle.block_bytes.specs.Copying.{CanCopy, copied_over};
     ghost use Rattle.block_bytes.specs.WritingBack.{WritesBackContents};
     ghost use Rattle.block_bytes.specs.NewLayout.{new_layout};
@@ -289,6 +289,17 @@ impl Blocks {
         let offset = at - self.spec.base();
         let place = self.index.last_at_least(1, offset as usize / 4 + 1)?;
         Some(self.spec.base() + 4 * place as u32)
+    }
+
+    /// The first block that begins at an address or after it, if there is one. No header is read.
+    pub fn first_from(&self, from: u32) -> Option<u32>
+        ensures first { IfSome result (λ at. FirstFrom self.now from at) }
+        ensures none { IfNone result (NoneFrom self.now from) }
+    {
+        let base = self.spec.base();
+        let first = (from.saturating_sub(base) as usize).div_ceil(4);
+        let place = first_from(&self.index, 1, first)?;
+        Some(base + 4 * place as u32)
     }
 
     /// The address of the lowest free block of at least so many bytes, its header among them. No header is read: the

@@ -19,7 +19,7 @@ use Rattle.zone_records.specs.Records as zone_records
 use Rattle.zone_records.specs.Places.{RecordAt, SlotAt}
 use Rattle.zone_records.specs.Places as records
 use Rattle.linked_zone.specs.Owned.{Owners, owners_of, content_of, record_of, records_from, records_of}
-use Rattle.linked_zone.specs.Places.{EntryAt, LowestAt, SplitAt, FirstFree, LastFree, none_free}
+use Rattle.linked_zone.specs.Places.{EntryAt, LowestAt, FirstFrom, NoneFrom, SplitAt, FirstFree, LastFree, none_free}
 use Rattle.linked_zone.specs.Fit.{Fits, HasRooms}
 use Rattle.linked_zone.proofs.Owning.{records_from-append, records-total}
 use Rattle.linked_zone.proofs.ReadBlocks.{IsPointerThere, ArePointersThere, kind-back}
@@ -116,6 +116,14 @@ of-record r z is at b =
       here = a.there ∙ ap (λ n. record_of o z.shape n a.e) same;
       higher = a.higher ∙ ap (λ n. records_from o z.shape (n + a.e.size) a.high) same;
     }
+
+-- the first of the blocks from an address on is that of the map
+pub first-from : (r : ZoneRecords) (z : ZoneState) → r ≡ records_of z → (from at : ℕ) → records.FirstFrom r from at → FirstFrom z from at
+first-from r z is from at f = record { block = (of-record r z is at f.block).entry; reached = f.reached; first = λ other e. f.first other (of-entry r z is other e).there }
+
+-- and where none of them begins there, none of the map does
+pub none-from : (r : ZoneRecords) (z : ZoneState) → r ≡ records_of z → (from : ℕ) → records.NoneFrom r from → NoneFrom z from
+none-from r z is from none at e = none at (of-entry r z is at e).there
 
 -- no blocks are those of no entries
 pub no-records : (o : Owners) (s : Shape) (at : ℕ) (m : ZoneMap) → records_from o s at m ≡ [] → m ≡ []

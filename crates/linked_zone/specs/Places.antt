@@ -183,3 +183,13 @@ pub record FirstFree (blocks : ZoneMap) (from at : ℕ) : Type 0 where
   pub splits : blocks ≡ passed ++ block Free size ∷ behind
   pub used : IsTrue (none_free passed)
   pub place : at ≡ from + total_size passed
+
+-- the block at an address is the first that begins at another or after it
+pub record FirstFrom (z : ZoneState) (from at : ℕ) : Type 0 where
+  pub block : EntryAt z at
+  pub reached : from ≤ at
+  pub first : (other : ℕ) → EntryAt z other → from ≤ other → at ≤ other
+
+-- all blocks begin before an address
+abbrev pub NoneFrom : ZoneState → ℕ → Type 0
+NoneFrom z from = (at : ℕ) → EntryAt z at → at < from

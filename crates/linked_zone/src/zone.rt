@@ -53,7 +53,7 @@ impl LinkedZone {
     ghost use Rattle.linked_zone.specs.Changes.{bare_zone, taken, given_back, pointed, without_block, fixed, unfixed, held_there, enlarged, cut_in_two, joined_pair, with_master, flagged};
     ghost use Rattle.linked_zone.specs.Fit.{Fits, HasSizes};
     ghost use Rattle.linked_zone.specs.WritingBack.{WritesBackBytes};
-    ghost use Rattle.linked_zone.specs.Places.{EntryAt, HasOwner, FreeAt, BlockOf, NamedAt, LowestAt, RoomFor, CanCut, CanHold, CanGrow, FreePair, SplitAt, FirstFree, LastFree, none_free};
+    ghost use Rattle.linked_zone.specs.Places.{EntryAt, HasOwner, FreeAt, BlockOf, NamedAt, LowestAt, RoomFor, CanCut, CanHold, CanGrow, FreePair, SplitAt, FirstFree, LastFree, none_free, FirstFrom, NoneFrom};
     ghost use Rattle.linked_zone.specs.Sizes.{sizes_of};
     ghost use Rattle.linked_zone.specs.Image.{IsImage};
     ghost use Rattle.block_bytes.specs.Walk.{Walks};
@@ -211,6 +211,14 @@ impl LinkedZone {
         ensures { result.now ≡ bytes_of self.now.heap.table block }
     {
         self.records.contents(self.place_of(block))
+    }
+
+    /// The first block that begins at an address or after it, if there is one. No header is read.
+    pub fn first_from(&self, from: u32) -> Option<u32>
+        ensures first { IfSome result (λ at. FirstFrom self.now from at) }
+        ensures none { IfNone result (NoneFrom self.now from) }
+    {
+        self.records.first_from(from)
     }
 
     /// The lowest free block of at least `needed` bytes, its header among them.

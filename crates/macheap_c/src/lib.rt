@@ -1,15 +1,10 @@
 //! The Memory Manager for programs in C.
 #![tactic(auto)]
 
-mod blocks;
 mod bytes;
-mod copying;
-mod flags;
+mod calls;
 mod growing;
 mod image;
 mod lent;
 mod life;
-mod places;
-mod room;
-mod sizes;
 mod walk;

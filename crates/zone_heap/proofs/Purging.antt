@@ -1,8 +1,8 @@
 -- One candidate after the other becomes empty: what is left to purge.
 use Rattle.std.proofs.Common.{◌≡◌, ℕ, ◌+◌, ◌<◌, ◌≤◌, Bool, true, false, not, cond, eqb, List, [], ◌∷◌, ◌++◌, length, Contains, refl, ap, sym, ◌∙◌, subst, arith, Some, None}
 use Rattle.std.specs.Prelude.{◌&&◌, ◌||◌, filter, filter_map, nat_le}
-use Rattle.std.specs.List.{list_all, slice_get}
-use Rattle.std.proofs.lemmas.Bool.{and_from, and_parts, eqb-true, not_from_false, or_right, true≢false}
+use Rattle.std.specs.List.{slice_get}
+use Rattle.std.proofs.lemmas.Bool.{true≢false}
 use Rattle.mac_base.specs.declared.block.Entry.{Entry}
 use Rattle.mac_base.specs.declared.block.Kind.{Kind}
 use Rattle.mac_base.specs.declared.block.Kind.TheVariants.{Free, Master, Ptr, Rel}
@@ -18,15 +18,15 @@ use Rattle.mac_base.specs.Purging.{purged, purged_for}
 use Rattle.mac_base.specs.Request.{blocks_to_purge, candidates, candidates_in, fits, is_among, purged_until}
 use Rattle.mac_base.specs.Sound.{Sound}
 use Rattle.mac_base.specs.Suits.{is_handle_block, is_pointer_block}
-use Rattle.mac_base.specs.ZoneMap.{ZoneMap, addresses_from, address_behind, block, handle_of, is_free, is_named, largest_free, released, sizes}
+use Rattle.mac_base.specs.ZoneMap.{ZoneMap, address_behind, block, handle_of, is_named, largest_free, released, sizes}
 use Rattle.mac_base.specs.ZoneState.{ZoneState, with_heap}
-use Rattle.zone_laws.proofs.Owners.{no_pointer_block, nothing_passes}
+use Rattle.zone_laws.proofs.Owners.{no_pointer_block}
 use Rattle.zone_laws.proofs.SlotPlaces.{Contains-here}
 use Rattle.zone_laws.proofs.SuitsNamed.{full-no_pointer, length-handle_blocks}
 use Rattle.zone_laws.proofs.Tables.{by_number, eqb_same, with_live_agrees}
-use Rattle.gap_laws.proofs.Emptied.{IsCandidate, candidate-is, purged_until-none}
+use Rattle.gap_laws.proofs.Emptied.{IsCandidate, candidate-is, keeps-unlocked, none_pass, purged_until-none}
 use Rattle.gap_laws.proofs.FixesSame.{blocks_to_purge-same, fits-same}
-use Rattle.gap_laws.proofs.PurgeBlocks.{blocks_to_purge-is, keeps_fixed, purge_blocks, purge_blocks-filter, purge_handles, purge_handles-used, run, run_behind, used-released}
+use Rattle.gap_laws.proofs.PurgeBlocks.{blocks_to_purge-is, purge_blocks, purge_blocks-filter, purge_handles, purge_handles-used, run, run_behind, used-released}
 use Rattle.linked_zone.specs.Loans.{KeepsLoans}
 use Rattle.zone_heap.specs.Attempts.{CanAsk, SoundZone, is_ready}
 use Rattle.zone_heap.specs.Purge.{is_protected}
@@ -152,31 +152,6 @@ filter-others h p q (g ∷ hs) same = by_number (λ g. filter q (filter (λ g. n
           | true ↦ sym (ap (λ c. cond (not c) (g ∷ others (filter p hs)) (others (filter p hs))) apart)
           | false ↦ refl
         ]
-
-none_pass : (at : ℕ) (test : Kind → Bool) (m : ZoneMap) → addresses_from at test m ≡ [] → list_all (λ (e : Entry). not (test e.kind)) m ≡ true
-none_pass at test [] h = refl
-none_pass at test (e ∷ es) h = let parts = nothing_passes (test e.kind) at (addresses_from (at + e.size) test es) h in and_from (not (test e.kind)) _ (not_from_false (test e.kind) parts.0) (none_pass (at + e.size) test es parts.1)
-
--- an unlocked handle names no fixed block in use
-keeps-unlocked : (t : HandleTable) (h : ℕ) (m : ZoneMap) → is_locked t h ≡ false → list_all (λ (e : Entry). not (is_pointer_block h e.kind)) m ≡ true → keeps_fixed t (λ (e : Entry). not (is_named h e.kind)) (used_blocks m) ≡ true
-keeps-unlocked t h [] unlocked none = refl
-keeps-unlocked t h (e ∷ es) unlocked none =
-    let parts = and_parts (not (is_pointer_block h e.kind)) (list_all (λ (e : Entry). not (is_pointer_block h e.kind)) es) none in
-    by_use (is_free e.kind) (keeps-unlocked t h es unlocked parts.1) (by_kind e.kind parts.0)
-  where
-    by_use : (free : Bool) → keeps_fixed t (λ (e : Entry). not (is_named h e.kind)) (used_blocks es) ≡ true → (not (is_fixed t e.kind) || not (is_named h e.kind)) ≡ true
-        → keeps_fixed t (λ (e : Entry). not (is_named h e.kind)) (cond (not free) (e ∷ used_blocks es) (used_blocks es)) ≡ true
-    by_use true rest here = rest
-    by_use false rest here = and_from _ _ here rest
-
-    by_kind : (k : Kind) → not (is_pointer_block h k) ≡ true → (not (is_fixed t k) || not (is_named h k)) ≡ true
-    by_kind Free other = refl
-    by_kind Master other = refl
-    by_kind (Ptr p) other = other
-    by_kind (Rel g) other = elim (eqb g h) as (λ b. eqb g h ≡ b → (not (is_locked t g) || not b) ≡ true) [
-      | true ↦ λ same. ap (λ b. not b || false) (ap (is_locked t) (eqb-true g h same) ∙ unlocked)
-      | false ↦ λ _. or_right (not (is_locked t g)) true refl
-    ] refl
 
 -- ---- the first candidate becomes empty
 

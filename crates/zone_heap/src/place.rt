@@ -1,5 +1,13 @@
 //! New blocks, each where its definition places it.
 
+ghost use Rattle.std.specs.Prelude.{◌≤◌, MatchResult, ◌<◌, MatchOption};
+ghost use Rattle.mac_base.specs.HeadKind.{max_size};
+ghost use Rattle.mac_base.specs.Sound.{Sound};
+ghost use Rattle.mac_base.specs.declared.request.Request.TheVariants.{NewBlock, NewEmpty, NewPointer, NewMaster, Reserve};
+ghost use Rattle.linked_zone.specs.Loans.{KeepsLoans};
+ghost use Rattle.zone_heap.specs.Attempts.{Attempts, IsServed, IsRefused, SoundZone};
+ghost use Rattle.zone_heap.specs.Room.{IsCleared, IsOpened, LacksRoom};
+
 use crate::shortage::Shortage;
 use crate::zone::{Zone, cut};
 use mac_base::handle::{Handle, Ptr};
@@ -9,13 +17,6 @@ use zone_gaps::{squeeze_down, squeeze_up};
 use zone_index::IndexedZone;
 
 impl Zone {
-    ghost use Rattle.std.specs.Prelude.{◌≤◌, MatchResult};
-    ghost use Rattle.mac_base.specs.HeadKind.{max_size};
-    ghost use Rattle.mac_base.specs.Sound.{Sound};
-    ghost use Rattle.mac_base.specs.declared.request.Request.TheVariants.{NewBlock, NewEmpty, NewPointer, NewMaster, Reserve};
-    ghost use Rattle.linked_zone.specs.Loans.{KeepsLoans};
-    ghost use Rattle.zone_heap.specs.Attempts.{Attempts, IsServed, IsRefused};
-
     /// Allocates a relocatable block of `length` bytes, all of them zero, and gives a handle to it. The block takes the
     /// lowest free block that is large enough, or else the lowest gap with room, whose blocks are moved down to create it.
     pub fn new_block(&mut self, length: u32) -> Result<Handle, Shortage>
@@ -68,13 +69,6 @@ impl Zone {
         reserve(&mut self.pointers, length)
     }
 }
-
-ghost use Rattle.std.specs.Prelude.{◌<◌, ◌≤◌, MatchOption, MatchResult};
-ghost use Rattle.mac_base.specs.HeadKind.{max_size};
-ghost use Rattle.mac_base.specs.declared.request.Request.TheVariants.{NewBlock, NewEmpty, NewPointer, NewMaster, Reserve};
-ghost use Rattle.linked_zone.specs.Loans.{KeepsLoans};
-ghost use Rattle.zone_heap.specs.Attempts.{Attempts, IsServed, IsRefused, SoundZone};
-ghost use Rattle.zone_heap.specs.Room.{IsCleared, IsOpened, LacksRoom};
 
 /// A new handle with `length` bytes of zero: in the lowest free block that has room, or else in the lowest gap with room,
 /// arranged down.

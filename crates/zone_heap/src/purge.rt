@@ -1,17 +1,29 @@
 //! Purging: handles that may be purged become empty, in order of address, until it is enough.
 
-impl Zone {
-    ghost use Rattle.std.specs.Prelude.{◌≡◌, nat_le, IsTrue, IsFalse};
-    ghost use Rattle.mac_base.specs.Heap.{all_purged};
-    ghost use Rattle.mac_base.specs.Purging.{purged, purged_for};
-    ghost use Rattle.mac_base.specs.Request.{fits};
-    ghost use Rattle.mac_base.specs.Sound.{Sound};
-    ghost use Rattle.mac_base.specs.ZoneMap.{largest_free};
-    ghost use Rattle.mac_base.specs.ZoneState.{with_heap};
-    ghost use Rattle.linked_zone.specs.Loans.{KeepsLoans};
-    ghost use Rattle.zone_heap.specs.Attempts.{CanAsk};
-    ghost use Rattle.zone_heap.specs.Purge.{is_protected};
+ghost use Rattle.std.specs.Prelude.{◌≡◌, nat_le, IsTrue, IsFalse, []};
+ghost use Rattle.std.specs.List.{slice_get};
+ghost use Rattle.mac_base.specs.Heap.{all_purged};
+ghost use Rattle.mac_base.specs.Purging.{purged, purged_for};
+ghost use Rattle.mac_base.specs.Request.{fits, candidates, candidates_in};
+ghost use Rattle.mac_base.specs.Sound.{Sound};
+ghost use Rattle.mac_base.specs.ZoneMap.{largest_free};
+ghost use Rattle.mac_base.specs.ZoneState.{with_heap};
+ghost use Rattle.linked_zone.specs.Loans.{KeepsLoans};
+ghost use Rattle.zone_heap.specs.Attempts.{CanAsk, SoundZone};
+ghost use Rattle.zone_heap.specs.Purge.{is_protected, BlocksAt, unprotected};
 
+use crate::fitting::fits;
+use crate::size::stays;
+use crate::zone::{Zone, empty};
+use linked_zone::LinkedZone;
+use mac_base::block::Kind;
+use mac_base::handle::Handle;
+use mac_base::request::Request;
+use mac_base::size::ZONE_HEADER;
+use zone_gaps::{gap_behind, zone_end};
+use zone_index::IndexedZone;
+
+impl Zone {
     /// Purges for a request that doesn't fit: relocatable blocks that are unlocked, purgeable and not protected are purged, in
     /// order of address, until it does. No more are purged than that takes, and all where it never does; a purged block's
     /// handle is empty. Gives whether the request fits then (Inside Macintosh: Memory, "Freeing Memory").
@@ -47,28 +59,6 @@ impl Zone {
         purge_all(&mut self.pointers);
     }
 }
-
-ghost use Rattle.std.specs.Prelude.{◌≡◌, nat_le, IsTrue, []};
-ghost use Rattle.std.specs.List.{slice_get};
-ghost use Rattle.mac_base.specs.Heap.{all_purged};
-ghost use Rattle.mac_base.specs.Purging.{purged, purged_for};
-ghost use Rattle.mac_base.specs.Request.{candidates, candidates_in, fits};
-ghost use Rattle.mac_base.specs.ZoneMap.{largest_free};
-ghost use Rattle.mac_base.specs.ZoneState.{with_heap};
-ghost use Rattle.linked_zone.specs.Loans.{KeepsLoans};
-ghost use Rattle.zone_heap.specs.Attempts.{CanAsk, SoundZone};
-ghost use Rattle.zone_heap.specs.Purge.{BlocksAt, is_protected, unprotected};
-
-use crate::fitting::fits;
-use crate::size::stays;
-use crate::zone::{Zone, empty};
-use linked_zone::LinkedZone;
-use mac_base::block::Kind;
-use mac_base::handle::Handle;
-use mac_base::request::Request;
-use mac_base::size::ZONE_HEADER;
-use zone_gaps::{gap_behind, zone_end};
-use zone_index::IndexedZone;
 
 /// Empties as few handles that may be purged as serve a request, in order of address, and all where none do. Gives whether
 /// the request fits then.

@@ -4,8 +4,8 @@ ghost use Rattle.std.specs.Prelude.{◌≡◌, ◌<◌, IsFalse, IsTrue, MatchRe
 ghost use Rattle.mac_base.specs.Gap.{gaps, some_gap_has};
 ghost use Rattle.mac_base.specs.HandleTable.{is_handle, is_locked};
 ghost use Rattle.mac_base.specs.declared.request.Request.TheVariants.{Replace};
-ghost use Rattle.linked_zone.specs.Loans.{KeepsLoans};
 ghost use Rattle.mac_base.specs.ZoneMap.{released};
+ghost use Rattle.linked_zone.specs.Loans.{KeepsLoans};
 ghost use Rattle.zone_heap.specs.Attempts.{CanAsk, IsRefused, IsServed, SoundZone};
 
 use crate::fitting::some_gap_has;
@@ -60,11 +60,6 @@ pub(crate) fn has_room(zone: &mut IndexedZone, needed: u32, handle: Handle) -> b
 }
 
 impl Zone {
-    ghost use Rattle.std.specs.Prelude.{MatchResult};
-    ghost use Rattle.mac_base.specs.declared.request.Request.TheVariants.{Replace};
-    ghost use Rattle.linked_zone.specs.Loans.{KeepsLoans};
-    ghost use Rattle.zone_heap.specs.Attempts.{CanAsk, IsRefused, IsServed};
-
     /// Gives an unlocked handle a new block of `length` bytes, all of them zero, in place of the block that it has, if it
     /// has one (ReallocateHandle; Inside Macintosh: Memory, Managing Relocatable Blocks). The old block counts as free, so
     /// that the new one may take its bytes: the new block takes the lowest free block that is large enough, or else the

@@ -172,11 +172,6 @@ fn resize_elsewhere(zone: &mut IndexedZone, handle: Handle, length: u32) -> Resu
 }
 
 impl Zone {
-    ghost use Rattle.std.specs.Prelude.{MatchResult};
-    ghost use Rattle.mac_base.specs.declared.request.Request.TheVariants.{Resize};
-    ghost use Rattle.linked_zone.specs.Loans.{KeepsLoans};
-    ghost use Rattle.zone_heap.specs.Attempts.{CanAsk, IsRefused, IsServed};
-
     /// Gives the block of a handle or a pointer another size, `length` bytes (SetHandleSize, SetPtrSize; Inside Macintosh:
     /// Memory, Changing the Sizes of Relocatable and Nonrelocatable Blocks). Where it fits in its place it stays there.
     /// Else the other blocks of its gap make way for it: those of its own gap for a block that may move, and those of the

@@ -20,19 +20,19 @@ bytes-weights t [] = refl
 bytes-weights t (e ∷ es) = ap (λ n. e.size + n) (bytes-weights t es)
 
 -- a test decides whether a block begins there
-abbrev within : ℕ → ℕ → ℕ → Bool
+abbrev pub within : ℕ → ℕ → ℕ → Bool
 within low high at = nat_le low at && nat_lt at high
 
-within-out : (low high at : ℕ) → high ≤ at → within low high at ≡ false
+pub within-out : (low high at : ℕ) → high ≤ at → within low high at ≡ false
 within-out low high at above = grind (arith, nat_tests)
 
-within-low : (low high at : ℕ) → at < low → within low high at ≡ false
+pub within-low : (low high at : ℕ) → at < low → within low high at ≡ false
 within-low low high at below = grind (arith, nat_tests)
 
-within-in : (low high at : ℕ) → low ≤ at → at < high → within low high at ≡ true
+pub within-in : (low high at : ℕ) → low ≤ at → at < high → within low high at ≡ true
 within-in low high at above below = grind (arith, nat_tests)
 
-begun-test : (low high at : ℕ) (w : Weight) (ws : List Weight) (b : Bool) → within low high at ≡ b
+pub begun-test : (low high at : ℕ) (w : Weight) (ws : List Weight) (b : Bool) → within low high at ≡ b
     → begun low high at (w ∷ ws) ≡ cond b (w ∷ begun low high (at + w.bytes) ws) (begun low high (at + w.bytes) ws)
 begun-test low high at w ws b is = ap (λ c. cond c (w ∷ begun low high (at + w.bytes) ws) (begun low high (at + w.bytes) ws)) is
 

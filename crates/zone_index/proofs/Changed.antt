@@ -158,7 +158,7 @@ module _ (z : ZoneState) where
         ends = inr (omega arith);
       }
 
-  pub held-renews : {x size n at : ℕ} (can : CanHold z x size n) → at ≡ address_behind z.shape can.before → Renews z (held_there z can).heap at (at + size)
+  abbrev pub held-renews : {x size n at : ℕ} (can : CanHold z x size n) → at ≡ address_behind z.shape can.before → Renews z (held_there z can).heap at (at + size)
   held-renews {x} {size} {n} {at} can place =
       let bytes = resized n (bytes_of z.heap.table x) in
       let over = total_size-free_block (can.here.size - size) in
@@ -199,7 +199,7 @@ module _ (z : ZoneState) where
         ends = inr (omega arith);
       }
 
-  pub extended-renews : {end : ℕ} → end ≡ address_behind z.shape z.heap.map → Renews z (extended z).heap end end
+  abbrev pub extended-renews : {end : ℕ} → end ≡ address_behind z.shape z.heap.map → Renews z (extended z).heap end end
   extended-renews {end} place = record {
     front = z.heap.map;
     was = [];

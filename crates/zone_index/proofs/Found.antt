@@ -1,35 +1,30 @@
--- The search for the lowest gap with room: bounds below it are lower.
-use Rattle.std.proofs.Common.{cond, ◌≡◌, ℕ, ◌+◌, ◌*◌, ◌<◌, ◌≤◌, Bool, true, false, [], ◌∷◌, ◌++◌, refl, ap, sym, ◌∙◌, arith, Option, Some, None, List, length, set, MatchOption}
-use Rattle.std.specs.Prelude.{IfNone, IfSome, IsTrue, nat_lt, slice_index}
-use Rattle.std.proofs.lemmas.Bool.{and_parts, false_from_ne_true, le-leb, leb-true}
+-- The lowest gap with room is that of the block with which some gap has room.
+use Rattle.std.proofs.Common.{cond, not, ◌≡◌, ℕ, ◌+◌, ◌<◌, ◌≤◌, Bool, true, false, [], ◌∷◌, ◌++◌, refl, ap, sym, ◌∙◌, subst, append_assoc, arith, Option, Some, None, MatchOption}
+use Rattle.std.specs.Prelude.{IfNone, IfSome, IsTrue, max, nat_le, nat_lt}
+use Rattle.std.proofs.lemmas.Bool.{and_from, and_parts, false_from_ne_true, le-leb, leb-true, not-true}
 use Rattle.std.proofs.lemmas.Bool.Decides.{nat_tests}
-use Rattle.std.proofs.lemmas.List.{get_or_past, get_or-set_other, get_or-set_same}
-use Rattle.std.proofs.Common.{length-set}
+use Rattle.std.proofs.lemmas.List.Folds.{list_all-append}
 use Rattle.mac_base.specs.declared.block.Entry.{Entry}
-use Rattle.mac_base.specs.Gap.{Gap, gaps, lowest_gap, room}
+use Rattle.mac_base.specs.Gap.{Gap, gaps, is_fixed, lowest_gap, room}
 use Rattle.mac_base.specs.HandleTable.{HandleTable}
-use Rattle.mac_base.specs.HeadKind.{Shape}
-use Rattle.mac_base.specs.Suits.{is_block_size}
-use Rattle.mac_base.specs.ZoneMap.{ZoneMap, address_behind, free_bytes, total_size}
+use Rattle.mac_base.specs.Reports.{largest_room}
+use Rattle.mac_base.specs.ZoneMap.{ZoneMap, address_behind, free_bytes, free_size, total_size}
 use Rattle.mac_base.specs.ZoneState.{ZoneState}
 use Rattle.zone_laws.proofs.Arranging.{free_bytes-all_used}
 use Rattle.zone_laws.proofs.GapAppend.{free_bytes-append}
-use Rattle.zone_laws.proofs.GapApart.{sizes_possible}
-use Rattle.zone_laws.proofs.GapParts.{first_gap, first_gap-before, first_gap-IsGap, gaps-first, later_gaps, lowest_gap-is}
+use Rattle.zone_laws.proofs.GapParts.{first_gap, gaps-first, later_gaps, lowest_gap-is}
 use Rattle.zone_laws.proofs.Maps.{total_size-append}
-use Rattle.place_numbers.specs.Numbers.{FirstAtLeast}
-use Rattle.linked_zone.specs.Fit.{HasSizes}
 use Rattle.linked_zone.specs.Places.{FirstFree, SplitAt, none_free}
-use Rattle.zone_index.specs.Marks.{place}
-use Rattle.zone_index.specs.Runs.{RestAt, none_fixed, begins_fixed, ends_fixed}
-use Rattle.zone_index.proofs.Searching.{place-back}
-use Rattle.zone_index.proofs.Sizes.{first_bytes}
-use Rattle.zone_index.specs.Gaps.{GapAt, GapWith, IsLowestGap}
-use Rattle.zone_index.specs.Bounds.{AreBounds}
-use Rattle.zone_index.proofs.Begins.{split_gap}
-use Rattle.zone_index.proofs.Lowering.{bounds-but}
-use Rattle.zone_index.proofs.Lowest.{FewBelow, first_run-is, later-found, none-bounded}
+use Rattle.zone_index.specs.declared.weight.Weight.{Weight}
+use Rattle.zone_index.specs.Gaps.{IsLowestGap}
+use Rattle.zone_index.specs.Rooms.{Reaches}
+use Rattle.zone_index.specs.Runs.{FrontAt, RestAt, none_fixed, begins_fixed, ends_fixed}
+use Rattle.zone_index.specs.Weights.{most, weights}
+use Rattle.zone_index.proofs.Fronts.{front_split, split_entry}
+use Rattle.zone_index.proofs.Lowest.{FewBelow, first_run-is, later-found}
+use Rattle.zone_index.proofs.Most.{most-gaps}
 use Rattle.zone_index.proofs.Rooms.{free-among, none-among}
+use Rattle.zone_index.proofs.Splits.{FirstRun, LastRun, first_run, last_run, run-free}
 
 -- where fewer bytes are free in all no gap has room
 pub none-lowest : (t : HandleTable) (k : ℕ) (m : ZoneMap) → free_bytes m < k → lowest_gap k (gaps t m) ≡ None
@@ -44,143 +39,222 @@ none-lowest t k m few = by_found (lowest_gap k (gaps t m)) refl
         let fits = is.1 in
         absurd (omega arith)
 
--- no gap behind the block b, which ends at an address, and below another has room for k bytes
-abbrev pub FewBehind : HandleTable → ℕ → ℕ → ℕ → Entry → ZoneMap → Type 0
-FewBehind t k at end b m = (before blocks behind : ZoneMap) → m ≡ before ++ (blocks ++ behind) → none_fixed t blocks ≡ true → begins_fixed t behind ≡ true → ends_fixed t (b ∷ before) ≡ true
-    → at + total_size before < end → free_bytes blocks < k
+-- the most free bytes that one gap has of some blocks, where r lie before them
+abbrev most_free : HandleTable → ℕ → ZoneMap → ℕ
+most_free t r m = most (λ (w : Weight). w.free) r (weights t m)
 
-few-below : (t : HandleTable) (s : Shape) (k at end : ℕ) (b : Entry) (bs rest : ZoneMap) → sizes_possible s (bs ++ rest) ≡ true → at + total_size bs ≡ end → FewBehind t k at end b (bs ++ rest) → FewBelow t k (b ∷ bs) rest
-few-below t s k at end b [] rest sizes is few = tt
-few-below t s k at end b (c ∷ bs) rest sizes is few =
-    let some = first_bytes s c (bs ++ rest) sizes in
-    let gap = first_gap-IsGap t ((c ∷ bs) ++ rest) in (
-      (λ fixed. few [] (first_gap t ((c ∷ bs) ++ rest)).blocks (first_gap t ((c ∷ bs) ++ rest)).behind
-          (gap.parts ∙ ap (λ m. (m ++ (first_gap t ((c ∷ bs) ++ rest)).blocks) ++ (first_gap t ((c ∷ bs) ++ rest)).behind) (first_gap-before t ((c ∷ bs) ++ rest))) gap.moves gap.above fixed (omega arith)),
-      few-below t s k (at + c.size) end c bs rest (and_parts (is_block_size s c.size) _ sizes).1 (omega arith)
-          (λ before blocks behind parts moves above below low. few (c ∷ before) blocks behind (ap (λ m. c ∷ m) parts) moves above below (omega arith)),
-    )
+module _ (t : HandleTable) where
+  -- with one more block in front
+  fixed_first : (r : ℕ) (e : Entry) (es : ZoneMap) → is_fixed t e.kind ≡ true → most_free t r (e ∷ es) ≡ max r (most_free t 0 es)
+  fixed_first r e es is = ap (λ c. cond c (max r (most_free t 0 es)) (most_free t (r + free_size e) es)) is
 
--- no gap that begins before an address has room for k bytes
-abbrev pub FewBefore : HandleTable → ℕ → ℕ → ZoneMap → Type 0
-FewBefore t k end m = (before blocks behind : ZoneMap) → m ≡ before ++ (blocks ++ behind) → none_fixed t blocks ≡ true → begins_fixed t behind ≡ true → ends_fixed t before ≡ true → total_size before < end → free_bytes blocks < k
+  loose_first : (r : ℕ) (e : Entry) (es : ZoneMap) → is_fixed t e.kind ≡ false → most_free t r (e ∷ es) ≡ most_free t (r + free_size e) es
+  loose_first r e es is = ap (λ c. cond c (max r (most_free t 0 es)) (most_free t (r + free_size e) es)) is
 
--- then the one that begins there is the lowest, where it has room
-lowest-begins : (t : HandleTable) (s : Shape) (k : ℕ) (before run rest : ZoneMap) → sizes_possible s (before ++ (run ++ rest)) ≡ true → ends_fixed t before ≡ true → none_fixed t run ≡ true → begins_fixed t rest ≡ true
-    → k ≤ free_bytes run → FewBefore t k (total_size before) (before ++ (run ++ rest)) → lowest_gap k (gaps t (before ++ (run ++ rest))) ≡ Some (record { before = before; blocks = run; behind = rest })
-lowest-begins t s k [] run rest sizes ends moves above fits few =
-    ap (lowest_gap k) (gaps-first t (run ++ rest)) ∙ ap (λ g. lowest_gap k (g ∷ later_gaps t (run ++ rest))) (first_run-is t run rest moves above)
-    ∙ ap (λ c. cond c (Some (record { before = []; blocks = run; behind = rest })) (lowest_gap k (later_gaps t (run ++ rest)))) (le-leb k (free_bytes run) fits)
-lowest-begins t s k (b ∷ bs) run rest sizes ends moves above fits few =
-    let some = first_bytes s b (bs ++ (run ++ rest)) sizes in
-    let m = (b ∷ bs) ++ (run ++ rest) in
-    let gap = first_gap-IsGap t ((b ∷ bs) ++ (run ++ rest)) in
-    let low = few [] (first_gap t ((b ∷ bs) ++ (run ++ rest))).blocks (first_gap t ((b ∷ bs) ++ (run ++ rest))).behind
-    (gap.parts ∙ ap (λ m. (m ++ (first_gap t ((b ∷ bs) ++ (run ++ rest))).blocks) ++ (first_gap t ((b ∷ bs) ++ (run ++ rest))).behind) (first_gap-before t ((b ∷ bs) ++ (run ++ rest)))) gap.moves gap.above refl (omega arith) in
-    ap (lowest_gap k) (gaps-first t ((b ∷ bs) ++ (run ++ rest)))
-    ∙ ap (λ c. cond c (Some (first_gap t ((b ∷ bs) ++ (run ++ rest)))) (lowest_gap k (later_gaps t ((b ∷ bs) ++ (run ++ rest)))))
-    (false_from_ne_true _ (λ h. let le = leb-true k (room (first_gap t ((b ∷ bs) ++ (run ++ rest)))) h in omega arith))
-    ∙ later-found t k b bs run rest ends moves above fits
-    (few-below t s k b.size (b.size + total_size bs) b bs (run ++ rest) (and_parts (is_block_size s b.size) _ sizes).1 refl
-    (λ before blocks behind parts moves above below low. few (b ∷ before) blocks behind (ap (λ m. b ∷ m) parts) moves above below (omega arith)))
+  most-least : (r : ℕ) (m : ZoneMap) → r ≤ most_free t r m
+  most-least r [] = omega arith
+  most-least r (e ∷ es) = elim (is_fixed t e.kind) as (λ b. is_fixed t e.kind ≡ b → r ≤ most_free t r (e ∷ es)) [
+    | true ↦ λ is. let first = fixed_first r e es is in omega arith
+    | false ↦ λ is. let first = loose_first r e es is in let rest = most-least (r + free_size e) es in omega arith
+  ] refl
 
--- where the gap that begins at a place has no more than n free bytes, its bound may be n
-pub bounds-lowered : (z : ZoneState) → HasSizes z → (bounds : List ℕ) → AreBounds z bounds → (p n : ℕ) → p < length bounds → ((gap : GapAt z (z.shape.base + 4 * p)) → free_bytes gap.rest.blocks ≤ n) → AreBounds z (set bounds p n)
-bounds-lowered z sizes bounds kept p n inside few =
-    bounds-but z sizes bounds (set bounds p n) kept (length-set bounds p n) p (λ j other. let e = get_or-set_other bounds p j n 0 other in omega (arith, e))
-    (λ gap. let most = few gap in let e = get_or-set_same bounds p n 0 inside in omega (arith, most, e))
+  -- of the first blocks it is no more
+  most-prefix : (r : ℕ) (a b : ZoneMap) → most_free t r a ≤ most_free t r (a ++ b)
+  most-prefix r [] b = most-least r b
+  most-prefix r (e ∷ es) b = elim (is_fixed t e.kind) as (λ f. is_fixed t e.kind ≡ f → most_free t r (e ∷ es) ≤ most_free t r (e ∷ (es ++ b))) [
+    | true ↦ λ is. let one = fixed_first r e es is in let two = fixed_first r e (es ++ b) is in let rest = most-prefix 0 es b in omega arith
+    | false ↦ λ is. let one = loose_first r e es is in let two = loose_first r e (es ++ b) is in let rest = most-prefix (r + free_size e) es b in omega arith
+  ] refl
 
--- The bounds below a place are lower than k.
-pub record Searched (z : ZoneState) (bounds : List ℕ) (k from : ℕ) : Type 0 where
-  pub kept : AreBounds z bounds
-  pub below : (j : ℕ) → j < from → slice_index bounds j < k
+  -- a run has no more
+  run-most : (r : ℕ) (run behind : ZoneMap) → none_fixed t run ≡ true → r + free_bytes run ≤ most_free t r (run ++ behind)
+  run-most r [] behind moves = let least = most-least r behind in omega arith
+  run-most r (e ∷ es) behind moves =
+      let both = and_parts (not (is_fixed t e.kind)) (none_fixed t es) moves in
+      let first = loose_first r e (es ++ behind) (not-true _ both.0) in
+      let rest = run-most (r + free_size e) es behind both.1 in
+      omega arith
 
-module _ (z : ZoneState) (sizes : HasSizes z) (k : ℕ) (some : 0 < k) (bounds : List ℕ) where
-  module _ (from : ℕ) (s : Searched z bounds k from) where
-    -- where no more bound is as high no gap has room
-    pub searched-none : ((j : ℕ) → from ≤ j → j < length bounds → slice_index bounds j < k) → lowest_gap k (gaps z.heap.table z.heap.map) ≡ None
-    searched-none none = none-bounded z bounds k s.kept (λ j. by_place j (nat_lt j from) refl (nat_lt j (length bounds)) refl)
-      where
-        by_place : (j : ℕ) (low : Bool) → nat_lt j from ≡ low → (inside : Bool) → nat_lt j (length bounds) ≡ inside → slice_index bounds j < k
-        by_place j true low inside in_is = s.below j (let is : j < from = grind (arith, nat_tests) in is)
-        by_place j false low true in_is = none j (let is : from ≤ j = grind (arith, nat_tests) in is) (let is : j < length bounds = grind (arith, nat_tests) in is)
-        by_place j false low false in_is = let past : length bounds ≤ j = grind (arith, nat_tests) in let zero = get_or_past bounds j 0 past in omega (arith, zero, some)
+  -- nor has any gap
+  gap-most : (r : ℕ) (before run behind : ZoneMap) → none_fixed t run ≡ true → ends_fixed t before ≡ true → free_bytes run ≤ most_free t r (before ++ (run ++ behind))
+  gap-most r [] run behind moves ends = let most = run-most r run behind moves in omega arith
+  gap-most r (e ∷ []) run behind moves ends = let first = fixed_first r e (run ++ behind) ends in let rest = run-most 0 run behind moves in omega arith
+  gap-most r (e ∷ f ∷ fs) run behind moves ends = elim (is_fixed t e.kind) as (λ b. is_fixed t e.kind ≡ b → free_bytes run ≤ most_free t r (e ∷ f ∷ (fs ++ (run ++ behind)))) [
+    | true ↦ λ is. let first = fixed_first r e (f ∷ (fs ++ (run ++ behind))) is in let rest = gap-most 0 (f ∷ fs) run behind moves ends in omega arith
+    | false ↦ λ is. let first = loose_first r e (f ∷ (fs ++ (run ++ behind))) is in let rest = gap-most (r + free_size e) (f ∷ fs) run behind moves ends in omega arith
+  ] refl
 
-    module _ (p : ℕ) (first : FirstAtLeast bounds k from p) where
-      -- the bounds below the next are lower
-      pub below-next : (j : ℕ) → j < p → slice_index bounds j < k
-      below-next j low = elim (nat_lt j from) as (λ b. nat_lt j from ≡ b → slice_index bounds j < k) [
-        | true ↦ λ is. s.below j (let under : j < from = grind (arith, nat_tests) in under)
-        | false ↦ λ is. first.first j (let over : from ≤ j = grind (arith, nat_tests) in over) low
-      ] refl
+  -- the first of some gaps that end with a fixed block
+  first-fixed : (r : ℕ) (c : Entry) (bs rest : ZoneMap) → is_fixed t c.kind ≡ true → r + room (first_gap t ((c ∷ bs) ++ rest)) ≤ most_free t r (c ∷ bs)
+  first-fixed r c bs rest is =
+      let none : room (first_gap t ((c ∷ bs) ++ rest)) ≡ 0 = ap (λ f. let g = first_gap t (bs ++ rest) in room (cond f (record { before = []; blocks = []; behind = c ∷ (bs ++ rest) }) (record g { blocks = c ∷ g.blocks }))) is in
+      let first = fixed_first r c bs is in
+      omega arith
 
-      -- the gap that begins there is the lowest, where it has room
-      module _ (w : GapWith z (z.shape.base + 4 * p) k) where
-        abbrev rest : RestAt z (z.shape.base + 4 * p)
-        rest = w.gap.rest
+  first-most : (r : ℕ) (c : Entry) (bs rest : ZoneMap) → ends_fixed t (c ∷ bs) ≡ true → r + room (first_gap t ((c ∷ bs) ++ rest)) ≤ most_free t r (c ∷ bs)
+  first-most r c [] rest ends = first-fixed r c [] rest ends
+  first-most r c (d ∷ ds) rest ends = elim (is_fixed t c.kind) as (λ b. is_fixed t c.kind ≡ b → r + room (first_gap t ((c ∷ d ∷ ds) ++ rest)) ≤ most_free t r (c ∷ d ∷ ds)) [
+    | true ↦ λ is. first-fixed r c (d ∷ ds) rest is
+    | false ↦ λ is.
+        let all : room (first_gap t ((c ∷ d ∷ ds) ++ rest)) ≡ free_size c + room (first_gap t ((d ∷ ds) ++ rest)) = ap (λ f. let g = first_gap t ((d ∷ ds) ++ rest) in room (cond f (record { before = []; blocks = []; behind = c ∷ ((d ∷ ds) ++ rest) }) (record g { blocks = c ∷ g.blocks }))) is in
+        let first = loose_first r c (d ∷ ds) is in
+        let later = first-most (r + free_size c) d ds rest ends in
+        omega arith
+  ] refl
 
-        few_before : FewBefore z.heap.table k (total_size rest.before) (rest.before ++ (rest.blocks ++ rest.behind))
-        few_before before blocks behind parts moves above below low =
-            let r : RestAt z (address_behind z.shape before) = record { before = before; blocks = blocks; behind = behind; map = rest.map ∙ parts; place = refl; moves = moves; above = above } in
-            let most = s.kept.bounded (address_behind z.shape before) r below in
-            let there = place-back z (address_behind z.shape before) sizes (record { before = before; behind = blocks ++ behind; map = rest.map ∙ parts; place = refl }) in
-            let here = rest.place in
-            let few = below-next (place z.shape (address_behind z.shape before)) (omega (arith, there, here, low)) in
-            omega (arith, most, few)
+  -- none of them has room for k bytes where the most is less
+  few-below : (k r : ℕ) (b : Entry) (bs rest : ZoneMap) → ends_fixed t (b ∷ bs) ≡ true → most_free t r (b ∷ bs) < k → FewBelow t k (b ∷ bs) rest
+  few-below k r b [] rest ends few = tt
+  few-below k r b (c ∷ cs) rest ends few = elim (is_fixed t b.kind) as (λ f. is_fixed t b.kind ≡ f → FewBelow t k (b ∷ c ∷ cs) rest) [
+    | true ↦ λ is.
+        let first = fixed_first r b (c ∷ cs) is in
+        let one = first-most 0 c cs rest ends in
+        ((λ _. omega arith), few-below k 0 c cs rest ends (omega arith))
+    | false ↦ λ is.
+        let first = loose_first r b (c ∷ cs) is in
+        ((λ fixed. absurd (cc (sym is ∙ fixed))), few-below k (r + free_size b) c cs rest ends (omega arith))
+  ] refl
 
-        lowest_is : lowest_gap k (gaps z.heap.table z.heap.map) ≡ Some (record { before = rest.before; blocks = rest.blocks; behind = rest.behind })
-        lowest_is = ap (λ m. lowest_gap k (gaps z.heap.table m)) rest.map
-            ∙ lowest-begins z.heap.table z.shape k rest.before rest.blocks rest.behind (ap (sizes_possible z.shape) (sym rest.map) ∙ sizes) w.gap.below rest.moves rest.above w.room few_before
+  -- then the gap behind them is the lowest that has
+  lowest-begins : (k : ℕ) (before run rest : ZoneMap) → ends_fixed t before ≡ true → none_fixed t run ≡ true → begins_fixed t rest ≡ true → k ≤ free_bytes run → most_free t 0 before < k
+      → lowest_gap k (gaps t (before ++ (run ++ rest))) ≡ Some (record { before = before; blocks = run; behind = rest })
+  lowest-begins k [] run rest ends moves above fits few =
+      ap (lowest_gap k) (gaps-first t (run ++ rest)) ∙ ap (λ g. lowest_gap k (g ∷ later_gaps t (run ++ rest))) (first_run-is t run rest moves above)
+      ∙ ap (λ c. cond c (Some (record { before = []; blocks = run; behind = rest })) (lowest_gap k (later_gaps t (run ++ rest)))) (le-leb k (free_bytes run) fits)
+  lowest-begins k (b ∷ bs) run rest ends moves above fits few =
+      let low = first-most 0 b bs (run ++ rest) ends in
+      ap (lowest_gap k) (gaps-first t ((b ∷ bs) ++ (run ++ rest)))
+      ∙ ap (λ c. cond c (Some (first_gap t ((b ∷ bs) ++ (run ++ rest)))) (lowest_gap k (later_gaps t ((b ∷ bs) ++ (run ++ rest)))))
+      (false_from_ne_true _ (λ h. let le = leb-true k (room (first_gap t ((b ∷ bs) ++ (run ++ rest)))) h in omega arith))
+      ∙ later-found t k b bs run rest ends moves above fits (few-below k 0 b bs (run ++ rest) ends few)
 
-        abbrev split : SplitAt z (z.shape.base + 4 * p)
-        split = split_gap z (z.shape.base + 4 * p) w.gap
+  -- one more block behind a run adds no more than its free bytes to the run's
+  open-most : (r : ℕ) (run : ZoneMap) (here : Entry) → none_fixed t run ≡ true → most_free t r (run ++ here ∷ []) ≤ r + free_bytes run + free_size here
+  open-most r [] here moves = by_fixed (is_fixed t here.kind) refl
+    where
+      by_fixed : (b : Bool) → is_fixed t here.kind ≡ b → most_free t r (here ∷ []) ≤ r + 0 + free_size here
+      by_fixed true is = let first = fixed_first r here [] is in omega arith
+      by_fixed false is = let first = loose_first r here [] is in omega arith
+  open-most r (e ∷ es) here moves =
+      let both = and_parts (not (is_fixed t e.kind)) (none_fixed t es) moves in
+      let first = loose_first r e (es ++ here ∷ []) (not-true _ both.0) in
+      let rest = open-most (r + free_size e) es here both.1 in
+      omega arith
 
-        first_free : (at : ℕ) → FirstFree (rest.blocks ++ rest.behind) (z.shape.base + 4 * p) at → IsLowestGap z k at
-        first_free at f =
-            let low : total_size f.passed < total_size rest.blocks = elim (nat_lt (total_size f.passed) (total_size rest.blocks)) as (λ b. nat_lt (total_size f.passed) (total_size rest.blocks) ≡ b → total_size f.passed < total_size rest.blocks) [
-              | true ↦ λ is. grind (arith, nat_tests)
-              | false ↦ λ is.
-                  let high : total_size rest.blocks ≤ total_size f.passed = grind (arith, nat_tests) in
-                  let none = none-among rest.blocks rest.behind f.passed f.size f.behind f.splits f.used high in
-                  absurd (omega (arith, none, w.room, some))
-            ] refl in
-            let among = free-among rest.blocks rest.behind f.passed f.size f.behind f.splits low in
-            record {
-              gap = record { before = rest.before; blocks = rest.blocks; behind = rest.behind };
-              lowest = lowest_is;
-              first = record {
-                used = f.passed;
-                size = f.size;
-                rest = among.rest;
-                blocks = among.parts;
-                none = f.used;
-                place = (let there = f.place in let here = rest.place in let all = total_size-append rest.before f.passed in omega arith);
-              };
-            }
+  closed-most : (r : ℕ) (b : Entry) (bs run : ZoneMap) (here : Entry) → ends_fixed t (b ∷ bs) ≡ true → none_fixed t run ≡ true
+      → most_free t r (((b ∷ bs) ++ run) ++ here ∷ []) ≤ max (most_free t r ((b ∷ bs) ++ run)) (free_bytes run + free_size here)
+  closed-most r b [] run here ends moves =
+      let one = fixed_first r b (run ++ here ∷ []) ends in
+      let two = fixed_first r b run ends in
+      let added = open-most 0 run here moves in
+      omega arith
+  closed-most r b (c ∷ cs) run here ends moves = elim (is_fixed t b.kind) as (λ f. is_fixed t b.kind ≡ f → most_free t r (b ∷ (((c ∷ cs) ++ run) ++ here ∷ [])) ≤ max (most_free t r (b ∷ ((c ∷ cs) ++ run))) (free_bytes run + free_size here)) [
+    | true ↦ λ is.
+        let one = fixed_first r b (((c ∷ cs) ++ run) ++ here ∷ []) is in
+        let two = fixed_first r b ((c ∷ cs) ++ run) is in
+        let rest = closed-most 0 c cs run here ends moves in
+        omega arith
+    | false ↦ λ is.
+        let one = loose_first r b (((c ∷ cs) ++ run) ++ here ∷ []) is in
+        let two = loose_first r b ((c ∷ cs) ++ run) is in
+        let rest = closed-most (r + free_size b) c cs run here ends moves in
+        omega arith
+  ] refl
 
-        none_free_left : none_free (rest.blocks ++ rest.behind) ≡ true → lowest_gap k (gaps z.heap.table z.heap.map) ≡ None
-        none_free_left used =
-            let both = free_bytes-append rest.blocks rest.behind in
-            let none = free_bytes-all_used (rest.blocks ++ rest.behind) used in
-            absurd (omega (arith, both, none, w.room, some))
+  -- so the run has room, where with the block some gap has it for the first time
+  last-room : (k : ℕ) (before run : ZoneMap) (here : Entry) → ends_fixed t before ≡ true → none_fixed t run ≡ true → most_free t 0 (before ++ run) < k → k ≤ most_free t 0 ((before ++ run) ++ here ∷ []) → k ≤ free_bytes run + free_size here
+  last-room k [] run here ends moves few enough = let added = open-most 0 run here moves in omega arith
+  last-room k (b ∷ bs) run here ends moves few enough = let closed = closed-most 0 b bs run here ends moves in omega arith
 
-        pub searched-found : (o : Option ℕ) → IfSome o (λ at. (split : SplitAt z (z.shape.base + 4 * p)) → FirstFree split.behind (z.shape.base + 4 * p) at) → IfNone o ((split : SplitAt z (z.shape.base + 4 * p)) → IsTrue (none_free split.behind))
-            → MatchOption o (lowest_gap k (gaps z.heap.table z.heap.map) ≡ None) (λ at. IsLowestGap z k at)
-        searched-found None next none = none_free_left (none split)
-        searched-found (Some at) next none = first_free at (next split)
+-- no gap has more than the gap with most
+pub gap-within : (z : ZoneState) (start : ℕ) (rest : RestAt z start) → ends_fixed z.heap.table rest.before ≡ true → free_bytes rest.blocks ≤ largest_room z.heap.table z.heap.map
+gap-within z start rest below =
+    let most = gap-most z.heap.table 0 rest.before rest.blocks rest.behind rest.moves below in
+    let whole : most_free z.heap.table 0 z.heap.map ≡ most_free z.heap.table 0 (rest.before ++ (rest.blocks ++ rest.behind)) = ap (most_free z.heap.table 0) rest.map in
+    let all = most-gaps z.heap.table (λ (w : Weight). w.free) free_bytes refl (λ e es. refl) z.heap.map in
+    omega arith
 
-      -- else its bound becomes what it has, and the search goes on behind it
-      pub searched-next : (n : ℕ) → n < k → ((gap : GapAt z (z.shape.base + 4 * p)) → free_bytes gap.rest.blocks ≤ n) → Searched z (set bounds p n) k (p + 1)
-      searched-next n low few = record {
-        kept = bounds-lowered z sizes bounds s.kept p n first.inside.1 few;
-        below = λ j under. elim (nat_lt j p) as (λ b. nat_lt j p ≡ b → slice_index (set bounds p n) j < k) [
-          | true ↦ λ is.
-              let lower : j < p = grind (arith, nat_tests) in
-              let other = get_or-set_other bounds p j n 0 (λ same. absurd (omega (arith, lower, same))) in
-              let old = below-next j lower in
-              omega (arith, other, old)
+module _ (z : ZoneState) (k : ℕ) (some : 0 < k) (at start : ℕ) (r : Reaches z k at) where
+  abbrev t : HandleTable
+  t = z.heap.table
+
+  abbrev last : LastRun t (r.entry).before
+  last = last_run t (r.entry).before
+
+  abbrev first : FirstRun t ((r.entry).here ∷ (r.entry).behind)
+  first = first_run t ((r.entry).here ∷ (r.entry).behind)
+
+  abbrev run : ZoneMap
+  run = last.blocks ++ first.blocks
+
+  parts : z.heap.map ≡ last.before ++ (run ++ first.behind)
+  parts =
+      (r.entry).map ∙ ap (λ m. m ++ ((r.entry).here ∷ (r.entry).behind)) last.parts ∙ ap (λ m. (last.before ++ last.blocks) ++ m) first.parts
+      ∙ append_assoc last.before last.blocks (first.blocks ++ first.behind) ∙ ap (λ m. last.before ++ m) (sym (append_assoc last.blocks first.blocks first.behind))
+
+  moves : none_fixed t run ≡ true
+  moves = list_all-append (λ (e : Entry). not (is_fixed t e.kind)) last.blocks first.blocks ∙ and_from _ _ last.moves first.moves
+
+  has_room : k ≤ free_bytes run
+  has_room =
+      let few = r.few in
+      let enough = r.enough in
+      let mine = last-room t k last.before last.blocks (r.entry).here last.below last.moves (subst (λ m. most_free t 0 m < k) last.parts few) (subst (λ m. k ≤ most_free t 0 (m ++ (r.entry).here ∷ [])) last.parts enough) in
+      let here = run-free t (r.entry).here (r.entry).behind in
+      let both = free_bytes-append last.blocks first.blocks in
+      omega arith
+
+  lowest_is : lowest_gap k (gaps t z.heap.map) ≡ Some (record { before = last.before; blocks = run; behind = first.behind })
+  lowest_is =
+      let few = r.few in
+      let prefix = most-prefix t 0 last.before last.blocks in
+      let same = ap (most_free t 0) last.parts in
+      ap (λ m. lowest_gap k (gaps t m)) parts ∙ lowest-begins t k last.before run first.behind last.below moves first.above has_room (omega arith)
+
+  module _ (begins : (front : FrontAt z at) → start + total_size front.blocks ≡ at) where
+    start_is : start ≡ address_behind z.shape last.before
+    start_is =
+        let there = begins (front_split z at (split_entry z at r.entry)) in
+        let place = (r.entry).place in
+        let all = ap total_size last.parts ∙ total_size-append last.before last.blocks in
+        omega arith
+
+    pub split_start : SplitAt z start
+    split_start = record { before = last.before; behind = run ++ first.behind; map = parts; place = start_is }
+
+    first_free : (free : ℕ) → FirstFree (run ++ first.behind) start free → IsLowestGap z k free
+    first_free free f =
+        let low : total_size f.passed < total_size run = elim (nat_lt (total_size f.passed) (total_size run)) as (λ b. nat_lt (total_size f.passed) (total_size run) ≡ b → total_size f.passed < total_size run) [
+          | true ↦ λ is. grind (arith, nat_tests)
           | false ↦ λ is.
-              let same : j ≡ p = (let over : p ≤ j = grind (arith, nat_tests) in omega (arith, over, under)) in
-              let bound : slice_index (set bounds p n) j ≡ n = ap (slice_index (set bounds p n)) same ∙ get_or-set_same bounds p n 0 first.inside.1 in
-              omega (arith, bound, low)
-        ] refl;
-      }
+              let high : total_size run ≤ total_size f.passed = grind (arith, nat_tests) in
+              let none = none-among run first.behind f.passed f.size f.behind f.splits f.used high in
+              let enough = has_room in
+              absurd (omega (arith, none, enough, some))
+        ] refl in
+        let among = free-among run first.behind f.passed f.size f.behind f.splits low in
+        record {
+          gap = record { before = last.before; blocks = run; behind = first.behind };
+          lowest = lowest_is;
+          first = record {
+            used = f.passed;
+            size = f.size;
+            rest = among.rest;
+            blocks = among.parts;
+            none = f.used;
+            place = (let there = f.place in let here = start_is in let all = total_size-append last.before f.passed in omega arith);
+          };
+        }
+
+    none_left : none_free (run ++ first.behind) ≡ true → lowest_gap k (gaps t z.heap.map) ≡ None
+    none_left used =
+        let both = free_bytes-append run first.behind in
+        let none = free_bytes-all_used (run ++ first.behind) used in
+        let enough = has_room in
+        absurd (omega (arith, both, none, enough, some))
+
+    pub lowest-found : (o : Option ℕ) → IfSome o (λ free. (split : SplitAt z start) → FirstFree split.behind start free) → IfNone o ((split : SplitAt z start) → IsTrue (none_free split.behind))
+        → MatchOption o (lowest_gap k (gaps t z.heap.map) ≡ None) (λ free. IsLowestGap z k free)
+    unfolding split_start
+    lowest-found None next none = none_left (none split_start)
+    lowest-found (Some free) next none = first_free free (next split_start)

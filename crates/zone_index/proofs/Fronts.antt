@@ -20,25 +20,9 @@ module _ (z : ZoneState) (at : ℕ) (s : SplitAt z at) where
     below = (last_run z.heap.table s.before).below;
   }
 
-  -- and those from there on
-  abbrev pub rest_split : RestAt z at
-  rest_split = record {
-    before = s.before;
-    blocks = (first_run z.heap.table s.behind).blocks;
-    behind = (first_run z.heap.table s.behind).behind;
-    map = s.map ∙ ap (λ m. s.before ++ m) (first_run z.heap.table s.behind).parts;
-    place = s.place;
-    moves = (first_run z.heap.table s.behind).moves;
-    above = (first_run z.heap.table s.behind).above;
-  }
-
 -- a block's address parts the map
 abbrev pub split_entry : (z : ZoneState) (at : ℕ) → EntryAt z at → SplitAt z at
 split_entry z at e = record { before = e.before; behind = e.here ∷ e.behind; map = e.map; place = e.place }
-
--- a gap begins behind the zone's header
-pub front-low : (z : ZoneState) (at : ℕ) (f : FrontAt z at) (start : ℕ) → start + total_size f.blocks ≡ at → z.shape.base ≤ start
-front-low z at f start is = let here = f.place in let all = total_size-append f.before f.blocks in omega arith
 
 -- a block ends where the zone does, or below
 pub entry-high : (z : ZoneState) (at : ℕ) (e : EntryAt z at) → at + e.here.size ≤ address_behind z.shape z.heap.map

@@ -6,9 +6,8 @@ use Rattle.mac_base.specs.declared.block.Kind.{Kind}
 use Rattle.mac_base.specs.declared.block.Kind.TheVariants.{Free, Master, Ptr, Rel}
 use Rattle.mac_base.specs.Gap.{is_fixed}
 use Rattle.mac_base.specs.HandleTable.{HandleTable, Live, EmptyHandle, FullHandle, Pointer, bytes_of, live_at, live_flags, is_locked, refilled, with_bytes, with_flags, with_live, without}
-use Rattle.mac_base.specs.ZoneMap.{ZoneMap, is_named}
+use Rattle.mac_base.specs.ZoneMap.{is_named}
 use Rattle.zone_laws.proofs.Tables.{AgreeBut, live_at-with_live, live_at-without}
-use Rattle.zone_index.proofs.Budget.{Alike}
 
 -- the same handles are locked
 abbrev pub SameLocks : HandleTable → HandleTable → Type 0
@@ -19,11 +18,6 @@ kind-locks t u same Free = refl
 kind-locks t u same Master = refl
 kind-locks t u same (Ptr p) = refl
 kind-locks t u same (Rel h) = same h
-
--- then the same blocks are fixed
-pub alike-locks : (t u : HandleTable) → SameLocks t u → (m : ZoneMap) → Alike t u m
-alike-locks t u same [] = tt
-alike-locks t u same (e ∷ es) = (kind-locks t u same e.kind, alike-locks t u same es)
 
 pub kind-apart : (x : ℕ) (t u : HandleTable) → AgreeBut x t u → (kind : Kind) → is_named x kind ≡ false → is_fixed u kind ≡ is_fixed t kind
 kind-apart x t u agree Free other = refl
@@ -59,12 +53,4 @@ locks-without x t was h = ap (λ o. (live_flags o).lock) (live_at-without x t h)
   where
     by_number : (b : Bool) → eqb h x ≡ b → (live_flags (cond b None (live_at t h))).lock ≡ is_locked t h
     by_number true here = sym (ap (is_locked t) (eqb-true h x here) ∙ was)
-    by_number false here = refl
-
--- nor do flags that leave a handle as locked as it is
-pub locks-with_flags : (x : ℕ) (flags : Flags) (t : HandleTable) → is_locked t x ≡ flags.lock → SameLocks t (with_flags x flags t)
-locks-with_flags x flags t same h = ap (λ o. (live_flags o).lock) (live_at-with_live x (FullHandle flags (bytes_of t x)) t h) ∙ by_number (eqb h x) refl
-  where
-    by_number : (b : Bool) → eqb h x ≡ b → (live_flags (cond b (Some (FullHandle flags (bytes_of t x))) (live_at t h))).lock ≡ is_locked t h
-    by_number true here = sym (ap (is_locked t) (eqb-true h x here) ∙ same)
     by_number false here = refl

@@ -1,30 +1,13 @@
--- The lowest gap with room, found by bounds.
+-- The lowest gap with room, from gap to gap.
 use Rattle.std.proofs.Common.{cond, not, ◌≡◌, ℕ, ◌<◌, ◌≤◌, Bool, true, false, [], ◌∷◌, ◌++◌, refl, ap, ◌∙◌, append_assoc, arith, Option, Some, None, List}
-use Rattle.std.specs.Prelude.{map, nat_le, option_map, slice_index}
+use Rattle.std.specs.Prelude.{map, nat_le, option_map}
 use Rattle.std.proofs.lemmas.Bool.{and_parts, not-true, le-leb, leb-true, false_from_ne_true}
 use Rattle.mac_base.specs.declared.block.Entry.{Entry}
-use Rattle.mac_base.specs.Gap.{Gap, further, gaps, is_fixed, lowest_gap, room}
+use Rattle.mac_base.specs.Gap.{Gap, further, is_fixed, lowest_gap, room}
 use Rattle.mac_base.specs.HandleTable.{HandleTable}
-use Rattle.mac_base.specs.ZoneMap.{ZoneMap, address_behind, free_bytes}
-use Rattle.mac_base.specs.ZoneState.{ZoneState}
-use Rattle.zone_laws.proofs.GapParts.{first_gap, later_gaps, lowest_gap-is}
-use Rattle.zone_index.specs.Marks.{place}
-use Rattle.zone_index.specs.Runs.{RestAt, none_fixed, begins_fixed, ends_fixed}
-use Rattle.zone_index.specs.Bounds.{AreBounds}
-
--- where every bound is below k no gap has room for k bytes
-pub none-bounded : (z : ZoneState) (bounds : List ℕ) (k : ℕ) → AreBounds z bounds → ((j : ℕ) → slice_index bounds j < k) → lowest_gap k (gaps z.heap.table z.heap.map) ≡ None
-none-bounded z bounds k a below = by_found (lowest_gap k (gaps z.heap.table z.heap.map)) refl
-  where
-    by_found : (o : Option Gap) → lowest_gap k (gaps z.heap.table z.heap.map) ≡ o → lowest_gap k (gaps z.heap.table z.heap.map) ≡ None
-    by_found None none = none
-    by_found (Some g) found =
-        let is = lowest_gap-is z.heap.table z.heap.map k g found in
-        let rest : RestAt z (address_behind z.shape g.before) = record { before = g.before; blocks = g.blocks; behind = g.behind; map = is.0.parts ∙ append_assoc g.before g.blocks g.behind; place = refl; moves = is.0.moves; above = is.0.above } in
-        let most = a.bounded (address_behind z.shape g.before) rest is.0.below in
-        let few = below (place z.shape (address_behind z.shape g.before)) in
-        let fits = is.1 in
-        absurd (omega arith)
+use Rattle.mac_base.specs.ZoneMap.{ZoneMap, free_bytes}
+use Rattle.zone_laws.proofs.GapParts.{first_gap, later_gaps}
+use Rattle.zone_index.specs.Runs.{none_fixed, begins_fixed, ends_fixed}
 
 -- the lowest gap of a map that begins with one
 pub first_run-is : (t : HandleTable) (run rest : ZoneMap) → none_fixed t run ≡ true → begins_fixed t rest ≡ true → first_gap t (run ++ rest) ≡ record { before = []; blocks = run; behind = rest }

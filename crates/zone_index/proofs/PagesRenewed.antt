@@ -21,10 +21,10 @@ Outside s from to c = (c < page s from) ⊎ (page s to < c)
 
 module _ (z : ZoneState) (heap : Heap) (from to : ℕ) (r : Renews z heap from to) where
   -- where they begin, from the start of the zone
-  abbrev offset : ℕ
+  abbrev pub offset : ℕ
   offset = zone_header + total_size r.front
 
-  parts : (low high : ℕ) (u : HandleTable) (is : ZoneMap) → begun low high zone_header (weights u (r.front ++ (is ++ r.back)))
+  pub parts : (low high : ℕ) (u : HandleTable) (is : ZoneMap) → begun low high zone_header (weights u (r.front ++ (is ++ r.back)))
       ≡ begun low high zone_header (weights u r.front) ++ (begun low high offset (weights u is) ++ begun low high (offset + total_size is) (weights u r.back))
   parts low high u is =
       ap (begun low high zone_header) (weights-append u r.front (is ++ r.back) ∙ ap (λ ws. weights u r.front ++ ws) (weights-append u is r.back))

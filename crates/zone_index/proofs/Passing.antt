@@ -137,7 +137,3 @@ passes-only test z sizes {at} e f =
     let place = e.place in
     passing-only p z.shape e.before e.here e.behind (ap (sizes_possible z.shape) (sym e.map) ∙ sizes)
     (subst (λ m. HasPassing p m (total_size e.before)) e.map (subst (HasPassing p z.heap.map) (let same : n.0 ≡ total_size e.before = omega arith in same) n.2))
-
--- and where none passes it doesn't
-pub fails-only : (test : HandleTable → Kind → Bool) (z : ZoneState) {at : ℕ} (e : EntryAt z at) → (PassesAt test z at → ⊥) → test z.heap.table (e.here).kind ≡ false
-fails-only test z e none = elim (test z.heap.table (e.here).kind) as (λ b. test z.heap.table (e.here).kind ≡ b → b ≡ false) [ true ↦ λ is. absurd (none (record { entry = e; passes = is })) | false ↦ λ _. refl ] refl

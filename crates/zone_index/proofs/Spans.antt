@@ -7,12 +7,13 @@ use Rattle.mac_base.specs.HandleTable.{HandleTable}
 use Rattle.mac_base.specs.ZoneMap.{ZoneMap, total_size, free_size, is_free}
 use Rattle.zone_index.specs.declared.order.Order.{Order}
 use Rattle.zone_index.specs.declared.order.Passed.{Passed}
-use Rattle.zone_index.specs.declared.span.Span.{Span}
-use Rattle.zone_index.specs.declared.span.Span.TheVariants.{Whole, Parted}
+use Rattle.block_sums.specs.declared.span.Span.{Span}
+use Rattle.block_sums.specs.declared.span.Span.TheVariants.{Whole, Parted}
 use Rattle.zone_index.specs.declared.sums.Sums.{Sums}
 use Rattle.zone_index.specs.declared.weight.Weight.{Weight}
 use Rattle.zone_index.specs.Weights.{is_space, space_size, weigh, weights, bytes_of, space_of, in_order, most}
-use Rattle.zone_index.specs.Spans.{most_in, joined, span_of, passed, behind_of, ordered, order_of, passed_on, IsOrder, IsSpan, IsSum, IsWithin, both, one}
+use Rattle.zone_index.specs.Spans.{span_of, passed, behind_of, ordered, order_of, passed_on, IsOrder, IsSpan, IsSum, IsWithin, both, one}
+use Rattle.block_sums.specs.Span.{joined, most_in, parts}
 use Rattle.zone_index.proofs.Begun.{bytes-weights}
 
 -- what is said of blocks and those behind them
@@ -39,7 +40,7 @@ span-none sort = λ r behind. ap (λ n. most sort n behind) (let e : r ≡ r + 0
 -- of one
 pub span-one : (sort : Weight → ℕ) (w : Weight) → IsSpan sort (w ∷ []) (span_of sort w)
 span-one sort w = λ r behind. elim w.fixed as (λ c. cond c (max r (most sort 0 behind)) (most sort (r + sort w) behind)
-    ≡ passed (cond c (Parted (record { first = 0; most = 0; last = 0 })) (Whole (sort w))) r (λ n. most sort n behind)) [ true ↦ omega arith | false ↦ refl ]
+    ≡ passed (cond c (parts 0 0 0) (Whole (sort w))) r (λ n. most sort n behind)) [ true ↦ omega arith | false ↦ refl ]
 
 and-assoc : (a b c : Bool) → (a && (b && c)) ≡ ((a && b) && c)
 and-assoc true b c = refl
@@ -125,7 +126,7 @@ most-light t sort light r (e ∷ es) =
     let longer = most-light t sort light (r + sort (weigh t e)) es in
     elim (is_fixed t e.kind) as (λ c. cond c (max r (most sort 0 (weights t es))) (most sort (r + sort (weigh t e)) (weights t es)) ≤ r + (e.size + total_size es)) [ true ↦ omega arith | false ↦ omega arith ]
 
-free-light : (e : Entry) → free_size e ≤ e.size
+pub free-light : (e : Entry) → free_size e ≤ e.size
 free-light e = elim (is_free e.kind) as (λ c. cond c e.size 0 ≤ e.size) [ true ↦ omega arith | false ↦ omega arith ]
 
 space-light : (t : HandleTable) (e : Entry) → space_size t e ≤ e.size

@@ -1,10 +1,12 @@
 -- A map in parts: where the gap of an address begins and ends.
-use Rattle.std.proofs.Common.{◌≡◌, Bool, true, false, not, [], ◌∷◌, ◌++◌, refl, ap}
+use Rattle.std.proofs.Common.{◌≡◌, ◌≤◌, ℕ, Bool, true, false, cond, not, [], ◌∷◌, ◌++◌, refl, ap, arith}
 use Rattle.std.proofs.lemmas.Bool.{and_from}
 use Rattle.mac_base.specs.declared.block.Entry.{Entry}
+use Rattle.mac_base.specs.declared.block.Kind.{Kind}
+use Rattle.mac_base.specs.declared.block.Kind.TheVariants.{Free, Master, Ptr, Rel}
 use Rattle.mac_base.specs.HandleTable.{HandleTable}
 use Rattle.mac_base.specs.Gap.{is_fixed}
-use Rattle.mac_base.specs.ZoneMap.{ZoneMap}
+use Rattle.mac_base.specs.ZoneMap.{ZoneMap, free_bytes, free_size, is_free}
 use Rattle.zone_index.specs.Runs.{none_fixed, begins_fixed, ends_fixed}
 
 -- the blocks up to the first fixed one, and the others
@@ -23,6 +25,23 @@ longer_run t e es rest false moves = record { blocks = e ∷ rest.blocks; behind
 pub first_run : (t : HandleTable) (m : ZoneMap) → FirstRun t m
 first_run t [] = record { blocks = []; behind = []; parts = refl; moves = refl; above = refl }
 first_run t (e ∷ es) = longer_run t e es (first_run t es) (is_fixed t e.kind) refl
+
+-- a fixed block has no free bytes
+fixed-used : (k : Kind) (n : ℕ) (t : HandleTable) → is_fixed t k ≡ true → cond (is_free k) n 0 ≡ 0
+fixed-used Free n t is = absurd (cc is)
+fixed-used Master n t is = refl
+fixed-used (Ptr p) n t is = refl
+fixed-used (Rel h) n t is = refl
+
+longer-free : (t : HandleTable) (e : Entry) (es : ZoneMap) (rest : FirstRun t es) (b : Bool) (is : is_fixed t e.kind ≡ b) → free_size e ≤ free_bytes (longer_run t e es rest b is).blocks
+unfolding longer_run
+longer-free t e es rest true is = let none = fixed-used e.kind e.size t is in omega arith
+longer-free t e es rest false is = omega arith
+
+-- the first block is one of them, or has none
+pub run-free : (t : HandleTable) (e : Entry) (es : ZoneMap) → free_size e ≤ free_bytes (first_run t (e ∷ es)).blocks
+unfolding first_run
+run-free t e es = longer-free t e es (first_run t es) (is_fixed t e.kind) refl
 
 -- the blocks up to the last fixed one, and the others
 pub record LastRun (t : HandleTable) (m : ZoneMap) : Type 0 where

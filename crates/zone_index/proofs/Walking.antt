@@ -21,37 +21,37 @@ use Rattle.zone_index.proofs.Begun.{weights-append, bytes-weights, begun-append,
 use Rattle.zone_index.proofs.Spans.{nothing, sum-join, sum-none, sum-one, sum-within}
 use Rattle.zone_index.proofs.Sizes.{all_parts, first_bytes}
 
--- Blocks begin in one page: those before them begin below it, and those behind in a higher one.
-pub record Filling (z : ZoneState) (c : ℕ) (blocks : ZoneMap) : Type 0 where
+-- Blocks begin between two places: those before them begin below the first, and those behind at the second or above it.
+pub record Filling (z : ZoneState) (low high : ℕ) (blocks : ZoneMap) : Type 0 where
   pub before : ZoneMap
   pub behind : ZoneMap
   pub map : z.heap.map ≡ before ++ (blocks ++ behind)
-  pub below : AllBelow (page_start c) zone_header before
-  pub low : page_start c ≤ zone_header + total_size before
-  pub inside : AllBelow (page_start (c + 1)) (zone_header + total_size before) blocks
-  pub above : (behind ≡ []) ⊎ (page_start (c + 1) ≤ zone_header + total_size before + total_size blocks)
+  pub below : AllBelow low zone_header before
+  pub floor : low ≤ zone_header + total_size before
+  pub inside : AllBelow high (zone_header + total_size before) blocks
+  pub above : (behind ≡ []) ⊎ (high ≤ zone_header + total_size before + total_size blocks)
 
--- they are the page's
-pub filling-page : (z : ZoneState) (c : ℕ) (blocks : ZoneMap) → Filling z c blocks → page_weights z c ≡ weights z.heap.table blocks
-filling-page z c blocks f =
+-- they are all that do
+pub filling-all : (z : ZoneState) (low high : ℕ) (blocks : ZoneMap) → Filling z low high blocks → begun low high zone_header (weights z.heap.table z.heap.map) ≡ weights z.heap.table blocks
+filling-all z low high blocks f =
     let t : HandleTable = z.heap.table in
-    ap (λ m. begun (page_start c) (page_start (c + 1)) zone_header (weights t m)) f.map
-    ∙ ap (begun (page_start c) (page_start (c + 1)) zone_header) (weights-append t f.before (blocks ++ f.behind))
-    ∙ begun-append (page_start c) (page_start (c + 1)) zone_header (weights t f.before) (weights t (blocks ++ f.behind))
-    ∙ ap (λ ws. ws ++ begun (page_start c) (page_start (c + 1)) (zone_header + bytes_of (weights t f.before)) (weights t (blocks ++ f.behind))) (begun-below t (page_start c) (page_start (c + 1)) zone_header (page_start c) f.before f.below (omega arith))
-    ∙ ap (λ n. begun (page_start c) (page_start (c + 1)) (zone_header + n) (weights t (blocks ++ f.behind))) (bytes-weights t f.before)
-    ∙ ap (begun (page_start c) (page_start (c + 1)) (zone_header + total_size f.before)) (weights-append t blocks f.behind)
-    ∙ begun-append (page_start c) (page_start (c + 1)) (zone_header + total_size f.before) (weights t blocks) (weights t f.behind)
-    ∙ ap (λ ws. ws ++ begun (page_start c) (page_start (c + 1)) (zone_header + total_size f.before + bytes_of (weights t blocks)) (weights t f.behind)) (begun-between t (page_start c) (page_start (c + 1)) (zone_header + total_size f.before) blocks f.low f.inside)
+    ap (λ m. begun low high zone_header (weights t m)) f.map
+    ∙ ap (begun low high zone_header) (weights-append t f.before (blocks ++ f.behind))
+    ∙ begun-append low high zone_header (weights t f.before) (weights t (blocks ++ f.behind))
+    ∙ ap (λ ws. ws ++ begun low high (zone_header + bytes_of (weights t f.before)) (weights t (blocks ++ f.behind))) (begun-below t low high zone_header low f.before f.below (omega arith))
+    ∙ ap (λ n. begun low high (zone_header + n) (weights t (blocks ++ f.behind))) (bytes-weights t f.before)
+    ∙ ap (begun low high (zone_header + total_size f.before)) (weights-append t blocks f.behind)
+    ∙ begun-append low high (zone_header + total_size f.before) (weights t blocks) (weights t f.behind)
+    ∙ ap (λ ws. ws ++ begun low high (zone_header + total_size f.before + bytes_of (weights t blocks)) (weights t f.behind)) (begun-between t low high (zone_header + total_size f.before) blocks f.floor f.inside)
     ∙ ap (λ ws. weights t blocks ++ ws) (none f.above) ∙ append-nil (weights t blocks)
   where
-    none : (f.behind ≡ []) ⊎ (page_start (c + 1) ≤ zone_header + total_size f.before + total_size blocks)
-        → begun (page_start c) (page_start (c + 1)) (zone_header + total_size f.before + bytes_of (weights z.heap.table blocks)) (weights z.heap.table f.behind) ≡ []
-    none (inl no_more) = ap (λ m. begun (page_start c) (page_start (c + 1)) (zone_header + total_size f.before + bytes_of (weights z.heap.table blocks)) (weights z.heap.table m)) no_more
-    none (inr above) = let all = bytes-weights z.heap.table blocks in begun-above (page_start c) (page_start (c + 1)) (zone_header + total_size f.before + bytes_of (weights z.heap.table blocks)) (weights z.heap.table f.behind) (omega arith)
+    none : (f.behind ≡ []) ⊎ (high ≤ zone_header + total_size f.before + total_size blocks)
+        → begun low high (zone_header + total_size f.before + bytes_of (weights z.heap.table blocks)) (weights z.heap.table f.behind) ≡ []
+    none (inl no_more) = ap (λ m. begun low high (zone_header + total_size f.before + bytes_of (weights z.heap.table blocks)) (weights z.heap.table m)) no_more
+    none (inr above) = let all = bytes-weights z.heap.table blocks in begun-above low high (zone_header + total_size f.before + bytes_of (weights z.heap.table blocks)) (weights z.heap.table f.behind) (omega arith)
 
 -- what is no less than the lower of two is no less than one of them
-one_low : (a b n : ℕ) → min a b ≤ n → (b ≤ n) ⊎ (a ≤ n)
+pub one_low : (a b n : ℕ) → min a b ≤ n → (b ≤ n) ⊎ (a ≤ n)
 one_low a b n low = by_test (nat_lt n b) refl
   where
     by_test : (c : Bool) → nat_lt n b ≡ c → (b ≤ n) ⊎ (a ≤ n)
@@ -132,7 +132,7 @@ module _ (z : ZoneState) (first at : ℕ) (s : Sums) (m : Measured z first at s)
 
   -- at the end of the page or of the zone all of the page's are
   pub measured-all : HasSizes z → min (z.shape.base + page_start (page z.shape first + 1)) (address_behind z.shape z.heap.map) ≤ at → IsSum (page_weights z (page z.shape first)) s
-  measured-all sizes end = subst (λ ws. IsSum ws s) (sym (filling-page z (page z.shape first) m.done filling)) m.sums
+  measured-all sizes end = subst (λ ws. IsSum ws s) (sym (filling-all z (page_start (page z.shape first)) (page_start (page z.shape first + 1)) m.done filling)) m.sums
     where
       none : (address_behind z.shape z.heap.map ≤ at) ⊎ (z.shape.base + page_start (page z.shape first + 1) ≤ at) → (m.behind ≡ []) ⊎ (page_start (page z.shape first + 1) ≤ zone_header + total_size m.before + total_size m.done)
       none (inl high) =
@@ -140,8 +140,8 @@ module _ (z : ZoneState) (first at : ℕ) (s : Sums) (m : Measured z first at s)
           inl (no_bytes z.shape m.behind (all_parts _ m.done m.behind (all_parts _ m.before (m.done ++ m.behind) (ap (sizes_possible z.shape) (sym m.map) ∙ sizes)).1).1 (omega arith))
       none (inr high) = let start = m.start in let place = m.place in inr (omega arith)
 
-      filling : Filling z (page z.shape first) m.done
-      filling = record { before = m.before; behind = m.behind; map = m.map; below = m.below; low = (let start = m.start in omega arith); inside = m.inside; above = none (one_low (z.shape.base + page_start (page z.shape first + 1)) (address_behind z.shape z.heap.map) at end) }
+      filling : Filling z (page_start (page z.shape first)) (page_start (page z.shape first + 1)) m.done
+      filling = record { before = m.before; behind = m.behind; map = m.map; below = m.below; floor = (let start = m.start in omega arith); inside = m.inside; above = none (one_low (z.shape.base + page_start (page z.shape first + 1)) (address_behind z.shape z.heap.map) at end) }
 
 -- Blocks are cut at a place: those that begin below it, and the others.
 pub record CutAt (high at : ℕ) (m : ZoneMap) : Type 0 where
@@ -224,11 +224,11 @@ module _ (z : ZoneState) (at : ℕ) (s : Sums) (w : Walked z at s) where
     abbrev here : CutAt (page_start (c + 1)) (zone_header + total_size e.before) (e.here ∷ e.behind)
     here = cut (page_start (c + 1)) (zone_header + total_size e.before) (e.here ∷ e.behind)
 
-    filling : Filling z c here.blocks
-    filling = record { before = e.before; behind = here.rest; map = e.map ∙ ap (λ m. e.before ++ m) here.parts; below = first.below; low = (let place = e.place in omega arith); inside = here.inside; above = here.above }
+    filling : Filling z (page_start c) (page_start (c + 1)) here.blocks
+    filling = record { before = e.before; behind = here.rest; map = e.map ∙ ap (λ m. e.before ++ m) here.parts; below = first.below; floor = (let place = e.place in omega arith); inside = here.inside; above = here.above }
 
     page_is : IsSum (weights z.heap.table here.blocks) q
-    page_is = subst (λ ws. IsSum ws q) (filling-page z c here.blocks filling) is
+    page_is = subst (λ ws. IsSum ws q) (filling-all z (page_start c) (page_start (c + 1)) here.blocks filling) is
 
     page_bytes : q.bytes ≡ total_size here.blocks
     page_bytes = page_is.bytes ∙ bytes-weights z.heap.table here.blocks

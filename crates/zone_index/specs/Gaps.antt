@@ -26,8 +26,3 @@ pub record IsLowestGap (z : ZoneState) (k at : ℕ) : Type 0 where
 pub record GapAt (z : ZoneState) (at : ℕ) : Type 0 where
   pub rest : RestAt z at
   pub below : IsTrue (ends_fixed z.heap.table rest.before)
-
--- one with room for k bytes
-pub record GapWith (z : ZoneState) (at k : ℕ) : Type 0 where
-  pub gap : GapAt z at
-  pub room : k ≤ free_bytes gap.rest.blocks

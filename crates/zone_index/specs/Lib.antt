@@ -4,14 +4,12 @@ pub mod Runs
 pub mod Search
 pub mod Turning
 pub mod Gaps
-pub mod Bounds
-pub mod Raised
-pub mod Around
 pub mod Weights
 pub mod Spans
+pub mod Rooms
 pub mod Pages
 pub mod Walk
 pub mod Disorder
-pub mod WritingBack
 pub mod Lengths
+pub mod WritingBack
 pub mod Zone

@@ -1,5 +1,6 @@
 -- The pages of a zone, and what is remembered of them. A page has the blocks that begin in it.
-use Rattle.std.specs.Prelude.{◌≡◌, ℕ, ◌+◌, ◌-◌, ◌*◌, ◌/◌, ◌<◌, ◌⊎◌, ◌&&◌, nat_le, nat_lt, if◌then◌else◌, List, [], ◌∷◌, length, Option, Some}
+use Rattle.std.specs.Prelude.{◌≡◌, ℕ, ◌+◌, ◌-◌, ◌*◌, ◌/◌, ◌<◌, ◌⊎◌, List, length, Option, Some}
+use Rattle.block_sums.specs.Leaves.{begun as begun_of}
 use Rattle.std.specs.List.{slice_get}
 use Rattle.mac_base.specs.HeadKind.{Shape, zone_header}
 use Rattle.mac_base.specs.ZoneState.{ZoneState}
@@ -22,8 +23,7 @@ page_start c = page_size * c
 
 -- those of these blocks that begin from one place on and below another, where the first begins at a third
 abbrev pub begun : ℕ → ℕ → ℕ → List Weight → List Weight
-begun low high at [] = []
-begun low high at (w ∷ ws) = if nat_le low at && nat_lt at high then w ∷ begun low high (at + w.bytes) ws else begun low high (at + w.bytes) ws
+begun = begun_of (λ (w : Weight). w.bytes)
 
 -- the blocks that begin in a page
 abbrev pub page_weights : ZoneState → ℕ → List Weight

@@ -2,27 +2,16 @@
 use Rattle.std.specs.Prelude.{◌≡◌, ℕ, ◌+◌, ◌≤◌, max, nat_lt, Bool, true, ◌&&◌, List, ◌++◌, if◌then◌else◌}
 use Rattle.zone_index.specs.declared.order.Order.{Order}
 use Rattle.zone_index.specs.declared.order.Passed.{Passed}
-use Rattle.zone_index.specs.declared.span.Span.{Span}
-use Rattle.zone_index.specs.declared.span.Span.TheVariants.{Whole, Parted}
+use Rattle.block_sums.specs.declared.span.Span.{Span}
+use Rattle.block_sums.specs.declared.span.Span.TheVariants.{Whole, Parted}
+use Rattle.block_sums.specs.Span.{joined, most_in, parts}
 use Rattle.zone_index.specs.declared.sums.Sums.{Sums}
 use Rattle.zone_index.specs.declared.weight.Weight.{Weight}
 use Rattle.zone_index.specs.Weights.{bytes_of, space_of, in_order, most}
 
--- the most that one gap has of them
-abbrev pub most_in : Span → ℕ
-most_in (Whole n) = n
-most_in (Parted p) = max p.first (max p.most p.last)
-
--- blocks and those behind them
-abbrev pub joined : Span → Span → Span
-joined (Whole n) (Whole k) = Whole (n + k)
-joined (Whole n) (Parted q) = Parted (record q { first = n + q.first })
-joined (Parted p) (Whole k) = Parted (record p { last = p.last + k })
-joined (Parted p) (Parted q) = Parted (record { first = p.first; most = max p.most (max (p.last + q.first) q.most); last = q.last })
-
 -- one block
 abbrev pub span_of : (Weight → ℕ) → Weight → Span
-span_of sort w = if w.fixed then Parted (record { first = 0; most = 0; last = 0 }) else Whole (sort w)
+span_of sort w = if w.fixed then parts 0 0 0 else Whole (sort w)
 
 -- the most that one gap has of these blocks and those behind, where r lie before the first: f says it of those behind
 abbrev pub passed : Span → ℕ → (ℕ → ℕ) → ℕ

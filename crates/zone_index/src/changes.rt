@@ -1,12 +1,10 @@
-//! The changes of a zone. Each keeps the index right: it turns the marks of the blocks that it changes, raises the bounds of their gaps,
-//! forgets the sums of their pages, and notes how many bytes a handle has then.
+//! The changes of a zone. Each keeps the index right: it turns the marks of the blocks that it changes, notes that the sums
+//! of their leaves are stale, forgets those of their pages, and notes how many bytes a handle has then.
 
-use crate::around::{gap_around, lengthen, relock, shorten};
-use crate::fixed::gap_start;
+use crate::leaves::pass;
 use crate::marking::{carry, sink, write};
 use crate::pages::forget;
 use crate::purging::may_purge;
-use crate::raise::{bound_at, join, part, raise};
 use crate::zone::IndexedZone;
 use mac_base::block::Flags;
 use mac_base::handle::{Handle, Ptr};
@@ -56,12 +54,10 @@ impl IndexedZone {
         let base = spec.base();
         let end = base + spec.size();
         let page = self.page_at(end);
+        let leaf = self.leaf_at(end);
         forget(&mut self.pages, page, page);
-        let start = gap_start(&self.zone, &self.marks, end);
+        self.rooms.touch(leaf);
         self.zone.extend();
-        let room = bound_at(&self.bounds, base, start);
-        let added = spec.limit() - spec.size();
-        raise(&mut self.bounds, base, start, room.saturating_add(added));
     }
 
     /// Cuts a free block in two, the first of `size` bytes.
@@ -70,8 +66,13 @@ impl IndexedZone {
         ensures { (can : CanCut self.old at size) → self.new ≡ cut_in_two size self.old can.free }
     {
         let first = self.page(at);
-        let last = self.page_at(at + size);
+        let behind = at + size;
+        let last = self.page_at(behind);
+        let low = self.leaf(at);
+        let high = self.leaf_at(behind);
         forget(&mut self.pages, first, last);
+        self.rooms.touch(low);
+        self.rooms.touch(high);
         self.zone.split(at, size);
     }
 
@@ -81,8 +82,13 @@ impl IndexedZone {
         ensures { (pair : FreePair self.old at) → self.new ≡ joined_pair self.old pair }
     {
         let first = self.page(at);
-        let last = self.page_at(at + self.zone.free_size(at));
+        let behind = at + self.zone.free_size(at);
+        let last = self.page_at(behind);
+        let low = self.leaf(at);
+        let high = self.leaf_at(behind);
         forget(&mut self.pages, first, last);
+        self.rooms.touch(low);
+        self.rooms.touch(high);
         self.zone.merge(at);
     }
 
@@ -96,9 +102,14 @@ impl IndexedZone {
         let first = self.place(at);
         let from = self.page(at);
         let to = self.page_at(end);
-        forget(&mut self.pages, from, to);
         let size = self.zone.entry_at(at).size;
         let others = end - at - size;
+        let old = self.leaf(at);
+        let new = self.leaf_at(at + others);
+        forget(&mut self.pages, from, to);
+        pass(&self.zone, &mut self.rooms, at + size, end);
+        self.rooms.touch(old);
+        self.rooms.touch(new);
         carry(
             &mut self.purgeable,
             first,
@@ -119,8 +130,13 @@ impl IndexedZone {
         let size = self.zone.entry_at(at).size;
         let from = self.page(start);
         let to = self.page_at(at + size);
-        forget(&mut self.pages, from, to);
         let others = at - start;
+        let old = self.leaf(at);
+        let new = self.leaf(start);
+        forget(&mut self.pages, from, to);
+        pass(&self.zone, &mut self.rooms, start, at);
+        self.rooms.touch(old);
+        self.rooms.touch(new);
         sink(
             &mut self.purgeable,
             first,
@@ -137,7 +153,9 @@ impl IndexedZone {
         ensures { (r : RoomFor self.old at length) → self.new ≡ pointed handle length self.old r.free }
     {
         let page = self.page(at);
+        let leaf = self.leaf(at);
         forget(&mut self.pages, page, page);
+        self.rooms.touch(leaf);
         self.zone.point(handle, at, length);
         self.lengths.note(handle.number(), length);
     }
@@ -150,12 +168,12 @@ impl IndexedZone {
     {
         let place = self.place(at);
         let page = self.page(at);
+        let leaf = self.leaf(at);
         forget(&mut self.pages, page, page);
-        let gap = gap_around(&self.zone, &self.marks, at);
+        self.rooms.touch(leaf);
         self.marks.set(place, 1);
         let pointer = self.zone.fix(at, length);
         let _spec = self.zone.spec();
-        part(&mut self.bounds, gap, at, gap.end - at);
         self.lengths.note(pointer.number(), length);
         pointer
     }
@@ -169,11 +187,11 @@ impl IndexedZone {
         let at = self.zone.place_of(pointer.number());
         let place = self.place(at);
         let page = self.page(at);
+        let leaf = self.leaf(at);
         forget(&mut self.pages, page, page);
-        let gap = gap_around(&self.zone, &self.marks, at);
+        self.rooms.touch(leaf);
         self.marks.set(place, 0);
         self.zone.unfix(pointer);
-        join(&mut self.bounds, gap, gap.end - at);
         self.lengths.note(pointer.number(), 0);
     }
 
@@ -186,12 +204,12 @@ impl IndexedZone {
         let at = self.zone.block_of(handle);
         let place = self.place(at);
         let page = self.page(at);
+        let leaf = self.leaf(at);
         forget(&mut self.pages, page, page);
-        let gap = gap_around(&self.zone, &self.marks, at);
+        self.rooms.touch(leaf);
         write(&mut self.marks, place, 0);
         write(&mut self.purgeable, place, 0);
         self.zone.empty(handle);
-        join(&mut self.bounds, gap, gap.end - at);
         self.lengths.note(handle.number(), 0);
     }
 
@@ -202,11 +220,11 @@ impl IndexedZone {
     {
         let place = self.place(at);
         let page = self.page(at);
+        let leaf = self.leaf(at);
         forget(&mut self.pages, page, page);
-        let gap = gap_around(&self.zone, &self.marks, at);
+        self.rooms.touch(leaf);
         self.marks.set(place, 1);
         self.zone.build_master(at);
-        part(&mut self.bounds, gap, at, gap.end - at);
     }
 
     /// Sets the flags of a handle that has a block.
@@ -217,8 +235,9 @@ impl IndexedZone {
         let at = self.zone.block_of(handle);
         let place = self.place(at);
         let page = self.page(at);
+        let leaf = self.leaf(at);
         forget(&mut self.pages, page, page);
-        relock(&self.zone, &self.marks, &mut self.bounds, handle, at, flags);
+        self.rooms.touch(leaf);
         write(&mut self.marks, place, u8::from(flags.lock));
         write(&mut self.purgeable, place, u8::from(may_purge(flags)));
         self.zone.set_flags(handle, flags);
@@ -238,14 +257,16 @@ impl IndexedZone {
         let new = self.place(at);
         let from_page = self.page(from);
         let to_page = self.page(at);
+        let from_leaf = self.leaf(from);
+        let to_leaf = self.leaf(at);
         forget(&mut self.pages, from_page, from_page);
         forget(&mut self.pages, to_page, to_page);
-        let gap = gap_around(&self.zone, &self.marks, from);
+        self.rooms.touch(from_leaf);
+        self.rooms.touch(to_leaf);
         let mark = self.purgeable.get(old);
         write(&mut self.purgeable, old, 0);
         write(&mut self.purgeable, new, mark);
         self.zone.relocate(handle, at, length);
-        join(&mut self.bounds, gap, gap.end - from);
         self.lengths.note(handle.number(), length);
     }
 
@@ -259,17 +280,13 @@ impl IndexedZone {
         let _spec = self.zone.spec();
         let at = self.zone.place_of(block);
         let first = self.page(at);
-        let last = self.page_at(at + size);
+        let end = at + size;
+        let last = self.page_at(end);
+        let low = self.leaf(at);
+        let high = self.leaf_at(end);
         forget(&mut self.pages, first, last);
-        shorten(
-            &self.zone,
-            &self.marks,
-            &mut self.bounds,
-            block,
-            at,
-            size,
-            length,
-        );
+        self.rooms.touch(low);
+        self.rooms.touch(high);
         self.zone.hold(block, size, length);
         self.lengths.note(block, length);
     }
@@ -284,17 +301,16 @@ impl IndexedZone {
         let _spec = self.zone.spec();
         let at = self.zone.place_of(block);
         let first = self.page(at);
-        let last = self.page_at(at + size);
+        let end = at + size;
+        let last = self.page_at(end);
+        let behind = at + self.zone.entry_at(at).size;
+        let low = self.leaf(at);
+        let middle = self.leaf_at(behind);
+        let high = self.leaf_at(end);
         forget(&mut self.pages, first, last);
-        lengthen(
-            &self.zone,
-            &self.marks,
-            &mut self.bounds,
-            block,
-            at,
-            size,
-            length,
-        );
+        self.rooms.touch(low);
+        self.rooms.touch(middle);
+        self.rooms.touch(high);
         self.zone.grow(block, size, length);
         self.lengths.note(block, length);
     }

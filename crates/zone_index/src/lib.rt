@@ -2,19 +2,17 @@
 //! moved down, what room it has, and how many bytes a handle has, without going through its blocks.
 #![tactic(auto)]
 
-mod around;
 mod changes;
 mod disorder;
 mod fixed;
 mod gap;
+mod leaves;
 mod lengths;
 mod marking;
 mod order;
 mod pages;
 mod purging;
-mod raise;
 mod search;
-mod span;
 mod sums;
 mod weight;
 mod zone;

@@ -1,8 +1,9 @@
 //! The sums of neighbouring blocks.
 
 use crate::order::Order;
-use crate::span::Span;
 use crate::weight::Weight;
+use block_sums::Span;
+use sum_tree::Monoid;
 
 /// The sums of a zone's blocks.
 #[derive(Clone, Copy, Debug, PartialEq, Eq)]

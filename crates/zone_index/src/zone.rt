@@ -1,18 +1,20 @@
 //! The zone.
 
 use crate::fixed::{gap_end, gap_start};
+use crate::leaves::LEAF_SIZE;
 use crate::lengths::Lengths;
 use crate::pages::{PAGE_SIZE, page_of, page_sums, unknown_pages};
 use crate::sums::{Sums, ZoneSums};
+use block_sums::Span;
 use linked_zone::LinkedZone;
 use mac_base::error::HostFull;
 use mac_base::handle::Handle;
 use mac_base::size::ZONE_HEADER;
 use mac_base::zone_spec::ZoneSpec;
 use place_numbers::marks::Marks;
-use place_numbers::sizes::Sizes;
 use std::alloc::Global;
 use std::marker::Model;
+use sum_tree::StaleTree;
 
 /// A zone with its index. Contracts see its shape, its handle table, its zone map and its free slots in the order in which they are
 /// given. After `create` no call takes memory of the host.
@@ -23,8 +25,8 @@ pub struct IndexedZone {
     pub(crate) marks: Marks,
     /// The same of the blocks that may be purged.
     pub(crate) purgeable: Marks,
-    /// How much room the gap that begins at a place has at most.
-    pub(crate) bounds: Sizes,
+    /// What gaps have of the free bytes of the blocks that begin in each leaf.
+    pub(crate) rooms: StaleTree<Span>,
     /// The sums of the blocks that begin in each page, where they are known.
     pub(crate) pages: Vec<Option<Sums>>,
     /// How many bytes handles have, where that is known.
@@ -54,14 +56,14 @@ impl Drop for IndexedZone {
             zone,
             marks,
             purgeable,
-            bounds,
+            rooms,
             pages,
             lengths,
         } = self;
         drop(zone);
         drop(marks);
         drop(purgeable);
-        drop(bounds);
+        drop(rooms);
         drop(pages);
         drop(lengths);
     }
@@ -79,6 +81,7 @@ impl IndexedZone {
     ghost use Rattle.linked_zone.specs.Sizes.{sizes_of};
     ghost use Rattle.zone_index.specs.Marks.{place};
     ghost use Rattle.zone_index.specs.Pages.{page, page_size};
+    ghost use Rattle.zone_index.specs.Rooms.{leaf, leaf_count};
     ghost use Rattle.zone_index.specs.Runs.{FrontAt, RestAt};
 
     /// A new zone: one free block, and no slot.
@@ -88,8 +91,7 @@ impl IndexedZone {
         let places = spec.limit() as usize / 4 + 1;
         let marks = Marks::create(alloc, places)?;
         let purgeable = Marks::create(alloc, places)?;
-        let mut bounds = Sizes::create(alloc, places)?;
-        bounds.set(ZONE_HEADER as usize / 4, spec.size());
+        let rooms = StaleTree::create(alloc, (spec.limit() / LEAF_SIZE) as usize + 1)?;
         let pages = unknown_pages(alloc, (spec.limit() / PAGE_SIZE) as usize + 1)?;
         let lengths = Lengths::create(alloc, spec.base(), spec.limit() as usize / 4)?;
         let zone = LinkedZone::create(alloc, spec)?;
@@ -97,7 +99,7 @@ impl IndexedZone {
             zone,
             marks,
             purgeable,
-            bounds,
+            rooms,
             pages,
             lengths,
         })
@@ -193,6 +195,25 @@ impl IndexedZone {
         ensures sizes { HasSizes self.now }
     {
         page_of(self.zone.spec().base(), at)
+    }
+
+    /// The leaf in which a block begins.
+    pub(crate) fn leaf(&self, at: u32) -> usize
+        requires { EntryAt self.now at }
+        ensures value { result ≡ leaf self.now.shape at }
+        ensures inside { result < leaf_count self.now }
+    {
+        self.leaf_at(at)
+    }
+
+    /// The leaf of an address of the zone, or that at which it ends.
+    pub(crate) fn leaf_at(&self, at: u32) -> usize
+        requires low { self.now.shape.base ≤ at }
+        requires high { at ≤ address_behind self.now.shape self.now.heap.map }
+        ensures value { result ≡ leaf self.now.shape at }
+        ensures inside { result < leaf_count self.now }
+    {
+        ((at - self.zone.spec().base()) / LEAF_SIZE) as usize
     }
 }
 

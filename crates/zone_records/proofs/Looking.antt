@@ -9,10 +9,11 @@ use Rattle.block_bytes.specs.declared.header.Role.TheVariants as role
 use Rattle.block_bytes.specs.Layout as raw
 use Rattle.block_bytes.specs.Head.{most_over}
 use Rattle.block_bytes.specs.Layout.{RawBlock, Layout, BlockAt, size_of, is_possible, can_be_told}
+use Rattle.block_bytes.specs.Finding as finding
 use Rattle.block_bytes.specs.Finding.{HoldsByte, LiesOutside, LowestFree, NoneFree, has_room}
 use Rattle.block_bytes.proofs.ReadBlocks.{head_size-positive}
 use Rattle.zone_records.specs.Records.{Free, BlockRecord, ZoneRecords}
-use Rattle.zone_records.specs.Places.{RecordAt, LowestAt, is_free, has_free}
+use Rattle.zone_records.specs.Places.{RecordAt, LowestAt, FirstFrom, NoneFrom, is_free, has_free}
 use Rattle.zone_records.specs.Reading.{content_in, record_in, has_use, is_sound}
 use Rattle.zone_records.proofs.Apart.{read, read-append}
 use Rattle.zone_records.proofs.Held.{Held, address-is, one, sound-one}
@@ -160,3 +161,11 @@ module _ (l : Layout) (z : ZoneRecords) (held : Held l z) where
   -- and where there is none, no free block is large enough
   pub none-free : (k : ℕ) → NoneFree l k → IsTrue (list_all (λ b. not (has_free k b)) z.blocks)
   none-free k none = ap (list_all (λ b. not (has_free k b))) (sym (ap (λ (z : ZoneRecords). z.blocks) held.shows)) ∙ sym (rooms-same l.heads l.base k l.blocks) ∙ none
+
+  -- the first block from an address on
+  pub first-from : (from at : ℕ) → finding.FirstFrom l from at → FirstFrom z from at
+  first-from from at f = record { block = of-block at f.block; reached = f.reached; first = λ other r. f.first other (of-record other r).block }
+
+  -- and where none begins there, none of the list does
+  pub none-from : (from : ℕ) → finding.NoneFrom l from → NoneFrom z from
+  none-from from none at r = none at (of-record at r).block

@@ -1,5 +1,5 @@
 -- Places in a zone's list of blocks, by address, and what can be done there.
-use Rattle.std.specs.Prelude.{◌≡◌, ℕ, ◌+◌, ◌-◌, ◌*◌, ◌≤◌, ◌⊎◌, ◌^◌, ◌%◌, Bool, true, false, not, ◌&&◌, ◌==◌, nat_le, nat_lt, if◌then◌else◌, IsTrue, List, [], ◌∷◌, ◌++◌, length}
+use Rattle.std.specs.Prelude.{◌≡◌, ℕ, ◌+◌, ◌-◌, ◌*◌, ◌<◌, ◌≤◌, ◌⊎◌, ◌^◌, ◌%◌, Bool, true, false, not, ◌&&◌, ◌==◌, nat_le, nat_lt, if◌then◌else◌, IsTrue, List, [], ◌∷◌, ◌++◌, length}
 use Rattle.std.specs.List.{list_all}
 use Rattle.mac_base.specs.declared.block.HeadKind.{HeadKind}
 use Rattle.mac_base.specs.declared.block.HeadKind.TheVariants.{Bits24, Bits32}
@@ -228,3 +228,13 @@ pub record LastFree (bs : List BlockRecord) (from at : ℕ) : Type 0 where
 abbrev pub free_total : List BlockRecord → ℕ
 free_total [] = 0
 free_total (b ∷ bs) = (if is_free b.content then b.size else 0) + free_total bs
+
+-- the block at an address is the first that begins at another or after it
+pub record FirstFrom (z : ZoneRecords) (from at : ℕ) : Type 0 where
+  pub block : RecordAt z at
+  pub reached : from ≤ at
+  pub first : (other : ℕ) → RecordAt z other → from ≤ other → at ≤ other
+
+-- all blocks begin before an address
+abbrev pub NoneFrom : ZoneRecords → ℕ → Type 0
+NoneFrom z from = (at : ℕ) → RecordAt z at → at < from

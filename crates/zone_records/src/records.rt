@@ -51,7 +51,7 @@ impl Records {
     ghost use Rattle.mac_base.specs.ZoneMap.{block};
     ghost use Rattle.zone_records.specs.Records.{ZoneRecords, Fixed, Master, Relocatable, sizes_of, kind_of, length_of, bytes_of, lent_count, address_behind, NothingLent};
     ghost use Rattle.mac_base.specs.Loans.{most_loans};
-    ghost use Rattle.zone_records.specs.Places.{RecordAt, FreeAt, HeldAt, HandleBlockAt, SlotAt, RoomFor, CanCut, FreePair, CanHold, CanGrow, ParcelAt, IsLoanOf, LowestAt, has_free, can_say, can_flag, ParcelUpTo, SplitAt, FirstFree, LastFree, none_free, free_total};
+    ghost use Rattle.zone_records.specs.Places.{RecordAt, FreeAt, HeldAt, HandleBlockAt, SlotAt, RoomFor, CanCut, FreePair, CanHold, CanGrow, ParcelAt, IsLoanOf, LowestAt, has_free, can_say, can_flag, ParcelUpTo, SplitAt, FirstFree, LastFree, none_free, free_total, FirstFrom, NoneFrom};
     ghost use Rattle.zone_records.specs.Changes.{new_records, with_front, extended, filled, chained, emptied, flagged, with_slot, cut_in_two, joined_pair, held_there, enlarged, carried, sunk, lent_out, loan_of, taken_back};
     ghost use Rattle.zone_records.specs.Fitting.{fitted, CanKeep};
     ghost use Rattle.zone_records.specs.Copying.{CanCopy, copied};
@@ -160,6 +160,14 @@ impl Records {
         ensures first { IfNone result ((r : RecordAt self.now at) → r.before ≡ []) }
     {
         self.blocks.holder(at - 1)
+    }
+
+    /// The first block that begins at an address or after it, if there is one. No header is read.
+    pub fn first_from(&self, from: u32) -> Option<u32>
+        ensures first { IfSome result (λ at. FirstFrom self.now from at) }
+        ensures none { IfNone result (NoneFrom self.now from) }
+    {
+        self.blocks.first_from(from)
     }
 
     /// The lowest free block of at least `needed` bytes, its header among them.

@@ -9,11 +9,12 @@ use Rattle.zone_index.proofs.Fresh.{master-marked}
 use Rattle.mac_base.specs.ZoneState.{ZoneState}
 use Rattle.zone_index.specs.Marks.{AreMarked}
 use Rattle.zone_index.proofs.Placed.{placed}
-use Rattle.zone_index.specs.Bounds.{AreBounds}
-use Rattle.zone_index.proofs.Opening.{bounds-master}
+use Rattle.zone_index.specs.Rooms.{AreRooms}
 use Rattle.zone_index.proofs.Changing.{pages-master}
 use Rattle.zone_index.proofs.PagesKept.{forgets-read, pages-kept}
 use Rattle.zone_index.proofs.Measured.{lengths-of}
+use Rattle.zone_index.proofs.RoomsRenewed.{touched-first}
+use Rattle.zone_index.proofs.RoomsChanged.{rooms-master}
 use Rattle.zone_index.proofs.zone.IndexedZone.build_master.Goals as goal
 
 pub invariant_of-self : goal.invariant_of-self
@@ -23,8 +24,9 @@ invariant_of-self c =
       fixed = subst (λ (z : ZoneState). AreMarked is_fixed z c.set.new.self) (sym (c.build_master.ensures room))
           (subst (AreMarked is_fixed (with_master c.self.inside.zone room.free)) (sym (c.set.ensures ∙ ap (λ p. set c.self.inside.marks p 1) p.value)) (master-marked c.self.inside.zone c.self.inside.marks c.self.invariant.fixed c.args.at room.free p.inside));
       purgeable = subst (λ (z : ZoneState). AreMarked may_go z c.self.inside.purgeable) (sym (c.build_master.ensures room)) (master-kept c.self.inside.zone c.self.inside.purgeable c.self.invariant.purgeable c.args.at room.free);
-      bounds = subst (λ (z : ZoneState). AreBounds z c.part.new.bounds) (sym (c.build_master.ensures room))
-          (bounds-master c.self.inside.zone c.self.inside.bounds c.part.new.bounds c.self.invariant.bounds c.args.at c.gap_around-gap.result c.gap_around-gap.ensures room.free c.part.ensures);
+      rooms = subst (λ (z : ZoneState). AreRooms z c.touch.new.self) (sym (c.build_master.ensures room))
+          (rooms-master c.self.inside.zone c.self.inside.rooms c.touch.new.self c.self.invariant.rooms c.args.at
+          (touched-first c.self.inside.rooms c.touch.new.self c.args.at c.self.view_is c.leaf-leaf.ensures.value c.touch.ensures.sums c.touch.ensures.here c.touch.ensures.others) room.free);
       pages = pages-kept c.self.inside.pages c.forget.new.pages (c.forget.auto.pages ∙ c.deref_mut.ensures.len) (c.build_master.ensures room)
           (pages-master c.self.inside.zone c.self.inside.pages.items c.forget.new.pages c.self.invariant.pages c.args.at
           (forgets-read c.args.at c.args.at c.self.view_is c.deref_mut.ensures.value c.page-page.ensures.value c.page-page.ensures.value c.forget.ensures) room.free);

@@ -1,4 +1,4 @@
-use Rattle.std.proofs.Common.{◌≡◌, ◌-◌, ◌/◌, ap, sym, subst, arith, ◌∷◌, IsTrue, ◌++◌, ◌∙◌}
+use Rattle.std.proofs.Common.{◌≡◌, ◌+◌, ◌-◌, ◌/◌, ap, sym, subst, arith, ◌∷◌, IsTrue, ◌++◌, ◌∙◌, ◌<◌, List, length}
 use Rattle.std.specs.Prelude.{IsTrue, ◌∷◌}
 use Rattle.mac_base.specs.declared.block.Entry.{Entry}
 use Rattle.mac_base.specs.Gap.{is_fixed}
@@ -14,12 +14,14 @@ use Rattle.zone_index.specs.Runs.{none_fixed}
 use Rattle.zone_index.proofs.Exchanged.{carried-marked}
 use Rattle.zone_index.proofs.Placed.{placed}
 use Rattle.zone_index.proofs.Turned.{carried-fits, carried-turned, parcel-entry}
-use Rattle.zone_index.specs.Bounds.{AreBounds}
-use Rattle.zone_index.proofs.Moving.{bounds-carry}
+use Rattle.zone_index.specs.Rooms.{AreRooms, leaf, leaf_count}
 use Rattle.zone_index.proofs.PagesKept.{forgets-read, pages-kept, part-ends}
 use Rattle.zone_index.proofs.Changing.{pages-carry}
 use Rattle.zone_index.proofs.Measured.{lengths-of}
 use Rattle.zone_laws.proofs.Maps.{total_size-append}
+use Rattle.zone_index.proofs.RoomsRenewed.{touched-first, touched-next}
+use Rattle.zone_index.proofs.RoomsChanged.{parcel_split, rooms-carry}
+use Rattle.block_sums.specs.declared.span.Span.{Span}
 use Rattle.zone_index.proofs.zone.IndexedZone.carry.Goals as goal
 
 pub invariant_of-self : goal.invariant_of-self
@@ -33,7 +35,12 @@ invariant_of-self c =
       fixed = subst (λ (z : ZoneState). AreMarked is_fixed z c.self.inside.marks) (sym (c.carry-2.ensures parcel)) (carried-marked z c.self.inside.marks c.self.invariant.fixed c.args.at c.args.end parcel loose);
       purgeable = subst (λ (z : ZoneState). AreMarked may_go z c.carry.new.marks) (sym (c.carry-2.ensures parcel))
           (carried-turned may_go z c.self.inside.purgeable c.carry.new.marks c.self.invariant.purgeable p.sizes c.args.at c.args.end parcel _ _ _ p.value (ap (λ n. n / 4) size) (ap (λ n. n / 4) run) c.carry.ensures);
-      bounds = subst (λ (z : ZoneState). AreBounds z c.self.inside.bounds) (sym (c.carry-2.ensures parcel)) (bounds-carry c.self.inside.zone c.self.inside.bounds c.self.invariant.bounds parcel loose);
+      rooms = (let passed = c.pass.ensures.passed in
+          let split = parcel_split z parcel (c.args.at + c.entry_at-size.result.size) (ap (λ n. c.args.at + n) size) in
+          let new : c.leaf_at-new.result ≡ leaf c.args.self.now.shape (c.args.at + total_size parcel.blocks) = c.leaf_at-new.ensures.value ∙ ap (λ n. leaf c.args.self.now.shape (c.args.at + n)) run in
+          subst (λ (z : ZoneState). AreRooms z c.touch-2.new.self) (sym (c.carry-2.ensures parcel))
+          (rooms-carry z c.self.inside.rooms c.pass.new.rooms c.touch-2.new.self c.self.invariant.rooms parcel loose (c.args.at + c.entry_at-size.result.size) (ap (λ n. c.args.at + n) size) c.pass.ensures.sums (passed split)
+          (touched-next c.pass.new.rooms c.touch.new.self c.touch-2.new.self (c.args.at + total_size parcel.blocks) (touched-first c.pass.new.rooms c.touch.new.self c.args.at c.self.view_is c.leaf-old.ensures.value c.touch.ensures.sums c.touch.ensures.here c.touch.ensures.others) c.self.view_is new c.touch-2.ensures.sums c.touch-2.ensures.here c.touch-2.ensures.others)));
       pages = pages-kept c.self.inside.pages c.forget.new.pages (c.forget.auto.pages ∙ c.deref_mut.ensures.len) (c.carry-2.ensures parcel)
           (pages-carry c.self.inside.zone c.self.inside.pages.items c.forget.new.pages c.self.invariant.pages parcel
           (forgets-read c.args.at c.args.end c.self.view_is c.deref_mut.ensures.value c.page-from.ensures.value c.page_at-to.ensures.value c.forget.ensures));
@@ -76,3 +83,40 @@ page_at-to-requires-clause-high c =
     let ends = part-ends c.args.self.now parcel.before (parcel.here ∷ parcel.blocks ++ parcel.behind) parcel.map in
     let all = total_size-append parcel.blocks parcel.behind in
     omega arith
+
+pub leaf_at-new-requires-clause-low : goal.leaf_at-new-requires-clause-low
+leaf_at-new-requires-clause-low c = let place = c.requires.parcel.place in omega arith
+
+pub leaf_at-new-requires-clause-high : goal.leaf_at-new-requires-clause-high
+leaf_at-new-requires-clause-high c =
+    let parcel = c.requires.parcel in
+    let place = parcel.place in
+    let long = parcel.long in
+    let ends = part-ends c.args.self.now parcel.before (parcel.here ∷ parcel.blocks ++ parcel.behind) parcel.map in
+    let all = total_size-append parcel.blocks parcel.behind in
+    omega arith
+
+pub pass-requires : goal.pass-requires
+pass-requires c =
+    let z = c.self.inside.zone in
+    let parcel = subst (λ (z : ZoneState). ParcelAt z c.args.at c.args.end) (sym c.self.view_is) c.requires.parcel in
+    let size = ap (λ (e : Entry). e.size) (c.entry_at-size.ensures (parcel-entry z parcel)) in
+    parcel_split z parcel (c.args.at + c.entry_at-size.result.size) (ap (λ n. c.args.at + n) size)
+
+pub touch-requires : goal.touch-requires
+touch-requires c =
+    let inside = subst (λ (z : ZoneState). c.leaf-old.result < leaf_count z) (sym c.self.view_is) c.leaf-old.ensures.inside in
+    let long = ap (λ (xs : List Span). length xs) c.pass.ensures.sums ∙ c.self.invariant.rooms.places in
+    omega arith
+
+pub touch-requires-2 : goal.touch-requires-2
+touch-requires-2 c =
+    let inside = subst (λ (z : ZoneState). c.leaf_at-new.result < leaf_count z) (sym c.self.view_is) c.leaf_at-new.ensures.inside in
+    let long = ap (λ (xs : List Span). length xs) (c.touch.ensures.sums ∙ c.pass.ensures.sums) ∙ c.self.invariant.rooms.places in
+    omega arith
+
+pub overflow_add-at-2 : goal.overflow_add-at-2
+overflow_add-at-2 c =
+    let parcel = subst (λ (z : ZoneState). ParcelAt z c.args.at c.args.end) (sym c.self.view_is) c.requires.parcel in
+    let size = ap (λ (e : Entry). e.size) (c.entry_at-size.ensures (parcel-entry c.self.inside.zone parcel)) in
+    omega (arith, size, parcel.long, c.ranges.end.fits)

@@ -1,10 +1,11 @@
 use Rattle.zone_index.proofs.Rules.{fixes, goes}
 use Rattle.zone_index.proofs.Table.{rewritten-marked}
-use Rattle.zone_index.proofs.Moving.{bounds-written}
 use Rattle.mac_base.specs.HandleTable.{bytes_of, with_bytes}
 use Rattle.mac_base.specs.ZoneState.{overwritten}
 use Rattle.zone_index.proofs.Changing.{pages-written}
 use Rattle.zone_index.proofs.Measured.{length-overwritten, lengths-kept, same-with_bytes}
+use Rattle.zone_index.specs.Rooms.{AreRooms}
+use Rattle.zone_index.proofs.RoomsChanged.{rooms-written}
 use Rattle.zone_index.proofs.zone.IndexedZone.contents_mut.Goals as goal
 
 pub invariant_of-self-lent : goal.invariant_of-self-lent
@@ -12,7 +13,7 @@ invariant_of-self-lent c ws =
     record {
       fixed = rewritten-marked fixes c.self.inside.zone c.self.inside.marks c.self.invariant.fixed c.args.block _;
       purgeable = rewritten-marked goes c.self.inside.zone c.self.inside.purgeable c.self.invariant.purgeable c.args.block _;
-      bounds = bounds-written c.self.inside.zone c.self.inside.bounds c.self.invariant.bounds c.args.block ws;
+      rooms = rooms-written c.self.inside.zone c.self.inside.rooms c.self.invariant.rooms c.args.block ws;
       pages = (let t = c.self.inside.zone.heap.table in
           let x = c.args.block in
           let bytes = overwritten (bytes_of t x) ws in pages-written c.self.inside.zone c.self.inside.pages.items c.self.invariant.pages x ws);

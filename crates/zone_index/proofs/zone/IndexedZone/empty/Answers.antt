@@ -7,13 +7,14 @@ use Rattle.zone_index.specs.Purging.{may_go}
 use Rattle.zone_index.proofs.Freed.{emptied-marked}
 use Rattle.zone_index.proofs.Placed.{placed}
 use Rattle.zone_index.proofs.Rules.{fixes, goes}
-use Rattle.zone_index.specs.Bounds.{AreBounds}
-use Rattle.zone_index.proofs.Opening.{bounds-emptied}
+use Rattle.zone_index.specs.Rooms.{AreRooms}
 use Rattle.linked_zone.specs.Fit.{Fits}
 use Rattle.zone_index.proofs.Changing.{pages-emptied}
 use Rattle.zone_index.proofs.PagesKept.{forgets-read, pages-kept}
 use Rattle.mac_base.specs.HandleTable.{EmptyHandle}
 use Rattle.zone_index.proofs.Measured.{lengths-given, lengths-of}
+use Rattle.zone_index.proofs.RoomsRenewed.{touched-first}
+use Rattle.zone_index.proofs.RoomsChanged.{rooms-emptied}
 use Rattle.zone_index.proofs.zone.IndexedZone.empty.Goals as goal
 
 pub invariant_of-self : goal.invariant_of-self
@@ -26,9 +27,11 @@ invariant_of-self c =
       purgeable = subst (λ (z : ZoneState). AreMarked may_go z c.write-2.new.marks) (sym c.empty.ensures)
           (subst (AreMarked may_go (without_block c.args.handle z)) (sym (c.write-2.ensures ∙ ap (λ p. set c.self.inside.purgeable p 0) p.value))
           (emptied-marked goes z c.self.inside.purgeable c.self.invariant.purgeable c.args.handle c.block_of-at.result p.sizes c.block_of-at.ensures p.inside));
-      bounds = (let own = c.block_of-at.ensures in
-          subst (λ (z : ZoneState). AreBounds z c.join.new.bounds) (sym c.empty.ensures)
-          (bounds-emptied c.self.inside.zone c.self.inside.bounds c.join.new.bounds c.self.invariant.bounds c.block_of-at.result c.gap_around-gap.result c.gap_around-gap.ensures c.args.handle own c.join.ensures));
+      rooms = (let own = c.block_of-at.ensures in
+          let fits = subst Fits (sym c.self.view_is) c.page-page.ensures.fits in
+          subst (λ (z : ZoneState). AreRooms z c.touch.new.self) (sym c.empty.ensures)
+          (rooms-emptied c.self.inside.zone c.self.inside.rooms c.touch.new.self c.self.invariant.rooms c.block_of-at.result
+          (touched-first c.self.inside.rooms c.touch.new.self c.block_of-at.result c.self.view_is c.leaf-leaf.ensures.value c.touch.ensures.sums c.touch.ensures.here c.touch.ensures.others) c.args.handle fits own));
       pages = (let own = c.block_of-at.ensures in
           let fits = subst Fits (sym c.self.view_is) c.page-page.ensures.fits in
           pages-kept c.self.inside.pages c.forget.new.pages (c.forget.auto.pages ∙ c.deref_mut.ensures.len) c.empty.ensures

@@ -9,14 +9,15 @@ use Rattle.mac_base.specs.ZoneState.{ZoneState}
 use Rattle.zone_index.specs.Marks.{AreMarked}
 use Rattle.zone_index.proofs.Placed.{placed}
 use Rattle.linked_zone.specs.Fit.{Fits}
-use Rattle.zone_index.specs.Bounds.{AreBounds}
-use Rattle.zone_index.proofs.Opening.{bounds-fixed}
+use Rattle.zone_index.specs.Rooms.{AreRooms}
 use Rattle.zone_index.proofs.Changing.{pages-fixed}
 use Rattle.zone_index.proofs.PagesKept.{forgets-read, pages-kept}
 use Rattle.std.proofs.lemmas.List.{length-replicate}
 use Rattle.mac_base.specs.HandleTable.{Pointer, zeros}
 use Rattle.mac_base.specs.HeadKind.{head_size}
 use Rattle.zone_index.proofs.Measured.{lengths-given, lengths-of}
+use Rattle.zone_index.proofs.RoomsRenewed.{touched-first}
+use Rattle.zone_index.proofs.RoomsChanged.{rooms-fixed}
 use Rattle.zone_index.proofs.zone.IndexedZone.fix.Goals as goal
 
 pub invariant_of-self : goal.invariant_of-self
@@ -26,9 +27,10 @@ invariant_of-self c =
       fixed = subst (λ (z : ZoneState). AreMarked is_fixed z c.set.new.self) (sym (c.fix-pointer.ensures.zone room))
           (subst (AreMarked is_fixed (fixed c.args.length c.self.inside.zone room.free)) (sym (c.set.ensures ∙ ap (λ p. set c.self.inside.marks p 1) p.value)) (fixed-marked c.self.inside.zone c.self.inside.marks c.self.invariant.fixed c.args.length c.args.at room.free p.inside));
       purgeable = subst (λ (z : ZoneState). AreMarked may_go z c.self.inside.purgeable) (sym (c.fix-pointer.ensures.zone room)) (fixed-kept c.self.inside.zone c.self.inside.purgeable c.self.invariant.purgeable c.args.length c.args.at room.free);
-      bounds = (let fits = subst Fits (c.fix-pointer.ensures.zone room) c.spec-spec.ensures.fits in
-          subst (λ (z : ZoneState). AreBounds z c.part.new.bounds) (sym (c.fix-pointer.ensures.zone room))
-          (bounds-fixed c.self.inside.zone c.self.inside.bounds c.part.new.bounds c.self.invariant.bounds c.args.at c.gap_around-gap.result c.gap_around-gap.ensures c.args.length room.free fits c.part.ensures));
+      rooms = (let fits = subst Fits (c.fix-pointer.ensures.zone room) c.spec-spec.ensures.fits in
+          subst (λ (z : ZoneState). AreRooms z c.touch.new.self) (sym (c.fix-pointer.ensures.zone room))
+          (rooms-fixed c.self.inside.zone c.self.inside.rooms c.touch.new.self c.self.invariant.rooms c.args.at
+          (touched-first c.self.inside.rooms c.touch.new.self c.args.at c.self.view_is c.leaf-leaf.ensures.value c.touch.ensures.sums c.touch.ensures.here c.touch.ensures.others) c.args.length room.free fits));
       pages = (let fits = subst Fits (c.fix-pointer.ensures.zone room) c.spec-spec.ensures.fits in
           pages-kept c.self.inside.pages c.forget.new.pages (c.forget.auto.pages ∙ c.deref_mut.ensures.len) (c.fix-pointer.ensures.zone room)
           (pages-fixed c.self.inside.zone c.self.inside.pages.items c.forget.new.pages c.self.invariant.pages c.args.at

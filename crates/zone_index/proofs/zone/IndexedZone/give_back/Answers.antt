@@ -3,13 +3,13 @@ use Rattle.mac_base.specs.ZoneState.{ZoneState}
 use Rattle.zone_index.specs.Marks.{AreMarked}
 use Rattle.zone_index.proofs.Table.{returned-marked}
 use Rattle.zone_index.proofs.Rules.{Rule, fixes, goes}
-use Rattle.zone_index.specs.Bounds.{AreBounds}
-use Rattle.zone_index.proofs.Moving.{bounds-returned}
+use Rattle.zone_index.specs.Rooms.{AreRooms}
 use Rattle.mac_base.specs.Loans.{returned}
 use Rattle.linked_zone.specs.Loans.{IsLoanOf}
 use Rattle.zone_index.specs.Pages.{ArePages}
 use Rattle.zone_index.proofs.Changing.{pages-returned}
 use Rattle.zone_index.proofs.Measured.{lengths-kept, lengths-of, same-with_bytes}
+use Rattle.zone_index.proofs.RoomsChanged.{rooms-returned}
 use Rattle.zone_index.proofs.zone.IndexedZone.give_back.Goals as goal
 
 pub invariant_of-self : goal.invariant_of-self
@@ -17,7 +17,7 @@ invariant_of-self c =
     let keep : (r : Rule) (marks : List ℕ) → AreMarked r.test c.self.inside.zone marks → AreMarked r.test c.give_back.new.self marks = λ r marks are. subst (λ (z : ZoneState). AreMarked r.test z marks) (sym c.give_back.ensures) (returned-marked r c.self.inside.zone marks are c.args.block c.args.loan.bytes) in record {
       fixed = keep fixes _ c.self.invariant.fixed;
       purgeable = keep goes _ c.self.invariant.purgeable;
-      bounds = subst (λ (z : ZoneState). AreBounds z c.self.inside.bounds) (sym c.give_back.ensures) (bounds-returned c.self.inside.zone c.self.inside.bounds c.self.invariant.bounds c.args.block c.args.loan.bytes);
+      rooms = subst (λ (z : ZoneState). AreRooms z c.self.inside.rooms) (sym c.give_back.ensures) (rooms-returned c.self.inside.zone c.self.inside.rooms c.self.invariant.rooms c.args.block c.args.loan.bytes);
       pages = subst (λ (z : ZoneState). ArePages z c.self.inside.pages.items) (sym c.give_back.ensures) (pages-returned c.self.inside.zone c.self.inside.pages.items c.self.invariant.pages c.args.block c.args.loan.bytes);
       lengths = (let loan = subst (λ (z : ZoneState). IsLoanOf z c.args.block c.args.loan) (sym c.self.view_is) c.requires in
           lengths-of c.self.inside.lengths c.give_back.ensures (lengths-kept c.self.inside.zone.heap.table (returned c.args.block c.args.loan.bytes c.self.inside.zone.heap).table c.self.inside.lengths c.self.invariant.lengths (same-with_bytes c.args.block c.args.loan.bytes c.self.inside.zone.heap.table loan.long)));

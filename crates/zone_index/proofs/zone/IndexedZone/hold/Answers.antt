@@ -7,11 +7,13 @@ use Rattle.zone_index.proofs.Exchanged.{held-marked}
 use Rattle.zone_index.proofs.Rules.{Rule, fixes, goes}
 use Rattle.mac_base.specs.HandleTable.{has_block}
 use Rattle.linked_zone.specs.Fit.{Fits}
-use Rattle.zone_index.specs.Bounds.{AreBounds}
+use Rattle.zone_index.specs.Rooms.{AreRooms}
 use Rattle.zone_index.proofs.Named.{named-owner}
 use Rattle.zone_index.proofs.PagesKept.{forgets-read, named-place, named-reach, pages-kept}
 use Rattle.zone_index.proofs.Changing.{pages-held}
 use Rattle.zone_index.proofs.Measured.{lengths-of, lengths-sized}
+use Rattle.zone_index.proofs.RoomsRenewed.{touched-first, touched-next}
+use Rattle.zone_index.proofs.RoomsChanged.{rooms-held}
 use Rattle.zone_index.proofs.zone.IndexedZone.hold.Goals as goal
 
 pub invariant_of-self : goal.invariant_of-self
@@ -20,7 +22,12 @@ invariant_of-self c =
     let keep : (r : Rule) (marks : List ℕ) → AreMarked r.test c.self.inside.zone marks → AreMarked r.test c.hold.new.self marks = λ r marks are. subst (λ (z : ZoneState). AreMarked r.test z marks) (sym (c.hold.ensures can)) (held-marked r c.self.inside.zone marks are can) in record {
       fixed = keep fixes _ c.self.invariant.fixed;
       purgeable = keep goes _ c.self.invariant.purgeable;
-      bounds = subst (λ (z : ZoneState). AreBounds z c.shorten.new.bounds) (sym (c.hold.ensures can)) (c.shorten.ensures can);
+      rooms = (let named = c.place_of-at.ensures in
+          let fits = c.spec-spec.ensures.fits in
+          let place = named-place c.self.inside.zone c.args.block c.place_of-at.result fits named can.before can.here can.behind can.map can.named in
+          subst (λ (z : ZoneState). AreRooms z c.touch-2.new.self) (sym (c.hold.ensures can))
+          (rooms-held c.self.inside.zone c.self.inside.rooms c.touch-2.new.self c.self.invariant.rooms can place
+          (touched-next c.self.inside.rooms c.touch.new.self c.touch-2.new.self (c.place_of-at.result + c.args.size) (touched-first c.self.inside.rooms c.touch.new.self c.place_of-at.result c.self.view_is c.leaf-low.ensures.value c.touch.ensures.sums c.touch.ensures.here c.touch.ensures.others) c.self.view_is c.leaf_at-high.ensures.value c.touch-2.ensures.sums c.touch-2.ensures.here c.touch-2.ensures.others)));
       pages = (let named = c.place_of-at.ensures in
           let fits = c.spec-spec.ensures.fits in
           let place = named-place c.self.inside.zone c.args.block c.place_of-at.result fits named can.before can.here can.behind can.map can.named in
@@ -43,8 +50,8 @@ place_of-at-requires c =
     subst (λ (z : ZoneState). has_block z.heap.table c.args.block ≡ true) (sym same)
     (named-owner c.args.self.now c.args.block can.before can.here can.behind (subst Fits same c.spec-spec.ensures.fits) can.map can.named)
 
-pub overflow_add-at : goal.overflow_add-at
-overflow_add-at c =
+pub overflow_add-end : goal.overflow_add-end
+overflow_add-end c =
     let can = c.requires.room in
     let named = subst (λ (z : ZoneState). NamedAt z c.args.block c.place_of-at.result) c.self.view_is c.place_of-at.ensures in
     let high = named-reach c.args.self.now c.args.block c.place_of-at.result c.args.size c.page-first.ensures.fits named can.before can.here can.behind can.map can.named (let within = can.fits.within in omega arith) in
@@ -63,3 +70,16 @@ page_at-last-requires-clause-high c =
     let can = c.requires.room in
     let named = subst (λ (z : ZoneState). NamedAt z c.args.block c.place_of-at.result) c.self.view_is c.place_of-at.ensures in
     named-reach c.args.self.now c.args.block c.place_of-at.result c.args.size c.page-first.ensures.fits named can.before can.here can.behind can.map can.named (let within = can.fits.within in omega arith)
+
+pub leaf_at-high-requires-clause-high : goal.leaf_at-high-requires-clause-high
+leaf_at-high-requires-clause-high c =
+    let can = c.requires.room in
+    let named = subst (λ (z : ZoneState). NamedAt z c.args.block c.place_of-at.result) c.self.view_is c.place_of-at.ensures in
+    named-reach c.args.self.now c.args.block c.place_of-at.result c.args.size c.page-first.ensures.fits named can.before can.here can.behind can.map can.named (let within = can.fits.within in omega arith)
+
+pub leaf_at-high-requires-clause-low : goal.leaf_at-high-requires-clause-low
+leaf_at-high-requires-clause-low c =
+    let same = c.self.view_is in
+    let named = subst (λ (z : ZoneState). NamedAt z c.args.block c.place_of-at.result) same c.place_of-at.ensures in
+    let place = named.place in
+    omega arith

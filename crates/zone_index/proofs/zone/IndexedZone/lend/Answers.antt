@@ -3,11 +3,11 @@ use Rattle.mac_base.specs.ZoneState.{ZoneState}
 use Rattle.zone_index.specs.Marks.{AreMarked}
 use Rattle.zone_index.proofs.Table.{lent_out-marked}
 use Rattle.zone_index.proofs.Rules.{Rule, fixes, goes}
-use Rattle.zone_index.specs.Bounds.{AreBounds}
-use Rattle.zone_index.proofs.Moving.{bounds-lent}
+use Rattle.zone_index.specs.Rooms.{AreRooms}
 use Rattle.zone_index.specs.Pages.{ArePages}
 use Rattle.zone_index.proofs.Changing.{pages-lent}
 use Rattle.zone_index.proofs.Measured.{lengths-of}
+use Rattle.zone_index.proofs.RoomsChanged.{rooms-lent}
 use Rattle.zone_index.proofs.zone.IndexedZone.lend.Goals as goal
 
 pub invariant_of-self : goal.invariant_of-self
@@ -15,7 +15,7 @@ invariant_of-self c =
     let keep : (r : Rule) (marks : List ℕ) → AreMarked r.test c.self.inside.zone marks → AreMarked r.test c.lend.new.self marks = λ r marks are. subst (λ (z : ZoneState). AreMarked r.test z marks) (sym c.lend.ensures.zone) (lent_out-marked r c.self.inside.zone marks are c.args.block) in record {
       fixed = keep fixes _ c.self.invariant.fixed;
       purgeable = keep goes _ c.self.invariant.purgeable;
-      bounds = subst (λ (z : ZoneState). AreBounds z c.self.inside.bounds) (sym c.lend.ensures.zone) (bounds-lent c.self.inside.zone c.self.inside.bounds c.self.invariant.bounds c.args.block);
+      rooms = subst (λ (z : ZoneState). AreRooms z c.self.inside.rooms) (sym c.lend.ensures.zone) (rooms-lent c.self.inside.zone c.self.inside.rooms c.self.invariant.rooms c.args.block);
       pages = subst (λ (z : ZoneState). ArePages z c.self.inside.pages.items) (sym c.lend.ensures.zone) (pages-lent c.self.inside.zone c.self.inside.pages.items c.self.invariant.pages c.args.block);
       lengths = lengths-of c.self.inside.lengths c.lend.ensures.zone c.self.invariant.lengths;
     }

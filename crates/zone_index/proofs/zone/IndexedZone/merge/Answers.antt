@@ -5,8 +5,7 @@ use Rattle.linked_zone.specs.Places.{FreePair, FreeAt}
 use Rattle.zone_index.specs.Marks.{AreMarked}
 use Rattle.zone_index.proofs.Exchanged.{joined-marked}
 use Rattle.zone_index.proofs.Rules.{Rule, fixes, goes}
-use Rattle.zone_index.specs.Bounds.{AreBounds}
-use Rattle.zone_index.proofs.Moving.{bounds-merge}
+use Rattle.zone_index.specs.Rooms.{AreRooms, leaf}
 use Rattle.mac_base.specs.declared.block.Kind.TheVariants.{Free}
 use Rattle.mac_base.specs.ZoneMap.{block}
 use Rattle.zone_index.specs.Pages.{page}
@@ -14,6 +13,8 @@ use Rattle.zone_index.proofs.PagesKept.{forgets-read, pages-kept, part-ends}
 use Rattle.zone_index.proofs.Changed.{first_free}
 use Rattle.zone_index.proofs.Changing.{pages-merge}
 use Rattle.zone_index.proofs.Measured.{lengths-of}
+use Rattle.zone_index.proofs.RoomsRenewed.{touched-first, touched-next}
+use Rattle.zone_index.proofs.RoomsChanged.{rooms-merge}
 use Rattle.zone_index.proofs.zone.IndexedZone.merge.Goals as goal
 
 pub invariant_of-self : goal.invariant_of-self
@@ -22,7 +23,10 @@ invariant_of-self c =
     let keep : (r : Rule) (marks : List ℕ) → AreMarked r.test c.self.inside.zone marks → AreMarked r.test c.merge.new.self marks = λ r marks are. subst (λ (z : ZoneState). AreMarked r.test z marks) (sym (c.merge.ensures pair)) (joined-marked r c.self.inside.zone marks are c.args.at pair) in record {
       fixed = keep fixes _ c.self.invariant.fixed;
       purgeable = keep goes _ c.self.invariant.purgeable;
-      bounds = subst (λ (z : ZoneState). AreBounds z c.self.inside.bounds) (sym (c.merge.ensures pair)) (bounds-merge c.self.inside.zone c.self.inside.bounds c.self.invariant.bounds pair);
+      rooms = (let size = c.free_size.ensures (first_free c.self.inside.zone pair) in
+          subst (λ (z : ZoneState). AreRooms z c.touch-2.new.self) (sym (c.merge.ensures pair))
+          (rooms-merge c.self.inside.zone c.self.inside.rooms c.touch-2.new.self c.self.invariant.rooms pair
+          (touched-next c.self.inside.rooms c.touch.new.self c.touch-2.new.self (c.args.at + pair.first) (touched-first c.self.inside.rooms c.touch.new.self c.args.at c.self.view_is c.leaf-low.ensures.value c.touch.ensures.sums c.touch.ensures.here c.touch.ensures.others) c.self.view_is (subst (λ n. c.leaf_at-high.result ≡ leaf c.args.self.now.shape (c.args.at + n)) size c.leaf_at-high.ensures.value) c.touch-2.ensures.sums c.touch-2.ensures.here c.touch-2.ensures.others)));
       pages = (let size = c.free_size.ensures (first_free c.self.inside.zone pair) in
           pages-kept c.self.inside.pages c.forget.new.pages (c.forget.auto.pages ∙ c.deref_mut.ensures.len) (c.merge.ensures pair)
           (pages-merge c.self.inside.zone c.self.inside.pages.items c.forget.new.pages c.self.invariant.pages pair
@@ -35,8 +39,8 @@ pub returns : goal.returns
 returns c =
     subst (λ (z : ZoneState). (pair : FreePair z c.args.at) → c.merge.new.self ≡ joined_pair z pair) c.self.view_is c.merge.ensures
 
-pub overflow_add-at : goal.overflow_add-at
-overflow_add-at c =
+pub overflow_add-behind : goal.overflow_add-behind
+overflow_add-behind c =
     let pair = c.requires in
     let place = pair.place in
     let size = subst (λ (z : ZoneState). (f : FreeAt z c.args.at) → c.free_size.result ≡ f.size) (c.self.view_is) c.free_size.ensures (first_free c.args.self.now pair) in
@@ -46,6 +50,14 @@ overflow_add-at c =
 
 pub page_at-last-requires-clause-high : goal.page_at-last-requires-clause-high
 page_at-last-requires-clause-high c =
+    let pair = c.requires in
+    let place = pair.place in
+    let size = subst (λ (z : ZoneState). (f : FreeAt z c.args.at) → c.free_size.result ≡ f.size) (c.self.view_is) c.free_size.ensures (first_free c.args.self.now pair) in
+    let ends = part-ends c.args.self.now pair.before (block Free pair.first ∷ block Free pair.second ∷ pair.behind) pair.map in
+    omega arith
+
+pub leaf_at-high-requires-clause-high : goal.leaf_at-high-requires-clause-high
+leaf_at-high-requires-clause-high c =
     let pair = c.requires in
     let place = pair.place in
     let size = subst (λ (z : ZoneState). (f : FreeAt z c.args.at) → c.free_size.result ≡ f.size) (c.self.view_is) c.free_size.ensures (first_free c.args.self.now pair) in

@@ -6,12 +6,13 @@ use Rattle.zone_index.specs.Marks.{AreMarked}
 use Rattle.zone_index.proofs.Exchanged.{pointed-marked}
 use Rattle.zone_index.proofs.Rules.{Rule, fixes, goes}
 use Rattle.mac_base.specs.HandleTable.{EmptyHandle, live_at, FullHandle, no_flags, zeros}
-use Rattle.zone_index.specs.Bounds.{AreBounds}
-use Rattle.zone_index.proofs.Moving.{bounds-point}
+use Rattle.zone_index.specs.Rooms.{AreRooms}
 use Rattle.zone_index.proofs.Changing.{pages-pointed}
 use Rattle.zone_index.proofs.PagesKept.{forgets-read, pages-kept}
 use Rattle.std.proofs.lemmas.List.{length-replicate}
 use Rattle.zone_index.proofs.Measured.{lengths-given, lengths-of}
+use Rattle.zone_index.proofs.RoomsRenewed.{touched-first}
+use Rattle.zone_index.proofs.RoomsChanged.{rooms-pointed}
 use Rattle.zone_index.proofs.zone.IndexedZone.point.Goals as goal
 
 pub invariant_of-self : goal.invariant_of-self
@@ -20,8 +21,10 @@ invariant_of-self c =
     let keep : (r : Rule) (marks : List ℕ) → AreMarked r.test c.self.inside.zone marks → AreMarked r.test c.point.new.self marks = λ r marks are. subst (λ (z : ZoneState). AreMarked r.test z marks) (sym (c.point.ensures room)) (pointed-marked r c.self.inside.zone marks are c.args.handle c.args.length c.args.at room.free) in record {
       fixed = keep fixes _ c.self.invariant.fixed;
       purgeable = keep goes _ c.self.invariant.purgeable;
-      bounds = (let empty = subst (λ (z : ZoneState). live_at z.heap.table c.args.handle ≡ Some EmptyHandle) (sym c.self.view_is) c.requires.empty in
-          subst (λ (z : ZoneState). AreBounds z c.self.inside.bounds) (sym (c.point.ensures room)) (bounds-point c.self.inside.zone c.self.inside.bounds c.self.invariant.bounds c.args.handle c.args.length room.free empty));
+      rooms = (let empty = subst (λ (z : ZoneState). live_at z.heap.table c.args.handle ≡ Some EmptyHandle) (sym c.self.view_is) c.requires.empty in
+          subst (λ (z : ZoneState). AreRooms z c.touch.new.self) (sym (c.point.ensures room))
+          (rooms-pointed c.self.inside.zone c.self.inside.rooms c.touch.new.self c.self.invariant.rooms c.args.at
+          (touched-first c.self.inside.rooms c.touch.new.self c.args.at c.self.view_is c.leaf-leaf.ensures.value c.touch.ensures.sums c.touch.ensures.here c.touch.ensures.others) c.args.handle c.args.length room.free empty));
       pages = (let empty = subst (λ (z : ZoneState). live_at z.heap.table c.args.handle ≡ Some EmptyHandle) (sym c.self.view_is) c.requires.empty in
           pages-kept c.self.inside.pages c.forget.new.pages (c.forget.auto.pages ∙ c.deref_mut.ensures.len) (c.point.ensures room)
           (pages-pointed c.self.inside.zone c.self.inside.pages.items c.forget.new.pages c.self.invariant.pages c.args.at

@@ -4,11 +4,11 @@ use Rattle.zone_index.specs.Marks.{AreMarked}
 use Rattle.zone_index.proofs.Table.{given_back-marked}
 use Rattle.zone_index.proofs.Rules.{Rule, fixes, goes}
 use Rattle.mac_base.specs.HandleTable.{EmptyHandle, live_at, without}
-use Rattle.zone_index.specs.Bounds.{AreBounds}
-use Rattle.zone_index.proofs.Moving.{bounds-release}
+use Rattle.zone_index.specs.Rooms.{AreRooms}
 use Rattle.zone_index.specs.Pages.{ArePages}
 use Rattle.zone_index.proofs.Changing.{pages-released}
 use Rattle.zone_index.proofs.Measured.{lengths-of, lengths-kept, same-without}
+use Rattle.zone_index.proofs.RoomsChanged.{rooms-released}
 use Rattle.zone_index.proofs.zone.IndexedZone.release.Goals as goal
 
 pub invariant_of-self : goal.invariant_of-self
@@ -16,8 +16,8 @@ invariant_of-self c =
     let keep : (r : Rule) (marks : List ℕ) → AreMarked r.test c.self.inside.zone marks → AreMarked r.test c.release.new.self marks = λ r marks are. subst (λ (z : ZoneState). AreMarked r.test z marks) (sym c.release.ensures) (given_back-marked r c.self.inside.zone marks are c.args.handle) in record {
       fixed = keep fixes _ c.self.invariant.fixed;
       purgeable = keep goes _ c.self.invariant.purgeable;
-      bounds = (let empty = subst (λ (z : ZoneState). live_at z.heap.table c.args.handle ≡ Some EmptyHandle) (sym c.self.view_is) c.requires in
-          subst (λ (z : ZoneState). AreBounds z c.self.inside.bounds) (sym c.release.ensures) (bounds-release c.self.inside.zone c.self.inside.bounds c.self.invariant.bounds c.args.handle empty));
+      rooms = (let empty = subst (λ (z : ZoneState). live_at z.heap.table c.args.handle ≡ Some EmptyHandle) (sym c.self.view_is) c.requires in
+          subst (λ (z : ZoneState). AreRooms z c.self.inside.rooms) (sym c.release.ensures) (rooms-released c.self.inside.zone c.self.inside.rooms c.self.invariant.rooms c.args.handle empty));
       pages = (let empty = subst (λ (z : ZoneState). live_at z.heap.table c.args.handle ≡ Some EmptyHandle) (sym c.self.view_is) c.requires in
           subst (λ (z : ZoneState). ArePages z c.self.inside.pages.items) (sym c.release.ensures) (pages-released c.self.inside.zone c.self.inside.pages.items c.self.invariant.pages c.args.handle empty));
       lengths = (let empty = subst (λ (z : ZoneState). live_at z.heap.table c.args.handle ≡ Some EmptyHandle) (sym c.self.view_is) c.requires in lengths-of c.self.inside.lengths c.release.ensures (lengths-kept c.self.inside.zone.heap.table (without c.args.handle c.self.inside.zone.heap.table) c.self.inside.lengths c.self.invariant.lengths (same-without c.args.handle c.self.inside.zone.heap.table empty)));

@@ -9,14 +9,15 @@ use Rattle.zone_index.specs.Marks.{AreMarked}
 use Rattle.zone_index.specs.Purging.{may_go}
 use Rattle.zone_index.proofs.Freed.{moved-marked, relocated-marked}
 use Rattle.zone_index.proofs.Placed.{placed}
-use Rattle.zone_index.specs.Bounds.{AreBounds}
-use Rattle.zone_index.proofs.Opening.{bounds-relocated}
+use Rattle.zone_index.specs.Rooms.{AreRooms}
 use Rattle.std.proofs.lemmas.List.{with_items_is}
 use Rattle.std.specs.Vec.{with_items}
 use Rattle.linked_zone.specs.Fit.{Fits}
 use Rattle.zone_index.proofs.Changing.{pages-relocated}
 use Rattle.zone_index.proofs.PagesKept.{forgets-read, pages-kept}
 use Rattle.zone_index.proofs.Measured.{lengths-of, lengths-sized}
+use Rattle.zone_index.proofs.RoomsRenewed.{touched-first}
+use Rattle.zone_index.proofs.RoomsChanged.{rooms-relocated}
 use Rattle.zone_index.proofs.zone.IndexedZone.relocate.Goals as goal
 
 pub invariant_of-self : goal.invariant_of-self
@@ -34,9 +35,13 @@ invariant_of-self c =
       purgeable = subst (λ (z : ZoneState). AreMarked may_go z c.write-2.new.marks) (sym (c.relocate.ensures room))
           (subst (AreMarked may_go (relocated c.args.handle c.args.length z room.free)) (sym both)
           (moved-marked z marks c.self.invariant.purgeable old.sizes c.args.handle c.args.length c.block_of-from.result c.args.at room.free c.block_of-from.ensures old.inside new.inside));
-      bounds = (let own = c.block_of-from.ensures in
-          subst (λ (z : ZoneState). AreBounds z c.join.new.bounds) (sym (c.relocate.ensures room))
-          (bounds-relocated c.self.inside.zone c.self.inside.bounds c.join.new.bounds c.self.invariant.bounds c.block_of-from.result c.gap_around-gap.result c.gap_around-gap.ensures c.args.handle c.args.length room.free own unlocked c.join.ensures));
+      rooms = (let own = c.block_of-from.ensures in
+          let fits = subst Fits (sym c.self.view_is) c.page-from_page.ensures.fits in
+          subst (λ (z : ZoneState). AreRooms z c.touch-2.new.self) (sym (c.relocate.ensures room))
+          (rooms-relocated c.self.inside.zone c.self.inside.rooms c.touch.new.self c.self.invariant.rooms c.block_of-from.result
+          (touched-first c.self.inside.rooms c.touch.new.self c.block_of-from.result c.self.view_is c.leaf-from_leaf.ensures.value c.touch.ensures.sums c.touch.ensures.here c.touch.ensures.others)
+          c.args.handle c.args.length c.args.at c.touch-2.new.self room.free fits own
+          (touched-first c.touch.new.self c.touch-2.new.self c.args.at c.self.view_is c.leaf-to_leaf.ensures.value c.touch-2.ensures.sums c.touch-2.ensures.here c.touch-2.ensures.others)));
       pages = (let own = c.block_of-from.ensures in
           let fits = subst Fits (sym c.self.view_is) c.page-from_page.ensures.fits in
           let first = with_items_is c.self.inside.pages c.forget.new.pages (c.forget.auto.pages ∙ c.deref_mut.ensures.len) in

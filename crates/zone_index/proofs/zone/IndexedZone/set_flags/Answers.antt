@@ -10,10 +10,12 @@ use Rattle.zone_index.proofs.Fresh.{flagged-marked}
 use Rattle.zone_index.proofs.Placed.{placed}
 use Rattle.zone_index.proofs.Rules.{fixes, goes}
 use mir.Val.{bool_byte}
-use Rattle.zone_index.specs.Bounds.{AreBounds}
+use Rattle.zone_index.specs.Rooms.{AreRooms}
 use Rattle.zone_index.proofs.Changing.{pages-flagged}
 use Rattle.zone_index.proofs.PagesKept.{forgets-read, pages-kept}
 use Rattle.zone_index.proofs.Measured.{lengths-of, lengths-kept, same-with_flags}
+use Rattle.zone_index.proofs.RoomsRenewed.{touched-first}
+use Rattle.zone_index.proofs.RoomsChanged.{rooms-flagged}
 use Rattle.zone_index.proofs.zone.IndexedZone.set_flags.Goals as goal
 
 pub invariant_of-self : goal.invariant_of-self
@@ -29,7 +31,11 @@ invariant_of-self c =
       purgeable = subst (λ (z : ZoneState). AreMarked may_go z c.write-2.new.marks) (sym c.set_flags.ensures)
           (subst (AreMarked may_go (flagged c.args.handle c.args.flags z)) (sym (c.write-2.ensures ∙ ap (λ p. set c.self.inside.purgeable p c.from-2.result) p.value))
           (flagged-marked goes z c.self.inside.purgeable c.self.invariant.purgeable c.args.handle c.block_of-at.result c.args.flags fits p.sizes full c.block_of-at.ensures p.inside c.from-2.result (λ is. goes_now ∙ ap bool_byte is) (λ is. goes_now ∙ ap bool_byte is)));
-      bounds = subst (λ (z : ZoneState). AreBounds z c.relock.new.bounds) (sym c.set_flags.ensures) c.relock.ensures;
+      rooms = (let own = c.block_of-at.ensures in
+          let fits = subst Fits (sym c.self.view_is) c.page-page.ensures.fits in
+          subst (λ (z : ZoneState). AreRooms z c.touch.new.self) (sym c.set_flags.ensures)
+          (rooms-flagged c.self.inside.zone c.self.inside.rooms c.touch.new.self c.self.invariant.rooms c.block_of-at.result
+          (touched-first c.self.inside.rooms c.touch.new.self c.block_of-at.result c.self.view_is c.leaf-leaf.ensures.value c.touch.ensures.sums c.touch.ensures.here c.touch.ensures.others) c.args.handle c.args.flags fits own));
       pages = (let own = c.block_of-at.ensures in
           let fits = subst Fits (sym c.self.view_is) c.page-page.ensures.fits in
           pages-kept c.self.inside.pages c.forget.new.pages (c.forget.auto.pages ∙ c.deref_mut.ensures.len) c.set_flags.ensures

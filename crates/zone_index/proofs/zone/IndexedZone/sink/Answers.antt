@@ -1,4 +1,4 @@
-use Rattle.std.proofs.Common.{◌≡◌, ◌-◌, ◌/◌, ap, sym, subst, arith, [], ◌∷◌, ◌++◌, IsTrue, ◌+◌, ◌∙◌}
+use Rattle.std.proofs.Common.{◌≡◌, ◌-◌, ◌/◌, ap, sym, subst, arith, [], ◌∷◌, ◌++◌, IsTrue, ◌+◌, ◌∙◌, ◌<◌, List, length}
 use Rattle.std.specs.Prelude.{IsTrue, [], ◌∷◌, ◌++◌}
 use Rattle.mac_base.specs.declared.block.Entry.{Entry}
 use Rattle.mac_base.specs.Gap.{is_fixed}
@@ -14,14 +14,16 @@ use Rattle.zone_index.specs.Runs.{none_fixed}
 use Rattle.zone_index.proofs.Exchanged.{sunk-marked}
 use Rattle.zone_index.proofs.Placed.{placed}
 use Rattle.zone_index.proofs.Turned.{last-entry, run-entry, sunk-fits, sunk-turned}
-use Rattle.zone_index.specs.Bounds.{AreBounds}
-use Rattle.zone_index.proofs.Moving.{bounds-sink}
+use Rattle.zone_index.specs.Rooms.{AreRooms, leaf_count}
 use Rattle.zone_index.specs.Pages.{page}
 use Rattle.zone_index.proofs.PagesKept.{forgets-read, pages-kept, part-ends}
 use Rattle.zone_index.proofs.Changed.{last_entry}
 use Rattle.zone_index.proofs.Changing.{pages-sink}
 use Rattle.zone_index.proofs.Measured.{lengths-of}
 use Rattle.zone_laws.proofs.Maps.{total_size-append}
+use Rattle.zone_index.proofs.RoomsRenewed.{touched-first, touched-next}
+use Rattle.zone_index.proofs.RoomsChanged.{none_fixed-first, run_split, rooms-sink}
+use Rattle.block_sums.specs.declared.span.Span.{Span}
 use Rattle.zone_index.proofs.zone.IndexedZone.sink.Goals as goal
 
 pub invariant_of-self : goal.invariant_of-self
@@ -35,7 +37,10 @@ invariant_of-self c =
       fixed = subst (λ (z : ZoneState). AreMarked is_fixed z c.self.inside.marks) (sym (c.sink-2.ensures parcel)) (sunk-marked z c.self.inside.marks c.self.invariant.fixed c.args.start c.args.at parcel loose);
       purgeable = subst (λ (z : ZoneState). AreMarked may_go z c.sink.new.marks) (sym (c.sink-2.ensures parcel))
           (sunk-turned may_go z c.self.inside.purgeable c.sink.new.marks c.self.invariant.purgeable p.sizes c.args.start c.args.at parcel _ _ _ p.value (ap (λ n. n / 4) size) (ap (λ n. n / 4) run) c.sink.ensures);
-      bounds = subst (λ (z : ZoneState). AreBounds z c.self.inside.bounds) (sym (c.sink-2.ensures parcel)) (bounds-sink c.self.inside.zone c.self.inside.bounds c.self.invariant.bounds parcel loose);
+      rooms = (let passed = c.pass.ensures.passed in
+          subst (λ (z : ZoneState). AreRooms z c.touch-2.new.self) (sym (c.sink-2.ensures parcel))
+          (rooms-sink z c.self.inside.rooms c.pass.new.rooms c.touch-2.new.self c.self.invariant.rooms parcel (none_fixed-first z.heap.table parcel.blocks (parcel.here ∷ []) loose) c.pass.ensures.sums (passed (run_split z parcel))
+          (touched-next c.pass.new.rooms c.touch.new.self c.touch-2.new.self c.args.start (touched-first c.pass.new.rooms c.touch.new.self c.args.at c.self.view_is c.leaf-old.ensures.value c.touch.ensures.sums c.touch.ensures.here c.touch.ensures.others) c.self.view_is c.leaf-new.ensures.value c.touch-2.ensures.sums c.touch-2.ensures.here c.touch-2.ensures.others)));
       pages = (let size = ap (λ (e : Entry). e.size) (c.entry_at-size.ensures (last_entry c.self.inside.zone parcel)) in
           pages-kept c.self.inside.pages c.forget.new.pages (c.forget.auto.pages ∙ c.deref_mut.ensures.len) (c.sink-2.ensures parcel)
           (pages-sink c.self.inside.zone c.self.inside.pages.items c.forget.new.pages c.self.invariant.pages parcel
@@ -99,4 +104,27 @@ page_at-to-requires-clause-high c =
     let size = ap (λ (e : Entry). e.size) (subst (λ (z : ZoneState). (e : EntryAt z c.args.at) → c.entry_at-size.result ≡ e.here) (c.self.view_is) c.entry_at-size.ensures (last_entry c.args.self.now parcel)) in
     let ends = part-ends c.args.self.now parcel.before (parcel.blocks ++ parcel.here ∷ parcel.behind) parcel.map in
     let all = total_size-append parcel.blocks (parcel.here ∷ parcel.behind) in
+    omega arith
+
+pub leaf-old-requires : goal.leaf-old-requires
+leaf-old-requires c = last-entry c.args.self.now c.requires.parcel
+
+pub leaf-new-requires : goal.leaf-new-requires
+leaf-new-requires c =
+    let parcel = c.requires.parcel in
+    run-entry c.args.self.now c.args.start parcel.before parcel.blocks parcel.here parcel.behind parcel.map parcel.place
+
+pub pass-requires : goal.pass-requires
+pass-requires c = run_split c.self.inside.zone (subst (λ (z : ZoneState). ParcelUpTo z c.args.start c.args.at) (sym c.self.view_is) c.requires.parcel)
+
+pub touch-requires : goal.touch-requires
+touch-requires c =
+    let inside = subst (λ (z : ZoneState). c.leaf-old.result < leaf_count z) (sym c.self.view_is) c.leaf-old.ensures.inside in
+    let long = ap (λ (xs : List Span). length xs) c.pass.ensures.sums ∙ c.self.invariant.rooms.places in
+    omega arith
+
+pub touch-requires-2 : goal.touch-requires-2
+touch-requires-2 c =
+    let inside = subst (λ (z : ZoneState). c.leaf-new.result < leaf_count z) (sym c.self.view_is) c.leaf-new.ensures.inside in
+    let long = ap (λ (xs : List Span). length xs) (c.touch.ensures.sums ∙ c.pass.ensures.sums) ∙ c.self.invariant.rooms.places in
     omega arith

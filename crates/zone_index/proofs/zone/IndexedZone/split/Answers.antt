@@ -5,13 +5,14 @@ use Rattle.linked_zone.specs.Places.{CanCut}
 use Rattle.zone_index.specs.Marks.{AreMarked}
 use Rattle.zone_index.proofs.Exchanged.{cut-marked}
 use Rattle.zone_index.proofs.Rules.{Rule, fixes, goes}
-use Rattle.zone_index.specs.Bounds.{AreBounds}
-use Rattle.zone_index.proofs.Moving.{bounds-split}
+use Rattle.zone_index.specs.Rooms.{AreRooms}
 use Rattle.mac_base.specs.declared.block.Kind.TheVariants.{Free}
 use Rattle.mac_base.specs.ZoneMap.{block}
 use Rattle.zone_index.proofs.PagesKept.{forgets-read, pages-kept, part-ends}
 use Rattle.zone_index.proofs.Changing.{pages-split}
 use Rattle.zone_index.proofs.Measured.{lengths-of}
+use Rattle.zone_index.proofs.RoomsRenewed.{touched-first, touched-next}
+use Rattle.zone_index.proofs.RoomsChanged.{rooms-split}
 use Rattle.zone_index.proofs.zone.IndexedZone.split.Goals as goal
 
 pub invariant_of-self : goal.invariant_of-self
@@ -20,7 +21,9 @@ invariant_of-self c =
     let keep : (r : Rule) (marks : List ℕ) → AreMarked r.test c.self.inside.zone marks → AreMarked r.test c.split.new.self marks = λ r marks are. subst (λ (z : ZoneState). AreMarked r.test z marks) (sym (c.split.ensures can)) (cut-marked r c.self.inside.zone marks are c.args.at c.args.size can) in record {
       fixed = keep fixes _ c.self.invariant.fixed;
       purgeable = keep goes _ c.self.invariant.purgeable;
-      bounds = subst (λ (z : ZoneState). AreBounds z c.self.inside.bounds) (sym (c.split.ensures can)) (bounds-split c.self.inside.zone c.self.inside.bounds c.self.invariant.bounds can);
+      rooms = subst (λ (z : ZoneState). AreRooms z c.touch-2.new.self) (sym (c.split.ensures can))
+          (rooms-split c.self.inside.zone c.self.inside.rooms c.touch-2.new.self c.self.invariant.rooms can
+          (touched-next c.self.inside.rooms c.touch.new.self c.touch-2.new.self (c.args.at + c.args.size) (touched-first c.self.inside.rooms c.touch.new.self c.args.at c.self.view_is c.leaf-low.ensures.value c.touch.ensures.sums c.touch.ensures.here c.touch.ensures.others) c.self.view_is c.leaf_at-high.ensures.value c.touch-2.ensures.sums c.touch-2.ensures.here c.touch-2.ensures.others));
       pages = pages-kept c.self.inside.pages c.forget.new.pages (c.forget.auto.pages ∙ c.deref_mut.ensures.len) (c.split.ensures can)
           (pages-split c.self.inside.zone c.self.inside.pages.items c.forget.new.pages c.self.invariant.pages can
           (forgets-read c.args.at (c.args.at + c.args.size) c.self.view_is c.deref_mut.ensures.value c.page-first.ensures.value c.page_at-last.ensures.value c.forget.ensures));
@@ -31,8 +34,8 @@ pub returns : goal.returns
 returns c =
     subst (λ (z : ZoneState). (can : CanCut z c.args.at c.args.size) → c.split.new.self ≡ cut_in_two c.args.size z can.free) c.self.view_is c.split.ensures
 
-pub overflow_add-at : goal.overflow_add-at
-overflow_add-at c =
+pub overflow_add-behind : goal.overflow_add-behind
+overflow_add-behind c =
     let free = c.requires.free in
     let place = free.place in
     let smaller = c.requires.smaller in
@@ -42,6 +45,14 @@ overflow_add-at c =
 
 pub page_at-last-requires-clause-high : goal.page_at-last-requires-clause-high
 page_at-last-requires-clause-high c =
+    let free = c.requires.free in
+    let place = free.place in
+    let smaller = c.requires.smaller in
+    let ends = part-ends c.args.self.now free.before (block Free free.size ∷ free.behind) free.map in
+    omega arith
+
+pub leaf_at-high-requires-clause-high : goal.leaf_at-high-requires-clause-high
+leaf_at-high-requires-clause-high c =
     let free = c.requires.free in
     let place = free.place in
     let smaller = c.requires.smaller in

@@ -9,12 +9,13 @@ use Rattle.mac_base.specs.ZoneState.{ZoneState}
 use Rattle.zone_index.specs.Marks.{AreMarked}
 use Rattle.zone_index.proofs.Placed.{placed}
 use Rattle.mac_base.specs.HandleTable.{is_pointer}
-use Rattle.zone_index.specs.Bounds.{AreBounds}
-use Rattle.zone_index.proofs.Opening.{bounds-unfixed}
+use Rattle.zone_index.specs.Rooms.{AreRooms}
 use Rattle.linked_zone.specs.Fit.{Fits}
 use Rattle.zone_index.proofs.Changing.{pages-unfixed}
 use Rattle.zone_index.proofs.PagesKept.{forgets-read, pages-kept}
 use Rattle.zone_index.proofs.Measured.{lengths-of, lengths-out}
+use Rattle.zone_index.proofs.RoomsRenewed.{touched-first}
+use Rattle.zone_index.proofs.RoomsChanged.{rooms-unfixed}
 use Rattle.zone_index.proofs.zone.IndexedZone.unfix.Goals as goal
 
 pub invariant_of-self : goal.invariant_of-self
@@ -24,11 +25,13 @@ invariant_of-self c =
           (subst (AreMarked is_fixed (unfixed c.args.pointer c.self.inside.zone)) (sym (c.set.ensures ∙ ap (λ p. set c.self.inside.marks p 0) p.value))
           (unfixed-marked fixes c.self.inside.zone c.self.inside.marks c.self.invariant.fixed c.args.pointer c.place_of-at.result p.sizes (subst (λ x. NamedAt c.self.inside.zone x c.place_of-at.result) c.number.ensures c.place_of-at.ensures) p.inside));
       purgeable = subst (λ (z : ZoneState). AreMarked may_go z c.self.inside.purgeable) (sym c.unfix.ensures) (unfixed-kept goes c.self.inside.zone c.self.inside.purgeable c.self.invariant.purgeable c.args.pointer);
-      bounds = (let named = c.place_of-at.ensures in
+      rooms = (let named = c.place_of-at.ensures in
+          let own = subst (λ p. NamedAt c.self.inside.zone p c.place_of-at.result) c.number.ensures named in
           let live = subst (λ (z : ZoneState). IsTrue (is_pointer z.heap.table c.args.pointer)) (sym c.self.view_is) c.requires.live in
-          subst (λ (z : ZoneState). AreBounds z c.join.new.bounds) (sym c.unfix.ensures)
-          (bounds-unfixed c.self.inside.zone c.self.inside.bounds c.join.new.bounds c.self.invariant.bounds c.place_of-at.result c.gap_around-gap.result c.gap_around-gap.ensures c.args.pointer
-          (subst (λ p. NamedAt c.self.inside.zone p c.place_of-at.result) c.number.ensures named) live c.join.ensures));
+          let fits = subst Fits (sym c.self.view_is) c.page-page.ensures.fits in
+          subst (λ (z : ZoneState). AreRooms z c.touch.new.self) (sym c.unfix.ensures)
+          (rooms-unfixed c.self.inside.zone c.self.inside.rooms c.touch.new.self c.self.invariant.rooms c.place_of-at.result
+          (touched-first c.self.inside.rooms c.touch.new.self c.place_of-at.result c.self.view_is c.leaf-leaf.ensures.value c.touch.ensures.sums c.touch.ensures.here c.touch.ensures.others) c.args.pointer fits own live));
       pages = (let named = c.place_of-at.ensures in
           let own = subst (λ p. NamedAt c.self.inside.zone p c.place_of-at.result) c.number.ensures named in
           let live = subst (λ (z : ZoneState). IsTrue (is_pointer z.heap.table c.args.pointer)) (sym c.self.view_is) c.requires.live in

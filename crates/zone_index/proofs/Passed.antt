@@ -1,0 +1,19 @@
+-- None of some blocks is free where the next free one begins behind them.
+use Rattle.std.proofs.Common.{◌≡◌, ℕ, ◌+◌, ◌≤◌, true, ◌++◌, ap, sym, ◌∙◌, arith}
+use Rattle.mac_base.specs.ZoneMap.{ZoneMap, free_bytes, total_size}
+use Rattle.mac_base.specs.ZoneState.{ZoneState}
+use Rattle.zone_laws.proofs.Arranging.{free_bytes-all_used}
+use Rattle.zone_laws.proofs.GapAppend.{free_bytes-append}
+use Rattle.linked_zone.specs.Places.{FirstFree, SplitAt, none_free}
+use Rattle.zone_index.specs.Rooms.{IsUsed}
+use Rattle.zone_index.proofs.Rooms.{none-among}
+
+module _ {z : ZoneState} {low : ℕ} (split : SplitAt z low) (high : ℕ) where
+  pub used-up_to : (at : ℕ) → FirstFree split.behind low at → high ≤ at → IsUsed split high
+  used-up_to at f past blocks behind is within = let place = f.place in none-among blocks behind f.passed f.size f.behind (sym is ∙ f.splits) f.used (omega arith)
+
+  pub used-all : none_free split.behind ≡ true → IsUsed split high
+  used-all used blocks behind is within =
+      let none = free_bytes-all_used split.behind used in
+      let both = ap free_bytes is ∙ free_bytes-append blocks behind in
+      omega arith

@@ -1,0 +1,165 @@
+-- The search for the block with which some gap has room.
+use Rattle.std.proofs.Common.{◌≡◌, ℕ, ◌+◌, ◌*◌, ◌-◌, ◌/◌, ◌<◌, ◌≤◌, ◌^◌, Bool, true, false, List, [], ◌∷◌, ◌++◌, length, refl, ap, sym, ◌∙◌, subst, append_assoc, append-nil, inl, inr, arith}
+use Rattle.std.specs.Prelude.{IsFalse, nat_le}
+use Rattle.std.proofs.lemmas.Bool.Decides.{nat_tests}
+use Rattle.mac_base.specs.declared.block.Entry.{Entry}
+use Rattle.mac_base.specs.HeadKind.{zone_header}
+use Rattle.mac_base.specs.Reports.{largest_room}
+use Rattle.mac_base.specs.ZoneMap.{ZoneMap, total_size, address_behind}
+use Rattle.mac_base.specs.ZoneState.{ZoneState}
+use Rattle.zone_laws.proofs.GapApart.{sizes_possible}
+use Rattle.zone_laws.proofs.Maps.{total_size-append}
+use Rattle.linked_zone.specs.Fit.{HasSizes}
+use Rattle.linked_zone.specs.Places.{EntryAt, FirstFrom, NoneFrom}
+use Rattle.block_sums.specs.declared.span.Span.{Span}
+use Rattle.block_sums.specs.Span.{no_span, joined, span_laws, most_in, SpanFits}
+use Rattle.block_sums.proofs.Leaves.{sum-leaves}
+use Rattle.sum_tree.specs.Monoids.{sum_of, total}
+use Rattle.sum_tree.proofs.Totals.{sum-all}
+use Rattle.sum_tree.specs.Rows.{IsFirst}
+use Rattle.sum_tree.specs.Stale.{Stored}
+use Rattle.zone_index.specs.declared.weight.Weight.{Weight}
+use Rattle.zone_index.specs.Weights.{most, weigh, weights}
+use Rattle.zone_index.specs.Pages.{begun}
+use Rattle.zone_index.specs.Walk.{AllBelow}
+use Rattle.zone_index.specs.Rooms.{AreFresh, Reaches, SumsBelow, leaf_size, room_of, room_sum}
+use Rattle.zone_index.proofs.Begun.{begun-between, below-end}
+use Rattle.zone_index.proofs.LeafWalk.{first-below, none-below, sum-push}
+use Rattle.zone_index.proofs.RoomSums.{room_sum-largest, room_sum-most, sum-fits}
+use Rattle.zone_index.proofs.Sizes.{all_parts}
+use Rattle.zone_index.proofs.SomeBytes.{no_bytes, total_size-push}
+use Rattle.zone_index.proofs.Walking.{filling-all}
+
+-- with the blocks below an address no gap has room for k bytes
+pub record Below (z : ZoneState) (k at : ℕ) (s : Span) : Type 0 where
+  pub before : ZoneMap
+  pub behind : ZoneMap
+  pub map : z.heap.map ≡ before ++ behind
+  pub place : at ≡ address_behind z.shape before
+  pub sum : s ≡ room_sum (weights z.heap.table before)
+  pub few : most_in s < k
+
+module _ (z : ZoneState) (sizes : HasSizes z) (from k : ℕ) (s : Span) (b : SumsBelow z from k s) where
+  -- a walk begins at the first block from an address on
+  pub first_reached : (at : ℕ) → FirstFrom z from at → Below z k at s
+  first_reached at f =
+      let e = f.block in
+      let low = b.low in
+      record {
+        before = e.before;
+        behind = e.here ∷ e.behind;
+        map = e.map;
+        place = e.place;
+        sum = b.sum ∙ ap room_sum (filling-all z 0 (from - z.shape.base) e.before (record {
+          before = [];
+          behind = e.here ∷ e.behind;
+          map = e.map;
+          below = tt;
+          floor = omega arith;
+          inside = first-below z from sizes at f;
+          above = inr (let place = e.place in let reached = f.reached in omega arith);
+        }));
+        few = b.few;
+      }
+
+  -- where none begins there, no gap has room
+  pub none_reached : NoneFrom z from → largest_room z.heap.table z.heap.map < k
+  none_reached none =
+      let all : begun 0 (from - z.shape.base) zone_header (weights z.heap.table z.heap.map) ≡ weights z.heap.table z.heap.map = begun-between z.heap.table 0 (from - z.shape.base) zone_header z.heap.map (omega arith) (none-below z from sizes none) in
+      let most = ap most_in (b.sum ∙ ap room_sum all) ∙ room_sum-largest z.heap.table z.heap.map in
+      let few = b.few in
+      omega arith
+
+-- a block comes next
+pub record Follows {k at : ℕ} {s : Span} (z : ZoneState) (b : Below z k at s) : Type 0 where
+  pub here : Entry
+  pub after : ZoneMap
+  pub is : b.behind ≡ here ∷ after
+
+module _ (z : ZoneState) (k at : ℕ) (s : Span) (b : Below z k at s) where
+  below_end : address_behind z.shape z.heap.map ≡ at + total_size b.behind
+  below_end = let all = ap total_size b.map ∙ total_size-append b.before b.behind in let place = b.place in omega arith
+
+  pub follows : at < address_behind z.shape z.heap.map → Follows z b
+  follows under = by_rest b.behind refl
+    where
+      by_rest : (rest : ZoneMap) → b.behind ≡ rest → Follows z b
+      by_rest [] is = let none = ap total_size is in let end = below_end in absurd (omega arith)
+      by_rest (e ∷ es) is = record { here = e; after = es; is = is }
+
+  -- at the zone's end no gap has room
+  pub below-all : HasSizes z → address_behind z.shape z.heap.map ≤ at → largest_room z.heap.table z.heap.map < k
+  below-all sizes past =
+      let end = below_end in
+      let none = no_bytes z.shape b.behind (all_parts _ b.before b.behind (ap (sizes_possible z.shape) (sym b.map) ∙ sizes)).1 (omega arith) in
+      let whole : b.before ≡ z.heap.map = sym (b.map ∙ ap (λ m. b.before ++ m) none ∙ append-nil b.before) in
+      let most = ap most_in (b.sum ∙ ap (λ m. room_sum (weights z.heap.table m)) whole) ∙ room_sum-largest z.heap.table z.heap.map in
+      let few = b.few in
+      omega arith
+
+  module _ (n : Follows z b) where
+    abbrev pub following : EntryAt z at
+    following = record { before = b.before; here = n.here; behind = n.after; map = b.map ∙ ap (λ m. b.before ++ m) n.is; place = b.place }
+
+    module _ (e : Entry) (is : e ≡ n.here) where
+      with_one : joined s (room_of (weigh z.heap.table e)) ≡ room_sum (weights z.heap.table (b.before ++ n.here ∷ []))
+      with_one = ap (λ s. joined s (room_of (weigh z.heap.table e))) b.sum ∙ ap (λ e. joined (room_sum (weights z.heap.table b.before)) (room_of (weigh z.heap.table e))) is ∙ sym (sum-push z.heap.table b.before n.here)
+
+      pub following-fits : address_behind z.shape z.heap.map < 2 ^ 32 → SpanFits (joined s (room_of (weigh z.heap.table e)))
+      following-fits few =
+          let push = total_size-push b.before n.here in
+          let rest = ap total_size n.is in
+          let end = below_end in
+          let place = b.place in
+          subst SpanFits (sym with_one) (sum-fits z.heap.table (b.before ++ n.here ∷ []) (omega arith))
+
+      -- with it some gap has room
+      pub following-reaches : k ≤ most_in (joined s (room_of (weigh z.heap.table e))) → Reaches z k at
+      following-reaches enough =
+          let old = ap most_in b.sum ∙ room_sum-most (weights z.heap.table b.before) in
+          let new = ap most_in with_one ∙ room_sum-most (weights z.heap.table (b.before ++ n.here ∷ [])) in
+          let few = b.few in
+          record { entry = following; few = omega arith; enough = omega arith }
+
+      -- or it has none
+      pub following-on : most_in (joined s (room_of (weigh z.heap.table e))) < k → Below z k (at + e.size) (joined s (room_of (weigh z.heap.table e)))
+      following-on few = record {
+        before = b.before ++ n.here ∷ [];
+        behind = n.after;
+        map = b.map ∙ ap (λ m. b.before ++ m) n.is ∙ sym (append_assoc b.before (n.here ∷ []) n.after);
+        place = (let push = total_size-push b.before n.here in let size = ap (λ (e : Entry). e.size) is in let place = b.place in omega arith);
+        sum = with_one;
+        few = few;
+      }
+
+-- the sums of leaves are those of blocks
+module _ (z : ZoneState) (rooms : Stored Span) (fresh : AreFresh z rooms) where
+  leaves-sum : (n : ℕ) → n ≤ length rooms.sums → sum_of no_span joined rooms.sums 0 n ≡ room_sum (begun 0 (256 * n) zone_header (weights z.heap.table z.heap.map))
+  leaves-sum n inside = sum-leaves span_laws (λ (w : Weight). w.bytes) room_of zone_header (weights z.heap.table z.heap.map) rooms.sums fresh.right n inside
+
+  -- below a leaf no gap has room
+  pub leaf_below : (k i from : ℕ) (s : Span) → from ≡ z.shape.base + i * 256 → IsFirst no_span joined (λ (s : Span). nat_le k (most_in s)) rooms.sums 0 i s → SumsBelow z from k s
+  leaf_below k i from s is first =
+      let inside = first.inside in
+      let same : 256 * i ≡ from - z.shape.base = omega arith in
+      record {
+        low = omega arith;
+        sum = first.sum_is ∙ leaves-sum i (omega arith) ∙ ap (λ n. room_sum (begun 0 n zone_header (weights z.heap.table z.heap.map))) same;
+        few = (let none = first.before in grind (arith, nat_tests));
+      }
+
+  -- nor in all
+  pub all_below : (k : ℕ) → zone_header + total_size z.heap.map ≤ z.shape.limit → IsFalse (nat_le k (most_in (sum_of no_span joined rooms.sums 0 (length rooms.sums)))) → largest_room z.heap.table z.heap.map < k
+  all_below k within none =
+      let places = fresh.places in
+      let few : most_in (sum_of no_span joined rooms.sums 0 (length rooms.sums)) < k = grind (arith, nat_tests) in
+      let all = begun-between z.heap.table 0 (256 * length rooms.sums) zone_header z.heap.map (omega arith) (below-end (256 * length rooms.sums) zone_header z.heap.map (omega arith)) in
+      let most = ap most_in (leaves-sum (length rooms.sums) (omega arith) ∙ ap room_sum all) ∙ room_sum-largest z.heap.table z.heap.map in
+      omega arith
+
+  -- the most that one gap has
+  pub all_most : zone_header + total_size z.heap.map ≤ z.shape.limit → most_in (total no_span joined rooms.sums) ≡ largest_room z.heap.table z.heap.map
+  all_most within =
+      let places = fresh.places in
+      let all = begun-between z.heap.table 0 (256 * length rooms.sums) zone_header z.heap.map (omega arith) (below-end (256 * length rooms.sums) zone_header z.heap.map (omega arith)) in
+      ap most_in (sym (sum-all span_laws rooms.sums (length rooms.sums) (omega arith)) ∙ leaves-sum (length rooms.sums) (omega arith) ∙ ap room_sum all) ∙ room_sum-largest z.heap.table z.heap.map

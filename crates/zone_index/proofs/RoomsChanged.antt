@@ -1,0 +1,184 @@
+-- What each change leaves of the sums of leaves.
+use Rattle.std.proofs.Common.{◌≡◌, ℕ, ◌+◌, ◌-◌, ◌<◌, ◌≤◌, Bool, true, false, not, cond, List, [], ◌∷◌, ◌++◌, Option, Some, None, drop, length, get_or, refl, ap, sym, ◌∙◌, subst, inl, inr, arith, append_assoc}
+use Rattle.std.specs.Prelude.{◌==◌, ◌⊎◌, IsTrue, MatchOption}
+use Rattle.std.proofs.lemmas.Bool.{and_from, and_parts, not-true}
+use Rattle.mac_base.specs.declared.block.Entry.{Entry}
+use Rattle.mac_base.specs.declared.block.Flags.{Flags}
+use Rattle.mac_base.specs.declared.block.Kind.TheVariants.{Free}
+use Rattle.mac_base.specs.Gap.{is_fixed}
+use Rattle.mac_base.specs.HandleTable.{EmptyHandle, HandleTable, is_pointer, live_at}
+use Rattle.mac_base.specs.HeadKind.{zone_header}
+use Rattle.mac_base.specs.Heap.{Heap}
+use Rattle.mac_base.specs.Loans.{lent_out, returned}
+use Rattle.mac_base.specs.ZoneMap.{ZoneMap, address_behind, block, free_block, free_bytes, free_size, total_size}
+use Rattle.mac_base.specs.ZoneState.{ZoneState, with_contents, with_heap}
+use Rattle.zone_laws.proofs.Maps.{total_size-append}
+use Rattle.linked_zone.specs.Changes.{carried_up, cut_in_two, enlarged, extended, fixed, flagged, given_back, held_there, joined_pair, pointed, relocated, sunk, taken, unfixed, with_master, without_block}
+use Rattle.linked_zone.specs.Copying.{copied}
+use Rattle.linked_zone.specs.Fit.{Fits}
+use Rattle.linked_zone.specs.Places.{BlockOf, CanCut, CanGrow, CanHold, EntryAt, FreeAt, FreePair, NamedAt, ParcelAt, ParcelUpTo, SplitAt}
+use Rattle.block_sums.specs.declared.span.Span.{Span}
+use Rattle.block_sums.specs.declared.span.Span.TheVariants.{Whole}
+use Rattle.block_sums.specs.Span.{no_span, parts}
+use Rattle.sum_tree.specs.Stale.{Stored}
+use Rattle.zone_index.specs.Rooms.{AreRooms, IsPassed, Touched, room_of}
+use Rattle.zone_index.specs.Runs.{none_fixed}
+use Rattle.zone_index.specs.Weights.{weigh}
+use Rattle.zone_index.proofs.Bytes.{weights-bytes}
+use Rattle.zone_index.proofs.Changed.{OneOther, carry-renews, emptied-other, emptied_first, extended-renews, fixed-other, flagged-other, grown-renews, held-renews, lent-weights, master-other, merge-renews, moved_in-other, moved_out-other, other-renews, pointed-other, released-weights, returned-weights, sink-renews, split-renews, taken-weights, unfixed-other}
+use Rattle.zone_index.proofs.RoomsRenewed.{Begins, rooms-all_stale, rooms-renewed, rooms-still}
+
+-- what is over may begin where it does
+one_begins : (t : HandleTable) (P : ℕ → Type 0) (n at : ℕ) → P at → Begins t P at (free_block n)
+one_begins t P n at may = elim (n == 0) as (λ b. Begins t P at (cond b [] (block Free n ∷ []))) [ true ↦ tt | false ↦ (inr may, tt) ]
+
+begins-append : (t : HandleTable) (P : ℕ → Type 0) (at : ℕ) (a b : ZoneMap) → Begins t P at a → Begins t P (at + total_size a) b → Begins t P at (a ++ b)
+begins-append t P at [] b first rest = subst (λ n. Begins t P n b) (let e : at + 0 ≡ at = omega arith in e) rest
+begins-append t P at (e ∷ es) b first rest = (first.0, begins-append t P (at + e.size) es b first.1 (subst (λ n. Begins t P n b) (let e : at + (e.size + total_size es) ≡ at + e.size + total_size es = omega arith in e) rest))
+
+-- blocks that aren't fixed and have no free bytes have no part in any sum
+idle_begins : (t : HandleTable) (P : ℕ → Type 0) (at : ℕ) (m : ZoneMap) → none_fixed t m ≡ true → free_bytes m ≡ 0 → Begins t P at m
+idle_begins t P at [] moves none = tt
+idle_begins t P at (e ∷ es) moves none =
+    let both = and_parts (not (is_fixed t e.kind)) (none_fixed t es) moves in
+    let here : free_size e ≡ 0 = omega arith in
+    (inl (ap (λ c. cond c (parts 0 0 0) (Whole (free_size e))) (not-true _ both.0) ∙ ap Whole here), idle_begins t P (at + e.size) es both.1 (omega arith))
+
+-- the blocks behind the first of a parcel
+abbrev pub parcel_split : (z : ZoneState) {at end : ℕ} (parcel : ParcelAt z at end) (low : ℕ) → low ≡ at + parcel.here.size → SplitAt z low
+parcel_split z parcel low is = record {
+  before = parcel.before ++ parcel.here ∷ [];
+  behind = parcel.blocks ++ parcel.behind;
+  map = parcel.map ∙ sym (append_assoc parcel.before (parcel.here ∷ []) (parcel.blocks ++ parcel.behind));
+  place = (let all = total_size-append parcel.before (parcel.here ∷ []) in let place = parcel.place in omega arith);
+}
+
+-- a run and the block behind it
+abbrev pub run_split : (z : ZoneState) {start at : ℕ} → ParcelUpTo z start at → SplitAt z start
+run_split z parcel = record { before = parcel.before; behind = parcel.blocks ++ parcel.here ∷ parcel.behind; map = parcel.map; place = parcel.place }
+
+-- of blocks none of which is fixed the first aren't
+pub none_fixed-first : (t : HandleTable) (a b : ZoneMap) → none_fixed t (a ++ b) ≡ true → none_fixed t a ≡ true
+none_fixed-first t [] b moves = refl
+none_fixed-first t (e ∷ es) b moves = let both = and_parts (not (is_fixed t e.kind)) (none_fixed t (es ++ b)) moves in and_from _ _ both.0 (none_fixed-first t es b both.1)
+
+-- the block that grows
+abbrev pub grown-entry : (z : ZoneState) {x size n at : ℕ} (can : CanGrow z x size n) → at ≡ address_behind z.shape can.before → EntryAt z at
+grown-entry z can place = record { before = can.before; here = can.here; behind = block Free can.free ∷ can.behind; map = can.map; place = place }
+
+module _ (z : ZoneState) (old new : Stored Span) (a : AreRooms z old) where
+  pub rooms-split : {at size : ℕ} (can : CanCut z at size) → Touched z.shape old new (λ n. (n ≡ at) ⊎ (n ≡ at + size)) → AreRooms (cut_in_two size z can.free) new
+  rooms-split {at} {size} can t =
+      rooms-renewed z (cut_in_two size z can.free).heap at (at + size) (split-renews z can) (λ n. (n ≡ at) ⊎ (n ≡ at + size)) (inr (inl refl), tt) (inr (inl refl), (inr (inr refl), tt)) old new a t
+      (λ n there. let place = can.free.place in elim there [ inl is ↦ omega arith | inr is ↦ omega arith ])
+
+  pub rooms-merge : {at : ℕ} (pair : FreePair z at) → Touched z.shape old new (λ n. (n ≡ at) ⊎ (n ≡ at + pair.first)) → AreRooms (joined_pair z pair) new
+  rooms-merge {at} pair t =
+      rooms-renewed z (joined_pair z pair).heap at (at + pair.first) (merge-renews z pair) (λ n. (n ≡ at) ⊎ (n ≡ at + pair.first)) (inr (inl refl), (inr (inr refl), tt)) (inr (inl refl), tt) old new a t
+      (λ n there. let place = pair.place in elim there [ inl is ↦ omega arith | inr is ↦ omega arith ])
+
+  pub rooms-held : {x size n at : ℕ} (can : CanHold z x size n) → at ≡ address_behind z.shape can.before → Touched z.shape old new (λ m. (m ≡ at) ⊎ (m ≡ at + size)) → AreRooms (held_there z can) new
+  rooms-held {size = size} {at = at} can place t =
+      rooms-renewed z (held_there z can).heap at (at + size) (held-renews z can place) (λ m. (m ≡ at) ⊎ (m ≡ at + size)) (inr (inl refl), tt)
+      (inr (inl refl), one_begins (held_there z can).heap.table (λ m. (m ≡ at) ⊎ (m ≡ at + size)) (can.here.size - size) (at + size) (inr refl)) old new a t
+      (λ m there. elim there [ inl is ↦ omega arith | inr is ↦ omega arith ])
+
+  pub rooms-grown : {x size n at : ℕ} (can : CanGrow z x size n) → at ≡ address_behind z.shape can.before → Touched z.shape old new (λ m. ((m ≡ at) ⊎ (m ≡ at + can.here.size)) ⊎ (m ≡ at + size)) → AreRooms (enlarged z can) new
+  rooms-grown {size = size} {at = at} can place t =
+      rooms-renewed z (enlarged z can).heap at (at + size) (grown-renews z can place) (λ m. ((m ≡ at) ⊎ (m ≡ at + can.here.size)) ⊎ (m ≡ at + size)) (inr (inl (inl refl)), (inr (inl (inr refl)), tt))
+      (inr (inl (inl refl)), one_begins (enlarged z can).heap.table (λ m. ((m ≡ at) ⊎ (m ≡ at + can.here.size)) ⊎ (m ≡ at + size)) (can.here.size + can.free - size) (at + size) (inr refl)) old new a t
+      (λ m there. elim there [ inl first ↦ elim first [ inl is ↦ omega arith | inr is ↦ omega arith ] | inr is ↦ omega arith ])
+
+  pub rooms-extended : {end : ℕ} → end ≡ address_behind z.shape z.heap.map → Touched z.shape old new (λ n. n ≡ end) → AreRooms (extended z) new
+  rooms-extended {end} place t =
+      rooms-renewed z (extended z).heap end end (extended-renews z place) (λ n. n ≡ end) tt (one_begins (extended z).heap.table (λ n. n ≡ end) (z.shape.limit - (zone_header + total_size z.heap.map)) end refl) old new a t
+      (λ n there. omega arith)
+
+-- the block of one leaf is another
+rooms-other : (z : ZoneState) (heap : Heap) (at : ℕ) (old new : Stored Span) → AreRooms z old → OneOther z heap at → Touched z.shape old new (λ n. n ≡ at) → AreRooms (with_heap heap z) new
+rooms-other z heap at old new a o t =
+    rooms-renewed z heap at at (other-renews z heap at o) (λ n. n ≡ at) (inr refl, tt) (inr refl, tt) old new a t (λ n there. let place = o.place in omega arith)
+
+module _ (z : ZoneState) (old new : Stored Span) (a : AreRooms z old) (at : ℕ) (t : Touched z.shape old new (λ n. n ≡ at)) where
+  pub rooms-pointed : (h k : ℕ) (free : FreeAt z at) → live_at z.heap.table h ≡ Some EmptyHandle → AreRooms (pointed h k z free) new
+  rooms-pointed h k free empty = rooms-other z (pointed h k z free).heap at old new a (pointed-other z free h k empty) t
+
+  pub rooms-fixed : (k : ℕ) (free : FreeAt z at) → Fits (fixed k z free) → AreRooms (fixed k z free) new
+  rooms-fixed k free fits = rooms-other z (fixed k z free).heap at old new a (fixed-other z free k fits) t
+
+  pub rooms-master : (free : FreeAt z at) → AreRooms (with_master z free) new
+  rooms-master free = rooms-other z (with_master z free).heap at old new a (master-other z free) t
+
+  pub rooms-unfixed : (p : ℕ) → Fits z → NamedAt z p at → is_pointer z.heap.table p ≡ true → AreRooms (unfixed p z) new
+  rooms-unfixed p fits b live = rooms-other z (unfixed p z).heap at old new a (unfixed-other z p fits b live) t
+
+  pub rooms-emptied : (h : ℕ) → Fits z → BlockOf z h at → AreRooms (without_block h z) new
+  rooms-emptied h fits b = rooms-other z (without_block h z).heap at old new a (emptied-other z h fits b) t
+
+  pub rooms-flagged : (h : ℕ) (flags : Flags) → Fits z → BlockOf z h at → AreRooms (flagged h flags z) new
+  rooms-flagged h flags fits b = rooms-other z (flagged h flags z).heap at old new a (flagged-other z h fits b flags) t
+
+  -- the old block is free first, and then the free one is the handle's
+  pub rooms-relocated : (h k to : ℕ) (last : Stored Span) (free : FreeAt z to) → Fits z → BlockOf z h at → Touched z.shape new last (λ n. n ≡ to) → AreRooms (relocated h k z free) last
+  rooms-relocated h k to last free fits b =
+      rooms-other (with_heap (emptied_first z h fits b k) z) (relocated h k z free).heap to new last (rooms-other z (emptied_first z h fits b k) at old new a (moved_out-other z h fits b k) t) (moved_in-other z h fits b k free)
+
+-- a block passes others
+module _ (z : ZoneState) (old middle new : Stored Span) (a : AreRooms z old) where
+  -- what was passed and what is touched then
+  both_touched : {P : ℕ → Type 0} → middle.sums ≡ old.sums → ((j : ℕ) → IsTrue (get_or old.stale j false) → IsTrue (get_or middle.stale j false)) → Touched z.shape middle new P → Touched z.shape old new P
+  both_touched sums others t = record { sums = t.sums ∙ sums; here = t.here; others = λ j was. t.others j (others j was) }
+
+  all_stale : {P : ℕ → Type 0} → middle.sums ≡ old.sums → Touched z.shape middle new P → ((j : ℕ) → j < length old.sums → IsTrue (get_or middle.stale j false)) → (j : ℕ) → j < length new.sums → IsTrue (get_or new.stale j false)
+  all_stale sums t all j inside = t.others j (all j (subst (λ (xs : List Span). j < length xs) (t.sums ∙ sums) inside))
+
+  pub rooms-carry : {at end : ℕ} (parcel : ParcelAt z at end) → none_fixed z.heap.table (parcel.here ∷ parcel.blocks) ≡ true → (low : ℕ) → (is : low ≡ at + parcel.here.size) → middle.sums ≡ old.sums → IsPassed old middle (parcel_split z parcel low is) end
+      → Touched z.shape middle new (λ n. (n ≡ at) ⊎ (n ≡ at + total_size parcel.blocks)) → AreRooms (carried_up z parcel) new
+  rooms-carry {at} {end} parcel loose low is sums p t = elim p [
+    | inl none ↦
+        let P : ℕ → Type 0 = λ n. (n ≡ at) ⊎ (n ≡ at + total_size parcel.blocks) in
+        let u : HandleTable = z.heap.table in
+        let both = and_parts (not (is_fixed u parcel.here.kind)) (none_fixed u parcel.blocks) loose in
+        let free = none.0 parcel.blocks parcel.behind refl (let long = parcel.long in omega arith) in
+        rooms-renewed z (carried_up z parcel).heap at end (carry-renews z parcel) P
+        (inr (inl refl), idle_begins u P (at + parcel.here.size) parcel.blocks both.1 free)
+        (begins-append u P at parcel.blocks (parcel.here ∷ []) (idle_begins u P at parcel.blocks both.1 free) (inr (inr refl), tt))
+        old new a (both_touched sums none.1 t) (λ n there. let place = parcel.place in elim there [ inl same ↦ omega arith | inr same ↦ omega arith ])
+    | inr all ↦ rooms-all_stale z (carried_up z parcel).heap old new a (t.sums ∙ sums) (all_stale sums t all)
+  ]
+
+  pub rooms-sink : {start at : ℕ} (parcel : ParcelUpTo z start at) → none_fixed z.heap.table parcel.blocks ≡ true → middle.sums ≡ old.sums → IsPassed old middle (run_split z parcel) at
+      → Touched z.shape middle new (λ n. (n ≡ at) ⊎ (n ≡ start)) → AreRooms (sunk z parcel) new
+  rooms-sink {start} {at} parcel loose sums p t = elim p [
+    | inl none ↦
+        let P : ℕ → Type 0 = λ n. (n ≡ at) ⊎ (n ≡ start) in
+        let u : HandleTable = z.heap.table in
+        let free = none.0 parcel.blocks (parcel.here ∷ parcel.behind) refl (let long = parcel.long in omega arith) in
+        rooms-renewed z (sunk z parcel).heap start (at + parcel.here.size) (sink-renews z parcel) P
+        (begins-append u P start parcel.blocks (parcel.here ∷ []) (idle_begins u P start parcel.blocks loose free) (inr (inl (sym parcel.long)), tt))
+        (inr (inr refl), idle_begins u P (start + parcel.here.size) parcel.blocks loose free)
+        old new a (both_touched sums none.1 t) (λ n there. let place = parcel.place in let long = parcel.long in elim there [ inl same ↦ omega arith | inr same ↦ omega arith ])
+    | inr all ↦ rooms-all_stale z (sunk z parcel).heap old new a (t.sums ∙ sums) (all_stale sums t all)
+  ]
+
+module _ (z : ZoneState) (rooms : Stored Span) (a : AreRooms z rooms) where
+  -- a free slot is given, if there is one
+  pub rooms-taken : Fits z → (o : Option ℕ) (new : ZoneState)
+      → MatchOption o ((z.heap.free_slots ≡ []) × (new ≡ z)) (λ h. (z.heap.free_slots ≡ h ∷ drop 1 z.heap.free_slots) × (new ≡ taken h z)) → AreRooms new rooms
+  rooms-taken fits None new is = subst (λ (z : ZoneState). AreRooms z rooms) (sym is.1) a
+  rooms-taken fits (Some h) new is = subst (λ (z : ZoneState). AreRooms z rooms) (sym is.1) (rooms-still z (taken h z).heap rooms a refl (taken-weights z fits h is.0))
+
+  pub rooms-released : (h : ℕ) → live_at z.heap.table h ≡ Some EmptyHandle → AreRooms (given_back h z) rooms
+  rooms-released h empty = rooms-still z (given_back h z).heap rooms a refl (released-weights z h empty)
+
+  pub rooms-copied : (from start to offset k : ℕ) → AreRooms (copied from start to offset k z) rooms
+  rooms-copied from start to offset k = rooms-still z (copied from start to offset k z).heap rooms a refl (weights-bytes z.heap.table to _ z.heap.map)
+
+  pub rooms-written : (x : ℕ) (bytes : List ℕ) → AreRooms (with_contents z x bytes) rooms
+  rooms-written x bytes = rooms-still z (with_contents z x bytes).heap rooms a refl (weights-bytes z.heap.table x _ z.heap.map)
+
+  pub rooms-lent : (x : ℕ) → AreRooms (with_heap (lent_out x z.heap) z) rooms
+  rooms-lent x = rooms-still z (lent_out x z.heap) rooms a refl (lent-weights z x)
+
+  pub rooms-returned : (x : ℕ) (bytes : List ℕ) → AreRooms (with_heap (returned x bytes z.heap) z) rooms
+  rooms-returned x bytes = rooms-still z (returned x bytes z.heap) rooms a refl (returned-weights z x bytes)
