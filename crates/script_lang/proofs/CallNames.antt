@@ -22,7 +22,7 @@ use Rattle.script_lang.specs.declared.table.FileName.{FileName}
 use Rattle.script_lang.specs.declared.table.FileName.TheVariants as file
 use Rattle.script_lang.specs.declared.table.KindName.{KindName}
 use Rattle.script_lang.specs.declared.table.KindName.TheVariants as kind
-use Rattle.script_lang.specs.Table.{signature, of_length}
+use Rattle.script_lang.specs.Table.{signature, all_calls}
 
 -- a call, for places past the end of a list
 abbrev pub some_call : CallName
@@ -32,9 +32,9 @@ some_call = name.Plain plain.NewEmptyHandle
 abbrev has_name : List ℕ → CallName → Bool
 has_name word call = bytes_eq (signature call).name word
 
--- the first call that has the name, among those whose names are as long
+-- the first call that has the name
 abbrev call_named : List ℕ → Option CallName
-call_named word = find (has_name word) (of_length (length word))
+call_named word = find (has_name word) all_calls
 
 number_again : (call : NumberName) → call_named (signature (name.Number call)).name ≡ Some (name.Number call)
 number_again number.NewHandle = refl
@@ -111,7 +111,7 @@ unnamed_further word calls n name is other before k lt same =
       | inr below ↦ before k (omega (arith, below)) same
     ]
 
--- a word that is the name of no call whose name is as long is the name of none
+-- a word that is the name of no call in the table is the name of none
 pub unnamed : (word : List ℕ) (calls : List CallName) → calls ≡ of_length (length word) → ((k : ℕ) → k < length calls → (signature (get_or calls k some_call)).name ≢ word) → (call : CallName) → (signature call).name ≢ word
 unnamed word calls is none call e =
     let named : find (has_name word) calls ≡ Some call = ap (λ (cs : List CallName). find (has_name word) cs) is ∙ ap call_named (sym e) ∙ named_again call in

@@ -146,6 +146,87 @@ pub struct Signature {
     pub is_assignable: bool,
 }
 
+/// The table of calls: how each is written, and whether it gives a first result that a line may assign, or does without.
+macro_rules! table_of_calls {
+    ($make:ident $($given:tt)*) => {
+        $make! {
+            $($given)*
+            Number(NumberName::NewHandle) gives b"NewHandle",
+            Plain(PlainName::NewEmptyHandle) gives b"NewEmptyHandle",
+            Number(NumberName::NewPtr) gives b"NewPtr",
+            Number(NumberName::DisposeHandle) does b"DisposeHandle",
+            Number(NumberName::DisposePtr) does b"DisposePtr",
+            Number(NumberName::EmptyHandle) does b"EmptyHandle",
+            Number(NumberName::GetHandleSize) gives b"GetHandleSize",
+            TwoNumbers(TwoNumbersName::SetHandleSize) does b"SetHandleSize",
+            Number(NumberName::GetPtrSize) gives b"GetPtrSize",
+            TwoNumbers(TwoNumbersName::SetPtrSize) does b"SetPtrSize",
+            Number(NumberName::HLock) does b"HLock",
+            Number(NumberName::HUnlock) does b"HUnlock",
+            Number(NumberName::HPurge) does b"HPurge",
+            Number(NumberName::HNoPurge) does b"HNoPurge",
+            Number(NumberName::HSetRBit) does b"HSetRBit",
+            Number(NumberName::HClrRBit) does b"HClrRBit",
+            Number(NumberName::HGetState) gives b"HGetState",
+            TwoNumbers(TwoNumbersName::HSetState) does b"HSetState",
+            Number(NumberName::Deref) gives b"Deref",
+            Number(NumberName::RecoverHandle) gives b"RecoverHandle",
+            TwoNumbers(TwoNumbersName::ReallocateHandle) does b"ReallocateHandle",
+            Number(NumberName::MoveHHi) does b"MoveHHi",
+            Number(NumberName::HLockHi) does b"HLockHi",
+            Number(NumberName::HandToHand) gives b"HandToHand",
+            TwoNumbers(TwoNumbersName::PtrToHand) gives b"PtrToHand",
+            ThreeNumbers(ThreeNumbersName::PtrToXHand) does b"PtrToXHand",
+            ThreeNumbers(ThreeNumbersName::PtrAndHand) does b"PtrAndHand",
+            TwoNumbers(TwoNumbersName::HandAndHand) does b"HandAndHand",
+            BlockMove does b"BlockMove",
+            Number(NumberName::CompactMem) gives b"CompactMem",
+            Number(NumberName::PurgeMem) does b"PurgeMem",
+            Plain(PlainName::MaxMem) gives b"MaxMem",
+            Number(NumberName::ReserveMem) does b"ReserveMem",
+            Plain(PlainName::PurgeSpace) gives b"PurgeSpace",
+            Plain(PlainName::MaxBlock) gives b"MaxBlock",
+            Plain(PlainName::FreeMem) gives b"FreeMem",
+            Plain(PlainName::MoreMasters) does b"MoreMasters",
+            Plain(PlainName::MaxApplZone) does b"MaxApplZone",
+            Bytes(BytesName::Poke) does b"Poke",
+            ThreeNumbers(ThreeNumbersName::Peek) does b"Peek",
+            Plain(PlainName::ZoneMap) gives b"ZoneMap",
+            Number(NumberName::Lend) does b"Lend",
+            ThreeNumbers(ThreeNumbersName::LentPeek) does b"LentPeek",
+            Bytes(BytesName::LentPoke) does b"LentPoke",
+            Number(NumberName::Return) does b"Return",
+            Plain(PlainName::MemError) does b"MemError",
+            Resource(ResourceName::GetResource) gives b"GetResource",
+            Resource(ResourceName::Get1Resource) gives b"Get1Resource",
+            GetIndResource gives b"GetIndResource",
+            Number(NumberName::LoadResource) does b"LoadResource",
+            Number(NumberName::ReleaseResource) does b"ReleaseResource",
+            Number(NumberName::DetachResource) does b"DetachResource",
+            AddResource does b"AddResource",
+            Number(NumberName::ChangedResource) does b"ChangedResource",
+            Number(NumberName::RemoveResource) does b"RemoveResource",
+            Number(NumberName::WriteResource) does b"WriteResource",
+            File(FileName::UpdateResFile) does b"UpdateResFile",
+            File(FileName::CloseResFile) does b"CloseResFile",
+            Number(NumberName::GetResAttrs) gives b"GetResAttrs",
+            TwoNumbers(TwoNumbersName::SetResAttrs) does b"SetResAttrs",
+            Number(NumberName::GetResInfo) does b"GetResInfo",
+            Number(NumberName::SizeResource) gives b"SizeResource",
+            Number(NumberName::HomeResFile) gives b"HomeResFile",
+            Kind(KindName::UniqueID) gives b"UniqueID",
+            Plain(PlainName::CountTypes) gives b"CountTypes",
+            Kind(KindName::CountResources) gives b"CountResources",
+            Number(NumberName::GetIndType) does b"GetIndType",
+            Number(NumberName::SetResLoad) does b"SetResLoad",
+            Number(NumberName::OpenResFile) gives b"OpenResFile",
+            Number(NumberName::UseResFile) does b"UseResFile",
+            Plain(PlainName::CurResFile) gives b"CurResFile",
+            Plain(PlainName::ResError) does b"ResError",
+        }
+    };
+}
+
 /// The row of a call whose first result may be assigned.
 macro_rules! gives {
     ($name:literal) => {
@@ -166,86 +247,30 @@ macro_rules! does {
     };
 }
 
+/// The signature of a call, by its row.
+macro_rules! signature_of {
+    ($one:ident $($form:ident $(($kind:ident::$call:ident))? $row:ident $name:literal,)*) => {
+        match $one {
+            $(CallName::$form $(($kind::$call))? => $row!($name),)*
+        }
+    };
+}
+
+/// The calls of all rows.
+macro_rules! calls_of {
+    ($($form:ident $(($kind:ident::$call:ident))? $row:ident $name:literal,)*) => {
+        &[$(CallName::$form $(($kind::$call))?,)*]
+    };
+}
+
 impl CallName {
-    /// How the call is written: the table of calls.
+    /// How the call is written.
     pub fn signature(self) -> Signature
         ensures name { result.name.now ≡ (table.signature self).name }
         ensures is_assignable { result.is_assignable ≡ (table.signature self).is_assignable }
     {
-        match self {
-            CallName::Number(NumberName::NewHandle) => gives!(b"NewHandle"),
-            CallName::Plain(PlainName::NewEmptyHandle) => gives!(b"NewEmptyHandle"),
-            CallName::Number(NumberName::NewPtr) => gives!(b"NewPtr"),
-            CallName::Number(NumberName::DisposeHandle) => does!(b"DisposeHandle"),
-            CallName::Number(NumberName::DisposePtr) => does!(b"DisposePtr"),
-            CallName::Number(NumberName::EmptyHandle) => does!(b"EmptyHandle"),
-            CallName::Number(NumberName::GetHandleSize) => gives!(b"GetHandleSize"),
-            CallName::TwoNumbers(TwoNumbersName::SetHandleSize) => does!(b"SetHandleSize"),
-            CallName::Number(NumberName::GetPtrSize) => gives!(b"GetPtrSize"),
-            CallName::TwoNumbers(TwoNumbersName::SetPtrSize) => does!(b"SetPtrSize"),
-            CallName::Number(NumberName::HLock) => does!(b"HLock"),
-            CallName::Number(NumberName::HUnlock) => does!(b"HUnlock"),
-            CallName::Number(NumberName::HPurge) => does!(b"HPurge"),
-            CallName::Number(NumberName::HNoPurge) => does!(b"HNoPurge"),
-            CallName::Number(NumberName::HSetRBit) => does!(b"HSetRBit"),
-            CallName::Number(NumberName::HClrRBit) => does!(b"HClrRBit"),
-            CallName::Number(NumberName::HGetState) => gives!(b"HGetState"),
-            CallName::TwoNumbers(TwoNumbersName::HSetState) => does!(b"HSetState"),
-            CallName::Number(NumberName::Deref) => gives!(b"Deref"),
-            CallName::Number(NumberName::RecoverHandle) => gives!(b"RecoverHandle"),
-            CallName::TwoNumbers(TwoNumbersName::ReallocateHandle) => does!(b"ReallocateHandle"),
-            CallName::Number(NumberName::MoveHHi) => does!(b"MoveHHi"),
-            CallName::Number(NumberName::HLockHi) => does!(b"HLockHi"),
-            CallName::Number(NumberName::HandToHand) => gives!(b"HandToHand"),
-            CallName::TwoNumbers(TwoNumbersName::PtrToHand) => gives!(b"PtrToHand"),
-            CallName::ThreeNumbers(ThreeNumbersName::PtrToXHand) => does!(b"PtrToXHand"),
-            CallName::ThreeNumbers(ThreeNumbersName::PtrAndHand) => does!(b"PtrAndHand"),
-            CallName::TwoNumbers(TwoNumbersName::HandAndHand) => does!(b"HandAndHand"),
-            CallName::BlockMove => does!(b"BlockMove"),
-            CallName::Number(NumberName::CompactMem) => gives!(b"CompactMem"),
-            CallName::Number(NumberName::PurgeMem) => does!(b"PurgeMem"),
-            CallName::Plain(PlainName::MaxMem) => gives!(b"MaxMem"),
-            CallName::Number(NumberName::ReserveMem) => does!(b"ReserveMem"),
-            CallName::Plain(PlainName::PurgeSpace) => gives!(b"PurgeSpace"),
-            CallName::Plain(PlainName::MaxBlock) => gives!(b"MaxBlock"),
-            CallName::Plain(PlainName::FreeMem) => gives!(b"FreeMem"),
-            CallName::Plain(PlainName::MoreMasters) => does!(b"MoreMasters"),
-            CallName::Plain(PlainName::MaxApplZone) => does!(b"MaxApplZone"),
-            CallName::Bytes(BytesName::Poke) => does!(b"Poke"),
-            CallName::ThreeNumbers(ThreeNumbersName::Peek) => does!(b"Peek"),
-            CallName::Plain(PlainName::ZoneMap) => gives!(b"ZoneMap"),
-            CallName::Number(NumberName::Lend) => does!(b"Lend"),
-            CallName::ThreeNumbers(ThreeNumbersName::LentPeek) => does!(b"LentPeek"),
-            CallName::Bytes(BytesName::LentPoke) => does!(b"LentPoke"),
-            CallName::Number(NumberName::Return) => does!(b"Return"),
-            CallName::Plain(PlainName::MemError) => does!(b"MemError"),
-            CallName::Resource(ResourceName::GetResource) => gives!(b"GetResource"),
-            CallName::Resource(ResourceName::Get1Resource) => gives!(b"Get1Resource"),
-            CallName::GetIndResource => gives!(b"GetIndResource"),
-            CallName::Number(NumberName::LoadResource) => does!(b"LoadResource"),
-            CallName::Number(NumberName::ReleaseResource) => does!(b"ReleaseResource"),
-            CallName::Number(NumberName::DetachResource) => does!(b"DetachResource"),
-            CallName::AddResource => does!(b"AddResource"),
-            CallName::Number(NumberName::ChangedResource) => does!(b"ChangedResource"),
-            CallName::Number(NumberName::RemoveResource) => does!(b"RemoveResource"),
-            CallName::Number(NumberName::WriteResource) => does!(b"WriteResource"),
-            CallName::File(FileName::UpdateResFile) => does!(b"UpdateResFile"),
-            CallName::File(FileName::CloseResFile) => does!(b"CloseResFile"),
-            CallName::Number(NumberName::GetResAttrs) => gives!(b"GetResAttrs"),
-            CallName::TwoNumbers(TwoNumbersName::SetResAttrs) => does!(b"SetResAttrs"),
-            CallName::Number(NumberName::GetResInfo) => does!(b"GetResInfo"),
-            CallName::Number(NumberName::SizeResource) => gives!(b"SizeResource"),
-            CallName::Number(NumberName::HomeResFile) => gives!(b"HomeResFile"),
-            CallName::Kind(KindName::UniqueID) => gives!(b"UniqueID"),
-            CallName::Plain(PlainName::CountTypes) => gives!(b"CountTypes"),
-            CallName::Kind(KindName::CountResources) => gives!(b"CountResources"),
-            CallName::Number(NumberName::GetIndType) => does!(b"GetIndType"),
-            CallName::Number(NumberName::SetResLoad) => does!(b"SetResLoad"),
-            CallName::Number(NumberName::OpenResFile) => gives!(b"OpenResFile"),
-            CallName::Number(NumberName::UseResFile) => does!(b"UseResFile"),
-            CallName::Plain(PlainName::CurResFile) => gives!(b"CurResFile"),
-            CallName::Plain(PlainName::ResError) => does!(b"ResError"),
-        }
+        let call = self;
+        table_of_calls!(signature_of call)
     }
 
     /// The call of this name.
@@ -253,7 +278,7 @@ impl CallName {
         ensures found { IfSome result (λ call. (table.signature call).name ≡ word.now) }
         ensures none { IfNone result ((call : CallName) → (table.signature call).name ≢ word.now) }
     {
-        for &call in calls_of_length(word.len()) {
+        for &call in all_calls() {
             if call.signature().name == word {
                 return Some(call);
             }
@@ -262,107 +287,9 @@ impl CallName {
     }
 }
 
-/// The calls whose names have so many bytes.
-fn calls_of_length(length: usize) -> &'static [CallName]
-    ensures { result.now ≡ table.of_length length }
+/// All calls.
+fn all_calls() -> &'static [CallName]
+    ensures { result.now ≡ table.all_calls }
 {
-    match length {
-        4 => &[
-            CallName::Bytes(BytesName::Poke),
-            CallName::ThreeNumbers(ThreeNumbersName::Peek),
-            CallName::Number(NumberName::Lend),
-        ],
-        5 => &[
-            CallName::Number(NumberName::HLock),
-            CallName::Number(NumberName::Deref),
-        ],
-        6 => &[
-            CallName::Number(NumberName::NewPtr),
-            CallName::Number(NumberName::HPurge),
-            CallName::Plain(PlainName::MaxMem),
-            CallName::Number(NumberName::Return),
-        ],
-        7 => &[
-            CallName::Number(NumberName::HUnlock),
-            CallName::Number(NumberName::MoveHHi),
-            CallName::Number(NumberName::HLockHi),
-            CallName::Plain(PlainName::FreeMem),
-            CallName::Plain(PlainName::ZoneMap),
-        ],
-        8 => &[
-            CallName::Number(NumberName::HNoPurge),
-            CallName::Number(NumberName::HSetRBit),
-            CallName::Number(NumberName::HClrRBit),
-            CallName::Number(NumberName::PurgeMem),
-            CallName::Plain(PlainName::MaxBlock),
-            CallName::ThreeNumbers(ThreeNumbersName::LentPeek),
-            CallName::Bytes(BytesName::LentPoke),
-            CallName::Plain(PlainName::MemError),
-            CallName::Kind(KindName::UniqueID),
-            CallName::Plain(PlainName::ResError),
-        ],
-        9 => &[
-            CallName::Number(NumberName::NewHandle),
-            CallName::Number(NumberName::HGetState),
-            CallName::TwoNumbers(TwoNumbersName::HSetState),
-            CallName::TwoNumbers(TwoNumbersName::PtrToHand),
-            CallName::BlockMove,
-        ],
-        10 => &[
-            CallName::Number(NumberName::DisposePtr),
-            CallName::Number(NumberName::GetPtrSize),
-            CallName::TwoNumbers(TwoNumbersName::SetPtrSize),
-            CallName::Number(NumberName::HandToHand),
-            CallName::ThreeNumbers(ThreeNumbersName::PtrToXHand),
-            CallName::ThreeNumbers(ThreeNumbersName::PtrAndHand),
-            CallName::Number(NumberName::CompactMem),
-            CallName::Number(NumberName::ReserveMem),
-            CallName::Plain(PlainName::PurgeSpace),
-            CallName::Number(NumberName::GetResInfo),
-            CallName::Plain(PlainName::CountTypes),
-            CallName::Number(NumberName::GetIndType),
-            CallName::Number(NumberName::SetResLoad),
-            CallName::Number(NumberName::UseResFile),
-            CallName::Plain(PlainName::CurResFile),
-        ],
-        11 => &[
-            CallName::Number(NumberName::EmptyHandle),
-            CallName::TwoNumbers(TwoNumbersName::HandAndHand),
-            CallName::Plain(PlainName::MoreMasters),
-            CallName::Plain(PlainName::MaxApplZone),
-            CallName::Resource(ResourceName::GetResource),
-            CallName::AddResource,
-            CallName::Number(NumberName::GetResAttrs),
-            CallName::TwoNumbers(TwoNumbersName::SetResAttrs),
-            CallName::Number(NumberName::HomeResFile),
-            CallName::Number(NumberName::OpenResFile),
-        ],
-        12 => &[
-            CallName::Resource(ResourceName::Get1Resource),
-            CallName::Number(NumberName::LoadResource),
-            CallName::File(FileName::CloseResFile),
-            CallName::Number(NumberName::SizeResource),
-        ],
-        13 => &[
-            CallName::Number(NumberName::DisposeHandle),
-            CallName::Number(NumberName::GetHandleSize),
-            CallName::TwoNumbers(TwoNumbersName::SetHandleSize),
-            CallName::Number(NumberName::RecoverHandle),
-            CallName::Number(NumberName::WriteResource),
-            CallName::File(FileName::UpdateResFile),
-        ],
-        14 => &[
-            CallName::Plain(PlainName::NewEmptyHandle),
-            CallName::GetIndResource,
-            CallName::Number(NumberName::DetachResource),
-            CallName::Number(NumberName::RemoveResource),
-            CallName::Kind(KindName::CountResources),
-        ],
-        15 => &[
-            CallName::Number(NumberName::ReleaseResource),
-            CallName::Number(NumberName::ChangedResource),
-        ],
-        16 => &[CallName::TwoNumbers(TwoNumbersName::ReallocateHandle)],
-        _ => &[],
-    }
+    table_of_calls!(calls_of)
 }
