@@ -112,7 +112,7 @@ unnamed_further word calls n name is other before k lt same =
     ]
 
 -- a word that is the name of no call in the table is the name of none
-pub unnamed : (word : List ℕ) (calls : List CallName) → calls ≡ of_length (length word) → ((k : ℕ) → k < length calls → (signature (get_or calls k some_call)).name ≢ word) → (call : CallName) → (signature call).name ≢ word
+pub unnamed : (word : List ℕ) (calls : List CallName) → calls ≡ all_calls → ((k : ℕ) → k < length calls → (signature (get_or calls k some_call)).name ≢ word) → (call : CallName) → (signature call).name ≢ word
 unnamed word calls is none call e =
     let named : find (has_name word) calls ≡ Some call = ap (λ (cs : List CallName). find (has_name word) cs) is ∙ ap call_named (sym e) ∙ named_again call in
     let found = stands_at (has_name word) calls call named in
