@@ -1,8 +1,9 @@
 -- No two calls have one name, and the table has each call.
-use Rattle.std.proofs.Common.{◌≡◌, ◌≢◌, ℕ, suc, inl, inr, ◌+◌, ◌<◌, Bool, true, false, cond, List, [], ◌∷◌, length, get_or, Option, Some, refl, sym, ap, ◌∙◌, arith}
+use Rattle.std.proofs.Common.{◌≡◌, ◌≢◌, ℕ, suc, inl, inr, ◌+◌, ◌<◌, Bool, true, false, cond, List, [], ◌∷◌, length, get_or, map, Option, Some, refl, sym, ap, ◌∙◌, arith}
 use Rattle.std.specs.Prelude.{find}
 use Rattle.std.specs.Str.{bytes_eq}
 use Rattle.std.proofs.lemmas.Bool.{cases_eq}
+use Rattle.std.proofs.lemmas.List.{get_or-map, length-map}
 use Rattle.std.proofs.lemmas.Slice.Eq.{bytes_eq-Decides}
 use Rattle.script_lang.specs.declared.table.CallName.{CallName}
 use Rattle.script_lang.specs.declared.table.CallName.TheVariants as name
@@ -22,6 +23,7 @@ use Rattle.script_lang.specs.declared.table.FileName.{FileName}
 use Rattle.script_lang.specs.declared.table.FileName.TheVariants as file
 use Rattle.script_lang.specs.declared.table.KindName.{KindName}
 use Rattle.script_lang.specs.declared.table.KindName.TheVariants as kind
+use Rattle.script_lang.specs.declared.table.Row.{Row}
 use Rattle.script_lang.specs.Table.{signature, all_calls}
 
 -- a call, for places past the end of a list
@@ -103,17 +105,33 @@ stands_at : (test : CallName → Bool) (calls : List CallName) (call : CallName)
 stands_at test [] call e = absurd cc
 stands_at test (first ∷ calls) call e = stands_by test first calls call (test first) refl e (stands_at test calls call)
 
--- the next call has another name as well
-pub unnamed_further : (word : List ℕ) (calls : List CallName) (n : ℕ) (name : List ℕ) → name ≡ (signature (get_or calls n some_call)).name → bytes_eq name word ≡ false → ((k : ℕ) → k < n → (signature (get_or calls k some_call)).name ≢ word) → (k : ℕ) → k < n + 1 → (signature (get_or calls k some_call)).name ≢ word
-unnamed_further word calls n name is other before k lt same =
+-- a row, for places past the end of a list
+abbrev pub some_row : Row
+some_row = record { name = record { ref_ptr = (0, 0); now = [] }; call = some_call }
+
+-- a row's name is its call's
+pub own_name : (rows : List Row) (k : ℕ) → map (λ (r : Row). r.call) rows ≡ all_calls → map (λ (r : Row). r.name.now) rows ≡ map (λ call. (signature call).name) all_calls → k < length rows → (signature (get_or rows k some_row).call).name ≡ (get_or rows k some_row).name.now
+own_name rows k calls names lt =
+    let here = get_or-map (λ (r : Row). r.name.now) rows k some_row [] lt in
+    let called = get_or-map (λ (r : Row). r.call) rows k some_row some_call lt in
+    let inside : k < length all_calls = let many = length-map rows (λ (r : Row). r.call) in let all = ap length calls in omega (arith, lt, many, all) in
+    let there = get_or-map (λ call. (signature call).name) all_calls k some_call [] inside in
+    ap (λ (c : CallName). (signature c).name) (sym called ∙ ap (λ (cs : List CallName). get_or cs k some_call) calls) ∙ sym there ∙ ap (λ (ns : List (List ℕ)). get_or ns k []) (sym names) ∙ here
+
+-- the next row has another name as well
+pub unnamed_further : (word : List ℕ) (rows : List Row) (n : ℕ) → bytes_eq (get_or rows n some_row).name.now word ≡ false → ((k : ℕ) → k < n → (get_or rows k some_row).name.now ≢ word) → (k : ℕ) → k < n + 1 → (get_or rows k some_row).name.now ≢ word
+unnamed_further word rows n other before k lt same =
     elim (cases_eq k n) [
-      | inl at ↦ let equal : bytes_eq name word ≡ true = (bytes_eq-Decides name word).1 (is ∙ ap (λ (i : ℕ). (signature (get_or calls i some_call)).name) (sym at) ∙ same) in absurd cc
+      | inl at ↦ let equal : bytes_eq (get_or rows n some_row).name.now word ≡ true = (bytes_eq-Decides (get_or rows n some_row).name.now word).1 (ap (λ (i : ℕ). (get_or rows i some_row).name.now) (sym at) ∙ same) in absurd cc
       | inr below ↦ before k (omega (arith, below)) same
     ]
 
--- a word that is the name of no call in the table is the name of none
-pub unnamed : (word : List ℕ) (calls : List CallName) → calls ≡ all_calls → ((k : ℕ) → k < length calls → (signature (get_or calls k some_call)).name ≢ word) → (call : CallName) → (signature call).name ≢ word
-unnamed word calls is none call e =
-    let named : find (has_name word) calls ≡ Some call = ap (λ (cs : List CallName). find (has_name word) cs) is ∙ ap call_named (sym e) ∙ named_again call in
-    let found = stands_at (has_name word) calls call named in
-    none found.place found.within ((bytes_eq-Decides (signature (get_or calls found.place some_call)).name word).0 found.passes)
+-- a word that no row of the table has is the name of no call
+pub unnamed : (word : List ℕ) (rows : List Row) → map (λ (r : Row). r.call) rows ≡ all_calls → map (λ (r : Row). r.name.now) rows ≡ map (λ call. (signature call).name) all_calls → ((k : ℕ) → k < length rows → (get_or rows k some_row).name.now ≢ word) → (call : CallName) → (signature call).name ≢ word
+unnamed word rows calls names none call e =
+    let named : find (has_name word) all_calls ≡ Some call = ap call_named (sym e) ∙ named_again call in
+    let found = stands_at (has_name word) all_calls call named in
+    let there : (signature (get_or all_calls found.place some_call)).name ≡ word = (bytes_eq-Decides (signature (get_or all_calls found.place some_call)).name word).0 found.passes in
+    let within : found.place < length rows = let w = found.within in let many = length-map rows (λ (r : Row). r.call) in let all = ap length calls in omega (arith, w, many, all) in
+    let called = get_or-map (λ (r : Row). r.call) rows found.place some_row some_call within in
+    none found.place within (sym (own_name rows found.place calls names within) ∙ ap (λ (c : CallName). (signature c).name) (sym called ∙ ap (λ (cs : List CallName). get_or cs found.place some_call) calls) ∙ there)

@@ -27,9 +27,11 @@ does name = record { name = name; is_assignable = false }
 -- the table of calls
 abbrev pub signature : CallName → Signature
 signature (name.Number number.NewHandle) = gives (codes "NewHandle")
+signature (name.Number number.DisposeHandle) = does (codes "DisposeHandle")
+signature (name.Bytes bytes.Poke) = does (codes "Poke")
+signature (name.ThreeNumbers three_numbers.Peek) = does (codes "Peek")
 signature (name.Plain plain.NewEmptyHandle) = gives (codes "NewEmptyHandle")
 signature (name.Number number.NewPtr) = gives (codes "NewPtr")
-signature (name.Number number.DisposeHandle) = does (codes "DisposeHandle")
 signature (name.Number number.DisposePtr) = does (codes "DisposePtr")
 signature (name.Number number.EmptyHandle) = does (codes "EmptyHandle")
 signature (name.Number number.GetHandleSize) = gives (codes "GetHandleSize")
@@ -64,8 +66,6 @@ signature (name.Plain plain.MaxBlock) = gives (codes "MaxBlock")
 signature (name.Plain plain.FreeMem) = gives (codes "FreeMem")
 signature (name.Plain plain.MoreMasters) = does (codes "MoreMasters")
 signature (name.Plain plain.MaxApplZone) = does (codes "MaxApplZone")
-signature (name.Bytes bytes.Poke) = does (codes "Poke")
-signature (name.ThreeNumbers three_numbers.Peek) = does (codes "Peek")
 signature (name.Plain plain.ZoneMap) = gives (codes "ZoneMap")
 signature (name.Number number.Lend) = does (codes "Lend")
 signature (name.ThreeNumbers three_numbers.LentPeek) = does (codes "LentPeek")
@@ -102,4 +102,4 @@ signature (name.Plain plain.ResError) = does (codes "ResError")
 -- all calls
 abbrev pub all_calls : List CallName
 all_calls =
-    name.Number number.NewHandle ∷ name.Plain plain.NewEmptyHandle ∷ name.Number number.NewPtr ∷ name.Number number.DisposeHandle ∷ name.Number number.DisposePtr ∷ name.Number number.EmptyHandle ∷ name.Number number.GetHandleSize ∷ name.TwoNumbers two_numbers.SetHandleSize ∷ name.Number number.GetPtrSize ∷ name.TwoNumbers two_numbers.SetPtrSize ∷ name.Number number.HLock ∷ name.Number number.HUnlock ∷ name.Number number.HPurge ∷ name.Number number.HNoPurge ∷ name.Number number.HSetRBit ∷ name.Number number.HClrRBit ∷ name.Number number.HGetState ∷ name.TwoNumbers two_numbers.HSetState ∷ name.Number number.Deref ∷ name.Number number.RecoverHandle ∷ name.TwoNumbers two_numbers.ReallocateHandle ∷ name.Number number.MoveHHi ∷ name.Number number.HLockHi ∷ name.Number number.HandToHand ∷ name.TwoNumbers two_numbers.PtrToHand ∷ name.ThreeNumbers three_numbers.PtrToXHand ∷ name.ThreeNumbers three_numbers.PtrAndHand ∷ name.TwoNumbers two_numbers.HandAndHand ∷ name.BlockMove ∷ name.Number number.CompactMem ∷ name.Number number.PurgeMem ∷ name.Plain plain.MaxMem ∷ name.Number number.ReserveMem ∷ name.Plain plain.PurgeSpace ∷ name.Plain plain.MaxBlock ∷ name.Plain plain.FreeMem ∷ name.Plain plain.MoreMasters ∷ name.Plain plain.MaxApplZone ∷ name.Bytes bytes.Poke ∷ name.ThreeNumbers three_numbers.Peek ∷ name.Plain plain.ZoneMap ∷ name.Number number.Lend ∷ name.ThreeNumbers three_numbers.LentPeek ∷ name.Bytes bytes.LentPoke ∷ name.Number number.Return ∷ name.Plain plain.MemError ∷ name.Resource resource.GetResource ∷ name.Resource resource.Get1Resource ∷ name.GetIndResource ∷ name.Number number.LoadResource ∷ name.Number number.ReleaseResource ∷ name.Number number.DetachResource ∷ name.AddResource ∷ name.Number number.ChangedResource ∷ name.Number number.RemoveResource ∷ name.Number number.WriteResource ∷ name.File file.UpdateResFile ∷ name.File file.CloseResFile ∷ name.Number number.GetResAttrs ∷ name.TwoNumbers two_numbers.SetResAttrs ∷ name.Number number.GetResInfo ∷ name.Number number.SizeResource ∷ name.Number number.HomeResFile ∷ name.Kind kind.UniqueID ∷ name.Plain plain.CountTypes ∷ name.Kind kind.CountResources ∷ name.Number number.GetIndType ∷ name.Number number.SetResLoad ∷ name.Number number.OpenResFile ∷ name.Number number.UseResFile ∷ name.Plain plain.CurResFile ∷ name.Plain plain.ResError ∷ []
+    name.Number number.NewHandle ∷ name.Number number.DisposeHandle ∷ name.Bytes bytes.Poke ∷ name.ThreeNumbers three_numbers.Peek ∷ name.Plain plain.NewEmptyHandle ∷ name.Number number.NewPtr ∷ name.Number number.DisposePtr ∷ name.Number number.EmptyHandle ∷ name.Number number.GetHandleSize ∷ name.TwoNumbers two_numbers.SetHandleSize ∷ name.Number number.GetPtrSize ∷ name.TwoNumbers two_numbers.SetPtrSize ∷ name.Number number.HLock ∷ name.Number number.HUnlock ∷ name.Number number.HPurge ∷ name.Number number.HNoPurge ∷ name.Number number.HSetRBit ∷ name.Number number.HClrRBit ∷ name.Number number.HGetState ∷ name.TwoNumbers two_numbers.HSetState ∷ name.Number number.Deref ∷ name.Number number.RecoverHandle ∷ name.TwoNumbers two_numbers.ReallocateHandle ∷ name.Number number.MoveHHi ∷ name.Number number.HLockHi ∷ name.Number number.HandToHand ∷ name.TwoNumbers two_numbers.PtrToHand ∷ name.ThreeNumbers three_numbers.PtrToXHand ∷ name.ThreeNumbers three_numbers.PtrAndHand ∷ name.TwoNumbers two_numbers.HandAndHand ∷ name.BlockMove ∷ name.Number number.CompactMem ∷ name.Number number.PurgeMem ∷ name.Plain plain.MaxMem ∷ name.Number number.ReserveMem ∷ name.Plain plain.PurgeSpace ∷ name.Plain plain.MaxBlock ∷ name.Plain plain.FreeMem ∷ name.Plain plain.MoreMasters ∷ name.Plain plain.MaxApplZone ∷ name.Plain plain.ZoneMap ∷ name.Number number.Lend ∷ name.ThreeNumbers three_numbers.LentPeek ∷ name.Bytes bytes.LentPoke ∷ name.Number number.Return ∷ name.Plain plain.MemError ∷ name.Resource resource.GetResource ∷ name.Resource resource.Get1Resource ∷ name.GetIndResource ∷ name.Number number.LoadResource ∷ name.Number number.ReleaseResource ∷ name.Number number.DetachResource ∷ name.AddResource ∷ name.Number number.ChangedResource ∷ name.Number number.RemoveResource ∷ name.Number number.WriteResource ∷ name.File file.UpdateResFile ∷ name.File file.CloseResFile ∷ name.Number number.GetResAttrs ∷ name.TwoNumbers two_numbers.SetResAttrs ∷ name.Number number.GetResInfo ∷ name.Number number.SizeResource ∷ name.Number number.HomeResFile ∷ name.Kind kind.UniqueID ∷ name.Plain plain.CountTypes ∷ name.Kind kind.CountResources ∷ name.Number number.GetIndType ∷ name.Number number.SetResLoad ∷ name.Number number.OpenResFile ∷ name.Number number.UseResFile ∷ name.Plain plain.CurResFile ∷ name.Plain plain.ResError ∷ []

@@ -1,7 +1,8 @@
 //! The calls that a line may make, by their names and by the operands that they take.
 
-ghost use Rattle.std.specs.Prelude.{◌≡◌, ◌≢◌, IfSome, IfNone};
+ghost use Rattle.std.specs.Prelude.{◌≡◌, ◌≢◌, map, IfSome, IfNone};
 ghost use Rattle.script_lang.specs.declared.table.CallName.{CallName};
+ghost use Rattle.script_lang.specs.declared.table.Row.{Row};
 ghost use Rattle.script_lang.specs.Table as table;
 
 /// The calls on a number: a size, a handle, a pointer, a file or an index.
@@ -146,15 +147,18 @@ pub struct Signature {
     pub is_assignable: bool,
 }
 
-/// The table of calls: how each is written, and whether it gives a first result that a line may assign, or does without.
+/// The table of calls: how each is written, and whether it gives a first result that a line may assign, or does without. A search
+/// goes from the top, so those that scripts make most come first.
 macro_rules! table_of_calls {
     ($make:ident $($given:tt)*) => {
         $make! {
             $($given)*
             Number(NumberName::NewHandle) gives b"NewHandle",
+            Number(NumberName::DisposeHandle) does b"DisposeHandle",
+            Bytes(BytesName::Poke) does b"Poke",
+            ThreeNumbers(ThreeNumbersName::Peek) does b"Peek",
             Plain(PlainName::NewEmptyHandle) gives b"NewEmptyHandle",
             Number(NumberName::NewPtr) gives b"NewPtr",
-            Number(NumberName::DisposeHandle) does b"DisposeHandle",
             Number(NumberName::DisposePtr) does b"DisposePtr",
             Number(NumberName::EmptyHandle) does b"EmptyHandle",
             Number(NumberName::GetHandleSize) gives b"GetHandleSize",
@@ -189,8 +193,6 @@ macro_rules! table_of_calls {
             Plain(PlainName::FreeMem) gives b"FreeMem",
             Plain(PlainName::MoreMasters) does b"MoreMasters",
             Plain(PlainName::MaxApplZone) does b"MaxApplZone",
-            Bytes(BytesName::Poke) does b"Poke",
-            ThreeNumbers(ThreeNumbersName::Peek) does b"Peek",
             Plain(PlainName::ZoneMap) gives b"ZoneMap",
             Number(NumberName::Lend) does b"Lend",
             ThreeNumbers(ThreeNumbersName::LentPeek) does b"LentPeek",
@@ -256,11 +258,18 @@ macro_rules! signature_of {
     };
 }
 
-/// The calls of all rows.
-macro_rules! calls_of {
+/// All rows.
+macro_rules! rows_of {
     ($($form:ident $(($kind:ident::$call:ident))? $row:ident $name:literal,)*) => {
-        &[$(CallName::$form $(($kind::$call))?,)*]
+        &[$(Row { name: $name, call: CallName::$form $(($kind::$call))? },)*]
     };
+}
+
+/// A call beside its name.
+#[derive(Clone, Copy)]
+struct Row {
+    name: &'static [u8],
+    call: CallName,
 }
 
 impl CallName {
@@ -278,18 +287,19 @@ impl CallName {
         ensures found { IfSome result (λ call. (table.signature call).name ≡ word.now) }
         ensures none { IfNone result ((call : CallName) → (table.signature call).name ≢ word.now) }
     {
-        for &call in all_calls() {
-            if call.signature().name == word {
-                return Some(call);
+        for row in rows() {
+            if row.name == word {
+                return Some(row.call);
             }
         }
         None
     }
 }
 
-/// All calls.
-fn all_calls() -> &'static [CallName]
-    ensures { result.now ≡ table.all_calls }
+/// The table's rows, each a call beside its name.
+fn rows() -> &'static [Row]
+    ensures calls { map (λ (r : Row). r.call) result.now ≡ table.all_calls }
+    ensures names { map (λ (r : Row). r.name.now) result.now ≡ map (λ call. (table.signature call).name) table.all_calls }
 {
-    table_of_calls!(calls_of)
+    table_of_calls!(rows_of)
 }
