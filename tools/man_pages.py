@@ -1,9 +1,8 @@
 #!/usr/bin/env python3
 """Makes the man pages docs/macheap.1 and docs/macheap.3, and writes them: tools/man_pages.py.
 
-macheap(1) has the program's own texts: its options and their help from crates/macheap/src, the exit statuses and the first example from
-docs/SCRIPT.md. macheap(3) has the comments and declarations of the headers in include/. `tests/run pages` sees that what is written is
-what is made.
+macheap(1) has the program's own texts: its options and their help from crates/macheap/src, and the first example from docs/SCRIPT.md.
+macheap(3) has the comments and declarations of the headers in include/. `tests/run pages` sees that what is written is what is made.
 """
 import os
 import re
@@ -18,6 +17,16 @@ ABOUT = re.compile(r'const ABOUT: &\[u8\] =\s*b"([^"\\]*)')
 FILES = ("fork", "journal")
 QUOTE = re.compile(r"^```text \S+\n(.*?)^```$", re.M | re.S)
 COLUMNS = 70
+# the exit statuses of macheap: what happened, what both outputs have then, the status
+STATUSES = [
+    ("all lines were run; or help was asked for", "their replies; or a help text", "nothing", 0),
+    ("the host refused memory", "the replies so far, and the line `no memory`", "nothing", 1),
+    ("reading the script failed, or was interrupted", "nothing", "nothing", 1),
+    ("writing failed, was interrupted, or took no byte", "the replies so far, the last perhaps in part", "nothing", 1),
+    ("a file can't be opened or made", "nothing", "which file, why, and what to do", 1),
+    ("the command line has a mistake", "nothing", "a message", 2),
+    ("the script has a fault", "the line `script fault at line N`", "what is wrong in that line", 3),
+]
 # a comment of a header that begins a line, or what is between two of them
 ITEM = re.compile(r"^/\*(.*?)\*/\n|((?:(?!/\*)[^\n]*\n)+)", re.M | re.S)
 GUARD = re.compile(r'^#.*\n|^extern "C" \{\n|^\}\n', re.M)
@@ -62,12 +71,6 @@ def options():
     return [(name, "FILE" if name in FILES else "N", helps[text]) for name, text in OPTION.findall(source)]
 
 
-def statuses():
-    """The rows of the table of exit statuses: what happened, both outputs, the status."""
-    table = read("docs/SCRIPT.md").partition("| What happened |")[2].split("\n\n")[0]
-    return [[it.strip() for it in row.strip("|").split("|")] for row in table.split("\n")[2:]]
-
-
 def program():
     """macheap(1)."""
     about = ABOUT.search(read("crates/macheap/src/program.rt"))[1]
@@ -81,7 +84,7 @@ def program():
     for name, value, said in options():
         made += [".TP", f'.BI \\-\\-{name} " {value}"', words(said) + "."]
     made += [".TP", ".BR \\-h \", \" \\-\\-help", "Prints a help text, and runs nothing.", ".SH EXIT STATUS"]
-    for what, output, message, status in statuses():
+    for what, output, message, status in STATUSES:
         made += [".TP", f".B {status}", words(f"{what[0].upper()}{what[1:]}. Standard output: {output}. Standard error: {message}.")]
     made += [".SH EXAMPLES", "After three lines of comment, the script", code(script), "prints", code(printed)]
     made += [".SH SEE ALSO", ".BR resfork (1),", ".BR macheap (3)"]

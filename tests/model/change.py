@@ -1,6 +1,6 @@
 """Changes of a table of resources, and what of a file is no resource fork, as a small model.
 
-It is written from docs/FORMAT.md, docs/FILES.md and the published formats of containers alone, and shares nothing with the program.
+It is written from docs/FORMAT.md, docs/resfork.1 and the published formats of containers alone, and shares nothing with the program.
 """
 import struct
 
