@@ -8,6 +8,7 @@ crate's functions come its must-fail edits. All of it is read from the sources, 
 import glob
 import os
 import re
+import signal
 from collections import namedtuple
 
 Function = namedtuple("Function", "owner name is_public comment ensures requires")
@@ -101,5 +102,7 @@ def main():
 
 
 if __name__ == "__main__":
+    # who reads the page may stop before its end
+    signal.signal(signal.SIGPIPE, signal.SIG_DFL)
     os.chdir(f"{os.path.dirname(os.path.abspath(__file__))}/..")
     main()
