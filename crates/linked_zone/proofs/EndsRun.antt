@@ -74,7 +74,7 @@ pub record Coming {r : ZoneRecords} {start end : ℕ} (m : Misplaced r start end
 module _ {r : ZoneRecords} {start end : ℕ} (m : Misplaced r start end) where
   -- the zone's own blocks
   stands : Stands (records_of m.zone) m.zone
-  stands = stands-now (record { records = records_of m.zone }) m.zone m.stands m.same
+  stands = stands-now m.stands m.same
 
   -- the run among others
   passes : (p : Entry → Bool) → list_all p m.zone.heap.map ≡ true → list_all p m.run ≡ true

@@ -22,8 +22,8 @@ pub record Stands (r : ZoneRecords) (z : ZoneState) : Type 0 where
   pub high : z.shape.base + z.shape.limit ≤ 0x100_0000
 
 -- the fields of a zone are the blocks of what it shows
-pub stands-now : (i : Inside) (z : ZoneState) → StandsAsRead i → state_in i.records ≡ z → Stands i.records z
-stands-now i z inside shows = subst (Stands i.records) shows (record {
+pub stands-now : {i : Inside} {z : ZoneState} → StandsAsRead i → state_in i.records ≡ z → Stands i.records z
+stands-now {i = i} inside shows = subst (Stands i.records) shows (record {
   blocks = inside.blocks;
   fits = inside.fits;
   sizes = inside.sizes;

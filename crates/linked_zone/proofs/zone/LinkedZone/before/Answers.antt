@@ -9,24 +9,21 @@ use Rattle.linked_zone.proofs.Located.{of-entry, of-record, no-records}
 use Rattle.linked_zone.proofs.zone.LinkedZone.before.Goals as goal
 
 pub before-requires : goal.before-requires
-before-requires c = (of-entry c.self.inside.records c.args.self.now (stands-now c.self.inside c.args.self.now c.self.invariant c.self.view_is).blocks c.args.at c.requires).there
+before-requires c = (of-entry c.self.inside.records c.args.self.now (stands-now c.self.invariant c.self.view_is).blocks c.args.at c.requires).there
 
 pub returns-clause-there : goal.returns-clause-there
 returns-clause-there c =
-    let stands = stands-now c.self.inside c.args.self.now c.self.invariant c.self.view_is in
-    IfSome_then c.before-2.result c.before-2.ensures.last (λ last is. (of-record c.self.inside.records c.args.self.now stands.blocks last is.0).entry)
+    IfSome_then c.before-2.result c.before-2.ensures.last (λ last is. (of-record c.self.inside.records c.args.self.now (stands-now c.self.invariant c.self.view_is).blocks last is.0).entry)
 
 pub returns-clause-next : goal.returns-clause-next
 returns-clause-next c =
-    let stands = stands-now c.self.inside c.args.self.now c.self.invariant c.self.view_is in
     IfSome_then c.before-2.result c.before-2.ensures.last (λ last is e.
-    let mine = of-entry c.self.inside.records c.args.self.now stands.blocks last e in
+    let mine = of-entry c.self.inside.records c.args.self.now (stands-now c.self.invariant c.self.view_is).blocks last e in
     is.1 mine.there ∙ ap (λ (b : BlockRecord). last + b.size) mine.here)
 
 pub returns-clause-first : goal.returns-clause-first
 returns-clause-first c =
     let z = c.args.self.now in
-    let stands = stands-now c.self.inside c.args.self.now c.self.invariant c.self.view_is in
     IfNone_then c.before-2.result c.before-2.ensures.first (λ first e.
-    let mine = of-entry c.self.inside.records z stands.blocks c.args.at e in
+    let mine = of-entry c.self.inside.records z (stands-now c.self.invariant c.self.view_is).blocks c.args.at e in
     no-records (owners_of z) z.shape (address_behind z.shape []) e.before (sym mine.lower ∙ first mine.there))

@@ -8,24 +8,21 @@ use Rattle.linked_zone.proofs.Located.{of-entry, of-record, no-records}
 use Rattle.linked_zone.proofs.zone.LinkedZone.behind.Goals as goal
 
 pub behind-requires : goal.behind-requires
-behind-requires c = (of-entry c.self.inside.records c.args.self.now (stands-now c.self.inside c.args.self.now c.self.invariant c.self.view_is).blocks c.args.at c.requires).there
+behind-requires c = (of-entry c.self.inside.records c.args.self.now (stands-now c.self.invariant c.self.view_is).blocks c.args.at c.requires).there
 
 pub returns-clause-next : goal.returns-clause-next
 returns-clause-next c =
-    let stands = stands-now c.self.inside c.args.self.now c.self.invariant c.self.view_is in
     IfSome_then c.behind.result c.behind.ensures.next (λ next is e.
-    let mine = of-entry c.self.inside.records c.args.self.now stands.blocks c.args.at e in
+    let mine = of-entry c.self.inside.records c.args.self.now (stands-now c.self.invariant c.self.view_is).blocks c.args.at e in
     is.1 mine.there ∙ ap (λ (b : BlockRecord). c.args.at + b.size) mine.here)
 
 pub returns-clause-there : goal.returns-clause-there
 returns-clause-there c =
-    let stands = stands-now c.self.inside c.args.self.now c.self.invariant c.self.view_is in
-    IfSome_then c.behind.result c.behind.ensures.next (λ next is. (of-record c.self.inside.records c.args.self.now stands.blocks next is.0).entry)
+    IfSome_then c.behind.result c.behind.ensures.next (λ next is. (of-record c.self.inside.records c.args.self.now (stands-now c.self.invariant c.self.view_is).blocks next is.0).entry)
 
 pub returns-clause-last : goal.returns-clause-last
 returns-clause-last c =
     let z = c.args.self.now in
-    let stands = stands-now c.self.inside c.args.self.now c.self.invariant c.self.view_is in
     IfNone_then c.behind.result c.behind.ensures.last (λ last e.
-    let mine = of-entry c.self.inside.records z stands.blocks c.args.at e in
+    let mine = of-entry c.self.inside.records z (stands-now c.self.invariant c.self.view_is).blocks c.args.at e in
     no-records (owners_of z) z.shape (c.args.at + e.here.size) e.behind (sym mine.higher ∙ last mine.there))

@@ -10,20 +10,20 @@ use Rattle.linked_zone.proofs.EndsMaster.{master-ends}
 use Rattle.linked_zone.proofs.zone.LinkedZone.build_master.Goals as goal
 
 pub overflow_add-first : goal.overflow_add-first
-overflow_add-first c = let below = room-begins c.self.inside.records c.args.self.now (stands-now c.self.inside c.args.self.now c.self.invariant c.self.view_is) c.args.at master_length c.requires c.spec.result c.heads.result c.head_size.result c.spec.ensures c.heads.ensures c.head_size.ensures in omega arith
+overflow_add-first c = let below = room-begins _ _ (stands-now c.self.invariant c.self.view_is) c.args.at master_length c.requires c.spec.result c.heads.result c.head_size.result c.spec.ensures c.heads.ensures c.head_size.ensures in omega arith
 
 pub place_master-requires-clause-room : goal.place_master-requires-clause-room
-place_master-requires-clause-room c = room-can c.self.inside.records c.args.self.now (stands-now c.self.inside c.args.self.now c.self.invariant c.self.view_is) c.args.at master_length c.requires
+place_master-requires-clause-room c = room-can _ _ (stands-now c.self.invariant c.self.view_is) c.args.at master_length c.requires
 
 pub place_master-requires-clause-sayable : goal.place_master-requires-clause-sayable
-place_master-requires-clause-sayable c = front-said c.self.inside.records c.args.self.now (stands-now c.self.inside c.args.self.now c.self.invariant c.self.view_is) c.front-last.result c.front-last.ensures
+place_master-requires-clause-sayable c = front-said _ _ (stands-now c.self.invariant c.self.view_is) c.front-last.result c.front-last.ensures
 
 -- how it ends
 ends : (c : goal.After-set_front) → (room : RoomFor c.args.self.now c.args.at master_length) → Kept c.set_front.new.self (with_master c.args.self.now room.free)
 ends c room =
-    let held = stands-now c.self.inside c.args.self.now c.self.invariant c.self.view_is in
-    master-ends c.self.inside.records c.args.self.now held c.args.at c.front-last.result room (c.front-last.ensures ∙ ap (λ (r : ZoneRecords). r.front) held.blocks) _ c.place_master.new.self c.set_front.new.self
-    (ap (λ n. c.args.at + n) (head-is c.self.inside.records c.args.self.now held c.spec.result c.heads.result c.head_size.result c.spec.ensures c.heads.ensures c.head_size.ensures)) c.place_master.ensures c.set_front.ensures
+    let held = stands-now c.self.invariant c.self.view_is in
+    master-ends _ _ held c.args.at c.front-last.result room (c.front-last.ensures ∙ ap (λ (r : ZoneRecords). r.front) held.blocks) _ c.place_master.new.self c.set_front.new.self
+    (ap (λ n. c.args.at + n) (head-is _ _ held c.spec.result c.heads.result c.head_size.result c.spec.ensures c.heads.ensures c.head_size.ensures)) c.place_master.ensures c.set_front.ensures
 
 pub invariant_of-self : goal.invariant_of-self
 invariant_of-self c = (ends c c.requires).inside

@@ -9,22 +9,22 @@ use Rattle.linked_zone.proofs.zone.LinkedZone.entry.Goals as goal
 
 pub returns-then-not-is_block : goal.returns-then-not-is_block
 returns-then-not-is_block c =
-    reported-none c.self.inside.records c.args.self.now (stands-now c.self.inside c.args.self.now c.self.invariant c.self.view_is) c.args.at (λ b. cc (sym c.if-not-is_block.true ∙ c.is_block.ensures.1 b))
+    reported-none _ _ (stands-now c.self.invariant c.self.view_is) c.args.at (λ b. cc (sym c.if-not-is_block.true ∙ c.is_block.ensures.1 b))
 
 pub entry_at-entry-requires : goal.entry_at-entry-requires
-entry_at-entry-requires c = (of-record c.self.inside.records c.args.self.now (stands-now c.self.inside c.args.self.now c.self.invariant c.self.view_is).blocks c.args.at (c.is_block.ensures.0 c.if-not-is_block.false)).entry
+entry_at-entry-requires c = (of-record c.self.inside.records c.args.self.now (stands-now c.self.invariant c.self.view_is).blocks c.args.at (c.is_block.ensures.0 c.if-not-is_block.false)).entry
 
 pub length_at-requires : goal.length_at-requires
-length_at-requires c = (of-record c.self.inside.records c.args.self.now (stands-now c.self.inside c.args.self.now c.self.invariant c.self.view_is).blocks c.args.at (c.is_block.ensures.0 c.if-not-is_block.false)).entry
+length_at-requires c = (of-record c.self.inside.records c.args.self.now (stands-now c.self.invariant c.self.view_is).blocks c.args.at (c.is_block.ensures.0 c.if-not-is_block.false)).entry
 
 pub flags_of-requires : goal.flags_of-requires
 flags_of-requires c =
-    let stands = stands-now c.self.inside c.args.self.now c.self.invariant c.self.view_is in
+    let stands = stands-now c.self.invariant c.self.view_is in
     let e = (of-record c.self.inside.records c.args.self.now stands.blocks c.args.at (c.is_block.ensures.0 c.if-not-is_block.false)).entry in
-    subst (λ (e : Entry). HasOwner c.args.self.now e.kind) (sym (c.entry_at-entry.ensures e)) (has-owner c.self.inside.records c.args.self.now stands c.args.at e)
+    subst (λ (e : Entry). HasOwner c.args.self.now e.kind) (sym (c.entry_at-entry.ensures e)) (has-owner _ _ stands c.args.at e)
 
 pub returns : goal.returns
 returns c =
-    let stands = stands-now c.self.inside c.args.self.now c.self.invariant c.self.view_is in
+    let stands = stands-now c.self.invariant c.self.view_is in
     let e = (of-record c.self.inside.records c.args.self.now stands.blocks c.args.at (c.is_block.ensures.0 c.if-not-is_block.false)).entry in
-    reported-here c.self.inside.records c.args.self.now stands c.args.at e c.entry_at-entry.result c.length_at.result c.flags_of.result (c.entry_at-entry.ensures e) (c.length_at.ensures e) c.flags_of.ensures
+    reported-here _ _ stands c.args.at e c.entry_at-entry.result c.length_at.result c.flags_of.result (c.entry_at-entry.ensures e) (c.length_at.ensures e) c.flags_of.ensures

@@ -10,9 +10,8 @@ use Rattle.linked_zone.proofs.zone.LinkedZone.extend.Goals as goal
 ends : (c : goal.After-extend) → Kept c.extend.new.self (extended c.args.self.now)
 ends c =
     let r = c.self.inside.records in
-    let z = c.args.self.now in
-    let stands = stands-now c.self.inside z c.self.invariant c.self.view_is in
-    extend-ends r z stands (subst ArePossible (c.spec.ensures ∙ sizes-read r z stands) c.size-size.ensures.possible) c.extend.new.self c.extend.ensures
+    let stands = stands-now c.self.invariant c.self.view_is in
+    extend-ends r c.args.self.now stands (subst ArePossible (c.spec.ensures ∙ sizes-read r c.args.self.now stands) c.size-size.ensures.possible) c.extend.new.self c.extend.ensures
 
 pub invariant_of-self : goal.invariant_of-self
 invariant_of-self c = (ends c).inside

@@ -6,10 +6,8 @@ use Rattle.linked_zone.proofs.zone.LinkedZone.first_from.Goals as goal
 
 pub returns-clause-first : goal.returns-clause-first
 returns-clause-first c =
-    let stands = stands-now c.self.inside c.args.self.now c.self.invariant c.self.view_is in
-    IfSome_then c.first_from.result c.first_from.ensures.first (first-from c.self.inside.records c.args.self.now stands.blocks c.args.from)
+    IfSome_then c.first_from.result c.first_from.ensures.first (first-from c.self.inside.records c.args.self.now (stands-now c.self.invariant c.self.view_is).blocks c.args.from)
 
 pub returns-clause-none : goal.returns-clause-none
 returns-clause-none c =
-    let stands = stands-now c.self.inside c.args.self.now c.self.invariant c.self.view_is in
-    IfNone_then c.first_from.result c.first_from.ensures.none (none-from c.self.inside.records c.args.self.now stands.blocks c.args.from)
+    IfNone_then c.first_from.result c.first_from.ensures.none (none-from c.self.inside.records c.args.self.now (stands-now c.self.invariant c.self.view_is).blocks c.args.from)

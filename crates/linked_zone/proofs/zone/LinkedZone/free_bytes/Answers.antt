@@ -10,5 +10,4 @@ use Rattle.linked_zone.proofs.zone.LinkedZone.free_bytes.Goals as goal
 pub returns : goal.returns
 returns c =
     let z = c.args.self.now in
-    let stands = stands-now c.self.inside c.args.self.now c.self.invariant c.self.view_is in
-    c.free_bytes.ensures ∙ ap (λ (r : ZoneRecords). free_total r.blocks) stands.blocks ∙ free_bytes-same (owners_of z) z.shape (address_behind z.shape []) z.heap.map
+    c.free_bytes.ensures ∙ ap (λ (r : ZoneRecords). free_total r.blocks) (stands-now c.self.invariant c.self.view_is).blocks ∙ free_bytes-same (owners_of z) z.shape (address_behind z.shape []) z.heap.map

@@ -7,10 +7,10 @@ use Rattle.linked_zone.proofs.zone.LinkedZone.free_size.Goals as goal
 
 pub free_size-requires : goal.free_size-requires
 free_size-requires c =
-    let stands = stands-now c.self.inside c.args.self.now c.self.invariant c.self.view_is in
-    subst (λ r. places.FreeAt r c.args.at) (sym stands.blocks) (free-there c.self.inside.records c.args.self.now stands c.args.at c.requires)
+    let stands = stands-now c.self.invariant c.self.view_is in
+    subst (λ r. places.FreeAt r c.args.at) (sym stands.blocks) (free-there _ _ stands c.args.at c.requires)
 
 pub returns : goal.returns
 returns c f =
-    let stands = stands-now c.self.inside c.args.self.now c.self.invariant c.self.view_is in
-    subst (λ (r : ZoneRecords). (g : places.FreeAt r c.args.at) → c.free_size.result ≡ g.size) stands.blocks c.free_size.ensures (free-there c.self.inside.records c.args.self.now stands c.args.at f)
+    let stands = stands-now c.self.invariant c.self.view_is in
+    subst (λ (r : ZoneRecords). (g : places.FreeAt r c.args.at) → c.free_size.result ≡ g.size) stands.blocks c.free_size.ensures (free-there _ _ stands c.args.at f)

@@ -7,14 +7,12 @@ use Rattle.linked_zone.proofs.Unlent.{nothing-lent}
 use Rattle.linked_zone.proofs.zone.LinkedZone.image.Goals as goal
 
 pub image-requires : goal.image-requires
-image-requires c = record { nothing_lent = nothing-lent c.self.inside.records c.args.self.now (stands-now c.self.inside c.args.self.now c.self.invariant c.self.view_is) c.requires.nothing_lent }
+image-requires c = record { nothing_lent = nothing-lent _ _ (stands-now c.self.invariant c.self.view_is) c.requires.nothing_lent }
 
 pub returns-clause-form : goal.returns-clause-form
 returns-clause-form c =
-    let stands = stands-now c.self.inside c.args.self.now c.self.invariant c.self.view_is in
-    subst (λ (r : ZoneRecords). HasBytes r c.image.result.now) stands.blocks c.image.ensures.bytes
+    subst (λ (r : ZoneRecords). HasBytes r c.image.result.now) (stands-now c.self.invariant c.self.view_is).blocks c.image.ensures.bytes
 
 pub returns-clause-walks : goal.returns-clause-walks
 returns-clause-walks c =
-    let stands = stands-now c.self.inside c.args.self.now c.self.invariant c.self.view_is in
-    subst (λ (r : ZoneRecords). Walks r.shape.heads c.image.result.now) stands.blocks c.image.ensures.walks
+    subst (λ (r : ZoneRecords). Walks r.shape.heads c.image.result.now) (stands-now c.self.invariant c.self.view_is).blocks c.image.ensures.walks

@@ -5,17 +5,15 @@ use Rattle.linked_zone.proofs.zone.LinkedZone.is_full.Goals as goal
 
 pub slot-requires : goal.slot-requires
 slot-requires c =
-    let stands = stands-now c.self.inside c.args.self.now c.self.invariant c.self.view_is in
-    slot-there c.self.inside.records c.args.self.now stands c.args.handle c.number.result c.number.ensures (stands.fits.coherent.in_slots c.args.handle c.requires)
+    let stands = stands-now c.self.invariant c.self.view_is in
+    slot-there _ _ stands c.args.handle c.number.result c.number.ensures (stands.fits.coherent.in_slots c.args.handle c.requires)
 
 pub returns-in-Full : goal.returns-in-Full
 returns-in-Full c =
-    let z = c.args.self.now in
-    let stands = stands-now c.self.inside z c.self.invariant c.self.view_is in
-    sym (ap says_full c.in-Full.is) ∙ ap says_full (slot-is c.self.inside.records z stands c.args.handle c.number.result c.slot.result c.number.ensures (stands.fits.coherent.in_slots c.args.handle c.requires) c.slot.ensures) ∙ slot-full z c.args.handle
+    let stands = stands-now c.self.invariant c.self.view_is in
+    sym (ap says_full c.in-Full.is) ∙ ap says_full (slot-is _ _ stands c.args.handle c.number.result c.slot.result c.number.ensures (stands.fits.coherent.in_slots c.args.handle c.requires) c.slot.ensures) ∙ slot-full c.args.self.now c.args.handle
 
 pub returns-in_default : goal.returns-in_default
 returns-in_default c =
-    let z = c.args.self.now in
-    let stands = stands-now c.self.inside z c.self.invariant c.self.view_is in
-    sym (other-full c.slot.result c.in_default.not-Full) ∙ ap says_full (slot-is c.self.inside.records z stands c.args.handle c.number.result c.slot.result c.number.ensures (stands.fits.coherent.in_slots c.args.handle c.requires) c.slot.ensures) ∙ slot-full z c.args.handle
+    let stands = stands-now c.self.invariant c.self.view_is in
+    sym (other-full c.slot.result c.in_default.not-Full) ∙ ap says_full (slot-is _ _ stands c.args.handle c.number.result c.slot.result c.number.ensures (stands.fits.coherent.in_slots c.args.handle c.requires) c.slot.ensures) ∙ slot-full c.args.self.now c.args.handle

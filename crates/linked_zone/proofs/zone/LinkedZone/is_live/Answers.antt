@@ -9,14 +9,14 @@ use Rattle.linked_zone.proofs.zone.LinkedZone.is_live.Goals.{in-Free, in_default
 
 pub slot-requires : goal.slot-requires
 slot-requires c =
-    slot-there c.self.inside.records c.args.self.now (stands-now c.self.inside c.args.self.now c.self.invariant c.self.view_is) c.args.handle c.number.result c.number.ensures (c.is_slot.ensures.0 c.if-is_slot.true)
+    slot-there _ _ (stands-now c.self.invariant c.self.view_is) c.args.handle c.number.result c.number.ensures (c.is_slot.ensures.0 c.if-is_slot.true)
 
 pub returns-after-matches : goal.returns-after-matches
 returns-after-matches c =
     let z = c.args.self.now in
-    let stands = stands-now c.self.inside c.args.self.now c.self.invariant c.self.view_is in
+    let stands = stands-now c.self.invariant c.self.view_is in
     let there = c.is_slot.ensures.0 c.if-is_slot.true in
-    let says : says_live c.slot.result ≡ is_handle z.heap.table c.args.handle = ap says_live (slot-is c.self.inside.records z stands c.args.handle c.number.result c.slot.result c.number.ensures there c.slot.ensures)
+    let says : says_live c.slot.result ≡ is_handle z.heap.table c.args.handle = ap says_live (slot-is _ _ stands c.args.handle c.number.result c.slot.result c.number.ensures there c.slot.ensures)
     ∙ slot-live z c.args.handle (slot_no_pointer z stands.fits stands.rooms c.args.handle there) in
     elim c.match-matches.branch [
       | in-Free w ↦ ap not w.matches-is ∙ sym (ap says_live w.in-Free.is) ∙ says
@@ -25,5 +25,4 @@ returns-after-matches c =
 
 pub returns-else-is_slot : goal.returns-else-is_slot
 returns-else-is_slot c =
-    let stands = stands-now c.self.inside c.args.self.now c.self.invariant c.self.view_is in
-    c.if-is_slot.false ∙ sym (false_from_ne_true (is_handle c.args.self.now.heap.table c.args.handle) (λ live. cc (c.is_slot.ensures.1 (stands.fits.coherent.in_slots c.args.handle live), c.if-is_slot.false)))
+    c.if-is_slot.false ∙ sym (false_from_ne_true (is_handle c.args.self.now.heap.table c.args.handle) (λ live. cc (c.is_slot.ensures.1 ((stands-now c.self.invariant c.self.view_is).fits.coherent.in_slots c.args.handle live), c.if-is_slot.false)))

@@ -8,7 +8,7 @@ use Rattle.linked_zone.proofs.zone.LinkedZone.is_slot.Goals as goal
 pub returns : goal.returns
 returns c =
     let z = c.args.self.now in
-    let stands = stands-now c.self.inside c.args.self.now c.self.invariant c.self.view_is in (
+    let stands = stands-now c.self.invariant c.self.view_is in (
       λ is. subst (Contains (slots z.shape z.heap.map)) c.number.ensures (slot-of c.self.inside.records z stands.blocks c.number.result (c.is_slot.ensures.0 is)),
-      λ there. c.is_slot.ensures.1 (slot-there c.self.inside.records z stands c.args.handle c.number.result c.number.ensures there),
+      λ there. c.is_slot.ensures.1 (slot-there _ _ stands c.args.handle c.number.result c.number.ensures there),
     )

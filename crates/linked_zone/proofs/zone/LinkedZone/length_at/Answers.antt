@@ -7,11 +7,10 @@ use Rattle.linked_zone.proofs.Found.{length-wanted}
 use Rattle.linked_zone.proofs.zone.LinkedZone.length_at.Goals as goal
 
 pub length_at-requires : goal.length_at-requires
-length_at-requires c = (of-entry c.self.inside.records c.args.self.now (stands-now c.self.inside c.args.self.now c.self.invariant c.self.view_is).blocks c.args.at c.requires).there
+length_at-requires c = (of-entry c.self.inside.records c.args.self.now (stands-now c.self.invariant c.self.view_is).blocks c.args.at c.requires).there
 
 pub returns : goal.returns
 returns c e =
     let z = c.args.self.now in
-    let stands = stands-now c.self.inside c.args.self.now c.self.invariant c.self.view_is in
-    let mine = of-entry c.self.inside.records z stands.blocks c.args.at e in
+    let mine = of-entry c.self.inside.records z (stands-now c.self.invariant c.self.view_is).blocks c.args.at e in
     c.length_at.ensures mine.there ∙ ap (λ (b : BlockRecord). length_of b.content) mine.here ∙ length-wanted z (c.args.at + head_size z.shape.heads) e.here.kind

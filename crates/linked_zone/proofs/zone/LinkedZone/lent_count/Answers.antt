@@ -4,4 +4,4 @@ use Rattle.linked_zone.proofs.Unlent.{count-read}
 use Rattle.linked_zone.proofs.zone.LinkedZone.lent_count.Goals as goal
 
 pub returns-clause-value : goal.returns-clause-value
-returns-clause-value c = c.lent_count.ensures.value ∙ count-read c.self.inside.records c.args.self.now (stands-now c.self.inside c.args.self.now c.self.invariant c.self.view_is)
+returns-clause-value c = c.lent_count.ensures.value ∙ count-read _ _ (stands-now c.self.invariant c.self.view_is)

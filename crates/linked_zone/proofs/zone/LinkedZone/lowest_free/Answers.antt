@@ -12,12 +12,10 @@ use Rattle.linked_zone.proofs.zone.LinkedZone.lowest_free.Goals as goal
 
 pub returns-clause-lowest : goal.returns-clause-lowest
 returns-clause-lowest c =
-    let stands = stands-now c.self.inside c.args.self.now c.self.invariant c.self.view_is in
-    IfSome_then c.lowest_free.result c.lowest_free.ensures.lowest (lowest-at c.self.inside.records c.args.self.now stands.blocks c.args.needed)
+    IfSome_then c.lowest_free.result c.lowest_free.ensures.lowest (lowest-at c.self.inside.records c.args.self.now (stands-now c.self.invariant c.self.view_is).blocks c.args.needed)
 
 pub returns-clause-none : goal.returns-clause-none
 returns-clause-none c =
     let z = c.args.self.now in
-    let stands = stands-now c.self.inside c.args.self.now c.self.invariant c.self.view_is in
     IfNone_then c.lowest_free.result c.lowest_free.ensures.none (λ none.
-    sym (ap (λ (r : ZoneRecords). list_all (λ b. not (has_free c.args.needed b)) r.blocks) stands.blocks ∙ rooms-same (owners_of z) z.shape (address_behind z.shape []) c.args.needed z.heap.map) ∙ none)
+    sym (ap (λ (r : ZoneRecords). list_all (λ b. not (has_free c.args.needed b)) r.blocks) (stands-now c.self.invariant c.self.view_is).blocks ∙ rooms-same (owners_of z) z.shape (address_behind z.shape []) c.args.needed z.heap.map) ∙ none)

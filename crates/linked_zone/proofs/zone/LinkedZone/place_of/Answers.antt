@@ -8,18 +8,16 @@ use Rattle.linked_zone.proofs.zone.LinkedZone.place_of.Goals as goal
 
 pub overflow_sub-result : goal.overflow_sub-result
 overflow_sub-result c =
-    let z = c.args.self.now in
-    let stands = stands-now c.self.inside c.args.self.now c.self.invariant c.self.view_is in
-    let head = head-read c.self.inside.records z stands c.heads.result c.head_size.result (c.heads.ensures ∙ ap (λ (s : ZoneSizes). s.heads) c.spec.ensures) c.head_size.ensures in
-    let large = (pointer-named c.self.inside.records z stands c.args.block (ap (is_pointer z.heap.table) (sym c.new.ensures) ∙ sym c.is_pointer.ensures ∙ c.if-is_pointer.true)).0 in
+    let stands = stands-now c.self.invariant c.self.view_is in
+    let head = head-read _ _ stands c.heads.result c.head_size.result (c.heads.ensures ∙ ap (λ (s : ZoneSizes). s.heads) c.spec.ensures) c.head_size.ensures in
+    let large = (pointer-named _ _ stands c.args.block (ap (is_pointer c.args.self.now.heap.table) (sym c.new.ensures) ∙ sym c.is_pointer.ensures ∙ c.if-is_pointer.true)).0 in
     omega arith
 
 pub returns-then-is_pointer : goal.returns-then-is_pointer
 returns-then-is_pointer c =
-    let z = c.args.self.now in
-    let stands = stands-now c.self.inside c.args.self.now c.self.invariant c.self.view_is in
-    let head = head-read c.self.inside.records z stands c.heads.result c.head_size.result (c.heads.ensures ∙ ap (λ (s : ZoneSizes). s.heads) c.spec.ensures) c.head_size.ensures in
-    subst (λ n. NamedAt z c.args.block (c.args.block - n)) (sym head) (pointer-named c.self.inside.records z stands c.args.block (ap (is_pointer z.heap.table) (sym c.new.ensures) ∙ sym c.is_pointer.ensures ∙ c.if-is_pointer.true)).1
+    let stands = stands-now c.self.invariant c.self.view_is in
+    let head = head-read _ _ stands c.heads.result c.head_size.result (c.heads.ensures ∙ ap (λ (s : ZoneSizes). s.heads) c.spec.ensures) c.head_size.ensures in
+    subst (λ n. NamedAt c.args.self.now c.args.block (c.args.block - n)) (sym head) (pointer-named _ _ stands c.args.block (ap (is_pointer c.args.self.now.heap.table) (sym c.new.ensures) ∙ sym c.is_pointer.ensures ∙ c.if-is_pointer.true)).1
 
 pub block_of-requires : goal.block_of-requires
 block_of-requires c =
@@ -29,6 +27,4 @@ block_of-requires c =
 
 pub returns-else-is_pointer : goal.returns-else-is_pointer
 returns-else-is_pointer c =
-    let z = c.args.self.now in
-    let stands = stands-now c.self.inside c.args.self.now c.self.invariant c.self.view_is in
-    handle-named c.self.inside.records z stands c.args.block c.block_of.result (subst (λ h. BlockOf z h c.block_of.result) c.new-else-is_pointer.ensures c.block_of.ensures)
+    handle-named _ _ (stands-now c.self.invariant c.self.view_is) c.args.block c.block_of.result (subst (λ h. BlockOf c.args.self.now h c.block_of.result) c.new-else-is_pointer.ensures c.block_of.ensures)

@@ -6,26 +6,26 @@ use Rattle.linked_zone.proofs.EndsTurned.{sink-there, sink-size, sink-range, sin
 use Rattle.linked_zone.proofs.zone.LinkedZone.sink.Goals as goal
 
 pub entry_at-requires : goal.entry_at-requires
-entry_at-requires c = sink-there c.self.inside.records c.args.self.now (stands-now c.self.inside c.args.self.now c.self.invariant c.self.view_is) c.requires
+entry_at-requires c = sink-there _ _ (stands-now c.self.invariant c.self.view_is) c.requires
 
 pub overflow_add-end : goal.overflow_add-end
 overflow_add-end c =
-    let size = sink-size c.self.inside.records c.args.self.now (stands-now c.self.inside c.args.self.now c.self.invariant c.self.view_is) c.requires c.entry_at.result c.entry_at.ensures in
-    let range = sink-range c.self.inside.records c.args.self.now (stands-now c.self.inside c.args.self.now c.self.invariant c.self.view_is) c.requires in omega arith
+    let size = sink-size _ _ (stands-now c.self.invariant c.self.view_is) c.requires c.entry_at.result c.entry_at.ensures in
+    let range = sink-range _ _ (stands-now c.self.invariant c.self.view_is) c.requires in omega arith
 
 pub sink-requires : goal.sink-requires
-sink-requires c = sink-can c.self.inside.records c.args.self.now (stands-now c.self.inside c.args.self.now c.self.invariant c.self.view_is) c.requires
+sink-requires c = sink-can _ _ (stands-now c.self.invariant c.self.view_is) c.requires
 
 pub follow_run-requires : goal.follow_run-requires
 follow_run-requires c =
-    let size = sink-size c.self.inside.records c.args.self.now (stands-now c.self.inside c.args.self.now c.self.invariant c.self.view_is) c.requires c.entry_at.result c.entry_at.ensures in
-    sink-misplaced c.self.inside.records c.args.self.now (stands-now c.self.inside c.args.self.now c.self.invariant c.self.view_is) c.requires c.entry_at.result.size size c.sink.new.self c.sink.ensures
+    let size = sink-size _ _ (stands-now c.self.invariant c.self.view_is) c.requires c.entry_at.result c.entry_at.ensures in
+    sink-misplaced _ _ (stands-now c.self.invariant c.self.view_is) c.requires c.entry_at.result.size size c.sink.new.self c.sink.ensures
 
 -- how it ends
 ends : (c : goal.After-follow_run) (parcel : ParcelUpTo c.args.self.now c.args.start c.args.at) → Kept c.follow_run.new.records (sunk c.args.self.now parcel)
 ends c parcel =
-    let size = sink-size c.self.inside.records c.args.self.now (stands-now c.self.inside c.args.self.now c.self.invariant c.self.view_is) parcel c.entry_at.result c.entry_at.ensures in
-    sink-ends c.self.inside.records c.args.self.now (stands-now c.self.inside c.args.self.now c.self.invariant c.self.view_is) parcel c.entry_at.result.size size c.sink.new.self c.sink.ensures c.follow_run.new.records c.follow_run.ensures
+    let size = sink-size _ _ (stands-now c.self.invariant c.self.view_is) parcel c.entry_at.result c.entry_at.ensures in
+    sink-ends _ _ (stands-now c.self.invariant c.self.view_is) parcel c.entry_at.result.size size c.sink.new.self c.sink.ensures c.follow_run.new.records c.follow_run.ensures
 
 pub invariant_of-self : goal.invariant_of-self
 invariant_of-self c = (ends c c.requires).inside

@@ -5,5 +5,5 @@ use Rattle.linked_zone.proofs.zone.LinkedZone.spec.Goals as goal
 
 pub returns : goal.returns
 returns c =
-    let stands = stands-now c.self.inside c.args.self.now c.self.invariant c.self.view_is in
-    record { sizes = c.spec.ensures ∙ sizes-read c.self.inside.records c.args.self.now stands; loans = stands.fits.loans; fits = stands.fits; possible = stands.sizes }
+    let stands = stands-now c.self.invariant c.self.view_is in
+    record { sizes = c.spec.ensures ∙ sizes-read _ _ stands; loans = stands.fits.loans; fits = stands.fits; possible = stands.sizes }
