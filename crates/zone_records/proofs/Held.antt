@@ -21,8 +21,8 @@ pub record Held (l : Layout) (z : ZoneRecords) : Type 0 where
   pub sound : AreSound l
 
 -- those of the fields
-pub held-now : (i : Inside) (z : ZoneRecords) → IsSound i → records_in i.blocks ≡ z → Held i.blocks z
-held-now i z inside shows = record { shows = shows; sound = inside.sound }
+pub held-now : {i : Inside} {z : ZoneRecords} → IsSound i → records_in i.blocks ≡ z → Held i.blocks z
+held-now inside shows = record { shows = shows; sound = inside.sound }
 
 -- so they are fields
 pub fields : (l : Layout) (z : ZoneRecords) → Held l z → IsSound (record { blocks = l })

@@ -5,11 +5,9 @@ use Rattle.zone_records.proofs.records.Records.before.Goals as goal
 
 pub returns-clause-last : goal.returns-clause-last
 returns-clause-last c =
-    let l = c.self.inside.blocks in
-    let z = c.args.self.now in
-    let held = held-now c.self.inside z c.self.invariant c.self.view_is in
-    IfSome_then c.holder.result c.holder.ensures.holds (λ last holds. (of-block l z held last holds.block, ends-there l z held c.args.at last c.requires holds))
+    let held = held-now c.self.invariant c.self.view_is in
+    IfSome_then c.holder.result c.holder.ensures.holds (λ last holds. (of-block _ _ held last holds.block, ends-there _ _ held c.args.at last c.requires holds))
 
 pub returns-clause-first : goal.returns-clause-first
 returns-clause-first c =
-    IfNone_then c.holder.result c.holder.ensures.outside (nothing-before c.self.inside.blocks c.args.self.now (held-now c.self.inside c.args.self.now c.self.invariant c.self.view_is) c.args.at)
+    IfNone_then c.holder.result c.holder.ensures.outside (nothing-before _ _ (held-now c.self.invariant c.self.view_is) c.args.at)

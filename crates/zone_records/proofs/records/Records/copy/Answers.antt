@@ -3,18 +3,12 @@ use Rattle.zone_records.proofs.Copied.{copy_can, copy-ends}
 use Rattle.zone_records.proofs.records.Records.copy.Goals as goal
 
 pub copy-requires : goal.copy-requires
-copy-requires c = copy_can c.self.inside.blocks c.args.self.now (held-now c.self.inside c.args.self.now c.self.invariant c.self.view_is) c.args.from c.args.start c.args.to c.args.offset c.args.count c.requires
+copy-requires c = copy_can _ _ (held-now c.self.invariant c.self.view_is) c.args.from c.args.start c.args.to c.args.offset c.args.count c.requires
 
 pub invariant_of-self : goal.invariant_of-self
 invariant_of-self c =
-    let l = c.self.inside.blocks in
-    let z = c.args.self.now in
-    let held = held-now c.self.inside z c.self.invariant c.self.view_is in
-    fields _ _ (copy-ends l z held c.args.from c.args.start c.args.to c.args.offset c.args.count c.requires c.copy.new.self c.copy.ensures)
+    fields _ _ (copy-ends _ _ (held-now c.self.invariant c.self.view_is) c.args.from c.args.start c.args.to c.args.offset c.args.count c.requires c.copy.new.self c.copy.ensures)
 
 pub returns : goal.returns
 returns c can =
-    let l = c.self.inside.blocks in
-    let z = c.args.self.now in
-    let held = held-now c.self.inside z c.self.invariant c.self.view_is in
-    (copy-ends l z held c.args.from c.args.start c.args.to c.args.offset c.args.count can c.copy.new.self c.copy.ensures).shows
+    (copy-ends _ _ (held-now c.self.invariant c.self.view_is) c.args.from c.args.start c.args.to c.args.offset c.args.count can c.copy.new.self c.copy.ensures).shows

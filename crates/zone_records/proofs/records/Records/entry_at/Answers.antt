@@ -7,35 +7,27 @@ use Rattle.zone_records.proofs.records.Records.entry_at.Goals as goal
 use Rattle.zone_records.proofs.records.Records.entry_at.Goals.{in-Free, in-Fixed, in-Master, in-Relocatable}
 
 pub entry_at-header-requires : goal.entry_at-header-requires
-entry_at-header-requires c = mine c.self.inside.blocks c.args.self.now (held-now c.self.inside c.args.self.now c.self.invariant c.self.view_is) c.args.at c.requires
+entry_at-header-requires c = mine _ _ (held-now c.self.invariant c.self.view_is) c.args.at c.requires
 
 pub overflow_add-at : goal.overflow_add-at
 overflow_add-at c =
-    let l = c.self.inside.blocks in
-    let z = c.args.self.now in
-    let held = held-now c.self.inside z c.self.invariant c.self.view_is in
-    let high = range l z held c.args.at c.requires in
-    let head = head-in l z held c.args.at c.requires in
+    let held = held-now c.self.invariant c.self.view_is in
+    let high = range _ _ held c.args.at c.requires in
+    let head = head-in _ _ held c.args.at c.requires in
     let is = c.head_size.ensures in
     omega arith
 
 pub overflow_add-base : goal.overflow_add-base
 overflow_add-base c =
-    let l = c.self.inside.blocks in
-    let z = c.args.self.now in
-    let held = held-now c.self.inside z c.self.invariant c.self.view_is in
-    let small = handle-said l z held c.args.at c.requires c.entry_at-header.result c.entry_at-header.ensures c.in-Relocatable.offset c.in-Relocatable.field-1 c.in-Relocatable.is in
+    let small = handle-said _ _ (held-now c.self.invariant c.self.view_is) c.args.at c.requires c.entry_at-header.result c.entry_at-header.ensures c.in-Relocatable.offset c.in-Relocatable.field-1 c.in-Relocatable.is in
     let base = c.base.ensures.value ∙ ap (λ (s : ZoneSizes). s.base) c.spec.ensures in
     omega arith
 
 pub returns : goal.returns
 returns c r =
-    let l = c.self.inside.blocks in
-    let z = c.args.self.now in
-    let held = held-now c.self.inside z c.self.invariant c.self.view_is in
-    let place = c.args.at + head_size z.shape.heads in
-    let said = kind_in z.shape.base place in
-    entry-said l z held c.args.at r c.entry_at-header.result c.entry_at-header.ensures c.match-header.kind (elim c.match-header.branch [
+    let place = c.args.at + head_size c.args.self.now.shape.heads in
+    let said = kind_in c.args.self.now.shape.base place in
+    entry-said _ _ (held-now c.self.invariant c.self.view_is) c.args.at r c.entry_at-header.result c.entry_at-header.ensures c.match-header.kind (elim c.match-header.branch [
       | in-Free w ↦ cc (w.kind-is, ap said w.in-Free.is)
       | in-Fixed w ↦ cc (w.kind-is, w.new.ensures, w.head_size.ensures, ap said w.in-Fixed.is)
       | in-Master w ↦ cc (w.kind-is, ap said w.in-Master.is)

@@ -4,14 +4,8 @@ use Rattle.zone_records.proofs.records.Records.extend.Goals as goal
 
 pub invariant_of-self : goal.invariant_of-self
 invariant_of-self c =
-    let l = c.self.inside.blocks in
-    let z = c.args.self.now in
-    let held = held-now c.self.inside z c.self.invariant c.self.view_is in
-    fields _ _ (extend-ends l z held c.spec.result c.size-size.ensures.possible c.spec.ensures.size c.spec.ensures.limit c.extend.new.self c.extend.ensures)
+    fields _ _ (extend-ends _ _ (held-now c.self.invariant c.self.view_is) c.spec.result c.size-size.ensures.possible c.spec.ensures.size c.spec.ensures.limit c.extend.new.self c.extend.ensures)
 
 pub returns : goal.returns
 returns c =
-    let l = c.self.inside.blocks in
-    let z = c.args.self.now in
-    let held = held-now c.self.inside z c.self.invariant c.self.view_is in
-    (extend-ends l z held c.spec.result c.size-size.ensures.possible c.spec.ensures.size c.spec.ensures.limit c.extend.new.self c.extend.ensures).shows
+    (extend-ends _ _ (held-now c.self.invariant c.self.view_is) c.spec.result c.size-size.ensures.possible c.spec.ensures.size c.spec.ensures.limit c.extend.new.self c.extend.ensures).shows

@@ -5,8 +5,8 @@ use Rattle.zone_records.proofs.records.Records.first_from.Goals as goal
 
 pub returns-clause-first : goal.returns-clause-first
 returns-clause-first c =
-    IfSome_then c.first_from.result c.first_from.ensures.first (first-from c.self.inside.blocks c.args.self.now (held-now c.self.inside c.args.self.now c.self.invariant c.self.view_is) c.args.from)
+    IfSome_then c.first_from.result c.first_from.ensures.first (first-from _ _ (held-now c.self.invariant c.self.view_is) c.args.from)
 
 pub returns-clause-none : goal.returns-clause-none
 returns-clause-none c =
-    IfNone_then c.first_from.result c.first_from.ensures.none (none-from c.self.inside.blocks c.args.self.now (held-now c.self.inside c.args.self.now c.self.invariant c.self.view_is) c.args.from)
+    IfNone_then c.first_from.result c.first_from.ensures.none (none-from _ _ (held-now c.self.invariant c.self.view_is) c.args.from)

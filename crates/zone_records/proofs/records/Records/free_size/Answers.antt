@@ -5,14 +5,10 @@ use Rattle.zone_records.proofs.records.Records.free_size.Goals as goal
 
 pub free_size-requires : goal.free_size-requires
 free_size-requires c =
-    let l = c.self.inside.blocks in
-    let z = c.args.self.now in
-    let held = held-now c.self.inside z c.self.invariant c.self.view_is in
-    record { block = (free-block l z held c.args.at c.requires).block; free = free-is l z held c.args.at c.requires }
+    let held = held-now c.self.invariant c.self.view_is in
+    record { block = (free-block _ _ held c.args.at c.requires).block; free = free-is _ _ held c.args.at c.requires }
 
 pub returns : goal.returns
 returns c f =
-    let l = c.self.inside.blocks in
-    let z = c.args.self.now in
-    let held = held-now c.self.inside z c.self.invariant c.self.view_is in
-    c.free_size.ensures (record { block = (free-block l z held c.args.at f).block; free = free-is l z held c.args.at f }) ∙ free-size l z held c.args.at f
+    let held = held-now c.self.invariant c.self.view_is in
+    c.free_size.ensures (record { block = (free-block _ _ held c.args.at f).block; free = free-is _ _ held c.args.at f }) ∙ free-size _ _ held c.args.at f

@@ -3,18 +3,12 @@ use Rattle.zone_records.proofs.Lending.{back-is, back-ends}
 use Rattle.zone_records.proofs.records.Records.give_back.Goals as goal
 
 pub give_back-requires : goal.give_back-requires
-give_back-requires c = back-is c.self.inside.blocks c.args.self.now (held-now c.self.inside c.args.self.now c.self.invariant c.self.view_is) c.args.at c.args.loan c.requires
+give_back-requires c = back-is _ _ (held-now c.self.invariant c.self.view_is) c.args.at c.args.loan c.requires
 
 pub invariant_of-self : goal.invariant_of-self
 invariant_of-self c =
-    let l = c.self.inside.blocks in
-    let z = c.args.self.now in
-    let held = held-now c.self.inside z c.self.invariant c.self.view_is in
-    fields _ _ (back-ends l z held c.args.at c.args.loan c.requires c.give_back.new.self c.give_back.ensures)
+    fields _ _ (back-ends _ _ (held-now c.self.invariant c.self.view_is) c.args.at c.args.loan c.requires c.give_back.new.self c.give_back.ensures)
 
 pub returns : goal.returns
 returns c is =
-    let l = c.self.inside.blocks in
-    let z = c.args.self.now in
-    let held = held-now c.self.inside z c.self.invariant c.self.view_is in
-    (back-ends l z held c.args.at c.args.loan is c.give_back.new.self c.give_back.ensures).shows
+    (back-ends _ _ (held-now c.self.invariant c.self.view_is) c.args.at c.args.loan is c.give_back.new.self c.give_back.ensures).shows

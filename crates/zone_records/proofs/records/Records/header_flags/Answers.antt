@@ -13,22 +13,16 @@ no-role is offset flags said (inr (inl fixed)) = absurd (cc (said, fixed))
 no-role is offset flags said (inr (inr master)) = absurd (cc (said, master))
 
 pub entry_at-requires : goal.entry_at-requires
-entry_at-requires c = let held = held-now c.self.inside c.args.self.now c.self.invariant c.self.view_is in
+entry_at-requires c = let held = held-now c.self.invariant c.self.view_is in
     handle-block c.self.inside.blocks c.args.self.now held c.args.at c.requires
 
 pub returns-in-Relocatable : goal.returns-in-Relocatable
 returns-in-Relocatable c b =
-    let l = c.self.inside.blocks in
-    let z = c.args.self.now in
-    let held = held-now c.self.inside z c.self.invariant c.self.view_is in
-    let said = (handle-said l z held c.args.at b c.entry_at.result c.entry_at.ensures).1 in
+    let said = (handle-said _ _ (held-now c.self.invariant c.self.view_is) c.args.at b c.entry_at.result c.entry_at.ensures).1 in
     let is = c.in-Relocatable.is in
     cc
 
 pub returns-in-Free : goal.returns-in-Free
 returns-in-Free c b =
-    let l = c.self.inside.blocks in
-    let z = c.args.self.now in
-    let held = held-now c.self.inside z c.self.invariant c.self.view_is in
-    let said = handle-said l z held c.args.at b c.entry_at.result c.entry_at.ensures in
+    let said = handle-said _ _ (held-now c.self.invariant c.self.view_is) c.args.at b c.entry_at.result c.entry_at.ensures in
     no-role c.entry_at.result.role said.0 b.flags said.1 c.in-Free.is

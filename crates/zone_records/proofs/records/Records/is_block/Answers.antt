@@ -4,7 +4,5 @@ use Rattle.zone_records.proofs.records.Records.is_block.Goals as goal
 
 pub returns : goal.returns
 returns c =
-    let l = c.self.inside.blocks in
-    let z = c.args.self.now in
-    let held = held-now c.self.inside z c.self.invariant c.self.view_is in
-    (λ is. of-block l z held c.args.at (c.is_block.ensures.0 is), λ r. c.is_block.ensures.1 (of-record l z held c.args.at r).block)
+    let held = held-now c.self.invariant c.self.view_is in
+    (λ is. of-block _ _ held c.args.at (c.is_block.ensures.0 is), λ r. c.is_block.ensures.1 (of-record _ _ held c.args.at r).block)

@@ -12,25 +12,21 @@ use Rattle.zone_records.proofs.records.Records.is_slot.Goals.{then-eq, else-eq, 
 pub returns-in_default : goal.returns-in_default
 returns-in_default c = (
   λ is. absurd (cc is),
-  λ s. absurd (no-slot_outside c.self.inside.blocks c.args.self.now (held-now c.self.inside c.args.self.now c.self.invariant c.self.view_is) c.args.at s c.in_default.ensures.outside),
+  λ s. absurd (no-slot_outside _ _ (held-now c.self.invariant c.self.view_is) c.args.at s c.in_default.ensures.outside),
 )
 
 pub overflow_add-first : goal.overflow_add-first
 overflow_add-first c =
-    let l = c.self.inside.blocks in
-    let z = c.args.self.now in
-    let held = held-now c.self.inside z c.self.invariant c.self.view_is in
-    let high = holder-range l z held c.args.at c.in-Some.start c.in-Some.ensures.holds in
-    let head = c.head_size.ensures ∙ ap head_size (sym (heads-is l z held)) in
+    let held = held-now c.self.invariant c.self.view_is in
+    let high = holder-range _ _ held c.args.at c.in-Some.start c.in-Some.ensures.holds in
+    let head = c.head_size.ensures ∙ ap head_size (sym (heads-is _ _ held)) in
     omega arith
 
 pub overflow_add-first-then-first-at : goal.overflow_add-first-then-first-at
 overflow_add-first-then-first-at c =
-    let l = c.self.inside.blocks in
-    let z = c.args.self.now in
-    let held = held-now c.self.inside z c.self.invariant c.self.view_is in
-    let high = holder-range l z held c.args.at c.in-Some.start c.in-Some.ensures.holds in
-    let head = c.head_size.ensures ∙ ap head_size (sym (heads-is l z held)) in
+    let held = held-now c.self.invariant c.self.view_is in
+    let high = holder-range _ _ held c.args.at c.in-Some.start c.in-Some.ensures.holds in
+    let head = c.head_size.ensures ∙ ap head_size (sym (heads-is _ _ held)) in
     omega arith
 
 -- the tests that have passed
@@ -42,26 +38,22 @@ passed c = elim c.if-first-at.branch [
 
 pub returns-then-at-first : goal.returns-then-at-first
 returns-then-at-first c =
-    let l = c.self.inside.blocks in
-    let z = c.args.self.now in
-    let held = held-now c.self.inside z c.self.invariant c.self.view_is in
+    let held = held-now c.self.invariant c.self.view_is in
     let first = c.in-Some.start + c.head_size.result in
-    let head = ap (λ n. c.in-Some.start + n) (c.head_size.ensures ∙ ap head_size (sym (heads-is l z held))) in
+    let head = ap (λ n. c.in-Some.start + n) (c.head_size.ensures ∙ ap head_size (sym (heads-is _ _ held))) in
     let tests = passed c in
     let role = ap (λ (h : Header). h.role) (sym (c.entry_at.ensures c.in-Some.ensures.holds.block)) ∙ tests.0 in (
-      λ even. slot-made l z held c.args.at c.in-Some.start first c.in-Some.ensures.holds head role tests.1 tests.2 (eqb-true ((c.args.at - first) % 4) 0 even),
-      λ s. let even = (slot-found l z held c.args.at s c.in-Some.start first c.in-Some.ensures.holds head).3 in grind (arith, nat_tests),
+      λ even. slot-made _ _ held c.args.at c.in-Some.start first c.in-Some.ensures.holds head role tests.1 tests.2 (eqb-true ((c.args.at - first) % 4) 0 even),
+      λ s. let even = (slot-found _ _ held c.args.at s c.in-Some.start first c.in-Some.ensures.holds head).3 in grind (arith, nat_tests),
     )
 
 pub returns-else-at-first : goal.returns-else-at-first
 returns-else-at-first c =
-    let l = c.self.inside.blocks in
-    let z = c.args.self.now in
-    let held = held-now c.self.inside z c.self.invariant c.self.view_is in
+    let held = held-now c.self.invariant c.self.view_is in
     let first = c.in-Some.start + c.head_size.result in
-    let head = ap (λ n. c.in-Some.start + n) (c.head_size.ensures ∙ ap head_size (sym (heads-is l z held))) in (
+    let head = ap (λ n. c.in-Some.start + n) (c.head_size.ensures ∙ ap head_size (sym (heads-is _ _ held))) in (
       λ is. absurd (cc (is, c.if-at-first.false)),
-      λ s. let said = slot-found l z held c.args.at s c.in-Some.start first c.in-Some.ensures.holds head in
+      λ s. let said = slot-found _ _ held c.args.at s c.in-Some.start first c.in-Some.ensures.holds head in
           let master : c.entry_at.result.role ≡ Master = ap (λ (h : Header). h.role) (c.entry_at.ensures c.in-Some.ensures.holds.block) ∙ said.0 in
           let low = said.1 in
           let high = said.2 in

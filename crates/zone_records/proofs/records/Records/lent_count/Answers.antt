@@ -4,4 +4,4 @@ use Rattle.zone_records.proofs.Lending.{count-is}
 use Rattle.zone_records.proofs.records.Records.lent_count.Goals as goal
 
 pub returns-clause-value : goal.returns-clause-value
-returns-clause-value c = c.lent_count.ensures.value ∙ count-is c.self.inside.blocks c.args.self.now (held-now c.self.inside c.args.self.now c.self.invariant c.self.view_is)
+returns-clause-value c = c.lent_count.ensures.value ∙ count-is _ _ (held-now c.self.invariant c.self.view_is)

@@ -5,22 +5,16 @@ use Rattle.zone_records.proofs.Placing.{place-can, place-unlent, place-cleared}
 use Rattle.zone_records.proofs.records.Records.place_pointer.Goals as goal
 
 pub assign-requires : goal.assign-requires
-assign-requires c = place-can c.self.inside.blocks c.args.self.now (held-now c.self.inside c.args.self.now c.self.invariant c.self.view_is) c.args.at c.args.length c.requires Fixed (λ k. refl) refl
+assign-requires c = place-can _ _ (held-now c.self.invariant c.self.view_is) c.args.at c.args.length c.requires Fixed (λ k. refl) refl
 
 pub clear-requires : goal.clear-requires
 clear-requires c =
-    place-unlent c.self.inside.blocks c.args.self.now (held-now c.self.inside c.args.self.now c.self.invariant c.self.view_is) c.args.at c.args.length c.requires Fixed (λ k. refl) refl c.assign.new.self c.assign.ensures
+    place-unlent _ _ (held-now c.self.invariant c.self.view_is) c.args.at c.args.length c.requires Fixed (λ k. refl) refl c.assign.new.self c.assign.ensures
 
 pub invariant_of-self : goal.invariant_of-self
 invariant_of-self c =
-    let l = c.self.inside.blocks in
-    let z = c.args.self.now in
-    let held = held-now c.self.inside z c.self.invariant c.self.view_is in
-    fields _ _ (place-cleared l z held c.args.at c.args.length c.requires Fixed (λ k. refl) refl (λ is. absurd (cc is)) c.assign.new.self c.clear.new.self c.assign.ensures c.clear.ensures)
+    fields _ _ (place-cleared _ _ (held-now c.self.invariant c.self.view_is) c.args.at c.args.length c.requires Fixed (λ k. refl) refl (λ is. absurd (cc is)) c.assign.new.self c.clear.new.self c.assign.ensures c.clear.ensures)
 
 pub returns : goal.returns
 returns c r =
-    let l = c.self.inside.blocks in
-    let z = c.args.self.now in
-    let held = held-now c.self.inside z c.self.invariant c.self.view_is in
-    (place-cleared l z held c.args.at c.args.length r Fixed (λ k. refl) refl (λ is. absurd (cc is)) c.assign.new.self c.clear.new.self c.assign.ensures c.clear.ensures).shows
+    (place-cleared _ _ (held-now c.self.invariant c.self.view_is) c.args.at c.args.length r Fixed (λ k. refl) refl (λ is. absurd (cc is)) c.assign.new.self c.clear.new.self c.assign.ensures c.clear.ensures).shows

@@ -9,16 +9,14 @@ use Rattle.zone_records.proofs.Slots.{slot-word, slot-set}
 use Rattle.zone_records.proofs.records.Records.set_slot.Goals as goal
 
 pub set_word-requires : goal.set_word-requires
-set_word-requires c = slot-word c.self.inside.blocks c.args.self.now (held-now c.self.inside c.args.self.now c.self.invariant c.self.view_is) c.args.at c.requires.there
+set_word-requires c = slot-word _ _ (held-now c.self.invariant c.self.view_is) c.args.at c.requires.there
 
 -- how it ends
 ends : (c : goal.After-set_word) → (s : SlotAt c.args.self.now c.args.at) → Held c.set_word.new.self (with_slot c.args.slot c.args.self.now s)
 ends c s =
-    let l = c.self.inside.blocks in
-    let z = c.args.self.now in
-    let held = held-now c.self.inside z c.self.invariant c.self.view_is in
-    let heads = heads-is l z held in
-    slot-set l z held c.args.at s c.args.slot c.word-word.result c.set_word.new.self (c.word-word.ensures ∙ ap (λ k. slot_word k c.args.slot) (c.heads.ensures ∙ ap (λ (s : ZoneSizes). s.heads) c.spec.ensures ∙ sym heads))
+    let held = held-now c.self.invariant c.self.view_is in
+    let heads = heads-is _ _ held in
+    slot-set _ _ held c.args.at s c.args.slot c.word-word.result c.set_word.new.self (c.word-word.ensures ∙ ap (λ k. slot_word k c.args.slot) (c.heads.ensures ∙ ap (λ (s : ZoneSizes). s.heads) c.spec.ensures ∙ sym heads))
     (subst (λ k. IsTrue (can_say k c.args.slot)) (sym heads) c.requires.sayable) c.set_word.ensures
 
 pub invariant_of-self : goal.invariant_of-self

@@ -3,18 +3,14 @@ use Rattle.zone_records.proofs.Carrying.{raw-parcel_up, sink-ends}
 use Rattle.zone_records.proofs.records.Records.sink.Goals as goal
 
 pub sink-requires : goal.sink-requires
-sink-requires c = raw-parcel_up c.self.inside.blocks c.args.self.now (held-now c.self.inside c.args.self.now c.self.invariant c.self.view_is) c.args.start c.args.at c.requires
+sink-requires c = raw-parcel_up _ _ (held-now c.self.invariant c.self.view_is) c.args.start c.args.at c.requires
 
 pub invariant_of-self : goal.invariant_of-self
 invariant_of-self c =
-    let l = c.self.inside.blocks in
-    let z = c.args.self.now in
-    let held = held-now c.self.inside z c.self.invariant c.self.view_is in
-    fields _ _ (sink-ends l z held c.args.start c.args.at c.requires c.sink.new.self (c.sink.ensures (raw-parcel_up l z held c.args.start c.args.at c.requires)))
+    let held = held-now c.self.invariant c.self.view_is in
+    fields _ _ (sink-ends _ _ held c.args.start c.args.at c.requires c.sink.new.self (c.sink.ensures (raw-parcel_up _ _ held c.args.start c.args.at c.requires)))
 
 pub returns : goal.returns
 returns c parcel =
-    let l = c.self.inside.blocks in
-    let z = c.args.self.now in
-    let held = held-now c.self.inside z c.self.invariant c.self.view_is in
-    (sink-ends l z held c.args.start c.args.at parcel c.sink.new.self (c.sink.ensures (raw-parcel_up l z held c.args.start c.args.at parcel))).shows
+    let held = held-now c.self.invariant c.self.view_is in
+    (sink-ends _ _ held c.args.start c.args.at parcel c.sink.new.self (c.sink.ensures (raw-parcel_up _ _ held c.args.start c.args.at parcel))).shows

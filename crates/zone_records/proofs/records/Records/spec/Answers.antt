@@ -9,7 +9,7 @@ pub returns : goal.returns
 returns c =
     let l = c.self.inside.blocks in
     let z = c.args.self.now in
-    let held = held-now c.self.inside z c.self.invariant c.self.view_is in
+    let held = held-now c.self.invariant c.self.view_is in
     let s = c.spec.result in
     let base : s.base ≡ l.base = c.spec.ensures.base in
     let low = c.spec.ensures.size in
@@ -18,4 +18,4 @@ returns c =
     let shape = ap (λ (z : ZoneRecords). z.shape.limit) held.shows in
     let size : s.size ≡ zone_header + total_of z.blocks = omega arith in
     let limit : s.limit ≡ z.shape.limit = omega arith in
-    λ i. record { heads = (c.spec.ensures.heads ∙ heads-is l z held) i; base = (base ∙ base-is l z held) i; size = size i; limit = limit i }
+    λ i. record { heads = (c.spec.ensures.heads ∙ heads-is _ _ held) i; base = (base ∙ base-is _ _ held) i; size = size i; limit = limit i }

@@ -6,21 +6,15 @@ use Rattle.zone_records.proofs.records.Records.split.Goals as goal
 
 pub split-requires : goal.split-requires
 split-requires c =
-    let l = c.self.inside.blocks in
-    let z = c.args.self.now in
-    let held = held-now c.self.inside z c.self.invariant c.self.view_is in
-    cut-can_be l z held c.args.at c.args.size _ c.requires (ap (λ n. c.args.size - n) (c.head_size.ensures ∙ ap head_size (sym (heads-is l z held))))
+    let held = held-now c.self.invariant c.self.view_is in
+    cut-can_be _ _ held c.args.at c.args.size _ c.requires (ap (λ n. c.args.size - n) (c.head_size.ensures ∙ ap head_size (sym (heads-is _ _ held))))
 
 pub invariant_of-self : goal.invariant_of-self
 invariant_of-self c =
-    let l = c.self.inside.blocks in
-    let z = c.args.self.now in
-    let held = held-now c.self.inside z c.self.invariant c.self.view_is in
-    fields _ _ (cut-ends l z held c.args.at c.args.size _ c.requires (ap (λ n. c.args.size - n) (c.head_size.ensures ∙ ap head_size (sym (heads-is l z held)))) c.split.new.self c.split.ensures)
+    let held = held-now c.self.invariant c.self.view_is in
+    fields _ _ (cut-ends _ _ held c.args.at c.args.size _ c.requires (ap (λ n. c.args.size - n) (c.head_size.ensures ∙ ap head_size (sym (heads-is _ _ held)))) c.split.new.self c.split.ensures)
 
 pub returns : goal.returns
 returns c can =
-    let l = c.self.inside.blocks in
-    let z = c.args.self.now in
-    let held = held-now c.self.inside z c.self.invariant c.self.view_is in
-    (cut-ends l z held c.args.at c.args.size _ can (ap (λ n. c.args.size - n) (c.head_size.ensures ∙ ap head_size (sym (heads-is l z held)))) c.split.new.self c.split.ensures).shows
+    let held = held-now c.self.invariant c.self.view_is in
+    (cut-ends _ _ held c.args.at c.args.size _ can (ap (λ n. c.args.size - n) (c.head_size.ensures ∙ ap head_size (sym (heads-is _ _ held)))) c.split.new.self c.split.ensures).shows
