@@ -21,15 +21,15 @@ CODE = re.compile(r"`[^`\n]*`|^    .*$", re.M)
 # the most lines that each page may have; there are no others
 LINES = {
     "README.md": 90,
-    "docs/CONTRIBUTING.md": 70,
-    "docs/DECISIONS.md": 75,
-    "docs/DESIGN.md": 225,
-    "docs/DIFFERENCES.md": 90,
-    "docs/EMULATORS.md": 105,
-    "docs/FILES.md": 120,
-    "docs/FORMAT.md": 90,
-    "docs/SCRIPT.md": 285,
-    "docs/THEOREM.md": 150,
+    "docs/CONTRIBUTING.md": 60,
+    "docs/DECISIONS.md": 60,
+    "docs/DESIGN.md": 198,
+    "docs/DIFFERENCES.md": 88,
+    "docs/EMULATORS.md": 95,
+    "docs/FILES.md": 107,
+    "docs/FORMAT.md": 78,
+    "docs/SCRIPT.md": 266,
+    "docs/THEOREM.md": 145,
 }
 WIDTH = 100
 # the most words of all pages, code blocks aside
