@@ -27,9 +27,8 @@ overflow_add-start c =
 
 pub gap_end-end-requires : goal.gap_end-end-requires
 gap_end-end-requires c =
-    let z = c.args.zone.now in
     let b = own (goal.at.gap_end-end-requires c).After-place_of-at in
-    record { rest = rest_beside z c.args.block c.place_of-at.result b (c.place_of-at.result + c.entry_at.result.size) (start_is (goal.at.gap_end-end-requires c).After-entry_at) }
+    record { rest = rest_beside c.args.zone.now c.args.block c.place_of-at.result b (c.place_of-at.result + c.entry_at.result.size) (start_is (goal.at.gap_end-end-requires c).After-entry_at) }
 
 pub returns : goal.returns
 returns c =

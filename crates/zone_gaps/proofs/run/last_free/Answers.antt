@@ -10,10 +10,8 @@ returns-in_err-at c = rw c.from_residual.ensures (λ run. none_before c.args.zon
 
 pub returns-then-start-at : goal.returns-then-start-at
 returns-then-start-at c run =
-    let z = c.args.zone.now in
-    last_within z run c.in_ok-at.at (c.in_ok-at.ensures.last (split_end z run)) c.requires.sizes c.if-start-at.true
+    last_within c.args.zone.now run c.in_ok-at.at (c.in_ok-at.ensures.last (split_end c.args.zone.now run)) c.requires.sizes c.if-start-at.true
 
 pub returns-else-start-at : goal.returns-else-start-at
 returns-else-start-at c run =
-    let z = c.args.zone.now in
-    last_below z run c.in_ok-at.at (c.in_ok-at.ensures.last (split_end z run)) (omega (arith, c.if-start-at.false))
+    last_below c.args.zone.now run c.in_ok-at.at (c.in_ok-at.ensures.last (split_end c.args.zone.now run)) (omega (arith, c.if-start-at.false))

@@ -8,8 +8,7 @@ next_free-requires c = split_run c.args.zone.now c.requires
 
 pub returns-in-Some : goal.returns-in-Some
 returns-in-Some c run =
-    let z = c.args.zone.now in
-    subst (λ n. UsedUpTo run.blocks c.args.start n) (sym c.min.ensures) (used_up_to z run c.in-Some.at (c.in-Some.ensures.next (split_run z run)))
+    subst (λ n. UsedUpTo run.blocks c.args.start n) (sym c.min.ensures) (used_up_to c.args.zone.now run c.in-Some.at (c.in-Some.ensures.next (split_run c.args.zone.now run)))
 
 pub returns-in-None : goal.returns-in-None
 returns-in-None c run = all_used c.args.zone.now run (c.in-None.ensures.none (split_run c.args.zone.now run))
