@@ -1,9 +1,11 @@
-use Rattle.std.proofs.Common.{map, codes, refl, sym, subst, ap, ◌∙◌, List, ℕ, Bor}
+use Rattle.std.proofs.Common.{◌≡◌, map, codes, refl, sym, subst, ap, ◌∙◌, List, ℕ, Bor}
 use Rattle.mac_base.specs.ZoneSizes.{ArePossible}
-use Rattle.macheap.specs.Asking.{GivesNumbers, of_zone, of_limit, of_base, of_mode}
+use Rattle.macheap.specs.Asking.{GivesNumbers, Match, of_zone, of_limit, of_base, of_mode}
+use Rattle.macheap.specs.Options.{IsNoNumber, IsNumberOf, forks_of, journals_of, value_of}
 use Rattle.macheap.proofs.Found.{number_found, no_number_found, files_asks, names_found, match_of, matched, unmatched, error_kind, full_asks, no_number_error}
 use Rattle.clap.specs.Words.{Text}
 use Rattle.macheap.proofs.asked.asked_by.Goals as goal
+use Rattle.macheap.proofs.asked.asked_by.Goals.{In_ok-base, In_ok-files, In_ok-limit, In_ok-mode, In_ok-zone}
 
 abbrev names_of : List (Bor (List ℕ)) → List Text
 names_of = map (λ name. name.now)
@@ -23,120 +25,86 @@ returns-in_err-files g c =
     files_asks words _ c.in_err-files.field-0.0 c.unwrap_or-forks.result.now c.unwrap_or-journals.result.now (λ v. v.now) c.from_residual-in_err-files.ensures.1
     (matched command words c.in_ok-command.ensures c.in-Ok.ensures.kinds) forks journals c.in_err-files.ensures.fault
 
+-- the files are those that the words name
+forks : (g : _) (c : In_ok-files g) → names_of c.in_ok-files.files.forks.items ≡ forks_of (map g.S.AsStr.text c.args.words.now)
+forks g c =
+    ap names_of c.in_ok-files.ensures.forks ∙ names_found c.in_ok-command.field-0 (map g.S.AsStr.text c.args.words.now) c.in-Ok.matches (codes "fork") c.get_strs.result _ c.unwrap_or-forks.result (λ s. s.now) (λ v. v.now) c.in_ok-command.ensures c.in-Ok.ensures.matches c.get_strs.ensures refl c.unwrap_or-forks.ensures
+
+-- and the journals
+journals : (g : _) (c : In_ok-files g) → names_of c.in_ok-files.files.journals.items ≡ journals_of (map g.S.AsStr.text c.args.words.now)
+journals g c =
+    ap names_of c.in_ok-files.ensures.journals ∙ names_found c.in_ok-command.field-0 (map g.S.AsStr.text c.args.words.now) c.in-Ok.matches (codes "journal") c.get_strs-2.result _ c.unwrap_or-journals.result (λ s. s.now) (λ v. v.now) c.in_ok-command.ensures c.in-Ok.ensures.matches c.get_strs-2.ensures refl c.unwrap_or-journals.ensures
+
+-- so the words match the options
+none : (g : _) (c : In_ok-files g) → Match (map g.S.AsStr.text c.args.words.now)
+none g c =
+    match_of (map g.S.AsStr.text c.args.words.now) c.in_ok-files.files.forks.items c.in_ok-files.files.journals.items (λ v. v.now) (matched c.in_ok-command.field-0 (map g.S.AsStr.text c.args.words.now) c.in_ok-command.ensures c.in-Ok.ensures.kinds) (forks g c) (journals g c) c.in_ok-files.files.few c.in_ok-files.files.fit
+
+-- they give each number
+size : (g : _) (c : In_ok-zone g) → IsNumberOf (value_of (codes "zone") (map g.S.AsStr.text c.args.words.now)) 4096 c.in_ok-zone.zone
+size g c = number_found c.in_ok-command.field-0 (map g.S.AsStr.text c.args.words.now) c.in-Ok.matches (codes "zone") _ 4096 c.in_ok-zone.zone c.in_ok-command.ensures c.in-Ok.ensures.matches c.get_str.ensures c.in_ok-zone.ensures.number
+
+limit : (g : _) (c : In_ok-limit g) → IsNumberOf (value_of (codes "limit") (map g.S.AsStr.text c.args.words.now)) c.in_ok-zone.zone c.in_ok-limit.limit
+limit g c = number_found c.in_ok-command.field-0 (map g.S.AsStr.text c.args.words.now) c.in-Ok.matches (codes "limit") _ c.in_ok-zone.zone c.in_ok-limit.limit c.in_ok-command.ensures c.in-Ok.ensures.matches c.get_str-2.ensures c.in_ok-limit.ensures.number
+
+base : (g : _) (c : In_ok-base g) → IsNumberOf (value_of (codes "base") (map g.S.AsStr.text c.args.words.now)) 0x10_0000 c.in_ok-base.base
+base g c = number_found c.in_ok-command.field-0 (map g.S.AsStr.text c.args.words.now) c.in-Ok.matches (codes "base") _ 0x10_0000 c.in_ok-base.base c.in_ok-command.ensures c.in-Ok.ensures.matches c.get_str-3.ensures c.in_ok-base.ensures.number
+
+numbers : (g : _) (c : In_ok-mode g) → GivesNumbers (map g.S.AsStr.text c.args.words.now) c.in_ok-base.base c.in_ok-zone.zone c.in_ok-limit.limit c.in_ok-mode.mode
+numbers g c = record {
+  matched = none g (goal.at.In_ok-mode g c).In_ok-files;
+  size_given = size g (goal.at.In_ok-mode g c).In_ok-zone;
+  limit_given = limit g (goal.at.In_ok-mode g c).In_ok-limit;
+  base_given = base g (goal.at.In_ok-mode g c).In_ok-base;
+  mode_given = number_found c.in_ok-command.field-0 (map g.S.AsStr.text c.args.words.now) c.in-Ok.matches (codes "mode") _ 24 c.in_ok-mode.mode c.in_ok-command.ensures c.in-Ok.ensures.matches c.get_str-4.ensures c.in_ok-mode.ensures.number;
+}
+
 pub returns-in_err-zone : goal.returns-in_err-zone
 returns-in_err-zone g c =
-    let command = c.in_ok-command.field-0 in
-    let words = map g.S.AsStr.text c.args.words.now in
-    let files = c.in_ok-files.files in
-    let forks = ap names_of c.in_ok-files.ensures.forks ∙ names_found command words c.in-Ok.matches (codes "fork") c.get_strs.result _ c.unwrap_or-forks.result (λ s. s.now) (λ v. v.now) c.in_ok-command.ensures c.in-Ok.ensures.matches c.get_strs.ensures refl c.unwrap_or-forks.ensures in
-    let journals = ap names_of c.in_ok-files.ensures.journals ∙ names_found command words c.in-Ok.matches (codes "journal") c.get_strs-2.result _ c.unwrap_or-journals.result (λ s. s.now) (λ v. v.now) c.in_ok-command.ensures c.in-Ok.ensures.matches c.get_strs-2.ensures refl c.unwrap_or-journals.ensures in
-    let none = match_of words files.forks.items files.journals.items (λ v. v.now) (matched command words c.in_ok-command.ensures c.in-Ok.ensures.kinds) forks journals files.few files.fit in
-    let zone = no_number_found command words c.in-Ok.matches (codes "zone") _ c.in_ok-command.ensures c.in-Ok.ensures.matches c.get_str.ensures c.in_err-zone.ensures.none in
-    no_number_error words _ c.in_err-zone.field-0.0 (codes "zone") c.from_residual-in_err-zone.ensures.1 c.in_err-zone.ensures.error (of_zone refl none zone)
+    let at_fault = no_number_found c.in_ok-command.field-0 (map g.S.AsStr.text c.args.words.now) c.in-Ok.matches (codes "zone") _ c.in_ok-command.ensures c.in-Ok.ensures.matches c.get_str.ensures c.in_err-zone.ensures.none in
+    no_number_error (map g.S.AsStr.text c.args.words.now) _ c.in_err-zone.field-0.0 (codes "zone") c.from_residual-in_err-zone.ensures.1 c.in_err-zone.ensures.error (of_zone refl (none g (goal.at.returns-in_err-zone g c).In_ok-files) at_fault)
 
 pub returns-in_err-limit : goal.returns-in_err-limit
 returns-in_err-limit g c =
-    let command = c.in_ok-command.field-0 in
-    let words = map g.S.AsStr.text c.args.words.now in
-    let files = c.in_ok-files.files in
-    let forks = ap names_of c.in_ok-files.ensures.forks ∙ names_found command words c.in-Ok.matches (codes "fork") c.get_strs.result _ c.unwrap_or-forks.result (λ s. s.now) (λ v. v.now) c.in_ok-command.ensures c.in-Ok.ensures.matches c.get_strs.ensures refl c.unwrap_or-forks.ensures in
-    let journals = ap names_of c.in_ok-files.ensures.journals ∙ names_found command words c.in-Ok.matches (codes "journal") c.get_strs-2.result _ c.unwrap_or-journals.result (λ s. s.now) (λ v. v.now) c.in_ok-command.ensures c.in-Ok.ensures.matches c.get_strs-2.ensures refl c.unwrap_or-journals.ensures in
-    let none = match_of words files.forks.items files.journals.items (λ v. v.now) (matched command words c.in_ok-command.ensures c.in-Ok.ensures.kinds) forks journals files.few files.fit in
-    let size = number_found command words c.in-Ok.matches (codes "zone") _ 4096 c.in_ok-zone.zone c.in_ok-command.ensures c.in-Ok.ensures.matches c.get_str.ensures c.in_ok-zone.ensures.number in
-    let limit = no_number_found command words c.in-Ok.matches (codes "limit") _ c.in_ok-command.ensures c.in-Ok.ensures.matches c.get_str-2.ensures c.in_err-limit.ensures.none in
-    no_number_error words _ c.in_err-limit.field-0.0 (codes "limit") c.from_residual-in_err-limit.ensures.1 c.in_err-limit.ensures.error (of_limit refl none c.in_ok-zone.zone size limit)
+    let at_fault = no_number_found c.in_ok-command.field-0 (map g.S.AsStr.text c.args.words.now) c.in-Ok.matches (codes "limit") _ c.in_ok-command.ensures c.in-Ok.ensures.matches c.get_str-2.ensures c.in_err-limit.ensures.none in
+    no_number_error (map g.S.AsStr.text c.args.words.now) _ c.in_err-limit.field-0.0 (codes "limit") c.from_residual-in_err-limit.ensures.1 c.in_err-limit.ensures.error (of_limit refl (none g (goal.at.returns-in_err-limit g c).In_ok-files) c.in_ok-zone.zone (size g (goal.at.returns-in_err-limit g c).In_ok-zone) at_fault)
 
 pub returns-in_err-base : goal.returns-in_err-base
 returns-in_err-base g c =
-    let command = c.in_ok-command.field-0 in
-    let words = map g.S.AsStr.text c.args.words.now in
-    let files = c.in_ok-files.files in
-    let forks = ap names_of c.in_ok-files.ensures.forks ∙ names_found command words c.in-Ok.matches (codes "fork") c.get_strs.result _ c.unwrap_or-forks.result (λ s. s.now) (λ v. v.now) c.in_ok-command.ensures c.in-Ok.ensures.matches c.get_strs.ensures refl c.unwrap_or-forks.ensures in
-    let journals = ap names_of c.in_ok-files.ensures.journals ∙ names_found command words c.in-Ok.matches (codes "journal") c.get_strs-2.result _ c.unwrap_or-journals.result (λ s. s.now) (λ v. v.now) c.in_ok-command.ensures c.in-Ok.ensures.matches c.get_strs-2.ensures refl c.unwrap_or-journals.ensures in
-    let none = match_of words files.forks.items files.journals.items (λ v. v.now) (matched command words c.in_ok-command.ensures c.in-Ok.ensures.kinds) forks journals files.few files.fit in
-    let size = number_found command words c.in-Ok.matches (codes "zone") _ 4096 c.in_ok-zone.zone c.in_ok-command.ensures c.in-Ok.ensures.matches c.get_str.ensures c.in_ok-zone.ensures.number in
-    let limit = number_found command words c.in-Ok.matches (codes "limit") _ c.in_ok-zone.zone c.in_ok-limit.limit c.in_ok-command.ensures c.in-Ok.ensures.matches c.get_str-2.ensures c.in_ok-limit.ensures.number in
-    let base = no_number_found command words c.in-Ok.matches (codes "base") _ c.in_ok-command.ensures c.in-Ok.ensures.matches c.get_str-3.ensures c.in_err-base.ensures.none in
-    no_number_error words _ c.in_err-base.field-0.0 (codes "base") c.from_residual-in_err-base.ensures.1 c.in_err-base.ensures.error (of_base refl none c.in_ok-zone.zone c.in_ok-limit.limit size limit base)
+    let at_fault = no_number_found c.in_ok-command.field-0 (map g.S.AsStr.text c.args.words.now) c.in-Ok.matches (codes "base") _ c.in_ok-command.ensures c.in-Ok.ensures.matches c.get_str-3.ensures c.in_err-base.ensures.none in
+    no_number_error (map g.S.AsStr.text c.args.words.now) _ c.in_err-base.field-0.0 (codes "base") c.from_residual-in_err-base.ensures.1 c.in_err-base.ensures.error (of_base refl (none g (goal.at.returns-in_err-base g c).In_ok-files) c.in_ok-zone.zone c.in_ok-limit.limit (size g (goal.at.returns-in_err-base g c).In_ok-zone) (limit g (goal.at.returns-in_err-base g c).In_ok-limit) at_fault)
 
 pub returns-in_err-mode : goal.returns-in_err-mode
 returns-in_err-mode g c =
-    let command = c.in_ok-command.field-0 in
-    let words = map g.S.AsStr.text c.args.words.now in
-    let files = c.in_ok-files.files in
-    let forks = ap names_of c.in_ok-files.ensures.forks ∙ names_found command words c.in-Ok.matches (codes "fork") c.get_strs.result _ c.unwrap_or-forks.result (λ s. s.now) (λ v. v.now) c.in_ok-command.ensures c.in-Ok.ensures.matches c.get_strs.ensures refl c.unwrap_or-forks.ensures in
-    let journals = ap names_of c.in_ok-files.ensures.journals ∙ names_found command words c.in-Ok.matches (codes "journal") c.get_strs-2.result _ c.unwrap_or-journals.result (λ s. s.now) (λ v. v.now) c.in_ok-command.ensures c.in-Ok.ensures.matches c.get_strs-2.ensures refl c.unwrap_or-journals.ensures in
-    let none = match_of words files.forks.items files.journals.items (λ v. v.now) (matched command words c.in_ok-command.ensures c.in-Ok.ensures.kinds) forks journals files.few files.fit in
-    let size = number_found command words c.in-Ok.matches (codes "zone") _ 4096 c.in_ok-zone.zone c.in_ok-command.ensures c.in-Ok.ensures.matches c.get_str.ensures c.in_ok-zone.ensures.number in
-    let limit = number_found command words c.in-Ok.matches (codes "limit") _ c.in_ok-zone.zone c.in_ok-limit.limit c.in_ok-command.ensures c.in-Ok.ensures.matches c.get_str-2.ensures c.in_ok-limit.ensures.number in
-    let base = number_found command words c.in-Ok.matches (codes "base") _ 0x10_0000 c.in_ok-base.base c.in_ok-command.ensures c.in-Ok.ensures.matches c.get_str-3.ensures c.in_ok-base.ensures.number in
-    let mode = no_number_found command words c.in-Ok.matches (codes "mode") _ c.in_ok-command.ensures c.in-Ok.ensures.matches c.get_str-4.ensures c.in_err-mode.ensures.none in
-    no_number_error words _ c.in_err-mode.field-0.0 (codes "mode") c.from_residual-in_err-mode.ensures.1 c.in_err-mode.ensures.error (of_mode refl none c.in_ok-zone.zone c.in_ok-limit.limit c.in_ok-base.base size limit base mode)
+    let at_fault = no_number_found c.in_ok-command.field-0 (map g.S.AsStr.text c.args.words.now) c.in-Ok.matches (codes "mode") _ c.in_ok-command.ensures c.in-Ok.ensures.matches c.get_str-4.ensures c.in_err-mode.ensures.none in
+    no_number_error (map g.S.AsStr.text c.args.words.now) _ c.in_err-mode.field-0.0 (codes "mode") c.from_residual-in_err-mode.ensures.1 c.in_err-mode.ensures.error (of_mode refl (none g (goal.at.returns-in_err-mode g c).In_ok-files) c.in_ok-zone.zone c.in_ok-limit.limit c.in_ok-base.base (size g (goal.at.returns-in_err-mode g c).In_ok-zone) (limit g (goal.at.returns-in_err-mode g c).In_ok-limit) (base g (goal.at.returns-in_err-mode g c).In_ok-base) at_fault)
 
 pub returns-in_default : goal.returns-in_default
-returns-in_default g c =
-    let command = c.in_ok-command.field-0 in
-    let words = map g.S.AsStr.text c.args.words.now in
-    let files = c.in_ok-files.files in
-    let forks = ap names_of c.in_ok-files.ensures.forks ∙ names_found command words c.in-Ok.matches (codes "fork") c.get_strs.result _ c.unwrap_or-forks.result (λ s. s.now) (λ v. v.now) c.in_ok-command.ensures c.in-Ok.ensures.matches c.get_strs.ensures refl c.unwrap_or-forks.ensures in
-    let journals = ap names_of c.in_ok-files.ensures.journals ∙ names_found command words c.in-Ok.matches (codes "journal") c.get_strs-2.result _ c.unwrap_or-journals.result (λ s. s.now) (λ v. v.now) c.in_ok-command.ensures c.in-Ok.ensures.matches c.get_strs-2.ensures refl c.unwrap_or-journals.ensures in
-    let numbers : GivesNumbers words c.in_ok-base.base c.in_ok-zone.zone c.in_ok-limit.limit c.in_ok-mode.mode = record {
-      matched = match_of words files.forks.items files.journals.items (λ v. v.now) (matched command words c.in_ok-command.ensures c.in-Ok.ensures.kinds) forks journals files.few files.fit;
-      size_given = number_found command words c.in-Ok.matches (codes "zone") _ 4096 c.in_ok-zone.zone c.in_ok-command.ensures c.in-Ok.ensures.matches c.get_str.ensures c.in_ok-zone.ensures.number;
-      limit_given = number_found command words c.in-Ok.matches (codes "limit") _ c.in_ok-zone.zone c.in_ok-limit.limit c.in_ok-command.ensures c.in-Ok.ensures.matches c.get_str-2.ensures c.in_ok-limit.ensures.number;
-      base_given = number_found command words c.in-Ok.matches (codes "base") _ 0x10_0000 c.in_ok-base.base c.in_ok-command.ensures c.in-Ok.ensures.matches c.get_str-3.ensures c.in_ok-base.ensures.number;
-      mode_given = number_found command words c.in-Ok.matches (codes "mode") _ 24 c.in_ok-mode.mode c.in_ok-command.ensures c.in-Ok.ensures.matches c.get_str-4.ensures c.in_ok-mode.ensures.number;
-    } in
-    (c.in_ok-base.base, c.in_ok-zone.zone, c.in_ok-limit.limit, numbers, sym c.heads_of.ensures ∙ c.in_default.is)
+returns-in_default g c = (c.in_ok-base.base, c.in_ok-zone.zone, c.in_ok-limit.limit, numbers g (goal.at.returns-in_default g c).In_ok-mode, sym c.heads_of.ensures ∙ c.in_default.is)
 
 pub returns-in-Ok-with_kind : goal.returns-in-Ok-with_kind
-returns-in-Ok-with_kind g c =
-    let command = c.in_ok-command.field-0 in
-    let words = map g.S.AsStr.text c.args.words.now in
-    let files = c.in_ok-files.files in
-    let forks = ap names_of c.in_ok-files.ensures.forks ∙ names_found command words c.in-Ok.matches (codes "fork") c.get_strs.result _ c.unwrap_or-forks.result (λ s. s.now) (λ v. v.now) c.in_ok-command.ensures c.in-Ok.ensures.matches c.get_strs.ensures refl c.unwrap_or-forks.ensures in
-    let journals = ap names_of c.in_ok-files.ensures.journals ∙ names_found command words c.in-Ok.matches (codes "journal") c.get_strs-2.result _ c.unwrap_or-journals.result (λ s. s.now) (λ v. v.now) c.in_ok-command.ensures c.in-Ok.ensures.matches c.get_strs-2.ensures refl c.unwrap_or-journals.ensures in
-    let numbers : GivesNumbers words c.in_ok-base.base c.in_ok-zone.zone c.in_ok-limit.limit c.in_ok-mode.mode = record {
-      matched = match_of words files.forks.items files.journals.items (λ v. v.now) (matched command words c.in_ok-command.ensures c.in-Ok.ensures.kinds) forks journals files.few files.fit;
-      size_given = number_found command words c.in-Ok.matches (codes "zone") _ 4096 c.in_ok-zone.zone c.in_ok-command.ensures c.in-Ok.ensures.matches c.get_str.ensures c.in_ok-zone.ensures.number;
-      limit_given = number_found command words c.in-Ok.matches (codes "limit") _ c.in_ok-zone.zone c.in_ok-limit.limit c.in_ok-command.ensures c.in-Ok.ensures.matches c.get_str-2.ensures c.in_ok-limit.ensures.number;
-      base_given = number_found command words c.in-Ok.matches (codes "base") _ 0x10_0000 c.in_ok-base.base c.in_ok-command.ensures c.in-Ok.ensures.matches c.get_str-3.ensures c.in_ok-base.ensures.number;
-      mode_given = number_found command words c.in-Ok.matches (codes "mode") _ 24 c.in_ok-mode.mode c.in_ok-command.ensures c.in-Ok.ensures.matches c.get_str-4.ensures c.in_ok-mode.ensures.number;
-    } in
-    record {
-      base = c.in_ok-base.base;
-      size = c.in_ok-zone.zone;
-      limit = c.in_ok-limit.limit;
-      mode = c.in_ok-mode.mode;
-      heads = c.in-Some.heads;
-      numbers = numbers;
-      headed = sym c.heads_of.ensures ∙ c.in-Some.is;
-      is = c.in-Ok-with_kind.ensures.spec;
-      possible = subst ArePossible (sym c.in-Ok-with_kind.ensures.spec) (c.in-Ok-with_kind.ensures.possible.0 refl);
-      forks_are = forks;
-      journals_are = journals;
-    }
+returns-in-Ok-with_kind g c = record {
+  base = c.in_ok-base.base;
+  size = c.in_ok-zone.zone;
+  limit = c.in_ok-limit.limit;
+  mode = c.in_ok-mode.mode;
+  heads = c.in-Some.heads;
+  numbers = numbers g (goal.at.returns-in-Ok-with_kind g c).In_ok-mode;
+  headed = sym c.heads_of.ensures ∙ c.in-Some.is;
+  is = c.in-Ok-with_kind.ensures.spec;
+  possible = subst ArePossible (sym c.in-Ok-with_kind.ensures.spec) (c.in-Ok-with_kind.ensures.possible.0 refl);
+  forks_are = forks g (goal.at.returns-in-Ok-with_kind g c).In_ok-files;
+  journals_are = journals g (goal.at.returns-in-Ok-with_kind g c).In_ok-files;
+}
 
 pub returns : goal.returns
-returns g c =
-    let command = c.in_ok-command.field-0 in
-    let words = map g.S.AsStr.text c.args.words.now in
-    let files = c.in_ok-files.files in
-    let forks = ap names_of c.in_ok-files.ensures.forks ∙ names_found command words c.in-Ok.matches (codes "fork") c.get_strs.result _ c.unwrap_or-forks.result (λ s. s.now) (λ v. v.now) c.in_ok-command.ensures c.in-Ok.ensures.matches c.get_strs.ensures refl c.unwrap_or-forks.ensures in
-    let journals = ap names_of c.in_ok-files.ensures.journals ∙ names_found command words c.in-Ok.matches (codes "journal") c.get_strs-2.result _ c.unwrap_or-journals.result (λ s. s.now) (λ v. v.now) c.in_ok-command.ensures c.in-Ok.ensures.matches c.get_strs-2.ensures refl c.unwrap_or-journals.ensures in
-    let numbers : GivesNumbers words c.in_ok-base.base c.in_ok-zone.zone c.in_ok-limit.limit c.in_ok-mode.mode = record {
-      matched = match_of words files.forks.items files.journals.items (λ v. v.now) (matched command words c.in_ok-command.ensures c.in-Ok.ensures.kinds) forks journals files.few files.fit;
-      size_given = number_found command words c.in-Ok.matches (codes "zone") _ 4096 c.in_ok-zone.zone c.in_ok-command.ensures c.in-Ok.ensures.matches c.get_str.ensures c.in_ok-zone.ensures.number;
-      limit_given = number_found command words c.in-Ok.matches (codes "limit") _ c.in_ok-zone.zone c.in_ok-limit.limit c.in_ok-command.ensures c.in-Ok.ensures.matches c.get_str-2.ensures c.in_ok-limit.ensures.number;
-      base_given = number_found command words c.in-Ok.matches (codes "base") _ 0x10_0000 c.in_ok-base.base c.in_ok-command.ensures c.in-Ok.ensures.matches c.get_str-3.ensures c.in_ok-base.ensures.number;
-      mode_given = number_found command words c.in-Ok.matches (codes "mode") _ 24 c.in_ok-mode.mode c.in_ok-command.ensures c.in-Ok.ensures.matches c.get_str-4.ensures c.in_ok-mode.ensures.number;
-    } in (
-      c.in_ok-base.base,
-      c.in_ok-zone.zone,
-      c.in_ok-limit.limit,
-      c.in_ok-mode.mode,
-      c.in-Some.heads,
-      numbers,
-      sym c.heads_of.ensures ∙ c.in-Some.is,
-      sym c.in-Err-with_kind.ensures.fault,
-    )
+returns g c = (
+  c.in_ok-base.base,
+  c.in_ok-zone.zone,
+  c.in_ok-limit.limit,
+  c.in_ok-mode.mode,
+  c.in-Some.heads,
+  numbers g (goal.at.returns g c).In_ok-mode,
+  sym c.heads_of.ensures ∙ c.in-Some.is,
+  sym c.in-Err-with_kind.ensures.fault,
+)
