@@ -1,8 +1,8 @@
 """Checks README.md and the pages of docs/: that their links lead to a page and to a heading, that README links each page, that what a
 page quotes is there, that DESIGN.md names each crate, and that lines, pages and all of them are short and use no word that the glossary
-rules out; and that docs/macheap.1 and docs/macheap.3 are what tools/man_pages.py makes. A quote is a block between ``` whose first line
-names the file, as '```text PATH': its lines are in that file in this order, whatever blanks are before them. Tables and quotes may be
-wider than other lines.
+rules out; and that docs/macheap.1 and docs/macheap.3 are what tools/man_pages.py makes, and no man page has such a word. A quote is a
+block between ``` whose first line names the file, as '```text PATH': its lines are in that file in this order, whatever blanks are
+before them. Tables and quotes may be wider than other lines.
 """
 import glob
 import os
@@ -87,9 +87,13 @@ def wrong_lines(page, text, unused):
     for line in QUOTE.sub("", text).split("\n"):
         if len(line) > WIDTH and not line.startswith("|"):
             yield f"a line has {len(line)} columns: {line}"
-    prose = ALLOWED.sub("", CODE.sub("", BLOCK.sub("", UNUSED.sub("", text))))
+    yield from words_used(CODE.sub("", BLOCK.sub("", UNUSED.sub("", text))), unused)
+
+
+def words_used(prose, unused):
+    """What is wrong with the words of a text: those that no page uses."""
     for word in unused:
-        if re.search(rf"\b{word}\b", prose, re.I):
+        if re.search(rf"\b{word}\b", ALLOWED.sub("", prose), re.I):
             yield f"it uses the word '{word}'"
 
 
@@ -114,11 +118,13 @@ def wrong_in_all(texts):
             yield f"{GLOSSARY} does not name the crate {crate}"
 
 
-def wrong_man_pages():
-    """What is wrong with the man pages that a tool makes."""
+def wrong_man_pages(unused):
+    """What is wrong with the man pages, of which a tool makes all but one."""
     for page, made in man_pages.pages().items():
         if not os.path.exists(page) or man_pages.read(page) != made:
             yield f"{page} is not what tools/man_pages.py makes: run it"
+    for page in sorted(glob.glob("docs/*.[1-9]")):
+        yield from (f"{page}: {it}" for it in words_used(man_pages.read(page), unused))
 
 
 def main():
@@ -128,7 +134,7 @@ def main():
             texts[page] = it.read()
     found = UNUSED.search(texts[GLOSSARY])
     unused = re.findall(r"\*(\w+)\*", found[1]) if found else []
-    faults = [*wrong_in_all(texts), *wrong_man_pages()]
+    faults = [*wrong_in_all(texts), *wrong_man_pages(unused)]
     if not unused:
         faults.append(f"{GLOSSARY} has no line 'Not used on these pages: *WORD*, ..'")
     for page, text in texts.items():
