@@ -8,7 +8,7 @@ use mac_files::{container_of, read_contents};
 use std::alloc::{AllocError, Global};
 
 /// A header of version I: a file `Name` with 3 bytes of data and 5 of resources.
-const HEADER_ONE: &[u8] = b"\
+const HEADER: &[u8] = b"\
     \x00\x04Name\x00\x00\x00\x00\x00\x00\x00\x00\x00\x00\
     \x00\x00\x00\x00\x00\x00\x00\x00\x00\x00\x00\x00\x00\x00\x00\x00\
     \x00\x00\x00\x00\x00\x00\x00\x00\x00\x00\x00\x00\x00\x00\x00\x00\
@@ -18,32 +18,28 @@ const HEADER_ONE: &[u8] = b"\
     \x00\x00\x02\x00\x00\x00\x00\x00\x00\x00\x00\x00\x00\x00\x00\x00\
     \x00\x00\x00\x00\x00\x00\x00\x00\x00\x00\x00\x00\x00\x00\x00\x00";
 
-/// The same of version II, with a second header of one byte. Python's `binascii.crc_hqx` gives the checksum.
-const HEADER_TWO: &[u8] = b"\
-    \x00\x04Name\x00\x00\x00\x00\x00\x00\x00\x00\x00\x00\
-    \x00\x00\x00\x00\x00\x00\x00\x00\x00\x00\x00\x00\x00\x00\x00\x00\
-    \x00\x00\x00\x00\x00\x00\x00\x00\x00\x00\x00\x00\x00\x00\x00\x00\
-    \x00\x00\x00\x00\x00\x00\x00\x00\x00\x00\x00\x00\x00\x00\x00\x00\
-    \x00TEXTttxt\x01\x00\x00\x00\x00\x00\x00\
-    \x00\x00\x00\x00\x00\x00\x03\x00\x00\x00\x05\x00\x00\x00\x01\x00\
-    \x00\x00\x02\x00\x00\x20\x00\x00\x00\x00\x00\x00\x00\x00\x00\x00\
-    \x00\x00\x00\x00\x00\x00\x00\x00\x00\x01\x81\x81\x8E\x03\x00\x00";
+/// The header of a version. Those of II and III say that a second header of one byte comes next, and have a checksum, which
+/// Python's `binascii.crc_hqx` gives.
+fn header_of(alloc: Global, version: Version) -> Result<Vec<u8>, AllocError> {
+    let mut header = HEADER.to_vec(alloc)?;
+    let (signature, end) = match version {
+        Version::I => return Ok(header),
+        Version::II => ([0; 4], [0, 1, 0x81, 0x81, 0x8E, 0x03]),
+        Version::III => (*b"mBIN", [0, 1, 0x82, 0x81, 0xD0, 0x0B]),
+    };
+    header.truncate(101);
+    header.push(0x20)?;
+    header.extend_from_slice(&signature)?;
+    header.resize(120, 0)?;
+    header.extend_from_slice(&end)?;
+    header.resize(128, 0)?;
+    Ok(header)
+}
 
-/// The same of version III.
-const HEADER_THREE: &[u8] = b"\
-    \x00\x04Name\x00\x00\x00\x00\x00\x00\x00\x00\x00\x00\
-    \x00\x00\x00\x00\x00\x00\x00\x00\x00\x00\x00\x00\x00\x00\x00\x00\
-    \x00\x00\x00\x00\x00\x00\x00\x00\x00\x00\x00\x00\x00\x00\x00\x00\
-    \x00\x00\x00\x00\x00\x00\x00\x00\x00\x00\x00\x00\x00\x00\x00\x00\
-    \x00TEXTttxt\x01\x00\x00\x00\x00\x00\x00\
-    \x00\x00\x00\x00\x00\x00\x03\x00\x00\x00\x05\x00\x00\x00\x01\x00\
-    \x00\x00\x02\x00\x00\x20mBIN\x00\x00\x00\x00\x00\x00\
-    \x00\x00\x00\x00\x00\x00\x00\x00\x00\x01\x82\x81\xD0\x0B\x00\x00";
-
-/// A file with this header, its data fork at 256 and its resource fork at 384. With the header of version I they are at 128 and
-/// 256.
-fn file_with(alloc: Global, header: &[u8]) -> Result<Vec<u8>, AllocError> {
-    let mut file = header.to_vec(alloc)?;
+/// A file with the header of this version, its data fork at 256 and its resource fork at 384. To that of version I they are at 128
+/// and 256.
+fn file_with(alloc: Global, version: Version) -> Result<Vec<u8>, AllocError> {
+    let mut file = header_of(alloc, version)?;
     file.resize(256, 0)?;
     file.extend_from_slice(b"abc")?;
     file.resize(384, 0)?;
@@ -82,13 +78,13 @@ fn told(data: usize, resource: usize, flags: u16) -> Contents {
 #[test]
 fn reads_each_version(rt: HostRuntime) -> Result<(), AllocError> {
     let cases = [
-        (HEADER_ONE, Version::I, told(128, 256, 0x0100)),
-        (HEADER_TWO, Version::II, told(256, 384, 0x0120)),
-        (HEADER_THREE, Version::III, told(256, 384, 0x0120)),
+        (Version::I, told(128, 256, 0x0100)),
+        (Version::II, told(256, 384, 0x0120)),
+        (Version::III, told(256, 384, 0x0120)),
     ];
-    for (header, version, wanted) in cases {
+    for (version, wanted) in cases {
         let container = Container::MacBinary(version);
-        let file = file_with(rt.alloc(), header)?;
+        let file = file_with(rt.alloc(), version)?;
         assert_eq!(rt; container_of(&file), Some(container));
         assert_eq!(rt; read_contents(container, &file), Ok(wanted));
     }
@@ -118,7 +114,7 @@ fn told_of_two(length: usize) -> Result<Contents, ContainerFault> {
 #[test]
 fn reads_each_front(rt: HostRuntime) -> Result<(), AllocError> {
     let container = Container::MacBinary(Version::II);
-    let mut front = file_with(rt.alloc(), HEADER_TWO)?;
+    let mut front = file_with(rt.alloc(), Version::II)?;
     for length in (0..390).rev() {
         front.truncate(length);
         let wanted = if length < 128 { None } else { Some(container) };
@@ -152,7 +148,7 @@ fn seen(at: usize, file: &[u8]) -> bool {
 #[test]
 fn sees_each_changed_byte(rt: HostRuntime) -> Result<(), AllocError> {
     for at in 0..128 {
-        let mut file = file_with(rt.alloc(), HEADER_TWO)?;
+        let mut file = file_with(rt.alloc(), Version::II)?;
         if let Some(byte) = file.get_mut(at) {
             *byte ^= 0x55;
         }

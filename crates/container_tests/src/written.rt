@@ -6,6 +6,7 @@ use mac_files::fork_in;
 use mac_write::mac_file::MacFile;
 use mac_write::refusal::Refusal;
 use mac_write::{Target, parts_of, with_fork, write_file};
+use std::alloc::{AllocError, Global};
 
 /// AppleSingle of version 1, listed in the order 2, 3, 1: the name, a byte of no entry, the resource fork, a byte of no entry, and the
 /// data fork.
@@ -92,15 +93,13 @@ const HEADER: &[u8] = b"\
     \x00\x00\x00\x00\x00\x00\x00\x00\x00\x00\x82\x81\x96\xB5\x00\x00";
 
 /// The same with a resource fork of seven bytes.
-const HEADER_LONGER: &[u8] = b"\
-    \x00\x04Name\x00\x00\x00\x00\x00\x00\x00\x00\x00\x00\
-    \x00\x00\x00\x00\x00\x00\x00\x00\x00\x00\x00\x00\x00\x00\x00\x00\
-    \x00\x00\x00\x00\x00\x00\x00\x00\x00\x00\x00\x00\x00\x00\x00\x00\
-    \x00\x00\x00\x00\x00\x00\x00\x00\x00\x00\x00\x00\x00\x00\x00\x00\
-    \x00TEXTttxt\x01\x00\x00\x00\x00\x00\x00\
-    \x00\x00\x00\x00\x00\x00\x03\x00\x00\x00\x07\xB4\x92\xF3\xFF\xB4\
-    \x92\xF4\x00\x00\x02\x20mBIN\x00\x00\x00\x00\x00\x00\
-    \x00\x00\x00\x00\x00\x00\x00\x00\x00\x00\x82\x81\xBE\xDE\x00\x00";
+fn longer_header(alloc: Global) -> Result<Vec<u8>, AllocError> {
+    let mut header = HEADER[..90].to_vec(alloc)?;
+    header.push(7)?;
+    header.extend_from_slice(&HEADER[91..124])?;
+    header.extend_from_slice(b"\xBE\xDE\x00\x00")?;
+    Ok(header)
+}
 
 #[test]
 fn writes_mac_binary(rt: HostRuntime) -> Result<(), Refusal> {
@@ -110,7 +109,7 @@ fn writes_mac_binary(rt: HostRuntime) -> Result<(), Refusal> {
     assert!(rt; file.starts_with(HEADER));
     let longer = with_fork(rt.alloc(), container, &file, b"FORKING")?;
     assert_eq!(rt; longer.len(), 512);
-    assert!(rt; longer.starts_with(HEADER_LONGER));
+    assert!(rt; longer.starts_with(&longer_header(rt.alloc())?));
     assert_eq!(rt; fork_in(container, &file), Ok(Some(b"FORK!".as_slice())));
     assert_eq!(rt;
         fork_in(container, &longer),
