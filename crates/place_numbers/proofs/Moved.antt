@@ -1,10 +1,12 @@
 -- Marks that move to other places.
-use Rattle.std.proofs.Common.{◌≡◌, ℕ, List, ◌++◌, replicate, sym, ap, ◌∙◌, append_assoc, length-append, ◌+◌, ◌-◌, ◌*◌, ◌<◌, ◌≤◌, inl, inr, length, get_or, take, drop, arith, get_or-take, get_or-drop}
+use Rattle.std.proofs.Common.{◌≡◌, ℕ, List, ◌++◌, replicate, sym, ap, ◌∙◌, append_assoc, length-append, ◌+◌, ◌-◌, ◌<◌, ◌≤◌, inl, inr, length, map, get_or, take, drop, arith, get_or-take, get_or-drop}
 use Rattle.std.proofs.lemmas.Bool.{cases_lt}
-use Rattle.std.proofs.lemmas.List.{ext_get_or, get_or_append_left, get_or-append_right, length-replicate, length-take-le, length-drop, take-append-le, drop-append-le}
+use Rattle.std.proofs.lemmas.List.{ext_get_or, get_or_append_left, get_or-append_right, length-replicate, map-id, length-take-le, length-drop, take-append-le, drop-append-le}
 use Rattle.place_numbers.specs.Shifted.{shifted_down, shifted_up}
 use Rattle.place_numbers.specs.Bounds.{AreBounds, AreBoundsOutside}
-use Rattle.place_numbers.proofs.Bounds.{zeros-at, padded-at, less-padded, outside, reached}
+use Rattle.place_numbers.specs.Rows.{padded}
+use Rattle.place_numbers.proofs.Bounds.{outside}
+use Rattle.place_numbers.proofs.Rows.{zeros-at}
 
 -- those of xs from `to + gap` up to `place` have moved down by `gap`, and 0 stands in all other places from `to` on
 pub record MovedDown (xs ys : List ℕ) (to gap place : ℕ) : Type 0 where
@@ -158,34 +160,27 @@ module _ (xs ys : List ℕ) (end gap place : ℕ) (done : MovedUp xs ys end gap 
         | inr past ↦ done.zeros j past early before
       ]
 
--- where a run has moved, zeros maybe put behind the numbers before, the bounds are right at the other places
-pub but-moved : (bs old xs ys zs ws : List ℕ) (k first end : ℕ) → AreBounds old xs → bs ≡ old → ys ≡ xs ++ replicate k 0 → length ys ≤ 32 * length old → ws ≡ zs → length zs ≡ length ys
-    → ((j : ℕ) → j < first → get_or zs j 0 ≡ get_or ys j 0)
-    → ((j : ℕ) → end ≤ j → get_or zs j 0 ≡ get_or ys j 0)
-    → AreBoundsOutside bs ws first end
-but-moved bs old xs ys zs ws k first end bounds same padded room now long below behind =
-    rw (same, now) (outside old xs zs first end first end bounds (omega arith) (λ j low. below j low ∙ before j) (λ j past. behind j past ∙ before j) (omega arith) (omega arith))
-  where
-    before : (j : ℕ) → get_or ys j 0 ≡ get_or xs j 0
-    before j = ap (λ (l : List ℕ). get_or l j 0) padded ∙ padded-at xs k j
+-- where a run has moved, the bounds are right at the other places
+pub but-moved : (bs xs zs : List ℕ) (first end : ℕ) → AreBounds bs xs → length zs ≡ length xs
+    → ((j : ℕ) → j < first → get_or zs j 0 ≡ get_or xs j 0)
+    → ((j : ℕ) → end ≤ j → get_or zs j 0 ≡ get_or xs j 0)
+    → AreBoundsOutside bs zs first end
+but-moved bs xs zs first end bounds long below behind =
+    outside bs xs zs first end first end bounds (let count = bounds.count in omega arith) below behind (omega arith) (omega arith)
 
--- bounds are what they are under any name
-pub along : {bs cs xs ys : List ℕ} → AreBounds bs xs → cs ≡ bs → ys ≡ xs → AreBounds cs ys
-along bounds here there = rw (here, there) bounds
+-- a run that is moved among the numbers that are written
+module _ (ys zs now : List ℕ) (from to n count : ℕ) (view : padded (map (λ x. x) ys) count ≡ now) where
+  plain : ys ++ replicate (count - length ys) 0 ≡ now
+  plain = ap (λ (l : List ℕ). padded l count) (sym (map-id ys)) ∙ view
 
--- a run that is moved among the numbers that are there then
-module _ (xs ys zs now : List ℕ) (from to n count : ℕ) (fits : length xs ≤ count) (view : xs ++ replicate (count - length xs) 0 ≡ now) where
-  all : (end : ℕ) → ys ≡ xs ++ replicate (end - length xs) 0 → end ≤ count → ys ++ replicate (count - length ys) 0 ≡ now
-  all end is inside = ap (λ (l : List ℕ). l ++ replicate (count - length l) 0) is ∙ less-padded xs end count inside fits ∙ view
+  pub view-down : zs ≡ shifted_down from to n ys → to ≤ from → from + n ≤ length ys → padded (map (λ x. x) zs) count ≡ shifted_down from to n now
+  view-down moved down reach =
+      ap (λ (l : List ℕ). padded l count) (map-id zs)
+      ∙ (λ i. moved i ++ replicate (count - (ap length moved ∙ (shifted-down ys from to n down reach).len) i) 0)
+      ∙ padded-down ys from to n (count - length ys) down reach ∙ ap (shifted_down from to n) plain
 
-  pub view-down : ys ≡ xs ++ replicate (from + n - length xs) 0 → zs ≡ shifted_down from to n ys → to ≤ from → from + n ≤ count → zs ++ replicate (count - length zs) 0 ≡ shifted_down from to n now
-  view-down is moved down inside =
-      let reach = reached xs ys (from + n) is in
-      (λ i. moved i ++ replicate (count - (ap length moved ∙ (shifted-down ys from to n down reach).len) i) 0)
-      ∙ padded-down ys from to n (count - length ys) down reach ∙ ap (shifted_down from to n) (all (from + n) is inside)
-
-  pub view-up : ys ≡ xs ++ replicate (to + n - length xs) 0 → zs ≡ shifted_up from to n ys → from ≤ to → to + n ≤ count → zs ++ replicate (count - length zs) 0 ≡ shifted_up from to n now
-  view-up is moved up inside =
-      let reach = reached xs ys (to + n) is in
-      (λ i. moved i ++ replicate (count - (ap length moved ∙ (shifted-up ys from to n up reach).len) i) 0)
-      ∙ padded-up ys from to n (count - length ys) up reach ∙ ap (shifted_up from to n) (all (to + n) is inside)
+  pub view-up : zs ≡ shifted_up from to n ys → from ≤ to → to + n ≤ length ys → padded (map (λ x. x) zs) count ≡ shifted_up from to n now
+  view-up moved up reach =
+      ap (λ (l : List ℕ). padded l count) (map-id zs)
+      ∙ (λ i. moved i ++ replicate (count - (ap length moved ∙ (shifted-up ys from to n up reach).len) i) 0)
+      ∙ padded-up ys from to n (count - length ys) up reach ∙ ap (shifted_up from to n) plain

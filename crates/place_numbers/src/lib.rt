@@ -4,13 +4,19 @@
 
 ghost use Rattle.std.specs.Prelude.{◌≡◌, ◌<◌, length, set};
 
-pub mod marks;
-pub mod sizes;
+mod levels;
+mod number;
+mod row;
 
-use marks::Marks;
-use sizes::Sizes;
+use levels::Levels;
 use std::alloc::{AllocError, Global};
 use std::marker::Model;
+
+/// Numbers of a byte each.
+pub type Marks = Levels<u8>;
+
+/// Numbers of any size.
+type Sizes = Levels<u32>;
 
 /// The mark of each number that is at least as large.
 const LARGE: u8 = 255;
@@ -105,7 +111,7 @@ impl Numbers {
         ensures { self.new ≡ shifted_down from to count self.old }
     {
         self.marks.shift_down(from, to, count, sparse);
-        self.sizes.shift_down(from, to, count);
+        self.sizes.shift_few_down(from, to, count);
     }
 
     /// Moves the `count` numbers from `from` on up to `to` and behind. Those that stood there are gone, and as many zeros stand
@@ -116,7 +122,7 @@ impl Numbers {
         ensures { self.new ≡ shifted_up from to count self.old }
     {
         self.marks.shift_up(from, to, count, sparse);
-        self.sizes.shift_up(from, to, count);
+        self.sizes.shift_few_up(from, to, count);
     }
 
     /// The first place, `from` or behind it, whose number is at least `least`.
@@ -126,7 +132,7 @@ impl Numbers {
         ensures none { IfNone result ((j : ℕ) → from ≤ j → j < length self.now → slice_index self.now j < least) }
     {
         if least <= LARGE as u32 {
-            self.marks.first_at_least(least as u8, from)
+            self.marks.first_at_least(least, from)
         } else {
             self.sizes.first_at_least(least, from)
         }
@@ -140,7 +146,7 @@ impl Numbers {
         ensures none { IfNone result ((j : ℕ) → j < end → slice_index self.now j < least) }
     {
         if least <= LARGE as u32 {
-            self.marks.last_at_least(least as u8, end)
+            self.marks.last_at_least(least, end)
         } else {
             self.sizes.last_at_least(least, end)
         }

@@ -11,7 +11,7 @@ ghost use Rattle.zone_index.specs.Search.{LastFixed, NoneBelow};
 use crate::search::{Fixed, next_passing, passes_at};
 use linked_zone::LinkedZone;
 use mac_base::size::ZONE_HEADER;
-use place_numbers::marks::Marks;
+use place_numbers::Marks;
 
 /// The address of the last fixed block below an address, if there is one.
 fn last_fixed(zone: &LinkedZone, marks: &Marks, end: u32) -> Option<u32>

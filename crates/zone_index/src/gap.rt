@@ -13,7 +13,7 @@ use crate::leaves::{freshen, most_room, reached};
 use crate::zone::IndexedZone;
 use block_sums::Span;
 use linked_zone::LinkedZone;
-use place_numbers::marks::Marks;
+use place_numbers::Marks;
 use sum_tree::StaleTree;
 
 impl IndexedZone {

@@ -3,7 +3,7 @@
 ghost use Rattle.std.specs.Prelude.{◌≡◌, ℕ, ◌+◌, ◌≤◌, ◌<◌, length, set, slice_index, IsFalse};
 ghost use Rattle.zone_index.specs.Turning.{IsCarried, IsSunk};
 
-use place_numbers::marks::Marks;
+use place_numbers::Marks;
 
 /// Where a block changes places with so many times fewer bytes than it has, few marks are thought to stand among them.
 const FEW_PLACES: usize = 256;

@@ -8,7 +8,7 @@ ghost use Rattle.zone_index.specs.Search.{NextPassing, NonePassing};
 use crate::purging::may_purge;
 use linked_zone::LinkedZone;
 use mac_base::block::{Block, Kind};
-use place_numbers::marks::Marks;
+use place_numbers::Marks;
 
 /// A test of blocks, for which marks are kept.
 pub(crate) trait BlockTest {

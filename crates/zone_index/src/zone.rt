@@ -11,7 +11,7 @@ use mac_base::error::HostFull;
 use mac_base::handle::Handle;
 use mac_base::size::ZONE_HEADER;
 use mac_base::zone_spec::ZoneSpec;
-use place_numbers::marks::Marks;
+use place_numbers::Marks;
 use std::alloc::Global;
 use std::marker::Model;
 use sum_tree::StaleTree;
