@@ -16,4 +16,4 @@ pub use loan_call::LoanCall;
 pub use memory_call::{MemoryCall, Span};
 pub use no_procedure::NoProcedure;
 pub use reply::{BlockList, Outcome, Reply, ResourceInfo, Results};
-pub use resource_call::ResourceCall;
+pub use resource_call::{ChangingCall, GettingCall, LookingCall, ResourceCall, WritingCall};

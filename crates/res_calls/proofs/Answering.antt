@@ -4,12 +4,13 @@ use Rattle.std.proofs.lemmas.Bool.{eq-eqb, eqb-true}
 use Rattle.mac_base.specs.declared.error.OsErr.{OsErr}
 use Rattle.mac_calls.specs.declared.memory_call.MemoryCall.{MemoryCall}
 use Rattle.mac_calls.specs.declared.resource_call.ResourceCall.{ResourceCall}
-use Rattle.mac_calls.specs.declared.resource_call.ResourceCall.TheVariants as calls
+use Rattle.mac_calls.specs.declared.resource_call.ResourceCall.TheVariants.{Getting}
+use Rattle.mac_calls.specs.declared.resource_call.GettingCall.{GettingCall}
 use Rattle.mac_calls.specs.GrowZone.{Ask}
 use Rattle.mac_calls.specs.Outcomes.{Outcome}
 use Rattle.res_table.specs.declared.chain.RowPlace.{RowPlace}
 use Rattle.res_table.specs.OpenFiles.{row_at}
-use Rattle.res_calls.specs.Answered.{AnswersStep, AreHonest, IsAnswered, answered_disks, file_of_work, known_disks, known_file, known_row, known_state}
+use Rattle.res_calls.specs.Answered.{AnswersStep, AreHonest, IsAnswered, WasAnswered, answered_disks, file_of_work, known_disks, known_file, known_row, known_state}
 use Rattle.res_calls.specs.Changes.{FileRow, FileTable, saved_table}
 use Rattle.res_table.specs.declared.chain.OpenFile.{OpenFile}
 use Rattle.fork_bytes.specs.Written.{written}
@@ -17,7 +18,7 @@ use Rattle.std.specs.Prelude.{MatchBool, ⊤}
 use Rattle.std.specs.Option.{IsSomeAnd, option_map_or}
 use Rattle.res_calls.specs.Device.{Device, Works as Working, FailsBefore, FailsWriting, Anything, Disk, DiskRelations, LeaveRelation, ReadsBy, device_works, read_truly}
 use Rattle.res_calls.specs.Files.{ResState, ResourceEnd, disk_of}
-use Rattle.res_calls.specs.Loads.{gets, loads_bytes, placing, row_wanted}
+use Rattle.res_calls.specs.Loads.{loads_bytes, placing, row_wanted}
 use Rattle.res_calls.specs.Steps.{GetsPlace, GetsRow, IsSaved, LeavesDisk, MemoryRelation, ReadsBack, ResourceStepBy, StepsUnless, Work, Gets, Updates, Opens, Quiet, Works, update_in, work_of}
 use Rattle.res_calls.specs.Tests.{resource_refusal}
 use Rattle.res_calls.specs.Updates.{Update}
@@ -93,17 +94,14 @@ pub answered_back : (honest : ℕ → Type 0) (a b : ResState) → IsAnswered ho
 answered_back honest a b answers known is = sym (answers known is)
 
 -- the state before a step is as the devices answered
-pub answered_before : (honest : ℕ → Type 0) (call : ResourceCall) (old before : ResState) → MatchBool (gets call) (IsAnswered honest old before) (before ≡ old) → IsAnswered honest old before
-answered_before honest call old before was = by (gets call) was
-  where
-    by : (b : Bool) → MatchBool b (IsAnswered honest old before) (before ≡ old) → IsAnswered honest old before
-    by true was = was
-    by false same = subst (IsAnswered honest old) (sym same) (itself honest old)
+pub answered_before : (honest : ℕ → Type 0) (call : ResourceCall) (old before : ResState) → WasAnswered honest old call before → IsAnswered honest old before
+answered_before honest (Getting call) old before was = was
+answered_before honest _ old before same = subst (IsAnswered honest old) (sym same) (itself honest old)
 
 -- and where it is the same, it is so
-pub before_itself : (honest : ℕ → Type 0) (b : Bool) (state : ResState) → MatchBool b (IsAnswered honest state state) (state ≡ state)
-before_itself honest true state = itself honest state
-before_itself honest false state = refl
+pub before_itself : (honest : ℕ → Type 0) (call : ResourceCall) (state : ResState) → WasAnswered honest state call state
+before_itself honest (Getting call) state = itself honest state
+before_itself honest _ state = refl
 
 -- ---- steps
 
@@ -158,15 +156,15 @@ fewer_honest honest fewer worked Failed Memory may_leave old call asks outcome n
   device = s.device;
   before = s.before;
   after = s.after;
-  was = same_before (gets call) s.was;
+  was = same_before call s.was;
   becomes = λ known are. s.becomes known (λ k here. these k (are k here));
   step = step_wider Memory (answered_disks honest may_leave) (answered_disks fewer Anything) (λ k a b left leaves. λ h. tt) (λ k disk read reads. (reads.0, λ h. reads.1 (these k h))) s.device s.before call asks (record { outcome = outcome; state = s.after }) s.step;
   cause = by s.device (file_of_work (work_of s.before call)) s.cause;
 }
   where
-    same_before : (b : Bool) → MatchBool b (IsAnswered honest old s.before) (s.before ≡ old) → MatchBool b (IsAnswered fewer old s.before) (s.before ≡ old)
-    same_before true was = λ known are. was known (λ k here. these k (are k here))
-    same_before false same = same
+    same_before : (c : ResourceCall) → WasAnswered honest old c s.before → WasAnswered fewer old c s.before
+    same_before (Getting c) was = λ known are. was known (λ k here. these k (are k here))
+    same_before _ same = same
 
     any_file : (file : Option ℕ) → IsSomeAnd file Failed → IsSomeAnd file (λ k. ⊤)
     any_file None failed = absurd failed
@@ -191,9 +189,5 @@ idle : (o : Option RowPlace) → update_in (option_map_or Gets o Quiet) ≡ None
 idle None = refl
 idle (Some p) = refl
 
-pub gets_none : (state : ResState) (call : ResourceCall) → gets call ≡ true → update_in (work_of state call) ≡ None
-gets_none state (calls.GetResource kind id) is = idle (row_wanted state (calls.GetResource kind id))
-gets_none state (calls.Get1Resource kind id) is = idle (row_wanted state (calls.Get1Resource kind id))
-gets_none state (calls.GetIndResource kind i) is = idle (row_wanted state (calls.GetIndResource kind i))
-gets_none state (calls.LoadResource h) is = idle (row_wanted state (calls.LoadResource h))
-gets_none state _ is = absurd (cc is)
+pub gets_none : (state : ResState) (call : GettingCall) → update_in (work_of state (Getting call)) ≡ None
+gets_none state call = idle (row_wanted state (Getting call))

@@ -6,13 +6,13 @@ use Rattle.mac_base.specs.declared.error.OsErr.TheVariants.{EofErr, MapReadErr}
 use Rattle.mac_base.specs.HandleTable.{zeros}
 use Rattle.fork_bytes.specs.declared.table.Table.{Table}
 use Rattle.mac_calls.specs.declared.resource_call.ResourceCall.{ResourceCall}
+use Rattle.mac_calls.specs.declared.resource_call.ResourceCall.TheVariants.{Getting}
 use Rattle.mac_calls.specs.GrowZone.{Ask}
 use Rattle.mac_calls.specs.Outcomes.{Outcome}
 use Rattle.res_table.specs.declared.chain.OpenFile.{OpenFile}
 use Rattle.res_calls.specs.Changes.{Files, FileRow, FileTable, opened_table}
 use Rattle.res_calls.specs.Device.{Device, Disk, DiskRelations, LeaveRelation, Reads, device_works}
 use Rattle.res_calls.specs.Files.{ResState}
-use Rattle.res_calls.specs.Loads.{gets}
 use Rattle.res_calls.specs.Steps.{MemoryRelation, ResourceStepBy, Work, Gets, Updates, Opens, Quiet, work_of}
 
 -- bytes, or where they aren't known a zero for each
@@ -78,6 +78,11 @@ file_of_work (Updates u) = Some u.file
 file_of_work (Opens k) = Some k
 file_of_work Quiet = None
 
+-- before the step of a call that gets or loads a resource the state is as the devices answered, and else the old one
+abbrev pub WasAnswered : (ℕ → Type 0) → ResState → ResourceCall → ResState → Type 0
+WasAnswered honest old (Getting call) before = IsAnswered honest old before
+WasAnswered honest old _ before = before ≡ old
+
 -- From the old state, the call with these asks may have this outcome and leave the new one, by what the devices answered: from the
 -- state as they answered before it, it is a step to the state as they answered after it. Only a call that gets or loads a resource reads
 -- bytes of a row before its step. A device failed in it just where a count of failures rose, that of the store of the file that the call
@@ -87,7 +92,7 @@ pub record AnswersStep (honest : ℕ → Type 0) (worked : Type 0) (Failed : ℕ
   pub device : Device
   pub before : ResState
   pub after : ResState
-  pub was : MatchBool (gets call) (IsAnswered honest old before) (before ≡ old)
+  pub was : WasAnswered honest old call before
   pub becomes : IsAnswered honest new after
   pub step : ResourceStepBy Memory (answered_disks honest may_leave) device before call asks (record { outcome = outcome; state = after })
   pub cause : MatchBool (device_works device) worked (IsSomeAnd (file_of_work (work_of before call)) Failed)

@@ -1,5 +1,5 @@
 -- Loads: the bytes of a row on the disk, put behind a handle.
-use Rattle.std.specs.Prelude.{ℕ, ◌==◌, Bool, true, false, not, ◌&&◌, ◌||◌, length, Option, Some, None, is_some, unwrap_or, if◌then◌else◌, Ok, Err, option_map, option_and_then}
+use Rattle.std.specs.Prelude.{ℕ, ◌==◌, Bool, true, not, ◌&&◌, ◌||◌, length, Option, Some, None, is_some, unwrap_or, if◌then◌else◌, Ok, Err, option_map, option_and_then}
 use Rattle.std.specs.Option.{option_map_or}
 use Rattle.mac_base.specs.declared.block.Flags.{Flags}
 use Rattle.mac_base.specs.declared.error.OsErr.TheVariants.{IoErr}
@@ -17,7 +17,8 @@ use Rattle.res_table.specs.declared.chain.RowPlace.{RowPlace}
 use Rattle.res_table.specs.OpenFiles.{place_of_handle, place_of_resource, place_here}
 use Rattle.res_calls.specs.Changes.{FileRow, current_rows, row_changed}
 use Rattle.mac_calls.specs.declared.resource_call.ResourceCall.{ResourceCall}
-use Rattle.mac_calls.specs.declared.resource_call.ResourceCall.TheVariants as call
+use Rattle.mac_calls.specs.declared.resource_call.ResourceCall.TheVariants.{Getting}
+use Rattle.mac_calls.specs.declared.resource_call.GettingCall.TheVariants.{GetResource, Get1Resource, GetIndResource, LoadResource}
 use Rattle.mac_calls.specs.declared.reply.Results.{Results}
 use Rattle.mac_calls.specs.declared.reply.Results.TheVariants.{Nothing, Handle}
 use Rattle.res_calls.specs.Device.{Device, device_works}
@@ -25,23 +26,15 @@ use Rattle.res_calls.specs.Files.{ResState, ResourceEnd, refused_with, with_heap
 
 -- the row that a call gets or loads, if it does
 abbrev pub row_wanted : ResState → ResourceCall → Option RowPlace
-row_wanted state (call.GetResource kind id) = place_of_resource kind id state.files
-row_wanted state (call.Get1Resource kind id) = place_here kind id state.files
-row_wanted state (call.GetIndResource kind i) = option_and_then (λ k. option_map (λ at. record { file = k; index = at }) (index_of_ith kind i (current_rows state.files))) state.files.current
-row_wanted state (call.LoadResource h) = place_of_handle h state.files
+row_wanted state (Getting (GetResource kind id)) = place_of_resource kind id state.files
+row_wanted state (Getting (Get1Resource kind id)) = place_here kind id state.files
+row_wanted state (Getting (GetIndResource kind i)) = option_and_then (λ k. option_map (λ at. record { file = k; index = at }) (index_of_ith kind i (current_rows state.files))) state.files.current
+row_wanted state (Getting (LoadResource h)) = place_of_handle h state.files
 row_wanted state call = None
-
--- whether a call gets or loads a resource
-abbrev pub gets : ResourceCall → Bool
-gets (call.GetResource kind id) = true
-gets (call.Get1Resource kind id) = true
-gets (call.GetIndResource kind i) = true
-gets (call.LoadResource h) = true
-gets _ = false
 
 -- whether such a call loads the row's bytes: LoadResource always does
 abbrev pub loads_bytes : ResState → ResourceCall → Bool
-loads_bytes state (call.LoadResource h) = true
+loads_bytes state (Getting (LoadResource h)) = true
 loads_bytes state call = state.loads
 
 -- the call of the Memory Manager that makes the place for a row's bytes. A row with a block needs none, nor one with an empty handle where nothing is to be loaded.
@@ -69,7 +62,7 @@ read_fails device loads r = loads && (not (length r.resource.datum == 0) && not 
 
 -- what a call gives that got or loaded the row with this handle
 abbrev pub loaded_results : ResourceCall → ℕ → Results
-loaded_results (call.LoadResource h) g = Nothing
+loaded_results (Getting (LoadResource h)) g = Nothing
 loaded_results _ g = Handle g
 
 -- the handle that a row has once its place is made

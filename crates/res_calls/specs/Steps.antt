@@ -16,7 +16,8 @@ use Rattle.res_table.specs.declared.chain.RowPlace.{RowPlace}
 use Rattle.res_table.specs.OpenFiles.{is_open, file_opened, row_at}
 use Rattle.res_calls.specs.Changes.{FileRow, FileTable, saved_table, handles_forgotten}
 use Rattle.mac_calls.specs.declared.resource_call.ResourceCall.{ResourceCall}
-use Rattle.mac_calls.specs.declared.resource_call.ResourceCall.TheVariants as call
+use Rattle.mac_calls.specs.declared.resource_call.ResourceCall.TheVariants.{Writing, OpenResFile}
+use Rattle.mac_calls.specs.declared.resource_call.WritingCall.TheVariants.{WriteResource, UpdateResFile, CloseResFile}
 use Rattle.mac_calls.specs.declared.reply.Results.TheVariants.{Number}
 use Rattle.res_calls.specs.Device.{Device, FailsWriting, Disk, DiskRelations, ReadsBy}
 use Rattle.res_calls.specs.Files.{ResState, ResourceEnd, refused_with, with_heap, with_files, disk_of}
@@ -38,10 +39,10 @@ updating update = option_map_or Updates update Quiet
 
 -- the work of a call
 abbrev pub work_of : ResState → ResourceCall → Work
-work_of state (call.WriteResource h) = updating (row_update state h)
-work_of state (call.UpdateResFile named) = updating (file_update state named)
-work_of state (call.CloseResFile named) = updating (file_update state named)
-work_of state (call.OpenResFile k) = if is_open k state.files then Quiet else Opens k
+work_of state (Writing (WriteResource h)) = updating (row_update state h)
+work_of state (Writing (UpdateResFile named)) = updating (file_update state named)
+work_of state (Writing (CloseResFile named)) = updating (file_update state named)
+work_of state (OpenResFile k) = if is_open k state.files then Quiet else Opens k
 work_of state call = option_map_or Gets (row_wanted state call) Quiet
 
 -- the state behind a call of the Memory Manager that asked so and left this heap: rows have forgotten what answers disposed of

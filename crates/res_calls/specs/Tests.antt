@@ -15,7 +15,11 @@ use Rattle.res_table.specs.Rows.{is_changed, added, index_of_ith, ith}
 use Rattle.res_table.specs.OpenFiles.{is_open, place_of_handle, place_of_resource, place_here}
 use Rattle.res_calls.specs.Changes.{Files, FileRow, rows_of, current_rows}
 use Rattle.mac_calls.specs.declared.resource_call.ResourceCall.{ResourceCall}
-use Rattle.mac_calls.specs.declared.resource_call.ResourceCall.TheVariants as call
+use Rattle.mac_calls.specs.declared.resource_call.ResourceCall.TheVariants.{Getting, Looking, Changing, Writing, OpenResFile, AddResource, GetResInfo}
+use Rattle.mac_calls.specs.declared.resource_call.GettingCall.TheVariants.{GetResource, Get1Resource, GetIndResource, LoadResource}
+use Rattle.mac_calls.specs.declared.resource_call.LookingCall.TheVariants.{GetResAttrs, SizeResource, HomeResFile, UniqueID, CountTypes, CountResources, GetIndType, CurResFile}
+use Rattle.mac_calls.specs.declared.resource_call.ChangingCall.TheVariants.{ReleaseResource, DetachResource, RemoveResource, ChangedResource, SetResAttrs, SetResLoad, UseResFile}
+use Rattle.mac_calls.specs.declared.resource_call.WritingCall.TheVariants.{WriteResource, UpdateResFile, CloseResFile}
 use Rattle.res_calls.specs.Files.{ResState, current_types, file_named}
 use Rattle.res_calls.specs.Updates.{new_row, row_passes, file_update, row_update, can_be_made}
 
@@ -92,31 +96,31 @@ first_refused_for state (test ∷ tests) = option_or (refused_for state test) (f
 
 -- the tests of each call, in their order
 abbrev pub resource_tests : ResourceCall → List ResourceTest
-resource_tests (call.GetResource kind id) = HasFile ∷ IsId id ∷ IsFound kind id ∷ []
-resource_tests (call.Get1Resource kind id) = HasFile ∷ IsId id ∷ IsFoundHere kind id ∷ []
-resource_tests (call.GetIndResource kind i) = HasFile ∷ HasIth kind i ∷ []
-resource_tests (call.LoadResource h) = HasFile ∷ HasRow ResNotFound h ∷ []
-resource_tests (call.ReleaseResource h) = HasFile ∷ HasRow ResNotFound h ∷ UnlentUnchanged h ∷ []
-resource_tests (call.DetachResource h) = HasFile ∷ HasRow ResNotFound h ∷ LacksBit ResAttrErr res_changed h ∷ []
-resource_tests (call.ChangedResource h) = HasFile ∷ HasRow ResNotFound h ∷ LacksBit ResAttrErr res_protected h ∷ []
-resource_tests (call.RemoveResource h) = HasFile ∷ HasRow RmvResFailed h ∷ LacksBit RmvResFailed res_protected h ∷ []
-resource_tests (call.WriteResource h) = HasFile ∷ HasRow ResNotFound h ∷ UnlentChanged h ∷ CanWriteRow h ∷ []
-resource_tests (call.GetResAttrs h) = HasFile ∷ HasRow ResNotFound h ∷ []
-resource_tests (call.GetResInfo h) = HasFile ∷ HasRow ResNotFound h ∷ []
-resource_tests (call.SizeResource h) = HasFile ∷ HasRow ResNotFound h ∷ []
-resource_tests (call.HomeResFile h) = HasFile ∷ HasRow ResNotFound h ∷ []
-resource_tests (call.SetResAttrs h n) = HasFile ∷ HasRow ResNotFound h ∷ IsAttributes n ∷ []
-resource_tests (call.AddResource h kind id name) = HasFile ∷ IsId id ∷ MayBeAdded h kind id name ∷ []
-resource_tests (call.UpdateResFile named) = HasFile ∷ IsOpen named ∷ ChangedUnlent named ∷ CanWriteFile named ∷ []
-resource_tests (call.CloseResFile named) = HasFile ∷ IsOpen named ∷ AllUnlent named ∷ CanWriteFile named ∷ []
-resource_tests (call.UniqueID kind) = HasFile ∷ []
-resource_tests (call.CountResources kind) = HasFile ∷ []
-resource_tests call.CountTypes = HasFile ∷ []
-resource_tests (call.GetIndType i) = HasFile ∷ HasIthType i ∷ []
-resource_tests (call.UseResFile k) = HasFile ∷ IsOpen (Some k) ∷ []
-resource_tests (call.OpenResFile k) = IsFile k ∷ []
-resource_tests (call.SetResLoad n) = []
-resource_tests call.CurResFile = []
+resource_tests (Getting (GetResource kind id)) = HasFile ∷ IsId id ∷ IsFound kind id ∷ []
+resource_tests (Getting (Get1Resource kind id)) = HasFile ∷ IsId id ∷ IsFoundHere kind id ∷ []
+resource_tests (Getting (GetIndResource kind i)) = HasFile ∷ HasIth kind i ∷ []
+resource_tests (Getting (LoadResource h)) = HasFile ∷ HasRow ResNotFound h ∷ []
+resource_tests (Changing (ReleaseResource h)) = HasFile ∷ HasRow ResNotFound h ∷ UnlentUnchanged h ∷ []
+resource_tests (Changing (DetachResource h)) = HasFile ∷ HasRow ResNotFound h ∷ LacksBit ResAttrErr res_changed h ∷ []
+resource_tests (Changing (ChangedResource h)) = HasFile ∷ HasRow ResNotFound h ∷ LacksBit ResAttrErr res_protected h ∷ []
+resource_tests (Changing (RemoveResource h)) = HasFile ∷ HasRow RmvResFailed h ∷ LacksBit RmvResFailed res_protected h ∷ []
+resource_tests (Writing (WriteResource h)) = HasFile ∷ HasRow ResNotFound h ∷ UnlentChanged h ∷ CanWriteRow h ∷ []
+resource_tests (Looking (GetResAttrs h)) = HasFile ∷ HasRow ResNotFound h ∷ []
+resource_tests (GetResInfo h) = HasFile ∷ HasRow ResNotFound h ∷ []
+resource_tests (Looking (SizeResource h)) = HasFile ∷ HasRow ResNotFound h ∷ []
+resource_tests (Looking (HomeResFile h)) = HasFile ∷ HasRow ResNotFound h ∷ []
+resource_tests (Changing (SetResAttrs h n)) = HasFile ∷ HasRow ResNotFound h ∷ IsAttributes n ∷ []
+resource_tests (AddResource h kind id name) = HasFile ∷ IsId id ∷ MayBeAdded h kind id name ∷ []
+resource_tests (Writing (UpdateResFile named)) = HasFile ∷ IsOpen named ∷ ChangedUnlent named ∷ CanWriteFile named ∷ []
+resource_tests (Writing (CloseResFile named)) = HasFile ∷ IsOpen named ∷ AllUnlent named ∷ CanWriteFile named ∷ []
+resource_tests (Looking (UniqueID kind)) = HasFile ∷ []
+resource_tests (Looking (CountResources kind)) = HasFile ∷ []
+resource_tests (Looking CountTypes) = HasFile ∷ []
+resource_tests (Looking (GetIndType i)) = HasFile ∷ HasIthType i ∷ []
+resource_tests (Changing (UseResFile k)) = HasFile ∷ IsOpen (Some k) ∷ []
+resource_tests (OpenResFile k) = IsFile k ∷ []
+resource_tests (Changing (SetResLoad n)) = []
+resource_tests (Looking CurResFile) = []
 
 -- the refusal of a call, if it is refused before anything is asked or changed
 abbrev pub resource_refusal : ResState → ResourceCall → Option OsErr

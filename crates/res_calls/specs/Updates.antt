@@ -13,7 +13,8 @@ use Rattle.res_table.specs.declared.chain.RowPlace.{RowPlace}
 use Rattle.res_table.specs.OpenFiles.{table_of, place_of_handle, file_closed, rows_changed}
 use Rattle.res_calls.specs.Changes.{Files, FileRow, FileTable, rows_of, row_of_handle, with_changed_rows, saved_table}
 use Rattle.mac_calls.specs.declared.resource_call.ResourceCall.{ResourceCall}
-use Rattle.mac_calls.specs.declared.resource_call.ResourceCall.TheVariants as call
+use Rattle.mac_calls.specs.declared.resource_call.ResourceCall.TheVariants.{Writing}
+use Rattle.mac_calls.specs.declared.resource_call.WritingCall.TheVariants.{CloseResFile}
 use Rattle.mac_calls.specs.declared.reply.Results.TheVariants.{Nothing}
 use Rattle.mac_calls.specs.declared.memory_call.MemoryCall.TheVariants.{DisposeHandle}
 use Rattle.mac_calls.specs.ExactStep.{heap_after}
@@ -82,7 +83,7 @@ disposed s hs heap = heap_after s heap (map DisposeHandle hs)
 
 -- the state behind an update: CloseResFile disposes of the handles of the file's rows, in order, and closes it
 abbrev pub behind_update : ResourceCall → ℕ → ResState → ResState
-behind_update (call.CloseResFile named) k state = with_heap (disposed state.shape (handles_of (rows_of k state.files)) state.heap) (with_files (file_closed k state.files) state)
+behind_update (Writing (CloseResFile named)) k state = with_heap (disposed state.shape (handles_of (rows_of k state.files)) state.heap) (with_files (file_closed k state.files) state)
 behind_update _ k state = state
 
 -- The end of a call that makes an update. A fault before the first write changes nothing; a later one closes the file, and its handles live on.

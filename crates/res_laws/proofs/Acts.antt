@@ -21,7 +21,9 @@ use Rattle.mac_calls.specs.declared.memory_call.MemoryCall.TheVariants as memory
 use Rattle.mac_calls.specs.declared.reply.Results.{Results}
 use Rattle.mac_calls.specs.declared.reply.Results.TheVariants as results
 use Rattle.mac_calls.specs.declared.resource_call.ResourceCall.{ResourceCall}
-use Rattle.mac_calls.specs.declared.resource_call.ResourceCall.TheVariants as call
+use Rattle.mac_calls.specs.declared.resource_call.ResourceCall.TheVariants.{Getting, Changing, Writing, OpenResFile, AddResource}
+use Rattle.mac_calls.specs.declared.resource_call.ChangingCall.TheVariants.{ReleaseResource, DetachResource, RemoveResource}
+use Rattle.mac_calls.specs.declared.resource_call.WritingCall.TheVariants.{WriteResource, UpdateResFile, CloseResFile}
 use Rattle.mac_calls.specs.Effect.{request_of, table_copied}
 use Rattle.mac_calls.specs.ExactStep.{exact_step, heap_after, step_asking, step_unless}
 use Rattle.mac_calls.specs.GrowZone.{Ask}
@@ -93,7 +95,7 @@ module _ (loans : Loans) where
       called s old rc heap (memory_call.DisposeHandle h) (disposed s hs next) inner.0 refl (disposed-done s old rc hs next inner.1)
 
   -- those of a file that is closed
-  closed-inner : (old : ResState) (named : Option ℕ) (hs : List ℕ) → AllByRecursion (λ h. IsInner old (call.CloseResFile named) (memory_call.DisposeHandle h)) hs
+  closed-inner : (old : ResState) (named : Option ℕ) (hs : List ℕ) → AllByRecursion (λ h. IsInner old (Writing (CloseResFile named)) (memory_call.DisposeHandle h)) hs
   closed-inner old named [] = tt
   closed-inner old named (h ∷ hs) = ((h, refl), closed-inner old named hs)
 
@@ -209,12 +211,8 @@ module _ (loans : Loans) where
 
     -- its place is made by the call that it needs
     wanted-inner : (rc' : ResourceCall) (inner : MemoryCall) → row_wanted old rc' ≡ Some p → placing old.heap.table (loads_bytes old rc') r ≡ Some inner → IsInner old rc' inner
-    wanted-inner (call.ReleaseResource h) inner wanted is = absurd (cc wanted)
-    wanted-inner (call.DetachResource h) inner wanted is = absurd (cc wanted)
-    wanted-inner (call.RemoveResource h) inner wanted is = absurd (cc wanted)
-    wanted-inner (call.AddResource h kind id name) inner wanted is = absurd (cc wanted)
-    wanted-inner (call.CloseResFile named) inner wanted is = absurd (cc wanted)
-    wanted-inner rc' inner wanted is = (p, r, wanted, stands, is)
+    wanted-inner (Getting call) inner wanted is = (p, r, wanted, stands, is)
+    wanted-inner _ inner wanted is = absurd (cc wanted)
 
     gets-done : (device : Device) (asks : List Ask) (end : ResourceEnd) (disks : ℕ → DiskRelations) (o : Option MemoryCall) → old.shape ≡ s → placing old.heap.table (loads_bytes old rc) r ≡ o → GetsRow Memory disks device old rc asks end p r o → MadeOf s (IsActOf old rc) old.heap end.state.heap
     gets-done device asks end disks None shape is gets = none-done s (IsActOf old rc) old.heap end.state.heap (ap (λ (e : ResourceEnd). e.state.heap) gets.1)
@@ -250,11 +248,11 @@ module _ (loans : Loans) where
 
     -- the heap behind an update that succeeded
     update-done : (rc' : ResourceCall) (k : ℕ) (state : ResState) → state.shape ≡ old.shape → state.heap ≡ old.heap → MadeOf old.shape (IsActOf old rc') old.heap (behind_update rc' k state).heap
-    update-done (call.CloseResFile named) k state shape heap =
+    update-done (Writing (CloseResFile named)) k state shape heap =
         let hs = handles_of (rows_of k state.files) in
-        let May = IsActOf old (call.CloseResFile named) in
+        let May = IsActOf old (Writing (CloseResFile named)) in
         subst (λ heap. MadeOf old.shape May old.heap (disposed state.shape hs heap)) (sym heap)
-        (subst (λ s. MadeOf old.shape May old.heap (disposed s hs old.heap)) (sym shape) (disposed-done old.shape old (call.CloseResFile named) hs old.heap (closed-inner old named hs)))
+        (subst (λ s. MadeOf old.shape May old.heap (disposed s hs old.heap)) (sym shape) (disposed-done old.shape old (Writing (CloseResFile named)) hs old.heap (closed-inner old named hs)))
     update-done rc' k state shape heap = none-done old.shape (IsActOf old rc') old.heap state.heap heap
 
     updates-done : (device : Device) (u : Update) → Made (update_end device rc u old).state.heap
@@ -267,23 +265,23 @@ module _ (loans : Loans) where
     opened-done k (Err code) = same-done old.heap refl
 
     quiet-done : (rc' : ResourceCall) → MadeOf old.shape (IsActOf old rc') old.heap (quiet_state rc' old).heap
-    quiet-done (call.ReleaseResource h) =
-        let May = IsActOf old (call.ReleaseResource h) in
+    quiet-done (Changing (ReleaseResource h)) =
+        let May = IsActOf old (Changing (ReleaseResource h)) in
         elim (row_passes is_changed h old.files) as (λ b. MadeOf old.shape May old.heap (cond b old (with_heap (disposed old.shape (h ∷ []) old.heap) (with_files (handle_forgotten h old.files) old))).heap) [
           | true ↦ none-done old.shape May old.heap old.heap refl
-          | false ↦ disposed-done old.shape old (call.ReleaseResource h) (h ∷ []) old.heap (refl, tt)
+          | false ↦ disposed-done old.shape old (Changing (ReleaseResource h)) (h ∷ []) old.heap (refl, tt)
         ]
-    quiet-done (call.DetachResource h) = once-done old.shape old (call.DetachResource h) (memory_call.HClrRBit h) old.heap refl refl
-    quiet-done (call.RemoveResource h) = once-done old.shape old (call.RemoveResource h) (memory_call.HClrRBit h) old.heap refl refl
-    quiet-done (call.AddResource h kind id name) = once-done old.shape old (call.AddResource h kind id name) (memory_call.HSetRBit h) old.heap refl refl
+    quiet-done (Changing (DetachResource h)) = once-done old.shape old (Changing (DetachResource h)) (memory_call.HClrRBit h) old.heap refl refl
+    quiet-done (Changing (RemoveResource h)) = once-done old.shape old (Changing (RemoveResource h)) (memory_call.HClrRBit h) old.heap refl refl
+    quiet-done (AddResource h kind id name) = once-done old.shape old (AddResource h kind id name) (memory_call.HSetRBit h) old.heap refl refl
     quiet-done rc' = none-done old.shape (IsActOf old rc') old.heap old.heap refl
 
     -- the row that is gotten is the one that is wanted
     gets-wanted : (rc' : ResourceCall) (p : RowPlace) → work_of old rc' ≡ Gets p → row_wanted old rc' ≡ Some p
-    gets-wanted (call.WriteResource h) p is = absurd (no-update (row_update old h) p is)
-    gets-wanted (call.UpdateResFile named) p is = absurd (no-update (file_update old named) p is)
-    gets-wanted (call.CloseResFile named) p is = absurd (no-update (file_update old named) p is)
-    gets-wanted (call.OpenResFile k) p is = absurd (no-opening (is_open k old.files) k p is)
+    gets-wanted (Writing (WriteResource h)) p is = absurd (no-update (row_update old h) p is)
+    gets-wanted (Writing (UpdateResFile named)) p is = absurd (no-update (file_update old named) p is)
+    gets-wanted (Writing (CloseResFile named)) p is = absurd (no-update (file_update old named) p is)
+    gets-wanted (OpenResFile k) p is = absurd (no-opening (is_open k old.files) k p is)
     gets-wanted rc' p is = gotten (row_wanted old rc') p is
 
     works-done : (disks : ℕ → DiskRelations) (device : Device) (asks : List Ask) (end : ResourceEnd) (w : Work) → work_of old rc ≡ w → Works Memory disks device old rc asks end w → Made end.state.heap

@@ -1,6 +1,6 @@
 -- Over runs of calls each row of an open file has the bytes that its fork has.
 use Rattle.std.proofs.Common.{◌≡◌, ◌<◌, ℕ, ◌-◌, ◌≤◌, Bool, true, false, List, [], ◌∷◌, ◌++◌, length, map, set, take, drop, suc, get_or, Option, Some, None, Ok, Err, Result, refl, sym, ap, subst, ◌∙◌, arith, cond, inl, inr}
-use Rattle.std.specs.Prelude.{◌&&◌, All, IfSome, IsTrue, MatchBool, OnOk, bit_and, bit_or, find, nat_le, option_and_then, option_map, slice_get, if◌then◌else◌, ⊤}
+use Rattle.std.specs.Prelude.{◌&&◌, All, IfSome, IsTrue, OnOk, bit_and, bit_or, find, nat_le, option_and_then, option_map, slice_get, if◌then◌else◌, ⊤}
 use Rattle.std.specs.List.{list_any}
 use Rattle.std.specs.Option.{option_map_or, option_or}
 use Rattle.std.proofs.lemmas.Bool.{eq-eqb, eqb-true, eqb-false, leb-true, ne_eqb, or_parts}
@@ -14,7 +14,9 @@ use Rattle.mac_calls.specs.declared.call.Call.{Call}
 use Rattle.mac_calls.specs.declared.call.Call.TheVariants.{Memory as MemoryCalls, Loan, Resource, MemError, ResError}
 use Rattle.mac_calls.specs.declared.memory_call.MemoryCall.{MemoryCall}
 use Rattle.mac_calls.specs.declared.resource_call.ResourceCall.{ResourceCall}
-use Rattle.mac_calls.specs.declared.resource_call.ResourceCall.TheVariants as call
+use Rattle.mac_calls.specs.declared.resource_call.ResourceCall.TheVariants.{Getting, Changing, Writing, OpenResFile, AddResource}
+use Rattle.mac_calls.specs.declared.resource_call.ChangingCall.TheVariants.{ReleaseResource, DetachResource, RemoveResource, ChangedResource, SetResAttrs}
+use Rattle.mac_calls.specs.declared.resource_call.WritingCall.TheVariants.{WriteResource, UpdateResFile, CloseResFile}
 use Rattle.mac_calls.specs.GrowZone.{Ask}
 use Rattle.mac_calls.specs.Outcomes.{Outcome}
 use Rattle.mac_calls.specs.Released.{disposed_in, disposed_of}
@@ -34,12 +36,12 @@ use Rattle.res_calls.specs.Attributes.{marked, replaced_attributes}
 use Rattle.res_calls.specs.Changes.{FileRow, FileTable, Files, handles_forgotten, row_changed, saved_table}
 use Rattle.res_calls.specs.Device.{Anything, Device, Disk, ReadsBy, Works as DeviceWorks, FailsBefore, FailsWriting, Reads, empty, fork}
 use Rattle.res_calls.specs.Files.{ResState, ResourceEnd, disk_of, file_named, refused_with, with_disk, with_files, with_heap}
-use Rattle.res_calls.specs.Loads.{found_end, gets, handle_made, loaded, loaded_results, loads_bytes, placed_end, placing, read_fails, row_wanted, unloaded}
+use Rattle.res_calls.specs.Loads.{found_end, handle_made, loaded, loaded_results, loads_bytes, placed_end, placing, read_fails, row_wanted, unloaded}
 use Rattle.res_calls.specs.Quiet.{attributes_changed, quiet_end, quiet_state}
 use Rattle.res_calls.specs.Steps.{Gets, GetsPlace, GetsRow, IsSaved, Memory, Opens, Quiet, ReadsBack, StepsUnless, Work, Works, behind_memory, opened_end, update_in, updating, work_of}
 use Rattle.res_calls.specs.Tests.{resource_refusal}
 use Rattle.res_calls.specs.Updates.{Update, disposed, new_row, row_passes, update_end, update_of, updated_at, updated_table}
-use Rattle.res_calls.specs.Answered.{AreHonest, IsAnswered, answered_disks, known_file, known_row}
+use Rattle.res_calls.specs.Answered.{AreHonest, IsAnswered, WasAnswered, answered_disks, known_file, known_row}
 use Rattle.res_calls.proofs.Answering.{all_rows, answered_back, answered_before, disk_answered, gets_none, none, none_honest, only, only_honest, only_is}
 use Rattle.res_laws.specs.Forks.{HasBytes, ReadOffForks}
 use Rattle.res_laws.specs.Tools.{Called, IsToolRun, ToolDoes, Tools, tools_after}
@@ -297,7 +299,7 @@ module _ (honest : ℕ → Type 0) where
 
     update-kept : (device : Device) (rc : ResourceCall) → let e = update_end device rc u old in
         OnOk e.outcome (IsSaved honest (Some u) e.state) → Kept e.state
-    update-kept DeviceWorks (call.CloseResFile named) stands =
+    update-kept DeviceWorks (Writing (CloseResFile named)) stands =
         closed-kept u.file (IsKept with_saved) (IsKept with_saved) (λ f differ is. is) with_saved.files (saved-kept stands)
     update-kept DeviceWorks rc stands = saved-kept stands
     update-kept FailsBefore rc stands = kept
@@ -314,21 +316,21 @@ module _ (honest : ℕ → Type 0) where
       let new : ResAttrs = record { 0 = n } in subst (λ b. is_marked (cond b (marked new) (unmarked new)) ≡ true) (sym is) (marked-is new)
 
   quiet-kept : (old : ResState) (rc : ResourceCall) → Kept old → Kept (quiet_state rc old)
-  quiet-kept old (call.ReleaseResource h) kept =
+  quiet-kept old (Changing (ReleaseResource h)) kept =
       let new = with_heap (disposed old.shape (h ∷ []) old.heap) (with_files (handle_forgotten h old.files) old) in
       let forgotten = forgotten-kept old (h ∷ []) old.files kept in
       elim (row_passes is_changed h old.files) as (λ b. Kept (cond b old new)) [ true ↦ kept | false ↦ forgotten ]
-  quiet-kept old (call.DetachResource h) kept = forgotten-kept old (h ∷ []) old.files kept
-  quiet-kept old (call.RemoveResource h) kept =
+  quiet-kept old (Changing (DetachResource h)) kept = forgotten-kept old (h ∷ []) old.files kept
+  quiet-kept old (Changing (RemoveResource h)) kept =
       let to = λ (p : RowPlace). removed_at p.index in
       let here = λ (p : RowPlace). rows-kept old p.file (to p) (λ disk. row-removed (HasBytes disk) p.index) old.files kept in
       some-kept old (λ (p : RowPlace). rows_changed p.file (to p) old.files) old.files here kept (place_of_handle h old.files)
-  quiet-kept old (call.AddResource h kind id name) kept =
+  quiet-kept old (AddResource h kind id name) kept =
       let new = new_row h kind id name in
       let here = λ (k : ℕ). rows-kept old k (added new) (λ disk. row-added (HasBytes disk) new (inl (refl, refl))) old.files kept in
       some-kept old (λ k. rows_changed k (added new) old.files) old.files here kept old.files.current
-  quiet-kept old (call.ChangedResource h) kept = attributes-kept old marked (λ a is. marked-is a) h old.files kept
-  quiet-kept old (call.SetResAttrs h n) kept = attributes-kept old (replaced_attributes n) (replaced-is n) h old.files kept
+  quiet-kept old (Changing (ChangedResource h)) kept = attributes-kept old marked (λ a is. marked-is a) h old.files kept
+  quiet-kept old (Changing (SetResAttrs h n)) kept = attributes-kept old (replaced_attributes n) (replaced-is n) h old.files kept
   quiet-kept old rc kept = kept
 
   -- what holds of a success
@@ -412,10 +414,10 @@ module _ (honest : ℕ → Type 0) where
     getting-keeps rc (Some p) works reads = place-gets rc p (row_at p old.files) works
 
     works-keep : (rc : ResourceCall) → resource_refusal old rc ≡ None → Keeps rc (work_of old rc)
-    works-keep (call.WriteResource h) none = row-keeps (call.WriteResource h) (row_passes is_changed h old.files) (place_of_handle h old.files)
-    works-keep (call.UpdateResFile named) none = file-keeps (call.UpdateResFile named) (file_named named old.files)
-    works-keep (call.CloseResFile named) none = file-keeps (call.CloseResFile named) (file_named named old.files)
-    works-keep (call.OpenResFile k) none = opening-keeps (call.OpenResFile k) k (nat_le 1 k) (is_open k old.files) refl refl none
+    works-keep (Writing (WriteResource h)) none = row-keeps (Writing (WriteResource h)) (row_passes is_changed h old.files) (place_of_handle h old.files)
+    works-keep (Writing (UpdateResFile named)) none = file-keeps (Writing (UpdateResFile named)) (file_named named old.files)
+    works-keep (Writing (CloseResFile named)) none = file-keeps (Writing (CloseResFile named)) (file_named named old.files)
+    works-keep (OpenResFile k) none = opening-keeps (OpenResFile k) k (nat_le 1 k) (is_open k old.files) refl refl none
     works-keep rc none = getting-keeps rc (row_wanted old rc)
 
     steps-keep : (rc : ResourceCall) (o : Option OsErr) → resource_refusal old rc ≡ o
@@ -455,16 +457,13 @@ module _ (honest : ℕ → Type 0) where
           )
 
   -- a call that made an update read back is by the files before it, as the devices answered too
-  reads-before : (old before last : ResState) (rc : ResourceCall) (outcome : Outcome) → MatchBool (gets rc) (IsAnswered honest old before) (before ≡ old) → ReadsBack honest old rc outcome last → ReadsBack honest before rc outcome last
-  reads-before old before last rc outcome was reads = by (gets rc) refl was
+  reads-before : (old before last : ResState) (rc : ResourceCall) (outcome : Outcome) → WasAnswered honest old rc before → ReadsBack honest old rc outcome last → ReadsBack honest before rc outcome last
+  reads-before old before last (Getting call) outcome was reads = subst (λ o. OnOk outcome (IsSaved honest o last)) (sym (gets_none before call)) (nothing outcome)
     where
       nothing : (outcome : Outcome) → OnOk outcome (IsSaved honest None last)
       nothing (Ok results) = tt
       nothing (Err code) = tt
-
-      by : (b : Bool) → gets rc ≡ b → MatchBool b (IsAnswered honest old before) (before ≡ old) → ReadsBack honest before rc outcome last
-      by true is was = subst (λ o. OnOk outcome (IsSaved honest o last)) (sym (gets_none before rc is)) (nothing outcome)
-      by false is same = subst (λ s. ReadsBack honest s rc outcome last) (sym same) reads
+  reads-before old before last rc outcome same reads = subst (λ s. ReadsBack honest s rc outcome last) (sym same) reads
 
   -- ---- runs
 

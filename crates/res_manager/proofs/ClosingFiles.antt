@@ -5,7 +5,8 @@ use Rattle.std.specs.Result.{is_err}
 use Rattle.mac_base.specs.ZoneState.{ZoneState}
 use Rattle.mac_base.specs.declared.error.OsErr.{OsErr}
 use Rattle.mac_base.specs.declared.error.OsErr.TheVariants.{DskFulErr, IoErr}
-use Rattle.mac_calls.specs.declared.resource_call.ResourceCall.TheVariants.{CloseResFile, UpdateResFile}
+use Rattle.mac_calls.specs.declared.resource_call.ResourceCall.TheVariants.{Writing}
+use Rattle.mac_calls.specs.declared.resource_call.WritingCall.TheVariants.{UpdateResFile, CloseResFile}
 use Rattle.mac_calls.specs.Outcomes.{Outcome}
 use Rattle.res_table.specs.OpenFiles.{file_closed}
 use Rattle.res_calls.specs.Changes.{rows_of}
@@ -24,15 +25,15 @@ use Rattle.res_manager.proofs.States.{same_state}
 module _ {S : Type 0} (store : Ghosts S) (zone new : ZoneState) (on mid after : FilesOn S) (u : Update) (outcome : Outcome) where
   -- a file that was written is closed, and the handles of its rows are disposed of
   pub closes_written : is_err outcome ≡ false → new.shape ≡ zone.shape → new.heap ≡ disposed zone.shape (handles_of (rows_of u.file mid.files)) zone.heap
-      → after ≡ record mid { files = file_closed u.file mid.files } → WritesFile store zone on (UpdateResFile None) u outcome zone mid
-      → WritesFile store zone on (CloseResFile None) u outcome new after
+      → after ≡ record mid { files = file_closed u.file mid.files } → WritesFile store zone on (Writing (UpdateResFile None)) u outcome zone mid
+      → WritesFile store zone on (Writing (CloseResFile None)) u outcome new after
   closes_written given shape heap closed written = by_case (fits_fork u.table) written
     where
       not_given : (code : OsErr) → outcome ≡ Err code → ⊥
       not_given code is = cc (sym given ∙ ap is_err is)
 
       closing : ResState → ResState
-      closing state = behind_update (CloseResFile None) u.file state
+      closing state = behind_update (Writing (CloseResFile None)) u.file state
 
       closed_state : closing (state_of store.fork zone mid) ≡ state_of store.fork new after
       closed_state = same_state store.fork (closing (state_of store.fork zone mid)) new after (sym shape) (sym heap) (ap (λ (on : FilesOn S). on.files) (sym closed)) (ap (λ (on : FilesOn S). on.loads) (sym closed))
@@ -47,9 +48,9 @@ module _ {S : Type 0} (store : Ghosts S) (zone new : ZoneState) (on mid after : 
           subst (λ (s : ResState). IsAnswered (HonestAt store.is_honest after.stores) s (closing state)) closed_state
           (subst (λ (stores : List S). IsAnswered (HonestAt store.is_honest stores) (closing (state_of store.fork zone mid)) (closing state)) mid_stores (closed-answered (HonestAt store.is_honest mid.stores) u.file (state_of store.fork zone mid) state answered))
 
-      by_device : (w : Writes store zone on (UpdateResFile None) u outcome zone mid) (dev : Device) → w.device ≡ dev → Writes store zone on (CloseResFile None) u outcome new after
+      by_device : (w : Writes store zone on (Writing (UpdateResFile None)) u outcome zone mid) (dev : Device) → w.device ≡ dev → Writes store zone on (Writing (CloseResFile None)) u outcome new after
       by_device w device.Works is =
-          let ends = ap (λ (d : Device). update_end d (UpdateResFile None) u (state_of store.fork zone on)) (sym is) ∙ w.ends in
+          let ends = ap (λ (d : Device). update_end d (Writing (UpdateResFile None)) u (state_of store.fork zone on)) (sym is) ∙ w.ends in
           record {
             device = device.Works;
             after = closing w.after;
@@ -60,28 +61,28 @@ module _ {S : Type 0} (store : Ghosts S) (zone new : ZoneState) (on mid after : 
                 (subst (λ (d : Device). MatchBool (device_works d) (NoneFailed store.failures on.stores mid.stores) (FailedAt store.failures u.file on.stores mid.stores)) is w.cause);
           }
       by_device w device.FailsBefore is =
-          absurd (not_given IoErr (sym (ap (λ (e : ResourceEnd). e.outcome) (ap (λ (d : Device). update_end d (UpdateResFile None) u (state_of store.fork zone on)) (sym is) ∙ w.ends))))
+          absurd (not_given IoErr (sym (ap (λ (e : ResourceEnd). e.outcome) (ap (λ (d : Device). update_end d (Writing (UpdateResFile None)) u (state_of store.fork zone on)) (sym is) ∙ w.ends))))
       by_device w (device.FailsWriting left) is =
-          absurd (not_given IoErr (sym (ap (λ (e : ResourceEnd). e.outcome) (ap (λ (d : Device). update_end d (UpdateResFile None) u (state_of store.fork zone on)) (sym is) ∙ w.ends))))
+          absurd (not_given IoErr (sym (ap (λ (e : ResourceEnd). e.outcome) (ap (λ (d : Device). update_end d (Writing (UpdateResFile None)) u (state_of store.fork zone on)) (sym is) ∙ w.ends))))
 
-      by_case : (b : Bool) → MatchBool b (Writes store zone on (UpdateResFile None) u outcome zone mid) (IsUnwritten store zone on outcome zone mid)
-          → MatchBool b (Writes store zone on (CloseResFile None) u outcome new after) (IsUnwritten store zone on outcome new after)
+      by_case : (b : Bool) → MatchBool b (Writes store zone on (Writing (UpdateResFile None)) u outcome zone mid) (IsUnwritten store zone on outcome zone mid)
+          → MatchBool b (Writes store zone on (Writing (CloseResFile None)) u outcome new after) (IsUnwritten store zone on outcome new after)
       by_case true w = by_device w w.device refl
       by_case false unwritten = absurd (not_given DskFulErr (sym (ap (λ (e : ResourceEnd). e.outcome) unwritten.ends)))
 
 module _ {S : Type 0} (store : Ghosts S) (zone : ZoneState) (on mid : FilesOn S) (u : Update) (outcome : Outcome) where
   -- a file that wasn't written ends as its update did
-  pub closes_refused : is_err outcome ≡ true → WritesFile store zone on (UpdateResFile None) u outcome zone mid → WritesFile store zone on (CloseResFile None) u outcome zone mid
+  pub closes_refused : is_err outcome ≡ true → WritesFile store zone on (Writing (UpdateResFile None)) u outcome zone mid → WritesFile store zone on (Writing (CloseResFile None)) u outcome zone mid
   closes_refused given written = by_case (fits_fork u.table) written
     where
-      same_ends : (dev : Device) → (let e : ResourceEnd = update_end dev (UpdateResFile None) u (state_of store.fork zone on) in is_err e.outcome ≡ true)
-          → update_end dev (CloseResFile None) u (state_of store.fork zone on) ≡ update_end dev (UpdateResFile None) u (state_of store.fork zone on)
+      same_ends : (dev : Device) → (let e : ResourceEnd = update_end dev (Writing (UpdateResFile None)) u (state_of store.fork zone on) in is_err e.outcome ≡ true)
+          → update_end dev (Writing (CloseResFile None)) u (state_of store.fork zone on) ≡ update_end dev (Writing (UpdateResFile None)) u (state_of store.fork zone on)
       same_ends device.Works is = absurd (cc is)
       same_ends device.FailsBefore is = refl
       same_ends (device.FailsWriting left) is = refl
 
-      by_case : (b : Bool) → MatchBool b (Writes store zone on (UpdateResFile None) u outcome zone mid) (IsUnwritten store zone on outcome zone mid)
-          → MatchBool b (Writes store zone on (CloseResFile None) u outcome zone mid) (IsUnwritten store zone on outcome zone mid)
+      by_case : (b : Bool) → MatchBool b (Writes store zone on (Writing (UpdateResFile None)) u outcome zone mid) (IsUnwritten store zone on outcome zone mid)
+          → MatchBool b (Writes store zone on (Writing (CloseResFile None)) u outcome zone mid) (IsUnwritten store zone on outcome zone mid)
       by_case true w = record {
         device = w.device;
         after = w.after;

@@ -5,7 +5,7 @@ use Rattle.std.specs.Option.{option_map_or}
 use Rattle.std.proofs.lemmas.Bool.Decides.{eqb_tells}
 use Rattle.mac_base.specs.ZoneState.{ZoneState}
 use Rattle.mac_calls.specs.declared.resource_call.ResourceCall.{ResourceCall}
-use Rattle.mac_calls.specs.declared.resource_call.ResourceCall.TheVariants as call
+use Rattle.mac_calls.specs.declared.resource_call.ResourceCall.TheVariants.{OpenResFile}
 use Rattle.mac_calls.specs.Outcomes.{Outcome}
 use Rattle.fork_bytes.specs.Written.{written}
 use Rattle.fork_disk.specs.declared.store.ForkStore.{Ghosts}
@@ -88,7 +88,7 @@ pub made_file : {S : Type 0} (fork : S → List ℕ) (zone : ZoneState) (on : Fi
 made_file fork zone on c k change u is made = ap file_settled made.work ∙ ap (λ (v : Update). Some v.file) (sym (update_found k change on.files u is).is)
 
 -- OpenResFile makes no update
-pub opening_saves : (state : ResState) (k : ℕ) → update_in (work_of state (call.OpenResFile k)) ≡ None
+pub opening_saves : (state : ResState) (k : ℕ) → update_in (work_of state (OpenResFile k)) ≡ None
 opening_saves state k = by_case (is_open k state.files)
   where
     by_case : (b : Bool) → update_in (cond b Quiet (Opens k)) ≡ None
@@ -101,7 +101,7 @@ err_anyhow P (Ok x) holds = tt
 err_anyhow P (Err e) holds = holds
 
 -- and reads none back
-pub opening_reads : {E : Type 0} (honest : ℕ → Type 0) (old new : ResState) (k : ℕ) (result : Result Outcome E) → IfOk result (λ outcome. ReadsBack honest old (call.OpenResFile k) outcome new)
+pub opening_reads : {E : Type 0} (honest : ℕ → Type 0) (old new : ResState) (k : ℕ) (result : Result Outcome E) → IfOk result (λ outcome. ReadsBack honest old (OpenResFile k) outcome new)
 opening_reads honest old new k (Ok (Ok done)) = subst (λ (o : Option Update). IsSaved honest o new) (sym (opening_saves old k)) tt
 opening_reads honest old new k (Ok (Err code)) = tt
 opening_reads honest old new k (Err full) = tt

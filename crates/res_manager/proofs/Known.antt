@@ -4,8 +4,10 @@ use Rattle.std.specs.Prelude.{if◌then◌else◌, option_map}
 use Rattle.std.specs.List.{cons_option}
 use Rattle.std.specs.Option.{option_map_or, option_and_then}
 use Rattle.mac_base.specs.HandleTable.{zeros}
-use Rattle.mac_calls.specs.declared.resource_call.ResourceCall.{ResourceCall}
-use Rattle.mac_calls.specs.declared.resource_call.ResourceCall.TheVariants as call
+use Rattle.mac_calls.specs.declared.resource_call.ResourceCall.TheVariants.{Getting, Writing}
+use Rattle.mac_calls.specs.declared.resource_call.GettingCall.{GettingCall}
+use Rattle.mac_calls.specs.declared.resource_call.GettingCall.TheVariants.{GetResource, Get1Resource, GetIndResource, LoadResource}
+use Rattle.mac_calls.specs.declared.resource_call.WritingCall.TheVariants.{CloseResFile}
 use Rattle.res_table.specs.declared.chain.OpenFile.{OpenFile}
 use Rattle.res_table.specs.declared.chain.RowPlace.{RowPlace}
 use Rattle.res_table.specs.Rows.{changed_at, index_of_ith, with_datum, with_handle}
@@ -19,10 +21,8 @@ use Rattle.res_calls.specs.Updates.{behind_update, disposed, handles_of}
 use Rattle.mac_base.specs.HeadKind.{Shape}
 use Rattle.mac_base.specs.Heap.{Heap}
 use Rattle.res_calls.specs.Loads.{row_wanted}
-use Rattle.res_calls.specs.Tests.{first_refused_for}
+use Rattle.res_calls.specs.Tests.{resource_refusal}
 use Rattle.res_files.proofs.Mapped.{changed-mapped, changed_at-mapped, closed-mapped, handle-mapped, handle_forgotten-mapped, here-mapped, index_of_ith-mapped, mapped_row, resource-mapped, row-mapped, table-mapped}
-use Rattle.res_calls.specs.Loads.{gets}
-use Rattle.res_manager.specs.Tests.{early_tests}
 use Rattle.res_manager.proofs.Changing.{changed_same}
 
 -- what is known of the bytes of a file
@@ -128,21 +128,19 @@ wanted_index kind i a b same = sym (index_blank kind i a) ∙ ap (λ (f : Files)
 current_same : (a b : Files) → blank_files a ≡ blank_files b → a.current ≡ b.current
 current_same a b same = ap (λ (f : Files). f.current) same
 
-pub same_wanted : (a b : ResState) → blank_files a.files ≡ blank_files b.files → (c : ResourceCall) → gets c ≡ true → row_wanted a c ≡ row_wanted b c
-same_wanted a b same (call.GetResource kind id) is = wanted_found kind id a.files b.files same
-same_wanted a b same (call.Get1Resource kind id) is = wanted_here kind id a.files b.files same
-same_wanted a b same (call.GetIndResource kind i) is =
+pub same_wanted : (a b : ResState) → blank_files a.files ≡ blank_files b.files → (c : GettingCall) → row_wanted a (Getting c) ≡ row_wanted b (Getting c)
+same_wanted a b same (GetResource kind id) = wanted_found kind id a.files b.files same
+same_wanted a b same (Get1Resource kind id) = wanted_here kind id a.files b.files same
+same_wanted a b same (GetIndResource kind i) =
     let place : Option ℕ → Option ℕ → Option RowPlace = λ found current. option_and_then (λ k. option_map (λ at. let place : RowPlace = record { file = k; index = at } in place) found) current in
     ap (λ (found : Option ℕ). place found a.files.current) (wanted_index kind i a.files b.files same) ∙ ap (place (index_of_ith kind i (current_rows b.files))) (current_same a.files b.files same)
-same_wanted a b same (call.LoadResource h) is = wanted_handle h a.files b.files same
-same_wanted a b same _ is = absurd (cc is)
+same_wanted a b same (LoadResource h) = wanted_handle h a.files b.files same
 
-pub same_passed : (a b : ResState) → blank_files a.files ≡ blank_files b.files → (c : ResourceCall) → gets c ≡ true → first_refused_for a (early_tests c) ≡ first_refused_for b (early_tests c)
-same_passed a b same (call.GetResource kind id) is = rw (wanted_found kind id a.files b.files same, current_same a.files b.files same) refl
-same_passed a b same (call.Get1Resource kind id) is = rw (wanted_here kind id a.files b.files same, current_same a.files b.files same) refl
-same_passed a b same (call.GetIndResource kind i) is = rw (wanted_index kind i a.files b.files same, current_same a.files b.files same) refl
-same_passed a b same (call.LoadResource h) is = rw (wanted_handle h a.files b.files same, current_same a.files b.files same) refl
-same_passed a b same _ is = absurd (cc is)
+pub same_passed : (a b : ResState) → blank_files a.files ≡ blank_files b.files → (c : GettingCall) → resource_refusal a (Getting c) ≡ resource_refusal b (Getting c)
+same_passed a b same (GetResource kind id) = rw (wanted_found kind id a.files b.files same, current_same a.files b.files same) refl
+same_passed a b same (Get1Resource kind id) = rw (wanted_here kind id a.files b.files same, current_same a.files b.files same) refl
+same_passed a b same (GetIndResource kind i) = rw (wanted_index kind i a.files b.files same, current_same a.files b.files same) refl
+same_passed a b same (LoadResource h) = rw (wanted_handle h a.files b.files same, current_same a.files b.files same) refl
 
 -- each of two files is as the devices answered of the other
 pub answers-back : (honest : ℕ → Type 0) (a b : Files) → AnswersFor honest a b → AnswersFor honest b a
@@ -202,7 +200,7 @@ handles-of-file known k files = ap (λ (found : Option FileTable). handles_of (o
 
 -- a file is closed as the devices answered
 pub closed-answered : (honest : ℕ → Type 0) (k : ℕ) (state answered : ResState) → IsAnswered honest state answered
-    → IsAnswered honest (behind_update (call.CloseResFile None) k state) (behind_update (call.CloseResFile None) k answered)
+    → IsAnswered honest (behind_update (Writing (CloseResFile None)) k state) (behind_update (Writing (CloseResFile None)) k answered)
 closed-answered honest k state answered is known are =
     let same = is known are in
     let files : known_files known answered.files ≡ known_files known state.files = ap (λ (s : ResState). s.files) same in

@@ -1,5 +1,5 @@
 -- What calls leave of the forks, by what was done to the stores.
-use Rattle.std.proofs.Common.{◌≡◌, refl, true, List, [], Option, Some, None, Result, ℕ, ap, subst}
+use Rattle.std.proofs.Common.{◌≡◌, refl, true, List, [], Option, Some, None, Result, Ok, Err, ℕ, ap, subst}
 use Rattle.std.specs.Prelude.{IfOk, IfSome, OnOk, OnErr, ⊤}
 use Rattle.std.specs.Option.{option_map_or}
 use Rattle.mac_base.specs.ZoneState.{ZoneState}
@@ -17,9 +17,10 @@ use Rattle.res_update.specs.declared.fault.UpdateFault.{UpdateFault}
 use Rattle.res_update.specs.declared.selection.Selection.{Selection}
 use Rattle.res_files.specs.FilesOn.{FilesOn, HonestAt, WereHonest}
 use Rattle.res_files.specs.Crash.{OthersStay, history_of}
-use Rattle.res_files.specs.Stores.{OpensStore, UpdatesStore}
+use Rattle.res_files.specs.Stores.{KeepsStores, OpensStore, UpdatesStore}
 use Rattle.res_manager.specs.Crash.{CrashLeaves, IsSettled, LeavesForks, OpensFork, SavesFork}
 use Rattle.res_manager.specs.Steps.{state_of}
+use Rattle.res_manager.proofs.CalmCalls.{IsIdle, calm_reads, calm_settles}
 use Rattle.res_manager.proofs.Crash.{calm_leaves, made_file, open_leaves, work_leaves, work_settles, zone_leaves}
 use Rattle.res_manager.proofs.Keeping.{one_kept}
 use Rattle.res_manager.proofs.ReadingBack.{made_reads}
@@ -65,3 +66,22 @@ made_leaves {S} store zone new on after c k change u result is made same saves =
       settled = work_settles store after.stores work (Some k) result (made_file store.fork zone on c k change u is made) saves.works.settled;
       crash_full = on_err _ _ result (λ unchanged. calm_leaves store on.stores after.stores None (λ n honest. ap (λ (f : FilesOn S). history_of store.history n f.stores) unchanged)) same;
     }
+
+-- a call that at most reads files leaves the forks as they were
+pub idle_leaves : {S E : Type 0} (store : Ghosts S) (old new : ZoneState) (on after : FilesOn S) (c : ResourceCall) (result : Result Outcome E) → KeepsStores store on.stores after.stores → IsIdle (work_of (state_of store.fork old on) c)
+    → LeavesForks store old on c result new after
+idle_leaves store old new on after c (Ok outcome) kept idle =
+    let work = work_of (state_of store.fork old on) c in record {
+      honest = λ k honest. (kept k honest).honest;
+      reads_back = calm_reads (HonestAt store.is_honest after.stores) (state_of store.fork old on) (state_of store.fork new after) c idle outcome;
+      any_moment = calm_leaves store on.stores after.stores (update_in work) (λ k honest. (kept k honest).calm);
+      settled = calm_settles store after.stores work idle outcome;
+      crash_full = tt;
+    }
+idle_leaves store old new on after c (Err full) kept idle =
+    record { honest = λ k honest. (kept k honest).honest; reads_back = tt; any_moment = tt; settled = tt; crash_full = calm_leaves store on.stores after.stores None (λ k honest. (kept k honest).calm) }
+
+-- and so does one that is refused
+pub refused_leaves : {S E : Type 0} (store : Ghosts S) (zone : ZoneState) (on : FilesOn S) (c : ResourceCall) (code : OsErr) → (let result : Result Outcome E = Ok (Err code) in LeavesForks store zone on c result zone on)
+refused_leaves store zone on c code =
+    record { honest = λ k honest. honest; reads_back = tt; any_moment = calm_leaves store on.stores on.stores (update_in (work_of (state_of store.fork zone on) c)) (λ k honest. refl); settled = tt; crash_full = tt }

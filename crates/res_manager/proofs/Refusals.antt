@@ -1,9 +1,11 @@
 -- A call is refused by its early tests, or else by that of what it writes.
-use Rattle.std.proofs.Common.{◌≡◌, List, [], ◌∷◌, ◌++◌, Option, Some, None, refl, ap, ◌∙◌}
+use Rattle.std.proofs.Common.{◌≡◌, List, [], ◌∷◌, ◌++◌, Option, Some, None, refl, ap, sym, ◌∙◌}
+use Rattle.std.proofs.lemmas.List.{append-nil}
 use Rattle.std.specs.Option.{option_or}
 use Rattle.mac_base.specs.declared.error.OsErr.{OsErr}
 use Rattle.mac_calls.specs.declared.resource_call.ResourceCall.{ResourceCall}
-use Rattle.mac_calls.specs.declared.resource_call.ResourceCall.TheVariants as call
+use Rattle.mac_calls.specs.declared.resource_call.ResourceCall.TheVariants.{Writing}
+use Rattle.mac_calls.specs.declared.resource_call.WritingCall.TheVariants.{WriteResource, UpdateResFile, CloseResFile}
 use Rattle.res_calls.specs.Files.{ResState}
 use Rattle.res_calls.specs.Tests.{ResourceTest, first_refused_for, refused_for, resource_refusal, resource_tests}
 use Rattle.res_manager.specs.Tests.{early_tests, late_tests}
@@ -19,31 +21,10 @@ refused_for-append state (test ∷ tests) more = ap (option_or (refused_for stat
 
 -- a call's tests are the early ones and the late one
 pub tests-split : (c : ResourceCall) → resource_tests c ≡ early_tests c ++ late_tests c
-tests-split (call.GetResource kind id) = refl
-tests-split (call.Get1Resource kind id) = refl
-tests-split (call.GetIndResource kind i) = refl
-tests-split (call.LoadResource h) = refl
-tests-split (call.ReleaseResource h) = refl
-tests-split (call.DetachResource h) = refl
-tests-split (call.AddResource h kind id name) = refl
-tests-split (call.ChangedResource h) = refl
-tests-split (call.RemoveResource h) = refl
-tests-split (call.WriteResource h) = refl
-tests-split (call.UpdateResFile named) = refl
-tests-split (call.CloseResFile named) = refl
-tests-split (call.GetResAttrs h) = refl
-tests-split (call.SetResAttrs h n) = refl
-tests-split (call.GetResInfo h) = refl
-tests-split (call.SizeResource h) = refl
-tests-split (call.HomeResFile h) = refl
-tests-split (call.UniqueID kind) = refl
-tests-split call.CountTypes = refl
-tests-split (call.CountResources kind) = refl
-tests-split (call.GetIndType i) = refl
-tests-split (call.SetResLoad n) = refl
-tests-split (call.OpenResFile k) = refl
-tests-split (call.UseResFile k) = refl
-tests-split call.CurResFile = refl
+tests-split (Writing (WriteResource h)) = refl
+tests-split (Writing (UpdateResFile named)) = refl
+tests-split (Writing (CloseResFile named)) = refl
+tests-split c = sym (append-nil (resource_tests c))
 
 -- so is its refusal
 pub refusal-split : (state : ResState) (c : ResourceCall) → resource_refusal state c ≡ option_or (first_refused_for state (early_tests c)) (first_refused_for state (late_tests c))

@@ -1,12 +1,13 @@
 -- Steps of calls that ask nothing.
-use Rattle.std.proofs.Common.{◌≡◌, ℕ, Bool, true, false, [], Option, Some, None, Result, Ok, Err, refl, ap, sym, subst, ◌∙◌}
+use Rattle.std.proofs.Common.{◌≡◌, ℕ, Bool, true, false, List, [], Option, Some, None, Result, Ok, Err, refl, ap, sym, subst, ◌∙◌}
 use Rattle.std.specs.Prelude.{IfOk, MatchBool, MatchResult, is_ok, map, if◌then◌else◌}
 use Rattle.std.specs.Option.{IsSomeAnd}
 use Rattle.mac_base.specs.declared.error.OsErr.{OsErr}
 use Rattle.mac_base.specs.declared.error.OsErr.TheVariants.{DskFulErr}
 use Rattle.mac_base.specs.ZoneState.{ZoneState}
 use Rattle.mac_calls.specs.declared.resource_call.ResourceCall.{ResourceCall}
-use Rattle.mac_calls.specs.declared.resource_call.ResourceCall.TheVariants as call
+use Rattle.mac_calls.specs.declared.resource_call.ResourceCall.TheVariants.{OpenResFile}
+use Rattle.mac_calls.specs.GrowZone.{Ask}
 use Rattle.mac_calls.specs.Outcomes.{Outcome}
 use Rattle.mac_calls.specs.Tests.{unless_passed}
 use Rattle.fork_disk.specs.declared.store.ForkStore.{Ghosts}
@@ -24,7 +25,6 @@ use Rattle.res_manager.specs.Ends.{EndsQuietly, IsUnwritten, OpensFile, Writes, 
 use Rattle.res_manager.specs.Steps.{ResourceSteps, state_of}
 use Rattle.res_manager.specs.Tests.{early_tests, late_tests}
 use Rattle.res_calls.proofs.Answering.{before_itself, itself}
-use Rattle.res_calls.specs.Loads.{gets}
 use Rattle.res_manager.proofs.Refusals.{refused-early}
 
 -- what holds of what is given
@@ -39,7 +39,7 @@ refused_steps store zone on c code is =
     let state : ResState = state_of store.fork zone on in
     let honest = HonestAt store.is_honest on.stores in
     let P : Option OsErr → Type 0 = λ o. StepsUnless Memory (answered_disks honest store.may_leave) o device.Works state c [] (refused_with code state) in
-    record { device = device.Works; before = state; after = state; was = before_itself honest (gets c) state; becomes = itself honest state; step = subst P (sym (refused-early state c code is)) (refl, refl); cause = refl }
+    record { device = device.Works; before = state; after = state; was = before_itself honest c state; becomes = itself honest state; step = subst P (sym (refused-early state c code is)) (refl, refl); cause = refl }
 
 -- a call that isn't refused and needs neither room nor a disk
 pub quiet_steps : {S : Type 0} (store : Ghosts S) (old new : ZoneState) (on after : FilesOn S) (c : ResourceCall) (outcome : Outcome) → resource_refusal (state_of store.fork old on) c ≡ None
@@ -52,18 +52,22 @@ quiet_steps store old new on after c outcome passed quiet stores ends =
     let disks = answered_disks honest store.may_leave in
     let P : Option OsErr → Type 0 = λ o. StepsUnless Memory disks o device.Works state c [] end in
     let Q : Work → Type 0 = λ w. steps.Works Memory disks device.Works state c [] end w in
-    record { device = device.Works; before = state; after = last; was = before_itself honest (gets c) state; becomes = itself honest last; step = subst P (sym passed) (subst Q (sym quiet) (refl, sym ends)); cause = ap (map store.failures) stores }
+    record { device = device.Works; before = state; after = last; was = before_itself honest c state; becomes = itself honest last; step = subst P (sym passed) (subst Q (sym quiet) (refl, sym ends)); cause = ap (map store.failures) stores }
+
+-- a call that asked nothing
+pub unasked_steps : {S : Type 0} (store : Ghosts S) (old new : ZoneState) (on after : FilesOn S) (c : ResourceCall) (asks : List Ask) (outcome : Outcome) → asks ≡ [] → ResourceSteps store old on c [] outcome new after → ResourceSteps store old on c asks outcome new after
+unasked_steps store old new on after c asks outcome none steps = subst (λ (them : List Ask). ResourceSteps store old on c them outcome new after) (sym none) steps
 
 -- a call that opens a file
-pub opened_steps : {S : Type 0} (store : Ghosts S) (zone : ZoneState) (on after : FilesOn S) (k : ℕ) (outcome : Outcome) → resource_refusal (state_of store.fork zone on) (call.OpenResFile k) ≡ None
-    → is_open k on.files ≡ false → OpensFile store zone on k outcome after → ResourceSteps store zone on (call.OpenResFile k) [] outcome zone after
+pub opened_steps : {S : Type 0} (store : Ghosts S) (zone : ZoneState) (on after : FilesOn S) (k : ℕ) (outcome : Outcome) → resource_refusal (state_of store.fork zone on) (OpenResFile k) ≡ None
+    → is_open k on.files ≡ false → OpensFile store zone on k outcome after → ResourceSteps store zone on (OpenResFile k) [] outcome zone after
 opened_steps store zone on after k outcome passed closed opens =
     let state : ResState = state_of store.fork zone on in
     let end : ResourceEnd = record { outcome = outcome; state = opens.after } in
     let honest = HonestAt store.is_honest after.stores in
     let disks = answered_disks honest store.may_leave in
-    let P : Option OsErr → Type 0 = λ o. StepsUnless Memory disks o opens.device state (call.OpenResFile k) [] end in
-    let Q : Bool → Type 0 = λ b. steps.Works Memory disks opens.device state (call.OpenResFile k) [] end (if b then Quiet else Opens k) in
+    let P : Option OsErr → Type 0 = λ o. StepsUnless Memory disks o opens.device state (OpenResFile k) [] end in
+    let Q : Bool → Type 0 = λ b. steps.Works Memory disks opens.device state (OpenResFile k) [] end (if b then Quiet else Opens k) in
     let Cause : Bool → Type 0 = λ b. MatchBool (device_works opens.device) (NoneFailed store.failures on.stores after.stores) (IsSomeAnd (file_of_work (if b then Quiet else Opens k)) (λ k. FailedAt store.failures k on.stores after.stores)) in
     record {
       device = opens.device;
@@ -96,7 +100,7 @@ written_steps {S} store old new on after c u outcome late test work written = by
           device = writes.device;
           before = state;
           after = writes.after;
-          was = before_itself honest (gets c) state;
+          was = before_itself honest c state;
           becomes = writes.becomes;
           step = subst P (sym passed) (subst Q (sym work) (refl, writes.leaves, sym writes.ends));
           cause = subst Cause (sym work) writes.cause;
@@ -105,7 +109,7 @@ written_steps {S} store old new on after c u outcome late test work written = by
         let honest = HonestAt store.is_honest after.stores in
         let last : ResState = state_of store.fork new after in
         let P : Option OsErr → Type 0 = λ o. StepsUnless Memory (answered_disks honest store.may_leave) o device.Works state c [] (record { outcome = outcome; state = last }) in
-        record { device = device.Works; before = state; after = last; was = before_itself honest (gets c) state; becomes = itself honest last; step = subst P (sym refused) (refl, sym unwritten.ends); cause = unwritten.works }
+        record { device = device.Works; before = state; after = last; was = before_itself honest c state; becomes = itself honest last; step = subst P (sym refused) (refl, sym unwritten.ends); cause = unwritten.works }
 
 -- what a result comes with, it comes with as it is told
 pub told_so : {X E F : Type 0} (P Q : Type 0) (result : Result X E) (told : Result X F) → is_ok told ≡ is_ok result → MatchResult result (λ done. Q) (λ fault. P) → MatchResult told (λ done. Q) (λ fault. P)

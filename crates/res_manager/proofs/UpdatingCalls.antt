@@ -7,7 +7,8 @@ use Rattle.mac_base.specs.declared.error.OsErr.{OsErr}
 use Rattle.mac_base.specs.declared.error.OsErr.TheVariants.{DskFulErr, MemLockedErr}
 use Rattle.mac_base.specs.ZoneState.{ZoneState}
 use Rattle.mac_calls.specs.declared.resource_call.ResourceCall.{ResourceCall}
-use Rattle.mac_calls.specs.declared.resource_call.ResourceCall.TheVariants.{WriteResource, UpdateResFile, CloseResFile}
+use Rattle.mac_calls.specs.declared.resource_call.ResourceCall.TheVariants.{Writing}
+use Rattle.mac_calls.specs.declared.resource_call.WritingCall.TheVariants.{WriteResource, UpdateResFile, CloseResFile}
 use Rattle.mac_calls.specs.Outcomes.{Outcome}
 use Rattle.mac_calls.specs.Tests.{unless_passed}
 use Rattle.res_calls.specs.Changes.{FileRow, FileTable, Files, rows_of}
@@ -72,14 +73,14 @@ module _ {S : Type 0} (fork : S → List ℕ) (zone : ZoneState) (on : FilesOn S
     pub full : takes_memory (state_of fork zone on) c ≡ true
 
   -- WriteResource of a changed row
-  pub makes_row : (h : ℕ) (p : RowPlace) (u : Update) → first_refused_for (state_of fork zone on) (early_tests (WriteResource h)) ≡ None → place_of_handle h on.files ≡ Some p → row_passes is_changed h on.files ≡ true
-      → update_of p.file (updated zone.heap.table (RowAt p.index)) on.files ≡ Some u → Makes (WriteResource h) u
+  pub makes_row : (h : ℕ) (p : RowPlace) (u : Update) → first_refused_for (state_of fork zone on) (early_tests (Writing (WriteResource h))) ≡ None → place_of_handle h on.files ≡ Some p → row_passes is_changed h on.files ≡ true
+      → update_of p.file (updated zone.heap.table (RowAt p.index)) on.files ≡ Some u → Makes (Writing (WriteResource h)) u
   makes_row h p u passed place changed is =
       let row : row_update (state_of fork zone on) h ≡ Some u =
       ap (λ b. cond b (option_map_or (λ (q : RowPlace). update_of q.file (updated_at zone.heap.table q.index) on.files) (place_of_handle h on.files) None) None) changed
       ∙ ap (λ (o : Option RowPlace). option_map_or (λ (q : RowPlace). update_of q.file (updated_at zone.heap.table q.index) on.files) o None) place ∙ is in
       record {
-        late = passed-early (state_of fork zone on) (WriteResource h) passed;
+        late = passed-early (state_of fork zone on) (Writing (WriteResource h)) passed;
         test = or_none _ ∙ ap (λ (o : Option Update). unless_passed DskFulErr (can_be_made o)) row;
         work = ap updating row;
         full = ap (λ (o : Option Update). work_takes_memory (updating o)) row;
@@ -89,7 +90,7 @@ module _ {S : Type 0} (fork : S → List ℕ) (zone : ZoneState) (on : FilesOn S
   named_update named k u is update = rw is update
 
   -- UpdateResFile
-  pub makes_file : (c : ResourceCall) (named : Option ℕ) (k : ℕ) (u : Update) → c ≡ UpdateResFile named → first_refused_for (state_of fork zone on) (early_tests c) ≡ None → file_named named on.files ≡ Some k
+  pub makes_file : (c : ResourceCall) (named : Option ℕ) (k : ℕ) (u : Update) → c ≡ Writing (UpdateResFile named) → first_refused_for (state_of fork zone on) (early_tests c) ≡ None → file_named named on.files ≡ Some k
       → update_of k (updated zone.heap.table AllChanged) on.files ≡ Some u → Makes c u
   makes_file c named k u call passed file is =
       let up : file_update (state_of fork zone on) named ≡ Some u = named_update named k u file is in
@@ -102,7 +103,7 @@ module _ {S : Type 0} (fork : S → List ℕ) (zone : ZoneState) (on : FilesOn S
       }) (passed-early (state_of fork zone on) c passed)
 
   -- CloseResFile
-  pub makes_closed : (c : ResourceCall) (named : Option ℕ) (k : ℕ) (u : Update) → c ≡ CloseResFile named → first_refused_for (state_of fork zone on) (early_tests c) ≡ None → file_named named on.files ≡ Some k
+  pub makes_closed : (c : ResourceCall) (named : Option ℕ) (k : ℕ) (u : Update) → c ≡ Writing (CloseResFile named) → first_refused_for (state_of fork zone on) (early_tests c) ≡ None → file_named named on.files ≡ Some k
       → update_of k (updated zone.heap.table AllChanged) on.files ≡ Some u → Makes c u
   makes_closed c named k u call passed file is =
       let up : file_update (state_of fork zone on) named ≡ Some u = named_update named k u file is in
@@ -115,7 +116,7 @@ module _ {S : Type 0} (fork : S → List ℕ) (zone : ZoneState) (on : FilesOn S
       }) (passed-early (state_of fork zone on) c passed)
 
   -- what a file's closing has found unlent can be written
-  pub closing_unlent : (c : ResourceCall) (named : Option ℕ) (k : ℕ) → c ≡ CloseResFile named → first_refused_for (state_of fork zone on) (early_tests c) ≡ None → file_named named on.files ≡ Some k
+  pub closing_unlent : (c : ResourceCall) (named : Option ℕ) (k : ℕ) → c ≡ Writing (CloseResFile named) → first_refused_for (state_of fork zone on) (early_tests c) ≡ None → file_named named on.files ≡ Some k
       → reads_lent zone.heap.table AllChanged (rows_of k on.files) ≡ false
   closing_unlent c named k call passed file =
       let P : ResourceCall → Type 0 = λ d. first_refused_for (state_of fork zone on) (early_tests d) ≡ None in

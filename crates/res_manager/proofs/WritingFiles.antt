@@ -10,7 +10,8 @@ use Rattle.mac_base.specs.declared.error.OsErr.TheVariants.{DskFulErr, IoErr}
 use Rattle.fork_disk.specs.declared.store.ReplaceFault.{ReplaceFault}
 use Rattle.fork_disk.specs.declared.store.ReplaceFault.TheVariants.{BeforeFirstWrite, Later}
 use Rattle.mac_calls.specs.declared.resource_call.ResourceCall.{ResourceCall}
-use Rattle.mac_calls.specs.declared.resource_call.ResourceCall.TheVariants.{UpdateResFile}
+use Rattle.mac_calls.specs.declared.resource_call.ResourceCall.TheVariants.{Writing}
+use Rattle.mac_calls.specs.declared.resource_call.WritingCall.TheVariants.{UpdateResFile}
 use Rattle.mac_calls.specs.declared.reply.Results.TheVariants.{Nothing}
 use Rattle.mac_calls.specs.Outcomes.{Outcome}
 use Rattle.res_calls.specs.Changes.{FileTable, Files, saved_table}
@@ -98,7 +99,7 @@ module _ {S : Type 0} (store : Ghosts S) (zone : ZoneState) (on after : FilesOn 
   -- the file is written
   pub writes_all : fits_fork u.table ≡ true → AnswersFor (HonestAt store.is_honest after.stores) (rows_changed u.file (λ rows. u.table.rows) on.files) after.files
       → (HonestAt store.is_honest after.stores u.file → fork_of store.fork u.file after.stores ≡ written (saved_table u.table)) → NoneFailed store.failures on.stores after.stores
-      → WritesFile store zone on (UpdateResFile None) u (Ok Nothing) zone after
+      → WritesFile store zone on (Writing (UpdateResFile None)) u (Ok Nothing) zone after
   writes_all room files forks works =
       let disk = written (saved_table u.table) in
       fits _ _ (fits_fork u.table) room (record {
@@ -112,7 +113,7 @@ module _ {S : Type 0} (store : Ghosts S) (zone : ZoneState) (on after : FilesOn 
 
   -- the device fails before
   pub writes_none : fits_fork u.table ≡ true → AnswersFor (HonestAt store.is_honest after.stores) on.files after.files → (HonestAt store.is_honest after.stores u.file → fork_of store.fork u.file after.stores ≡ fork_of store.fork u.file on.stores)
-      → FailedAt store.failures u.file on.stores after.stores → WritesFile store zone on (UpdateResFile None) u (Err IoErr) zone after
+      → FailedAt store.failures u.file on.stores after.stores → WritesFile store zone on (Writing (UpdateResFile None)) u (Err IoErr) zone after
   writes_none room files forks failed =
       fits _ _ (fits_fork u.table) room (record {
         device = device.FailsBefore;
@@ -124,15 +125,15 @@ module _ {S : Type 0} (store : Ghosts S) (zone : ZoneState) (on after : FilesOn 
       })
 
   -- or no fork holds what is to be written
-  pub writes_nothing : fits_fork u.table ≡ false → after ≡ on → WritesFile store zone on (UpdateResFile None) u (Err DskFulErr) zone after
+  pub writes_nothing : fits_fork u.table ≡ false → after ≡ on → WritesFile store zone on (Writing (UpdateResFile None)) u (Err DskFulErr) zone after
   writes_nothing none same =
-      let P : FilesOn S → Type 0 = λ f. WritesFile store zone on (UpdateResFile None) u (Err DskFulErr) zone f in
+      let P : FilesOn S → Type 0 = λ f. WritesFile store zone on (Writing (UpdateResFile None)) u (Err DskFulErr) zone f in
       subst P (sym same) (unfit _ _ (fits_fork u.table) none (record { ends = refl; works = refl }))
 
   -- or later
   pub writes_part : fits_fork u.table ≡ true → after.files ≡ file_closed u.file on.files
       → (HonestAt store.is_honest after.stores u.file → store.may_leave (written (saved_table u.table)) (fork_of store.fork u.file on.stores) (fork_of store.fork u.file after.stores))
-      → FailedAt store.failures u.file on.stores after.stores → WritesFile store zone on (UpdateResFile None) u (Err IoErr) zone after
+      → FailedAt store.failures u.file on.stores after.stores → WritesFile store zone on (Writing (UpdateResFile None)) u (Err IoErr) zone after
   writes_part room files leaves failed =
       let left : Disk = fork_of store.fork u.file after.stores in
       fits _ _ (fits_fork u.table) room (record {
@@ -151,7 +152,7 @@ module _ {S : Type 0} (store : Ghosts S) (zone : ZoneState) (on after : FilesOn 
       → (HonestAt store.is_honest after.stores u.file → fault ≡ BeforeFirstWrite → fork_of store.fork u.file after.stores ≡ fork_of store.fork u.file on.stores)
       → (fault ≡ Later → after.files ≡ file_closed u.file on.files)
       → (HonestAt store.is_honest after.stores u.file → fault ≡ Later → store.may_leave (written (saved_table u.table)) (fork_of store.fork u.file on.stores) (fork_of store.fork u.file after.stores))
-      → (fault ≡ BeforeFirstWrite → FailedAt store.failures u.file on.stores after.stores) → (fault ≡ Later → FailedAt store.failures u.file on.stores after.stores) → WritesFile store zone on (UpdateResFile None) u (Err IoErr) zone after
+      → (fault ≡ BeforeFirstWrite → FailedAt store.failures u.file on.stores after.stores) → (fault ≡ Later → FailedAt store.failures u.file on.stores after.stores) → WritesFile store zone on (Writing (UpdateResFile None)) u (Err IoErr) zone after
   writes_faulted BeforeFirstWrite room before forks closed later cause cause_later = writes_none room (before refl) (λ honest. forks honest refl) (cause refl)
   writes_faulted Later room before forks closed later cause cause_later = writes_part room (closed refl) (λ honest. later honest refl) (cause_later refl)
 

@@ -1,16 +1,14 @@
--- How calls end that ask nothing, and which calls need what.
-use Rattle.std.specs.Prelude.{◌≡◌, ℕ, Bool, true, false, ◌||◌, List, Result, MatchBool}
+-- How calls end that ask nothing.
+use Rattle.std.specs.Prelude.{◌≡◌, ℕ, List, Result, MatchBool}
 use Rattle.mac_base.specs.declared.error.OsErr.{OsErr}
 use Rattle.mac_base.specs.declared.error.OsErr.TheVariants.{DskFulErr}
 use Rattle.mac_base.specs.ZoneState.{ZoneState}
 use Rattle.mac_calls.specs.declared.resource_call.ResourceCall.{ResourceCall}
-use Rattle.mac_calls.specs.declared.resource_call.ResourceCall.TheVariants as call
 use Rattle.mac_calls.specs.Outcomes.{Outcome}
 use Rattle.res_calls.specs.Changes.{FileTable}
 use Rattle.res_calls.specs.Device.{Device, ReadsBy, device_works}
 use Rattle.res_calls.specs.Answered.{IsAnswered, answered_disks}
 use Rattle.res_calls.specs.Files.{ResState, disk_of, refused_with}
-use Rattle.res_calls.specs.Loads.{gets}
 use Rattle.res_calls.specs.Quiet.{quiet_end}
 use Rattle.res_calls.specs.Steps.{LeavesDisk, opened_end, Memory}
 use Rattle.res_calls.specs.Updates.{Update, fits_fork, update_end}
@@ -21,50 +19,6 @@ use Rattle.res_manager.specs.Steps.{state_of}
 -- the call ends so and leaves these, as calls do that need neither room in the zone nor a disk
 abbrev pub EndsQuietly : {S : Type 0} → (S → List ℕ) → ZoneState → FilesOn S → ResourceCall → Outcome → ZoneState → FilesOn S → Type 0
 EndsQuietly fork old old_files call outcome new new_files = quiet_end call (state_of fork old old_files) ≡ record { outcome = outcome; state = state_of fork new new_files }
-
--- whether a call only tells what the open files say, and takes no host memory
-abbrev pub tells : ResourceCall → Bool
-tells (call.GetResAttrs h) = true
-tells (call.SizeResource h) = true
-tells (call.HomeResFile h) = true
-tells (call.UniqueID kind) = true
-tells (call.CountResources kind) = true
-tells call.CountTypes = true
-tells (call.GetIndType i) = true
-tells call.CurResFile = true
-tells _ = false
-
--- whether a call changes rows or which file is current, and takes no host memory
-abbrev pub changes : ResourceCall → Bool
-changes (call.ReleaseResource h) = true
-changes (call.DetachResource h) = true
-changes (call.RemoveResource h) = true
-changes (call.ChangedResource h) = true
-changes (call.SetResAttrs h n) = true
-changes (call.SetResLoad n) = true
-changes (call.UseResFile k) = true
-changes _ = false
-
--- whether a call copies a name into host memory
-abbrev pub copies : ResourceCall → Bool
-copies (call.AddResource h kind id name) = true
-copies (call.GetResInfo h) = true
-copies _ = false
-
--- whether a call needs neither room in the zone nor a disk, whatever is open
-abbrev pub is_quiet : ResourceCall → Bool
-is_quiet call = copies call || (tells call || changes call)
-
--- whether a call writes a file, or a row of one
-abbrev pub writes : ResourceCall → Bool
-writes (call.WriteResource h) = true
-writes (call.UpdateResFile named) = true
-writes (call.CloseResFile named) = true
-writes _ = false
-
--- whether a call writes no file and opens none
-abbrev pub is_calm : ResourceCall → Bool
-is_calm call = gets call || is_quiet call
 
 -- What a call that makes an update does to the disk and leaves, where its fork holds what is written: a device may fail.
 pub record Writes {S : Type 0} (store : Ghosts S) (old : ZoneState) (old_files : FilesOn S) (call : ResourceCall) (u : Update) (outcome : Outcome) (new : ZoneState) (new_files : FilesOn S) : Type 0 where

@@ -2,7 +2,7 @@
 use Rattle.std.specs.Prelude.{ℕ, Bool, true, false, List, map}
 use Rattle.mac_base.specs.ZoneState.{ZoneState}
 use Rattle.mac_calls.specs.declared.resource_call.ResourceCall.{ResourceCall}
-use Rattle.mac_calls.specs.declared.resource_call.ResourceCall.TheVariants as call
+use Rattle.mac_calls.specs.declared.resource_call.ResourceCall.TheVariants.{AddResource, GetResInfo}
 use Rattle.mac_calls.specs.GrowZone.{Ask}
 use Rattle.mac_calls.specs.Outcomes.{Outcome}
 use Rattle.fork_disk.specs.declared.store.ForkStore.{Ghosts}
@@ -30,6 +30,6 @@ work_takes_memory Quiet = false
 
 -- whether a call takes host memory: for a row, a name, a fork or a table
 abbrev pub takes_memory : ResState → ResourceCall → Bool
-takes_memory state (call.AddResource h kind id name) = true
-takes_memory state (call.GetResInfo h) = true
+takes_memory state (AddResource h kind id name) = true
+takes_memory state (GetResInfo h) = true
 takes_memory state call = work_takes_memory (work_of state call)

@@ -4,16 +4,15 @@ ghost use Rattle.std.specs.Prelude.{◌≡◌, [], None, length, IsTrue, IfOk, O
 ghost use Rattle.linked_zone.specs.Loans.{KeepsLoans};
 ghost use Rattle.res_calls.specs.Answered.{IsAnswered};
 ghost use Rattle.res_calls.specs.Tests.{resource_refusal};
-ghost use Rattle.mac_calls.specs.declared.resource_call.ResourceCall.TheVariants as call;
+ghost use Rattle.mac_calls.specs.declared.resource_call.ResourceCall.TheVariants.{OpenResFile};
 ghost use Rattle.res_files.specs.FilesOn.{HonestAt};
 ghost use Rattle.res_manager.specs.Crash.{LeavesForks};
-ghost use Rattle.res_manager.specs.Ends.{EndsQuietly, copies, is_calm, is_quiet};
 ghost use Rattle.res_manager.specs.Steps.{ResourceSteps, state_of, takes_memory};
 ghost use Rattle.res_manager.specs.Tests.{AreLent, Passes, early_tests};
 
 use crate::getting::get;
 use crate::opening::open;
-use crate::quiet::{add, change, info, tell, tells};
+use crate::quiet::{add, change, info, look};
 use crate::tests::test_call;
 use crate::updating::update;
 use fork_disk::store::ForkStore;
@@ -54,85 +53,25 @@ pub fn make<S: ForkStore, G: GrowZone>(
         return Ok(Err(code));
     }
     match *call {
-        ResourceCall::WriteResource(_)
-        | ResourceCall::UpdateResFile(_)
-        | ResourceCall::CloseResFile(_) => update(files, memory, call),
+        ResourceCall::Getting(call) => Ok(get(files, memory, call, procedure)),
+        ResourceCall::Looking(call) => Ok(Ok(look(files, call))),
+        ResourceCall::Changing(call) => {
+            change(files, memory, call);
+            Ok(Ok(Results::Nothing))
+        }
+        ResourceCall::Writing(call) => update(files, memory, call),
         ResourceCall::OpenResFile(number) => open_file(files, memory, number),
-        _ => make_calm(files, memory, alloc, call, procedure),
-    }
-}
-
-/// Makes a call that writes no file and opens none.
-fn make_calm<S: ForkStore, G: GrowZone>(
-    files: &mut ResourceFiles<S>,
-    memory: &mut MemoryManager,
-    alloc: Global,
-    call: &ResourceCall<'_>,
-    procedure: &mut G,
-) -> Result<Outcome, HostFull>
-    requires calm { IsTrue (is_calm call.now) }
-    requires passed { Passes (state_of S.fork memory.old files.old) (early_tests call.now) }
-    requires unasked { G.asks procedure.old ≡ [] }
-    ensures step { IfOk result (λ outcome. ResourceSteps S.ForkStore memory.old files.old call.now (G.asks procedure.new) outcome memory.new files.new) }
-    ensures leaves { LeavesForks S.ForkStore memory.old files.old call.now result memory.new files.new }
-    ensures source { G.source procedure.new ≡ G.source procedure.old }
-    ensures loans { KeepsLoans memory.old memory.new }
-    ensures lent { memory.new.heap.table.lent ≡ memory.old.heap.table.lent }
-    ensures shape { memory.new.shape ≡ memory.old.shape }
-    ensures count { length files.new.stores ≡ length files.old.stores }
-    ensures unchanged { OnErr result (memory.new ≡ memory.old) }
-    ensures unasked { OnErr result (G.asks procedure.new ≡ []) }
-    ensures same { OnErr result (IsAnswered (HonestAt S.is_honest files.new.stores) (state_of S.fork memory.new files.new) (state_of S.fork memory.old files.old)) }
-    ensures full { OnErr result (IsTrue (takes_memory (state_of S.fork memory.old files.old) call.now)) }
-    ensures late { OnErr result (resource_refusal (state_of S.fork memory.old files.old) call.now ≡ None) }
-{
-    match *call {
-        ResourceCall::GetResource { .. }
-        | ResourceCall::Get1Resource { .. }
-        | ResourceCall::GetIndResource { .. }
-        | ResourceCall::LoadResource(_) => Ok(get(files, memory, call, procedure)),
-        _ => make_quiet(files, memory, alloc, call),
-    }
-}
-
-/// Makes a call that needs neither room in the zone nor a disk.
-fn make_quiet<S: ForkStore>(
-    files: &mut ResourceFiles<S>,
-    memory: &mut MemoryManager,
-    alloc: Global,
-    call: &ResourceCall<'_>,
-) -> Result<Outcome, HostFull>
-    requires quiet { IsTrue (is_quiet call.now) }
-    requires passed { Passes (state_of S.fork memory.old files.old) (early_tests call.now) }
-    ensures quiet { IfOk result (λ outcome. EndsQuietly S.fork memory.old files.old call.now outcome memory.new files.new) }
-    ensures loans { KeepsLoans memory.old memory.new }
-    ensures lent { memory.new.heap.table.lent ≡ memory.old.heap.table.lent }
-    ensures shape { memory.new.shape ≡ memory.old.shape }
-    ensures stores { files.new.stores ≡ files.old.stores }
-    ensures unchanged { OnErr result (memory.new ≡ memory.old) }
-    ensures same { OnErr result (files.new ≡ files.old) }
-    ensures full { OnErr result (IsTrue (copies call.now)) }
-{
-    match *call {
         ResourceCall::AddResource {
             handle,
             kind,
             id,
             ref name,
         } => {
-            let name = match name {
-                Some(name) => Some(name.as_slice()),
-                None => None,
-            };
+            let name = name.as_ref().map(|name| name.as_slice());
             add(files, memory, alloc, handle, kind, id, name)?;
             Ok(Ok(Results::Nothing))
         }
         ResourceCall::GetResInfo(handle) => Ok(Ok(info(files, handle)?)),
-        _ if tells(call) => Ok(Ok(tell(files, call))),
-        _ => {
-            change(files, memory, call);
-            Ok(Ok(Results::Nothing))
-        }
     }
 }
 
@@ -142,11 +81,11 @@ fn open_file<S: ForkStore>(
     memory: &MemoryManager,
     number: u32,
 ) -> Result<Outcome, HostFull>
-    requires { Passes (state_of S.fork memory.now files.old) (early_tests (call.OpenResFile number)) }
-    ensures step { IfOk result (λ outcome. ResourceSteps S.ForkStore memory.now files.old (call.OpenResFile number) [] outcome memory.now files.new) }
-    ensures leaves { LeavesForks S.ForkStore memory.now files.old (call.OpenResFile number) result memory.now files.new }
+    requires { Passes (state_of S.fork memory.now files.old) (early_tests (OpenResFile number)) }
+    ensures step { IfOk result (λ outcome. ResourceSteps S.ForkStore memory.now files.old (OpenResFile number) [] outcome memory.now files.new) }
+    ensures leaves { LeavesForks S.ForkStore memory.now files.old (OpenResFile number) result memory.now files.new }
     ensures same { OnErr result (IsAnswered (HonestAt S.is_honest files.new.stores) (state_of S.fork memory.now files.new) (state_of S.fork memory.now files.old)) }
-    ensures full { OnErr result (IsTrue (takes_memory (state_of S.fork memory.now files.old) (call.OpenResFile number))) }
+    ensures full { OnErr result (IsTrue (takes_memory (state_of S.fork memory.now files.old) (OpenResFile number))) }
     ensures count { length files.new.stores ≡ length files.old.stores }
 {
     prove!(files.count() <= MOST_FILES);

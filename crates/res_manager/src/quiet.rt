@@ -1,16 +1,17 @@
 //! The calls that need neither room in the zone nor a disk.
 
-ghost use Rattle.std.specs.Prelude.{◌≡◌, ◌≤◌, length, nat_le, option_copied, IfOk, OnOk, OnErr, IsTrue, Ok};
+ghost use Rattle.std.specs.Prelude.{◌≡◌, length, nat_le, option_copied, IfOk, OnOk, OnErr, IsTrue, Ok};
 ghost use Rattle.std.specs.Option.{option_map_or};
 ghost use Rattle.linked_zone.specs.Loans.{KeepsLoans};
-ghost use Rattle.mac_calls.specs.declared.resource_call.ResourceCall.TheVariants as call;
+ghost use Rattle.mac_calls.specs.declared.resource_call.ResourceCall.TheVariants.{Looking, Changing, AddResource, GetResInfo};
+ghost use Rattle.mac_calls.specs.declared.resource_call.ChangingCall.TheVariants.{ReleaseResource, DetachResource, RemoveResource};
 ghost use Rattle.mac_calls.specs.declared.reply.Results.{Results};
 ghost use Rattle.res_calls.specs.Attributes.{marked, replaced_attributes};
 ghost use Rattle.res_calls.specs.Files.{ResState};
 ghost use Rattle.res_calls.specs.Quiet.{quiet_results, attributes_changed};
 ghost use Rattle.res_manager.specs.Steps.{state_of};
 ghost use Rattle.res_manager.specs.Tests.{Passes, early_tests};
-ghost use Rattle.res_manager.specs.Ends.{EndsQuietly, changes, tells};
+ghost use Rattle.res_manager.specs.Ends.{EndsQuietly};
 
 use crate::rows::row_of;
 use crate::tests::{is_changed, test_id, test_open};
@@ -20,60 +21,41 @@ use mac_base::error::HostFull;
 use mac_base::handle::Handle;
 use mac_base::name::Name;
 use mac_base::resource::{ResAttrs, ResType};
-use mac_calls::{ResourceCall, ResourceInfo, Results};
+use mac_calls::{ChangingCall, LookingCall, ResourceInfo, Results};
 use mem_calls::MemoryManager;
 use res_files::ResourceFiles;
 use res_table::attributes::unmarked;
 use std::alloc::Global;
 
-/// What a call gives that only tells what the open files say.
-pub(crate) fn tell<S: ForkStore>(files: &ResourceFiles<S>, call: &ResourceCall<'_>) -> Results
-    requires { IsTrue (tells call.now) }
-    ensures { (state : ResState) → state.files ≡ files.now.files → result ≡ quiet_results state call.now }
+/// What a call gives that tells what the open files say.
+pub(crate) fn look<S: ForkStore>(files: &ResourceFiles<S>, call: LookingCall) -> Results
+    ensures { (state : ResState) → state.files ≡ files.now.files → result ≡ quiet_results state (Looking call) }
 {
-    match *call {
-        ResourceCall::GetResAttrs(handle) => match row_of(files, handle) {
+    match call {
+        LookingCall::GetResAttrs(handle) => match row_of(files, handle) {
             Some(row) => Results::Number(row.resource.attributes.bits() as u32),
             None => Results::Nothing,
         },
-        ResourceCall::SizeResource(handle) => match row_of(files, handle) {
+        LookingCall::SizeResource(handle) => match row_of(files, handle) {
             Some(row) => Results::Number(row.resource.datum.length),
             None => Results::Nothing,
         },
-        ResourceCall::HomeResFile(handle) => match files.row_of_handle(handle) {
+        LookingCall::HomeResFile(handle) => match files.row_of_handle(handle) {
             Some(place) => Results::Number(place.file as u32),
             None => Results::Nothing,
         },
-        ResourceCall::UniqueID(kind) => Results::Number(files.unique_id(kind)),
-        ResourceCall::CountResources(kind) => Results::Number(files.count_of_type(kind)),
-        ResourceCall::CountTypes => Results::Number(files.count_types()),
-        ResourceCall::GetIndType(index) => match files.type_of_ith(index) {
+        LookingCall::UniqueID(kind) => Results::Number(files.unique_id(kind)),
+        LookingCall::CountResources(kind) => Results::Number(files.count_of_type(kind)),
+        LookingCall::CountTypes => Results::Number(files.count_types()),
+        LookingCall::GetIndType(index) => match files.type_of_ith(index) {
             Some(kind) => Results::Kind(kind),
             None => Results::Nothing,
         },
-        ResourceCall::CurResFile => match files.current() {
+        LookingCall::CurResFile => match files.current() {
             Some(number) => Results::Number(number as u32),
             None => Results::Number(0),
         },
-        _ => unreachable!(),
     }
-}
-
-/// Whether a call only tells what the open files say, and takes no host memory.
-pub(crate) fn tells(call: &ResourceCall<'_>) -> bool
-    ensures { result ≡ tells call.now }
-{
-    matches!(
-        *call,
-        ResourceCall::GetResAttrs(_)
-            | ResourceCall::SizeResource(_)
-            | ResourceCall::HomeResFile(_)
-            | ResourceCall::UniqueID(_)
-            | ResourceCall::CountResources(_)
-            | ResourceCall::CountTypes
-            | ResourceCall::GetIndType(_)
-            | ResourceCall::CurResFile
-    )
 }
 
 /// GetResInfo: the id, the type and the name of a handle's resource. The name shares its bytes with the file's.
@@ -81,7 +63,7 @@ pub(crate) fn info<S: ForkStore>(
     files: &ResourceFiles<S>,
     handle: Handle,
 ) -> Result<Results, HostFull>
-    ensures { IfOk result (λ results. (state : ResState) → state.files ≡ files.now.files → results ≡ quiet_results state (call.GetResInfo handle)) }
+    ensures { IfOk result (λ results. (state : ResState) → state.files ≡ files.now.files → results ≡ quiet_results state (GetResInfo handle)) }
 {
     let Some(row) = row_of(files, handle) else {
         return Ok(Results::Nothing);
@@ -97,63 +79,50 @@ pub(crate) fn info<S: ForkStore>(
     }))
 }
 
-/// A copy of a name of at most 255 bytes in host memory.
-fn copy_name(alloc: Global, name: &[u8]) -> Result<Name, HostFull>
-    requires { length name.now ≤ 255 }
-    ensures { IfOk result (λ copy. copy ≡ name.now) }
-{
-    match Name::new(alloc, name)? {
-        Some(name) => Ok(name),
-        None => unreachable!(),
-    }
-}
-
-/// A copy of the name of a resource that has one.
+/// A copy of the name of a resource that has one, of at most 255 bytes, in host memory.
 fn copy_if_named(alloc: Global, name: Option<&[u8]>) -> Result<Option<Name>, HostFull>
     requires { IsTrue (nat_le (option_map_or length (option_copied name) 0) 255) }
     ensures { IfOk result (λ copy. copy ≡ option_copied name.entry) }
 {
     match name {
-        Some(name) => Ok(Some(copy_name(alloc, name)?)),
+        Some(name) => Ok(Name::new(alloc, name)?),
         None => Ok(None),
     }
 }
 
-/// Makes a call that changes rows or which file is current.
+/// Makes a call that changes what the open files say, or how later calls go.
 pub(crate) fn change<S: ForkStore>(
     files: &mut ResourceFiles<S>,
     memory: &mut MemoryManager,
-    call: &ResourceCall<'_>,
+    call: ChangingCall,
 )
-    requires changes { IsTrue (changes call.now) }
-    requires passed { Passes (state_of S.fork memory.old files.old) (early_tests call.now) }
-    ensures quiet { EndsQuietly S.fork memory.old files.old call.now (Ok Results.Nothing) memory.new files.new }
+    requires passed { Passes (state_of S.fork memory.old files.old) (early_tests (Changing call)) }
+    ensures quiet { EndsQuietly S.fork memory.old files.old (Changing call) (Ok Results.Nothing) memory.new files.new }
     ensures loans { KeepsLoans memory.old memory.new }
     ensures shape { memory.new.shape ≡ memory.old.shape }
     ensures stores { files.new.stores ≡ files.old.stores }
 {
-    match *call {
-        ResourceCall::ReleaseResource(handle) => release(files, memory, handle),
-        ResourceCall::DetachResource(handle) => detach(files, memory, handle),
-        ResourceCall::RemoveResource(handle) => remove(files, memory, handle),
-        ResourceCall::ChangedResource(handle) => mark(files, handle),
-        ResourceCall::SetResAttrs { handle, attributes } => {
+    match call {
+        ChangingCall::ReleaseResource(handle) => release(files, memory, handle),
+        ChangingCall::DetachResource(handle) => detach(files, memory, handle),
+        ChangingCall::RemoveResource(handle) => remove(files, memory, handle),
+        ChangingCall::ChangedResource(handle) => mark(files, handle),
+        ChangingCall::SetResAttrs { handle, attributes } => {
             set_attributes(files, handle, attributes as u8)
         }
-        ResourceCall::SetResLoad(number) => files.set_loads(number != 0),
-        ResourceCall::UseResFile(number) => {
+        ChangingCall::SetResLoad(number) => files.set_loads(number != 0),
+        ChangingCall::UseResFile(number) => {
             let Ok(number) = test_open(files, Some(number)) else {
                 unreachable!();
             };
             files.use_file(number)
         }
-        _ => unreachable!(),
     }
 }
 
 /// ReleaseResource: disposes of the handle, unless its resource is changed.
 fn release<S: ForkStore>(files: &mut ResourceFiles<S>, memory: &mut MemoryManager, handle: Handle)
-    ensures quiet { EndsQuietly S.fork memory.old files.old (call.ReleaseResource handle) (Ok Results.Nothing) memory.new files.new }
+    ensures quiet { EndsQuietly S.fork memory.old files.old (Changing (ReleaseResource handle)) (Ok Results.Nothing) memory.new files.new }
     ensures loans { KeepsLoans memory.old memory.new }
     ensures shape { memory.new.shape ≡ memory.old.shape }
     ensures stores { files.new.stores ≡ files.old.stores }
@@ -167,7 +136,7 @@ fn release<S: ForkStore>(files: &mut ResourceFiles<S>, memory: &mut MemoryManage
 
 /// DetachResource: the handle is an ordinary one.
 fn detach<S: ForkStore>(files: &mut ResourceFiles<S>, memory: &mut MemoryManager, handle: Handle)
-    ensures quiet { EndsQuietly S.fork memory.old files.old (call.DetachResource handle) (Ok Results.Nothing) memory.new files.new }
+    ensures quiet { EndsQuietly S.fork memory.old files.old (Changing (DetachResource handle)) (Ok Results.Nothing) memory.new files.new }
     ensures loans { KeepsLoans memory.old memory.new }
     ensures shape { memory.new.shape ≡ memory.old.shape }
     ensures stores { files.new.stores ≡ files.old.stores }
@@ -178,7 +147,7 @@ fn detach<S: ForkStore>(files: &mut ResourceFiles<S>, memory: &mut MemoryManager
 
 /// RemoveResource: the file no longer has the resource, and the handle is an ordinary one.
 fn remove<S: ForkStore>(files: &mut ResourceFiles<S>, memory: &mut MemoryManager, handle: Handle)
-    ensures quiet { EndsQuietly S.fork memory.old files.old (call.RemoveResource handle) (Ok Results.Nothing) memory.new files.new }
+    ensures quiet { EndsQuietly S.fork memory.old files.old (Changing (RemoveResource handle)) (Ok Results.Nothing) memory.new files.new }
     ensures loans { KeepsLoans memory.old memory.new }
     ensures shape { memory.new.shape ≡ memory.old.shape }
     ensures stores { files.new.stores ≡ files.old.stores }
@@ -249,8 +218,8 @@ pub(crate) fn add<S: ForkStore>(
     id: i64,
     name: Option<&[u8]>,
 ) -> Result<(), HostFull>
-    requires { Passes (state_of S.fork memory.old files.old) (early_tests (call.AddResource handle kind id (option_copied name))) }
-    ensures quiet { OnOk result (EndsQuietly S.fork memory.old files.old (call.AddResource handle kind id (option_copied name.entry)) (Ok Results.Nothing) memory.new files.new) }
+    requires { Passes (state_of S.fork memory.old files.old) (early_tests (AddResource handle kind id (option_copied name))) }
+    ensures quiet { OnOk result (EndsQuietly S.fork memory.old files.old (AddResource handle kind id (option_copied name.entry)) (Ok Results.Nothing) memory.new files.new) }
     ensures unchanged { OnErr result (memory.new ≡ memory.old) }
     ensures same { OnErr result (files.new ≡ files.old) }
     ensures loans { KeepsLoans memory.old memory.new }

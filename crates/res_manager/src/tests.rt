@@ -2,12 +2,13 @@
 
 ghost use Rattle.std.specs.Prelude.{◌≡◌, ℕ, [], ◌∷◌, ◌≤◌, ◌&&◌, ◌||◌, not, false, nat_le, length, is_some, option_copied, IfOk, IsTrue, Some};
 ghost use Rattle.std.specs.List.{list_any};
-ghost use Rattle.std.specs.Option.{option_map_or};
+ghost use Rattle.std.specs.Option.{option_map_or, option_or};
 ghost use Rattle.mac_base.specs.HandleTable.{HandleTable, is_full, is_lent};
 ghost use Rattle.mac_calls.specs.Tests.{unless_passed};
+ghost use Rattle.mac_calls.specs.declared.resource_call.ResourceCall.TheVariants.{Getting, Looking, Changing, Writing};
 ghost use Rattle.mem_calls.specs.Testing.{Answers};
 ghost use Rattle.res_calls.specs.Changes.{FileRow, rows_of};
-ghost use Rattle.res_calls.specs.Files.{file_named};
+ghost use Rattle.res_calls.specs.Files.{ResState, file_named};
 ghost use Rattle.res_calls.specs.Attributes.{has_bit, res_protected};
 ghost use Rattle.res_calls.specs.Tests.{IsOpen, ChangedUnlent, AllUnlent, is_id, may_be_added, is_lent_row};
 ghost use Rattle.res_calls.specs.Updates.{new_row, row_passes};
@@ -15,7 +16,7 @@ ghost use Rattle.res_table.specs.Attributes.{res_changed};
 ghost use Rattle.res_table.specs.OpenFiles.{is_open, place_of_handle};
 ghost use Rattle.res_table.specs.Rows.{is_changed};
 ghost use Rattle.res_manager.specs.Steps.{state_of};
-ghost use Rattle.res_manager.specs.Tests.{AreLent, Tests, needs_file, row_tests, operand_tests, early_tests};
+ghost use Rattle.res_manager.specs.Tests.{AreLent, Tests, early_tests};
 
 use crate::rows::row_of;
 use bitflags::Flags;
@@ -25,7 +26,7 @@ use mac_base::error::OsErr;
 use mac_base::handle::{Handle, Ptr};
 use mac_base::name::MAX_NAME;
 use mac_base::resource::{ResAttrs, ResType};
-use mac_calls::ResourceCall;
+use mac_calls::{ChangingCall, GettingCall, LookingCall, ResourceCall, WritingCall};
 use mem_calls::MemoryManager;
 use res_files::ResourceFiles;
 
@@ -42,110 +43,133 @@ pub(crate) fn test_call<S: ForkStore>(
     requires { AreLent memory.now.heap.table lent.now }
     ensures { Tests (state_of S.fork memory.now files.now) (early_tests call.now) result }
 {
-    if needs_file(call) {
-        require(files.current().is_some(), OsErr::ResFNotFound)?;
-    }
-    test_operands(files, memory, lent, call)
-}
-
-/// Whether a call is refused where no file is open.
-fn needs_file(call: &ResourceCall<'_>) -> bool
-    ensures { result ≡ needs_file call.now }
-{
-    !matches!(
-        *call,
-        ResourceCall::SetResLoad(_) | ResourceCall::OpenResFile(_) | ResourceCall::CurResFile
-    )
-}
-
-/// Tests the operands of a call.
-fn test_operands<S: ForkStore>(
-    files: &ResourceFiles<S>,
-    memory: &MemoryManager,
-    lent: &[u32],
-    call: &ResourceCall<'_>,
-) -> Result<(), OsErr>
-    requires { AreLent memory.now.heap.table lent.now }
-    ensures { Tests (state_of S.fork memory.now files.now) (operand_tests call.now) result }
-{
     match *call {
-        ResourceCall::GetResource { kind, id } => {
-            let id = test_id(id)?;
-            require(files.find(kind, id).is_some(), OsErr::ResNotFound)
-        }
-        ResourceCall::Get1Resource { kind, id } => {
-            let id = test_id(id)?;
-            require(files.find_here(kind, id).is_some(), OsErr::ResNotFound)
-        }
-        ResourceCall::GetIndResource { kind, index } => {
-            require(files.find_ith(kind, index).is_some(), OsErr::ResNotFound)
-        }
+        ResourceCall::Getting(call) => test_getting(files, call),
+        ResourceCall::Looking(call) => test_looking(files, call),
+        ResourceCall::Changing(call) => test_changing(files, memory, call),
+        ResourceCall::Writing(call) => test_writing(files, memory, lent, call),
+        ResourceCall::OpenResFile(number) => test_number(files, number),
         ResourceCall::AddResource {
             handle,
             kind,
             id,
             ref name,
         } => {
+            test_file(files)?;
             let id = test_id(id)?;
             let name = name.as_ref().map(|name| name.as_slice());
             let passes = may_be_added(files, memory, handle, kind, id, name);
             require(passes, OsErr::AddResFailed)
         }
-        ResourceCall::UpdateResFile(named) => test_changed(files, memory, lent, named),
-        ResourceCall::CloseResFile(named) => test_closing(files, memory, lent, named),
-        ResourceCall::GetIndType(index) => {
-            require(files.type_of_ith(index).is_some(), OsErr::ResNotFound)
-        }
-        ResourceCall::UseResFile(number) => {
-            test_open(files, Some(number))?;
-            Ok(())
-        }
-        ResourceCall::OpenResFile(number) => test_number(files, number),
-        _ => test_row(files, memory, call),
+        ResourceCall::GetResInfo(handle) => test_row(files, handle, OsErr::ResNotFound),
     }
 }
 
-/// Tests the row of a call's handle, and the call's attributes.
-fn test_row<S: ForkStore>(
+/// Tests a call that gets or loads a resource.
+fn test_getting<S: ForkStore>(files: &ResourceFiles<S>, call: GettingCall) -> Result<(), OsErr>
+    ensures { (state : ResState) → state.files ≡ files.now.files → Tests state (early_tests (Getting call)) result }
+{
+    match call {
+        GettingCall::GetResource { kind, id } => {
+            test_file(files)?;
+            let id = test_id(id)?;
+            require(files.find(kind, id).is_some(), OsErr::ResNotFound)
+        }
+        GettingCall::Get1Resource { kind, id } => {
+            test_file(files)?;
+            let id = test_id(id)?;
+            require(files.find_here(kind, id).is_some(), OsErr::ResNotFound)
+        }
+        GettingCall::GetIndResource { kind, index } => {
+            test_file(files)?;
+            require(files.find_ith(kind, index).is_some(), OsErr::ResNotFound)
+        }
+        GettingCall::LoadResource(handle) => test_row(files, handle, OsErr::ResNotFound),
+    }
+}
+
+/// Tests a call that tells what the open files say.
+fn test_looking<S: ForkStore>(files: &ResourceFiles<S>, call: LookingCall) -> Result<(), OsErr>
+    ensures { (state : ResState) → state.files ≡ files.now.files → Tests state (early_tests (Looking call)) result }
+{
+    match call {
+        LookingCall::GetResAttrs(handle)
+        | LookingCall::SizeResource(handle)
+        | LookingCall::HomeResFile(handle) => test_row(files, handle, OsErr::ResNotFound),
+        LookingCall::UniqueID(_) | LookingCall::CountTypes | LookingCall::CountResources(_) => {
+            test_file(files)
+        }
+        LookingCall::GetIndType(index) => {
+            test_file(files)?;
+            require(files.type_of_ith(index).is_some(), OsErr::ResNotFound)
+        }
+        LookingCall::CurResFile => Ok(()),
+    }
+}
+
+/// Tests a call that changes what the open files say, or how later calls go.
+fn test_changing<S: ForkStore>(
     files: &ResourceFiles<S>,
     memory: &MemoryManager,
-    call: &ResourceCall<'_>,
+    call: ChangingCall,
 ) -> Result<(), OsErr>
-    ensures { Tests (state_of S.fork memory.now files.now) (row_tests call.now) result }
+    ensures { Tests (state_of S.fork memory.now files.now) (early_tests (Changing call)) result }
 {
-    match *call {
-        ResourceCall::LoadResource(handle)
-        | ResourceCall::GetResAttrs(handle)
-        | ResourceCall::GetResInfo(handle)
-        | ResourceCall::SizeResource(handle)
-        | ResourceCall::HomeResFile(handle) => require_row(files, handle, OsErr::ResNotFound),
-        ResourceCall::ReleaseResource(handle) => {
-            require_row(files, handle, OsErr::ResNotFound)?;
+    match call {
+        ChangingCall::ReleaseResource(handle) => {
+            test_row(files, handle, OsErr::ResNotFound)?;
             let kept = is_changed(files, handle);
             require(kept || !is_lent(memory, handle), OsErr::MemLockedErr)
         }
-        ResourceCall::WriteResource(handle) => {
-            require_row(files, handle, OsErr::ResNotFound)?;
+        ChangingCall::DetachResource(handle) => {
+            test_row(files, handle, OsErr::ResNotFound)?;
+            test_unchanged(files, handle, OsErr::ResAttrErr)
+        }
+        ChangingCall::RemoveResource(handle) => {
+            test_row(files, handle, OsErr::RmvResFailed)?;
+            test_unprotected(files, handle, OsErr::RmvResFailed)
+        }
+        ChangingCall::ChangedResource(handle) => {
+            test_row(files, handle, OsErr::ResNotFound)?;
+            test_unprotected(files, handle, OsErr::ResAttrErr)
+        }
+        ChangingCall::SetResAttrs { handle, attributes } => {
+            test_row(files, handle, OsErr::ResNotFound)?;
+            require(attributes <= 255, OsErr::ParamErr)
+        }
+        ChangingCall::SetResLoad(_) => Ok(()),
+        ChangingCall::UseResFile(number) => {
+            test_file(files)?;
+            test_open(files, Some(number))?;
+            Ok(())
+        }
+    }
+}
+
+/// Tests a call that writes a file, or a row of one, but for what it writes.
+fn test_writing<S: ForkStore>(
+    files: &ResourceFiles<S>,
+    memory: &MemoryManager,
+    lent: &[u32],
+    call: WritingCall,
+) -> Result<(), OsErr>
+    requires { AreLent memory.now.heap.table lent.now }
+    ensures { Tests (state_of S.fork memory.now files.now) (early_tests (Writing call)) result }
+{
+    match call {
+        WritingCall::WriteResource(handle) => {
+            test_row(files, handle, OsErr::ResNotFound)?;
             let written = is_changed(files, handle);
             require(!(written && is_lent(memory, handle)), OsErr::MemLockedErr)
         }
-        ResourceCall::DetachResource(handle) => {
-            require_row(files, handle, OsErr::ResNotFound)?;
-            test_unchanged(files, handle, OsErr::ResAttrErr)
+        WritingCall::UpdateResFile(named) => {
+            test_file(files)?;
+            test_changed(files, memory, lent, named)
         }
-        ResourceCall::ChangedResource(handle) => {
-            require_row(files, handle, OsErr::ResNotFound)?;
-            test_unprotected(files, handle, OsErr::ResAttrErr)
+        WritingCall::CloseResFile(named) => {
+            test_file(files)?;
+            test_closing(files, memory, lent, named)
         }
-        ResourceCall::RemoveResource(handle) => {
-            require_row(files, handle, OsErr::RmvResFailed)?;
-            test_unprotected(files, handle, OsErr::RmvResFailed)
-        }
-        ResourceCall::SetResAttrs { handle, attributes } => {
-            require_row(files, handle, OsErr::ResNotFound)?;
-            require(attributes <= 255, OsErr::ParamErr)
-        }
-        _ => Ok(()),
     }
 }
 
@@ -156,14 +180,22 @@ fn require(passed: bool, code: OsErr) -> Result<(), OsErr>
     if passed { Ok(()) } else { Err(code) }
 }
 
-/// Tests that some row has a handle.
-fn require_row<S: ForkStore>(
+/// Tests that some file is open.
+fn test_file<S: ForkStore>(files: &ResourceFiles<S>) -> Result<(), OsErr>
+    ensures { Answers (unless_passed OsErr.ResFNotFound (is_some files.now.files.current)) result }
+{
+    require(files.current().is_some(), OsErr::ResFNotFound)
+}
+
+/// Tests that some file is open, and that some row has a handle; where none has, the call is refused with a code.
+fn test_row<S: ForkStore>(
     files: &ResourceFiles<S>,
     handle: Handle,
     code: OsErr,
 ) -> Result<(), OsErr>
-    ensures { Answers (unless_passed code (is_some (place_of_handle handle files.now.files))) result }
+    ensures { Answers (option_or (unless_passed OsErr.ResFNotFound (is_some files.now.files.current)) (unless_passed code (is_some (place_of_handle handle files.now.files)))) result }
 {
+    test_file(files)?;
     require(files.row_of_handle(handle).is_some(), code)
 }
 

@@ -2,12 +2,13 @@
 
 ghost use Rattle.std.specs.Prelude.{◌≡◌, [], IfOk, OnErr, IsTrue, IsFalse, Some, None, length};
 ghost use Rattle.linked_zone.specs.Loans.{KeepsLoans};
-ghost use Rattle.mac_calls.specs.declared.resource_call.ResourceCall.TheVariants as call;
+ghost use Rattle.mac_calls.specs.declared.resource_call.ResourceCall.TheVariants.{Writing};
+ghost use Rattle.mac_calls.specs.declared.resource_call.WritingCall.TheVariants.{WriteResource, UpdateResFile, CloseResFile};
 ghost use Rattle.res_calls.specs.Changes.{rows_of};
 ghost use Rattle.res_calls.specs.Tests.{resource_refusal};
 ghost use Rattle.res_calls.specs.Updates.{Update, disposed, fits_fork, handles_of, update_of};
 ghost use Rattle.res_manager.specs.Crash.{LeavesForks, SavesFork};
-ghost use Rattle.res_manager.specs.Ends.{WritesFile, writes};
+ghost use Rattle.res_manager.specs.Ends.{WritesFile};
 ghost use Rattle.res_manager.specs.Steps.{ResourceSteps, state_of, takes_memory};
 ghost use Rattle.res_manager.specs.Tests.{Passes, early_tests};
 ghost use Rattle.res_table.specs.OpenFiles.{is_open};
@@ -18,7 +19,7 @@ use crate::tests::{is_changed, test_open};
 use fork_disk::store::ForkStore;
 use mac_base::error::{HostFull, OsErr};
 use mac_base::handle::Handle;
-use mac_calls::{Outcome, ResourceCall, Results};
+use mac_calls::{Outcome, Results, WritingCall};
 use mem_calls::MemoryManager;
 use res_files::ResourceFiles;
 use res_update::fault::UpdateFault;
@@ -28,36 +29,34 @@ use res_update::selection::Selection;
 pub(crate) fn update<S: ForkStore>(
     files: &mut ResourceFiles<S>,
     memory: &mut MemoryManager,
-    call: &ResourceCall<'_>,
+    call: WritingCall,
 ) -> Result<Outcome, HostFull>
-    requires writes { IsTrue (writes call.now) }
-    requires passed { Passes (state_of S.fork memory.old files.old) (early_tests call.now) }
-    ensures step { IfOk result (λ outcome. ResourceSteps S.ForkStore memory.old files.old call.now [] outcome memory.new files.new) }
-    ensures leaves { LeavesForks S.ForkStore memory.old files.old call.now result memory.new files.new }
+    requires passed { Passes (state_of S.fork memory.old files.old) (early_tests (Writing call)) }
+    ensures step { IfOk result (λ outcome. ResourceSteps S.ForkStore memory.old files.old (Writing call) [] outcome memory.new files.new) }
+    ensures leaves { LeavesForks S.ForkStore memory.old files.old (Writing call) result memory.new files.new }
     ensures loans { KeepsLoans memory.old memory.new }
     ensures lent { memory.new.heap.table.lent ≡ memory.old.heap.table.lent }
     ensures shape { memory.new.shape ≡ memory.old.shape }
     ensures count { length files.new.stores ≡ length files.old.stores }
     ensures unchanged { OnErr result (memory.new ≡ memory.old) }
     ensures same { OnErr result (files.new ≡ files.old) }
-    ensures late { OnErr result (resource_refusal (state_of S.fork memory.old files.old) call.now ≡ None) }
-    ensures full { OnErr result (IsTrue (takes_memory (state_of S.fork memory.old files.old) call.now)) }
+    ensures late { OnErr result (resource_refusal (state_of S.fork memory.old files.old) (Writing call) ≡ None) }
+    ensures full { OnErr result (IsTrue (takes_memory (state_of S.fork memory.old files.old) (Writing call))) }
 {
-    match *call {
-        ResourceCall::WriteResource(handle) => write_resource(files, memory, handle),
-        ResourceCall::UpdateResFile(named) => {
+    match call {
+        WritingCall::WriteResource(handle) => write_resource(files, memory, handle),
+        WritingCall::UpdateResFile(named) => {
             let Ok(number) = test_open(files, named) else {
                 unreachable!();
             };
             write_file(files, memory, number, Selection::AllChanged)
         }
-        ResourceCall::CloseResFile(named) => {
+        WritingCall::CloseResFile(named) => {
             let Ok(number) = test_open(files, named) else {
                 unreachable!();
             };
             close(files, memory, number)
         }
-        _ => unreachable!(),
     }
 }
 
@@ -67,13 +66,13 @@ fn write_resource<S: ForkStore>(
     memory: &MemoryManager,
     handle: Handle,
 ) -> Result<Outcome, HostFull>
-    requires { Passes (state_of S.fork memory.now files.old) (early_tests (call.WriteResource handle)) }
-    ensures step { IfOk result (λ outcome. ResourceSteps S.ForkStore memory.now files.old (call.WriteResource handle) [] outcome memory.now files.new) }
-    ensures leaves { LeavesForks S.ForkStore memory.now files.old (call.WriteResource handle) result memory.now files.new }
+    requires { Passes (state_of S.fork memory.now files.old) (early_tests (Writing (WriteResource handle))) }
+    ensures step { IfOk result (λ outcome. ResourceSteps S.ForkStore memory.now files.old (Writing (WriteResource handle)) [] outcome memory.now files.new) }
+    ensures leaves { LeavesForks S.ForkStore memory.now files.old (Writing (WriteResource handle)) result memory.now files.new }
     ensures count { length files.new.stores ≡ length files.old.stores }
     ensures same { OnErr result (files.new ≡ files.old) }
-    ensures late { OnErr result (resource_refusal (state_of S.fork memory.now files.old) (call.WriteResource handle) ≡ None) }
-    ensures full { OnErr result (IsTrue (takes_memory (state_of S.fork memory.now files.old) (call.WriteResource handle))) }
+    ensures late { OnErr result (resource_refusal (state_of S.fork memory.now files.old) (Writing (WriteResource handle)) ≡ None) }
+    ensures full { OnErr result (IsTrue (takes_memory (state_of S.fork memory.now files.old) (Writing (WriteResource handle)))) }
 {
     let Some(place) = files.row_of_handle(handle) else {
         unreachable!();
@@ -94,7 +93,7 @@ fn close<S: ForkStore>(
     requires unlent { IsFalse (reads_lent memory.old.heap.table Selection.AllChanged (rows_of number files.old.files)) }
     ensures written { IfOk result (λ outcome. (u : Update)
         → update_of number (updated memory.old.heap.table Selection.AllChanged) files.old.files ≡ Some u
-        → WritesFile S.ForkStore memory.old files.old (call.CloseResFile None) u outcome memory.new files.new) }
+        → WritesFile S.ForkStore memory.old files.old (Writing (CloseResFile None)) u outcome memory.new files.new) }
     ensures saves { SavesFork S.ForkStore number (update_of number (updated memory.old.heap.table Selection.AllChanged) files.old.files) files.old.stores memory.new files.new result }
     ensures loans { KeepsLoans memory.old memory.new }
     ensures lent { memory.new.heap.table.lent ≡ memory.old.heap.table.lent }
@@ -126,7 +125,7 @@ fn write_file<S: ForkStore>(
     requires unlent { IsFalse (reads_lent memory.now.heap.table selection (rows_of number files.old.files)) }
     ensures written { IfOk result (λ outcome. (u : Update)
         → update_of number (updated memory.now.heap.table selection) files.old.files ≡ Some u
-        → WritesFile S.ForkStore memory.now files.old (call.UpdateResFile None) u outcome memory.now files.new) }
+        → WritesFile S.ForkStore memory.now files.old (Writing (UpdateResFile None)) u outcome memory.now files.new) }
     ensures saves { SavesFork S.ForkStore number (update_of number (updated memory.now.heap.table selection) files.old.files) files.old.stores memory.now files.new result }
     ensures count { length files.new.stores ≡ length files.old.stores }
     ensures same { OnErr result (files.new ≡ files.old) }

@@ -4,7 +4,9 @@ use Rattle.mac_base.specs.declared.releasing.ReleasingCall.TheVariants.{Disposes
 use Rattle.mac_calls.specs.declared.call.Call.{Call}
 use Rattle.mac_calls.specs.declared.call.Call.TheVariants.{Memory, Resource}
 use Rattle.mac_calls.specs.declared.memory_call.MemoryCall.TheVariants.{Poke as PokeBlock}
-use Rattle.mac_calls.specs.declared.resource_call.ResourceCall.TheVariants as resource
+use Rattle.mac_calls.specs.declared.resource_call.ResourceCall.TheVariants.{Getting, Writing, AddResource}
+use Rattle.mac_calls.specs.declared.resource_call.GettingCall.TheVariants as getting
+use Rattle.mac_calls.specs.declared.resource_call.WritingCall.TheVariants as writing
 use Rattle.script_lang.specs.declared.line.IdOperand.TheVariants as id
 use Rattle.script_lang.specs.declared.line.NamedCall.{NamedCall}
 use Rattle.script_lang.specs.declared.line.NamedCall.TheVariants as named
@@ -33,20 +35,20 @@ answered = refl
 abbrev made : NamedCall → Call
 made call = resolved (with_value [] 0 70000) call
 
-got : made (named.Resource GetResource (codes "TEXT") (id.Id (negsuc 127))) ≡ Resource (resource.GetResource (codes "TEXT") (negsuc 127))
+got : made (named.Resource GetResource (codes "TEXT") (id.Id (negsuc 127))) ≡ Resource (Getting (getting.GetResource (codes "TEXT") (negsuc 127)))
 got = refl
 
-out_of_range : made (named.Resource GetResource (codes "TEXT") (id.Variable 0)) ≡ Resource (resource.GetResource (codes "TEXT") (pos 70000))
+out_of_range : made (named.Resource GetResource (codes "TEXT") (id.Variable 0)) ≡ Resource (Getting (getting.GetResource (codes "TEXT") (pos 70000)))
 out_of_range = refl
 
-nameless : made (named.AddResource (number.Variable 0) (codes "TEXT") (id.Id (pos 5)) None) ≡ Resource (resource.AddResource 70000 (codes "TEXT") (pos 5) None)
+nameless : made (named.AddResource (number.Variable 0) (codes "TEXT") (id.Id (pos 5)) None) ≡ Resource (AddResource 70000 (codes "TEXT") (pos 5) None)
 nameless = refl
 
-empty_name : made (named.AddResource (number.Variable 0) (codes "TEXT") (id.Id (pos 5)) (Some [])) ≡ Resource (resource.AddResource 70000 (codes "TEXT") (pos 5) (Some []))
+empty_name : made (named.AddResource (number.Variable 0) (codes "TEXT") (id.Id (pos 5)) (Some [])) ≡ Resource (AddResource 70000 (codes "TEXT") (pos 5) (Some []))
 empty_name = refl
 
-current_file : made (named.File CloseResFile None) ≡ Resource (resource.CloseResFile None)
+current_file : made (named.File CloseResFile None) ≡ Resource (Writing (writing.CloseResFile None))
 current_file = refl
 
-third_file : made (named.File CloseResFile (Some (number.Number 3))) ≡ Resource (resource.CloseResFile (Some 3))
+third_file : made (named.File CloseResFile (Some (number.Number 3))) ≡ Resource (Writing (writing.CloseResFile (Some 3)))
 third_file = refl

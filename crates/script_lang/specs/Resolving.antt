@@ -4,7 +4,11 @@ use Rattle.mac_calls.specs.declared.call.Call.{Call}
 use Rattle.mac_calls.specs.declared.call.Call.TheVariants.{Memory, Loan, Resource, MemError, ResError}
 use Rattle.mac_calls.specs.declared.loan_call.LoanCall.TheVariants as loan
 use Rattle.mac_calls.specs.declared.memory_call.MemoryCall.TheVariants as memory
-use Rattle.mac_calls.specs.declared.resource_call.ResourceCall.TheVariants as resource
+use Rattle.mac_calls.specs.declared.resource_call.ResourceCall.TheVariants.{Getting, Looking, Changing, Writing, OpenResFile, AddResource, GetResInfo}
+use Rattle.mac_calls.specs.declared.resource_call.GettingCall.TheVariants.{GetResource, Get1Resource, GetIndResource, LoadResource}
+use Rattle.mac_calls.specs.declared.resource_call.LookingCall.TheVariants.{GetResAttrs, SizeResource, HomeResFile, UniqueID, CountTypes, CountResources, GetIndType, CurResFile}
+use Rattle.mac_calls.specs.declared.resource_call.ChangingCall.TheVariants.{ReleaseResource, DetachResource, RemoveResource, ChangedResource, SetResAttrs, SetResLoad, UseResFile}
+use Rattle.mac_calls.specs.declared.resource_call.WritingCall.TheVariants.{WriteResource, UpdateResFile, CloseResFile}
 use Rattle.script_lang.specs.declared.line.CallLine.{CallLine}
 use Rattle.script_lang.specs.declared.line.IdOperand.{IdOperand}
 use Rattle.script_lang.specs.declared.line.IdOperand.TheVariants as id_operand
@@ -66,20 +70,20 @@ number_call number_name.PurgeMem number = Memory (memory.PurgeMem number)
 number_call number_name.ReserveMem number = Memory (memory.ReserveMem number)
 number_call number_name.Lend number = Loan (loan.Lend number)
 number_call number_name.Return number = Loan (loan.Return number)
-number_call number_name.LoadResource number = Resource (resource.LoadResource number)
-number_call number_name.ReleaseResource number = Resource (resource.ReleaseResource number)
-number_call number_name.DetachResource number = Resource (resource.DetachResource number)
-number_call number_name.ChangedResource number = Resource (resource.ChangedResource number)
-number_call number_name.RemoveResource number = Resource (resource.RemoveResource number)
-number_call number_name.WriteResource number = Resource (resource.WriteResource number)
-number_call number_name.GetResAttrs number = Resource (resource.GetResAttrs number)
-number_call number_name.GetResInfo number = Resource (resource.GetResInfo number)
-number_call number_name.SizeResource number = Resource (resource.SizeResource number)
-number_call number_name.HomeResFile number = Resource (resource.HomeResFile number)
-number_call number_name.GetIndType number = Resource (resource.GetIndType number)
-number_call number_name.SetResLoad number = Resource (resource.SetResLoad number)
-number_call number_name.OpenResFile number = Resource (resource.OpenResFile number)
-number_call number_name.UseResFile number = Resource (resource.UseResFile number)
+number_call number_name.LoadResource number = Resource (Getting (LoadResource number))
+number_call number_name.ReleaseResource number = Resource (Changing (ReleaseResource number))
+number_call number_name.DetachResource number = Resource (Changing (DetachResource number))
+number_call number_name.ChangedResource number = Resource (Changing (ChangedResource number))
+number_call number_name.RemoveResource number = Resource (Changing (RemoveResource number))
+number_call number_name.WriteResource number = Resource (Writing (WriteResource number))
+number_call number_name.GetResAttrs number = Resource (Looking (GetResAttrs number))
+number_call number_name.GetResInfo number = Resource (GetResInfo number)
+number_call number_name.SizeResource number = Resource (Looking (SizeResource number))
+number_call number_name.HomeResFile number = Resource (Looking (HomeResFile number))
+number_call number_name.GetIndType number = Resource (Looking (GetIndType number))
+number_call number_name.SetResLoad number = Resource (Changing (SetResLoad number))
+number_call number_name.OpenResFile number = Resource (OpenResFile number)
+number_call number_name.UseResFile number = Resource (Changing (UseResFile number))
 
 -- the call of this name without operands
 abbrev pub plain_call : PlainName → Call
@@ -92,8 +96,8 @@ plain_call plain_name.MoreMasters = Memory memory.MoreMasters
 plain_call plain_name.MaxApplZone = Memory memory.MaxApplZone
 plain_call plain_name.ZoneMap = Memory memory.ZoneMap
 plain_call plain_name.MemError = MemError
-plain_call plain_name.CountTypes = Resource resource.CountTypes
-plain_call plain_name.CurResFile = Resource resource.CurResFile
+plain_call plain_name.CountTypes = Resource (Looking CountTypes)
+plain_call plain_name.CurResFile = Resource (Looking CurResFile)
 plain_call plain_name.ResError = ResError
 
 -- the call of this name on two numbers
@@ -104,7 +108,7 @@ two_numbers_call two_numbers_name.HSetState first second = Memory (memory.HSetSt
 two_numbers_call two_numbers_name.ReallocateHandle first second = Memory (memory.ReallocateHandle first second)
 two_numbers_call two_numbers_name.PtrToHand first second = Memory (memory.PtrToHand first second)
 two_numbers_call two_numbers_name.HandAndHand first second = Memory (memory.HandAndHand first second)
-two_numbers_call two_numbers_name.SetResAttrs first second = Resource (resource.SetResAttrs first second)
+two_numbers_call two_numbers_name.SetResAttrs first second = Resource (Changing (SetResAttrs first second))
 
 -- the call of this name on three numbers
 abbrev pub three_numbers_call : ThreeNumbersName → ℕ → ℕ → ℕ → Call
@@ -120,18 +124,18 @@ bytes_call bytes_name.LentPoke block offset bytes = Loan (loan.LentPoke block of
 
 -- the call of this name on a type and an id
 abbrev pub resource_call : ResourceName → List ℕ → ℤ → Call
-resource_call resource_name.GetResource kind id = Resource (resource.GetResource kind id)
-resource_call resource_name.Get1Resource kind id = Resource (resource.Get1Resource kind id)
+resource_call resource_name.GetResource kind id = Resource (Getting (GetResource kind id))
+resource_call resource_name.Get1Resource kind id = Resource (Getting (Get1Resource kind id))
 
 -- the call of this name on a file, which may be left out
 abbrev pub file_call : FileName → Option ℕ → Call
-file_call file_name.UpdateResFile file = Resource (resource.UpdateResFile file)
-file_call file_name.CloseResFile file = Resource (resource.CloseResFile file)
+file_call file_name.UpdateResFile file = Resource (Writing (UpdateResFile file))
+file_call file_name.CloseResFile file = Resource (Writing (CloseResFile file))
 
 -- the call of this name on a type
 abbrev pub kind_call : KindName → List ℕ → Call
-kind_call kind_name.UniqueID kind = Resource (resource.UniqueID kind)
-kind_call kind_name.CountResources kind = Resource (resource.CountResources kind)
+kind_call kind_name.UniqueID kind = Resource (Looking (UniqueID kind))
+kind_call kind_name.CountResources kind = Resource (Looking (CountResources kind))
 
 -- a call, with the values that its operands have
 abbrev pub resolved : Variables → NamedCall → Call
@@ -143,9 +147,9 @@ resolved variables (named.BlockMove from start to offset count) =
     Memory (memory.BlockMove (number_of variables from) (number_of variables start) (number_of variables to) (number_of variables offset) (number_of variables count))
 resolved variables (named.Bytes call block offset bytes) = bytes_call call (number_of variables block) (number_of variables offset) bytes
 resolved variables (named.Resource call kind id) = resource_call call kind (id_of variables id)
-resolved variables (named.GetIndResource kind index) = Resource (resource.GetIndResource kind (number_of variables index))
+resolved variables (named.GetIndResource kind index) = Resource (Getting (GetIndResource kind (number_of variables index)))
 resolved variables (named.Kind call kind) = kind_call call kind
-resolved variables (named.AddResource handle kind id name) = Resource (resource.AddResource (number_of variables handle) kind (id_of variables id) name)
+resolved variables (named.AddResource handle kind id name) = Resource (AddResource (number_of variables handle) kind (id_of variables id) name)
 resolved variables (named.File call file) = file_call call (option_map (number_of variables) file)
 
 -- the call that a line makes, with the values that its operands have

@@ -1,6 +1,8 @@
 //! The calls that lines make.
 
 ghost use Rattle.std.specs.Prelude.{◌≡◌};
+ghost use Rattle.mac_calls.specs.declared.call.Call.TheVariants.{Resource};
+ghost use Rattle.mac_calls.specs.declared.resource_call.ResourceCall.TheVariants.{Getting, Looking, Changing, Writing};
 ghost use Rattle.script_lang.specs.Resolving as calls;
 
 use crate::line::{CallLine, IdOperand, NamedCall, NumberOperand};
@@ -11,7 +13,10 @@ use crate::table::{
 use crate::vars::Vars;
 use mac_base::handle::{Handle, Ptr};
 use mac_base::resource::ResType;
-use mac_calls::{Call, LoanCall, MemoryCall, ResourceCall, Span};
+use mac_calls::{
+    Call, ChangingCall, GettingCall, LoanCall, LookingCall, MemoryCall, ResourceCall, Span,
+    WritingCall,
+};
 
 /// The number that is written, or the value of the variable.
 pub(crate) fn number_of(operand: NumberOperand, vars: &Vars) -> u32
@@ -33,59 +38,78 @@ fn id_of(operand: IdOperand, vars: &Vars) -> i64
     }
 }
 
+/// A call that gets or loads a resource.
+fn getting(call: GettingCall) -> Call<'static>
+    ensures { result ≡ Resource (Getting call) }
+{
+    Call::Resource(ResourceCall::Getting(call))
+}
+
+/// A call that tells what the open files say.
+fn looking(call: LookingCall) -> Call<'static>
+    ensures { result ≡ Resource (Looking call) }
+{
+    Call::Resource(ResourceCall::Looking(call))
+}
+
+/// A call that changes what the open files say, or how later calls go.
+fn changing(call: ChangingCall) -> Call<'static>
+    ensures { result ≡ Resource (Changing call) }
+{
+    Call::Resource(ResourceCall::Changing(call))
+}
+
+/// A call that writes a file, or a row of one.
+fn writing(call: WritingCall) -> Call<'static>
+    ensures { result ≡ Resource (Writing call) }
+{
+    Call::Resource(ResourceCall::Writing(call))
+}
+
 /// The call of this name on a number.
 fn number_call(call: NumberName, number: u32) -> Call<'static>
     ensures { result ≡ calls.number_call call number }
 {
+    let handle = Handle::new(number);
     match call {
         NumberName::NewHandle => Call::Memory(MemoryCall::NewHandle(number)),
         NumberName::NewPtr => Call::Memory(MemoryCall::NewPtr(number)),
-        NumberName::DisposeHandle => Call::Memory(MemoryCall::DisposeHandle(Handle::new(number))),
+        NumberName::DisposeHandle => Call::Memory(MemoryCall::DisposeHandle(handle)),
         NumberName::DisposePtr => Call::Memory(MemoryCall::DisposePtr(Ptr::new(number))),
-        NumberName::EmptyHandle => Call::Memory(MemoryCall::EmptyHandle(Handle::new(number))),
-        NumberName::GetHandleSize => Call::Memory(MemoryCall::GetHandleSize(Handle::new(number))),
+        NumberName::EmptyHandle => Call::Memory(MemoryCall::EmptyHandle(handle)),
+        NumberName::GetHandleSize => Call::Memory(MemoryCall::GetHandleSize(handle)),
         NumberName::GetPtrSize => Call::Memory(MemoryCall::GetPtrSize(Ptr::new(number))),
-        NumberName::HLock => Call::Memory(MemoryCall::HLock(Handle::new(number))),
-        NumberName::HUnlock => Call::Memory(MemoryCall::HUnlock(Handle::new(number))),
-        NumberName::HPurge => Call::Memory(MemoryCall::HPurge(Handle::new(number))),
-        NumberName::HNoPurge => Call::Memory(MemoryCall::HNoPurge(Handle::new(number))),
-        NumberName::HSetRBit => Call::Memory(MemoryCall::HSetRBit(Handle::new(number))),
-        NumberName::HClrRBit => Call::Memory(MemoryCall::HClrRBit(Handle::new(number))),
-        NumberName::HGetState => Call::Memory(MemoryCall::HGetState(Handle::new(number))),
-        NumberName::Deref => Call::Memory(MemoryCall::Deref(Handle::new(number))),
+        NumberName::HLock => Call::Memory(MemoryCall::HLock(handle)),
+        NumberName::HUnlock => Call::Memory(MemoryCall::HUnlock(handle)),
+        NumberName::HPurge => Call::Memory(MemoryCall::HPurge(handle)),
+        NumberName::HNoPurge => Call::Memory(MemoryCall::HNoPurge(handle)),
+        NumberName::HSetRBit => Call::Memory(MemoryCall::HSetRBit(handle)),
+        NumberName::HClrRBit => Call::Memory(MemoryCall::HClrRBit(handle)),
+        NumberName::HGetState => Call::Memory(MemoryCall::HGetState(handle)),
+        NumberName::Deref => Call::Memory(MemoryCall::Deref(handle)),
         NumberName::RecoverHandle => Call::Memory(MemoryCall::RecoverHandle(number)),
-        NumberName::MoveHHi => Call::Memory(MemoryCall::MoveHHi(Handle::new(number))),
-        NumberName::HLockHi => Call::Memory(MemoryCall::HLockHi(Handle::new(number))),
-        NumberName::HandToHand => Call::Memory(MemoryCall::HandToHand(Handle::new(number))),
+        NumberName::MoveHHi => Call::Memory(MemoryCall::MoveHHi(handle)),
+        NumberName::HLockHi => Call::Memory(MemoryCall::HLockHi(handle)),
+        NumberName::HandToHand => Call::Memory(MemoryCall::HandToHand(handle)),
         NumberName::CompactMem => Call::Memory(MemoryCall::CompactMem(number)),
         NumberName::PurgeMem => Call::Memory(MemoryCall::PurgeMem(number)),
         NumberName::ReserveMem => Call::Memory(MemoryCall::ReserveMem(number)),
         NumberName::Lend => Call::Loan(LoanCall::Lend(number)),
         NumberName::Return => Call::Loan(LoanCall::Return(number)),
-        NumberName::LoadResource => Call::Resource(ResourceCall::LoadResource(Handle::new(number))),
-        NumberName::ReleaseResource => Call::Resource(ResourceCall::ReleaseResource(Handle::new(
-            number,
-        ))),
-        NumberName::DetachResource => Call::Resource(ResourceCall::DetachResource(Handle::new(
-            number,
-        ))),
-        NumberName::ChangedResource => Call::Resource(ResourceCall::ChangedResource(Handle::new(
-            number,
-        ))),
-        NumberName::RemoveResource => Call::Resource(ResourceCall::RemoveResource(Handle::new(
-            number,
-        ))),
-        NumberName::WriteResource => Call::Resource(ResourceCall::WriteResource(Handle::new(
-            number,
-        ))),
-        NumberName::GetResAttrs => Call::Resource(ResourceCall::GetResAttrs(Handle::new(number))),
-        NumberName::GetResInfo => Call::Resource(ResourceCall::GetResInfo(Handle::new(number))),
-        NumberName::SizeResource => Call::Resource(ResourceCall::SizeResource(Handle::new(number))),
-        NumberName::HomeResFile => Call::Resource(ResourceCall::HomeResFile(Handle::new(number))),
-        NumberName::GetIndType => Call::Resource(ResourceCall::GetIndType(number)),
-        NumberName::SetResLoad => Call::Resource(ResourceCall::SetResLoad(number)),
+        NumberName::LoadResource => getting(GettingCall::LoadResource(handle)),
+        NumberName::ReleaseResource => changing(ChangingCall::ReleaseResource(handle)),
+        NumberName::DetachResource => changing(ChangingCall::DetachResource(handle)),
+        NumberName::ChangedResource => changing(ChangingCall::ChangedResource(handle)),
+        NumberName::RemoveResource => changing(ChangingCall::RemoveResource(handle)),
+        NumberName::WriteResource => writing(WritingCall::WriteResource(handle)),
+        NumberName::GetResAttrs => looking(LookingCall::GetResAttrs(handle)),
+        NumberName::GetResInfo => Call::Resource(ResourceCall::GetResInfo(handle)),
+        NumberName::SizeResource => looking(LookingCall::SizeResource(handle)),
+        NumberName::HomeResFile => looking(LookingCall::HomeResFile(handle)),
+        NumberName::GetIndType => looking(LookingCall::GetIndType(number)),
+        NumberName::SetResLoad => changing(ChangingCall::SetResLoad(number)),
         NumberName::OpenResFile => Call::Resource(ResourceCall::OpenResFile(number)),
-        NumberName::UseResFile => Call::Resource(ResourceCall::UseResFile(number)),
+        NumberName::UseResFile => changing(ChangingCall::UseResFile(number)),
     }
 }
 
@@ -103,8 +127,8 @@ fn plain_call(call: PlainName) -> Call<'static>
         PlainName::MaxApplZone => Call::Memory(MemoryCall::MaxApplZone),
         PlainName::ZoneMap => Call::Memory(MemoryCall::ZoneMap),
         PlainName::MemError => Call::MemError,
-        PlainName::CountTypes => Call::Resource(ResourceCall::CountTypes),
-        PlainName::CurResFile => Call::Resource(ResourceCall::CurResFile),
+        PlainName::CountTypes => looking(LookingCall::CountTypes),
+        PlainName::CurResFile => looking(LookingCall::CurResFile),
         PlainName::ResError => Call::ResError,
     }
 }
@@ -132,7 +156,7 @@ fn two_numbers_call(call: TwoNumbersName, first: u32, second: u32) -> Call<'stat
             Handle::new(first),
             Handle::new(second),
         )),
-        TwoNumbersName::SetResAttrs => Call::Resource(ResourceCall::SetResAttrs {
+        TwoNumbersName::SetResAttrs => changing(ChangingCall::SetResAttrs {
             handle: Handle::new(first),
             attributes: second,
         }),
@@ -190,8 +214,8 @@ fn resource_call(call: ResourceName, kind: ResType, id: i64) -> Call<'static>
     ensures { result ≡ calls.resource_call call kind id }
 {
     match call {
-        ResourceName::GetResource => Call::Resource(ResourceCall::GetResource { kind, id }),
-        ResourceName::Get1Resource => Call::Resource(ResourceCall::Get1Resource { kind, id }),
+        ResourceName::GetResource => getting(GettingCall::GetResource { kind, id }),
+        ResourceName::Get1Resource => getting(GettingCall::Get1Resource { kind, id }),
     }
 }
 
@@ -200,8 +224,8 @@ fn file_call(call: FileName, file: Option<u32>) -> Call<'static>
     ensures { result ≡ calls.file_call call file }
 {
     match call {
-        FileName::UpdateResFile => Call::Resource(ResourceCall::UpdateResFile(file)),
-        FileName::CloseResFile => Call::Resource(ResourceCall::CloseResFile(file)),
+        FileName::UpdateResFile => writing(WritingCall::UpdateResFile(file)),
+        FileName::CloseResFile => writing(WritingCall::CloseResFile(file)),
     }
 }
 
@@ -210,8 +234,8 @@ fn kind_call(call: KindName, kind: ResType) -> Call<'static>
     ensures { result ≡ calls.kind_call call kind }
 {
     match call {
-        KindName::UniqueID => Call::Resource(ResourceCall::UniqueID(kind)),
-        KindName::CountResources => Call::Resource(ResourceCall::CountResources(kind)),
+        KindName::UniqueID => looking(LookingCall::UniqueID(kind)),
+        KindName::CountResources => looking(LookingCall::CountResources(kind)),
     }
 }
 
@@ -256,7 +280,7 @@ pub fn resolve<'a>(line: &CallLine<'a>, vars: &Vars) -> Call<'a>
             Span::new(bytes.as_slice()),
         ),
         NamedCall::Resource(call, kind, id) => resource_call(*call, *kind, id_of(*id, vars)),
-        NamedCall::GetIndResource(kind, index) => Call::Resource(ResourceCall::GetIndResource {
+        NamedCall::GetIndResource(kind, index) => getting(GettingCall::GetIndResource {
             kind: *kind,
             index: number_of(*index, vars),
         }),

@@ -3,12 +3,13 @@ use Rattle.std.proofs.Common.{◌≡◌, ℕ, zero, suc, ◌-◌, ◌≤◌, Lis
 use Rattle.std.specs.Option.{IsSomeAnd}
 use Rattle.std.proofs.lemmas.Bool.{false≢true}
 use Rattle.res_files.proofs.Stores.{fork_or}
-use Rattle.std.specs.Prelude.{Bool, true, false, IfSome, IsOk, MatchBool}
+use Rattle.std.specs.Prelude.{IfSome, IsOk}
 use Rattle.mac_base.specs.declared.error.OsErr.{OsErr}
 use Rattle.mac_calls.specs.declared.call.Call.{Call}
 use Rattle.mac_calls.specs.declared.call.Call.TheVariants.{Memory as MemoryCalls, Loan, Resource, MemError, ResError}
 use Rattle.mac_calls.specs.declared.resource_call.ResourceCall.{ResourceCall}
-use Rattle.mac_calls.specs.declared.resource_call.ResourceCall.TheVariants as call
+use Rattle.mac_calls.specs.declared.resource_call.ResourceCall.TheVariants.{Getting, Writing}
+use Rattle.mac_calls.specs.declared.resource_call.WritingCall.TheVariants.{CloseResFile}
 use Rattle.mac_calls.specs.GrowZone.{Ask}
 use Rattle.mac_calls.specs.Outcomes.{Outcome}
 use Rattle.fork_bytes.specs.declared.table.Table.{Table}
@@ -23,8 +24,7 @@ use Rattle.res_calls.specs.Files.{ResState, ResourceEnd, disk_of, with_disk, wit
 use Rattle.res_calls.specs.Steps.{Gets, IsSaved, MemoryRelation, Memory as MayStep, Opens, Quiet, ResourceStepBy, StepsUnless, Updates, Work, Works, update_in, work_of}
 use Rattle.res_calls.specs.Tests.{resource_refusal}
 use Rattle.res_calls.specs.Updates.{Update, behind_update, update_end}
-use Rattle.res_calls.specs.Answered.{IsAnswered, answered_disks}
-use Rattle.res_calls.specs.Loads.{gets}
+use Rattle.res_calls.specs.Answered.{WasAnswered, answered_disks}
 use Rattle.res_calls.proofs.Answering.{disk_answered, gets_none}
 use Rattle.res_files.specs.Crash.{history_of}
 use Rattle.res_files.specs.FilesOn.{FilesOn, fork_of}
@@ -70,7 +70,7 @@ module _ (honest : ℕ → Type 0) (Inner : MemoryRelation) (disks : ℕ → Dis
     with_saved u = with_disk u.file (written (saved_table u.table)) (with_files (rows_changed u.file (λ _. u.table.rows) old.files) old)
 
     same-disks : (rc : ResourceCall) (k : ℕ) (state : ResState) → (behind_update rc k state).disks ≡ state.disks
-    same-disks (call.CloseResFile named) k state = refl
+    same-disks (Writing (CloseResFile named)) k state = refl
     same-disks rc k state = refl
 
     -- the table that was saved is written there
@@ -106,15 +106,12 @@ each-update (Some u) more is = more u is
 
 -- so it is after a call by what the devices answered
 call-written : (honest : ℕ → Type 0) (answered : ℕ → Type 0) (may_leave : LeaveRelation) (way : Device) (old before : ResState) (rc : ResourceCall) (asks : List Ask) (end : ResourceEnd)
-    → MatchBool (gets rc) (IsAnswered answered old before) (before ≡ old) → ResourceStepBy MayStep (answered_disks answered may_leave) way before rc asks end → let update = update_in (work_of old rc) in
+    → WasAnswered answered old rc before → ResourceStepBy MayStep (answered_disks answered may_leave) way before rc asks end → let update = update_in (work_of old rc) in
     IsOk end.outcome → IsSaved honest update end.state → IsWritten honest update end.state
-call-written honest answered may_leave way old before rc asks end was step ok saved = by (gets rc) refl was
-  where
-    by : (b : Bool) → gets rc ≡ b → MatchBool b (IsAnswered answered old before) (before ≡ old) → IsWritten honest (update_in (work_of old rc)) end.state
-    by true is was = subst (λ (o : Option Update). IsWritten honest o end.state) (sym (gets_none old rc is)) tt
-    by false is same =
-        let from_old = subst (λ (s : ResState). ResourceStepBy MayStep (answered_disks answered may_leave) way s rc asks end) same step in
-        unless-written honest MayStep (answered_disks answered may_leave) way old rc asks end (resource_refusal old rc) from_old ok saved
+call-written honest answered may_leave way old before (Getting call) asks end was step ok saved = subst (λ (o : Option Update). IsWritten honest o end.state) (sym (gets_none old call)) tt
+call-written honest answered may_leave way old before rc asks end same step ok saved =
+    let from_old = subst (λ (s : ResState). ResourceStepBy MayStep (answered_disks answered may_leave) way s rc asks end) same step in
+    unless-written honest MayStep (answered_disks answered may_leave) way old rc asks end (resource_refusal old rc) from_old ok saved
 
 -- ---- each call
 

@@ -11,7 +11,7 @@ use Rattle.mac_calls.specs.declared.call.Call.{Call}
 use Rattle.mac_calls.specs.declared.call.Call.TheVariants.{Memory, Loan, Resource, MemError, ResError}
 use Rattle.mac_calls.specs.Loans.{Loans}
 use Rattle.mac_calls.specs.declared.resource_call.ResourceCall.{ResourceCall}
-use Rattle.mac_calls.specs.declared.resource_call.ResourceCall.TheVariants as call
+use Rattle.mac_calls.specs.declared.resource_call.ResourceCall.TheVariants.{OpenResFile}
 use Rattle.mac_calls.specs.GrowZone.{Ask}
 use Rattle.mac_calls.specs.Outcomes.{Outcome}
 use Rattle.res_table.specs.declared.chain.RowPlace.{RowPlace}
@@ -86,21 +86,21 @@ gives_noted store old mid refused resource_refused MemError asks outcome gives =
 gives_noted store old mid refused resource_refused ResError asks outcome gives = gives
 
 -- the opening of a file asks nothing
-opening_asks_nothing : (One : MemoryRelation) (disks : ℕ → DiskRelations) (device : Device) (old : ResState) (k : ℕ) (asks : List Ask) (end : ResourceEnd) → ResourceStepBy One disks device old (call.OpenResFile k) asks end → asks ≡ []
-opening_asks_nothing One disks device old k asks end step = by_refusal (resource_refusal old (call.OpenResFile k)) step
+opening_asks_nothing : (One : MemoryRelation) (disks : ℕ → DiskRelations) (device : Device) (old : ResState) (k : ℕ) (asks : List Ask) (end : ResourceEnd) → ResourceStepBy One disks device old (OpenResFile k) asks end → asks ≡ []
+opening_asks_nothing One disks device old k asks end step = by_refusal (resource_refusal old (OpenResFile k)) step
   where
-    by_refusal : (refusal : Option OsErr) → StepsUnless One disks refusal device old (call.OpenResFile k) asks end → asks ≡ []
+    by_refusal : (refusal : Option OsErr) → StepsUnless One disks refusal device old (OpenResFile k) asks end → asks ≡ []
     by_refusal (Some code) step = step.0
-    by_refusal None step = elim (is_open k old.files) as (λ (b : Bool). Works One disks device old (call.OpenResFile k) asks end (if b then Quiet else Opens k) → asks ≡ []) [
+    by_refusal None step = elim (is_open k old.files) as (λ (b : Bool). Works One disks device old (OpenResFile k) asks end (if b then Quiet else Opens k) → asks ≡ []) [
       | true ↦ λ works. works.0
       | false ↦ λ works. works.0
     ] step
 
 -- so what it gives, it gives without an ask
-pub opening_gives : {S : Type 0} (store : Ghosts S) (old new : ToolState S) (k : ℕ) (asks : List Ask) (result : Result Outcome HostFull) → IfOk result (λ outcome. Gives store old (Resource (call.OpenResFile k)) asks outcome new) → IfOk result (λ outcome. Gives store old (Resource (call.OpenResFile k)) [] outcome new)
+pub opening_gives : {S : Type 0} (store : Ghosts S) (old new : ToolState S) (k : ℕ) (asks : List Ask) (result : Result Outcome HostFull) → IfOk result (λ outcome. Gives store old (Resource (OpenResFile k)) asks outcome new) → IfOk result (λ outcome. Gives store old (Resource (OpenResFile k)) [] outcome new)
 opening_gives store old new k asks (Ok outcome) gives =
     let given = gives.0 in (
-      subst (λ (none : List Ask). ResourceGives store MayStep old (call.OpenResFile k) none outcome new)
+      subst (λ (none : List Ask). ResourceGives store MayStep old (OpenResFile k) none outcome new)
           (opening_asks_nothing MayStep (answered_disks (IsHonest store new) store.may_leave) given.device given.before k asks (record { outcome = outcome; state = given.after }) given.step) given,
       gives.1,
       gives.2,

@@ -1,6 +1,7 @@
 use Rattle.std.proofs.Common.{None, ap}
-use Rattle.mac_calls.specs.declared.resource_call.ResourceCall.{ResourceCall}
-use Rattle.mac_calls.specs.declared.resource_call.ResourceCall.TheVariants.{CloseResFile, UpdateResFile}
+use Rattle.mac_calls.specs.declared.resource_call.ResourceCall.TheVariants.{Writing}
+use Rattle.mac_calls.specs.declared.resource_call.WritingCall.{WritingCall}
+use Rattle.mac_calls.specs.declared.resource_call.WritingCall.TheVariants.{UpdateResFile, CloseResFile}
 use Rattle.res_calls.specs.Updates.{behind_update}
 use Rattle.res_update.specs.Selected.{updated}
 use Rattle.res_update.specs.declared.selection.Selection.TheVariants.{AllChanged}
@@ -12,7 +13,7 @@ use Rattle.res_manager.proofs.updating.update.Goals as goal
 
 pub close-requires-clause-unlent : goal.close-requires-clause-unlent
 close-requires-clause-unlent g c =
-    closing_unlent g.S.ForkStore.fork c.args.memory.now c.args.files.now c.args.call.now c.in-CloseResFile.named c.in-Ok-test_open.number c.in-CloseResFile.is c.requires.passed c.in-Ok-test_open.ensures.value.0
+    closing_unlent g.S.ForkStore.fork c.args.memory.now c.args.files.now (Writing c.args.call) c.in-CloseResFile.named c.in-Ok-test_open.number (ap Writing c.in-CloseResFile.is) c.requires.passed c.in-Ok-test_open.ensures.value.0
 
 pub returns-in-Ok-clause-step : goal.returns-in-Ok-clause-step
 returns-in-Ok-clause-step g c =
@@ -22,9 +23,9 @@ returns-in-Ok-clause-step g c =
     let zone = c.args.memory.now in
     let on = c.args.files.now in
     let o = open_update c.in-Ok.number (updated zone.heap.table AllChanged) on.files c.in-Ok.ensures.value.1 in
-    let made = makes_file fork zone on c.args.call.now c.in-UpdateResFile.named c.in-Ok.number o.0 c.in-UpdateResFile.is c.requires.passed c.in-Ok.ensures.value.0 o.1 in
-    if_ok _ _ c.write_file.result (λ outcome written. made_steps g.S.ForkStore zone on new after c.args.call.now o.0 outcome made
-    (writes_as g.S.ForkStore zone new on after o.0 (UpdateResFile None) c.args.call.now outcome (λ k state. ap (λ (d : ResourceCall). behind_update d k state) c.in-UpdateResFile.is) (written o.0 o.1))) (c.write_file.ensures.written)
+    let made = makes_file fork zone on (Writing c.args.call) c.in-UpdateResFile.named c.in-Ok.number o.0 (ap Writing c.in-UpdateResFile.is) c.requires.passed c.in-Ok.ensures.value.0 o.1 in
+    if_ok _ _ c.write_file.result (λ outcome written. made_steps g.S.ForkStore zone on new after (Writing c.args.call) o.0 outcome made
+    (writes_as g.S.ForkStore zone new on after o.0 (Writing (UpdateResFile None)) (Writing c.args.call) outcome (λ k state. ap (λ (d : WritingCall). behind_update (Writing d) k state) c.in-UpdateResFile.is) (written o.0 o.1))) (c.write_file.ensures.written)
 
 pub returns-in-Ok-clause-leaves : goal.returns-in-Ok-clause-leaves
 returns-in-Ok-clause-leaves g c =
@@ -32,8 +33,8 @@ returns-in-Ok-clause-leaves g c =
     let zone = c.args.memory.now in
     let on = c.args.files.now in
     let o = open_update c.in-Ok.number (updated zone.heap.table AllChanged) on.files c.in-Ok.ensures.value.1 in
-    let made = makes_file fork zone on c.args.call.now c.in-UpdateResFile.named c.in-Ok.number o.0 c.in-UpdateResFile.is c.requires.passed c.in-Ok.ensures.value.0 o.1 in
-    made_leaves g.S.ForkStore zone zone on c.write_file.new.files c.args.call.now c.in-Ok.number (updated zone.heap.table AllChanged) o.0 c.write_file.result o.1 made c.write_file.ensures.same c.write_file.ensures.saves
+    let made = makes_file fork zone on (Writing c.args.call) c.in-UpdateResFile.named c.in-Ok.number o.0 (ap Writing c.in-UpdateResFile.is) c.requires.passed c.in-Ok.ensures.value.0 o.1 in
+    made_leaves g.S.ForkStore zone zone on c.write_file.new.files (Writing c.args.call) c.in-Ok.number (updated zone.heap.table AllChanged) o.0 c.write_file.result o.1 made c.write_file.ensures.same c.write_file.ensures.saves
 
 pub returns-in-Ok-clause-late : goal.returns-in-Ok-clause-late
 returns-in-Ok-clause-late g c =
@@ -41,8 +42,8 @@ returns-in-Ok-clause-late g c =
     let zone = c.args.memory.now in
     let on = c.args.files.now in
     let o = open_update c.in-Ok.number (updated zone.heap.table AllChanged) on.files c.in-Ok.ensures.value.1 in
-    let made = makes_file fork zone on c.args.call.now c.in-UpdateResFile.named c.in-Ok.number o.0 c.in-UpdateResFile.is c.requires.passed c.in-Ok.ensures.value.0 o.1 in
-    on_err _ _ c.write_file.result (λ fits. made_late fork zone on c.args.call.now o.0 made (fits o.0 o.1)) (c.write_file.ensures.fits)
+    let made = makes_file fork zone on (Writing c.args.call) c.in-UpdateResFile.named c.in-Ok.number o.0 (ap Writing c.in-UpdateResFile.is) c.requires.passed c.in-Ok.ensures.value.0 o.1 in
+    on_err _ _ c.write_file.result (λ fits. made_late fork zone on (Writing c.args.call) o.0 made (fits o.0 o.1)) (c.write_file.ensures.fits)
 
 pub returns-in-Ok-clause-full : goal.returns-in-Ok-clause-full
 returns-in-Ok-clause-full g c =
@@ -50,7 +51,7 @@ returns-in-Ok-clause-full g c =
     let zone = c.args.memory.now in
     let on = c.args.files.now in
     let o = open_update c.in-Ok.number (updated zone.heap.table AllChanged) on.files c.in-Ok.ensures.value.1 in
-    let made = makes_file fork zone on c.args.call.now c.in-UpdateResFile.named c.in-Ok.number o.0 c.in-UpdateResFile.is c.requires.passed c.in-Ok.ensures.value.0 o.1 in
+    let made = makes_file fork zone on (Writing c.args.call) c.in-UpdateResFile.named c.in-Ok.number o.0 (ap Writing c.in-UpdateResFile.is) c.requires.passed c.in-Ok.ensures.value.0 o.1 in
     on_err _ _ c.write_file.result (λ fits. made.full) (c.write_file.ensures.fits)
 
 pub returns-in-Ok-test_open-clause-step : goal.returns-in-Ok-test_open-clause-step
@@ -61,9 +62,9 @@ returns-in-Ok-test_open-clause-step g c =
     let zone = c.args.memory.now in
     let on = c.args.files.now in
     let o = open_update c.in-Ok-test_open.number (updated zone.heap.table AllChanged) on.files c.in-Ok-test_open.ensures.value.1 in
-    let made = makes_closed fork zone on c.args.call.now c.in-CloseResFile.named c.in-Ok-test_open.number o.0 c.in-CloseResFile.is c.requires.passed c.in-Ok-test_open.ensures.value.0 o.1 in
-    if_ok _ _ c.close.result (λ outcome written. made_steps g.S.ForkStore zone on new after c.args.call.now o.0 outcome made
-    (writes_as g.S.ForkStore zone new on after o.0 (CloseResFile None) c.args.call.now outcome (λ k state. ap (λ (d : ResourceCall). behind_update d k state) c.in-CloseResFile.is) (written o.0 o.1))) (c.close.ensures.written)
+    let made = makes_closed fork zone on (Writing c.args.call) c.in-CloseResFile.named c.in-Ok-test_open.number o.0 (ap Writing c.in-CloseResFile.is) c.requires.passed c.in-Ok-test_open.ensures.value.0 o.1 in
+    if_ok _ _ c.close.result (λ outcome written. made_steps g.S.ForkStore zone on new after (Writing c.args.call) o.0 outcome made
+    (writes_as g.S.ForkStore zone new on after o.0 (Writing (CloseResFile None)) (Writing c.args.call) outcome (λ k state. ap (λ (d : WritingCall). behind_update (Writing d) k state) c.in-CloseResFile.is) (written o.0 o.1))) (c.close.ensures.written)
 
 pub returns-in-Ok-test_open-clause-leaves : goal.returns-in-Ok-test_open-clause-leaves
 returns-in-Ok-test_open-clause-leaves g c =
@@ -71,8 +72,8 @@ returns-in-Ok-test_open-clause-leaves g c =
     let zone = c.args.memory.now in
     let on = c.args.files.now in
     let o = open_update c.in-Ok-test_open.number (updated zone.heap.table AllChanged) on.files c.in-Ok-test_open.ensures.value.1 in
-    let made = makes_closed fork zone on c.args.call.now c.in-CloseResFile.named c.in-Ok-test_open.number o.0 c.in-CloseResFile.is c.requires.passed c.in-Ok-test_open.ensures.value.0 o.1 in
-    made_leaves g.S.ForkStore zone c.close.new.memory on c.close.new.files c.args.call.now c.in-Ok-test_open.number (updated zone.heap.table AllChanged) o.0 c.close.result o.1 made c.close.ensures.same c.close.ensures.saves
+    let made = makes_closed fork zone on (Writing c.args.call) c.in-CloseResFile.named c.in-Ok-test_open.number o.0 (ap Writing c.in-CloseResFile.is) c.requires.passed c.in-Ok-test_open.ensures.value.0 o.1 in
+    made_leaves g.S.ForkStore zone c.close.new.memory on c.close.new.files (Writing c.args.call) c.in-Ok-test_open.number (updated zone.heap.table AllChanged) o.0 c.close.result o.1 made c.close.ensures.same c.close.ensures.saves
 
 pub returns-in-Ok-test_open-clause-late : goal.returns-in-Ok-test_open-clause-late
 returns-in-Ok-test_open-clause-late g c =
@@ -80,8 +81,8 @@ returns-in-Ok-test_open-clause-late g c =
     let zone = c.args.memory.now in
     let on = c.args.files.now in
     let o = open_update c.in-Ok-test_open.number (updated zone.heap.table AllChanged) on.files c.in-Ok-test_open.ensures.value.1 in
-    let made = makes_closed fork zone on c.args.call.now c.in-CloseResFile.named c.in-Ok-test_open.number o.0 c.in-CloseResFile.is c.requires.passed c.in-Ok-test_open.ensures.value.0 o.1 in
-    on_err _ _ c.close.result (λ fits. made_late fork zone on c.args.call.now o.0 made (fits o.0 o.1)) (c.close.ensures.fits)
+    let made = makes_closed fork zone on (Writing c.args.call) c.in-CloseResFile.named c.in-Ok-test_open.number o.0 (ap Writing c.in-CloseResFile.is) c.requires.passed c.in-Ok-test_open.ensures.value.0 o.1 in
+    on_err _ _ c.close.result (λ fits. made_late fork zone on (Writing c.args.call) o.0 made (fits o.0 o.1)) (c.close.ensures.fits)
 
 pub returns-in-Ok-test_open-clause-full : goal.returns-in-Ok-test_open-clause-full
 returns-in-Ok-test_open-clause-full g c =
@@ -89,5 +90,5 @@ returns-in-Ok-test_open-clause-full g c =
     let zone = c.args.memory.now in
     let on = c.args.files.now in
     let o = open_update c.in-Ok-test_open.number (updated zone.heap.table AllChanged) on.files c.in-Ok-test_open.ensures.value.1 in
-    let made = makes_closed fork zone on c.args.call.now c.in-CloseResFile.named c.in-Ok-test_open.number o.0 c.in-CloseResFile.is c.requires.passed c.in-Ok-test_open.ensures.value.0 o.1 in
+    let made = makes_closed fork zone on (Writing c.args.call) c.in-CloseResFile.named c.in-Ok-test_open.number o.0 (ap Writing c.in-CloseResFile.is) c.requires.passed c.in-Ok-test_open.ensures.value.0 o.1 in
     on_err _ _ c.close.result (λ fits. made.full) (c.close.ensures.fits)

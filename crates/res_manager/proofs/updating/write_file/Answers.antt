@@ -10,7 +10,8 @@ use Rattle.res_calls.specs.Steps.{IsSaved}
 use Rattle.res_update.specs.Selected.{updated}
 use Rattle.res_update.specs.declared.fault.UpdateFault.TheVariants.{Device}
 use Rattle.mac_calls.specs.declared.reply.Results.TheVariants.{Nothing}
-use Rattle.mac_calls.specs.declared.resource_call.ResourceCall.TheVariants.{UpdateResFile}
+use Rattle.mac_calls.specs.declared.resource_call.ResourceCall.TheVariants.{Writing}
+use Rattle.mac_calls.specs.declared.resource_call.WritingCall.TheVariants.{UpdateResFile}
 use Rattle.res_calls.specs.Updates.{Update, fits_fork, update_of}
 use Rattle.res_manager.proofs.ReadingBack.{saved_update}
 use Rattle.res_manager.proofs.WritingFiles.{true_unless, update_found, writes_all, writes_faulted, writes_nothing}
@@ -24,7 +25,7 @@ returns-in-Ok-clause-written g c = λ u is.
     let rows = rw f.there at c.in-Ok.ensures.rows in
     let big = rw f.there at c.in-Ok.ensures.too_big in
     let v : Update = record { file = c.args.number; table = updated t c.args.selection f.table } in
-    let P : Update → Type 0 = λ w. WritesFile g.S.ForkStore c.args.memory.now c.args.files.now (UpdateResFile None) w (Ok Nothing) c.args.memory.now c.update.new.self in
+    let P : Update → Type 0 = λ w. WritesFile g.S.ForkStore c.args.memory.now c.args.files.now (Writing (UpdateResFile None)) w (Ok Nothing) c.args.memory.now c.update.new.self in
     subst P f.is (writes_all g.S.ForkStore c.args.memory.now c.args.files.now c.update.new.self v c.update.ensures.loads c.update.ensures.count c.update.ensures.others (true_unless (fits_fork v.table) (λ h. absurd (cc (big.1 h)))) rows (λ honest. rw f.there at ((c.in-Ok.ensures.updates honest).replaced)) c.in-Ok.ensures.none)
 
 pub returns-in-Err-Device-clause-written : goal.returns-in-Err-Device-clause-written
@@ -35,7 +36,7 @@ returns-in-Err-Device-clause-written g c = λ u is.
     let all = rw c.in-Err-Device.field-0-is at c.in-Err-Device.ensures in
     let big = rw f.there at all.too_big in
     let v : Update = record { file = c.args.number; table = updated t c.args.selection f.table } in
-    let P : Update → Type 0 = λ w. WritesFile g.S.ForkStore c.args.memory.now c.args.files.now (UpdateResFile None) w (Err IoErr) c.args.memory.now c.update.new.self in
+    let P : Update → Type 0 = λ w. WritesFile g.S.ForkStore c.args.memory.now c.args.files.now (Writing (UpdateResFile None)) w (Err IoErr) c.args.memory.now c.update.new.self in
     subst P f.is (writes_faulted g.S.ForkStore c.args.memory.now c.args.files.now c.update.new.self v c.update.ensures.loads c.update.ensures.count c.update.ensures.others c.in-Err-Device.field-0-0 (true_unless (fits_fork v.table) (λ h. absurd (cc (big.1 h))))
     (λ is. all.before (ap (λ (f : ReplaceFault). Err (Device f)) is))
     (λ honest is. ((all.updates honest).before (ap (λ (f : ReplaceFault). Err (Device f)) is)).fork)
@@ -51,7 +52,7 @@ returns-in-Err-TooBig-clause-written g c = λ u is.
     let all = rw c.in-Err-TooBig.field-0-is at c.in-Err-TooBig.ensures in
     let big = rw f.there at all.too_big in
     let v : Update = record { file = c.args.number; table = updated t c.args.selection f.table } in
-    let P : Update → Type 0 = λ w. WritesFile g.S.ForkStore c.args.memory.now c.args.files.now (UpdateResFile None) w (Err DskFulErr) c.args.memory.now c.update.new.self in
+    let P : Update → Type 0 = λ w. WritesFile g.S.ForkStore c.args.memory.now c.args.files.now (Writing (UpdateResFile None)) w (Err DskFulErr) c.args.memory.now c.update.new.self in
     subst P f.is (writes_nothing g.S.ForkStore c.args.memory.now c.args.files.now c.update.new.self v c.update.ensures.loads c.update.ensures.count c.update.ensures.others (big.0 refl) (all.untouched refl))
 
 pub returns-in-Err-HostFull-clause-fits : goal.returns-in-Err-HostFull-clause-fits
