@@ -1,1 +1,5 @@
 mod Becoming
+mod Comes
+pub mod Entries
+mod Lost
+mod Refusing

@@ -8,7 +8,7 @@ use Rattle.fork_answer.specs.declared.answer.Failure.TheVariants as failure
 use Rattle.fork_change.specs.Rows.{with_rows}
 use Rattle.fork_change.specs.declared.refusal.Refusal.TheVariants as why
 use Rattle.fork_edit.specs.Edits.{edited}
-use Rattle.fork_edit.specs.Files.{HasTable, IsSourceOf}
+use Rattle.fork_edit.specs.Files.{HasTable, IsSourceOf, Refuses}
 use Rattle.fork_edit.specs.declared.edit.Edit.{Edit}
 use Rattle.fork_edit.specs.declared.change.NewFile.{NewFile}
 use Rattle.fork_edit.specs.declared.change.NotChanged.{NotChanged}
@@ -23,12 +23,12 @@ abbrev pub Differs : List ℕ → List Row → Edit → Table → List Row → T
 Differs file from edit table rows = IsTableIn file table × (edited edit from table.rows ≡ Ok rows) × (rows ≢ table.rows)
 
 -- what comes of a change of a file: nothing where its table stays as it is, else the file with the new table; or it is refused,
--- as the change is, or since the file has no table. Where the file can't hold the new table, or the host has no memory, that is told.
+-- as the change is, or since the file has no table, or exactly as the file is refused the new one. The host may have no memory.
 abbrev pub Comes : List ℕ → List Row → Edit → Result (Option NewFile) NotChanged → Type 0
 Comes file from edit (Ok None) = (table : Table) × IsTableIn file table × (edited edit from table.rows ≡ Ok table.rows)
-Comes file from edit (Ok (Some new)) = (table : Table) × (rows : List Row) × Differs file from edit table rows × HasTable file (with_rows table rows) new.file.items
+Comes file from edit (Ok (Some new)) = (table : Table) × (rows : List Row) × Differs file from edit table rows × HasTable file (with_rows table rows) new.file.items × Refuses file (with_rows table rows) None
 Comes file from edit (Err (unchanged.Edit fault)) = (table : Table) × IsTableIn file table × ((fault ≡ why.HostFull) ⊎ (edited edit from table.rows ≡ Err fault))
-Comes file from edit (Err (unchanged.Write fault)) = (table : Table) × (rows : List Row) × Differs file from edit table rows
+Comes file from edit (Err (unchanged.Write fault)) = (table : Table) × (rows : List Row) × Differs file from edit table rows × Refuses file (with_rows table rows) (Some fault)
 Comes file from edit (Err (unchanged.Read (failure.NoFork fault))) = IsNoForkIn file fault
 Comes file from edit (Err (unchanged.Read (failure.Fork fault))) = (fork : List ℕ) × IsSourceOf file fork × IsReadOf fork (Err fault)
 Comes file from edit (Err (unchanged.Read other)) = ⊥

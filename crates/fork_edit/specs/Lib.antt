@@ -1,4 +1,6 @@
-pub mod Files
-pub mod Edits
 pub mod Changes
 pub mod Convert
+pub mod Edits
+pub mod Extras
+pub mod Faults
+pub mod Files

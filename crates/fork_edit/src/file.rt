@@ -1,11 +1,15 @@
 //! The table of the resource fork in a file, and the file with another table in its place.
 
-ghost use Rattle.std.specs.Prelude.{◌≡◌, true, IfErr, IfOk, OnOk};
+ghost use Rattle.std.specs.Prelude.{◌≡◌, ◌≤◌, ◌⊎◌, ◌↔◌, true, length, option_map, IfErr, IfOk, IsErrOf, OnOk};
+ghost use Rattle.std.specs.Result.{result_err};
+ghost use Rattle.mac_files.specs.BinHex.{bin_hex_of};
 ghost use Rattle.mac_files.specs.Containers.{container_of};
-ghost use Rattle.mac_write.specs.Forks.{with_fork};
+ghost use Rattle.mac_write.specs.Forks.{refusal, with_fork};
+ghost use Rattle.fork_bytes.specs.Fork.{format_limits};
+ghost use Rattle.fork_bytes.specs.Written.{IsTooBigWithin};
 ghost use Rattle.fork_answer.specs.Answer.{IsTableOf};
 ghost use Rattle.fork_answer.specs.Source.{IsForkIn, IsNoForkIn, fork_of};
-ghost use Rattle.fork_edit.specs.Files.{HasTable, IsKeptAs, IsKeptElsewhere, IsSourceOf};
+ghost use Rattle.fork_edit.specs.Files.{HasTable, IsForkBy, IsKeptAs, IsKeptElsewhere, IsSourceOf, Refuses, RefusesFork, alone_why, is_alone, kept_why, text_why};
 
 use fork_answer::{Found, NoFork, read_table, resource_fork};
 use fork_bytes::fault::{ForkFault, WriteFault};
@@ -43,6 +47,11 @@ pub enum NotWritten {
 }
 
 impl From<Refusal> for NotWritten {
+    ghost use Rattle.std.specs.Prelude.{◌≡◌};
+    ghost use Rattle.fork_edit.specs.Faults.{of_container};
+
+    ghost from_gives = { λ refusal fault. fault ≡ of_container refusal };
+
     fn from(refusal: Refusal) -> NotWritten {
         match refusal {
             Refusal::HostFull => NotWritten::HostFull,
@@ -52,6 +61,11 @@ impl From<Refusal> for NotWritten {
 }
 
 impl From<BinHexFault> for NotWritten {
+    ghost use Rattle.std.specs.Prelude.{◌≡◌};
+    ghost use Rattle.fork_edit.specs.Faults.{of_text};
+
+    ghost from_gives = { λ text fault. fault ≡ of_text text };
+
     fn from(fault: BinHexFault) -> NotWritten {
         match fault {
             BinHexFault::HostFull => NotWritten::HostFull,
@@ -74,10 +88,13 @@ pub fn fork_or_none<'a>(alloc: Global, file: &'a [u8]) -> Result<Found<'a>, NoFo
     }
 }
 
-/// The file with this table in the place of its own, and all else as it was. It is TooBig where the table is more than the format can
-/// say. What is written is read again before it is given.
+/// The file with this table in the place of its own, and all else as it was. It is TooBig exactly where the table is more than the
+/// format can say, and Mistaken where rows of one type are apart, or where the fork alone would be taken for something else. Any
+/// other refusal is that of the container or of the text, and comes exactly where it is defined, but for HostFull.
 pub fn with_table(alloc: Global, file: &[u8], table: &Table) -> Result<Vec<u8>, NotWritten>
-    ensures { IfOk result (λ new. HasTable file.now table.now new.items) }
+    ensures too_big { IsErrOf result NotWritten.TooBig ↔ IsTooBigWithin format_limits table.now }
+    ensures refused { Refuses file.now table.now (result_err result) }
+    ensures holds { IfOk result (λ new. HasTable file.now table.now new.items) }
 {
     let fork = match write_fork_within(alloc, Limits::FORMAT, table) {
         Ok(fork) => fork,
@@ -85,13 +102,13 @@ pub fn with_table(alloc: Global, file: &[u8], table: &Table) -> Result<Vec<u8>, 
         Err(WriteFault::HostFull) => return Err(NotWritten::HostFull),
     };
     read_back(alloc, &fork, table)?;
-    let new = kept_with(alloc, file, fork)?;
-    Ok(new)
+    kept_with(alloc, file, fork)
 }
 
-/// Reads a fork again. It is Mistaken where its table isn't this one.
+/// Reads a fork again. It is Mistaken exactly where its table isn't this one, but for HostFull.
 fn read_back(alloc: Global, fork: &[u8], table: &Table) -> Result<(), NotWritten>
-    ensures { OnOk result (IsTableOf fork.now table.now) }
+    ensures same { OnOk result (IsTableOf fork.now table.now) }
+    ensures other { IfErr result (λ fault. (fault ≡ NotWritten.HostFull) ⊎ ((fault ≡ NotWritten.Mistaken) × (¬ IsTableOf fork.now table.now))) }
 {
     match read_table(alloc, fork) {
         Ok(read) if is_same_table(&read, table) => Ok(()),
@@ -100,37 +117,64 @@ fn read_back(alloc: Global, fork: &[u8], table: &Table) -> Result<(), NotWritten
     }
 }
 
-/// Reads a file again. It is Mistaken where its resource fork isn't this one.
-fn read_again(alloc: Global, file: &[u8], fork: &[u8]) -> Result<(), NotWritten>
-    ensures { OnOk result (IsForkIn file.now fork.now) }
-{
-    match resource_fork(alloc, file) {
-        Ok(found) if found.fork() == fork => Ok(()),
-        Err(NoFork::HostFull) => Err(NotWritten::HostFull),
-        _ => Err(NotWritten::Mistaken),
-    }
-}
-
-/// The file with these bytes as its resource fork. It is read again before it is given.
+/// The file with these bytes as its resource fork, which aren't none.
 fn kept_with(alloc: Global, file: &[u8], fork: Vec<u8>) -> Result<Vec<u8>, NotWritten>
+    requires { 1 ≤ length fork.items }
+    ensures refused { RefusesFork (kept_why (container_of file.now) file.now fork.items) (result_err result) }
     ensures found { IfOk result (λ new. IsForkIn new.items fork.items) }
     ensures kept { IfOk result (λ new. IsKeptAs (container_of file.now) file.now fork.items new.items) }
 {
     match container_of(file) {
-        Some(Container::Raw) => kept_alone(alloc, fork),
-        Some(container) => kept_in(alloc, container, file, &fork),
+        Some(container) => kept_as(alloc, container, file, fork),
         None if is_bin_hex(file) => kept_in_text(alloc, file, &fork),
-        None => kept_alone(alloc, fork),
+        None => kept_alone(fork),
+    }
+}
+
+/// Whether bytes are taken for nothing but a resource fork.
+fn is_alone(bytes: &[u8]) -> bool
+    ensures { result ≡ is_alone (container_of bytes.now) bytes.now }
+{
+    match container_of(bytes) {
+        Some(Container::Raw) => true,
+        Some(Container::AppleSingle | Container::AppleDouble | Container::MacBinary(_)) => false,
+        None => !is_bin_hex(bytes),
     }
 }
 
 /// A file of nothing but a fork.
-fn kept_alone(alloc: Global, fork: Vec<u8>) -> Result<Vec<u8>, NotWritten>
+fn kept_alone(fork: Vec<u8>) -> Result<Vec<u8>, NotWritten>
+    requires { 1 ≤ length fork.items }
+    ensures refused { result_err result ≡ alone_why fork.items }
     ensures same { IfOk result (λ new. new.items ≡ fork.items) }
     ensures found { IfOk result (λ new. IsForkIn new.items fork.items) }
 {
-    read_again(alloc, &fork, &fork)?;
-    Ok(fork)
+    if is_alone(&fork) {
+        Ok(fork)
+    } else {
+        Err(NotWritten::Mistaken)
+    }
+}
+
+/// The file that is known as this container with these bytes as its resource fork.
+fn kept_as(
+    alloc: Global,
+    container: Container,
+    file: &[u8],
+    fork: Vec<u8>,
+) -> Result<Vec<u8>, NotWritten>
+    requires fork { 1 ≤ length fork.items }
+    requires known { container_of file.now ≡ Some container }
+    ensures refused { RefusesFork (kept_why (Some container) file.now fork.items) (result_err result) }
+    ensures found { IfOk result (λ new. IsForkIn new.items fork.items) }
+    ensures kept { IfOk result (λ new. IsKeptAs (Some container) file.now fork.items new.items) }
+{
+    match container {
+        Container::Raw => kept_alone(fork),
+        Container::AppleSingle | Container::AppleDouble | Container::MacBinary(_) => {
+            kept_in(alloc, container, file, &fork)
+        }
+    }
 }
 
 /// The file in a container with these bytes as its resource fork.
@@ -140,16 +184,19 @@ fn kept_in(
     file: &[u8],
     fork: &[u8],
 ) -> Result<Vec<u8>, NotWritten>
-    ensures found { IfOk result (λ new. IsForkIn new.items fork.now) }
+    requires fork { 1 ≤ length fork.now }
+    requires known { container_of file.now ≡ Some container }
+    ensures refused { RefusesFork (option_map NotWritten.Container (refusal container file.now (length fork.now))) (result_err result) }
+    ensures found { IfOk result (λ new. IsForkBy container new.items fork.now) }
     ensures kept { IfOk result (λ new. new.items ≡ with_fork container file.now fork.now) }
 {
     let new = with_fork(alloc, container, file, fork)?;
-    read_again(alloc, &new, fork)?;
     Ok(new)
 }
 
 /// The file of a BinHex text with these bytes as its resource fork. What comes before the text and after it isn't kept.
 fn kept_in_text(alloc: Global, file: &[u8], fork: &[u8]) -> Result<Vec<u8>, NotWritten>
+    ensures refused { RefusesFork (text_why (bin_hex_of file.now) fork.now) (result_err result) }
     ensures found { IfOk result (λ new. IsForkIn new.items fork.now) }
     ensures kept { IfOk result (λ new. IsKeptElsewhere true file.now fork.now new.items) }
 {

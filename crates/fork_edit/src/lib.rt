@@ -7,3 +7,4 @@ pub mod difference;
 pub mod edit;
 pub mod extra;
 pub mod file;
+mod known;

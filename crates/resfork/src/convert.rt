@@ -5,15 +5,13 @@ use crate::change::{save_to, say};
 use crate::message::{DONE, Problem};
 use crate::{INPUT, fork_found, read, table_found};
 use fork_answer::Failure;
-use fork_edit::convert::{converted, file_of};
-use fork_edit::extra::extras;
+use fork_edit::convert::{Loss, NotConverted, Rewritten, Transfer, converted, file_of, holds_data};
 use fork_report::Refusal;
 use mac_files::bin_hex::is_bin_hex;
 use mac_files::container::{Container, Version};
 use mac_files::container_of;
 use mac_text::byte_of;
 use mac_write::Target as Kind;
-use mac_write::detail::{DETAILS, Detail, is_lost};
 use mac_write::mac_file::MacFile;
 use std::alloc::{AllocError, Global};
 
@@ -35,14 +33,6 @@ fn place_of(bytes: &[u8]) -> Place {
         Some(Container::Raw) => Place::Nowhere,
         None if !is_bin_hex(bytes) => Place::Nowhere,
         _ => Place::Inside,
-    }
-}
-
-/// Whether a container holds data forks.
-fn holds_data(kind: Kind) -> bool {
-    match kind {
-        Kind::Raw | Kind::AppleDouble => false,
-        Kind::AppleSingle | Kind::MacBinary | Kind::BinHex => true,
     }
 }
 
@@ -77,38 +67,14 @@ fn name_for(alloc: Global, asked: &Conversion<'_>, file: &MacFile) -> Result<Vec
     }
 }
 
-/// Adds something to a list of what is lost.
-fn add(text: &mut String, thing: &str) -> Result<(), AllocError> {
-    if !text.as_str().is_empty() {
-        text.push_str(", ")?;
-    }
-    text.push_str(thing)
-}
-
-/// What of a file would be lost, in words.
-fn lost_words(
-    alloc: Global,
-    asked: &Conversion<'_>,
-    bytes: &[u8],
-    file: &MacFile,
-) -> Result<String, AllocError> {
+/// What of a file is lost, in words.
+fn lost_words(alloc: Global, lost: &[Loss]) -> Result<String, AllocError> {
     let mut text = String::new(alloc);
-    for detail in DETAILS {
-        if detail != Detail::DataFork && is_lost(detail, asked.kind, file) {
-            let word = format!(in alloc; "{detail}")?;
-            add(&mut text, word.as_str())?;
+    for loss in lost {
+        if !text.as_str().is_empty() {
+            text.push_str(", ")?;
         }
-    }
-    if place_of(bytes) == Place::Beside && holds_data(asked.kind) && asked.data.is_none() {
-        add(
-            &mut text,
-            "its data fork, which is in another file (--data FILE)",
-        )?;
-    }
-    let more = extras(alloc, bytes)?;
-    for extra in more.as_slice() {
-        let word = format!(in alloc; "{extra}")?;
-        add(&mut text, word.as_str())?;
+        write!(text, "{loss}")?;
     }
     Ok(text)
 }
@@ -173,6 +139,16 @@ fn write_both(
     }
 }
 
+/// The file in its new container.
+fn in_container(alloc: Global, transfer: &Transfer<'_>) -> Result<Rewritten, Problem> {
+    match converted(alloc, transfer) {
+        Ok(new) => Ok(new),
+        Err(NotConverted::NotHeld(lost)) => Err(Problem::Lost(lost_words(alloc, &lost)?)),
+        Err(NotConverted::Write(fault)) => Err(Problem::Convert(fault)),
+        Err(NotConverted::HostFull) => Err(Problem::HostFull),
+    }
+}
+
 /// Writes a file in another container. The result is the exit status.
 pub fn convert(rt: &HostRuntime, asked: &Conversion<'_>) -> Result<u8, Problem> {
     let alloc = rt.alloc();
@@ -194,24 +170,22 @@ pub fn convert(rt: &HostRuntime, asked: &Conversion<'_>) -> Result<u8, Problem> 
     let file = source.file();
     let data = data_for(rt, asked, &bytes, &file)?;
     let name = name_for(alloc, asked, &file)?;
-    let lost = lost_words(
-        alloc,
-        asked,
-        &bytes,
-        &MacFile {
-            name: &name,
-            ..file
-        },
-    )?;
-    if !lost.as_str().is_empty() && !asked.is_lossy {
-        return Err(Problem::Lost(lost));
-    }
-    let new = converted(alloc, &file, &name, &data, asked.kind).map_err(Problem::Convert)?;
+    let transfer = Transfer {
+        bytes: &bytes,
+        file,
+        name: &name,
+        data_fork: &data,
+        is_data_named: asked.data.is_some(),
+        target: asked.kind,
+        is_lossy: asked.is_lossy,
+    };
+    let Rewritten { file: new, lost } = in_container(alloc, &transfer)?;
+    let words = lost_words(alloc, &lost)?;
     if !is_dry {
         write_both(rt, asked, &new, &data)?;
     }
-    if !lost.as_str().is_empty() {
-        let _ = eprintln!(rt; "{input}: not in {output}: {lost}");
+    if !lost.is_empty() {
+        let _ = eprintln!(rt; "{input}: not in {output}: {words}");
     }
     let said = format!(in alloc; "{output}: {length} bytes\n", length = new.len())?;
     say(rt, &asked.target, &said)

@@ -1,15 +1,24 @@
-use Rattle.std.proofs.Common.{ℕ, List, subst}
-use Rattle.mac_files.specs.Containers.{container_of}
+use Rattle.std.proofs.Common.{ℕ, List, inl, refl, subst}
+use Rattle.fork_bytes.specs.Fork.{format_limits}
+use Rattle.fork_bytes.specs.Written.{IsTooBigWithin}
 use Rattle.fork_answer.specs.Answer.{IsTableOf}
-use Rattle.fork_answer.specs.Source.{IsForkIn}
-use Rattle.fork_edit.specs.Files.{IsKeptAs}
+use Rattle.fork_edit.proofs.Refusing.{big_of, made_big, made_refused, small_of}
 use Rattle.fork_edit.proofs.file.with_table.Goals as goal
 
-pub returns : goal.returns
-returns c =
-    let new = c.in_ok-new.new.items in
-    let P : List ℕ → Type 0 = λ fork. IsForkIn new fork × IsTableOf fork c.args.table.now × IsKeptAs (container_of c.args.file.now) c.args.file.now fork new in
-    let stands = subst (λ (fork : List ℕ). IsTableOf fork c.args.table.now) c.deref.ensures.value c.in_ok-read_back.ensures in
-    let all : P c.in-Ok.fork.items = (c.in_ok-new.ensures.found, stands, c.in_ok-new.ensures.kept) in
-    let got = subst P c.in-Ok.ensures.written all in
-    record { found = got.0; stands = got.1; kept = got.2 }
+pub returns-in-Err-TooBig-clause-too_big : goal.returns-in-Err-TooBig-clause-too_big
+returns-in-Err-TooBig-clause-too_big c =
+    let big = big_of c.in-Err-TooBig.field-0 c.args.table.now c.in-Err-TooBig.field-0-is c.in-Err-TooBig.ensures.too_big in ((λ is. big), (λ is. refl))
+
+pub returns-in-Err-TooBig-clause-refused : goal.returns-in-Err-TooBig-clause-refused
+returns-in-Err-TooBig-clause-refused c =
+    inl (refl, big_of c.in-Err-TooBig.field-0 c.args.table.now c.in-Err-TooBig.field-0-is c.in-Err-TooBig.ensures.too_big)
+
+pub returns-clause-too_big : goal.returns-clause-too_big
+returns-clause-too_big c =
+    made_big c.args.file.now c.in-Ok.fork.items c.args.table.now c.kept_with.result (small_of c.in-Ok.fork c.args.table.now c.in-Ok.ensures.too_big) c.kept_with.ensures.refused
+
+pub returns-clause-refused : goal.returns-clause-refused
+returns-clause-refused c =
+    let stands = subst (λ (fork : List ℕ). IsTableOf fork c.args.table.now) c.deref.ensures.value c.in_ok-read_back.ensures.same in
+    made_refused c.args.file.now c.in-Ok.fork.items c.args.table.now c.kept_with.result c.in-Ok.ensures.written (small_of c.in-Ok.fork c.args.table.now c.in-Ok.ensures.too_big)
+    stands c.kept_with.ensures.refused
