@@ -34,6 +34,7 @@ EXAMPLES = {
 }
 # what may stay though nothing reaches it, and why
 STAYS = {
+    "crates/fork_bytes/specs/Fork.antt: HasParts": "the first of what macheap's limits say, beside the others",
     "crates/script_tests/src/files.rt: run_over_files": "a theorem, which nothing calls",
     "crates/script_tests/src/files.rt: run_over_journalled_files": "a theorem, which nothing calls",
     "crates/script_tests/src/files.rt: files_can_be_honest": "a theorem, which nothing calls",

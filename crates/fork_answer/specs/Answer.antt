@@ -1,10 +1,11 @@
 -- What is shown of a resource fork.
-use Rattle.std.specs.Prelude.{◌≡◌, ◌≢◌, ℕ, ◌⊎◌, List, [], replicate, slice_get, Option, None, Some, Result, Ok, Err, ⊤}
+use Rattle.std.specs.Prelude.{◌≡◌, ◌≢◌, ℕ, ◌⊎◌, List, [], length, replicate, slice_get, Option, None, Some, Result, Ok, Err, ⊤}
 use Rattle.std.specs.List.{filter}
 use Rattle.std.specs.Io.KnownBytes.{Appends}
 use Rattle.fork_bytes.specs.declared.fault.ForkFault.{ForkFault}
 use Rattle.fork_bytes.specs.declared.table.Table.{Table}
 use Rattle.fork_bytes.specs.Rows.{Row}
+use Rattle.mac_base.specs.declared.resource.Resource.{Resource}
 use Rattle.fork_bytes.specs.Fork.{StandsForWithin, RefusesWithin, format_limits}
 use Rattle.fork_list.specs.Listing.{listing}
 use Rattle.fork_list.specs.Types.{type_lines}
@@ -30,21 +31,21 @@ abbrev pub IsReadOf : List ℕ → Result Table ForkFault → Type 0
 IsReadOf fork (Ok table) = IsTableOf fork table
 IsReadOf fork (Err fault) = (fork ≢ []) × RefusesWithin format_limits fork fault
 
--- the resource of a table that is wanted: the n-th of those with its type, and its id or its name
-abbrev pub wanted_row : Wanted → Table → Option Row
-wanted_row wanted table = slice_get (filter (is_wanted wanted) table.rows) wanted.nth
+-- the resource that is wanted: the n-th of those with its type, and its id or its name
+abbrev pub wanted_row : {X : Type 0} → Wanted → List (Resource X) → Option (Resource X)
+wanted_row wanted rows = slice_get (filter (is_wanted wanted) rows) wanted.nth
 
 -- the text is what is asked for of the table: its list, that of its types, or the bytes of a resource
 abbrev pub IsAsked : Request → Table → List ℕ → Type 0
-IsAsked (request.List choice) table text = text ≡ listing choice.letters choice.kinds.items table.rows
+IsAsked (request.List choice) table text = text ≡ listing length choice.letters choice.kinds.items table.rows
 IsAsked (request.Types choice) table text = text ≡ type_lines choice.letters choice.kinds.items table.rows None table.rows
-IsAsked (request.Get wanted) table text = (row : Row) × (wanted_row wanted table ≡ Some row) × (text ≡ row.datum)
+IsAsked (request.Get wanted) table text = (row : Row) × (wanted_row wanted table.rows ≡ Some row) × (text ≡ row.datum)
 
 -- the table has no such resource as is asked for
 abbrev pub Lacks : Request → Table → Type 0
 Lacks (request.List choice) table = ⊥
 Lacks (request.Types choice) table = ⊥
-Lacks (request.Get wanted) table = wanted_row wanted table ≡ None
+Lacks (request.Get wanted) table = wanted_row wanted table.rows ≡ None
 
 -- what an answer says of a table, and of what was written: what is asked for, or that the table lacks it
 abbrev pub Shows : {T : Type 0} → Request → Table → Option (List ℕ) → Option (List ℕ) → Result T Failure → Type 0
@@ -54,6 +55,15 @@ Shows request table old new (Err failure.HostFull) = ⊤
 Shows request table old new (Err (failure.Write fault)) = ⊤
 Shows request table old new (Err (failure.Fork fault)) = ⊥
 Shows request table old new (Err (failure.NoFork fault)) = ⊥
+
+-- this text was written; a write may fail, and the host may have no memory
+abbrev pub Writes : {T : Type 0} → List ℕ → Option (List ℕ) → Option (List ℕ) → Result T Failure → Type 0
+Writes text old new (Ok done) = Appends old new text
+Writes text old new (Err failure.NotFound) = ⊥
+Writes text old new (Err failure.HostFull) = ⊤
+Writes text old new (Err (failure.Write fault)) = ⊤
+Writes text old new (Err (failure.Fork fault)) = ⊥
+Writes text old new (Err (failure.NoFork fault)) = ⊥
 
 -- what an answer says of a fork's bytes: what was written is what is asked for of its table, or the table lacks it; or they
 -- stand for no table, and the answer tells why. A write may fail, and the host may have no memory.

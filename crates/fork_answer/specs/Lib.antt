@@ -1,3 +1,4 @@
 pub mod Answer
+pub mod InParts
 pub mod Mended
 pub mod Source

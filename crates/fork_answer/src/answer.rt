@@ -1,7 +1,9 @@
 //! What is shown of the resource fork of a file.
 
-ghost use Rattle.std.specs.Prelude.{◌≡◌, IfErr, IfOk};
-ghost use Rattle.fork_answer.specs.Answer.{Answers, AnswersFork, IsQuiet, IsReadOf, Shows, empty_table};
+ghost use Rattle.std.specs.Prelude.{◌≡◌, IfErr, IfOk, None};
+ghost use Rattle.fork_list.specs.Listing.{listing};
+ghost use Rattle.fork_list.specs.Types.{type_lines};
+ghost use Rattle.fork_answer.specs.Answer.{Answers, AnswersFork, IsQuiet, IsReadOf, Shows, Writes, empty_table};
 
 use crate::request::{Choice, Request};
 use crate::source::{NoFork, resource_fork};
@@ -9,8 +11,9 @@ use fork_bytes::fault::ForkFault;
 use fork_bytes::layout::Limits;
 use fork_bytes::table::{Rows, Table};
 use fork_list::find::{Wanted, find_row};
-use fork_list::{listing, types_listing};
+use fork_list::{HasSize, listing, types_listing};
 use fork_reader::read_fork_within;
+use mac_base::resource::Resource;
 use std::alloc::{AllocError, Global};
 use std::io;
 use std::io::Write;
@@ -110,40 +113,49 @@ fn answer_of<W: Write>(
     ensures shows { Shows request.now table.now (W.contents output.old) (W.contents output.new) result }
     ensures quiet { IfErr result (λ failure. IsQuiet failure → output.new ≡ output.old) }
 {
+    let rows = table.rows.as_slice();
     match request {
-        Request::List(choice) => list(alloc, choice, table, output),
-        Request::Types(choice) => list_types(alloc, choice, table, output),
+        Request::List(choice) => list(alloc, choice, rows, output),
+        Request::Types(choice) => list_types(alloc, choice, rows, output),
         Request::Get(wanted) => get(wanted, table, output),
     }
 }
 
+/// Writes these bytes.
+pub(crate) fn write<W: Write>(bytes: &[u8], output: &mut W) -> Result<(), Failure>
+    ensures writes { Writes bytes.now (W.contents output.old) (W.contents output.new) result }
+    ensures quiet { IfErr result (λ failure. IsQuiet failure → output.new ≡ output.old) }
+{
+    output.write_all(bytes).map_err(Failure::Write)
+}
+
 /// Writes a list of resources.
-fn list<W: Write>(
+pub(crate) fn list<D: HasSize, W: Write>(
     alloc: Global,
     choice: &Choice,
-    table: &Table,
+    rows: &[Resource<D>],
     output: &mut W,
 ) -> Result<(), Failure>
-    ensures shows { Shows (Request.List choice.now) table.now (W.contents output.old) (W.contents output.new) result }
+    ensures writes { Writes (listing D.size choice.now.letters choice.now.kinds.items rows.now) (W.contents output.old) (W.contents output.new) result }
     ensures quiet { IfErr result (λ failure. IsQuiet failure → output.new ≡ output.old) }
 {
     let kinds = choice.kinds.as_slice();
-    let text = listing(alloc, choice.letters, kinds, table.rows.as_slice())?;
+    let text = listing(alloc, choice.letters, kinds, rows)?;
     output.write_all(text.as_bytes()).map_err(Failure::Write)
 }
 
 /// Writes a list of types.
-fn list_types<W: Write>(
+pub(crate) fn list_types<D, W: Write>(
     alloc: Global,
     choice: &Choice,
-    table: &Table,
+    rows: &[Resource<D>],
     output: &mut W,
 ) -> Result<(), Failure>
-    ensures shows { Shows (Request.Types choice.now) table.now (W.contents output.old) (W.contents output.new) result }
+    ensures writes { Writes (type_lines choice.now.letters choice.now.kinds.items rows.now None rows.now) (W.contents output.old) (W.contents output.new) result }
     ensures quiet { IfErr result (λ failure. IsQuiet failure → output.new ≡ output.old) }
 {
     let kinds = choice.kinds.as_slice();
-    let text = types_listing(alloc, choice.letters, kinds, table.rows.as_slice())?;
+    let text = types_listing(alloc, choice.letters, kinds, rows)?;
     output.write_all(text.as_bytes()).map_err(Failure::Write)
 }
 

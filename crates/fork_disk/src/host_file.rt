@@ -65,6 +65,20 @@ fn opened<R: Files<File = File>>(files: &R, path: &str) -> io::Result<File> {
 }
 
 impl HostFile {
+    /// A file that is open. No call on it has failed, and no sync of `settle`.
+    pub fn new(file: File) -> HostFile
+        ensures unfailed { result.failures ≡ 0 }
+        ensures unspent { result.is_spent ≡ false }
+        ensures which { result.which ≡ 0 }
+    {
+        HostFile {
+            file,
+            failures: Failures::new(),
+            is_spent: false,
+            which: 0,
+        }
+    }
+
     /// Opens a file to read and to write it, or to read it where it may only be read: each write fails then. A missing
     /// one is made, with length 0. No call on it has failed, and no sync of `settle`.
     pub fn open<R: Files<File = File>, P: AsPath>(files: &R, path: P) -> io::Result<HostFile>
@@ -72,12 +86,7 @@ impl HostFile {
         ensures unspent { IfOk result (λ file. file.is_spent ≡ false) }
         ensures which { IfOk result (λ file. file.which ≡ 0) }
     {
-        Ok(HostFile {
-            file: opened(files, path.path_text())?,
-            failures: Failures::new(),
-            is_spent: false,
-            which: 0,
-        })
+        Ok(HostFile::new(opened(files, path.path_text())?))
     }
 
     /// The same file, with a number of its own among those that share a record.

@@ -2,3 +2,4 @@ pub mod Reading
 pub mod Written
 pub mod Words
 pub mod TypeLines
+pub mod Placed

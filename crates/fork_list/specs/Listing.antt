@@ -3,7 +3,7 @@ use Rattle.std.specs.Prelude.{ℕ, ℤ, ◌^◌, ◌-◌, ◌==◌, ◌&&◌, �
 use Rattle.std.specs.List.{flat_map, list_all, list_any}
 use Rattle.std.specs.Fmt.{format_spec, styled_decimal, styled_signed_decimal}
 use Rattle.mac_base.specs.declared.resource.ResAttrs.{ResAttrs}
-use Rattle.fork_bytes.specs.Rows.{Row}
+use Rattle.mac_base.specs.declared.resource.Resource.{Resource}
 use Rattle.mac_text.specs.declared.letters.Letters.{Letters}
 use Rattle.mac_text.specs.Quoted.{escaped, quoted}
 use Rattle.fork_list.specs.Attributes.{attributes_text}
@@ -30,17 +30,17 @@ cells_text letters kind id count attributes name = kind_text letters kind ++ (32
     ++ (32 ∷ (attributes_text attributes.0 ++ name_text letters name))))))
 
 -- a row: its type, its id, how many bytes it has, its attributes, and its name
-abbrev pub row_text : Letters → Row → List ℕ
-row_text letters row = cells_text letters row.kind row.id (length row.datum) row.attributes row.name
+abbrev pub row_text : {X : Type 0} → (X → ℕ) → Letters → Resource X → List ℕ
+row_text size letters row = cells_text letters row.kind row.id (size row.datum) row.attributes row.name
 
 -- whether a type is one of these, where none are named for all
 abbrev pub is_chosen : List (List ℕ) → List ℕ → Bool
 is_chosen kinds kind = length kinds == 0 || list_any (λ one. bytes_eq one kind) kinds
 
 -- the line of a row, if its type is chosen
-abbrev pub row_line : Letters → List (List ℕ) → Row → List ℕ
-row_line letters kinds row = if is_chosen kinds row.kind then row_text letters row ++ 10 ∷ [] else []
+abbrev pub row_line : {X : Type 0} → (X → ℕ) → Letters → List (List ℕ) → Resource X → List ℕ
+row_line size letters kinds row = if is_chosen kinds row.kind then row_text size letters row ++ 10 ∷ [] else []
 
 -- a line for each row of these types
-abbrev pub listing : Letters → List (List ℕ) → List Row → List ℕ
-listing letters kinds rows = flat_map (row_line letters kinds) rows
+abbrev pub listing : {X : Type 0} → (X → ℕ) → Letters → List (List ℕ) → List (Resource X) → List ℕ
+listing size letters kinds rows = flat_map (row_line size letters kinds) rows

@@ -1,7 +1,7 @@
 -- Types as text.
 use Rattle.std.specs.Prelude.{ℕ, ◌-◌, ◌^◌, ◌&&◌, Bool, true, not, if◌then◌else◌, List, [], ◌∷◌, ◌++◌, count_by, bytes_eq, Option, None, Some}
 use Rattle.std.specs.Fmt.{format_spec, styled_decimal}
-use Rattle.fork_bytes.specs.Rows.{Row}
+use Rattle.mac_base.specs.declared.resource.Resource.{Resource}
 use Rattle.mac_text.specs.declared.letters.Letters.{Letters}
 use Rattle.fork_list.specs.Listing.{is_chosen, kind_text}
 
@@ -11,13 +11,13 @@ begins_type None kind = true
 begins_type (Some before) kind = not (bytes_eq before kind)
 
 -- the line of a type at a row after one of this type: the type, and how many of these rows have it
-abbrev pub type_line : Letters → List (List ℕ) → List Row → Option (List ℕ) → List ℕ → List ℕ
+abbrev pub type_line : {X : Type 0} → Letters → List (List ℕ) → List (Resource X) → Option (List ℕ) → List ℕ → List ℕ
 type_line letters kinds all before kind =
     if begins_type before kind && is_chosen kinds kind
     then kind_text letters kind ++ (32 ∷ (styled_decimal (format_spec 32 3 0 6 (2 ^ 64 - 1)) (count_by (λ row. bytes_eq row.kind kind) all) ++ 10 ∷ []))
     else []
 
 -- a line for each type of the last rows, where the row before them has this type
-abbrev pub type_lines : Letters → List (List ℕ) → List Row → Option (List ℕ) → List Row → List ℕ
+abbrev pub type_lines : {X : Type 0} → Letters → List (List ℕ) → List (Resource X) → Option (List ℕ) → List (Resource X) → List ℕ
 type_lines letters kinds all before [] = []
 type_lines letters kinds all before (row ∷ rows) = type_line letters kinds all before row.kind ++ type_lines letters kinds all (Some row.kind) rows

@@ -4,8 +4,7 @@ ghost use Rattle.std.specs.Prelude.{◌≡◌, option_copied, slice_get};
 ghost use Rattle.std.specs.List.{filter};
 ghost use Rattle.fork_list.specs.Find.{has_key, is_wanted};
 
-use fork_bytes::table::Row;
-use mac_base::resource::ResType;
+use mac_base::resource::{ResType, Resource};
 
 /// What a resource of a type is called by.
 #[derive(Drop)]
@@ -25,7 +24,7 @@ pub struct Wanted {
 }
 
 /// Whether a row has this id, or this name.
-fn has_key(key: &Key, row: &Row) -> bool
+fn has_key<D>(key: &Key, row: &Resource<D>) -> bool
     ensures { result ≡ has_key key.now row.now }
 {
     match (key, &row.name) {
@@ -36,14 +35,14 @@ fn has_key(key: &Key, row: &Row) -> bool
 }
 
 /// Whether a row is of the type that is wanted, and has its id or its name.
-fn is_wanted(wanted: &Wanted, row: &Row) -> bool
+fn is_wanted<D>(wanted: &Wanted, row: &Resource<D>) -> bool
     ensures { result ≡ is_wanted wanted.now row.now }
 {
     row.kind == wanted.kind && has_key(&wanted.key, row)
 }
 
 /// The row that is wanted: the n-th of those with its type, and its id or its name.
-pub fn find_row<'r, 'a>(rows: &'r [Row<'a>], wanted: &Wanted) -> Option<&'r Row<'a>>
+pub fn find_row<'r, D>(rows: &'r [Resource<D>], wanted: &Wanted) -> Option<&'r Resource<D>>
     ensures { option_copied result ≡ slice_get (filter (is_wanted wanted.now) rows.now) wanted.now.nth }
 {
     rows.iter()

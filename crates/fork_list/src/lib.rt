@@ -8,6 +8,7 @@ mod kind;
 mod list;
 mod name;
 mod shown;
+mod size;
 mod types;
 
 pub use attribute::Attributes;
@@ -16,4 +17,5 @@ pub use kind::kind_of;
 pub use list::{RowText, is_chosen, listing};
 pub use name::name_of;
 pub use shown::{KindText, NamePart};
+pub use size::HasSize;
 pub use types::types_listing;

@@ -6,14 +6,14 @@ ghost use Rattle.fork_list.specs.Listing.{cells_text, is_chosen, listing, row_li
 
 use crate::attribute::Attributes;
 use crate::shown::{KindText, NamePart};
-use fork_bytes::table::Row;
-use mac_base::resource::{ResAttrs, ResType};
+use crate::size::HasSize;
+use mac_base::resource::{ResAttrs, ResType, Resource};
 use mac_text::letters::Letters;
 use std::alloc::{AllocError, Global};
 use std::fmt;
 
 /// The bytes of a row's name, if it has one.
-fn name_of<'r>(row: &'r Row) -> Option<&'r [u8]>
+fn name_of<D>(row: &Resource<D>) -> Option<&[u8]>
     ensures { option_map (λ name. name.now) result ≡ row.now.name }
 {
     match &row.name {
@@ -62,15 +62,15 @@ pub fn is_chosen(kinds: &[ResType], kind: ResType) -> bool
 }
 
 /// The line of a row, if its type is chosen.
-#[derive(Clone, Copy)]
-struct RowLine<'a> {
+#[derive(Drop)]
+struct RowLine<'a, D> {
     letters: Letters,
     kinds: &'a [ResType],
-    row: &'a Row<'a>,
+    row: &'a Resource<D>,
 }
 
-impl fmt::Display for RowLine<'_> {
-    ghost output = { λ l. Some (row_line l.letters l.kinds.now l.row.now) };
+impl<D: HasSize> fmt::Display for RowLine<'_, D> {
+    ghost output = { λ l. Some (row_line D.size l.letters l.kinds.now l.row.now) };
 
     fn fmt<W: fmt::Write>(&self, f: &mut fmt::Formatter<W>) -> fmt::Result {
         if !is_chosen(self.kinds, self.row.kind) {
@@ -81,7 +81,7 @@ impl fmt::Display for RowLine<'_> {
             letters: self.letters,
             kind: row.kind,
             id: row.id,
-            count: row.datum.as_slice().len(),
+            count: row.datum.size(),
             attributes: row.attributes,
             name: name_of(row),
         };
@@ -90,15 +90,15 @@ impl fmt::Display for RowLine<'_> {
 }
 
 /// A line for each row whose type is chosen, in the order of the rows.
-#[derive(Clone, Copy)]
-struct Lines<'a> {
+#[derive(Drop)]
+struct Lines<'a, D> {
     letters: Letters,
     kinds: &'a [ResType],
-    rows: &'a [Row<'a>],
+    rows: &'a [Resource<D>],
 }
 
-impl fmt::Display for Lines<'_> {
-    ghost output = { λ l. Some (listing l.letters l.kinds.now l.rows.now) };
+impl<D: HasSize> fmt::Display for Lines<'_, D> {
+    ghost output = { λ l. Some (listing D.size l.letters l.kinds.now l.rows.now) };
 
     fn fmt<W: fmt::Write>(&self, f: &mut fmt::Formatter<W>) -> fmt::Result {
         for row in self.rows {
@@ -115,13 +115,13 @@ impl fmt::Display for Lines<'_> {
 
 /// A list of resources, those of these types, or all where none are named: a line for each in the order of the rows, with its type,
 /// its id, how many bytes it has, its attributes and its name.
-pub fn listing(
+pub fn listing<D: HasSize>(
     alloc: Global,
     letters: Letters,
     kinds: &[ResType],
-    rows: &[Row],
+    rows: &[Resource<D>],
 ) -> Result<String, AllocError>
-    ensures { IfOk result (λ text. string_bytes text ≡ listing letters kinds.now rows.now) }
+    ensures { IfOk result (λ text. string_bytes text ≡ listing D.size letters kinds.now rows.now) }
 {
     let lines = Lines {
         letters,

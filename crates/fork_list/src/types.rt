@@ -5,14 +5,13 @@ ghost use Rattle.fork_list.specs.Types.{begins_type, type_line, type_lines};
 
 use crate::list::is_chosen;
 use crate::shown::KindText;
-use fork_bytes::table::Row;
-use mac_base::resource::ResType;
+use mac_base::resource::{ResType, Resource};
 use mac_text::letters::Letters;
 use std::alloc::{AllocError, Global};
 use std::fmt;
 
 /// How many rows have this type.
-fn count_of(rows: &[Row], kind: ResType) -> usize
+fn count_of<D>(rows: &[Resource<D>], kind: ResType) -> usize
     ensures { result ≡ count_by (λ row. bytes_eq row.kind kind) rows.now }
 {
     rows.iter().filter(|row| row.kind == kind).count()
@@ -29,16 +28,16 @@ fn begins_type(before: Option<ResType>, kind: ResType) -> bool
 }
 
 /// The line of a type, at its first row: the type, and how many rows have it. Nothing at other rows, and where the type isn't chosen.
-#[derive(Clone, Copy)]
-struct TypeLine<'a> {
+#[derive(Drop)]
+struct TypeLine<'a, D> {
     letters: Letters,
     kinds: &'a [ResType],
-    rows: &'a [Row<'a>],
+    rows: &'a [Resource<D>],
     before: Option<ResType>,
     kind: ResType,
 }
 
-impl fmt::Display for TypeLine<'_> {
+impl<D> fmt::Display for TypeLine<'_, D> {
     ghost output = { λ l. Some (type_line l.letters l.kinds.now l.rows.now l.before l.kind) };
 
     fn fmt<W: fmt::Write>(&self, f: &mut fmt::Formatter<W>) -> fmt::Result {
@@ -52,14 +51,14 @@ impl fmt::Display for TypeLine<'_> {
 }
 
 /// A line for each type that is chosen, in the order of their first rows.
-#[derive(Clone, Copy)]
-struct TypeLines<'a> {
+#[derive(Drop)]
+struct TypeLines<'a, D> {
     letters: Letters,
     kinds: &'a [ResType],
-    rows: &'a [Row<'a>],
+    rows: &'a [Resource<D>],
 }
 
-impl fmt::Display for TypeLines<'_> {
+impl<D> fmt::Display for TypeLines<'_, D> {
     ghost output = { λ l. Some (type_lines l.letters l.kinds.now l.rows.now None l.rows.now) };
 
     fn fmt<W: fmt::Write>(&self, f: &mut fmt::Formatter<W>) -> fmt::Result {
@@ -81,11 +80,11 @@ impl fmt::Display for TypeLines<'_> {
 }
 
 /// A list of types, these ones or all where none are named: a line for each with the type, and how many rows have it.
-pub fn types_listing(
+pub fn types_listing<D>(
     alloc: Global,
     letters: Letters,
     kinds: &[ResType],
-    rows: &[Row],
+    rows: &[Resource<D>],
 ) -> Result<String, AllocError>
     ensures { IfOk result (λ text. string_bytes text ≡ type_lines letters kinds.now rows.now None rows.now) }
 {

@@ -1,12 +1,13 @@
 //! Lines of JSON, one for each file.
 
 use crate::damage::Holder;
-use crate::json_row::{Bytes, rows_value};
+use crate::json_row::{Bytes, full_rows_value, rows_value};
 use crate::json_text::{roman_value, text_value};
-use fork_answer::{Failure, NoFork, read_table, resource_fork};
+use fork_answer::{Failure, NoFork, name_of_container, read_table, resource_fork};
+use fork_list::HasSize;
 use fork_mend::warning::Warning;
 use fork_salvage::Fault;
-use mac_base::resource::ResType;
+use mac_base::resource::{ResType, Resource};
 use mac_files::bin_hex::{is_bin_hex, read_bin_hex};
 use mac_files::container::Container;
 use mac_files::{container_of, read_contents};
@@ -30,10 +31,15 @@ pub(crate) fn line_of(alloc: Global, members: Members) -> Result<String, AllocEr
     Ok(line)
 }
 
+/// What a file is kept as.
+fn container_name(bytes: &[u8]) -> &'static str {
+    Holder::of_file(bytes).map_or("a resource fork", Holder::name)
+}
+
 /// Adds what a file is kept as.
 fn put_container(alloc: Global, members: &mut Members, bytes: &[u8]) -> Result<(), AllocError> {
-    let name = Holder::of_file(bytes).map_or("a resource fork", Holder::name);
-    put(members, alloc, "container", text_value(alloc, name)?)
+    let name = text_value(alloc, container_name(bytes))?;
+    put(members, alloc, "container", name)
 }
 
 /// The line of a file that isn't shown, and why.
@@ -59,11 +65,41 @@ pub fn list_line(
 ) -> Result<String, Failure> {
     let found = resource_fork(alloc, bytes).map_err(Failure::NoFork)?;
     let table = read_table(alloc, found.fork()).map_err(Failure::Fork)?;
-    let rows = rows_value(alloc, shown, kinds, table.rows.as_slice())?;
+    let rows = table.rows.as_slice();
+    let values = match shown {
+        Bytes::Hidden => rows_value(alloc, kinds, rows)?,
+        Bytes::Base64 => full_rows_value(alloc, kinds, rows)?,
+    };
+    Ok(resources_line(alloc, file, container_name(bytes), values)?)
+}
+
+/// The line of these resources of a file that is a resource fork, those of these types or all where none are named.
+pub fn fork_line<D: HasSize>(
+    alloc: Global,
+    file: &str,
+    kinds: &[ResType],
+    rows: &[Resource<D>],
+) -> Result<String, AllocError> {
+    let values = rows_value(alloc, kinds, rows)?;
+    resources_line(alloc, file, name_of_container(Container::Raw), values)
+}
+
+/// The line of resources of a file that is kept so.
+fn resources_line(
+    alloc: Global,
+    file: &str,
+    container: &str,
+    resources: Value,
+) -> Result<String, AllocError> {
     let mut members = members_of(alloc, file)?;
-    put_container(alloc, &mut members, bytes)?;
-    put(&mut members, alloc, "resources", rows)?;
-    Ok(line_of(alloc, members)?)
+    put(
+        &mut members,
+        alloc,
+        "container",
+        text_value(alloc, container)?,
+    )?;
+    put(&mut members, alloc, "resources", resources)?;
+    line_of(alloc, members)
 }
 
 /// A fault of a fork, or what is odd about it: what is told of it, and its place.

@@ -1,7 +1,7 @@
 //! What differs between the resources of two files, as a line of JSON.
 
 use crate::json::line_of;
-use crate::json_row::{Bytes, row_value};
+use crate::json_row::row_value;
 use crate::json_text::text_value;
 use fork_bytes::table::Row;
 use fork_change::{Difference, Differences, first_difference};
@@ -19,7 +19,7 @@ fn place_value(place: Option<usize>) -> Value {
 /// A resource without its bytes; null where a table has none.
 fn side_value(alloc: Global, row: Option<&Row>) -> Result<Value, AllocError> {
     match row {
-        Some(row) => row_value(alloc, Bytes::Hidden, row),
+        Some(row) => row_value(alloc, row),
         None => Ok(Value::Null),
     }
 }

@@ -3,9 +3,9 @@
 use crate::json_text::{kind_value, roman_value, text_value};
 use base64::engine::general_purpose::STANDARD;
 use fork_bytes::table::Row;
-use fork_list::{Attributes, is_chosen};
+use fork_list::{Attributes, HasSize, is_chosen};
 use mac_base::name::Name;
-use mac_base::resource::{ResAttrs, ResType};
+use mac_base::resource::{ResAttrs, ResType, Resource};
 use serde_json::{Map, Value, put};
 use std::alloc::{AllocError, Global};
 
@@ -39,13 +39,15 @@ fn name_value(alloc: Global, name: &Option<Name>) -> Result<Value, AllocError> {
     }
 }
 
-/// A resource.
-pub(crate) fn row_value(alloc: Global, bytes: Bytes, row: &Row) -> Result<Value, AllocError> {
+/// The members of a resource, but for its bytes.
+fn row_members<D: HasSize>(
+    alloc: Global,
+    row: &Resource<D>,
+) -> Result<Map<String, Value>, AllocError> {
     let mut members = Map::new(alloc);
-    let data = row.datum.as_slice();
     put(&mut members, alloc, "type", kind_value(alloc, row.kind)?)?;
     put(&mut members, alloc, "id", Value::from(row.id))?;
-    put(&mut members, alloc, "size", Value::from(data.len()))?;
+    put(&mut members, alloc, "size", Value::from(row.datum.size()))?;
     put(
         &mut members,
         alloc,
@@ -53,28 +55,47 @@ pub(crate) fn row_value(alloc: Global, bytes: Bytes, row: &Row) -> Result<Value,
         attributes_value(alloc, row.attributes)?,
     )?;
     put(&mut members, alloc, "name", name_value(alloc, &row.name)?)?;
-    if let Bytes::Base64 = bytes {
-        put(
-            &mut members,
-            alloc,
-            "data",
-            Value::String(STANDARD.encode(alloc, data)?),
-        )?;
-    }
+    Ok(members)
+}
+
+/// A resource without its bytes.
+pub(crate) fn row_value<D: HasSize>(alloc: Global, row: &Resource<D>) -> Result<Value, AllocError> {
+    Ok(Value::Object(row_members(alloc, row)?))
+}
+
+/// A resource with its bytes, as a text in base64.
+fn full_row_value(alloc: Global, row: &Row) -> Result<Value, AllocError> {
+    let mut members = row_members(alloc, row)?;
+    let text = STANDARD.encode(alloc, row.datum.as_slice())?;
+    put(&mut members, alloc, "data", Value::String(text))?;
     Ok(Value::Object(members))
 }
 
-/// A list of resources, those of these types or all where none are named, in the order of the rows.
-pub fn rows_value(
+/// A list of resources without their bytes, those of these types or all where none are named, in the order of the rows.
+pub(crate) fn rows_value<D: HasSize>(
     alloc: Global,
-    bytes: Bytes,
+    kinds: &[ResType],
+    rows: &[Resource<D>],
+) -> Result<Value, AllocError> {
+    let mut values = Vec::new(alloc);
+    for row in rows {
+        if is_chosen(kinds, row.kind) {
+            serde_json::push(&mut values, row_value(alloc, row)?)?;
+        }
+    }
+    Ok(Value::Array(values))
+}
+
+/// The same with their bytes.
+pub(crate) fn full_rows_value(
+    alloc: Global,
     kinds: &[ResType],
     rows: &[Row],
 ) -> Result<Value, AllocError> {
     let mut values = Vec::new(alloc);
     for row in rows {
         if is_chosen(kinds, row.kind) {
-            serde_json::push(&mut values, row_value(alloc, bytes, row)?)?;
+            serde_json::push(&mut values, full_row_value(alloc, row)?)?;
         }
     }
     Ok(Value::Array(values))

@@ -12,7 +12,7 @@ mod report;
 mod request;
 
 pub use damage::Tally;
-pub use json::refused_line;
+pub use json::{fork_line, refused_line};
 pub use json_diff::difference_line;
 pub use json_row::Bytes;
 pub use refusal::Refusal;

@@ -24,7 +24,7 @@ pub struct Told {
 
 impl Told {
     /// What is told of a file whose fork is whole.
-    fn whole(text: String) -> Told {
+    pub fn whole(text: String) -> Told {
         Told {
             text,
             is_damaged: false,

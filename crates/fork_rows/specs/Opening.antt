@@ -3,8 +3,9 @@ use Rattle.std.specs.Prelude.{◌≡◌, ℕ, ◌+◌, ◌<◌, ◌≤◌, ◌�
 use Rattle.std.specs.List.{AllByRecursion}
 use Rattle.fork_bytes.specs.declared.fault.Condition.{Condition}
 use Rattle.fork_bytes.specs.declared.layout.Header.{Header}
+use Rattle.fork_bytes.specs.declared.layout.Limits.{Limits}
 use Rattle.fork_bytes.specs.declared.table.Table.{Table}
-use Rattle.fork_bytes.specs.Fork.{header_of, map_of, extra_of, attributes_of, max_fork, HasParts, IsFork, Refuses, StandsFor}
+use Rattle.fork_bytes.specs.Fork.{header_of, map_of, extra_of, attributes_of, macheap_limits, max_fork, IsForkWithin, RefusesWithin, StandsForWithin}
 use Rattle.fork_bytes.specs.Laws.{IsGrouped}
 use Rattle.fork_bytes.specs.declared.fault.ForkFault.TheVariants.{EndOfFile, HostFull}
 use Rattle.fork_disk.specs.declared.faults.RecoverFault.{RecoverFault}
@@ -34,9 +35,13 @@ filled fork table = record {
   map_attributes = table.map_attributes;
 }
 
--- the bytes of a row end where the longest fork does at the latest
+-- the bytes of a row end at this place of the fork at the latest
+abbrev pub EndsBy : ℕ → PlacedRow → Type 0
+EndsBy end row = row.datum.offset + row.datum.length ≤ end
+
+-- they end where macheap's longest fork does at the latest
 abbrev pub FitsInFork : PlacedRow → Type 0
-FitsInFork row = row.datum.offset + row.datum.length ≤ max_fork
+FitsInFork = EndsBy max_fork
 
 -- the types of rows
 abbrev pub kinds_in : {X : Type 0} → List (Resource X) → List (List ℕ)
@@ -47,13 +52,16 @@ abbrev pub AreGrouped : List PlacedRow → Type 0
 AreGrouped rows = (fork : List ℕ) → IsGrouped (map (row_at fork) rows)
 
 -- the bytes are a fork, and this is its table with places
-abbrev pub HasPlaces : List ℕ → PlacedTable → Type 0
-HasPlaces fork table = IsFork fork × (table ≡ placed_table fork)
+abbrev pub HasPlacesWithin : Limits → List ℕ → PlacedTable → Type 0
+HasPlacesWithin limits fork table = IsForkWithin limits fork × (table ≡ placed_table fork)
 
 -- what a fault says of the bytes
+abbrev pub RefusesToOpenWithin : Limits → List ℕ → OpenFault → Type 0
+RefusesToOpenWithin limits fork (Fork fault) = RefusesWithin limits fork fault
+RefusesToOpenWithin limits fork Device = ⊤
+
 abbrev pub RefusesToOpen : List ℕ → OpenFault → Type 0
-RefusesToOpen fork (Fork fault) = Refuses fork fault
-RefusesToOpen fork Device = ⊤
+RefusesToOpen = RefusesToOpenWithin macheap_limits
 
 -- a fault of the bytes is of this condition, and then this holds
 abbrev pub FaultsIn : Condition → Type 0 → OpenFault → Type 0
@@ -69,17 +77,21 @@ pub record Reads {S : Type 0} (store : Ghosts S) (old new : S) (P : List ℕ →
   pub keeps : OnlyReads store old new
   pub told : P (store.fork old)
 
--- a fork has this header, and its parts lie within it
+-- a fork has this header, and its data lie within it
 abbrev pub HasHeader : Header → List ℕ → Type 0
-HasHeader header fork = (header ≡ header_of fork) × HasParts (length fork) header
+HasHeader header fork = (header ≡ header_of fork) × (header.data_offset + header.data_length ≤ length fork)
 
 -- What a fork is opened as: its table, with the places of the resources' bytes, or why there is none.
-pub record OpensAs (result : Result PlacedTable OpenFault) (fork : List ℕ) : Type 0 where
-  pub rows : IfOk result (HasPlaces fork)
-  pub table : IfOk result (λ table. StandsFor fork (filled fork table))
+pub record OpensAsWithin (limits : Limits) (result : Result PlacedTable OpenFault) (fork : List ℕ) : Type 0 where
+  pub rows : IfOk result (HasPlacesWithin limits fork)
+  pub table : IfOk result (λ table. StandsForWithin limits fork (filled fork table))
   pub within : IfOk result (λ table. AllByRecursion (IsWithin fork) table.rows)
-  pub refuses : IfErr result (RefusesToOpen fork)
+  pub refuses : IfErr result (RefusesToOpenWithin limits fork)
   pub end : length fork < 16 → IfErr result (λ fault. (fault ≡ Fork EndOfFile) ⊎ (fault ≡ Device))
+
+-- the same, as macheap opens forks
+abbrev pub OpensAs : Result PlacedTable OpenFault → List ℕ → Type 0
+OpensAs = OpensAsWithin macheap_limits
 
 -- the fault of opening a file whose fork couldn't be made ready
 abbrev pub unrecovered : RecoverFault → OpenFault

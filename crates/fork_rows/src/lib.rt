@@ -6,4 +6,5 @@ mod open;
 mod part;
 pub mod table;
 
-pub use open::read_rows;
+pub use open::{read_rows, read_rows_within};
+pub use part::read_part;

@@ -1,10 +1,10 @@
 //! Parts of a fork, read from its disk.
 
-ghost use Rattle.std.specs.Prelude.{◌≡◌, ◌≤◌, ◌+◌, ◌⊎◌, length, map, IfOk, IfErr, MatchResult};
-ghost use Rattle.fork_bytes.specs.Fork.{bytes_at, header_of, data_of, extra_of, max_fork, HasData};
+ghost use Rattle.std.specs.Prelude.{◌≡◌, ◌<◌, ◌≤◌, ◌+◌, ◌^◌, ◌⊎◌, length, map, IfOk, IfErr, MatchResult};
+ghost use Rattle.fork_bytes.specs.Fork.{bytes_at, header_of, data_of, extra_of, HasData};
 ghost use Rattle.std.specs.List.{AllByRecursion};
 ghost use Rattle.fork_reader.specs.Reading.{placed_row, HasDatum};
-ghost use Rattle.fork_rows.specs.Opening.{IsReadyWith, Reads, HasHeader, FaultsIn, FitsInFork, CountsDevice, kinds_in};
+ghost use Rattle.fork_rows.specs.Opening.{IsReadyWith, Reads, HasHeader, EndsBy, FaultsIn, CountsDevice, kinds_in};
 
 use crate::fault::OpenFault;
 use byteorder::{BigEndian, ByteOrder};
@@ -25,8 +25,8 @@ pub(crate) struct Front {
     pub(crate) extra: [u8; 240],
 }
 
-/// Reads so many bytes at a place.
-pub(crate) fn read_part<S: ForkStore>(
+/// Reads so many bytes at a place, for which the host may have no memory.
+pub fn read_part<S: ForkStore>(
     alloc: Global,
     store: &mut S,
     at: u32,
@@ -72,12 +72,12 @@ fn read_row<S: ForkStore>(
     header: Header,
     row: MapRow,
 ) -> Result<PlacedRow, OpenFault>
-    requires small { header.data_offset + header.data_length ≤ max_fork }
+    requires small { header.data_offset + header.data_length < 2 ^ 32 }
     requires header { IsReadyWith S.ForkStore store.old (HasHeader header) }
     ensures reads { S.is_honest store.new → Reads S.ForkStore store.old store.new (λ fork. MatchResult result
         (λ found. (found ≡ placed_row fork row) × HasDatum (data_of fork) row) (FaultsIn Condition.Places (¬ HasDatum (data_of fork) row))) }
     ensures kind { IfOk result (λ found. found.kind ≡ row.kind) }
-    ensures inside { IfOk result FitsInFork }
+    ensures inside { IfOk result (EndsBy (header.data_offset + header.data_length)) }
     ensures cause { CountsDevice (S.failures store.old) (S.failures store.new) result }
 {
     let at = length_place(header, &row)?;
@@ -93,14 +93,14 @@ pub(crate) fn find_rows<S: ForkStore>(
     header: Header,
     rows: Vec<MapRow>,
 ) -> Result<Vec<PlacedRow>, OpenFault>
-    requires small { header.data_offset + header.data_length ≤ max_fork }
+    requires small { header.data_offset + header.data_length < 2 ^ 32 }
     requires header { IsReadyWith S.ForkStore store.old (HasHeader header) }
     ensures reads { S.is_honest store.new → Reads S.ForkStore store.old store.new (λ fork. MatchResult result
         (λ found. (found.items ≡ map (placed_row fork) rows.items) × HasData (data_of fork) rows.items)
         (FaultsIn Condition.Places (¬ HasData (data_of fork) rows.items))) }
     ensures count { IfOk result (λ found. length found.items ≡ length rows.items) }
     ensures kinds { IfOk result (λ found. kinds_in found.items ≡ kinds_in rows.items) }
-    ensures inside { IfOk result (λ found. AllByRecursion FitsInFork found.items) }
+    ensures inside { IfOk result (λ found. AllByRecursion (EndsBy (header.data_offset + header.data_length)) found.items) }
     ensures cause { CountsDevice (S.failures store.old) (S.failures store.new) result }
 {
     let mut placed = Vec::new(alloc);

@@ -8,6 +8,7 @@ mod command;
 mod convert;
 mod input;
 mod message;
+mod parts;
 mod rez;
 mod work;
 
@@ -17,14 +18,16 @@ use fork_answer::answer::answer;
 use fork_answer::request::Request;
 use fork_answer::{Failure, Found, read_table, resource_fork};
 use fork_bytes::table::Table;
+use fork_disk::Unknown;
 use fork_report::{
-    Form, Refusal, Report, Tally, Told, refused_line, report_on, salvage, salvage_list,
+    Bytes, Form, Refusal, Report, Tally, Told, refused_line, report_on, salvage, salvage_list,
 };
 use fork_view::unpack::unpack;
 use fork_view::{Unpacking, View, sight_of};
 use input::read_all;
 use mac_text::letters::Letters;
 use message::{BAD_WORDS, CANT_GO_ON, DONE, NO_FORK, Problem, tell_bad_words, tell_problem};
+use parts::{answer_of_large, list_of_large};
 use std::alloc::AllocError;
 use std::io::{ErrorKind, IsTerminal, Write};
 use std::process::ExitCode;
@@ -103,18 +106,30 @@ fn show(
     if output.is_none() && request.is_for_files() && rt.stdout().is_terminal() {
         return Err(Problem::Terminal);
     }
-    let bytes = read(rt, file).map_err(Problem::Read)?;
     let Some(output) = output else {
-        answer(alloc, request, &bytes, &mut rt.stdout()).map_err(|failure| Refusal::of_failure(
-            alloc, failure, &bytes,
-        ))?;
-        return Ok(());
+        return write_answer(rt, request, file, &mut rt.stdout());
     };
     let mut text = Vec::new(alloc);
-    answer(alloc, request, &bytes, &mut text).map_err(|failure| Refusal::of_failure(
+    write_answer(rt, request, file, &mut text)?;
+    save_to(rt, output, text.as_slice())
+}
+
+/// Writes what is asked for of the file of this name.
+fn write_answer<W: Write>(
+    rt: &HostRuntime,
+    request: &Request,
+    file: &str,
+    output: &mut W,
+) -> Result<(), Problem> {
+    if let Some(shown) = answer_of_large::<Unknown, W>(rt, request, file, output) {
+        return shown.map_err(|failure| Problem::Refused(Refusal::Show(failure)));
+    }
+    let alloc = rt.alloc();
+    let bytes = read(rt, file).map_err(Problem::Read)?;
+    answer(alloc, request, &bytes, output).map_err(|failure| Refusal::of_failure(
         alloc, failure, &bytes,
     ))?;
-    save_to(rt, output, text.as_slice())
+    Ok(())
 }
 
 /// Reports on each of these files, and tells why of some nothing is told. The result is the highest status of them.
@@ -136,6 +151,14 @@ fn report_all(rt: &HostRuntime, report: &Report, files: &[&str]) -> u8 {
 
 /// What is told of the file of this name.
 fn report_file(rt: &HostRuntime, report: &Report, file: &str) -> Result<Told, Problem> {
+    if let Report::List {
+        kinds,
+        shown: Bytes::Hidden,
+    } = report
+        && let Some(line) = list_of_large::<Unknown>(rt, file, kinds.as_slice())
+    {
+        return Ok(Told::whole(line?));
+    }
     let bytes = read(rt, file).map_err(Problem::Read)?;
     Ok(report_on(rt.alloc(), report, file, &bytes)?)
 }

@@ -12,7 +12,7 @@ pub returns-in_err-at-clause-reads : goal.returns-in_err-at-clause-reads
 returns-in_err-at-clause-reads g c = λ honest. (
     let fork = g.S.ForkStore.fork c.args.store.now in
     let known = c.requires.header honest in
-    let outside = length_outside fork c.args.header c.args.row known.1.0 known.1.1.whole_data c.in_err-at.ensures.fails in
+    let outside = length_outside fork c.args.header c.args.row known.1.0 known.1.1 c.in_err-at.ensures.fails in
     let p = err_from_is_err_and c.from_residual.result c.from_residual.ensures.1 in
     record { keeps = unread g.S.ForkStore c.args.store.now honest known.0; told = rw (p.1, p.2) (fault_known Places _ outside _ c.in_err-at.ensures.fault) })
 
@@ -22,7 +22,7 @@ returns-in_err-place_row-clause-reads g c = λ honest. (
     let read = c.in_ok-read_at.ensures.reads honest in
     let known = c.requires.header read.keeps.honest in
     let told = c.read_u32.ensures ∙ ap (number_at 4 0) read.read ∙ number_of_piece 4 c.in_ok-at.at fork in
-    let within = datum_within fork c.args.header c.args.row c.read_u32.result c.in_ok-at.at known.1.0 known.1.1.whole_data c.in_ok-at.ensures.place c.in_ok-at.ensures.inside told in
+    let within = datum_within fork c.args.header c.args.row c.read_u32.result c.in_ok-at.at known.1.0 known.1.1 c.in_ok-at.ensures.place c.in_ok-at.ensures.inside told in
     let p = err_from_is_err_and c.from_residual-in_err-place_row.result c.from_residual-in_err-place_row.ensures.1 in
     record {
       keeps = read.keeps;
@@ -35,7 +35,7 @@ returns-clause-reads g c = λ honest. (
     let read = c.in_ok-read_at.ensures.reads honest in
     let known = c.requires.header read.keeps.honest in
     let told = c.read_u32.ensures ∙ ap (number_at 4 0) read.read ∙ number_of_piece 4 c.in_ok-at.at fork in
-    let within = datum_within fork c.args.header c.args.row c.read_u32.result c.in_ok-at.at known.1.0 known.1.1.whole_data c.in_ok-at.ensures.place c.in_ok-at.ensures.inside told in
+    let within = datum_within fork c.args.header c.args.row c.read_u32.result c.in_ok-at.at known.1.0 known.1.1 c.in_ok-at.ensures.place c.in_ok-at.ensures.inside told in
     record {
       keeps = read.keeps;
       told = (

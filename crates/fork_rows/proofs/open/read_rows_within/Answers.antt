@@ -1,15 +1,16 @@
 use Rattle.std.proofs.Common.{◌≤◌, ◌∙◌, List, length, subst, sym, ap, arith}
+use Rattle.std.specs.List.{AllByRecursion}
 use Rattle.std.proofs.lemmas.List.{length-map}
 use Rattle.std.proofs.lemmas.Result.{err_from_is_err_and}
 use Rattle.fork_bytes.specs.declared.fault.Condition.TheVariants.{RowCount, Types}
 use Rattle.fork_bytes.specs.declared.fault.ForkFault.{ForkFault}
-use Rattle.fork_bytes.specs.Fork.{references_of, map_row, attributes_of, Refuses}
+use Rattle.fork_bytes.specs.Fork.{references_of, map_row, attributes_of, RefusesWithin}
 use Rattle.fork_bytes.specs.Rows.{MapRow}
-use Rattle.fork_reader.specs.Reading.{PlacedRow, AreFewBytes}
+use Rattle.fork_reader.specs.Reading.{PlacedRow, AreFewBytesWithin}
 use Rattle.fork_rows.proofs.Grouped.{grouped_in}
-use Rattle.fork_rows.proofs.Opened.{read_in_turn, places_refused, bytes_refused, has_places, opened_as, refused_as}
-use Rattle.fork_rows.specs.Opening.{AreGrouped, kinds_in}
-use Rattle.fork_rows.proofs.open.read_rows.Goals as goal
+use Rattle.fork_rows.proofs.Opened.{all_end, read_in_turn, places_refused, bytes_refused, has_places, opened_as, refused_as}
+use Rattle.fork_rows.specs.Opening.{AreGrouped, EndsBy, kinds_in}
+use Rattle.fork_rows.proofs.open.read_rows_within.Goals as goal
 
 pub returns-in_err-rows-clause-reads : goal.returns-in_err-rows-clause-reads
 returns-in_err-rows-clause-reads g c = λ honest. (
@@ -18,10 +19,10 @@ returns-in_err-rows-clause-reads g c = λ honest. (
     let front = c.in_ok-front.ensures.reads part.keeps.honest in
     let count = c.in_ok-fork_length.ensures.measures front.keeps.honest in
     let whole : 16 ≤ c.in_ok-fork_length.fork_length = omega arith in
-    let read = read_in_turn g.S.ForkStore _ _ _ _ _ _ _ _ _ _ _ _ count.keeps count.value whole front c.in_ok-check_parts.ensures.parts
+    let read = read_in_turn c.args.limits g.S.ForkStore _ _ _ _ _ _ _ _ _ _ _ _ count.keeps count.value whole front c.in_ok-check_parts.ensures.parts
     part c.deref.ensures.value c.in_ok-read_map.ensures.holds c.in_ok-read_map.ensures.rows found in
     let p = err_from_is_err_and c.from_residual-in_err-rows.result c.from_residual-in_err-rows.ensures.1 in
-    record { keeps = read.keeps; told = rw (p.1, p.2) (refused_as _ _ read.told.0.whole (places_refused _ _ _ _ read.told.0 c.in_err-rows.field-0.0 read.told.2)) })
+    record { keeps = read.keeps; told = rw (p.1, p.2) (refused_as c.args.limits _ _ read.told.0.whole (places_refused c.args.limits _ _ _ _ read.told.0 c.in_err-rows.field-0.0 read.told.2)) })
 
 pub returns-in_err-check_bytes-clause-reads : goal.returns-in_err-check_bytes-clause-reads
 returns-in_err-check_bytes-clause-reads g c = λ honest. (
@@ -30,12 +31,12 @@ returns-in_err-check_bytes-clause-reads g c = λ honest. (
     let front = c.in_ok-front.ensures.reads part.keeps.honest in
     let count = c.in_ok-fork_length.ensures.measures front.keeps.honest in
     let whole : 16 ≤ c.in_ok-fork_length.fork_length = omega arith in
-    let read = read_in_turn g.S.ForkStore _ _ _ _ _ _ _ _ _ _ _ _ count.keeps count.value whole front c.in_ok-check_parts.ensures.parts
+    let read = read_in_turn c.args.limits g.S.ForkStore _ _ _ _ _ _ _ _ _ _ _ _ count.keeps count.value whole front c.in_ok-check_parts.ensures.parts
     part c.deref.ensures.value c.in_ok-read_map.ensures.holds c.in_ok-read_map.ensures.rows found in
-    let refuses = bytes_refused _ _ _ _ read.told.0 read.told.2.1 c.deref-2.result.now (c.deref-2.ensures.value ∙ read.told.2.0) c.in_err-check_bytes.ensures.fails in
-    let P : ForkFault → Type 0 = Refuses (g.S.ForkStore.fork c.args.store.now) in
+    let refuses = bytes_refused c.args.limits _ _ _ _ read.told.0 read.told.2.1 c.deref-2.result.now (c.deref-2.ensures.value ∙ read.told.2.0) c.in_err-check_bytes.ensures.fails in
+    let P : ForkFault → Type 0 = RefusesWithin c.args.limits (g.S.ForkStore.fork c.args.store.now) in
     let p = err_from_is_err_and c.from_residual-in_err-check_bytes.result c.from_residual-in_err-check_bytes.ensures.1 in
-    record { keeps = read.keeps; told = rw (p.1, p.2) (refused_as _ _ read.told.0.whole (subst P (sym c.in_err-check_bytes.ensures.fault) refuses)) })
+    record { keeps = read.keeps; told = rw (p.1, p.2) (refused_as c.args.limits _ _ read.told.0.whole (subst P (sym c.in_err-check_bytes.ensures.fault) refuses)) })
 
 pub returns-clause-reads : goal.returns-clause-reads
 returns-clause-reads g c = λ honest. (
@@ -44,16 +45,23 @@ returns-clause-reads g c = λ honest. (
     let front = c.in_ok-front.ensures.reads part.keeps.honest in
     let count = c.in_ok-fork_length.ensures.measures front.keeps.honest in
     let whole : 16 ≤ c.in_ok-fork_length.fork_length = omega arith in
-    let read = read_in_turn g.S.ForkStore _ _ _ _ _ _ _ _ _ _ _ _ count.keeps count.value whole front c.in_ok-check_parts.ensures.parts
+    let read = read_in_turn c.args.limits g.S.ForkStore _ _ _ _ _ _ _ _ _ _ _ _ count.keeps count.value whole front c.in_ok-check_parts.ensures.parts
     part c.deref.ensures.value c.in_ok-read_map.ensures.holds c.in_ok-read_map.ensures.rows found in
-    let P : List PlacedRow → Type 0 = AreFewBytes in
+    let P : List PlacedRow → Type 0 = AreFewBytesWithin c.args.limits in
     let few = subst P (c.deref-2.ensures.value ∙ sym c.new.ensures) c.in_ok-check_bytes.ensures.few in
     let marks = c.read_attributes.ensures ∙ ap attributes_of c.deref-3.ensures.value in
-    record { keeps = read.keeps; told = opened_as _ _ (has_places _ _ _ _ read.told.0 read.told.2.1 c.new.result (c.new.ensures ∙ read.told.2.0) few _ _ read.told.1 marks) })
+    record { keeps = read.keeps; told = opened_as c.args.limits _ _ (has_places c.args.limits _ _ _ _ read.told.0 read.told.2.1 c.new.result (c.new.ensures ∙ read.told.2.0) few _ _ read.told.1 marks) })
+
+pub returns-clause-inside : goal.returns-clause-inside
+returns-clause-inside g c =
+    let parts = c.in_ok-check_parts.ensures.parts in
+    let within = parts.whole_data in let short = parts.small in
+    let P : List PlacedRow → Type 0 = AllByRecursion (EndsBy c.args.limits.fork) in
+    subst P (sym c.new.ensures) (all_end _ _ (omega arith) c.in_ok-rows.rows.items c.in_ok-rows.ensures.inside)
 
 pub returns-clause-most : goal.returns-clause-most
 returns-clause-most g c =
-    let few : length (references_of c.deref.result.now) ≤ 8192 = c.in_ok-read_map.ensures.holds RowCount in
+    let few : length (references_of c.deref.result.now) ≤ c.args.limits.rows = c.in_ok-read_map.ensures.holds RowCount in
     let listed = ap (λ (r : List MapRow). length r) c.in_ok-read_map.ensures.rows ∙ length-map (references_of c.deref.result.now) (map_row c.deref.result.now) in
     let placed = ap (λ (r : List PlacedRow). length r) c.new.ensures ∙ c.in_ok-rows.ensures.count in
     omega arith

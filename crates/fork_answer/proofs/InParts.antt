@@ -1,0 +1,174 @@
+-- A file that is a resource fork, of which only some parts are read.
+use Rattle.std.proofs.Common.{◌≡◌, ◌≢◌, ◌∙◌, refl, sym, ap, subst, inl, inr, ℕ, zero, suc, ◌≤◌, Bool, true, false, List, [], ◌∷◌, length, take, Option, None, Some, IfSome, Result, Ok, Err, arith}
+use Rattle.std.specs.Prelude.{◌<◌, slice_get, option_map, if◌then◌else◌}
+use Rattle.std.specs.List.{AllByRecursion, filter}
+use Rattle.std.proofs.lemmas.Bool.{cases_Bool, cond-true, cond-false, le-leb, ne_eqb}
+use Rattle.std.proofs.lemmas.List.{get_or-take, length-take-le, take_all}
+use Rattle.fork_bytes.specs.declared.table.Table.{Table}
+use Rattle.fork_bytes.specs.Fork.{bytes_at, format_limits}
+use Rattle.fork_disk.specs.declared.store.ForkStore.{Ghosts}
+use Rattle.fork_list.specs.declared.find.Wanted.{Wanted}
+use Rattle.fork_list.specs.Find.{is_wanted}
+use Rattle.fork_list.specs.Listing.{listing}
+use Rattle.fork_list.specs.Types.{type_lines}
+use Rattle.fork_list.proofs.Placed.{place_size, listing_at, type_lines_at, wanted_at}
+use Rattle.fork_reader.specs.Reading.{PlacedRow, IsWithin, row_at}
+use Rattle.fork_rows.specs.Opening.{OpensAsWithin, Reads, filled}
+use Rattle.fork_rows.specs.declared.table.PlacedTable.{PlacedTable}
+use Rattle.fork_rows.proofs.Kept.{read_twice}
+use Rattle.mac_files.specs.declared.container.Container.{Container}
+use Rattle.mac_files.specs.declared.container.Container.TheVariants.{Raw, AppleSingle, AppleDouble, MacBinary}
+use Rattle.mac_files.specs.declared.container.Version.{Version}
+use Rattle.mac_files.specs.Containers.{container_of, is_fork_header}
+use Rattle.mac_files.specs.Parts.{bytes_of, has_bytes}
+use Rattle.fork_answer.specs.Answer.{Answers, IsAsked, Shows, Writes, wanted_row}
+use Rattle.fork_answer.specs.InParts.{HasRows, IsForkWith, ShowsRows}
+use Rattle.fork_answer.specs.Source.{IsForkIn, IsForkAs}
+use Rattle.fork_answer.specs.declared.answer.Failure.{Failure}
+use Rattle.fork_answer.specs.declared.answer.Failure.TheVariants as failure
+use Rattle.fork_answer.specs.declared.request.Choice.{Choice}
+use Rattle.fork_answer.specs.declared.request.Request.{Request}
+use Rattle.fork_answer.specs.declared.request.Request.TheVariants as request
+
+-- a text that was written is what was asked for
+pub shows : {T : Type 0} (asked : Request) (table : Table) (text : List ℕ) (old new : Option (List ℕ)) (result : Result T Failure)
+    → IsAsked asked table text → Writes text old new result → Shows asked table old new result
+shows asked table text old new (Ok done) is wrote = (text, is, wrote)
+shows asked table text old new (Err failure.NotFound) is wrote = absurd wrote
+shows asked table text old new (Err failure.HostFull) is wrote = tt
+shows asked table text old new (Err (failure.Write fault)) is wrote = tt
+shows asked table text old new (Err (failure.Fork fault)) is wrote = absurd wrote
+shows asked table text old new (Err (failure.NoFork fault)) is wrote = absurd wrote
+
+-- a file begins with the header of a fork where its first 16 bytes do
+same_header : (file : List ℕ) → 16 ≤ length file → is_fork_header (take 16 file) ≡ is_fork_header file
+unfolding is_fork_header
+same_header file long =
+    let front = length-take-le 16 file long in
+    let whole = le-leb 16 (length file) long in
+    let same = λ (i : ℕ) (low : i < 16). get_or-take 16 file i 0 low in
+    rw (front, whole, same 0 (omega arith), same 4 (omega arith), same 8 (omega arith), same 12 (omega arith), same 13 (omega arith), same 14 (omega arith), same 15 (omega arith)) refl
+
+-- what has no such header is known as something else
+not_binary : (found : Option Version) → option_map MacBinary found ≡ Some Raw → ⊥
+not_binary None is = cc is
+not_binary (Some version) is = cc is
+
+not_raw : (single double : Bool) (found : Option Version) → (if single then Some AppleSingle else if double then Some AppleDouble else option_map MacBinary found) ≡ Some Raw → ⊥
+not_raw true double found is = cc is
+not_raw false true found is = cc is
+not_raw false false found is = not_binary found is
+
+-- a file is known as a fork where its first 16 bytes are
+pub known_by_front : (file : List ℕ) → 16 ≤ length file → container_of (bytes_at 16 0 file) ≡ Some Raw → container_of file ≡ Some Raw
+known_by_front file long is =
+    elim (cases_Bool (is_fork_header (take 16 file))) [
+      | inl header ↦ cond-true _ _ _ (sym (same_header file long) ∙ header)
+      | inr other ↦ absurd (not_raw _ _ _ (sym (cond-false _ _ _ other) ∙ is))
+    ]
+
+-- the fork in a file that is known as a fork is the whole of it
+whole_part : (file : List ℕ) → 16 ≤ length file → option_map (λ part. bytes_of part file) (has_bytes (record { offset = 0; length = length file })) ≡ Some file
+whole_part file long =
+    let some : length file ≢ 0 = λ none. omega (arith, long, none) in
+    ap (option_map (λ part. bytes_of part file)) (cond-false _ _ _ (ne_eqb (length file) 0 some)) ∙ ap (λ (bytes : List ℕ). Some bytes) (take_all (length file) file (omega arith))
+
+pub is_fork_in : (file : List ℕ) → 16 ≤ length file → container_of file ≡ Some Raw → IsForkIn file file
+is_fork_in file long is = let P : Option Container → Type 0 = λ known. IsForkAs known file file in subst P (sym is) (refl, whole_part file long)
+
+-- a fork that was opened, whose first 16 bytes were read again
+pub is_fork_with : (file : List ℕ) (table : PlacedTable) (front : List ℕ) → OpensAsWithin format_limits (Ok table) file → front ≡ bytes_at 16 0 file → container_of front ≡ Some Raw
+    → IsForkWith file table.rows
+is_fork_with file table front opens read is =
+    let long = opens.rows.0.header in record {
+      fork = is_fork_in file long (known_by_front file long (ap container_of (sym read) ∙ is));
+      table = (filled file table, opens.table, refl);
+      within = opens.within;
+    }
+
+-- what is shown of its rows answers for the file
+pub answers : {T : Type 0} (file : List ℕ) (rows : List PlacedRow) (asked : Request) (old new : Option (List ℕ)) (result : Result T Failure)
+    → IsForkWith file rows → ShowsRows asked rows old new file result → Answers asked file old new result
+answers file rows asked old new result is shown = inl (file, is.fork, inl (is.table.0, inr is.table.1, shown is.table.0 is.table.2))
+
+-- a store is read, and read again
+pub reads_twice : {S : Type 0} (store : Ghosts S) (start middle last : S) (P Q R : List ℕ → Type 0) → Reads store start middle P → Reads store middle last Q
+    → ((file : List ℕ) → P file → Q file → R file) → Reads store start last R
+reads_twice store start middle last P Q R one other both = record {
+  keeps = read_twice store start middle last one.keeps other.keeps;
+  told = both (store.fork start) one.told (subst Q one.keeps.same other.told);
+}
+
+-- the same text was written
+pub writes_same : {T : Type 0} (text other : List ℕ) (old new : Option (List ℕ)) (result : Result T Failure) → text ≡ other → Writes text old new result → Writes other old new result
+writes_same {T} text other old new result same wrote = let P : List ℕ → Type 0 = λ bytes. Writes bytes old new result in subst P same wrote
+
+-- the list and that of types, of rows with places
+list_shows : {T : Type 0} (file : List ℕ) (choice : Choice) (rows : List PlacedRow) (old new : Option (List ℕ)) (result : Result T Failure) → AllByRecursion (IsWithin file) rows
+    → Writes (listing place_size choice.letters choice.kinds.items rows) old new result → ShowsRows (request.List choice) rows old new file result
+list_shows file choice rows old new result within wrote table has =
+    let same = ap (listing length choice.letters choice.kinds.items) has ∙ listing_at file choice.letters choice.kinds.items rows within in
+    shows (request.List choice) table _ old new result (sym same) wrote
+
+types_show : {T : Type 0} (file : List ℕ) (choice : Choice) (rows : List PlacedRow) (old new : Option (List ℕ)) (result : Result T Failure)
+    → Writes (type_lines choice.letters choice.kinds.items rows None rows) old new result → ShowsRows (request.Types choice) rows old new file result
+types_show file choice rows old new result wrote table has =
+    let same = ap (λ (all : List _). type_lines choice.letters choice.kinds.items all None all) has ∙ type_lines_at file choice.letters choice.kinds.items rows None rows in
+    shows (request.Types choice) table _ old new result (sym same) wrote
+
+-- what was asked for is a list, or a list of types
+pub list_answers : {T : Type 0} (file : List ℕ) (rows listed : List PlacedRow) (asked : Request) (choice : Choice) (old new : Option (List ℕ)) (result : Result T Failure)
+    → IsForkWith file rows → asked ≡ request.List choice → listed ≡ rows → Writes (listing place_size choice.letters choice.kinds.items listed) old new result → Answers asked file old new result
+list_answers file rows listed asked choice old new result is asks same wrote =
+    let P : Request → Type 0 = λ other. Answers other file old new result in
+    let text = writes_same _ _ old new result (ap (listing place_size choice.letters choice.kinds.items) same) wrote in
+    subst P (sym asks) (answers file rows (request.List choice) old new result is (list_shows file choice rows old new result is.within text))
+
+pub types_answer : {T : Type 0} (file : List ℕ) (rows listed : List PlacedRow) (asked : Request) (choice : Choice) (old new : Option (List ℕ)) (result : Result T Failure)
+    → IsForkWith file rows → asked ≡ request.Types choice → listed ≡ rows → Writes (type_lines choice.letters choice.kinds.items listed None listed) old new result → Answers asked file old new result
+types_answer file rows listed asked choice old new result is asks same wrote =
+    let P : Request → Type 0 = λ other. Answers other file old new result in
+    let text = writes_same _ _ old new result (ap (λ (all : List PlacedRow). type_lines choice.letters choice.kinds.items all None all) same) wrote in
+    subst P (sym asks) (answers file rows (request.Types choice) old new result is (types_show file choice rows old new result text))
+
+-- or a resource
+pub get_answers : {T : Type 0} (file : List ℕ) (rows listed : List PlacedRow) (asked : Request) (wanted : Wanted) (old new : Option (List ℕ)) (shown : Option (Result T Failure))
+    → IsForkWith file rows → asked ≡ request.Get wanted → listed ≡ rows → IfSome shown (ShowsRows (request.Get wanted) listed old new file) → IfSome shown (Answers asked file old new)
+get_answers file rows listed asked wanted old new None is asks same shows = tt
+get_answers file rows listed asked wanted old new (Some result) is asks same shows =
+    let P : Request → Type 0 = λ other. Answers other file old new result in
+    let Q : List PlacedRow → Type 0 = λ all. ShowsRows (request.Get wanted) all old new file result in
+    subst P (sym asks) (answers file rows (request.Get wanted) old new result is (subst Q same shows))
+
+-- the row that is wanted
+wanted_in : (file : List ℕ) (wanted : Wanted) (rows : List PlacedRow) (table : Table) → HasRows file rows table
+    → wanted_row wanted table.rows ≡ option_map (row_at file) (wanted_row wanted rows)
+wanted_in file wanted rows table has =
+    ap (λ (all : List _). slice_get (filter (is_wanted wanted) all) wanted.nth) has ∙ wanted_at file wanted rows wanted.nth
+
+pub found_shows : {T : Type 0} (file : List ℕ) (wanted : Wanted) (rows : List PlacedRow) (row : PlacedRow) (old new : Option (List ℕ)) (result : Result T Failure)
+    → wanted_row wanted rows ≡ Some row → Writes (row_at file row).datum old new result → ShowsRows (request.Get wanted) rows old new file result
+found_shows file wanted rows row old new result found wrote table has =
+    shows (request.Get wanted) table _ old new result (row_at file row, wanted_in file wanted rows table has ∙ ap (option_map (row_at file)) found, refl) wrote
+
+pub none_lacks : (file : List ℕ) (wanted : Wanted) (rows : List PlacedRow) (table : Table) → HasRows file rows table
+    → wanted_row wanted rows ≡ None → wanted_row wanted table.rows ≡ None
+none_lacks file wanted rows table has none = wanted_in file wanted rows table has ∙ ap (option_map (row_at file)) none
+
+-- the row that is found is one of the rows
+filter_within : (file : List ℕ) (wanted : Wanted) (rows : List PlacedRow) → AllByRecursion (IsWithin file) rows → AllByRecursion (IsWithin file) (filter (is_wanted wanted) rows)
+filter_within file wanted [] within = tt
+filter_within file wanted (row ∷ rows) within = kept (is_wanted wanted row) (filter_within file wanted rows within.1)
+  where
+    kept : (b : Bool) → AllByRecursion (IsWithin file) (filter (is_wanted wanted) rows)
+        → AllByRecursion (IsWithin file) (if b then row ∷ filter (is_wanted wanted) rows else filter (is_wanted wanted) rows)
+    kept true rest = (within.0, rest)
+    kept false rest = rest
+
+get_within : (file : List ℕ) (rows : List PlacedRow) (n : ℕ) (row : PlacedRow) → AllByRecursion (IsWithin file) rows → slice_get rows n ≡ Some row → IsWithin file row
+get_within file [] n row within found = absurd (cc found)
+get_within file (first ∷ rows) zero row within found = let P : PlacedRow → Type 0 = IsWithin file in let is : first ≡ row = cc in subst P is within.0
+get_within file (first ∷ rows) (suc n) row within found = get_within file rows n row within.1 found
+
+pub wanted_within : (file : List ℕ) (wanted : Wanted) (rows : List PlacedRow) (row : PlacedRow) → AllByRecursion (IsWithin file) rows → wanted_row wanted rows ≡ Some row → IsWithin file row
+wanted_within file wanted rows row within found = get_within file (filter (is_wanted wanted) rows) wanted.nth row (filter_within file wanted rows within) found
