@@ -95,7 +95,7 @@ def main(program, count=40):
             for number in range(1, count + 1):
                 what = f"fork {number}"
                 forks += try_random(program, path, number)
-            for rows, length in ((1, 4194304), (1000, 4096), (5000, 3000), (16, 1048572)):
+            for rows, length in ((1, 4194304), (1000, 4096), (5000, 3000), (16, 1048000)):
                 what = f"{rows} resources of {length} bytes"
                 try_size(program, path, rows, length)
         except Difference as difference:
