@@ -98,6 +98,11 @@ def main(program, count=40):
             for rows, length in ((1, 4194304), (1000, 4096), (5000, 3000), (16, 1048000)):
                 what = f"{rows} resources of {length} bytes"
                 try_size(program, path, rows, length)
+            # a map past 16 MB isn't known by the first bytes, so this one may be read whole
+            what = "the largest fork"
+            with open(path, "wb") as file:
+                file.write(fork_of(16, 1048572)[0])
+            try_ways(program, path)
         except Difference as difference:
             print(f"{what}: {difference}")
             return 1
