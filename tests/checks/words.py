@@ -9,7 +9,7 @@ import tempfile
 
 SCRIPT = b"ZoneMap\n"
 OLD = b"old"
-OPTIONS = ("--zone", "--limit", "--base", "--mode", "--fork", "--journal")
+OPTIONS = ("--zone", "--limit", "--base", "--mode", "--fork", "--journal", "--large")
 
 # words, and the zone that they ask for: its first address, its size in bytes, and that of its master block
 ZONES = [
@@ -26,6 +26,11 @@ ZONES = [
     ("--mode 24", 1048576, 4096, 264),
     ("--mode 32", 1048576, 4096, 268),
     ("--mode=32 --zone=1024", 1048576, 1024, 268),
+    ("--large", 1048576, 4096, 264),
+    ("--large --zone 1048580", 1048576, 1048580, 264),
+    ("--base 4096 --zone 16773120 --large", 4096, 16773120, 264),
+    ("--mode 32 --large --base 16773124", 16773124, 4096, 268),
+    ("--large --mode 32 --base 4227858428 --zone 67108864", 4227858428, 67108864, 268),
 ]
 
 HELP = ["--help", "-h", "--fork @/new --help"]
@@ -34,6 +39,8 @@ HELP = ["--help", "-h", "--fork @/new --help"]
 NO_WORDS = [
     "--zone",
     "--zone 4096 --zone 4096",
+    "--large --large",
+    "--large=1",
     "--base=4096 --base=4096",
     "--limit 4096 --limit 4096",
     "--limit",
@@ -83,6 +90,8 @@ NO_ZONES = [
     ("--zone 1022", "a zone's size is a multiple of 4 bytes, and 1022 is none"),
     ("--zone 1020", "a zone has 1024 bytes at least, and 1020 are too few"),
     ("--zone 1048580", "a zone's limit is 1048576 bytes at most, and 1048580 are too many"),
+    ("--large --zone 1073741828", "a zone's limit is 1073741824 bytes at most, and 1073741828 are too many"),
+    ("--large --base 4096 --zone 16773124", "a zone that has grown ends at 16777216 or below, and 16777220 is above"),
     ("--limit 4098", "a zone's limit is a multiple of 4 bytes, and 4098 is none"),
     ("--limit 1048580", "a zone's limit is 1048576 bytes at most, and 1048580 are too many"),
     ("--limit 4092", "a zone's limit is its size at least, and 4092 is below it"),
@@ -90,6 +99,7 @@ NO_ZONES = [
     ("--base 4092", "a zone begins at 4096 or above, and 4092 is too low"),
     ("--base 4098", "a zone begins at a multiple of 4, and 4098 is none"),
     ("--mode 32 --base 16773124", "a zone that has grown ends at 16777216 or below, and 16777220 is above"),
+    ("--large --mode 32 --base 4294963200", "a zone that has grown ends at 4294967295 or below, and 4294967296 is above"),
     ("--base 16773124", "a zone that has grown ends at 16777216 or below, and 16777220 is above"),
     ("--fork @/new --zone 1020", "a zone has 1024 bytes at least, and 1020 are too few"),
 ]

@@ -8,6 +8,7 @@ use Rattle.place_numbers.specs.Numbers.{FirstAtLeast}
 use Rattle.byteorder.specs.Endian.{big_number}
 use Rattle.mac_base.specs.HeadKind.{zone_header}
 use Rattle.mac_base.specs.ZoneSizes.{ArePossible}
+use Rattle.mac_base.proofs.Reach.{end-small}
 use Rattle.raw_region.specs.Bytes.{part, length-written}
 use Rattle.raw_region.specs.Span.{Span, IsFree}
 use Rattle.raw_region.specs.State.{State, with_bytes}
@@ -42,7 +43,7 @@ pub record IsKept (z : Inside) (m : State) : Type 0 where
 
 -- the address of the lowest free block is read where the index has it
 lowest-marked : (z : Inside) → IsLayout z → ArePossible z.spec → big_number 4 (part z.memory.bytes lowest_field 4) ≡ first_marked z.spec.base z.index
-lowest-marked z whole small = let l = layout_of z in let limit = small.small_enough in let end = small.end_low_enough in let marks = index-limit z whole in let few = first_marked-few z.index z.spec.base in
+lowest-marked z whole small = let l = layout_of z in let limit = small.small_enough in let end = small.end_low_enough in let top = end-small z.spec.heads in let bottom = small.base_high_enough in let marks = index-limit z whole in let few = first_marked-few z.index z.spec.base in
     let start : l.base + zone_header ≡ address_behind l [] = omega arith in
     let is : first_marked z.spec.base z.index ≡ first_free l.heads (address_behind l []) l.blocks =
     ap (first_marked z.spec.base) whole.marked ∙ first_marked-starts l whole.possible ∙ ap (λ (at : ℕ). first_free l.heads at l.blocks) start in
@@ -86,7 +87,7 @@ free-among z before mid behind is = let a = free-append z.spec.heads before (mid
 pub can-count_more : (z : Inside) → IsLayout z → ArePossible z.spec → (m : State) (index : List ℕ) (base gained lost : ℕ) → IsKept z m → length index ≡ length z.index → base ≡ z.spec.base
     → gained ≤ z.spec.limit → lost ≤ free_total z.spec.heads (layout_of z).blocks → CanCount m index base gained lost
 can-count_more z whole small m index base gained lost kept same base_is gained_few lost_few =
-    let free = kept.free in let limit = small.small_enough in let end = small.end_low_enough in let few = free-few z whole in let marks = index-limit z whole in let long = kept.long in
+    let free = kept.free in let limit = small.small_enough in let end = small.end_low_enough in let top = end-small z.spec.heads in let bottom = small.base_high_enough in let few = free-few z whole in let marks = index-limit z whole in let long = kept.long in
     let low = whole.low in let high = whole.high in
     record {
       inside = omega arith;

@@ -9,6 +9,7 @@ use Rattle.mac_base.specs.declared.block.HeadKind.{HeadKind}
 use Rattle.mac_base.specs.declared.block.HeadKind.TheVariants.{Bits24, Bits32}
 use Rattle.mac_base.specs.HeadKind.{head_size, smallest_block, zone_header}
 use Rattle.mac_base.specs.ZoneSizes.{ZoneSizes, ArePossible}
+use Rattle.mac_base.proofs.Reach.{end-small}
 use Rattle.raw_region.specs.Bytes.{part, written, length-written}
 use Rattle.raw_region.specs.Span.{Span, IsFree}
 use Rattle.raw_region.specs.State.{State, with_bytes}
@@ -189,7 +190,7 @@ module _ (z : Inside) (whole : IsLayout z) (small : ArePossible z.spec) (more : 
       → spec ≡ record { heads = z.spec.heads; base = z.spec.base; size = z.spec.limit; limit = z.spec.limit }
       → IsRead (record { spec = spec; memory = n; index = index; loans = z.loans }) (extended (layout_of z))
   extends m n spec index is set_is settles grown =
-      let l = layout_of z in let heads = z.spec.heads in let limit = small.small_enough in let end = small.end_low_enough in let low = whole.low in
+      let l = layout_of z in let heads = z.spec.heads in let limit = small.small_enough in let end = small.end_low_enough in let top = end-small z.spec.heads in let bottom = small.base_high_enough in let low = whole.low in
       let kept = kept-written z z.memory m z.spec.size head (kept-first z whole small) is low in
       let bytes : m.bytes ≡ header_bytes l ++ behind = ap (λ (s : State). s.bytes) is ∙ headed in
       let free : big_number 4 (part m.bytes free_field 4) + left - 0 ≡ free_total heads blocks =

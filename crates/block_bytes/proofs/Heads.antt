@@ -8,7 +8,7 @@ use Rattle.raw_region.proofs.Numbers.{length-big_bytes}
 use Rattle.mac_base.specs.declared.block.Flags.{Flags}
 use Rattle.mac_base.specs.declared.block.HeadKind.{HeadKind}
 use Rattle.mac_base.specs.declared.block.HeadKind.TheVariants.{Bits24, Bits32}
-use Rattle.mac_base.specs.HeadKind.{head_size}
+use Rattle.mac_base.specs.HeadKind.{head_size, address_end}
 use Rattle.block_bytes.specs.declared.header.Header.{Header}
 use Rattle.block_bytes.specs.declared.header.Role.{Role}
 use Rattle.block_bytes.specs.declared.header.Role.TheVariants.{Free, Fixed, Master, Relocatable}
@@ -126,7 +126,7 @@ third-of_three : (x y w : ℕ) (rest : List ℕ) → w < 2 ^ 32 → big_number 4
 third-of_three x y w rest small = big_number-reads_back 4 w rest small
 
 -- a header reads as itself
-pub header_in-head_bytes : (heads : HeadKind) (base : ℕ) (h : Header) (rest : List ℕ) → h.size < 2 ^ 24 → h.correction ≤ most_over heads → IsTrue (can_be_told heads h.role h.correction) → base < 2 ^ 32
+pub header_in-head_bytes : (heads : HeadKind) (base : ℕ) (h : Header) (rest : List ℕ) → h.size < address_end heads → h.correction ≤ most_over heads → IsTrue (can_be_told heads h.role h.correction) → base < 2 ^ 32
     → header_in heads (head_bytes heads base h ++ rest) ≡ h
 header_in-head_bytes Bits24 base h rest small few told low =
     let tag = tag_of h.role h.correction in

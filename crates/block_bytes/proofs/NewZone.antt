@@ -7,6 +7,7 @@ use Rattle.mac_base.specs.declared.block.HeadKind.{HeadKind}
 use Rattle.mac_base.specs.declared.block.HeadKind.TheVariants.{Bits24, Bits32}
 use Rattle.mac_base.specs.HeadKind.{head_size, smallest_block, zone_header}
 use Rattle.mac_base.specs.ZoneSizes.{ZoneSizes, ArePossible}
+use Rattle.mac_base.proofs.Reach.{end-small}
 use Rattle.raw_region.specs.Bytes.{part, written, length-written}
 use Rattle.raw_region.specs.State.{State, with_bytes}
 use Rattle.block_bytes.specs.declared.header.Header.{Header}
@@ -74,7 +75,7 @@ module _ (z : ZoneSizes) (possible : ArePossible z) where
       → index ≡ set (zeros (z.limit / 4)) (zone_header / 4) (z.size - zone_header)
       → IsRead (record { spec = z; memory = m; index = index; loans = 0 }) (new_layout m.name z)
   new-read start first m index heads base end free lowest h heads_is base_is h_is end_is free_is lowest_is start_is none first_is m_is marks =
-      let small = sizes-small z.heads in let one = small.0 in let two = small.1 in
+      let small = sizes-small z.heads in let one = small.0 in let two = small.1 in let top = end-small z.heads in
       let b = free_raw_block (zeros room) in let long = length-zeros room in let spare_long = length-zeros (z.limit - z.size) in let head_long = length-zeros zone_header in
       let old_long = length-zeros (head_size z.heads) in let new_long = length-head_bytes z.heads z.base (header_of z.heads b) in
       let size : z.size - zone_header ≡ size_of z.heads b = omega arith in

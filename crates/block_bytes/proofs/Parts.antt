@@ -5,8 +5,9 @@ use Rattle.std.specs.List.{list_all}
 use Rattle.std.proofs.lemmas.List.Folds.{list_all-append}
 use Rattle.byteorder.specs.Endian.{big_number}
 use Rattle.mac_base.specs.declared.block.HeadKind.{HeadKind}
-use Rattle.mac_base.specs.HeadKind.{zone_header}
+use Rattle.mac_base.specs.HeadKind.{zone_header, address_end}
 use Rattle.mac_base.specs.ZoneSizes.{ArePossible}
+use Rattle.mac_base.proofs.Reach.{end-small}
 use Rattle.raw_region.specs.Bytes.{part}
 use Rattle.raw_region.specs.State.{Name, State}
 use Rattle.block_bytes.specs.declared.blocks.Blocks.TheInside.{Inside}
@@ -35,7 +36,7 @@ zone_of name z front bs spare = record { name = name; heads = z.spec.heads; base
 
 -- the fields whose bytes and index are those of a zone stand for it
 pub image-read : (z : Inside) (name : Name) (front : ℕ) (bs : List RawBlock) (spare : List ℕ) → z.memory.name ≡ name → front < 2 ^ 32
-    → zone_header + total_of z.spec.heads bs ≡ z.spec.size → IsTrue (list_all (is_possible z.spec.heads) bs) → z.spec.limit < 2 ^ 24 → z.spec.base < 2 ^ 32
+    → zone_header + total_of z.spec.heads bs ≡ z.spec.size → IsTrue (list_all (is_possible z.spec.heads) bs) → z.spec.limit < address_end z.spec.heads → z.spec.base < 2 ^ 32
     → z.spec.size ≤ z.spec.limit → length z.memory.bytes ≡ z.spec.limit → z.memory.bytes ≡ image_of (zone_of name z front bs spare)
     → z.index ≡ starts_of (zone_of name z front bs spare) → SameSpans z.memory.lent (lent_spans z.spec.heads zone_header bs)
     → z.loans ≡ lent_count bs → z.loans ≤ most_lent → IsRead z (zone_of name z front bs spare)
@@ -172,5 +173,5 @@ changed z whole small bs memory index loans named is sum possible marks lent cou
     let old-long : length z.memory.bytes ≡ length (image_of l) = ap length whole.form in let new-long : length memory.bytes ≡ length (image_of (with_blocks bs l)) = ap length is in
     let ends = total-ends z whole in
     let all : length z.memory.bytes ≡ z.spec.limit = whole.all_bytes in
-    let limit = small.small_enough in let end = small.end_low_enough in
+    let limit = small.small_enough in let end = small.end_low_enough in let top = end-small z.spec.heads in let bottom = small.base_high_enough in
     image-read (record z { memory = memory; index = index; loans = loans }) z.memory.name l.front bs l.spare named told (omega arith) possible (omega arith) (omega arith) whole.high (omega arith) is marks lent counted few

@@ -6,7 +6,7 @@ use Rattle.std.proofs.lemmas.Bool.Decides.{nat_tests}
 use Rattle.std.proofs.lemmas.List.{length-replicate}
 use Rattle.mac_base.specs.declared.block.HeadKind.{HeadKind}
 use Rattle.mac_base.specs.declared.block.HeadKind.TheVariants.{Bits24, Bits32}
-use Rattle.mac_base.specs.HeadKind.{head_size, smallest_block}
+use Rattle.mac_base.specs.HeadKind.{head_size, smallest_block, address_end}
 use Rattle.raw_region.specs.Bytes.{part}
 use Rattle.block_bytes.specs.declared.header.Header.{Header}
 use Rattle.block_bytes.specs.Head.{most_over, head_bytes, header_in}
@@ -98,7 +98,7 @@ pub rendered-more : (heads : HeadKind) (base : ℕ) (b : RawBlock) (bs : List Ra
 rendered-more heads base b bs = ap (λ (l : List ℕ). head_bytes heads base (header_of heads b) ++ l) (sym (append_assoc b.contents b.slack (rendered heads base bs)))
 
 -- what is rendered is read
-pub blocks_in-rendered : (heads : HeadKind) (base n : ℕ) (bs : List RawBlock) (others : List ℕ) → IsTrue (list_all (is_possible heads) bs) → total_of heads bs < 2 ^ 24 → base < 2 ^ 32
+pub blocks_in-rendered : (heads : HeadKind) (base n : ℕ) (bs : List RawBlock) (others : List ℕ) → IsTrue (list_all (is_possible heads) bs) → total_of heads bs < address_end heads → base < 2 ^ 32
     → total_of heads bs ≤ n → blocks_in n heads (marks_of heads bs ++ others) (rendered heads base bs) ≡ bs
 blocks_in-rendered heads base zero [] others possible small low fuel = refl
 blocks_in-rendered heads base (suc n) [] others possible small low fuel = refl

@@ -2,6 +2,7 @@
 use Rattle.std.proofs.Common.{◌≡◌, ℕ, ◌+◌, ◌≤◌, List, ◌∷◌, ◌++◌, length, drop, ap, ◌∙◌, arith, append_assoc, length-append, drop_at}
 use Rattle.mac_base.specs.HeadKind.{head_size, zone_header}
 use Rattle.mac_base.specs.ZoneSizes.{ArePossible}
+use Rattle.mac_base.proofs.Reach.{end-small}
 use Rattle.raw_region.specs.Bytes.{part}
 use Rattle.raw_region.proofs.Moved.{part-append-first, part-append-second}
 use Rattle.block_bytes.specs.declared.blocks.Blocks.TheInside.{Inside}
@@ -16,7 +17,7 @@ module _ (z : Inside) (whole : IsLayout z) (before : List RawBlock) (here : RawB
   -- its header
   pub header-read : ArePossible z.spec → (place : ℕ) → place ≡ zone_header + total_of z.spec.heads before → header_in z.spec.heads (drop place z.memory.bytes) ≡ header_of z.spec.heads here
   header-read small place there =
-      let i = IsIn-from z whole before here behind is in let l = layout_of z in let e = length-front l before in
+      let i = IsIn-from z whole before here behind is in let l = layout_of z in let e = length-front l before in let top = end-small z.spec.heads in
       ap (λ (m : List ℕ). header_in z.spec.heads (drop place m)) i.bytes
       ∙ ap (header_in z.spec.heads) (drop_at (front l before) (head l here ++ (body here ++ rear l behind)) place (omega arith))
       ∙ header_in-head_bytes z.spec.heads z.spec.base (header_of z.spec.heads here) (body here ++ rear l behind) (omega arith) i.here_possible.few i.here_possible.told (omega arith)

@@ -7,6 +7,7 @@ use Rattle.byteorder.specs.Endian.{big_bytes, big_number}
 use Rattle.mac_base.specs.declared.block.HeadKind.{HeadKind}
 use Rattle.mac_base.specs.HeadKind.{head_size, zone_header}
 use Rattle.mac_base.specs.ZoneSizes.{ArePossible}
+use Rattle.mac_base.proofs.Reach.{end-small}
 use Rattle.raw_region.specs.Bytes.{part, written, length-written}
 use Rattle.raw_region.specs.Span.{IsFree}
 use Rattle.raw_region.specs.State.{State, with_bytes}
@@ -114,7 +115,7 @@ nothing-lent z whole none = none-same z.memory.lent (λ s. whole.lent s ∙ ap (
 
 -- the number of the free slots is written
 pub front-changed : (z : Inside) → IsLayout z → ArePossible z.spec → (n : ℕ) → n < 2 ^ 32 → IsRead (record z { memory = with_bytes z.memory front_field (big_bytes 4 n) }) (with_front n (layout_of z))
-front-changed z whole small n told = let l = layout_of z in let limit = small.small_enough in let end = small.end_low_enough in
+front-changed z whole small n told = let l = layout_of z in let limit = small.small_enough in let end = small.end_low_enough in let top = end-small z.spec.heads in let bottom = small.base_high_enough in
     image-read (record z { memory = with_bytes z.memory front_field (big_bytes 4 n) }) z.memory.name n l.blocks l.spare refl told (total-ends z whole) whole.possible (omega arith) (omega arith) whole.high
     (length-written z.memory.bytes front_field (big_bytes 4 n) ∙ whole.all_bytes)
     (ap (λ (m : List ℕ). written m front_field (big_bytes 4 n)) whole.form

@@ -6,7 +6,7 @@ use Rattle.std.proofs.lemmas.Bool.{and_parts}
 use Rattle.byteorder.specs.Numbers.{big_from-take}
 use Rattle.mac_base.specs.declared.block.HeadKind.{HeadKind}
 use Rattle.mac_base.specs.declared.block.HeadKind.TheVariants.{Bits24, Bits32}
-use Rattle.mac_base.specs.HeadKind.{head_size}
+use Rattle.mac_base.specs.HeadKind.{head_size, address_end}
 use Rattle.byteorder.specs.Endian.{big_number}
 use Rattle.block_bytes.specs.declared.header.Header.{Header}
 use Rattle.block_bytes.proofs.ReadBlocks.{IsPossible-from}
@@ -22,7 +22,7 @@ size-header Bits24 image at = ap (λ n. n % 0x100_0000) (big_from-take 0 4 4 (dr
 size-header Bits32 image at = big_from-take 0 4 4 (drop (at + 4) image) (omega arith) ∙ ap (big_number 4) (sym (drop-drop 4 at image))
 
 -- the first of some blocks says its size
-first_size : (heads : HeadKind) (base : ℕ) (pre rest : List ℕ) (b : RawBlock) (at : ℕ) → at ≡ length pre → size_of heads b < 2 ^ 24 → base < 2 ^ 32 → is_possible heads b ≡ true
+first_size : (heads : HeadKind) (base : ℕ) (pre rest : List ℕ) (b : RawBlock) (at : ℕ) → at ≡ length pre → size_of heads b < address_end heads → base < 2 ^ 32 → is_possible heads b ≡ true
     → size_at heads (pre ++ (head_bytes heads base (header_of heads b) ++ rest)) at ≡ size_of heads b
 first_size heads base pre rest b at is small low possible = let p = IsPossible-from heads b possible in
     size-header heads (pre ++ (head_bytes heads base (header_of heads b) ++ rest)) at
@@ -30,14 +30,14 @@ first_size heads base pre rest b at is small low possible = let p = IsPossible-f
     ∙ ap (λ (h : Header). h.size) (header_in-head_bytes heads base (header_of heads b) rest small p.few p.told low)
 
 -- possible blocks behind other bytes follow one another, and end where the bytes do
-pub follows-rendered : (heads : HeadKind) (base : ℕ) (pre : List ℕ) (bs : List RawBlock) (at : ℕ) → at ≡ length pre → total_of heads bs < 2 ^ 24 → base < 2 ^ 32 → list_all (is_possible heads) bs ≡ true
+pub follows-rendered : (heads : HeadKind) (base : ℕ) (pre : List ℕ) (bs : List RawBlock) (at : ℕ) → at ≡ length pre → total_of heads bs < address_end heads → base < 2 ^ 32 → list_all (is_possible heads) bs ≡ true
     → Follows heads (pre ++ rendered heads base bs) at (map (size_of heads) bs)
 follows-rendered heads base pre [] at is small low possible = is ∙ ap length (sym (append-nil pre))
 follows-rendered heads base pre (b ∷ bs) at is small low possible =
     let all = and_parts (is_possible heads b) (list_all (is_possible heads) bs) possible in
     let head = head_bytes heads base (header_of heads b) in
     let rest = rendered heads base bs in
-    let fits : size_of heads b + total_of heads bs < 2 ^ 24 = small in
+    let fits : size_of heads b + total_of heads bs < address_end heads = small in
     let size = first_size heads base pre (b.contents ++ (b.slack ++ rest)) b at is (omega arith) low all.0 in
     let before = (pre ++ head) ++ (b.contents ++ b.slack) in
     let long : length before ≡ length pre + (head_size heads + (length b.contents + length b.slack)) =

@@ -3,7 +3,7 @@
 ghost use Rattle.std.specs.Prelude.{◌≡◌, ◌+◌, ◌-◌, ◌≤◌, ◌<◌, ◌^◌, ◌++◌, [], ◌∷◌, length, replicate, drop, IfOk, IsTrue, IsFalse};
 ghost use Rattle.std.specs.Borrow.{sem};
 ghost use Rattle.byteorder.specs.Endian.{big_bytes, big_number};
-ghost use Rattle.mac_base.specs.HeadKind.{head_size, zone_header};
+ghost use Rattle.mac_base.specs.HeadKind.{address_end, head_size, zone_header};
 ghost use Rattle.raw_region.specs.Bytes.{part};
 ghost use Rattle.raw_region.specs.Span.{IsFree, IsListed, without};
 ghost use Rattle.raw_region.specs.State.{State, with_bytes};
@@ -150,7 +150,7 @@ impl Memory {
     pub fn carry(&mut self, heads: HeadKind, at: usize, count: usize, header: Header)
         requires inside { at + header.size + count ≤ length self.old.bytes }
         requires free { IsFree self.old.lent at (header.size + count) }
-        requires size { (header.size < 2 ^ 24) × (head_size heads ≤ header.size) }
+        requires size { (header.size < address_end heads) × (head_size heads ≤ header.size) }
         requires correction { header.correction ≤ most_over heads }
         ensures free { IsTrue (is_free header.role) → self.new ≡ with_bytes (with_bytes self.old at (part self.old.bytes (at + header.size) count)) (at + count) (head_bytes heads 0 header) }
         ensures used { IsFalse (is_free header.role) → self.new ≡ with_bytes self.old at (part self.old.bytes (at + header.size) count ++ part self.old.bytes at header.size) }
@@ -170,7 +170,7 @@ impl Memory {
     pub fn sink(&mut self, heads: HeadKind, at: usize, count: usize, header: Header)
         requires inside { at + count + header.size ≤ length self.old.bytes }
         requires free { IsFree self.old.lent at (count + header.size) }
-        requires size { (header.size < 2 ^ 24) × (head_size heads ≤ header.size) }
+        requires size { (header.size < address_end heads) × (head_size heads ≤ header.size) }
         requires correction { header.correction ≤ most_over heads }
         ensures free { IsTrue (is_free header.role) → self.new ≡ with_bytes (with_bytes self.old (at + header.size) (part self.old.bytes at count)) at (head_bytes heads 0 header) }
         ensures used { IsFalse (is_free header.role) → self.new ≡ with_bytes self.old at (part self.old.bytes (at + count) header.size ++ part self.old.bytes at count) }
@@ -231,7 +231,7 @@ impl Memory {
     pub fn set_header(&mut self, heads: HeadKind, at: usize, base: u32, header: Header)
         requires inside { at + head_size heads ≤ length self.old.bytes }
         requires free { IsFree self.old.lent at (head_size heads) }
-        requires size { header.size < 2 ^ 24 }
+        requires size { header.size < address_end heads }
         requires correction { header.correction ≤ most_over heads }
         ensures { self.new ≡ with_bytes self.old at (head_bytes heads base header) }
     {

@@ -41,8 +41,8 @@ module _ (r : ZoneRecords) (z : ZoneState) (held : Stands r z) (h at : ℕ) (fla
   abbrev now : ZoneState
   now = flagged h flags z
 
-  -- its contents begin within 24 bits
-  pub flags-below : at + head_size z.shape.heads < 0x100_0000
+  -- its contents begin within 32 bits
+  pub flags-below : at + head_size z.shape.heads < 0xFFFF_FFFF
   flags-below = entry-below r z held at entry
 
   -- its slot is one of the blocks'

@@ -136,8 +136,8 @@ module _ {r : ZoneRecords} {start end : ℕ} (m : Misplaced r start end) where
         (subst (λ (w : ZoneRecords). (b : RecordAt w next) → said ≡ block (kind_of (next + head_size w.shape.heads) b.here.content) b.here.size) (c.is).image_is reads) block_now
         ∙ ap (λ k. block k (c.here).size) (kind-moves (partly m c.done) (next + head_size m.zone.shape.heads) _ (c.here).kind moves_coming)
 
-    -- it has contents, and ends within 24 bits
-    pub coming-range : (next + (c.here).size ≤ 0x100_0000) × (head_size m.zone.shape.heads < (c.here).size)
+    -- it has contents, and ends within 32 bits
+    pub coming-range : (next + (c.here).size ≤ 0xFFFF_FFFF) × (head_size m.zone.shape.heads < (c.here).size)
     coming-range = (entry-end (records_of m.zone) m.zone stands next entry_now, entry-room (records_of m.zone) m.zone stands next entry_now)
 
     abbrev low : ℕ

@@ -9,12 +9,13 @@ use Rattle.mac_base.specs.declared.block.Entry.{Entry}
 use Rattle.mac_base.specs.declared.block.Flags.{Flags}
 use Rattle.mac_base.specs.declared.block.HeadKind.{HeadKind}
 use Rattle.mac_base.specs.declared.block.HeadKind.TheVariants.{Bits24, Bits32}
-use Rattle.mac_base.specs.HeadKind.{Shape, head_size, smallest_block, slot_count}
+use Rattle.mac_base.specs.HeadKind.{Shape, head_size, smallest_block, slot_count, address_end}
 use Rattle.mac_base.specs.Heap.{front_slot}
 use Rattle.mac_base.specs.Suits.{slots, slots_from, is_block_size}
 use Rattle.mac_base.specs.declared.block.Kind.{Kind}
 use Rattle.mac_base.specs.ZoneMap.{ZoneMap, block, is_master, total_size, address_behind, addresses, addresses_from, contents_addresses}
 use Rattle.mac_base.specs.ZoneState.{ZoneState}
+use Rattle.mac_base.proofs.Reach.{end-small}
 use Rattle.zone_laws.proofs.Maps.{total_size-append}
 use Rattle.zone_laws.proofs.SlotPlaces.{Contains-none, Contains-here, Contains-cons_cases}
 use Rattle.zone_records.specs.declared.slot.Slot.TheVariants as slot
@@ -31,12 +32,12 @@ use Rattle.linked_zone.proofs.ChangeMaster.{slots_at-below}
 -- ---- in general
 
 -- a free slot says where the next one stands
-pub free-said : (heads : HeadKind) (x : ℕ) → x % 4 ≡ 0 → x < 0x100_0000 → can_say heads (slot.Free x) ≡ true
+pub free-said : (heads : HeadKind) (x : ℕ) → x % 4 ≡ 0 → x < address_end heads → can_say heads (slot.Free x) ≡ true
 free-said Bits24 x even small = grind (arith, nat_tests)
 free-said Bits32 x even small = grind (arith, nat_tests)
 
 -- a handle with a block says where its contents begin, and what flags a slot says
-pub full-said : (heads : HeadKind) (flags : Flags) (x : ℕ) → x % 4 ≡ 0 → x < 0x100_0000 → 0 < x → can_say heads (slot.Full (slot_flags heads flags) x) ≡ true
+pub full-said : (heads : HeadKind) (flags : Flags) (x : ℕ) → x % 4 ≡ 0 → x < address_end heads → 0 < x → can_say heads (slot.Full (slot_flags heads flags) x) ≡ true
 full-said Bits24 flags x even small some = grind (arith, nat_tests)
 full-said Bits32 flags x even small some = grind (arith, nat_tests)
 
@@ -87,7 +88,7 @@ module _ (r : ZoneRecords) (z : ZoneState) (held : Stands r z) where
   start_even = sum_even (z.shape.base + 52) 0 (sum_even z.shape.base 52 held.even refl) refl
 
   -- a slot stands at a multiple of four, within the zone
-  pub slot-range : (x : ℕ) → Contains (slots z.shape z.heap.map) x → (x % 4 ≡ 0) × (x < 0x100_0000) × (0 < x)
+  pub slot-range : (x : ℕ) → Contains (slots z.shape z.heap.map) x → (x % 4 ≡ 0) × (x < address_end z.shape.heads) × (0 < x)
   slot-range x c =
       let found = Contains-flat_map (slots_from slot_count) (contents_addresses z.shape is_master z.heap.map) x c in
       let place = Contains-map (λ a. a + head_size z.shape.heads) (addresses z.shape is_master z.heap.map) found.0 found.1 in
@@ -102,14 +103,14 @@ module _ (r : ZoneRecords) (z : ZoneState) (held : Stands r z) where
 
   -- a free slot can say the next one, and 0
   pub next-said : (xs : List ℕ) → ((x : ℕ) → Contains xs x → Contains z.heap.free_slots x) → can_say z.shape.heads (slot.Free (slice_index xs 0)) ≡ true
-  next-said [] each = free-said z.shape.heads 0 refl (omega arith)
+  next-said [] each = free-said z.shape.heads 0 refl (let high = held.high in let low = held.low in omega arith)
   next-said (x ∷ xs) each = let range = slot-range x ((held.fits.slots.free x).0 (each x (Contains-here x xs))).0 in free-said z.shape.heads x range.0 range.1
 
   -- where there is no first free slot, there is none
   pub front-none : front_slot z.heap ≡ 0 → z.heap.free_slots ≡ []
   front-none none = by_list z.heap.free_slots (λ x c. slot-range x ((held.fits.slots.free x).0 c).0) none
     where
-      by_list : (xs : List ℕ) → ((x : ℕ) → Contains xs x → (x % 4 ≡ 0) × (x < 0x100_0000) × (0 < x)) → slice_index xs 0 ≡ 0 → xs ≡ []
+      by_list : (xs : List ℕ) → ((x : ℕ) → Contains xs x → (x % 4 ≡ 0) × (x < address_end z.shape.heads) × (0 < x)) → slice_index xs 0 ≡ 0 → xs ≡ []
       by_list [] each none = refl
       by_list (x ∷ xs) each none = let range = each x (Contains-here x xs) in absurd (omega arith)
 
@@ -121,7 +122,7 @@ module _ (r : ZoneRecords) (z : ZoneState) (held : Stands r z) where
         (and_parts (list_all (λ (e : Entry). is_block_size z.shape e.size) e.before) _ (sym (list_all-append (λ (e : Entry). is_block_size z.shape e.size) e.before (e.here ∷ e.behind)) ∙ ap (list_all (λ (e : Entry). is_block_size z.shape e.size)) (sym e.map) ∙ held.sizes)).0 in
         ap (λ n. n % 4) e.place ∙ sum_even (z.shape.base + 52) (total_size e.before) (sum_even z.shape.base 52 held.even refl) (total-even z.shape e.before before)
 
-    -- it has contents, which begin and end within 24 bits
+    -- it has contents, and slots can say where they begin and end
     pub entry-room : head_size z.shape.heads < e.here.size
     entry-room =
         let all = (and_parts (list_all (has_room z.shape) e.before) _ (sym (list_all-append (has_room z.shape) e.before (e.here ∷ e.behind)) ∙ ap (list_all (has_room z.shape)) (sym e.map) ∙ held.rooms)).1 in
@@ -129,20 +130,27 @@ module _ (r : ZoneRecords) (z : ZoneState) (held : Stands r z) where
         let first = (and_parts (nat_lt (head_size z.shape.heads) e.here.size) _ here).0 in
         grind (arith, nat_tests)
 
-    pub entry-end : at + e.here.size ≤ 0x100_0000
-    entry-end =
+    entry-reach : at + e.here.size ≤ address_end z.shape.heads
+    entry-reach =
         let total = ap total_size e.map ∙ total_size-append e.before (e.here ∷ e.behind) in
         let place = e.place in
         let within = held.within in
         let high = held.high in
         omega arith
 
-    pub entry-below : at + head_size z.shape.heads < 0x100_0000
+    contents-reach : at + head_size z.shape.heads < address_end z.shape.heads
+    contents-reach = let room = entry-room in let end = entry-reach in omega arith
+
+    -- which have 32 bits
+    pub entry-end : at + e.here.size ≤ 0xFFFF_FFFF
+    entry-end = let end = entry-reach in let small = end-small z.shape.heads in omega arith
+
+    pub entry-below : at + head_size z.shape.heads < 0xFFFF_FFFF
     entry-below = let room = entry-room in let end = entry-end in omega arith
 
     -- a slot can say where they begin
     pub contents-said : (flags : Flags) → can_say z.shape.heads (slot.Full (slot_flags z.shape.heads flags) (at + head_size z.shape.heads)) ≡ true
-    contents-said flags = full-said z.shape.heads flags (at + head_size z.shape.heads) (sum_even at (head_size z.shape.heads) entry-even (head-even z.shape.heads)) entry-below (let place = e.place in let low = held.low in omega arith)
+    contents-said flags = full-said z.shape.heads flags (at + head_size z.shape.heads) (sum_even at (head_size z.shape.heads) entry-even (head-even z.shape.heads)) contents-reach (let place = e.place in let low = held.low in omega arith)
 
 -- ---- room
 

@@ -183,8 +183,8 @@ module _ {start at : ℕ} (r : ZoneRecords) (z : ZoneState) (held : Stands r z) 
   pub sink-size : (said : Entry) → ((b : RecordAt r at) → said ≡ block (kind_of (at + head_size r.shape.heads) b.here.content) b.here.size) → said.size ≡ (parcel.here).size
   sink-size said reads = ap (λ (e : Entry). e.size) (reads sink_record.there) ∙ ap (λ (b : BlockRecord). b.size) sink_record.here
 
-  -- it ends within 24 bits
-  pub sink-range : at + (parcel.here).size ≤ 0x100_0000
+  -- it ends within 32 bits
+  pub sink-range : at + (parcel.here).size ≤ 0xFFFF_FFFF
   sink-range = entry-end r z held at sink_entry
 
   abbrev sink_there : places.ParcelUpTo (records_of z) start at

@@ -1,6 +1,6 @@
 -- What is known of the blocks of a zone while it is changed, and when they stand for the changed one.
 use Rattle.std.proofs.Common.{◌≡◌, ◌+◌, ◌%◌, ◌≤◌, ap, sym, ◌∙◌, subst}
-use Rattle.mac_base.specs.HeadKind.{zone_header}
+use Rattle.mac_base.specs.HeadKind.{zone_header, address_end}
 use Rattle.mac_base.specs.ZoneMap.{total_size}
 use Rattle.mac_base.specs.ZoneState.{ZoneState}
 use Rattle.zone_records.specs.Records.{ZoneRecords}
@@ -19,7 +19,7 @@ pub record Stands (r : ZoneRecords) (z : ZoneState) : Type 0 where
   pub within : zone_header + total_size z.heap.map ≤ z.shape.limit
   pub even : z.shape.base % 4 ≡ 0
   pub low : 0x1000 ≤ z.shape.base
-  pub high : z.shape.base + z.shape.limit ≤ 0x100_0000
+  pub high : z.shape.base + z.shape.limit ≤ address_end z.shape.heads
 
 -- the fields of a zone are the blocks of what it shows
 pub stands-now : {i : Inside} {z : ZoneState} → StandsAsRead i → state_in i.records ≡ z → Stands i.records z

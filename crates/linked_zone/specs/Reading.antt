@@ -1,7 +1,7 @@
 -- How the handle table, the zone map and the free slots are read off the blocks.
 use Rattle.std.specs.Prelude.{◌≡◌, ℕ, zero, suc, ◌+◌, ◌%◌, ◌≤◌, ◌==◌, ◌||◌, if◌then◌else◌, List, [], ◌∷◌, ◌++◌, length, flat_map}
 use Rattle.mac_base.specs.declared.block.Flags.{Flags}
-use Rattle.mac_base.specs.HeadKind.{Shape, head_size, zone_header}
+use Rattle.mac_base.specs.HeadKind.{Shape, head_size, zone_header, address_end}
 use Rattle.mac_base.specs.Loans.{owner_of}
 use Rattle.mac_base.specs.ZoneMap.{ZoneMap, block, total_size}
 use Rattle.mac_base.specs.HandleTable.{Live, EmptyHandle, FullHandle, Pointer}
@@ -106,7 +106,7 @@ state_in z = let start = address_behind z.shape [] in let all = all_slots z.shap
 abbrev pub state_of_field : Inside → ZoneState
 state_of_field z = state_in z.records
 
--- the blocks are those of the zone that they stand for; sizes are possible, addresses have 24 bits, and none is 0; the zone
+-- the blocks are those of the zone that they stand for; sizes are possible, slots can say addresses, and none is 0; the zone
 -- begins at a multiple of four
 pub record StandsAsRead (z : Inside) : Type 0 where
   pub blocks : z.records ≡ records_of (state_in z.records)
@@ -116,4 +116,4 @@ pub record StandsAsRead (z : Inside) : Type 0 where
   pub within : zone_header + total_size (state_in z.records).heap.map ≤ z.records.shape.limit
   pub even : z.records.shape.base % 4 ≡ 0
   pub low : 0x1000 ≤ z.records.shape.base
-  pub high : z.records.shape.base + z.records.shape.limit ≤ 0x100_0000
+  pub high : z.records.shape.base + z.records.shape.limit ≤ address_end z.records.shape.heads

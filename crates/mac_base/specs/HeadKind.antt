@@ -13,6 +13,11 @@ abbrev pub smallest_block : HeadKind → ℕ
 smallest_block Bits24 = 12
 smallest_block Bits32 = 16
 
+-- the address beyond which no zone ends: 24-bit blocks say sizes and master pointers in 24 bits, 32-bit blocks in 32
+abbrev pub address_end : HeadKind → ℕ
+address_end Bits24 = 0x100_0000
+address_end Bits32 = 0xFFFF_FFFF
+
 -- the bytes of the zone header; blocks begin behind it
 abbrev pub zone_header : ℕ
 zone_header = 52

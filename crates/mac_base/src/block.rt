@@ -13,7 +13,7 @@ pub enum HeadKind {
 
 impl HeadKind {
     ghost use Rattle.std.specs.Prelude.{◌≡◌};
-    ghost use Rattle.mac_base.specs.HeadKind.{head_size, smallest_block};
+    ghost use Rattle.mac_base.specs.HeadKind.{address_end, head_size, smallest_block};
 
     /// The bytes of a block's header.
     pub fn head_size(self) -> u32
@@ -32,6 +32,16 @@ impl HeadKind {
         match self {
             HeadKind::Bits24 => 12,
             HeadKind::Bits32 => 16,
+        }
+    }
+
+    /// The address beyond which no zone of such blocks ends.
+    pub fn address_end(self) -> u32
+        ensures { result ≡ address_end self }
+    {
+        match self {
+            HeadKind::Bits24 => 0x100_0000,
+            HeadKind::Bits32 => u32::MAX,
         }
     }
 }

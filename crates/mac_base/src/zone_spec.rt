@@ -8,8 +8,11 @@ use std::marker::Model;
 /// The least size of a zone, in bytes.
 pub const LEAST_SIZE: u32 = 1024;
 
-/// The largest limit of a zone, in bytes.
-pub const LARGEST_LIMIT: u32 = 0x10_0000;
+/// The largest limit of a zone that isn't large, in bytes.
+pub const USUAL_LIMIT: u32 = 0x10_0000;
+
+/// The largest limit of any zone, in bytes: twice as many are still a number of 32 bits.
+pub const LARGEST_LIMIT: u32 = 0x4000_0000;
 
 /// The least growth of a zone that may grow, in bytes.
 pub const LEAST_GROWTH: u32 = 16;
@@ -17,8 +20,8 @@ pub const LEAST_GROWTH: u32 = 16;
 /// The lowest address at which a zone may begin.
 pub const LOWEST_BASE: u32 = 0x1000;
 
-/// The address that no zone's bytes reach: 24-bit addresses end there.
-pub const ADDRESS_END: u32 = 0x100_0000;
+/// The highest end of a zone that isn't large.
+pub const USUAL_END: u32 = 0x100_0000;
 
 /// Why there is no zone of these sizes.
 #[derive(Clone, Copy, Debug, PartialEq, Eq)]
@@ -32,64 +35,60 @@ pub enum BadSpec {
     /// The size is below the least.
     SmallSize(u32),
     /// The limit is above the largest.
-    LargeLimit(u32),
+    LargeLimit { limit: u32, most: u32 },
     /// The size is above the limit.
     SizeOverLimit { size: u32, limit: u32 },
     /// The zone may grow, but by less than the least growth.
     SmallGrowth(u32),
     /// The base is too low.
     LowBase(u32),
-    /// The zone may reach past the last address.
-    HighEnd { base: u32, limit: u32 },
-}
-
-impl BadSpec {
-    /// The condition that isn't met.
-    fn rule(self) -> &'static str {
-        match self {
-            BadSpec::UnevenBase(_) => "a zone begins at a multiple of 4",
-            BadSpec::UnevenSize(_) => "a zone's size is a multiple of 4 bytes",
-            BadSpec::UnevenLimit(_) => "a zone's limit is a multiple of 4 bytes",
-            BadSpec::SmallSize(_) => "a zone has 1024 bytes at least",
-            BadSpec::LargeLimit(_) => "a zone's limit is 1048576 bytes at most",
-            BadSpec::SizeOverLimit { .. } => "a zone's limit is its size at least",
-            BadSpec::SmallGrowth(_) => "a zone that may grow may grow by 16 bytes at least",
-            BadSpec::LowBase(_) => "a zone begins at 4096 or above",
-            BadSpec::HighEnd { .. } => "a zone that has grown ends at 16777216 or below",
-        }
-    }
-
-    /// The number that doesn't meet it.
-    fn number(self) -> u64 {
-        match self {
-            BadSpec::UnevenBase(number)
-            | BadSpec::UnevenSize(number)
-            | BadSpec::UnevenLimit(number)
-            | BadSpec::SmallSize(number)
-            | BadSpec::LargeLimit(number)
-            | BadSpec::SmallGrowth(number)
-            | BadSpec::LowBase(number) => u64::from(number),
-            BadSpec::SizeOverLimit { limit, .. } => u64::from(limit),
-            BadSpec::HighEnd { base, limit } => u64::from(base) + u64::from(limit),
-        }
-    }
-
-    /// What is wrong with that number.
-    fn fault(self) -> &'static str {
-        match self {
-            BadSpec::UnevenBase(_) | BadSpec::UnevenSize(_) | BadSpec::UnevenLimit(_) => "is none",
-            BadSpec::SmallSize(_) | BadSpec::SmallGrowth(_) => "are too few",
-            BadSpec::LargeLimit(_) => "are too many",
-            BadSpec::SizeOverLimit { .. } => "is below it",
-            BadSpec::LowBase(_) => "is too low",
-            BadSpec::HighEnd { .. } => "is above",
-        }
-    }
+    /// The zone may reach past the highest end.
+    HighEnd { base: u32, limit: u32, end: u32 },
 }
 
 impl fmt::Display for BadSpec {
     fn fmt<W: fmt::Write>(&self, f: &mut fmt::Formatter<W>) -> fmt::Result {
-        write!(f, "{}, and {} {}", self.rule(), self.number(), self.fault())
+        match *self {
+            BadSpec::UnevenBase(base) => write!(
+                f,
+                "a zone begins at a multiple of 4, and {base} is none"
+            ),
+            BadSpec::UnevenSize(size) => write!(
+                f,
+                "a zone's size is a multiple of 4 bytes, and {size} is none"
+            ),
+            BadSpec::UnevenLimit(limit) => write!(
+                f,
+                "a zone's limit is a multiple of 4 bytes, and {limit} is none"
+            ),
+            BadSpec::SmallSize(size) => write!(
+                f,
+                "a zone has 1024 bytes at least, and {size} are too few"
+            ),
+            BadSpec::LargeLimit { limit, most } => write!(
+                f,
+                "a zone's limit is {most} bytes at most, and {limit} are too many"
+            ),
+            BadSpec::SizeOverLimit { limit, .. } => write!(
+                f,
+                "a zone's limit is its size at least, and {limit} is below it"
+            ),
+            BadSpec::SmallGrowth(growth) => write!(
+                f,
+                "a zone that may grow may grow by 16 bytes at least, and {growth} are too few"
+            ),
+            BadSpec::LowBase(base) => write!(
+                f,
+                "a zone begins at 4096 or above, and {base} is too low"
+            ),
+            BadSpec::HighEnd { base, limit, end } => {
+                let reached = u64::from(base) + u64::from(limit);
+                write!(
+                    f,
+                    "a zone that has grown ends at {end} or below, and {reached} is above"
+                )
+            }
+        }
     }
 }
 
@@ -117,15 +116,15 @@ impl Model for ZoneSpec {
 }
 
 impl ZoneSpec {
-    ghost use Rattle.std.specs.Prelude.{◌≡◌, ◌↔◌, IsOk, IfOk};
+    ghost use Rattle.std.specs.Prelude.{◌≡◌, ◌+◌, ◌≤◌, ◌↔◌, IsOk, IfOk};
     ghost use Rattle.std.specs.Result.{result_err};
     ghost use Rattle.mac_base.specs.declared.block.HeadKind.TheVariants.{Bits24};
-    ghost use Rattle.mac_base.specs.ZoneSizes.{ZoneSizes, ArePossible, first_fault};
+    ghost use Rattle.mac_base.specs.ZoneSizes.{ZoneSizes, ArePossible, AreUsual, AreWithin, first_fault, first_large_fault};
 
     /// A zone of 24-bit blocks that begins at `base`, has `size` bytes and may grow to `limit` bytes: `with_kind` with
     /// `Bits24`.
     pub fn new(base: u32, size: u32, limit: u32) -> Result<ZoneSpec, BadSpec>
-        ensures possible { IsOk result ↔ ArePossible (record { heads = Bits24; base = base; size = size; limit = limit }) }
+        ensures possible { IsOk result ↔ AreUsual (record { heads = Bits24; base = base; size = size; limit = limit }) }
         ensures spec { IfOk result (λ spec. spec ≡ record { heads = Bits24; base = base; size = size; limit = limit }) }
         ensures fault { result_err result ≡ first_fault base size limit }
     {
@@ -134,38 +133,39 @@ impl ZoneSpec {
 
     /// A zone that begins at `base`, has `size` bytes, may grow to `limit` bytes, and has blocks of this kind. The sizes
     /// are refused where a condition doesn't hold, by the first one in the order of `BadSpec`.
+    #[tactic(auto, using(crate::proofs::Reach::usual_possible))]
     pub fn with_kind(base: u32, size: u32, limit: u32, heads: HeadKind) -> Result<ZoneSpec, BadSpec>
-        ensures possible { IsOk result ↔ ArePossible (record { heads = heads; base = base; size = size; limit = limit }) }
+        ensures possible { IsOk result ↔ AreUsual (record { heads = heads; base = base; size = size; limit = limit }) }
         ensures spec { IfOk result (λ spec. spec ≡ record { heads = heads; base = base; size = size; limit = limit }) }
         ensures fault { result_err result ≡ first_fault base size limit }
     {
-        let fault = if base % 4 != 0 {
-            BadSpec::UnevenBase(base)
-        } else if size % 4 != 0 {
-            BadSpec::UnevenSize(size)
-        } else if limit % 4 != 0 {
-            BadSpec::UnevenLimit(limit)
-        } else if size < LEAST_SIZE {
-            BadSpec::SmallSize(size)
-        } else if limit > LARGEST_LIMIT {
-            BadSpec::LargeLimit(limit)
-        } else if size > limit {
-            BadSpec::SizeOverLimit { size, limit }
-        } else if size != limit && limit - size < LEAST_GROWTH {
-            BadSpec::SmallGrowth(limit - size)
-        } else if base < LOWEST_BASE {
-            BadSpec::LowBase(base)
-        } else if base > ADDRESS_END - limit {
-            BadSpec::HighEnd { base, limit }
-        } else {
-            return Ok(ZoneSpec {
+        match first_fault(base, size, limit, USUAL_LIMIT, USUAL_END) {
+            Some(fault) => Err(fault),
+            None => Ok(ZoneSpec {
                 heads,
                 base,
                 size,
                 limit,
-            });
-        };
-        Err(fault)
+            }),
+        }
+    }
+
+    /// As `with_kind`, and the zone may be large: its limit is 1 GB at most, and it ends where its blocks can still say
+    /// their sizes and addresses, at $1000000 or, with blocks of the 32-bit kind, below 2^32.
+    pub fn large(base: u32, size: u32, limit: u32, heads: HeadKind) -> Result<ZoneSpec, BadSpec>
+        ensures possible { IsOk result ↔ ArePossible (record { heads = heads; base = base; size = size; limit = limit }) }
+        ensures spec { IfOk result (λ spec. spec ≡ record { heads = heads; base = base; size = size; limit = limit }) }
+        ensures fault { result_err result ≡ first_large_fault heads base size limit }
+    {
+        match first_fault(base, size, limit, LARGEST_LIMIT, heads.address_end()) {
+            Some(fault) => Err(fault),
+            None => Ok(ZoneSpec {
+                heads,
+                base,
+                size,
+                limit,
+            }),
+        }
     }
 
     /// How the zone's blocks are headed.
@@ -176,9 +176,11 @@ impl ZoneSpec {
     }
 
     /// The address at which the zone begins.
+    #[tactic(auto, using(crate::proofs::Reach::reach))]
     pub fn base(self) -> u32
         ensures value { result ≡ self.base }
         ensures possible { ArePossible self }
+        ensures reach { self.base + self.limit ≤ 0xFFFF_FFFF }
     {
         self.base
     }
@@ -192,9 +194,11 @@ impl ZoneSpec {
     }
 
     /// The bytes that the zone may have, its header included.
+    #[tactic(auto, using(crate::proofs::Reach::reach))]
     pub fn limit(self) -> u32
         ensures value { result ≡ self.limit }
         ensures possible { ArePossible self }
+        ensures reach { self.base + self.limit ≤ 0xFFFF_FFFF }
     {
         self.limit
     }
@@ -208,4 +212,36 @@ impl ZoneSpec {
             ..self
         }
     }
+}
+
+ghost use Rattle.std.specs.Prelude.{◌≡◌, ◌↔◌, None};
+ghost use Rattle.mac_base.specs.ZoneSizes.{AreWithin, conditions, first_failing};
+
+/// The first condition that these sizes don't meet, for a zone with this largest limit and this highest end.
+fn first_fault(base: u32, size: u32, limit: u32, most: u32, end: u32) -> Option<BadSpec>
+    ensures none { result ≡ None ↔ AreWithin most end base size limit }
+    ensures fault { result ≡ first_failing (conditions most end base size limit) }
+{
+    let fault = if base % 4 != 0 {
+        BadSpec::UnevenBase(base)
+    } else if size % 4 != 0 {
+        BadSpec::UnevenSize(size)
+    } else if limit % 4 != 0 {
+        BadSpec::UnevenLimit(limit)
+    } else if size < LEAST_SIZE {
+        BadSpec::SmallSize(size)
+    } else if limit > most {
+        BadSpec::LargeLimit { limit, most }
+    } else if size > limit {
+        BadSpec::SizeOverLimit { size, limit }
+    } else if size != limit && limit - size < LEAST_GROWTH {
+        BadSpec::SmallGrowth(limit - size)
+    } else if base < LOWEST_BASE {
+        BadSpec::LowBase(base)
+    } else if limit > end || base > end - limit {
+        BadSpec::HighEnd { base, limit, end }
+    } else {
+        return None;
+    };
+    Some(fault)
 }

@@ -1,18 +1,18 @@
 -- What the words of the command line ask for.
-use Rattle.std.specs.Prelude.{◌≡◌, ◌≢◌, ◌<◌, ◌≤◌, ℕ, List, [], length, map, Some, None, Result, Ok, Err, codes}
+use Rattle.std.specs.Prelude.{◌≡◌, ◌≢◌, ◌<◌, ◌≤◌, ℕ, Bool, true, false, List, [], length, map, Option, Some, None, Result, Ok, Err, codes}
 use Rattle.clap.specs.Words.{Text, IsAmong, kind_of}
 use Rattle.clap.specs.declared.error.kind.ErrorKind.{ErrorKind}
 use Rattle.clap.specs.declared.error.kind.ErrorKind.TheVariants.{DisplayHelp, OutOfMemory}
 use Rattle.mac_base.specs.declared.block.HeadKind.{HeadKind}
 use Rattle.mac_base.specs.declared.zone_spec.BadSpec.{BadSpec}
-use Rattle.mac_base.specs.ZoneSizes.{ZoneSizes, ArePossible, first_fault}
+use Rattle.mac_base.specs.ZoneSizes.{ZoneSizes, ArePossible, AreUsual, first_fault, first_large_fault}
 use Rattle.res_files.specs.Standing.{most_files}
 use Rattle.macheap.specs.declared.asked.Asked.{Asked}
 use Rattle.macheap.specs.declared.asked.Asked.TheVariants.{Run, Help}
 use Rattle.macheap.specs.declared.asked.NotAsked.{NotAsked}
 use Rattle.macheap.specs.declared.asked.NotAsked.TheVariants.{Words, TooManyForks, OtherJournals, NoNumber, Mode, Spec, HostFull}
 use Rattle.macheap.specs.Files.{FitForks}
-use Rattle.macheap.specs.Options.{faults, forks_of, heads_of, journals_of, value_of, IsNumberOf, IsNoNumber}
+use Rattle.macheap.specs.Options.{faults, allows_large, forks_of, heads_of, journals_of, value_of, IsNumberOf, IsNoNumber}
 
 -- the words match the options, and name no more files than a run may have, with a journal for each or none
 abbrev pub Match : List Text → Type 0
@@ -27,6 +27,16 @@ pub record GivesNumbers (words : List Text) (base size limit mode : ℕ) : Type 
   pub base_given : IsNumberOf (value_of (codes "base") words) 0x10_0000 base
   pub mode_given : IsNumberOf (value_of (codes "mode") words) 24 mode
 
+-- a zone may have these sizes, which are those of a large one only where that is allowed
+abbrev pub IsAllowed : Bool → ZoneSizes → Type 0
+IsAllowed true = ArePossible
+IsAllowed false = AreUsual
+
+-- the fault of the first condition that these sizes don't meet, where a large zone is allowed or not
+abbrev pub zone_fault : Bool → HeadKind → ℕ → ℕ → ℕ → Option BadSpec
+zone_fault true heads base size limit = first_large_fault heads base size limit
+zone_fault false heads base size limit = first_fault base size limit
+
 -- the words ask for a run on a zone of these sizes, of blocks as the mode has them, over the files of these names, with these journals
 pub record AsksForRun (words : List Text) (sizes : ZoneSizes) (forks journals : List Text) : Type 0 where
   pub base : ℕ
@@ -37,7 +47,7 @@ pub record AsksForRun (words : List Text) (sizes : ZoneSizes) (forks journals : 
   pub numbers : GivesNumbers words base size limit mode
   pub headed : heads_of mode ≡ Some heads
   pub is : sizes ≡ record { heads = heads; base = base; size = size; limit = limit }
-  pub possible : ArePossible sizes
+  pub allowed : IsAllowed (allows_large words) sizes
   pub forks_are : forks ≡ forks_of words
   pub journals_are : journals ≡ journals_of words
 
@@ -75,7 +85,7 @@ GivesNoMode words mode = (base : ℕ) × (size : ℕ) × (limit : ℕ) × GivesN
 -- the words give numbers and a mode, and no zone has these sizes for this reason
 abbrev pub GivesNoZone : List Text → BadSpec → Type 0
 GivesNoZone words fault = (base : ℕ) × (size : ℕ) × (limit : ℕ) × (mode : ℕ) × (heads : HeadKind)
-    × GivesNumbers words base size limit mode × (heads_of mode ≡ Some heads) × (first_fault base size limit ≡ Some fault)
+    × GivesNumbers words base size limit mode × (heads_of mode ≡ Some heads) × (zone_fault (allows_large words) heads base size limit ≡ Some fault)
 
 -- What the words ask for, or why they ask for nothing; what is shown or told of it is of that kind. Want of memory may come at any time.
 abbrev pub Asks : List Text → Result Asked NotAsked → Type 0

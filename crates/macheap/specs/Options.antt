@@ -1,10 +1,10 @@
 -- The options of the command line, and the numbers that they give.
-use Rattle.std.specs.Prelude.{◌≡◌, ℕ, ◌<◌, ◌^◌, ◌==◌, if◌then◌else◌, List, [], Option, Some, None, unwrap_or, codes}
+use Rattle.std.specs.Prelude.{◌≡◌, ℕ, ◌<◌, ◌^◌, ◌==◌, Bool, false, bytes_eq, if◌then◌else◌, List, [], Option, Some, None, unwrap_or, codes}
 use Rattle.std.specs.Str.Parse.{IsNumeral, digits_value}
 use Rattle.clap.specs.Words.{App, Rule, Text, Kinds, new_app, new_rule, with_rule, matches_of, all_of, first_of, fault_of}
 use Rattle.mac_base.specs.declared.block.HeadKind.{HeadKind}
 use Rattle.mac_base.specs.declared.block.HeadKind.TheVariants.{Bits24, Bits32}
-use Rattle.clap.specs.declared.builder.ArgAction.TheVariants.{Set, Append}
+use Rattle.clap.specs.declared.builder.ArgAction.TheVariants.{Set, SetTrue, Append}
 
 -- an option that stands once at most, as `--name`, and takes a value
 abbrev pub option_named : Text → Rule
@@ -14,9 +14,13 @@ option_named name = record (new_rule name) { long = Some name; action = Some Set
 abbrev pub file_option : Text → Rule
 file_option name = record (new_rule name) { long = Some name; action = Some Append; value_names = 1 }
 
+-- an option that stands alone, once at most, as `--name`
+abbrev pub flag_option : Text → Rule
+flag_option name = record (new_rule name) { long = Some name; action = Some SetTrue }
+
 -- the program and its options
 abbrev pub options : App
-options = with_rule (with_rule (with_rule (with_rule (with_rule (with_rule (new_app (codes "macheap")) (option_named (codes "zone"))) (option_named (codes "limit"))) (option_named (codes "base"))) (option_named (codes "mode"))) (file_option (codes "fork"))) (file_option (codes "journal"))
+options = with_rule (with_rule (with_rule (with_rule (with_rule (with_rule (with_rule (new_app (codes "macheap")) (option_named (codes "zone"))) (option_named (codes "limit"))) (option_named (codes "base"))) (option_named (codes "mode"))) (file_option (codes "fork"))) (file_option (codes "journal"))) (flag_option (codes "large"))
 
 -- the ways in which the words don't match the options, of which `--help` is one; none where they do
 abbrev pub faults : List Text → Kinds
@@ -25,6 +29,15 @@ faults words = fault_of options words
 -- the value that the words give an option
 abbrev pub value_of : Text → List Text → Option Text
 value_of name words = first_of name (matches_of options words)
+
+-- a flag with this value was given
+abbrev pub is_set : Option Text → Bool
+is_set None = false
+is_set (Some text) = bytes_eq text (codes "true")
+
+-- the words allow a large zone
+abbrev pub allows_large : List Text → Bool
+allows_large words = is_set (value_of (codes "large") words)
 
 -- the values that the words give an option that may stand several times, in order
 abbrev pub values_of : Text → List Text → List Text

@@ -4,8 +4,9 @@ ghost use Rattle.std.specs.Prelude.{◌≡◌, IfOk, IfErr, OnErr, false, map, o
 ghost use Rattle.std.specs.Char.{is_ascii_digit};
 ghost use Rattle.std.specs.List.{list_all};
 ghost use Rattle.clap.specs.Words.{app_of, kind_of, rule_of};
-ghost use Rattle.macheap.specs.Asking.{Asks, MeansNoRun, IsNoNumberFault};
-ghost use Rattle.macheap.specs.Options.{file_option, heads_of, option_named, options, IsNumberOf, IsNoNumber};
+ghost use Rattle.std.specs.Result.{result_err};
+ghost use Rattle.macheap.specs.Asking.{Asks, MeansNoRun, IsAllowed, IsNoNumberFault, zone_fault};
+ghost use Rattle.macheap.specs.Options.{file_option, flag_option, heads_of, is_set, option_named, options, IsNumberOf, IsNoNumber};
 
 use crate::files::Files;
 use clap::error::ErrorKind;
@@ -95,6 +96,17 @@ fn file_option<'a>(alloc: Global, name: &'a str, help: &'a str) -> Arg<'a>
         .help(help)
 }
 
+/// The option of this name, which stands alone, once at most.
+fn flag_option<'a>(alloc: Global, name: &'a str, help: &'a str) -> Arg<'a>
+    ensures rule { rule_of result ≡ flag_option name.entry.now }
+    ensures local { result.global ≡ false }
+{
+    Arg::new(alloc, name)
+        .long(name)
+        .action(ArgAction::SetTrue)
+        .help(help)
+}
+
 /// The command line's options.
 fn command<'a>(alloc: Global) -> Result<Command<'a>, AllocError>
     ensures { IfOk result (λ command. app_of command ≡ options) }
@@ -108,13 +120,16 @@ fn command<'a>(alloc: Global) -> Result<Command<'a>, AllocError>
         "A file with a resource fork, made where it is missing; up to 8 times (default: none in a file)";
     let journal_help =
         "A file for the journal of the k-th --fork, made where it is missing; as often as --fork, or not at all (default: none)";
+    let large_help =
+        "Takes a zone of up to 1073741824 bytes, which with --mode 32 may end anywhere below 4294967296";
     Command::new(alloc, "macheap")
         .arg(number_option(alloc, "zone", zone_help))?
         .arg(number_option(alloc, "limit", limit_help))?
         .arg(number_option(alloc, "base", base_help))?
         .arg(number_option(alloc, "mode", mode_help))?
         .arg(file_option(alloc, "fork", fork_help))?
-        .arg(file_option(alloc, "journal", journal_help))
+        .arg(file_option(alloc, "journal", journal_help))?
+        .arg(flag_option(alloc, "large", large_help))
 }
 
 /// What the words ask for, of which the first is the program's name.
@@ -132,12 +147,42 @@ pub fn asked_by<'a, S: AsStr>(alloc: Global, words: &'a [S]) -> Result<Asked<'a>
     let limit = number("limit", matches.get_str("limit"), zone)?;
     let base = number("base", matches.get_str("base"), DEFAULT_BASE)?;
     let mode = number("mode", matches.get_str("mode"), DEFAULT_MODE)?;
+    let is_large = is_set(matches.get_str("large"));
     let Some(heads) = heads_of(mode) else {
         return Err(NotAsked::Mode(mode));
     };
-    match ZoneSpec::with_kind(base, zone, limit, heads) {
+    match spec_of(is_large, base, zone, limit, heads) {
         Ok(spec) => Ok(Asked::Run(spec, files)),
         Err(fault) => Err(NotAsked::Spec(fault)),
+    }
+}
+
+/// Whether a flag was given, by its value.
+fn is_set(value: Option<&str>) -> bool
+    ensures { result ≡ is_set (option_map (λ text. text.now) value.entry) }
+{
+    match value {
+        Some(text) => text == "true",
+        None => false,
+    }
+}
+
+/// The zone of these sizes, which is large only where that is allowed.
+fn spec_of(
+    is_large: bool,
+    base: u32,
+    size: u32,
+    limit: u32,
+    heads: HeadKind,
+) -> Result<ZoneSpec, BadSpec>
+    ensures spec { IfOk result (λ spec. spec ≡ record { heads = heads; base = base; size = size; limit = limit }) }
+    ensures allowed { IfOk result (λ spec. IsAllowed is_large spec) }
+    ensures fault { result_err result ≡ zone_fault is_large heads base size limit }
+{
+    if is_large {
+        ZoneSpec::large(base, size, limit, heads)
+    } else {
+        ZoneSpec::with_kind(base, size, limit, heads)
     }
 }
 

@@ -31,7 +31,7 @@ fn copy_to_new<G: GrowZone>(
     count: u32,
     procedure: &mut G,
 ) -> Result<Handle, OsErr>
-    requires limit { zone.old.shape.limit ≤ 0x10_0000 }
+    requires limit { zone.old.shape.limit ≤ 0x4000_0000 }
     requires full { status_of zone.old.heap.table from ≡ Status.Full }
     requires within { count ≤ length (bytes_of zone.old.heap.table from) }
     requires unasked { G.asks procedure.old ≡ [] }
@@ -60,7 +60,7 @@ fn copy_behind<G: GrowZone>(
     offset: u32,
     procedure: &mut G,
 ) -> Result<(), OsErr>
-    requires limit { zone.old.shape.limit ≤ 0x10_0000 }
+    requires limit { zone.old.shape.limit ≤ 0x4000_0000 }
     requires full { status_of zone.old.heap.table from ≡ Status.Full }
     requires within { count ≤ length (bytes_of zone.old.heap.table from) }
     requires target { status_of zone.old.heap.table to ≡ Status.Full }

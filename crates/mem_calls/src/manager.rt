@@ -22,7 +22,7 @@ impl Model for MemoryManager {
 
     ghost view = { λ m. m.zone };
 
-    ghost invariant = { λ m. m.zone.shape.limit ≤ 0x10_0000 };
+    ghost invariant = { λ m. m.zone.shape.limit ≤ 0x4000_0000 };
 }
 
 impl Drop for MemoryManager {
@@ -111,12 +111,12 @@ impl MemoryManager {
         self.zone.bytes_mut(block)
     }
 
-    /// The address of the zone's first block header. What the zone shows is a sound heap, and its addresses have 24
+    /// The address of the zone's first block header. What the zone shows is a sound heap, and its addresses have 32
     /// bits.
     pub fn first_block(&self) -> u32
         ensures address { result ≡ address_behind self.now.shape [] }
         ensures sound { Sound self.now.shape self.now.heap }
-        ensures reach { self.now.shape.base + self.now.shape.limit ≤ 0x100_0000 }
+        ensures reach { self.now.shape.base + self.now.shape.limit ≤ 0xFFFF_FFFF }
     {
         self.zone.first_block()
     }

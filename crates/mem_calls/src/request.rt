@@ -2,11 +2,10 @@
 
 ghost use Rattle.std.specs.Prelude.{◌≡◌, ◌≤◌, IsTrue, IsFalse, []};
 ghost use Rattle.linked_zone.specs.Loans.{KeepsLoans};
-ghost use Rattle.mac_base.specs.HeadKind.{max_size};
 ghost use Rattle.mac_base.specs.Sound.{Sound};
 ghost use Rattle.mac_base.specs.Request.{is_among, length_asked};
 ghost use Rattle.mac_calls.specs.GrowZone.{may_ask, may_note, carried_once, carried_out};
-ghost use Rattle.zone_heap.specs.Attempts.{CanAsk, lacks_slot};
+ghost use Rattle.zone_heap.specs.Attempts.{CanAsk, lacks_slot, most_asked};
 ghost use Rattle.zone_heap.specs.Purge.{is_protected};
 ghost use Rattle.mem_calls.specs.Requesting.{EndsAttempt, IsTrial, IsNewlyAnswered, IsTurn, MayAskMore, IsRun, IsCallRun, given_or_full, with_carried};
 
@@ -125,7 +124,7 @@ fn turn<G: GrowZone>(
     protected: &[u32],
     procedure: &mut G,
 ) -> bool
-    requires size { length_asked request.now ≤ max_size }
+    requires size { length_asked request.now ≤ most_asked }
     requires may { IsTrue (may_ask (G.asks procedure.old)) }
     ensures turn { IsTurn zone.old.shape protected.now request.now zone.old.heap (G.asks procedure.old) result (G.asks procedure.new) zone.new.heap }
     ensures source { G.source procedure.new ≡ G.source procedure.old }

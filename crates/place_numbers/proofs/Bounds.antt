@@ -1,31 +1,12 @@
 -- What bounds say of the numbers under them.
-use Rattle.std.proofs.Common.{◌≡◌, ◌≢◌, ℕ, ap, replicate, ◌+◌, ◌*◌, ◌/◌, ◌<◌, ◌≤◌, inl, inr, List, length, get_or, arith, get_or-set_same, get_or-set_other, length-set}
+use Rattle.std.proofs.Common.{◌≡◌, ◌≢◌, ℕ, replicate, ◌+◌, ◌*◌, ◌/◌, ◌<◌, ◌≤◌, inl, inr, List, length, get_or, arith, get_or-set_same, get_or-set_other, length-set}
 use Rattle.std.proofs.Math.ListN.{set}
 use Rattle.std.proofs.lemmas.Bool.{cases_eq, cases_lt}
 use Rattle.std.proofs.lemmas.List.{get_or_past, length-replicate}
 use Rattle.place_numbers.specs.Bounds.{AreBounds, AreBoundsBut, AreBoundsOutside, AreLevels}
 use Rattle.place_numbers.proofs.Rows.{zeros-at}
 
--- a bound that is written anew, over numbers of which it is one
-pub covered : (bs xs : List ℕ) (p r : ℕ) → p < length xs → AreBoundsBut bs xs p → ((j : ℕ) → j / 32 ≡ p / 32 → get_or xs j 0 ≤ r) → AreBounds (set bs (p / 32) r) xs
-covered bs xs p r inside others most = record {
-  count = let count = others.count in rw length-set (omega arith);
-  above = λ j. elim (cases_eq (j / 32) (p / 32)) [
-    | inl same ↦ let count = others.count in let bound : p / 32 < length bs = omega arith in rw (same, get_or-set_same) (most j same)
-    | inr other ↦
-        let apart : j ≢ p = omega arith in
-        rw get_or-set_other (others.above j apart)
-  ];
-}
-
--- a number that its bound isn't above is the bound then
-pub raised : (bs xs : List ℕ) (p r : ℕ) → p < length xs → AreBoundsBut bs xs p → get_or xs p 0 ≡ r → get_or bs (p / 32) 0 ≤ r → AreBounds (set bs (p / 32) r) xs
-raised bs xs p r inside others is low = covered bs xs p r inside others (λ j same. elim (cases_eq j p) [
-  | inl here ↦ let number = ap (λ (i : ℕ). get_or xs i 0) here in omega arith
-  | inr other ↦ let above = others.above j other in let bound = ap (λ (i : ℕ). get_or bs i 0) same in omega arith
-])
-
--- one more bound that is written anew
+-- one more bound that is written anew, over numbers of which it is one
 pub renewed : (bs xs : List ℕ) (c end r : ℕ) → c * 32 < length xs → AreBoundsOutside bs xs (c * 32) end → ((j : ℕ) → j / 32 ≡ c → get_or xs j 0 ≤ r)
     → AreBoundsOutside (set bs c r) xs ((c + 1) * 32) end
 renewed bs xs c end r inside others most = record {

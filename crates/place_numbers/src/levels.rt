@@ -1,7 +1,7 @@
 //! Numbers at places, with searches for the first and the last that is large enough. Bounds over each 32, 1,024 and
 //! 32,768 of them let a search pass over those that are too small.
 
-ghost use Rattle.std.specs.Prelude.{◌≡◌, ℕ, ◌<◌, ◌/◌, ◌≢◌, length, slice_index};
+ghost use Rattle.std.specs.Prelude.{◌≡◌, ℕ, ◌<◌, ◌/◌, ◌≢◌, IfNone, length, slice_index};
 ghost use Rattle.place_numbers.specs.Bounds.{AreBounds, AreBoundsBut};
 
 use crate::number::Number;
@@ -36,22 +36,30 @@ impl<N: Number> Model for Levels<N> {
     ghost invariant = { λ x. AreLevels x.numbers x.low x.middle x.high };
 }
 
-/// Makes the bound over a place right again, where another number stood before.
-fn cover<N: Number>(bounds: &mut Row<N>, numbers: &Row<N>, place: usize, before: N)
+/// Makes the bound over a place right again, where another number stood before. Returns what the bound was, where it is another now.
+fn cover<N: Number>(bounds: &mut Row<N>, numbers: &Row<N>, place: usize, before: N) -> Option<N>
     requires inside { place < length numbers.now }
     requires others { AreBoundsBut bounds.old numbers.now place }
     ensures all { AreBounds bounds.new numbers.now }
     ensures same { (j : ℕ) → j ≢ place / 32 → slice_index bounds.new j ≡ slice_index bounds.old j }
     ensures count { length bounds.new ≡ length bounds.old }
+    ensures none { IfNone result (bounds.new ≡ bounds.old) }
 {
     let chunk = place / 32;
     let number = numbers.get(place);
     let bound = bounds.get(chunk);
-    if bound.number() <= number.number() {
-        bounds.set(chunk, number);
+    let now = if bound.number() <= number.number() {
+        number
     } else if before.number() == bound.number() {
-        bounds.set(chunk, numbers.largest(chunk));
+        numbers.largest(chunk)
+    } else {
+        return None;
+    };
+    if now.number() == bound.number() {
+        return None;
     }
+    bounds.set(chunk, now);
+    Some(bound)
 }
 
 /// Makes the bounds of all levels over a place right again, where another number stood before. Where a bound stays what it was,
@@ -73,18 +81,13 @@ fn cover_levels<N: Number>(
     ensures high { AreBounds high.new middle.new }
 {
     let chunk = place / 32;
-    let low_before = low.get(chunk);
-    cover(low, numbers, place, before);
-    if low.get(chunk).number() == low_before.number() {
+    let Some(before) = cover(low, numbers, place, before) else {
         return;
-    }
-    let group = chunk / 32;
-    let middle_before = middle.get(group);
-    cover(middle, low, chunk, low_before);
-    if middle.get(group).number() == middle_before.number() {
+    };
+    let Some(before) = cover(middle, low, chunk, before) else {
         return;
-    }
-    cover(high, middle, group, middle_before);
+    };
+    let _ = cover(high, middle, chunk / 32, before);
 }
 
 impl<N: Number> Levels<N> {

@@ -17,7 +17,7 @@ pub struct FoundGap {
 /// The address behind a zone's last block.
 pub fn zone_end(zone: &LinkedZone) -> u32
     ensures address { result ≡ address_behind zone.now.shape zone.now.heap.map }
-    ensures reach { result ≤ 0x100_0000 }
+    ensures reach { result ≤ 0xFFFF_FFFF }
 {
     let spec = zone.spec();
     spec.base() + spec.size()

@@ -8,7 +8,6 @@ ghost use Rattle.zone_gaps.specs.Gaps.{Settled, IsGapOf};
 
 use crate::gap::{FoundGap, zone_end};
 use mac_base::handle::Handle;
-use mac_base::zone_spec::ADDRESS_END;
 use zone_index::IndexedZone;
 
 /// The gap in which the block of an unlocked handle lies.
@@ -31,7 +30,7 @@ pub fn gap_behind(zone: &IndexedZone, block: u32) -> FoundGap
     ensures { IsGapOf zone.now (gap_behind block (gaps zone.now.heap.table zone.now.heap.map)) result }
 {
     let at = zone.linked().place_of(block);
-    prove!(zone_end(zone.linked()) <= ADDRESS_END);
+    prove!(zone_end(zone.linked()) <= u32::MAX);
     let start = at + zone.linked().entry_at(at).size;
     let end = zone.gap_end(start);
     FoundGap { start, end }

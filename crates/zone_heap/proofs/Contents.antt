@@ -1,26 +1,42 @@
 -- Where the contents of a handle's block begin.
-use Rattle.std.proofs.Common.{◌≡◌, ℕ, ◌+◌, ◌<◌, ◌∷◌, true, ap, sym, ◌∙◌, arith, subst, IsTrue}
-use Rattle.std.specs.Prelude.{◌||◌}
+use Rattle.std.proofs.Common.{◌≡◌, ℕ, ◌+◌, ◌<◌, ◌∷◌, ◌++◌, true, ap, sym, ◌∙◌, arith, subst, IsTrue}
+use Rattle.std.specs.Prelude.{◌||◌, ◌&&◌, ◌==◌, ◌%◌, nat_le}
+use Rattle.std.specs.List.{list_all}
+use Rattle.std.proofs.lemmas.Bool.{and_parts}
+use Rattle.std.proofs.lemmas.Bool.Decides.{nat_tests}
+use Rattle.std.proofs.lemmas.List.Folds.{list_all-append}
 use Rattle.mac_base.specs.declared.block.Kind.TheVariants.{Rel}
-use Rattle.mac_base.specs.HeadKind.{head_size}
-use Rattle.mac_base.specs.ZoneMap.{block, contents_of, total_size}
+use Rattle.mac_base.specs.declared.block.Entry.{Entry}
+use Rattle.mac_base.specs.HeadKind.{Shape, head_size, smallest_block}
+use Rattle.mac_base.specs.Suits.{is_block_size}
+use Rattle.mac_base.specs.ZoneMap.{ZoneMap, block, contents_of, total_size}
 use Rattle.mac_base.specs.HandleTable.{is_full, is_pointer}
 use Rattle.mac_base.specs.Sound.{Sound}
 use Rattle.mac_base.specs.ZoneState.{ZoneState}
 use Rattle.zone_laws.proofs.Maps.{total_size-append}
 use Rattle.zone_laws.proofs.ResizedBlocks.{contents_of-At}
 use Rattle.zone_laws.proofs.Tables.{eqb_same}
+use Rattle.zone_laws.proofs.Taken.{head-below_smallest}
 use Rattle.linked_zone.specs.Places.{BlockOf}
-use Rattle.zone_heap.proofs.Joining.{large-behind}
-use Rattle.zone_heap.proofs.Places.{all_large, large-sizes, large-first}
 use Rattle.zone_heap.proofs.Releasing.{named_alone}
 
--- a block lies within the zone's limit
-pub below_limit : (z : ZoneState) (h at : ℕ) → Sound z.shape z.heap → BlockOf z h at → at < z.shape.base + z.shape.limit
+-- a block of a possible size is larger than its header
+larger : (head small n : ℕ) → head < small → ((n % 4 == 0) && nat_le small n) ≡ true → head < n
+larger head small n below size = grind (arith, nat_tests)
+
+-- so is one of a map of such blocks
+pub head-within : (s : Shape) (before : ZoneMap) (e : Entry) (behind : ZoneMap) → list_all (λ (e : Entry). is_block_size s e.size) (before ++ e ∷ behind) ≡ true → head_size s.heads < e.size
+head-within s before e behind sizes =
+    let rest = (and_parts (list_all (λ (e : Entry). is_block_size s e.size) before) _ (sym (list_all-append (λ (e : Entry). is_block_size s e.size) before (e ∷ behind)) ∙ sizes)).1 in
+    let here = (and_parts (is_block_size s e.size) (list_all (λ (e : Entry). is_block_size s e.size) behind) rest).0 in
+    larger (head_size s.heads) (smallest_block s.heads) e.size (head-below_smallest s.heads) here
+
+-- a block and its header lie within the zone's limit
+pub below_limit : (z : ZoneState) (h at : ℕ) → Sound z.shape z.heap → BlockOf z h at → at + head_size z.shape.heads < z.shape.base + z.shape.limit
 below_limit z h at sound b =
     let e = block (Rel h) b.size in
     let all : total_size z.heap.map ≡ total_size b.before + (b.size + total_size b.behind) = ap total_size b.map ∙ total_size-append b.before (e ∷ b.behind) in
-    let large = large-first e b.behind (large-behind b.before (e ∷ b.behind) (subst (λ m. IsTrue (all_large m)) b.map (large-sizes z.shape z.heap.map sound.suits.sizes))).1 in
+    let large = head-within z.shape b.before e b.behind (subst (λ m. IsTrue (list_all (λ (e : Entry). is_block_size z.shape e.size) m)) b.map sound.suits.sizes) in
     let within = sound.within in
     let place = b.place in
     omega arith

@@ -1,14 +1,14 @@
 -- A new master block is placed: a free block is cut, and then it has the slots.
-use Rattle.std.proofs.Common.{◌≡◌, ℕ, ◌+◌, ◌≤◌, ◌∷◌, ◌++◌, Some, refl, ap, sym, ◌∙◌, subst, arith}
-use Rattle.mac_base.specs.declared.block.HeadKind.{HeadKind}
-use Rattle.mac_base.specs.declared.block.HeadKind.TheVariants.{Bits24, Bits32}
+use Rattle.std.proofs.Common.{◌≡◌, ℕ, ◌+◌, ◌≤◌, ◌∷◌, ◌++◌, Some, refl, ap, sym, ◌∙◌, subst, arith, IsTrue}
+use Rattle.std.specs.List.{list_all}
+use Rattle.mac_base.specs.declared.block.Entry.{Entry}
 use Rattle.mac_base.specs.declared.block.Kind.TheVariants.{Free, Master}
 use Rattle.mac_base.specs.declared.request.Request.TheVariants.{NewMaster}
 use Rattle.mac_base.specs.Heap.{granted}
 use Rattle.mac_base.specs.HeadKind.{head_size, master_length, slot_count}
 use Rattle.mac_base.specs.Serve.{take_lowest, taken}
 use Rattle.mac_base.specs.Sound.{Sound}
-use Rattle.mac_base.specs.Suits.{slots_from}
+use Rattle.mac_base.specs.Suits.{is_block_size, slots_from}
 use Rattle.mac_base.specs.ZoneMap.{ZoneMap, block, is_named, address_behind, total_size}
 use Rattle.mac_base.specs.ZoneState.{ZoneState}
 use Rattle.zone_laws.proofs.Lent.{KeepsLent, contents_of-same}
@@ -19,21 +19,18 @@ use Rattle.gap_laws.proofs.SoundMaster.{sound-master_taken}
 use Rattle.linked_zone.specs.Changes.{with_master}
 use Rattle.linked_zone.specs.Places.{FreeAt, RoomFor}
 use Rattle.zone_heap.specs.Joins.{CanTake, with_front}
+use Rattle.zone_heap.proofs.Contents.{head-within}
 use Rattle.zone_heap.proofs.Pointers.{ChosenBlock, block_room, cut-is}
 use Rattle.zone_heap.proofs.Taking.{taken-parts, take_lowest-there}
 
--- a header is short
-head_short : (heads : HeadKind) → head_size heads ≤ 12
-head_short Bits24 = omega arith
-head_short Bits32 = omega arith
-
--- a free block's contents begin near the zone's limit at most
-pub contents_near : (z : ZoneState) (at : ℕ) → Sound z.shape z.heap → FreeAt z at → at + head_size z.shape.heads ≤ z.shape.base + z.shape.limit + 12
+-- a free block's contents begin within the zone's limit
+pub contents_near : (z : ZoneState) (at : ℕ) → Sound z.shape z.heap → FreeAt z at → at + head_size z.shape.heads ≤ z.shape.base + z.shape.limit
 contents_near z at sound f =
-    let all : total_size z.heap.map ≡ total_size f.before + total_size (block Free f.size ∷ f.behind) = ap total_size f.map ∙ total_size-append f.before (block Free f.size ∷ f.behind) in
+    let e = block Free f.size in
+    let all : total_size z.heap.map ≡ total_size f.before + (f.size + total_size f.behind) = ap total_size f.map ∙ total_size-append f.before (e ∷ f.behind) in
+    let large = head-within z.shape f.before e f.behind (subst (λ m. IsTrue (list_all (λ (e : Entry). is_block_size z.shape e.size) m)) f.map sound.suits.sizes) in
     let within = sound.within in
     let place = f.place in
-    let short = head_short z.shape.heads in
     omega arith
 
 module _ (z : ZoneState) (k at : ℕ) (c : ChosenBlock z master_length k at) where

@@ -4,7 +4,6 @@ use Rattle.mac_base.specs.declared.request.Request.{Request}
 use Rattle.mac_base.specs.declared.request.Request.TheVariants.{Resize, Replace}
 use Rattle.mac_base.specs.Attempt.{attempted}
 use Rattle.mac_base.specs.HandleTable.{HandleTable, has_block, is_handle, is_lent, is_locked}
-use Rattle.mac_base.specs.HeadKind.{max_size}
 use Rattle.mac_base.specs.Heap.{Heap, has_none}
 use Rattle.mac_base.specs.Loans.{LoansAreFixed}
 use Rattle.mac_base.specs.Request.{length_asked, fits, makes_handle}
@@ -24,9 +23,13 @@ is_ready t (Resize x n) = has_block t x && not (is_lent t x)
 is_ready t (Replace h n) = is_handle t h && (not (is_locked t h) && not (is_lent t h))
 is_ready t _ = true
 
+-- the most bytes that are asked for: where one block is appended to another those of both, each of a zone of 1 GB at most
+abbrev pub most_asked : ℕ
+most_asked = 0x8000_0000
+
 -- the request can be made: so many bytes are possible, and what it is for is there
 pub record CanAsk (z : ZoneState) (r : Request) : Type 0 where
-  pub size : length_asked r ≤ max_size
+  pub size : length_asked r ≤ most_asked
   pub operand : IsTrue (is_ready z.heap.table r)
 
 -- whether a request that makes a handle lacks a slot

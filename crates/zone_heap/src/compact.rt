@@ -4,7 +4,6 @@ use crate::zone::Zone;
 use linked_zone::LinkedZone;
 use mac_base::block::Kind;
 use mac_base::handle::Handle;
-use mac_base::zone_spec::ADDRESS_END;
 use zone_gaps::{raise, squeeze_all_down, squeeze_down, zone_end};
 use zone_index::IndexedZone;
 
@@ -90,7 +89,7 @@ ghost use Rattle.zone_heap.specs.Squeezed.{squeezed};
 fn largest_free(pointers: &LinkedZone) -> u32
     ensures { result ≡ largest_free pointers.now.heap.map }
 {
-    prove!(zone_end(pointers) <= ADDRESS_END);
+    prove!(zone_end(pointers) <= u32::MAX);
     let mut largest = 0;
     while let Some(at) = pointers.lowest_free(largest + 1) {
         largest = pointers.free_size(at);

@@ -1,18 +1,16 @@
 //! New blocks, each where its definition places it.
 
 ghost use Rattle.std.specs.Prelude.{◌≤◌, MatchResult, ◌<◌, MatchOption};
-ghost use Rattle.mac_base.specs.HeadKind.{max_size};
 ghost use Rattle.mac_base.specs.Sound.{Sound};
 ghost use Rattle.mac_base.specs.declared.request.Request.TheVariants.{NewBlock, NewEmpty, NewPointer, NewMaster, Reserve};
 ghost use Rattle.linked_zone.specs.Loans.{KeepsLoans};
-ghost use Rattle.zone_heap.specs.Attempts.{Attempts, IsServed, IsRefused, SoundZone};
+ghost use Rattle.zone_heap.specs.Attempts.{Attempts, IsServed, IsRefused, SoundZone, most_asked};
 ghost use Rattle.zone_heap.specs.Room.{IsCleared, IsOpened, LacksRoom};
 
 use crate::shortage::Shortage;
 use crate::zone::{Zone, cut};
 use mac_base::handle::{Handle, Ptr};
 use mac_base::size::{MASTER_LENGTH, need_for};
-use mac_base::zone_spec::ADDRESS_END;
 use zone_gaps::{squeeze_down, squeeze_up};
 use zone_index::IndexedZone;
 
@@ -20,7 +18,7 @@ impl Zone {
     /// Allocates a relocatable block of `length` bytes, all of them zero, and gives a handle to it. The block takes the
     /// lowest free block that is large enough, or else the lowest gap with room, whose blocks are moved down to create it.
     pub fn new_block(&mut self, length: u32) -> Result<Handle, Shortage>
-        requires size { length ≤ max_size }
+        requires size { length ≤ most_asked }
         ensures sound { Sound self.old.shape self.old.heap }
         ensures attempt { Attempts (NewBlock length) self.old result self.new }
         ensures loans { KeepsLoans self.old self.new }
@@ -40,7 +38,7 @@ impl Zone {
     /// Allocates a nonrelocatable block of `length` bytes, all of them zero, and gives a pointer to it. The block is as low
     /// as possible: at the start of the lowest gap with room, whose blocks are moved up out of its way.
     pub fn new_pointer(&mut self, length: u32) -> Result<Ptr, Shortage>
-        requires size { length ≤ max_size }
+        requires size { length ≤ most_asked }
         ensures sound { Sound self.old.shape self.old.heap }
         ensures attempt { Attempts (NewPointer length) self.old result self.new }
         ensures loans { KeepsLoans self.old self.new }
@@ -61,7 +59,7 @@ impl Zone {
     /// Creates free space for a block of `length` bytes as low as possible: at the start of the lowest gap with room, whose
     /// blocks are moved up. The space isn't allocated: it stays free.
     pub fn reserve(&mut self, length: u32) -> Result<(), Shortage>
-        requires size { length ≤ max_size }
+        requires size { length ≤ most_asked }
         ensures sound { Sound self.old.shape self.old.heap }
         ensures attempt { MatchResult result (λ _. IsServed (Reserve length) self.old 0 self.new) (λ why. IsRefused (Reserve length) self.old why self.new) }
         ensures loans { KeepsLoans self.old self.new }
@@ -73,7 +71,7 @@ impl Zone {
 /// A new handle with `length` bytes of zero: in the lowest free block that has room, or else in the lowest gap with room,
 /// arranged down.
 pub(crate) fn new_block(zone: &mut IndexedZone, length: u32) -> Result<Handle, Shortage>
-    requires size { length ≤ max_size }
+    requires size { length ≤ most_asked }
     requires sound { SoundZone zone.old }
     ensures attempt { Attempts (NewBlock length) zone.old result zone.new }
     ensures loans { KeepsLoans zone.old zone.new }
@@ -107,7 +105,7 @@ pub(crate) fn new_empty(zone: &mut IndexedZone) -> Result<Handle, Shortage>
 
 /// A new pointer to `length` bytes of zero, at the start of the lowest gap with room.
 pub(crate) fn new_pointer(zone: &mut IndexedZone, length: u32) -> Result<Ptr, Shortage>
-    requires size { length ≤ max_size }
+    requires size { length ≤ most_asked }
     requires sound { SoundZone zone.old }
     ensures attempt { Attempts (NewPointer length) zone.old result zone.new }
     ensures loans { KeepsLoans zone.old zone.new }
@@ -129,7 +127,7 @@ pub(crate) fn new_master(zone: &mut IndexedZone) -> Result<u32, Shortage>
     ensures sound { SoundZone zone.new }
 {
     let spec = zone.linked().spec();
-    prove!(spec.base() + spec.limit() <= ADDRESS_END);
+    prove!(spec.base() + spec.limit() <= u32::MAX);
     let heads = spec.heads();
     let needed = need_for(heads, MASTER_LENGTH);
     let Some(at) = clear_lowest(zone, needed) else {
@@ -142,7 +140,7 @@ pub(crate) fn new_master(zone: &mut IndexedZone) -> Result<u32, Shortage>
 
 /// Room for a pointer to `length` bytes, at the start of the lowest gap with room. It stays free.
 pub(crate) fn reserve(zone: &mut IndexedZone, length: u32) -> Result<(), Shortage>
-    requires size { length ≤ max_size }
+    requires size { length ≤ most_asked }
     requires sound { SoundZone zone.old }
     ensures attempt { MatchResult result (λ _. IsServed (Reserve length) zone.old 0 zone.new) (λ why. IsRefused (Reserve length) zone.old why zone.new) }
     ensures loans { KeepsLoans zone.old zone.new }

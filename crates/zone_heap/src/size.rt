@@ -3,13 +3,13 @@
 ghost use Rattle.std.specs.Prelude.{◌≡◌, ◌+◌, ◌<◌, ◌≤◌, IsTrue, IsFalse, MatchResult, Some, None, if◌then◌else◌, is_some, nat_le};
 ghost use Rattle.mac_base.specs.declared.request.Request.TheVariants.{Resize};
 ghost use Rattle.mac_base.specs.HandleTable.{has_block, is_full, is_lent, is_locked};
-ghost use Rattle.mac_base.specs.HeadKind.{max_size, need};
+ghost use Rattle.mac_base.specs.HeadKind.{need};
 ghost use Rattle.mac_base.specs.Request.{gap_to_grow, room_of, size_of, stays};
 ghost use Rattle.mac_base.specs.Serve.{resized_in_gap, resized_in_place};
 ghost use Rattle.linked_zone.specs.Changes.{with_map};
 ghost use Rattle.linked_zone.specs.Loans.{KeepsLoans};
 ghost use Rattle.zone_gaps.specs.Gaps.{IsGapOf};
-ghost use Rattle.zone_heap.specs.Attempts.{CanAsk, IsRefused, IsServed, SoundZone};
+ghost use Rattle.zone_heap.specs.Attempts.{CanAsk, IsRefused, IsServed, SoundZone, most_asked};
 ghost use Rattle.zone_heap.specs.Placed.{resized_there};
 ghost use Rattle.zone_heap.specs.Resized.{resized_away, way_made};
 ghost use Rattle.zone_heap.specs.declared.shortage.Shortage.TheVariants.{NoRoom};
@@ -20,7 +20,7 @@ use crate::zone::{Zone, cut, free_behind, front, join, shrink};
 use linked_zone::LinkedZone;
 use mac_base::handle::{Handle, Ptr};
 use mac_base::size::need_for;
-use mac_base::zone_spec::{ADDRESS_END, LARGEST_LIMIT};
+use mac_base::zone_spec::LARGEST_LIMIT;
 use zone_gaps::{FoundGap, gap_behind, open_after, own_gap, squeeze_up};
 use zone_index::IndexedZone;
 
@@ -56,11 +56,11 @@ pub(crate) fn stays(zone: &LinkedZone, block: u32) -> bool
 fn fits_there(zone: &LinkedZone, block: u32, length: u32) -> bool
     requires sound { SoundZone zone.now }
     requires block { IsTrue (has_block zone.now.heap.table block) }
-    requires size { length ≤ max_size }
+    requires size { length ≤ most_asked }
     ensures { result ≡ is_some (resized_in_place zone.now.shape (need zone.now.shape.heads length) block zone.now.heap.map) }
 {
     let spec = zone.spec();
-    prove!(spec.base() + spec.limit() <= ADDRESS_END);
+    prove!(spec.base() + spec.limit() <= u32::MAX);
     let at = zone.place_of(block);
     need_for(spec.heads(), length) <= zone.entry_at(at).size + free_behind(zone, at)
 }
@@ -71,7 +71,7 @@ fn resize_there(zone: &mut IndexedZone, block: u32, length: u32)
     requires sound { SoundZone zone.old }
     requires block { IsTrue (has_block zone.old.heap.table block) }
     requires here { IsFalse (is_lent zone.old.heap.table block) }
-    requires size { length ≤ max_size }
+    requires size { length ≤ most_asked }
     requires fits { IsTrue (is_some (resized_in_place zone.old.shape (need zone.old.shape.heads length) block zone.old.heap.map)) }
     ensures heap { resized_there zone.old.shape block length zone.old.heap ≡ Some zone.new.heap }
     ensures shape { zone.new.shape ≡ zone.old.shape }
@@ -127,7 +127,7 @@ pub(crate) fn grows_to(zone: &mut IndexedZone, gap: FoundGap, block: u32, needed
 fn make_way(zone: &mut IndexedZone, block: u32, length: u32) -> bool
     requires sound { SoundZone zone.old }
     requires block { IsTrue (has_block zone.old.heap.table block) }
-    requires size { length ≤ max_size }
+    requires size { length ≤ most_asked }
     ensures fits { result ≡ is_some (resized_in_gap zone.old.shape zone.old.heap.table (need zone.old.shape.heads length) block zone.old.heap.map) }
     ensures zone { zone.new ≡ (if result then with_map (way_made zone.old.heap.table block zone.old.heap.map) zone.old else zone.old) }
     ensures loans { KeepsLoans zone.old zone.new }
@@ -153,7 +153,7 @@ fn resize_elsewhere(zone: &mut IndexedZone, handle: Handle, length: u32) -> Resu
     requires full { IsTrue (is_full zone.old.heap.table handle) }
     requires unlocked { IsFalse (is_locked zone.old.heap.table handle) }
     requires here { IsFalse (is_lent zone.old.heap.table handle) }
-    requires size { length ≤ max_size }
+    requires size { length ≤ most_asked }
     ensures resized { MatchResult result
         (λ _. (resized_away zone.old.shape handle length zone.old.heap ≡ Some zone.new.heap) × (zone.new.shape ≡ zone.old.shape))
         (λ why. (why ≡ NoRoom) × (resized_away zone.old.shape handle length zone.old.heap ≡ None) × (zone.new ≡ zone.old)) }

@@ -5,7 +5,7 @@ use mac_base::block::{Block, Flags, HeadKind, Status};
 use mac_base::error::HostFull;
 use mac_base::handle::{Handle, Ptr};
 use mac_base::size::{MASTER_LENGTH, ZONE_HEADER, need_for};
-use mac_base::zone_spec::{ADDRESS_END, ZoneSpec};
+use mac_base::zone_spec::ZoneSpec;
 use raw_region::Lent;
 use std::alloc::Global;
 use std::marker::Model;
@@ -51,7 +51,6 @@ impl Zone {
     ghost use Rattle.mac_base.specs.ZoneState.{with_heap};
     ghost use Rattle.linked_zone.specs.Loans.{IsLoanOf, KeepsLoans, KeepsOtherLoans};
     ghost use Rattle.mac_base.specs.Heap.{new_heap, with_table};
-    ghost use Rattle.mac_base.specs.HeadKind.{max_size};
     ghost use Rattle.mac_base.specs.Sound.{Sound};
     ghost use Rattle.mac_base.specs.declared.releasing.ReleasingCall.TheVariants.{DisposesHandle, DisposesPtr, Empties};
     ghost use Rattle.mac_base.specs.Releasing.{heap_released};
@@ -244,12 +243,12 @@ impl Zone {
         self.pointers.contents_mut(block)
     }
 
-    /// The address of the zone's first block header. What the zone shows is a sound heap, and its addresses have 24
+    /// The address of the zone's first block header. What the zone shows is a sound heap, and its addresses have 32
     /// bits.
     pub fn first_block(&self) -> u32
         ensures address { result ≡ address_behind self.now.shape [] }
         ensures sound { Sound self.now.shape self.now.heap }
-        ensures reach { self.now.shape.base + self.now.shape.limit ≤ 0x100_0000 }
+        ensures reach { self.now.shape.base + self.now.shape.limit ≤ 0xFFFF_FFFF }
     {
         self.pointers.linked().spec().base() + ZONE_HEADER
     }
@@ -384,7 +383,7 @@ pub(crate) fn shrink(pointers: &mut IndexedZone, block: u32, needed: u32, length
 {
     let linked = pointers.linked();
     let spec = linked.spec();
-    prove!(spec.base() + spec.limit() <= ADDRESS_END);
+    prove!(spec.base() + spec.limit() <= u32::MAX);
     let at = linked.place_of(block);
     let whole = linked.entry_at(at).size;
     let taken = front(linked, whole, needed);

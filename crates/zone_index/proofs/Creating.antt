@@ -1,6 +1,6 @@
 -- The sums of a new zone are all stale.
-use Rattle.std.proofs.Common.{◌≡◌, ℕ, ◌+◌, ◌/◌, ◌<◌, ◌≤◌, Bool, true, List, length, get_or, replicate, refl, ap, sym, ◌∙◌, subst, arith, zero, suc}
-use Rattle.std.specs.Prelude.{IsTrue, false}
+use Rattle.std.proofs.Common.{◌≡◌, ℕ, ◌+◌, ◌/◌, ◌<◌, Bool, true, List, length, get_or, replicate, refl, ap, sym, ◌∙◌, subst, arith, zero, suc}
+use Rattle.std.specs.Prelude.{false}
 use Rattle.std.proofs.lemmas.Bool.{false≢true}
 use Rattle.std.proofs.Math.ListN.{length-replicate}
 use Rattle.mac_base.specs.ZoneState.{ZoneState}

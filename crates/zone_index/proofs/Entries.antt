@@ -1,6 +1,5 @@
 -- What is known of a block by its address.
 use Rattle.std.proofs.Common.{ℕ, ◌+◌, ◌<◌, ◌≤◌, ◌∷◌, ap, sym, ◌∙◌, arith}
-use Rattle.std.proofs.lemmas.Bool.{and_parts}
 use Rattle.mac_base.specs.ZoneMap.{total_size, address_behind}
 use Rattle.mac_base.specs.ZoneState.{ZoneState}
 use Rattle.zone_laws.proofs.GapApart.{sizes_possible}

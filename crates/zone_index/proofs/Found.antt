@@ -1,6 +1,6 @@
 -- The lowest gap with room is that of the block with which some gap has room.
 use Rattle.std.proofs.Common.{cond, not, ◌≡◌, ℕ, ◌+◌, ◌<◌, ◌≤◌, Bool, true, false, [], ◌∷◌, ◌++◌, refl, ap, sym, ◌∙◌, subst, append_assoc, arith, Option, Some, None, MatchOption}
-use Rattle.std.specs.Prelude.{IfNone, IfSome, IsTrue, max, nat_le, nat_lt}
+use Rattle.std.specs.Prelude.{IfNone, IfSome, IsTrue, max, nat_lt}
 use Rattle.std.proofs.lemmas.Bool.{and_from, and_parts, false_from_ne_true, le-leb, leb-true, not-true}
 use Rattle.std.proofs.lemmas.Bool.Decides.{nat_tests}
 use Rattle.std.proofs.lemmas.List.Folds.{list_all-append}

@@ -1,5 +1,5 @@
 -- Stale sums are made anew: there is room for those of before and of now.
-use Rattle.std.proofs.Common.{◌≡◌, ℕ, zero, suc, ◌+◌, ◌*◌, ◌^◌, ◌<◌, ◌≤◌, List, [], ◌∷◌, map, length, get_or, refl, ap, sym, ◌∙◌, subst, arith}
+use Rattle.std.proofs.Common.{◌≡◌, ℕ, zero, suc, ◌+◌, ◌*◌, ◌<◌, ◌≤◌, List, [], ◌∷◌, length, get_or, refl, ap, ◌∙◌, subst, arith}
 use Rattle.mac_base.specs.HeadKind.{zone_header}
 use Rattle.mac_base.specs.ZoneMap.{total_size}
 use Rattle.mac_base.specs.ZoneState.{ZoneState}
@@ -36,7 +36,7 @@ right-light z xs right =
     omega arith
 
 module _ (z : ZoneState) (within : zone_header + total_size z.heap.map ≤ z.shape.limit) where
-  pub mixtures : (rooms : Stored Span) → AreRooms z rooms → z.shape.limit ≤ 0x10_0000 → MixturesFit no_span joined SpanFits rooms.sums (room_in z)
+  pub mixtures : (rooms : Stored Span) → AreRooms z rooms → z.shape.limit ≤ 0x4000_0000 → MixturesFit no_span joined SpanFits rooms.sums (room_in z)
   mixtures rooms a small =
       let count : ℕ = length rooms.sums in
       let right : List Span = right_sums (room_in z) 0 count in
@@ -54,5 +54,5 @@ module _ (z : ZoneState) (within : zone_header + total_size z.heap.map ≤ z.sha
   }
 
 -- there is room for their sum
-pub fresh-fits : (z : ZoneState) (rooms : Stored Span) → AreFresh z rooms → z.shape.limit ≤ 0x10_0000 → SpanFits (total no_span joined rooms.sums)
+pub fresh-fits : (z : ZoneState) (rooms : Stored Span) → AreFresh z rooms → z.shape.limit ≤ 0x4000_0000 → SpanFits (total no_span joined rooms.sums)
 fresh-fits z rooms f small = let sum = total-light rooms.sums in let light = f.light in light-fits (total no_span joined rooms.sums) (omega arith)

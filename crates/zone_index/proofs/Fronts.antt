@@ -1,10 +1,10 @@
 -- The gap before a block.
-use Rattle.std.proofs.Common.{◌≡◌, ℕ, ◌+◌, ◌≤◌, ◌∷◌, ◌++◌, ap, ◌∙◌, append_assoc, arith}
+use Rattle.std.proofs.Common.{ℕ, ◌+◌, ◌≤◌, ◌∷◌, ◌++◌, ap, ◌∙◌, append_assoc, arith}
 use Rattle.mac_base.specs.ZoneMap.{total_size, address_behind}
 use Rattle.mac_base.specs.ZoneState.{ZoneState}
 use Rattle.linked_zone.specs.Places.{EntryAt, SplitAt}
-use Rattle.zone_index.specs.Runs.{FrontAt, RestAt}
-use Rattle.zone_index.proofs.Splits.{first_run, last_run}
+use Rattle.zone_index.specs.Runs.{FrontAt}
+use Rattle.zone_index.proofs.Splits.{last_run}
 use Rattle.zone_laws.proofs.Maps.{total_size-append}
 
 module _ (z : ZoneState) (at : ℕ) (s : SplitAt z at) where

@@ -1,9 +1,9 @@
 -- What is read of a list, and what is remembered of pages once one more is known.
-use Rattle.std.proofs.Common.{◌≡◌, ℕ, ◌<◌, zero, suc, List, [], ◌∷◌, length, Option, Some, refl, ap, sym, ◌∙◌, subst, inl, inr, slice_index_or, slice_set}
+use Rattle.std.proofs.Common.{◌≡◌, ℕ, zero, suc, List, [], ◌∷◌, Option, Some, refl, ap, sym, ◌∙◌, subst, inl, inr, slice_set}
 use Rattle.std.specs.Prelude.{◌⊎◌}
 use Rattle.std.specs.List.{slice_get}
 use Rattle.std.proofs.lemmas.List.{length-set}
-use Rattle.std.proofs.lemmas.Option.{same_Some, slice_get-get_or}
+use Rattle.std.proofs.lemmas.Option.{same_Some}
 use Rattle.mac_base.specs.ZoneState.{ZoneState}
 use Rattle.zone_index.specs.declared.sums.Sums.{Sums}
 use Rattle.zone_index.specs.Pages.{ArePages, page_weights}
@@ -18,10 +18,6 @@ get-set (y ∷ ys) (suc i) zero w x is = inr is
 get-set (y ∷ ys) (suc i) (suc j) w x is = elim (get-set ys i j w x is) [ inl p ↦ inl (ap suc p.0, p.1) | inr same ↦ inr same ]
 
 module _ (z : ZoneState) (pages : List (Option Sums)) (a : ArePages z pages) where
-  -- a page that is known has its sums
-  pub page-known : (c : ℕ) (s : Sums) (d : Option Sums) → c < length pages → slice_index_or pages c d ≡ Some s → IsSum (page_weights z c) s
-  page-known c s d inside is = a.known c s (slice_get-get_or pages c d inside ∙ ap Some is)
-
   -- one more is known
   pub pages-more : (c : ℕ) (s : Sums) → IsSum (page_weights z c) s → ArePages z (slice_set pages c (Some s))
   pages-more c s sums = record {

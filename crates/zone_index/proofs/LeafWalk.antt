@@ -1,5 +1,5 @@
 -- Walks over the blocks of a leaf.
-use Rattle.std.proofs.Common.{◌≡◌, ℕ, ◌+◌, ◌*◌, ◌-◌, ◌^◌, ◌<◌, ◌≤◌, Bool, true, false, List, [], ◌∷◌, ◌++◌, refl, ap, sym, ◌∙◌, subst, append_assoc, append-nil, inl, inr, arith}
+use Rattle.std.proofs.Common.{◌≡◌, ℕ, ◌+◌, ◌-◌, ◌^◌, ◌<◌, ◌≤◌, true, [], ◌∷◌, ◌++◌, refl, ap, sym, ◌∙◌, subst, append_assoc, append-nil, inl, inr, arith}
 use Rattle.std.specs.Prelude.{◌⊎◌, min}
 use Rattle.std.proofs.lemmas.Bool.{and_parts, cases_lt}
 use Rattle.mac_base.specs.declared.block.Entry.{Entry}
@@ -14,12 +14,11 @@ use Rattle.linked_zone.specs.Fit.{HasSizes}
 use Rattle.linked_zone.specs.Places.{EntryAt, FirstFrom, NoneFrom}
 use Rattle.block_sums.specs.declared.span.Span.{Span}
 use Rattle.block_sums.specs.Span.{no_span, joined, span_laws, SpanFits}
-use Rattle.zone_index.specs.declared.weight.Weight.{Weight}
 use Rattle.zone_index.specs.Weights.{weigh, weights}
 use Rattle.zone_index.specs.Pages.{begun}
 use Rattle.zone_index.specs.Walk.{AllBelow}
 use Rattle.zone_index.specs.Rooms.{room_of, room_sum}
-use Rattle.zone_index.proofs.Begun.{begun-above, begun-below, weights-append}
+use Rattle.zone_index.proofs.Begun.{begun-below, weights-append}
 use Rattle.zone_index.proofs.RoomSums.{room_sum-append, sum-fits}
 use Rattle.zone_index.proofs.Sizes.{all_parts, first_bytes}
 use Rattle.zone_index.proofs.SomeBytes.{no_bytes, total_size-push}

@@ -1,11 +1,10 @@
 -- Which blocks are fixed once the handle table has changed.
-use Rattle.std.proofs.Common.{◌≡◌, ℕ, Bool, true, false, cond, eqb, List, [], ◌∷◌, Option, Some, None, refl, ap, sym, ◌∙◌}
+use Rattle.std.proofs.Common.{◌≡◌, ℕ, Bool, true, false, cond, eqb, List, Option, Some, None, refl, ap, sym, ◌∙◌}
 use Rattle.std.proofs.lemmas.Bool.{eqb-true}
-use Rattle.mac_base.specs.declared.block.Flags.{Flags}
 use Rattle.mac_base.specs.declared.block.Kind.{Kind}
 use Rattle.mac_base.specs.declared.block.Kind.TheVariants.{Free, Master, Ptr, Rel}
 use Rattle.mac_base.specs.Gap.{is_fixed}
-use Rattle.mac_base.specs.HandleTable.{HandleTable, Live, EmptyHandle, FullHandle, Pointer, bytes_of, live_at, live_flags, is_locked, refilled, with_bytes, with_flags, with_live, without}
+use Rattle.mac_base.specs.HandleTable.{HandleTable, Live, EmptyHandle, FullHandle, Pointer, live_at, live_flags, is_locked, refilled, with_bytes, with_live, without}
 use Rattle.mac_base.specs.ZoneMap.{is_named}
 use Rattle.zone_laws.proofs.Tables.{AgreeBut, live_at-with_live, live_at-without}
 

@@ -1,5 +1,5 @@
 -- The lowest gap with room, from gap to gap.
-use Rattle.std.proofs.Common.{cond, not, ◌≡◌, ℕ, ◌<◌, ◌≤◌, Bool, true, false, [], ◌∷◌, ◌++◌, refl, ap, ◌∙◌, append_assoc, arith, Option, Some, None, List}
+use Rattle.std.proofs.Common.{cond, not, ◌≡◌, ℕ, ◌<◌, ◌≤◌, Bool, true, false, [], ◌∷◌, ◌++◌, refl, ap, ◌∙◌, arith, Some, List}
 use Rattle.std.specs.Prelude.{map, nat_le, option_map}
 use Rattle.std.proofs.lemmas.Bool.{and_parts, not-true, le-leb, leb-true, false_from_ne_true}
 use Rattle.mac_base.specs.declared.block.Entry.{Entry}

@@ -1,8 +1,5 @@
 -- Pages that are forgotten before a zone changes.
-use Rattle.std.proofs.Common.{◌≡◌, ℕ, ◌+◌, ◌≤◌, List, ◌∷◌, ◌++◌, length, Option, IsTrue, ap, sym, ◌∙◌, subst, arith}
-use Rattle.std.specs.Vec.{with_items}
-use Rattle.std.proofs.lemmas.List.{with_items_is}
-use Rattle.std.specs.declared.vec.Vec.{Vec}
+use Rattle.std.proofs.Common.{◌≡◌, ℕ, ◌+◌, ◌≤◌, List, ◌∷◌, ◌++◌, Option, IsTrue, ap, sym, ◌∙◌, subst, arith}
 use Rattle.mac_base.specs.declared.block.Entry.{Entry}
 use Rattle.mac_base.specs.ZoneMap.{ZoneMap, is_named, total_size, address_behind}
 use Rattle.mac_base.specs.ZoneState.{ZoneState}
@@ -18,17 +15,15 @@ pub part-ends : (z : ZoneState) (front rest : ZoneMap) → z.heap.map ≡ front 
 part-ends z front rest map = let all = ap total_size map ∙ total_size-append front rest in omega arith
 
 -- what is forgotten are the pages of the addresses, as the zone was
-pub forgets-read : {z l : ZoneState} {items slice new : List (Option Sums)} {first last : ℕ} (from to : ℕ) → z ≡ l → slice ≡ items → first ≡ page l.shape from → last ≡ page l.shape to
-    → Forgets slice new first last → Forgets items new (page z.shape from) (page z.shape to)
-forgets-read {z = z} {slice = slice} {new = new} {first = first} {last = last} from to same slice_is first_is last_is f =
+pub forgets-read : {z l : ZoneState} {old new : List (Option Sums)} {first last : ℕ} (from to : ℕ) → z ≡ l → first ≡ page l.shape from → last ≡ page l.shape to → Forgets old new first last → Forgets old new (page z.shape from) (page z.shape to)
+forgets-read {z = z} {old = old} {new = new} {first = first} {last = last} from to same first_is last_is f =
     let start = first_is ∙ ap (λ (z : ZoneState). page z.shape from) (sym same) in
     let end = last_is ∙ ap (λ (z : ZoneState). page z.shape to) (sym same) in
-    subst (λ items. Forgets items new (page z.shape from) (page z.shape to)) slice_is
-    (subst (λ n. Forgets slice new n (page z.shape to)) start (subst (λ n. Forgets slice new first n) end f))
+    subst (λ n. Forgets old new n (page z.shape to)) start (subst (λ n. Forgets old new first n) end f)
 
--- they are written back, and the zone is what the change makes of it
-pub pages-kept : {A : Type 0} {z changed : ZoneState} (v : Vec (Option Sums) A) (new : List (Option Sums)) → length new ≡ v.len → z ≡ changed → ArePages changed new → ArePages z (with_items v new).items
-pages-kept {z = z} {changed = changed} v new long is pages = subst (λ (z : ZoneState). ArePages z (with_items v new).items) (sym is) (subst (ArePages changed) (sym (with_items_is v new long)) pages)
+-- and the zone is what the change makes of it
+pub pages-kept : {z changed : ZoneState} (pages : List (Option Sums)) → z ≡ changed → ArePages changed pages → ArePages z pages
+pages-kept pages is are = subst (λ (z : ZoneState). ArePages z pages) (sym is) are
 
 -- the block that a number names stands at one place
 pub named-place : (z : ZoneState) (x at : ℕ) → Fits z → NamedAt z x at → (before : ZoneMap) (here : Entry) (behind : ZoneMap) → z.heap.map ≡ before ++ here ∷ behind → IsTrue (is_named x here.kind) → at ≡ address_behind z.shape before

@@ -1,6 +1,6 @@
 -- None of some blocks is free where the next free one begins behind them.
-use Rattle.std.proofs.Common.{◌≡◌, ℕ, ◌+◌, ◌≤◌, true, ◌++◌, ap, sym, ◌∙◌, arith}
-use Rattle.mac_base.specs.ZoneMap.{ZoneMap, free_bytes, total_size}
+use Rattle.std.proofs.Common.{◌≡◌, ℕ, ◌≤◌, true, ap, sym, ◌∙◌, arith}
+use Rattle.mac_base.specs.ZoneMap.{free_bytes}
 use Rattle.mac_base.specs.ZoneState.{ZoneState}
 use Rattle.zone_laws.proofs.Arranging.{free_bytes-all_used}
 use Rattle.zone_laws.proofs.GapAppend.{free_bytes-append}

@@ -1,5 +1,5 @@
 -- The search for the block with which some gap has room.
-use Rattle.std.proofs.Common.{◌≡◌, ℕ, ◌+◌, ◌*◌, ◌-◌, ◌/◌, ◌<◌, ◌≤◌, ◌^◌, Bool, true, false, List, [], ◌∷◌, ◌++◌, length, refl, ap, sym, ◌∙◌, subst, append_assoc, append-nil, inl, inr, arith}
+use Rattle.std.proofs.Common.{◌≡◌, ℕ, ◌+◌, ◌*◌, ◌-◌, ◌<◌, ◌≤◌, ◌^◌, [], ◌∷◌, ◌++◌, length, refl, ap, sym, ◌∙◌, subst, append_assoc, append-nil, inr, arith}
 use Rattle.std.specs.Prelude.{IsFalse, nat_le}
 use Rattle.std.proofs.lemmas.Bool.Decides.{nat_tests}
 use Rattle.mac_base.specs.declared.block.Entry.{Entry}
@@ -19,10 +19,9 @@ use Rattle.sum_tree.proofs.Totals.{sum-all}
 use Rattle.sum_tree.specs.Rows.{IsFirst}
 use Rattle.sum_tree.specs.Stale.{Stored}
 use Rattle.zone_index.specs.declared.weight.Weight.{Weight}
-use Rattle.zone_index.specs.Weights.{most, weigh, weights}
+use Rattle.zone_index.specs.Weights.{weigh, weights}
 use Rattle.zone_index.specs.Pages.{begun}
-use Rattle.zone_index.specs.Walk.{AllBelow}
-use Rattle.zone_index.specs.Rooms.{AreFresh, Reaches, SumsBelow, leaf_size, room_of, room_sum}
+use Rattle.zone_index.specs.Rooms.{AreFresh, Reaches, SumsBelow, room_of, room_sum}
 use Rattle.zone_index.proofs.Begun.{begun-between, below-end}
 use Rattle.zone_index.proofs.LeafWalk.{first-below, none-below, sum-push}
 use Rattle.zone_index.proofs.RoomSums.{room_sum-largest, room_sum-most, sum-fits}

@@ -1,7 +1,7 @@
 -- Whether so many bytes are enough.
-use Rattle.std.proofs.Common.{◌≡◌, ℕ, ◌<◌, ◌≤◌, true, false, sym, arith}
+use Rattle.std.proofs.Common.{◌≡◌, ℕ, ◌<◌, false, sym, arith}
 use Rattle.std.specs.Prelude.{nat_le}
-use Rattle.std.proofs.lemmas.Bool.{false_from_ne_true, le-leb, leb-true}
+use Rattle.std.proofs.lemmas.Bool.{false_from_ne_true, leb-true}
 
 -- fewer bytes are not enough
 pub too-few : (k n : ℕ) → n < k → false ≡ nat_le k n

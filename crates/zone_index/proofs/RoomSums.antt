@@ -1,13 +1,12 @@
 -- What gaps have of the free bytes of many blocks.
-use Rattle.std.proofs.Common.{◌≡◌, ℕ, ◌+◌, ◌<◌, ◌≤◌, ◌^◌, Bool, true, false, cond, List, [], ◌∷◌, ◌++◌, map, refl, ap, sym, ◌∙◌, arith}
+use Rattle.std.proofs.Common.{◌≡◌, ℕ, ◌+◌, ◌<◌, ◌≤◌, ◌^◌, Bool, true, false, cond, List, [], ◌∷◌, ◌++◌, map, refl, ap, ◌∙◌, arith}
 use Rattle.std.proofs.lemmas.List.{map-append}
 use Rattle.mac_base.specs.declared.block.Entry.{Entry}
 use Rattle.mac_base.specs.Gap.{is_fixed}
 use Rattle.mac_base.specs.HandleTable.{HandleTable}
 use Rattle.mac_base.specs.Reports.{largest_room}
 use Rattle.mac_base.specs.ZoneMap.{ZoneMap, free_bytes, free_size, total_size}
-use Rattle.block_sums.specs.declared.span.Span.{Span}
-use Rattle.block_sums.specs.declared.span.Span.TheVariants.{Whole, Parted}
+use Rattle.block_sums.specs.declared.span.Span.TheVariants.{Whole}
 use Rattle.block_sums.specs.Span.{no_span, joined, span_laws, most_in, parts, weight, heavy, SpanFits}
 use Rattle.block_sums.proofs.Mixed.{light-fits, total-light}
 use Rattle.sum_tree.specs.Monoids.{total}

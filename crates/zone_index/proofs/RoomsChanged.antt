@@ -1,8 +1,7 @@
 -- What each change leaves of the sums of leaves.
-use Rattle.std.proofs.Common.{◌≡◌, ℕ, ◌+◌, ◌-◌, ◌<◌, ◌≤◌, Bool, true, false, not, cond, List, [], ◌∷◌, ◌++◌, Option, Some, None, drop, length, get_or, refl, ap, sym, ◌∙◌, subst, inl, inr, arith, append_assoc}
+use Rattle.std.proofs.Common.{◌≡◌, ℕ, ◌+◌, ◌-◌, ◌<◌, true, false, not, cond, List, [], ◌∷◌, ◌++◌, Option, Some, None, drop, length, get_or, refl, ap, sym, ◌∙◌, subst, inl, inr, arith, append_assoc}
 use Rattle.std.specs.Prelude.{◌==◌, ◌⊎◌, IsTrue, MatchOption}
 use Rattle.std.proofs.lemmas.Bool.{and_from, and_parts, not-true}
-use Rattle.mac_base.specs.declared.block.Entry.{Entry}
 use Rattle.mac_base.specs.declared.block.Flags.{Flags}
 use Rattle.mac_base.specs.declared.block.Kind.TheVariants.{Free}
 use Rattle.mac_base.specs.Gap.{is_fixed}
@@ -19,11 +18,10 @@ use Rattle.linked_zone.specs.Fit.{Fits}
 use Rattle.linked_zone.specs.Places.{BlockOf, CanCut, CanGrow, CanHold, EntryAt, FreeAt, FreePair, NamedAt, ParcelAt, ParcelUpTo, SplitAt}
 use Rattle.block_sums.specs.declared.span.Span.{Span}
 use Rattle.block_sums.specs.declared.span.Span.TheVariants.{Whole}
-use Rattle.block_sums.specs.Span.{no_span, parts}
+use Rattle.block_sums.specs.Span.{parts}
 use Rattle.sum_tree.specs.Stale.{Stored}
-use Rattle.zone_index.specs.Rooms.{AreRooms, IsPassed, Touched, room_of}
+use Rattle.zone_index.specs.Rooms.{AreRooms, IsPassed, Touched}
 use Rattle.zone_index.specs.Runs.{none_fixed}
-use Rattle.zone_index.specs.Weights.{weigh}
 use Rattle.zone_index.proofs.Bytes.{weights-bytes}
 use Rattle.zone_index.proofs.Changed.{OneOther, carry-renews, emptied-other, emptied_first, extended-renews, fixed-other, flagged-other, grown-renews, held-renews, lent-weights, master-other, merge-renews, moved_in-other, moved_out-other, other-renews, pointed-other, released-weights, returned-weights, sink-renews, split-renews, taken-weights, unfixed-other}
 use Rattle.zone_index.proofs.RoomsRenewed.{Begins, rooms-all_stale, rooms-renewed, rooms-still}

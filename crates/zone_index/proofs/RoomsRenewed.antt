@@ -1,10 +1,10 @@
 -- The sums of leaves stay right where a zone is another only in leaves that are stale.
-use Rattle.std.proofs.Common.{◌≡◌, ℕ, ◌+◌, ◌*◌, ◌-◌, ◌/◌, ◌<◌, ◌≤◌, Bool, true, false, List, [], ◌∷◌, ◌++◌, length, get_or, refl, ap, sym, ◌∙◌, subst, inl, inr, arith}
-use Rattle.std.specs.Prelude.{◌⊎◌, IsFalse, IsTrue, ⊤}
+use Rattle.std.proofs.Common.{◌≡◌, ℕ, ◌+◌, ◌*◌, ◌<◌, ◌≤◌, Bool, true, false, List, [], ◌∷◌, ◌++◌, length, get_or, refl, ap, sym, ◌∙◌, subst, inl, inr, arith}
+use Rattle.std.specs.Prelude.{◌⊎◌, IsTrue, ⊤}
 use Rattle.std.proofs.lemmas.Bool.{cases_lt, false_from_ne_true, false≢true}
 use Rattle.mac_base.specs.Heap.{Heap}
 use Rattle.mac_base.specs.HandleTable.{HandleTable}
-use Rattle.mac_base.specs.HeadKind.{Shape, zone_header}
+use Rattle.mac_base.specs.HeadKind.{zone_header}
 use Rattle.mac_base.specs.ZoneMap.{ZoneMap, total_size}
 use Rattle.mac_base.specs.ZoneState.{ZoneState, with_heap}
 use Rattle.block_sums.specs.declared.span.Span.{Span}

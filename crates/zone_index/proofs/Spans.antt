@@ -68,7 +68,7 @@ no_order = record { after_free = record { arranged = true; free = true }; after_
 
 -- no block
 abbrev pub nothing : Sums
-nothing = record { bytes = 0; space = 0; free = Whole 0; spaces = Whole 0; order = no_order }
+nothing = record { bytes = 0; space = 0; spaces = Whole 0; order = no_order }
 
 pub order-none : IsOrder [] no_order
 order-none = λ free behind. elim free as (λ f. in_order f behind
@@ -96,18 +96,17 @@ pub sum-join : (a b : List Weight) (s q : Sums) → IsSum a s → IsSum b q → 
 sum-join a b s q here there = record {
   bytes = (let all = bytes-append a b in let m = here.bytes in let n = there.bytes in omega arith);
   space = (let all = space-append a b in let m = here.space in let n = there.space in omega arith);
-  free = span-join (λ (w : Weight). w.free) a b s.free q.free here.free there.free;
   spaces = span-join (λ (w : Weight). w.space) a b s.spaces q.spaces here.spaces there.spaces;
   order = order-join a b s.order q.order here.order there.order;
 }
 
 -- of none
 pub sum-none : IsSum [] nothing
-sum-none = record { bytes = refl; space = refl; free = span-none (λ (w : Weight). w.free); spaces = span-none (λ (w : Weight). w.space); order = order-none }
+sum-none = record { bytes = refl; space = refl; spaces = span-none (λ (w : Weight). w.space); order = order-none }
 
 -- of one
 pub sum-one : (w : Weight) → IsSum (w ∷ []) (one w)
-sum-one w = record { bytes = omega arith; space = omega arith; free = span-one (λ (w : Weight). w.free) w; spaces = span-one (λ (w : Weight). w.space) w; order = order-one w }
+sum-one w = record { bytes = omega arith; space = omega arith; spaces = span-one (λ (w : Weight). w.space) w; order = order-one w }
 
 passed-all : (s : Span) → passed s 0 (λ n. n) ≡ most_in s
 passed-all (Whole n) = omega arith
@@ -143,6 +142,5 @@ sum-within t m s is =
     let all = bytes-weights t m in
     record {
       space = (let space = is.space in let few = space-within t m in omega arith);
-      free = (let most = span-all (λ (w : Weight). w.free) (weights t m) s.free is.free in let few = most-light t (λ (w : Weight). w.free) free-light 0 m in omega arith);
       spaces = (let most = span-all (λ (w : Weight). w.space) (weights t m) s.spaces is.spaces in let few = most-light t (λ (w : Weight). w.space) (space-light t) 0 m in omega arith);
     }

@@ -1,8 +1,8 @@
 -- Gaps by the addresses of their first free blocks.
-use Rattle.std.specs.Prelude.{◌≡◌, ℕ, ◌≤◌, ◌∷◌, ◌++◌, IsTrue, Some}
+use Rattle.std.specs.Prelude.{◌≡◌, ℕ, ◌∷◌, ◌++◌, IsTrue, Some}
 use Rattle.mac_base.specs.Gap.{Gap, gaps, lowest_gap}
 use Rattle.mac_base.specs.declared.block.Kind.TheVariants.{Free}
-use Rattle.mac_base.specs.ZoneMap.{ZoneMap, block, address_behind, free_bytes}
+use Rattle.mac_base.specs.ZoneMap.{ZoneMap, block, address_behind}
 use Rattle.mac_base.specs.ZoneState.{ZoneState}
 use Rattle.linked_zone.specs.Places.{none_free}
 use Rattle.zone_index.specs.Runs.{RestAt, ends_fixed}

@@ -1,5 +1,5 @@
 -- The pages of a zone, and what is remembered of them. A page has the blocks that begin in it.
-use Rattle.std.specs.Prelude.{◌≡◌, ℕ, ◌+◌, ◌-◌, ◌*◌, ◌/◌, ◌<◌, ◌⊎◌, List, length, Option, Some}
+use Rattle.std.specs.Prelude.{◌≡◌, ℕ, ◌+◌, ◌-◌, ◌*◌, ◌/◌, ◌<◌, ◌≤◌, ◌⊎◌, List, length, Option, Some}
 use Rattle.block_sums.specs.Leaves.{begun as begun_of}
 use Rattle.std.specs.List.{slice_get}
 use Rattle.mac_base.specs.HeadKind.{Shape, zone_header}
@@ -38,3 +38,7 @@ pub record ArePages (z : ZoneState) (pages : List (Option Sums)) : Type 0 where
 pub record Forgets (old new : List (Option Sums)) (first last : ℕ) : Type 0 where
   pub places : length new ≡ length old
   pub kept : (c : ℕ) (s : Sums) → slice_get new c ≡ Some (Some s) → (slice_get old c ≡ Some (Some s)) × ((c < first) ⊎ (last < c))
+
+-- nothing is remembered of the pages from one on
+abbrev pub NoneKnownFrom : ℕ → List (Option Sums) → Type 0
+NoneKnownFrom end pages = (c : ℕ) (s : Sums) → end ≤ c → slice_get pages c ≡ Some (Some s) → ⊥

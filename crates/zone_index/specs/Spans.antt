@@ -45,20 +45,18 @@ IsOrder ws o = (free : Bool) (behind : List Weight) → in_order free (ws ++ beh
 pub record IsSum (ws : List Weight) (s : Sums) : Type 0 where
   pub bytes : s.bytes ≡ bytes_of ws
   pub space : s.space ≡ space_of ws
-  pub free : IsSpan (λ (w : Weight). w.free) ws s.free
   pub spaces : IsSpan (λ (w : Weight). w.space) ws s.spaces
   pub order : IsOrder ws s.order
 
 -- no sum is larger than that of all bytes
 pub record IsWithin (s : Sums) : Type 0 where
   pub space : s.space ≤ s.bytes
-  pub free : most_in s.free ≤ s.bytes
   pub spaces : most_in s.spaces ≤ s.bytes
 
 -- those of blocks and of others behind them
 abbrev pub both : Sums → Sums → Sums
-both a b = record { bytes = a.bytes + b.bytes; space = a.space + b.space; free = joined a.free b.free; spaces = joined a.spaces b.spaces; order = ordered a.order b.order }
+both a b = record { bytes = a.bytes + b.bytes; space = a.space + b.space; spaces = joined a.spaces b.spaces; order = ordered a.order b.order }
 
 -- those of one block
 abbrev pub one : Weight → Sums
-one w = record { bytes = w.bytes; space = w.space; free = span_of (λ (w : Weight). w.free) w; spaces = span_of (λ (w : Weight). w.space) w; order = order_of w }
+one w = record { bytes = w.bytes; space = w.space; spaces = span_of (λ (w : Weight). w.space) w; order = order_of w }

@@ -18,5 +18,5 @@ pub record IsIndexed (z : Inside) : Type 0 where
   pub fixed : AreMarked is_fixed z.zone z.marks
   pub purgeable : AreMarked may_go z.zone z.purgeable
   pub rooms : AreRooms z.zone z.rooms
-  pub pages : ArePages z.zone z.pages.items
+  pub pages : ArePages z.zone z.pages
   pub lengths : AreLengths z.zone.heap.table z.lengths

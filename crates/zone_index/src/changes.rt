@@ -3,7 +3,6 @@
 
 use crate::leaves::pass;
 use crate::marking::{carry, sink, write};
-use crate::pages::forget;
 use crate::purging::may_purge;
 use crate::zone::IndexedZone;
 use mac_base::block::Flags;
@@ -55,7 +54,7 @@ impl IndexedZone {
         let end = base + spec.size();
         let page = self.page_at(end);
         let leaf = self.leaf_at(end);
-        forget(&mut self.pages, page, page);
+        self.pages.forget(page, page);
         self.rooms.touch(leaf);
         self.zone.extend();
     }
@@ -70,7 +69,7 @@ impl IndexedZone {
         let last = self.page_at(behind);
         let low = self.leaf(at);
         let high = self.leaf_at(behind);
-        forget(&mut self.pages, first, last);
+        self.pages.forget(first, last);
         self.rooms.touch(low);
         self.rooms.touch(high);
         self.zone.split(at, size);
@@ -86,7 +85,7 @@ impl IndexedZone {
         let last = self.page_at(behind);
         let low = self.leaf(at);
         let high = self.leaf_at(behind);
-        forget(&mut self.pages, first, last);
+        self.pages.forget(first, last);
         self.rooms.touch(low);
         self.rooms.touch(high);
         self.zone.merge(at);
@@ -106,7 +105,7 @@ impl IndexedZone {
         let others = end - at - size;
         let old = self.leaf(at);
         let new = self.leaf_at(at + others);
-        forget(&mut self.pages, from, to);
+        self.pages.forget(from, to);
         pass(&self.zone, &mut self.rooms, at + size, end);
         self.rooms.touch(old);
         self.rooms.touch(new);
@@ -133,7 +132,7 @@ impl IndexedZone {
         let others = at - start;
         let old = self.leaf(at);
         let new = self.leaf(start);
-        forget(&mut self.pages, from, to);
+        self.pages.forget(from, to);
         pass(&self.zone, &mut self.rooms, start, at);
         self.rooms.touch(old);
         self.rooms.touch(new);
@@ -154,7 +153,7 @@ impl IndexedZone {
     {
         let page = self.page(at);
         let leaf = self.leaf(at);
-        forget(&mut self.pages, page, page);
+        self.pages.forget(page, page);
         self.rooms.touch(leaf);
         self.zone.point(handle, at, length);
         self.lengths.note(handle.number(), length);
@@ -169,7 +168,7 @@ impl IndexedZone {
         let place = self.place(at);
         let page = self.page(at);
         let leaf = self.leaf(at);
-        forget(&mut self.pages, page, page);
+        self.pages.forget(page, page);
         self.rooms.touch(leaf);
         self.marks.set(place, 1);
         let pointer = self.zone.fix(at, length);
@@ -188,7 +187,7 @@ impl IndexedZone {
         let place = self.place(at);
         let page = self.page(at);
         let leaf = self.leaf(at);
-        forget(&mut self.pages, page, page);
+        self.pages.forget(page, page);
         self.rooms.touch(leaf);
         self.marks.set(place, 0);
         self.zone.unfix(pointer);
@@ -205,7 +204,7 @@ impl IndexedZone {
         let place = self.place(at);
         let page = self.page(at);
         let leaf = self.leaf(at);
-        forget(&mut self.pages, page, page);
+        self.pages.forget(page, page);
         self.rooms.touch(leaf);
         write(&mut self.marks, place, 0);
         write(&mut self.purgeable, place, 0);
@@ -221,7 +220,7 @@ impl IndexedZone {
         let place = self.place(at);
         let page = self.page(at);
         let leaf = self.leaf(at);
-        forget(&mut self.pages, page, page);
+        self.pages.forget(page, page);
         self.rooms.touch(leaf);
         self.marks.set(place, 1);
         self.zone.build_master(at);
@@ -236,7 +235,7 @@ impl IndexedZone {
         let place = self.place(at);
         let page = self.page(at);
         let leaf = self.leaf(at);
-        forget(&mut self.pages, page, page);
+        self.pages.forget(page, page);
         self.rooms.touch(leaf);
         write(&mut self.marks, place, u8::from(flags.lock));
         write(&mut self.purgeable, place, u8::from(may_purge(flags)));
@@ -259,8 +258,8 @@ impl IndexedZone {
         let to_page = self.page(at);
         let from_leaf = self.leaf(from);
         let to_leaf = self.leaf(at);
-        forget(&mut self.pages, from_page, from_page);
-        forget(&mut self.pages, to_page, to_page);
+        self.pages.forget(from_page, from_page);
+        self.pages.forget(to_page, to_page);
         self.rooms.touch(from_leaf);
         self.rooms.touch(to_leaf);
         let mark = self.purgeable.get(old);
@@ -284,7 +283,7 @@ impl IndexedZone {
         let last = self.page_at(end);
         let low = self.leaf(at);
         let high = self.leaf_at(end);
-        forget(&mut self.pages, first, last);
+        self.pages.forget(first, last);
         self.rooms.touch(low);
         self.rooms.touch(high);
         self.zone.hold(block, size, length);
@@ -307,7 +306,7 @@ impl IndexedZone {
         let low = self.leaf(at);
         let middle = self.leaf_at(behind);
         let high = self.leaf_at(end);
-        forget(&mut self.pages, first, last);
+        self.pages.forget(first, last);
         self.rooms.touch(low);
         self.rooms.touch(middle);
         self.rooms.touch(high);

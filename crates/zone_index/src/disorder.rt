@@ -5,8 +5,7 @@ ghost use Rattle.zone_index.specs.Disorder.{FirstOutOfOrder, OrderedTo};
 ghost use Rattle.zone_index.specs.Pages.{ArePages};
 ghost use Rattle.zone_index.specs.Weights.{in_order, weights};
 
-use crate::pages::page_sums;
-use crate::sums::Sums;
+use crate::pages::{Pages, page_sums};
 use crate::weight::weigh;
 use crate::zone::IndexedZone;
 use linked_zone::LinkedZone;
@@ -29,7 +28,7 @@ impl IndexedZone {
 }
 
 /// The first block that is out of order, found by the sums of pages.
-fn first_by_pages(zone: &LinkedZone, pages: &mut [Option<Sums>]) -> Option<u32>
+fn first_by_pages(zone: &LinkedZone, pages: &mut Pages) -> Option<u32>
     requires pages { ArePages zone.now pages.old }
     ensures pages { ArePages zone.now pages.new }
     ensures first { MatchOption result (IsTrue (in_order false (weights zone.now.heap.table zone.now.heap.map))) (λ at. FirstOutOfOrder zone.now at) }

@@ -51,7 +51,7 @@ fn measure(zone: &LinkedZone, leaf: usize) -> Span
     let spec = zone.spec();
     let base = spec.base();
     let start = base + leaf as u32 * LEAF_SIZE;
-    let end = (start + LEAF_SIZE).min(base + spec.size());
+    let end = start.saturating_add(LEAF_SIZE).min(base + spec.size());
     let mut sum = Span::none();
     let Some(mut at) = zone.first_from(start) else {
         return sum;

@@ -5,9 +5,6 @@ ghost use Rattle.zone_index.specs.Turning.{IsCarried, IsSunk};
 
 use place_numbers::Marks;
 
-/// Where a block changes places with so many times fewer bytes than it has, few marks are thought to stand among them.
-const FEW_PLACES: usize = 256;
-
 /// Writes the mark at a place, where another stands there.
 pub(crate) fn write(marks: &mut Marks, place: usize, mark: u8)
     requires { place < length marks.old }
@@ -38,7 +35,7 @@ pub(crate) fn carry(marks: &mut Marks, first: usize, step: usize, count: usize)
     let _len = marks.len();
     if any_marked(marks, first, first + step + count) {
         let mark = marks.get(first);
-        marks.shift_down(first + step, first, count, count < step / FEW_PLACES);
+        marks.shift_down(first + step, first, count, false);
         marks.set(first + count, mark);
     }
 }
@@ -52,7 +49,7 @@ pub(crate) fn sink(marks: &mut Marks, first: usize, step: usize, count: usize)
     let _len = marks.len();
     if any_marked(marks, first, first + step + count) {
         let mark = marks.get(first + count);
-        marks.shift_up(first, first + step, count, count < step / FEW_PLACES);
+        marks.shift_up(first, first + step, count, false);
         marks.set(first, mark);
     }
 }

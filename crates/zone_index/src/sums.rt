@@ -23,8 +23,6 @@ pub struct Sums {
     pub bytes: u32,
     /// Those of the blocks that are free or may be purged.
     pub space: u32,
-    /// What gaps have of free bytes.
-    pub free: Span,
     /// What gaps have of bytes that are free or may be purged.
     pub spaces: Span,
     /// Whether blocks can be moved down.
@@ -39,7 +37,6 @@ impl Sums {
     pub const NONE: Sums = Sums {
         bytes: 0,
         space: 0,
-        free: Span::Whole(0),
         spaces: Span::Whole(0),
         order: Order::NONE,
     };
@@ -48,15 +45,14 @@ impl Sums {
     pub fn of(weight: Weight) -> Sums
         ensures { result ≡ one weight }
     {
-        let (free, spaces) = if weight.fixed {
-            (Span::FIXED, Span::FIXED)
+        let spaces = if weight.fixed {
+            Span::FIXED
         } else {
-            (Span::Whole(weight.free), Span::Whole(weight.space))
+            Span::Whole(weight.space)
         };
         Sums {
             bytes: weight.bytes,
             space: weight.space,
-            free,
             spaces,
             order: Order::of(weight),
         }
@@ -72,7 +68,6 @@ impl Sums {
         Sums {
             bytes: self.bytes + next.bytes,
             space: self.space + next.space,
-            free: self.free.join(next.free),
             spaces: self.spaces.join(next.spaces),
             order: self.order.join(next.order),
         }

@@ -1,9 +1,9 @@
 //! The zone.
 
 use crate::fixed::{gap_end, gap_start};
-use crate::leaves::LEAF_SIZE;
+use crate::leaves::{LEAF_SIZE, freshen, most_room};
 use crate::lengths::Lengths;
-use crate::pages::{PAGE_SIZE, page_of, page_sums, unknown_pages};
+use crate::pages::{PAGE_SIZE, Pages, page_of, page_sums};
 use crate::sums::{Sums, ZoneSums};
 use block_sums::Span;
 use linked_zone::LinkedZone;
@@ -28,7 +28,7 @@ pub struct IndexedZone {
     /// What gaps have of the free bytes of the blocks that begin in each leaf.
     pub(crate) rooms: StaleTree<Span>,
     /// The sums of the blocks that begin in each page, where they are known.
-    pub(crate) pages: Vec<Option<Sums>>,
+    pub(crate) pages: Pages,
     /// How many bytes handles have, where that is known.
     pub(crate) lengths: Lengths,
 }
@@ -92,7 +92,7 @@ impl IndexedZone {
         let marks = Marks::create(alloc, places)?;
         let purgeable = Marks::create(alloc, places)?;
         let rooms = StaleTree::create(alloc, (spec.limit() / LEAF_SIZE) as usize + 1)?;
-        let pages = unknown_pages(alloc, (spec.limit() / PAGE_SIZE) as usize + 1)?;
+        let pages = Pages::create(alloc, (spec.limit() / PAGE_SIZE) as usize + 1)?;
         let lengths = Lengths::create(alloc, spec.base(), spec.limit() as usize / 4)?;
         let zone = LinkedZone::create(alloc, spec)?;
         Ok(IndexedZone {
@@ -128,15 +128,16 @@ impl IndexedZone {
         gap_start(&self.zone, &self.marks, end)
     }
 
-    /// What the zone has room for: the sums over its pages, of which only those are gone through that changed since they were last
-    /// asked for.
+    /// What the zone has room for: the sums over its leaves and pages, of which only those are gone through that changed since they
+    /// were last asked for.
     pub fn sums(&mut self) -> ZoneSums
         ensures zone { self.new ≡ self.old }
         ensures space { result.space ≡ purge_space self.old.heap.table self.old.heap.map }
         ensures room { result.room ≡ largest_room self.old.heap.table self.old.heap.map }
         ensures contiguous { result.contiguous ≡ largest_purge_space self.old.heap.table self.old.heap.map }
     {
-        zone_sums(&self.zone, &mut self.pages)
+        freshen(&self.zone, &mut self.rooms);
+        zone_sums(&self.zone, &self.rooms, &mut self.pages)
     }
 
     /// How many bytes a handle has: none where it isn't live, or empty. The zone is asked where that isn't remembered.
@@ -220,11 +221,13 @@ impl IndexedZone {
 ghost use Rattle.std.specs.Prelude.{◌≡◌};
 ghost use Rattle.mac_base.specs.Reports.{largest_purge_space, largest_room, purge_space};
 ghost use Rattle.zone_index.specs.Pages.{ArePages};
+ghost use Rattle.zone_index.specs.Rooms.{AreFresh};
 ghost use Rattle.zone_index.specs.Spans.{IsSum};
 ghost use Rattle.zone_index.specs.Weights.{weights};
 
-/// What a zone has room for, by the sums of its pages.
-fn zone_sums(zone: &LinkedZone, pages: &mut [Option<Sums>]) -> ZoneSums
+/// What a zone has room for, by the sums of its leaves and pages.
+fn zone_sums(zone: &LinkedZone, rooms: &StaleTree<Span>, pages: &mut Pages) -> ZoneSums
+    requires fresh { AreFresh zone.now rooms.now }
     requires pages { ArePages zone.now pages.old }
     ensures pages { ArePages zone.now pages.new }
     ensures space { result.space ≡ purge_space zone.now.heap.table zone.now.heap.map }
@@ -235,13 +238,13 @@ fn zone_sums(zone: &LinkedZone, pages: &mut [Option<Sums>]) -> ZoneSums
     let _spec = zone.spec();
     ZoneSums {
         space: all.space,
-        room: all.free.most(),
+        room: most_room(zone, rooms),
         contiguous: all.spaces.most(),
     }
 }
 
 /// The sums of all blocks, page by page.
-fn all_pages(zone: &LinkedZone, pages: &mut [Option<Sums>]) -> Sums
+fn all_pages(zone: &LinkedZone, pages: &mut Pages) -> Sums
     requires pages { ArePages zone.now pages.old }
     ensures pages { ArePages zone.now pages.new }
     ensures sums { IsSum (weights zone.now.heap.table zone.now.heap.map) result }

@@ -6,7 +6,8 @@ use Rattle.std.proofs.lemmas.Bool.Decides.{nat_tests}
 use Rattle.std.proofs.lemmas.Bool.{and_parts}
 use Rattle.mac_base.specs.declared.block.HeadKind.{HeadKind}
 use Rattle.mac_base.specs.declared.block.HeadKind.TheVariants.{Bits24, Bits32}
-use Rattle.mac_base.specs.HeadKind.{head_size, slot_count, master_length}
+use Rattle.mac_base.specs.HeadKind.{head_size, slot_count, master_length, address_end}
+use Rattle.mac_base.proofs.Reach.{end-small}
 use Rattle.block_bytes.specs.declared.header.Role.TheVariants as role
 use Rattle.block_bytes.specs.Layout as raw
 use Rattle.block_bytes.specs.Layout.{RawBlock, Layout, BlockAt, UnlentAt, CanBe, CanTurn, with_blocks, in_role, size_of}
@@ -19,7 +20,7 @@ use Rattle.zone_records.specs.Word.{slots_in, words_of}
 use Rattle.zone_records.specs.Reading.{is_sound}
 use Rattle.zone_records.proofs.Words.{length-chained, slots-words, sayable-chain}
 use Rattle.zone_records.proofs.Apart.{One}
-use Rattle.zone_records.proofs.Held.{Held, heads-is, range-one, sound-two}
+use Rattle.zone_records.proofs.Held.{Held, heads-is, end-one, sound-two}
 use Rattle.zone_records.proofs.Looking.{sound-parts}
 use Rattle.zone_records.proofs.Holding.{sound-same, raw-overwritten, overwritten-all}
 use Rattle.zone_records.proofs.Blocks.{have-parts, raw-parts, sound-possible}
@@ -42,17 +43,22 @@ head-even Bits24 = refl
 head-even Bits32 = refl
 
 module _ (l : Layout) (z : ZoneRecords) (held : Held l z) (at : ℕ) (r : RoomFor z at master_length) where
-  -- the slots lie within 24 bits
-  pub master-range : at + head_size z.shape.heads + 256 ≤ 0x100_0000
-  master-range =
+  -- slots can say where the slots are
+  pub master-end : at + head_size z.shape.heads + 256 ≤ address_end z.shape.heads
+  master-end =
       let o = free_one l z held at r.free in
-      let high = range-one l o.first o.block o.rest held.sound o.blocks in
+      let high = end-one l o.first o.block o.rest held.sound o.blocks in
+      let end = ap address_end (heads-is l z held) in
       let place = free-place l z held at r.free in
       let size = free-size l z held at r.free in
       let room = (have-parts z.shape r.free.size master_length r.room).1 in
       omega arith
 
-  -- and at multiples of four
+  -- that has 32 bits
+  pub master-range : at + head_size z.shape.heads + 256 ≤ 0xFFFF_FFFF
+  master-range = let end = master-end in let small = end-small z.shape.heads in omega arith
+
+  -- they are at multiples of four
   pub master-even : (at + head_size z.shape.heads) % 4 ≡ 0
   master-even =
       let o = free_one l z held at r.free in
@@ -129,7 +135,7 @@ module _ (l : Layout) (z : ZoneRecords) (held : Held l z) (at : ℕ) (r : RoomFo
         subst (λ k. (can : CanTurn k at role.Master) → m ≡ with_blocks (can.block.before ++ in_role can.block.here role.Master ∷ can.block.behind) k) is ends in
         let heads = heads-is l z held in
         let form : ws ≡ words_of l.heads chain = words ∙ ap (λ k. words_of k chain) (sym heads) in
-        let all = sayable-chain z.shape.heads slot_count (at + head_size z.shape.heads) last master-even master-range sayable in
+        let all = sayable-chain z.shape.heads slot_count (at + head_size z.shape.heads) last master-even master-end sayable in
         let slots : slots_in l.heads slot_count ws ≡ chain =
         (λ i. slots_in l.heads (sym (length-chained slot_count (at + head_size z.shape.heads) last) i) (form i))
         ∙ slots-words l.heads chain (ap (λ k. list_all (can_say k) chain) heads ∙ all) in

@@ -174,8 +174,8 @@ module _ (l : Layout) (z : ZoneRecords) (held : Held l z) (at : ℕ) where
     pub pair-second_size : (next : ℕ) → next ≡ at + pair.first → (h : Header) → ((b : BlockAt l next) → h ≡ header_of l.heads b.here) → h.size ≡ pair.second
     pair-second_size next is h says = ap (λ (h : Header). h.size) (says (second_at next is)) ∙ pair-sizes.1
 
-    -- both end within 24 bits
-    pub pair-range : at + pair.first + pair.second ≤ 0x100_0000
+    -- both end within 32 bits
+    pub pair-range : at + pair.first + pair.second ≤ 0xFFFF_FFFF
     pair-range =
         let high = range-one l (pair_two.first ++ pair_two.block ∷ []) pair_two.other pair_two.rest held.sound (pair_two.blocks ∙ sym (append_assoc pair_two.first (pair_two.block ∷ []) (pair_two.other ∷ pair_two.rest))) in
         let place = second_place (at + pair.first) refl in

@@ -86,8 +86,8 @@ module _ (l : Layout) (z : ZoneRecords) (held : Held l z) (at size n : ℕ) (can
   pub grow-second_size : (next : ℕ) → next ≡ at + can.first → (h : Header) → ((b : BlockAt l next) → h ≡ header_of l.heads b.here) → h.size ≡ can.second
   grow-second_size next is h says = ap (λ (h : Header). h.size) (says (second_at next is)) ∙ grow-sizes.1
 
-  -- both end within 24 bits
-  pub grow-range : at + can.first + can.second ≤ 0x100_0000
+  -- both end within 32 bits
+  pub grow-range : at + can.first + can.second ≤ 0xFFFF_FFFF
   grow-range =
       let high = range-one l (t.first ++ t.block ∷ []) t.other t.rest held.sound second_blocks in
       let place = second_place (at + can.first) refl in

@@ -67,7 +67,7 @@ module _ (l : Layout) (z : ZoneRecords) (held : Held l z) (at : ℕ) (r : Record
   use-is = (sound-parts l.heads l.base b (sound-one l mine.before b mine.behind held.sound mine.blocks)).use_is
 
   -- where it ends
-  pub range : at + r.here.size ≤ 0x100_0000
+  pub range : at + r.here.size ≤ 0xFFFF_FFFF
   range =
       let high = range-one l mine.before b mine.behind held.sound mine.blocks in
       let size = size-of l z held at r in

@@ -4,8 +4,9 @@ use Rattle.std.specs.List.{All, list_all}
 use Rattle.std.proofs.lemmas.List.Elements.{All-append, All-cons, All-head, All-nil, All-same, All-tail}
 use Rattle.std.proofs.lemmas.List.Folds.{list_all-append}
 use Rattle.std.proofs.lemmas.Bool.{and_parts, and_from}
-use Rattle.mac_base.specs.HeadKind.{zone_header}
+use Rattle.mac_base.specs.HeadKind.{zone_header, address_end}
 use Rattle.mac_base.specs.declared.block.HeadKind.{HeadKind}
+use Rattle.mac_base.proofs.Reach.{end-small}
 use Rattle.block_bytes.specs.declared.header.Role.TheVariants as role
 use Rattle.block_bytes.specs.Layout as raw
 use Rattle.block_bytes.specs.Layout.{RawBlock, Layout, size_of, with_blocks}
@@ -65,11 +66,15 @@ pub sound-other : (l : Layout) (xs : List RawBlock) (a b : RawBlock) (ys : List 
 sound-other l xs a b ys sound is = (and_parts _ _ (and_parts _ _ (sound-two l xs (a ∷ b ∷ ys) sound is).1).1).0
 
 -- where a block ends at the highest
-pub range-one : (l : Layout) (xs : List RawBlock) (b : RawBlock) (ys : List RawBlock) → AreSound l → l.blocks ≡ xs ++ b ∷ ys → raw.address_behind l xs + size_of l.heads b ≤ 0x100_0000
-range-one l xs b ys sound is =
+pub end-one : (l : Layout) (xs : List RawBlock) (b : RawBlock) (ys : List RawBlock) → AreSound l → l.blocks ≡ xs ++ b ∷ ys → raw.address_behind l xs + size_of l.heads b ≤ address_end l.heads
+end-one l xs b ys sound is =
     let all = ap (raw.total_of l.heads) is ∙ total-append l.heads xs (b ∷ ys) in
     let high = sound.high in
     omega arith
+
+-- that has 32 bits
+pub range-one : (l : Layout) (xs : List RawBlock) (b : RawBlock) (ys : List RawBlock) → AreSound l → l.blocks ≡ xs ++ b ∷ ys → raw.address_behind l xs + size_of l.heads b ≤ 0xFFFF_FFFF
+range-one l xs b ys sound is = let end = end-one l xs b ys sound is in let small = end-small l.heads in omega arith
 
 module _ (l : Layout) (z : ZoneRecords) (held : Held l z) where
   -- how blocks are headed, and where the zone begins

@@ -159,8 +159,8 @@ module _ (l : Layout) (z : ZoneRecords) (held : Held l z) where
         place = omega arith;
       }
 
-  -- the contents of a block that has a byte, and a master block's slots, lie within 24 bits
-  pub holder-range : (x start : ℕ) (h : HoldsByte l x start) → start + size_of l.heads h.block.here ≤ 0x100_0000
+  -- a block that has a byte lies within 32 bits
+  pub holder-range : (x start : ℕ) (h : HoldsByte l x start) → start + size_of l.heads h.block.here ≤ 0xFFFF_FFFF
   holder-range x start h =
       let b = h.block in
       let high = range-one l b.before b.here b.behind held.sound b.blocks in

@@ -8,7 +8,7 @@ use Rattle.std.proofs.lemmas.Bool.{and_parts, and_from}
 use Rattle.byteorder.specs.Endian.{big_bytes, big_number}
 use Rattle.mac_base.specs.declared.block.HeadKind.{HeadKind}
 use Rattle.mac_base.specs.declared.block.HeadKind.TheVariants.{Bits24, Bits32}
-use Rattle.mac_base.specs.HeadKind.{slot_count}
+use Rattle.mac_base.specs.HeadKind.{slot_count, address_end}
 use Rattle.raw_region.specs.Bytes.{written}
 use Rattle.raw_region.proofs.Numbers.{length-big_bytes, number-bytes}
 use Rattle.block_bytes.proofs.Rendered.{written-middle}
@@ -63,19 +63,19 @@ length-chained zero at last = refl
 length-chained (suc zero) at last = refl
 length-chained (suc (suc n)) at last = ap suc (length-chained (suc n) (at + 4) last)
 
--- an address with 24 bits at a multiple of four can be said
-pub sayable-at : (heads : HeadKind) (x : ℕ) → x < 0x100_0000 → x % 4 ≡ 0 → can_say heads (Free x) ≡ true
+-- an address below the highest end, at a multiple of four, can be said
+pub sayable-at : (heads : HeadKind) (x : ℕ) → x < address_end heads → x % 4 ≡ 0 → can_say heads (Free x) ≡ true
 sayable-at Bits24 x low even = grind (arith, nat_tests)
 sayable-at Bits32 x low even = and_from _ _ (below x low) (four x even)
   where
-    below : (x : ℕ) → x < 0x100_0000 → nat_lt x (2 ^ 32) ≡ true
+    below : (x : ℕ) → x < 0xFFFF_FFFF → nat_lt x (2 ^ 32) ≡ true
     below x low = grind (arith, nat_tests)
 
     four : (x : ℕ) → x % 4 ≡ 0 → (x % 4 == 0) ≡ true
     four x even = grind (arith, nat_tests)
 
--- so can chained slots within 24 bits
-pub sayable-chain : (heads : HeadKind) (n at last : ℕ) → at % 4 ≡ 0 → at + 4 * n ≤ 0x100_0000 → can_say heads (Free last) ≡ true → list_all (can_say heads) (chained n at last) ≡ true
+-- so can chained slots
+pub sayable-chain : (heads : HeadKind) (n at last : ℕ) → at % 4 ≡ 0 → at + 4 * n ≤ address_end heads → can_say heads (Free last) ≡ true → list_all (can_say heads) (chained n at last) ≡ true
 sayable-chain heads zero at last even low end = refl
 sayable-chain heads (suc zero) at last even low end = and_from _ _ end refl
 sayable-chain heads (suc (suc n)) at last even low end = and_from _ _ (sayable-at heads (at + 4) (omega arith) (omega arith)) (sayable-chain heads (suc n) (at + 4) last (omega arith) (omega arith) end)
@@ -96,7 +96,7 @@ pub record Chaining (heads : HeadKind) (first last : ℕ) (old : List ℕ) (i ne
   pub none : i ≡ 0 → next ≡ last
   pub some : 0 < i → next ≡ first + 4 * (64 - i)
 
-module _ (heads : HeadKind) (first last : ℕ) (old : List ℕ) (long : length old ≡ 256) (low : first + 256 ≤ 0x100_0000) (even : first % 4 ≡ 0) (end : can_say heads (Free last) ≡ true) where
+module _ (heads : HeadKind) (first last : ℕ) (old : List ℕ) (long : length old ≡ 256) (low : first + 256 ≤ address_end heads) (even : first % 4 ≡ 0) (end : can_say heads (Free last) ≡ true) where
   -- at first none is
   pub chain-starts : Chaining heads first last old 0 last old
   chain-starts = record {

@@ -2,7 +2,7 @@
 use Rattle.std.specs.Prelude.{◌≡◌, ℕ, ◌+◌, ◌%◌, ◌≤◌, ◌^◌, ◌==◌, nat_lt, Bool, true, ◌&&◌, IsTrue, List, length, map}
 use Rattle.std.specs.List.{All, list_all}
 use Rattle.mac_base.specs.declared.block.HeadKind.{HeadKind}
-use Rattle.mac_base.specs.HeadKind.{zone_header, slot_count, master_length}
+use Rattle.mac_base.specs.HeadKind.{zone_header, slot_count, master_length, address_end}
 use Rattle.block_bytes.specs.declared.header.Role.{Role}
 use Rattle.block_bytes.specs.declared.header.Role.TheVariants as role
 use Rattle.block_bytes.specs.Layout.{RawBlock, Layout, size_of, total_of, is_possible}
@@ -49,12 +49,12 @@ is_sound heads base b = is_possible heads b && has_use base b.role (length b.con
 abbrev pub HasWords : HeadKind → RawBlock → Type 0
 HasWords heads b = b.role ≡ role.Master → b.contents ≡ words_of heads (slots_in heads slot_count b.contents)
 
--- all blocks are, and addresses are multiples of four with 24 bits
+-- all blocks are, and addresses are multiples of four that slots can say
 pub record AreSound (l : Layout) : Type 0 where
   pub blocks : IsTrue (list_all (is_sound l.heads l.base) l.blocks)
   pub words : All (HasWords l.heads) l.blocks
   pub even : l.base % 4 ≡ 0
-  pub high : l.base + (zone_header + total_of l.heads l.blocks + length l.spare) ≤ 0x100_0000
+  pub high : l.base + (zone_header + total_of l.heads l.blocks + length l.spare) ≤ address_end l.heads
 
 -- those of the fields
 pub record IsSound (z : Inside) : Type 0 where

@@ -1,7 +1,7 @@
 //! The slots of a new master block.
 
 ghost use Rattle.std.specs.Prelude.{◌≡◌, ◌+◌, ◌≤◌, ◌%◌, length, IsTrue};
-ghost use Rattle.mac_base.specs.HeadKind.{slot_count, master_length};
+ghost use Rattle.mac_base.specs.HeadKind.{address_end, slot_count, master_length};
 ghost use Rattle.zone_records.specs.Places.{can_say};
 ghost use Rattle.zone_records.specs.Changes.{chained};
 ghost use Rattle.zone_records.specs.Word.{words_of};
@@ -15,7 +15,7 @@ use mac_base::size::SLOT_COUNT;
 /// last one `last`.
 pub(crate) fn write_chain(words: &mut [u8], heads: HeadKind, first: u32, last: u32)
     requires long { length words.old ≡ master_length }
-    requires low { first + master_length ≤ 0x100_0000 }
+    requires low { first + master_length ≤ address_end heads }
     requires even { first % 4 ≡ 0 }
     requires sayable { IsTrue (can_say heads (Slot.Free last)) }
     ensures { words.new ≡ words_of heads (chained slot_count first last) }

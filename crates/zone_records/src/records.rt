@@ -188,7 +188,7 @@ impl Records {
         let first = start + self.head_size();
         self.blocks.entry_at(start).role == Role::Master
             && first <= at
-            && at < first + MASTER_LENGTH
+            && at - first < MASTER_LENGTH
             && (at - first) % 4 == 0
     }
 

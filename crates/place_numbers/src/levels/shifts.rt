@@ -8,6 +8,9 @@ use super::Levels;
 use crate::number::Number;
 use crate::row::Row;
 
+/// Where numbers move by so many times more places than they are, few of them are thought to be above 0.
+const FEW: usize = 64;
+
 /// Makes some bounds anew, those from `first` up to `end`.
 fn renew<N: Number>(bounds: &mut Row<N>, numbers: &Row<N>, first: usize, end: usize)
     requires order { first ≤ end }
@@ -58,7 +61,7 @@ impl Levels<u8> {
         requires inside { from + count ≤ length self.old }
         ensures { self.new ≡ shifted_down from to count self.old }
     {
-        if sparse {
+        if sparse || count < (from - to) / FEW {
             self.shift_few_down(from, to, count);
             return;
         }
@@ -81,7 +84,7 @@ impl Levels<u8> {
         requires inside { to + count ≤ length self.old }
         ensures { self.new ≡ shifted_up from to count self.old }
     {
-        if sparse {
+        if sparse || count < (to - from) / FEW {
             self.shift_few_up(from, to, count);
             return;
         }

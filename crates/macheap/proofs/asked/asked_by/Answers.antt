@@ -1,11 +1,10 @@
-use Rattle.std.proofs.Common.{◌≡◌, map, codes, refl, sym, subst, ap, ◌∙◌, List, ℕ, Bor}
-use Rattle.mac_base.specs.ZoneSizes.{ArePossible}
-use Rattle.macheap.specs.Asking.{GivesNumbers, Match, of_zone, of_limit, of_base, of_mode}
-use Rattle.macheap.specs.Options.{IsNoNumber, IsNumberOf, forks_of, journals_of, value_of}
-use Rattle.macheap.proofs.Found.{number_found, no_number_found, files_asks, names_found, match_of, matched, unmatched, error_kind, full_asks, no_number_error}
+use Rattle.std.proofs.Common.{◌≡◌, Bool, map, codes, refl, sym, subst, ap, ◌∙◌, List, ℕ, Bor}
+use Rattle.macheap.specs.Asking.{GivesNumbers, IsAllowed, Match, zone_fault, of_zone, of_limit, of_base, of_mode}
+use Rattle.macheap.specs.Options.{IsNoNumber, IsNumberOf, allows_large, forks_of, is_set, journals_of, value_of}
+use Rattle.macheap.proofs.Found.{number_found, value_found, no_number_found, files_asks, names_found, match_of, matched, unmatched, error_kind, full_asks, no_number_error}
 use Rattle.clap.specs.Words.{Text}
 use Rattle.macheap.proofs.asked.asked_by.Goals as goal
-use Rattle.macheap.proofs.asked.asked_by.Goals.{In_ok-base, In_ok-files, In_ok-limit, In_ok-mode, In_ok-zone}
+use Rattle.macheap.proofs.asked.asked_by.Goals.{In-Some, In_ok-base, In_ok-files, In_ok-limit, In_ok-mode, In_ok-zone}
 
 abbrev names_of : List (Bor (List ℕ)) → List Text
 names_of = map (λ name. name.now)
@@ -82,19 +81,23 @@ returns-in_err-mode g c =
 pub returns-in_default : goal.returns-in_default
 returns-in_default g c = (c.in_ok-base.base, c.in_ok-zone.zone, c.in_ok-limit.limit, numbers g (goal.at.returns-in_default g c).In_ok-mode, sym c.heads_of.ensures ∙ c.in_default.is)
 
-pub returns-in-Ok-with_kind : goal.returns-in-Ok-with_kind
-returns-in-Ok-with_kind g c = record {
+-- and whether the zone may be large
+large : (g : _) (c : In-Some g) → c.is_set-is_large.result ≡ allows_large (map g.S.AsStr.text c.args.words.now)
+large g c = c.is_set-is_large.ensures ∙ ap is_set (value_found c.in_ok-command.field-0 (map g.S.AsStr.text c.args.words.now) c.in-Ok.matches (codes "large") _ c.in_ok-command.ensures c.in-Ok.ensures.matches c.get_str-5.ensures)
+
+pub returns-in-Ok-spec_of : goal.returns-in-Ok-spec_of
+returns-in-Ok-spec_of g c = record {
   base = c.in_ok-base.base;
   size = c.in_ok-zone.zone;
   limit = c.in_ok-limit.limit;
   mode = c.in_ok-mode.mode;
   heads = c.in-Some.heads;
-  numbers = numbers g (goal.at.returns-in-Ok-with_kind g c).In_ok-mode;
+  numbers = numbers g (goal.at.returns-in-Ok-spec_of g c).In_ok-mode;
   headed = sym c.heads_of.ensures ∙ c.in-Some.is;
-  is = c.in-Ok-with_kind.ensures.spec;
-  possible = subst ArePossible (sym c.in-Ok-with_kind.ensures.spec) (c.in-Ok-with_kind.ensures.possible.0 refl);
-  forks_are = forks g (goal.at.returns-in-Ok-with_kind g c).In_ok-files;
-  journals_are = journals g (goal.at.returns-in-Ok-with_kind g c).In_ok-files;
+  is = c.in-Ok-spec_of.ensures.spec;
+  allowed = subst (λ (large : Bool). IsAllowed large c.in-Ok-spec_of.spec) (large g (goal.at.returns-in-Ok-spec_of g c).In-Some) c.in-Ok-spec_of.ensures.allowed;
+  forks_are = forks g (goal.at.returns-in-Ok-spec_of g c).In_ok-files;
+  journals_are = journals g (goal.at.returns-in-Ok-spec_of g c).In_ok-files;
 }
 
 pub returns : goal.returns
@@ -106,5 +109,5 @@ returns g c = (
   c.in-Some.heads,
   numbers g (goal.at.returns g c).In_ok-mode,
   sym c.heads_of.ensures ∙ c.in-Some.is,
-  sym c.in-Err-with_kind.ensures.fault,
+  ap (λ (large : Bool). zone_fault large c.in-Some.heads c.in_ok-base.base c.in_ok-zone.zone c.in_ok-limit.limit) (sym (large g (goal.at.returns g c).In-Some)) ∙ sym c.in-Err-spec_of.ensures.fault,
 )

@@ -12,4 +12,5 @@ returns c =
     let third_is : app_of c.in_ok-arg-3.field-0 ≡ with_rule (with_rule (with_rule (new_app (codes "macheap")) (option_named (codes "zone"))) (option_named (codes "limit"))) (option_named (codes "base")) = c.in_ok-arg-3.ensures.shape c.number_option-3.ensures.local ∙ ap₂ with_rule second_is c.number_option-3.ensures.rule in
     let fourth_is : app_of c.in_ok-arg-4.field-0 ≡ with_rule (with_rule (with_rule (with_rule (new_app (codes "macheap")) (option_named (codes "zone"))) (option_named (codes "limit"))) (option_named (codes "base"))) (option_named (codes "mode")) = c.in_ok-arg-4.ensures.shape c.number_option-4.ensures.local ∙ ap₂ with_rule third_is c.number_option-4.ensures.rule in
     let fifth_is : app_of c.in_ok-arg-5.field-0 ≡ with_rule (with_rule (with_rule (with_rule (with_rule (new_app (codes "macheap")) (option_named (codes "zone"))) (option_named (codes "limit"))) (option_named (codes "base"))) (option_named (codes "mode"))) (file_option (codes "fork")) = c.in_ok-arg-5.ensures.shape c.file_option.ensures.local ∙ ap₂ with_rule fourth_is c.file_option.ensures.rule in
-    IfOk-weaker c.arg-6.result _ _ (λ r h. h.shape c.file_option-2.ensures.local ∙ ap₂ with_rule fifth_is c.file_option-2.ensures.rule) c.arg-6.ensures
+    let sixth_is : app_of c.in_ok-arg-6.field-0 ≡ with_rule (with_rule (with_rule (with_rule (with_rule (with_rule (new_app (codes "macheap")) (option_named (codes "zone"))) (option_named (codes "limit"))) (option_named (codes "base"))) (option_named (codes "mode"))) (file_option (codes "fork"))) (file_option (codes "journal")) = c.in_ok-arg-6.ensures.shape c.file_option-2.ensures.local ∙ ap₂ with_rule fifth_is c.file_option-2.ensures.rule in
+    IfOk-weaker c.arg-7.result _ _ (λ r h. h.shape c.flag_option.ensures.local ∙ ap₂ with_rule sixth_is c.flag_option.ensures.rule) c.arg-7.ensures

@@ -42,7 +42,8 @@ overflow_add-result c =
     let head : c.head_size.result ≡ head_size z.shape.heads =
     c.head_size.ensures ∙ ap head_size (c.heads-heads.ensures ∙ ap (λ (s : ZoneSizes). s.heads) (rw c.linked.ensures at c.spec-spec.ensures.sizes)) ∙ ap (λ (w : ZoneState). head_size w.shape.heads) (sym c.in-Some.ensures.room.zone) in
     let near = contents_near z c.in-Some.at c.in-Some.ensures.sound.sound (chosen (goal.at.overflow_add-result c).In-Some).low.free in
-    omega (arith, c.if-prove.false)
+    let reach = c.base.ensures.reach in
+    omega arith
 
 pub returns-clause-attempt : goal.returns-clause-attempt
 returns-clause-attempt c =

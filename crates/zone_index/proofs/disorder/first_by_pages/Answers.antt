@@ -38,7 +38,7 @@ overflow_add-at-in-loop-at c =
     let size = ap (λ (s : ZoneSizes). s.size) c.spec-spec.ensures.sizes in
     let base = ap (λ (s : ZoneSizes). s.base) c.spec-spec.ensures.sizes in
     let within = c.base.ensures.possible.within in
-    let end = c.base.ensures.possible.end_low_enough in
+    let end = c.base.ensures.reach in
     let p : Passing z c.loop-at.at c.loop-at.free = c.loop-at.invariant.0 in
     let high = page-end z c.loop-at.at p.sums p.walked c.spec-spec.ensures.possible (coming (goal.at.overflow_add-at-in-loop-at c).In-loop-at) c.page_sums-here.result c.page_sums-here.ensures.sums in
     omega arith

@@ -49,7 +49,7 @@ overflow_add-at c =
     let size = ap (λ (s : ZoneSizes). s.size) c.spec-spec.ensures.sizes in
     let base = ap (λ (s : ZoneSizes). s.base) c.spec-spec.ensures.sizes in
     let low = c.base.ensures.possible.within in
-    let end = c.base.ensures.possible.end_low_enough in
+    let end = c.base.ensures.reach in
     omega arith
 
 pub loop-at-smaller : goal.loop-at-smaller

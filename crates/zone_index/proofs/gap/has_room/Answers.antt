@@ -1,4 +1,4 @@
-use Rattle.std.proofs.Common.{◌≡◌, ◌<◌, subst, arith}
+use Rattle.std.proofs.Common.{arith}
 use Rattle.mac_base.specs.ZoneMap.{free_bytes}
 use Rattle.zone_index.proofs.Found.{gap-within}
 use Rattle.zone_index.proofs.RoomAt.{too-few}

@@ -1,4 +1,3 @@
-use Rattle.std.proofs.Common.{◌≡◌}
 use Rattle.mac_base.specs.Gap.{gaps}
 use Rattle.zone_index.proofs.Found.{lowest-found, split_start}
 use Rattle.zone_index.proofs.Fronts.{front_split, split_entry}

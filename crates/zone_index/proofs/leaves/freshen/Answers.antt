@@ -1,4 +1,3 @@
-use Rattle.std.proofs.Common.{◌∙◌}
 use Rattle.zone_index.proofs.Freshened.{freshened, mixtures}
 use Rattle.zone_index.proofs.Known.{limit-known, within-known}
 use Rattle.zone_index.proofs.leaves.freshen.Goals as goal

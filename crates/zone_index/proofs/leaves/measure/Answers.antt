@@ -1,4 +1,4 @@
-use Rattle.std.proofs.Common.{◌≡◌, ◌+◌, ◌*◌, ◌<◌, ◌∙◌, ap, sym, subst, arith}
+use Rattle.std.proofs.Common.{◌+◌, ◌*◌, ◌∙◌, ap, sym, subst, arith}
 use Rattle.mac_base.specs.declared.block.Entry.{Entry}
 use Rattle.mac_base.specs.ZoneSizes.{ZoneSizes}
 use Rattle.linked_zone.specs.Places.{HasOwner}
@@ -19,6 +19,7 @@ coming c =
     let size = c.size.ensures.value ∙ ap (λ (s : ZoneSizes). s.size) c.spec-spec.ensures.sizes in
     let test = c.loop-at-test.true in
     let end = c.min-end.ensures in
+    let behind = c.saturating_add.ensures in
     gathered-next z (256 * c.args.leaf) (256 * c.args.leaf + 256) c.loop-at.at c.loop-at.sum c.loop-at.invariant (omega arith)
 
 pub returns-in_default : goal.returns-in_default
@@ -52,7 +53,7 @@ join-sum-requires c =
     let base = ap (λ (s : ZoneSizes). s.base) c.spec-spec.ensures.sizes in
     let size = ap (λ (s : ZoneSizes). s.size) c.spec-spec.ensures.sizes in
     let within = c.base-base.ensures.possible.within in
-    let end = c.base-base.ensures.possible.end_low_enough in
+    let end = c.base-base.ensures.reach in
     subst (λ (x : Span). SpanFits (joined c.loop-at.sum x)) (sym (c.span_of.ensures ∙ ap room_of c.weigh.ensures))
     (gathered-fits z (256 * c.args.leaf) (256 * c.args.leaf + 256) c.loop-at.at c.loop-at.sum g n c.entry_at-here.result (c.entry_at-here.ensures here) (omega arith))
 
@@ -65,7 +66,7 @@ overflow_add-at c =
     let size = ap (λ (s : ZoneSizes). s.size) c.spec-spec.ensures.sizes in
     let base = ap (λ (s : ZoneSizes). s.base) c.spec-spec.ensures.sizes in
     let low = c.base-base.ensures.possible.within in
-    let end = c.base-base.ensures.possible.end_low_enough in
+    let end = c.base-base.ensures.reach in
     omega arith
 
 pub loop-at-smaller : goal.loop-at-smaller
@@ -86,6 +87,7 @@ loop-at-preserved c =
     let base = c.base-base.ensures.value ∙ ap (λ (s : ZoneSizes). s.base) c.spec-spec.ensures.sizes in
     let test = c.loop-at-test.true in
     let end = c.min-end.ensures in
+    let behind = c.saturating_add.ensures in
     subst (Gathered z (256 * c.args.leaf) (256 * c.args.leaf + 256) (c.loop-at.at + c.entry_at-here.result.size)) (sym (c.join-sum.ensures ∙ ap (joined c.loop-at.sum) (c.span_of.ensures ∙ ap room_of c.weigh.ensures)))
     (gathered-on z (256 * c.args.leaf) (256 * c.args.leaf + 256) c.loop-at.at c.loop-at.sum g n c.entry_at-here.result (c.entry_at-here.ensures here) (omega arith))
 
@@ -96,4 +98,5 @@ returns c =
     let size = c.size.ensures.value ∙ ap (λ (s : ZoneSizes). s.size) c.spec-spec.ensures.sizes in
     let test = c.loop-at-test.false in
     let end = c.min-end.ensures in
+    let behind = c.saturating_add.ensures in
     gathered-all z (256 * c.args.leaf) (256 * c.args.leaf + 256) c.loop-at.at c.loop-at.sum c.loop-at.invariant c.spec-spec.ensures.possible (omega arith)

@@ -1,4 +1,4 @@
-use Rattle.std.proofs.Common.{◌≡◌, ◌+◌, ◌<◌, ◌≤◌, ◌∙◌, ap, sym, subst, arith}
+use Rattle.std.proofs.Common.{◌+◌, ◌∙◌, ap, sym, subst, arith}
 use Rattle.mac_base.specs.declared.block.Entry.{Entry}
 use Rattle.mac_base.specs.ZoneSizes.{ZoneSizes}
 use Rattle.linked_zone.specs.Places.{HasOwner}
@@ -43,7 +43,7 @@ join-next-requires c =
     let base = ap (λ (s : ZoneSizes). s.base) c.spec-spec.ensures.sizes in
     let size = ap (λ (s : ZoneSizes). s.size) c.spec-spec.ensures.sizes in
     let within = c.base.ensures.possible.within in
-    let end = c.base.ensures.possible.end_low_enough in
+    let end = c.base.ensures.reach in
     subst (λ (x : Span). SpanFits (joined c.loop-at.sum x)) (sym (c.span_of.ensures ∙ ap room_of c.weigh.ensures))
     (following-fits z c.args.needed c.loop-at.at c.loop-at.sum b n c.entry_at-here.result (c.entry_at-here.ensures here) (omega arith))
 
@@ -56,7 +56,7 @@ overflow_add-at c =
     let size = ap (λ (s : ZoneSizes). s.size) c.spec-spec.ensures.sizes in
     let base = ap (λ (s : ZoneSizes). s.base) c.spec-spec.ensures.sizes in
     let low = c.base.ensures.possible.within in
-    let end = c.base.ensures.possible.end_low_enough in
+    let end = c.base.ensures.reach in
     omega arith
 
 pub loop-at-smaller : goal.loop-at-smaller

@@ -21,22 +21,8 @@ coming c =
     let size = c.size.ensures.value ∙ ap (λ (s : ZoneSizes). s.size) c.spec-spec.ensures.sizes in
     let test = c.loop-at-test.true in
     let end = c.min-end.ensures in
+    let behind = c.saturating_add.ensures in
     measured-next z c.args.first c.loop-at.at c.loop-at.sums c.loop-at.invariant (omega arith)
-
-pub overflow_add-page_end : goal.overflow_add-page_end
-overflow_add-page_end c =
-    let fits = c.ranges.first.fits in
-    omega arith
-
-pub overflow_add-page_end-2 : goal.overflow_add-page_end-2
-overflow_add-page_end-2 c =
-    let base = c.base-base.ensures.value ∙ ap (λ (s : ZoneSizes). s.base) c.spec-spec.ensures.sizes in
-    let size = ap (λ (s : ZoneSizes). s.size) c.spec-spec.ensures.sizes in
-    let low = c.base-base.ensures.value in
-    let within = c.base-base.ensures.possible.within in
-    let end = c.base-base.ensures.possible.end_low_enough in
-    let high = entry_within c.args.zone.now c.args.first c.requires.entry in
-    omega arith
 
 pub loop-at-init : goal.loop-at-init
 loop-at-init c = none_measured c.args.zone.now c.args.first c.requires
@@ -71,7 +57,7 @@ join-sums-requires-clause-few c =
     let size = ap (λ (s : ZoneSizes). s.size) c.spec-spec.ensures.sizes in
     let base = ap (λ (s : ZoneSizes). s.base) c.spec-spec.ensures.sizes in
     let low = c.base-base.ensures.possible.within in
-    let end = c.base-base.ensures.possible.end_low_enough in
+    let end = c.base-base.ensures.reach in
     let below = sum-below z c.args.first c.loop-at.at c.loop-at.sums c.loop-at.invariant in
     omega arith
 
@@ -84,7 +70,7 @@ overflow_add-at c =
     let size = ap (λ (s : ZoneSizes). s.size) c.spec-spec.ensures.sizes in
     let base = ap (λ (s : ZoneSizes). s.base) c.spec-spec.ensures.sizes in
     let low = c.base-base.ensures.possible.within in
-    let end = c.base-base.ensures.possible.end_low_enough in
+    let end = c.base-base.ensures.reach in
     omega arith
 
 pub loop-at-smaller : goal.loop-at-smaller
@@ -105,6 +91,7 @@ loop-at-preserved c =
     let base = c.base-base.ensures.value ∙ ap (λ (s : ZoneSizes). s.base) c.spec-spec.ensures.sizes in
     let test = c.loop-at-test.true in
     let end = c.min-end.ensures in
+    let behind = c.saturating_add.ensures in
     subst (Measured z c.args.first (c.loop-at.at + c.entry_at-here.result.size)) (sym (c.join-sums.ensures ∙ ap (both c.loop-at.sums) c.of.ensures ∙ ap (λ w. both c.loop-at.sums (one w)) c.weigh.ensures))
     (measured-on z c.args.first c.loop-at.at c.loop-at.sums m n c.entry_at-here.result (c.entry_at-here.ensures here) (omega arith))
 
@@ -115,4 +102,5 @@ returns c =
     let size = c.size.ensures.value ∙ ap (λ (s : ZoneSizes). s.size) c.spec-spec.ensures.sizes in
     let test = c.loop-at-test.false in
     let end = c.min-end.ensures in
+    let behind = c.saturating_add.ensures in
     measured-all z c.args.first c.loop-at.at c.loop-at.sums c.loop-at.invariant c.spec-spec.ensures.possible (omega arith)

@@ -39,7 +39,7 @@ join-all-requires-clause-few c =
     let size = ap (λ (s : ZoneSizes). s.size) c.spec-spec.ensures.sizes in
     let base = ap (λ (s : ZoneSizes). s.base) c.spec-spec.ensures.sizes in
     let within = c.base.ensures.possible.within in
-    let end = c.base.ensures.possible.end_low_enough in
+    let end = c.base.ensures.reach in
     let below = walked-bytes z c.loop-at.at c.loop-at.all w in
     let high = page-end z c.loop-at.at c.loop-at.all w c.spec-spec.ensures.possible (coming (goal.at.join-all-requires-clause-few c).In-loop-at) c.page_sums-here.result c.page_sums-here.ensures.sums in
     omega arith
@@ -50,7 +50,7 @@ overflow_add-at-in-loop-at c =
     let size = ap (λ (s : ZoneSizes). s.size) c.spec-spec.ensures.sizes in
     let base = ap (λ (s : ZoneSizes). s.base) c.spec-spec.ensures.sizes in
     let within = c.base.ensures.possible.within in
-    let end = c.base.ensures.possible.end_low_enough in
+    let end = c.base.ensures.reach in
     let high = page-end z c.loop-at.at c.loop-at.all c.loop-at.invariant.0 c.spec-spec.ensures.possible (coming (goal.at.overflow_add-at-in-loop-at c).In-loop-at) c.page_sums-here.result c.page_sums-here.ensures.sums in
     omega arith
 

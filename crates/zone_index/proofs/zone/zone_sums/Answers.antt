@@ -1,5 +1,5 @@
 use Rattle.std.proofs.Common.{◌∙◌}
-use Rattle.zone_index.proofs.Reports.{reports-space, reports-room, reports-contiguous}
+use Rattle.zone_index.proofs.Reports.{reports-space, reports-contiguous}
 use Rattle.zone_index.proofs.zone.zone_sums.Goals as goal
 
 pub returns-clause-space : goal.returns-clause-space
@@ -7,12 +7,7 @@ returns-clause-space c =
     let z = c.args.zone.now in
     reports-space z.heap.table z.heap.map c.all_pages-all.result c.all_pages-all.ensures.sums z.shape c.spec-spec.ensures.fits.coherent
 
-pub returns-clause-room : goal.returns-clause-room
-returns-clause-room c =
-    let z = c.args.zone.now in
-    c.most.ensures ∙ reports-room z.heap.table z.heap.map c.all_pages-all.result c.all_pages-all.ensures.sums
-
 pub returns-clause-contiguous : goal.returns-clause-contiguous
 returns-clause-contiguous c =
     let z = c.args.zone.now in
-    c.most-2.ensures ∙ reports-contiguous z.heap.table z.heap.map c.all_pages-all.result c.all_pages-all.ensures.sums z.shape c.spec-spec.ensures.fits.coherent
+    c.most.ensures ∙ reports-contiguous z.heap.table z.heap.map c.all_pages-all.result c.all_pages-all.ensures.sums z.shape c.spec-spec.ensures.fits.coherent

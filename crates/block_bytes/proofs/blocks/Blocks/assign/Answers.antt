@@ -1,6 +1,6 @@
 use Rattle.std.proofs.Common.{◌≡◌, ◌-◌, ◌/◌, ◌≤◌, ◌∷◌, ◌++◌, length, length-set, length-drop, refl, ap, ◌∙◌, subst, arith, ℕ}
 use Rattle.std.proofs.Math.ListN.{set}
-use Rattle.mac_base.specs.HeadKind.{head_size}
+use Rattle.mac_base.specs.HeadKind.{address_end, head_size}
 use Rattle.raw_region.specs.State.{State}
 use Rattle.block_bytes.specs.declared.header.Header.{Header}
 use Rattle.block_bytes.specs.declared.header.Role.{Role}
@@ -39,7 +39,7 @@ set_header-requires-clause-free c = let h = IsHere-from c.self.inside c.self.inv
     h.unlent (c.args.at - c.base-base.result) (head_size c.heads-heads.result) (omega arith) (ap head_size c.heads-heads.ensures)
 
 pub set_header-requires-clause-size : goal.set_header-requires-clause-size
-set_header-requires-clause-size c = let h = IsHere-from c.self.inside c.self.invariant c.args.self.now c.self.view_is c.args.at c.entry_at-old.result c.requires.block (c.entry_at-old.ensures c.requires.block) in omega arith
+set_header-requires-clause-size c = let h = IsHere-from c.self.inside c.self.invariant c.args.self.now c.self.view_is c.args.at c.entry_at-old.result c.requires.block (c.entry_at-old.ensures c.requires.block) in let end = ap address_end c.heads-heads.ensures in omega arith
 
 pub set_header-requires-clause-correction : goal.set_header-requires-clause-correction
 set_header-requires-clause-correction c = let o = over c.args.self.now c.args.at c.args.role c.args.length c.requires c.entry_at-old.result (c.entry_at-old.ensures c.requires.block) in let few = o.1 in

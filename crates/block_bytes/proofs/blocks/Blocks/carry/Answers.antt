@@ -1,7 +1,7 @@
 use Rattle.std.proofs.Common.{◌≡◌, ℕ, ◌+◌, ◌-◌, ◌/◌, ◌<◌, ◌≤◌, List, [], ◌∷◌, ◌++◌, length, take, drop, replicate, slice_index, refl, ap, sym, ◌∙◌, subst, arith, append_assoc, length-set, IsTrue, IsFalse}
 use Rattle.std.proofs.Math.ListN.{set}
 use Rattle.mac_base.specs.declared.block.HeadKind.{HeadKind}
-use Rattle.mac_base.specs.HeadKind.{head_size}
+use Rattle.mac_base.specs.HeadKind.{address_end, head_size}
 use Rattle.mac_base.specs.ZoneSizes.{ArePossible}
 use Rattle.place_numbers.specs.Shifted.{shifted_down}
 use Rattle.raw_region.specs.Bytes.{part}
@@ -64,7 +64,7 @@ lies z whole l is at end header = subst (λ (m : Layout). ParcelAt m at end → 
 pub overflow_add-at : goal.overflow_add-at
 overflow_add-at c = let lie = lies c.self.inside c.self.invariant c.args.self.now c.self.view_is c.args.at c.args.end c.entry_at-header.result c.requires c.entry_at-header.ensures in
     let long = lie.long in let f = lie.from in let above = f.above in let below = f.below in let within = f.within in let small = c.base-base.ensures.possible in let base_is = c.base-base.ensures.value in
-    let high = small.end_low_enough in omega arith
+    let high = c.base-base.ensures.reach in omega arith
 
 pub is_sparse-sparse-requires : goal.is_sparse-sparse-requires
 is_sparse-sparse-requires c = next_block c.args.self.now c.args.at c.args.end (c.args.at + c.entry_at-header.result.size) c.requires
@@ -86,7 +86,7 @@ carry-requires-clause-free c = let lie = lies c.self.inside c.self.invariant c.a
 pub carry-requires-clause-size : goal.carry-requires-clause-size
 carry-requires-clause-size c = let lie = lies c.self.inside c.self.invariant c.args.self.now c.self.view_is c.args.at c.args.end c.entry_at-header.result c.requires c.entry_at-header.ensures in
     let long = lie.long in let f = lie.from in let above = f.above in let below = f.below in let within = f.within in let small = c.base-base.ensures.possible in let base_is = c.base-base.ensures.value in
-    let limit = small.small_enough in let headed = f.headed in let e = ap head_size c.heads-heads.ensures in (omega arith, omega arith)
+    let limit = small.small_enough in let headed = f.headed in let e = ap head_size c.heads-heads.ensures in let end = ap address_end c.heads-heads.ensures in let low = small.base_high_enough in let high = small.end_low_enough in (omega arith, omega arith)
 
 pub carry-requires-clause-correction : goal.carry-requires-clause-correction
 carry-requires-clause-correction c = let lie = lies c.self.inside c.self.invariant c.args.self.now c.self.view_is c.args.at c.args.end c.entry_at-header.result c.requires c.entry_at-header.ensures in

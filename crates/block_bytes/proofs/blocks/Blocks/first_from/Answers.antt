@@ -22,7 +22,7 @@ overflow_mul-result c = let below = (found c).1 in let small = c.base-base.ensur
 
 pub overflow_add-result : goal.overflow_add-result
 overflow_add-result c = let below = (found c).1 in
-    let high = c.base-base.ensures.possible.end_low_enough in let within = c.base-base.ensures.possible.within in let value = c.base-base.ensures.value in omega arith
+    let high = c.base-base.ensures.reach in let within = c.base-base.ensures.possible.within in let value = c.base-base.ensures.value in omega arith
 
 pub returns-clause-first : goal.returns-clause-first
 returns-clause-first c =

@@ -42,7 +42,7 @@ overflow_add-result c =
     let least = least-max c.args.needed c.max.result c.max.ensures in
     let v = (goal.at.overflow_add-result c).After-first_from in
     let lowest = lowest-at c.self.inside c.self.invariant c.args.needed c.max.result least c.in_ok-place.place (first-all c.self.inside.index c.max.result c.search_start-from.result least.1 (lower v) c.in_ok-place.place c.in_ok-place.ensures.first) in
-    let below = lowest.1 in let high = c.base-base.ensures.possible.end_low_enough in let within = c.base-base.ensures.possible.within in let value = c.base-base.ensures.value in omega arith
+    let below = lowest.1 in let high = c.base-base.ensures.reach in let within = c.base-base.ensures.possible.within in let value = c.base-base.ensures.value in omega arith
 
 pub returns-clause-lowest : goal.returns-clause-lowest
 returns-clause-lowest c =

@@ -1,6 +1,6 @@
 use Rattle.std.proofs.Common.{◌≡◌, ◌+◌, ◌-◌, ◌/◌, ◌∷◌, ◌++◌, List, ℕ, length, length-set, refl, ap, ◌∙◌, subst, arith}
 use Rattle.std.proofs.Math.ListN.{set}
-use Rattle.mac_base.specs.HeadKind.{head_size}
+use Rattle.mac_base.specs.HeadKind.{address_end, head_size}
 use Rattle.raw_region.specs.State.{State}
 use Rattle.block_bytes.specs.declared.header.Header.{Header}
 use Rattle.block_bytes.specs.Head.{most_over, head_bytes}
@@ -60,7 +60,7 @@ set_header-requires-clause-size c =
     let first = first-block c.args.self.now c.args.at c.requires.pair in let one = c.entry_at-first.ensures first in
     let h = IsHere-from c.self.inside c.self.invariant c.args.self.now c.self.view_is c.args.at c.entry_at-first.result first one in
     let next = next-block c.args.self.now c.args.at (c.args.at + c.entry_at-first.result.size) c.requires.pair (ap (λ (h : Header). c.args.at + h.size) one) in let two = c.entry_at-second.ensures next in
-    let h' = IsHere-from c.self.inside c.self.invariant c.args.self.now c.self.view_is (c.args.at + c.entry_at-first.result.size) c.entry_at-second.result next two in omega arith
+    let h' = IsHere-from c.self.inside c.self.invariant c.args.self.now c.self.view_is (c.args.at + c.entry_at-first.result.size) c.entry_at-second.result next two in let end = ap address_end c.heads-heads.ensures in omega arith
 
 pub set_header-requires-clause-correction : goal.set_header-requires-clause-correction
 set_header-requires-clause-correction c =

@@ -31,7 +31,7 @@ overflow_mul-result c = let b = (below-end c).below in let small = c.base-base.e
 
 pub overflow_add-result : goal.overflow_add-result
 overflow_add-result c = let b = (below-end c).below in
-    let high = c.base-base.ensures.possible.end_low_enough in let within = c.base-base.ensures.possible.within in let value = c.base-base.ensures.value in omega arith
+    let high = c.base-base.ensures.reach in let within = c.base-base.ensures.possible.within in let value = c.base-base.ensures.value in omega arith
 
 pub returns-clause-next : goal.returns-clause-next
 returns-clause-next c =

@@ -1,7 +1,7 @@
 use Rattle.std.proofs.Common.{◌≡◌, ℕ, ◌+◌, ◌-◌, ◌/◌, ◌<◌, List, [], ◌∷◌, ◌++◌, length, take, drop, replicate, slice_index, ap, sym, ◌∙◌, subst, arith, append_assoc, length-set, IsTrue, IsFalse}
 use Rattle.std.proofs.Math.ListN.{set}
 use Rattle.mac_base.specs.declared.block.HeadKind.{HeadKind}
-use Rattle.mac_base.specs.HeadKind.{head_size}
+use Rattle.mac_base.specs.HeadKind.{address_end, head_size}
 use Rattle.mac_base.specs.ZoneSizes.{ArePossible}
 use Rattle.place_numbers.specs.Shifted.{shifted_up}
 use Rattle.raw_region.specs.Bytes.{part}
@@ -74,7 +74,7 @@ sink-requires-clause-free c = let f = lies c.self.inside c.self.invariant c.args
 pub sink-requires-clause-size : goal.sink-requires-clause-size
 sink-requires-clause-size c = let f = lies c.self.inside c.self.invariant c.args.self.now c.self.view_is c.args.start c.args.at c.entry_at-header.result c.requires c.entry_at-header.ensures in
     let order = c.requires.long in let above = f.above in let below = f.below in let within = f.within in let small = c.base-base.ensures.possible in let base_is = c.base-base.ensures.value in
-    let limit = small.small_enough in let headed = f.headed in let e = ap head_size c.heads-heads.ensures in (omega arith, omega arith)
+    let limit = small.small_enough in let headed = f.headed in let e = ap head_size c.heads-heads.ensures in let end = ap address_end c.heads-heads.ensures in let low = small.base_high_enough in let high = small.end_low_enough in (omega arith, omega arith)
 
 pub sink-requires-clause-correction : goal.sink-requires-clause-correction
 sink-requires-clause-correction c = let f = lies c.self.inside c.self.invariant c.args.self.now c.self.view_is c.args.start c.args.at c.entry_at-header.result c.requires c.entry_at-header.ensures in

@@ -1,6 +1,6 @@
 use Rattle.std.proofs.Common.{◌≡◌, ◌+◌, ◌-◌, ◌/◌, ◌∷◌, ◌++◌, List, ℕ, refl, length, take, drop, sym, ap, ◌∙◌, subst, arith, length-take-le, length-drop, length-set, append-nil, drop-drop, take-append-drop}
 use Rattle.std.proofs.Math.ListN.{set}
-use Rattle.mac_base.specs.HeadKind.{head_size}
+use Rattle.mac_base.specs.HeadKind.{address_end, head_size}
 use Rattle.raw_region.specs.Bytes.{written, length-written}
 use Rattle.raw_region.specs.Span.{Span, IsFree}
 use Rattle.raw_region.specs.State.{State}
@@ -24,7 +24,7 @@ pub set_header-requires-clause-free : goal.set_header-requires-clause-free
 set_header-requires-clause-free c = let h = IsHere-from c.self.inside c.self.invariant c.args.self.now c.self.view_is c.args.at c.entry_at-whole.result c.requires.block (c.entry_at-whole.ensures c.requires.block) in h.unlent (c.args.at - c.base-base.result) (head_size c.heads-heads.result) (omega arith) (ap head_size c.heads-heads.ensures)
 
 pub set_header-requires-clause-size : goal.set_header-requires-clause-size
-set_header-requires-clause-size c = let h = IsHere-from c.self.inside c.self.invariant c.args.self.now c.self.view_is c.args.at c.entry_at-whole.result c.requires.block (c.entry_at-whole.ensures c.requires.block) in let size : c.entry_at-whole.result.size ≡ size_of c.args.self.now.heads c.requires.block.here = ap (λ (h : Header). h.size) (c.entry_at-whole.ensures c.requires.block) in let smaller = c.requires.smaller in let large = c.requires.large in omega arith
+set_header-requires-clause-size c = let h = IsHere-from c.self.inside c.self.invariant c.args.self.now c.self.view_is c.args.at c.entry_at-whole.result c.requires.block (c.entry_at-whole.ensures c.requires.block) in let size : c.entry_at-whole.result.size ≡ size_of c.args.self.now.heads c.requires.block.here = ap (λ (h : Header). h.size) (c.entry_at-whole.ensures c.requires.block) in let smaller = c.requires.smaller in let large = c.requires.large in let end = ap address_end c.heads-heads.ensures in omega arith
 
 pub set_header-requires-clause-correction : goal.set_header-requires-clause-correction
 set_header-requires-clause-correction c = let h = IsHere-from c.self.inside c.self.invariant c.args.self.now c.self.view_is c.args.at c.entry_at-whole.result c.requires.block (c.entry_at-whole.ensures c.requires.block) in let size : c.entry_at-whole.result.size ≡ size_of c.args.self.now.heads c.requires.block.here = ap (λ (h : Header). h.size) (c.entry_at-whole.ensures c.requires.block) in let smaller = c.requires.smaller in let large = c.requires.large in let heads = c.heads-heads.ensures ∙ ap (λ (l : Layout). l.heads) c.self.view_is in let e = ap head_size heads in let e' = ap head_size c.heads-heads.ensures in let e'' = ap head_size (ap (λ (l : Layout). l.heads) c.self.view_is) in let some = head_size-positive c.args.self.now.heads in let p = IsPossible-from c.args.self.now.heads (raw_block c.requires.block.here.role c.args.length (take (c.args.size - head_size c.args.self.now.heads) (body c.requires.block.here))) c.requires.front in
@@ -41,7 +41,7 @@ set_header-requires-2-clause-free c = let h = IsHere-from c.self.inside c.self.i
     (c.args.at - c.base-base.result + c.args.size) (head_size c.heads-heads.result) (omega arith) (omega arith))
 
 pub set_header-requires-2-clause-size : goal.set_header-requires-2-clause-size
-set_header-requires-2-clause-size c = let h = IsHere-from c.self.inside c.self.invariant c.args.self.now c.self.view_is c.args.at c.entry_at-whole.result c.requires.block (c.entry_at-whole.ensures c.requires.block) in omega arith
+set_header-requires-2-clause-size c = let h = IsHere-from c.self.inside c.self.invariant c.args.self.now c.self.view_is c.args.at c.entry_at-whole.result c.requires.block (c.entry_at-whole.ensures c.requires.block) in let end = ap address_end c.heads-heads.ensures in omega arith
 
 pub set-requires : goal.set-requires
 set-requires c = let h = IsHere-from c.self.inside c.self.invariant c.args.self.now c.self.view_is c.args.at c.entry_at-whole.result c.requires.block (c.entry_at-whole.ensures c.requires.block) in let size : c.entry_at-whole.result.size ≡ size_of c.args.self.now.heads c.requires.block.here = ap (λ (h : Header). h.size) (c.entry_at-whole.ensures c.requires.block) in let smaller = c.requires.smaller in let large = c.requires.large in let heads = c.heads-heads.ensures ∙ ap (λ (l : Layout). l.heads) c.self.view_is in let e = ap head_size heads in let e' = ap head_size c.heads-heads.ensures in let e'' = ap head_size (ap (λ (l : Layout). l.heads) c.self.view_is) in let some = head_size-positive c.args.self.now.heads in omega arith

@@ -15,6 +15,16 @@ prove-unreachable-requires c =
     let below = below_limit z c.args.handle c.block_of-at.result c.self.invariant.sound (rw c.linked-linked.ensures at c.block_of-at.ensures) in
     omega (arith, c.if-prove.true)
 
+pub overflow_add-result : goal.overflow_add-result
+overflow_add-result c =
+    let z = c.self.inside.pointers in
+    let base = c.base.ensures.value ∙ ap (λ (s : ZoneSizes). s.base) (rw c.linked-linked.ensures at c.spec-spec.ensures.sizes) in
+    let limit = c.limit.ensures.value ∙ ap (λ (s : ZoneSizes). s.limit) (rw c.linked-linked.ensures at c.spec-spec.ensures.sizes) in
+    let below = below_limit z c.args.handle c.block_of-at.result c.self.invariant.sound (rw c.linked-linked.ensures at c.block_of-at.ensures) in
+    let head = c.head_size.ensures ∙ ap head_size c.heads.ensures ∙ ap (λ (s : ZoneSizes). head_size s.heads) (rw c.linked-linked.ensures at c.spec-spec.ensures.sizes) in
+    let reach = c.base.ensures.reach in
+    omega arith
+
 pub returns : goal.returns
 returns c =
     let z = c.self.inside.pointers in

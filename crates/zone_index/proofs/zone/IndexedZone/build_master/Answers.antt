@@ -27,9 +27,9 @@ invariant_of-self c =
       rooms = subst (λ (z : ZoneState). AreRooms z c.touch.new.self) (sym (c.build_master.ensures room))
           (rooms-master c.self.inside.zone c.self.inside.rooms c.touch.new.self c.self.invariant.rooms c.args.at
           (touched-first c.self.inside.rooms c.touch.new.self c.args.at c.self.view_is c.leaf-leaf.ensures.value c.touch.ensures.sums c.touch.ensures.here c.touch.ensures.others) room.free);
-      pages = pages-kept c.self.inside.pages c.forget.new.pages (c.forget.auto.pages ∙ c.deref_mut.ensures.len) (c.build_master.ensures room)
-          (pages-master c.self.inside.zone c.self.inside.pages.items c.forget.new.pages c.self.invariant.pages c.args.at
-          (forgets-read c.args.at c.args.at c.self.view_is c.deref_mut.ensures.value c.page-page.ensures.value c.page-page.ensures.value c.forget.ensures) room.free);
+      pages = pages-kept c.forget.new.self (c.build_master.ensures room)
+          (pages-master c.self.inside.zone c.self.inside.pages c.forget.new.self c.self.invariant.pages c.args.at
+          (forgets-read c.args.at c.args.at c.self.view_is c.page-page.ensures.value c.page-page.ensures.value c.forget.ensures) room.free);
       lengths = lengths-of c.self.inside.lengths (c.build_master.ensures room) c.self.invariant.lengths;
     }
 

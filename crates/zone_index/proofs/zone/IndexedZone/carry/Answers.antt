@@ -1,8 +1,8 @@
-use Rattle.std.proofs.Common.{◌≡◌, ◌+◌, ◌-◌, ◌/◌, ap, sym, subst, arith, ◌∷◌, IsTrue, ◌++◌, ◌∙◌, ◌<◌, List, length}
+use Rattle.std.proofs.Common.{◌≤◌, ◌≡◌, ◌+◌, ◌-◌, ◌/◌, ap, sym, subst, arith, ◌∷◌, IsTrue, ◌++◌, ◌∙◌, ◌<◌, List, length}
 use Rattle.std.specs.Prelude.{IsTrue, ◌∷◌}
 use Rattle.mac_base.specs.declared.block.Entry.{Entry}
 use Rattle.mac_base.specs.Gap.{is_fixed}
-use Rattle.mac_base.specs.ZoneMap.{total_size}
+use Rattle.mac_base.specs.ZoneMap.{address_behind, total_size}
 use Rattle.mac_base.specs.ZoneSizes.{ArePossible}
 use Rattle.mac_base.specs.ZoneState.{ZoneState}
 use Rattle.linked_zone.specs.Changes.{carried_up}
@@ -23,6 +23,17 @@ use Rattle.zone_index.proofs.RoomsRenewed.{touched-first, touched-next}
 use Rattle.zone_index.proofs.RoomsChanged.{parcel_split, rooms-carry}
 use Rattle.block_sums.specs.declared.span.Span.{Span}
 use Rattle.zone_index.proofs.zone.IndexedZone.carry.Goals as goal
+use Rattle.zone_index.proofs.zone.IndexedZone.carry.Goals.{Start}
+
+-- it ends within the zone
+high : (c : Start) → c.args.end ≤ address_behind c.args.self.now.shape c.args.self.now.heap.map
+high c =
+    let parcel = c.requires.parcel in
+    let place = parcel.place in
+    let long = parcel.long in
+    let ends = part-ends c.args.self.now parcel.before (parcel.here ∷ parcel.blocks ++ parcel.behind) parcel.map in
+    let all = total_size-append parcel.blocks parcel.behind in
+    omega arith
 
 pub invariant_of-self : goal.invariant_of-self
 invariant_of-self c =
@@ -41,9 +52,9 @@ invariant_of-self c =
           subst (λ (z : ZoneState). AreRooms z c.touch-2.new.self) (sym (c.carry-2.ensures parcel))
           (rooms-carry z c.self.inside.rooms c.pass.new.rooms c.touch-2.new.self c.self.invariant.rooms parcel loose (c.args.at + c.entry_at-size.result.size) (ap (λ n. c.args.at + n) size) c.pass.ensures.sums (passed split)
           (touched-next c.pass.new.rooms c.touch.new.self c.touch-2.new.self (c.args.at + total_size parcel.blocks) (touched-first c.pass.new.rooms c.touch.new.self c.args.at c.self.view_is c.leaf-old.ensures.value c.touch.ensures.sums c.touch.ensures.here c.touch.ensures.others) c.self.view_is new c.touch-2.ensures.sums c.touch-2.ensures.here c.touch-2.ensures.others)));
-      pages = pages-kept c.self.inside.pages c.forget.new.pages (c.forget.auto.pages ∙ c.deref_mut.ensures.len) (c.carry-2.ensures parcel)
-          (pages-carry c.self.inside.zone c.self.inside.pages.items c.forget.new.pages c.self.invariant.pages parcel
-          (forgets-read c.args.at c.args.end c.self.view_is c.deref_mut.ensures.value c.page-from.ensures.value c.page_at-to.ensures.value c.forget.ensures));
+      pages = pages-kept c.forget.new.self (c.carry-2.ensures parcel)
+          (pages-carry c.self.inside.zone c.self.inside.pages c.forget.new.self c.self.invariant.pages parcel
+          (forgets-read c.args.at c.args.end c.self.view_is c.page-from.ensures.value c.page_at-to.ensures.value c.forget.ensures));
       lengths = lengths-of c.self.inside.lengths (c.carry-2.ensures parcel) c.self.invariant.lengths;
     }
 
@@ -76,25 +87,13 @@ returns c =
     subst (λ (z : ZoneState). (parcel : ParcelAt z c.args.at c.args.end) → c.carry-2.new.self ≡ carried_up z parcel) c.self.view_is c.carry-2.ensures
 
 pub page_at-to-requires-clause-high : goal.page_at-to-requires-clause-high
-page_at-to-requires-clause-high c =
-    let parcel = c.requires.parcel in
-    let place = parcel.place in
-    let long = parcel.long in
-    let ends = part-ends c.args.self.now parcel.before (parcel.here ∷ parcel.blocks ++ parcel.behind) parcel.map in
-    let all = total_size-append parcel.blocks parcel.behind in
-    omega arith
+page_at-to-requires-clause-high c = high (goal.at.page_at-to-requires-clause-high c).Start
 
 pub leaf_at-new-requires-clause-low : goal.leaf_at-new-requires-clause-low
 leaf_at-new-requires-clause-low c = let place = c.requires.parcel.place in omega arith
 
 pub leaf_at-new-requires-clause-high : goal.leaf_at-new-requires-clause-high
-leaf_at-new-requires-clause-high c =
-    let parcel = c.requires.parcel in
-    let place = parcel.place in
-    let long = parcel.long in
-    let ends = part-ends c.args.self.now parcel.before (parcel.here ∷ parcel.blocks ++ parcel.behind) parcel.map in
-    let all = total_size-append parcel.blocks parcel.behind in
-    omega arith
+leaf_at-new-requires-clause-high c = let end = high (goal.at.leaf_at-new-requires-clause-high c).Start in let long = c.requires.parcel.long in omega arith
 
 pub pass-requires : goal.pass-requires
 pass-requires c =

@@ -4,7 +4,6 @@ use Rattle.mac_base.specs.HandleTable.{bytes_of, with_bytes}
 use Rattle.mac_base.specs.ZoneState.{overwritten}
 use Rattle.zone_index.proofs.Changing.{pages-written}
 use Rattle.zone_index.proofs.Measured.{length-overwritten, lengths-kept, same-with_bytes}
-use Rattle.zone_index.specs.Rooms.{AreRooms}
 use Rattle.zone_index.proofs.RoomsChanged.{rooms-written}
 use Rattle.zone_index.proofs.zone.IndexedZone.contents_mut.Goals as goal
 
@@ -16,7 +15,7 @@ invariant_of-self-lent c ws =
       rooms = rooms-written c.self.inside.zone c.self.inside.rooms c.self.invariant.rooms c.args.block ws;
       pages = (let t = c.self.inside.zone.heap.table in
           let x = c.args.block in
-          let bytes = overwritten (bytes_of t x) ws in pages-written c.self.inside.zone c.self.inside.pages.items c.self.invariant.pages x ws);
+          let bytes = overwritten (bytes_of t x) ws in pages-written c.self.inside.zone c.self.inside.pages c.self.invariant.pages x ws);
       lengths = (let t = c.self.inside.zone.heap.table in
           let x = c.args.block in
           let bytes = overwritten (bytes_of t x) ws in lengths-kept t (with_bytes x bytes t) c.self.inside.lengths c.self.invariant.lengths (same-with_bytes x bytes t (length-overwritten (bytes_of t x) ws)));

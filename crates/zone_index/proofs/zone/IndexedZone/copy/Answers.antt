@@ -17,7 +17,7 @@ invariant_of-self c =
       fixed = keep fixes _ c.self.invariant.fixed;
       purgeable = keep goes _ c.self.invariant.purgeable;
       rooms = subst (λ (z : ZoneState). AreRooms z c.self.inside.rooms) (sym c.copy.ensures) (rooms-copied c.self.inside.zone c.self.inside.rooms c.self.invariant.rooms c.args.from c.args.start c.args.to c.args.offset c.args.count);
-      pages = subst (λ (z : ZoneState). ArePages z c.self.inside.pages.items) (sym c.copy.ensures) (pages-copied c.self.inside.zone c.self.inside.pages.items c.self.invariant.pages c.args.from c.args.start c.args.to c.args.offset c.args.count);
+      pages = subst (λ (z : ZoneState). ArePages z c.self.inside.pages) (sym c.copy.ensures) (pages-copied c.self.inside.zone c.self.inside.pages c.self.invariant.pages c.args.from c.args.start c.args.to c.args.offset c.args.count);
       lengths = (let can = subst (λ (z : ZoneState). CanCopy z c.args.from c.args.start c.args.to c.args.offset c.args.count) (sym c.self.view_is) c.requires in
           lengths-of c.self.inside.lengths c.copy.ensures (lengths-kept c.self.inside.zone.heap.table (copied c.args.from c.args.start c.args.to c.args.offset c.args.count c.self.inside.zone).heap.table c.self.inside.lengths c.self.invariant.lengths (same-copied c.self.inside.zone c.args.from c.args.start c.args.to c.args.offset c.args.count can)));
     }

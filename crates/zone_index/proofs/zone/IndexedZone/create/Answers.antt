@@ -1,4 +1,4 @@
-use Rattle.std.proofs.Common.{◌+◌, ◌/◌, ◌∙◌, ap, sym, subst, set, replicate}
+use Rattle.std.proofs.Common.{◌+◌, ◌/◌, ◌∙◌, ap, sym, subst, arith}
 use Rattle.mac_base.specs.Gap.{is_fixed}
 use Rattle.mac_base.specs.ZoneState.{ZoneState}
 use Rattle.linked_zone.specs.Changes.{bare_zone}
@@ -24,7 +24,7 @@ invariant_of-result c =
           (rooms-created (bare_zone memory c.args.spec) c.in_ok-rooms.rooms (c.limit-2.result / leaf_size + 1) (ap (λ n. n / leaf_size + 1) c.limit-2.ensures.value) c.in_ok-rooms.ensures.0 c.in_ok-rooms.ensures.1);
       pages = record {
         places = c.in_ok-pages.ensures.places ∙ ap (λ n. n / page_size + 1) c.limit-3.ensures.value ∙ sym (ap (λ (z : ZoneState). z.shape.limit / page_size + 1) c.in_ok-zone.ensures);
-        known = λ p s there. absurd (c.in_ok-pages.ensures.unknown p s there);
+        known = λ p s there. absurd (c.in_ok-pages.ensures.unknown p s (omega arith) there);
       };
       lengths = λ x n told. absurd (c.in_ok-lengths.ensures x n told);
     }

@@ -1,12 +1,9 @@
-use Rattle.std.proofs.Common.{refl}
-use Rattle.std.proofs.Common.{ℕ, List, sym, subst, ◌≡◌, ◌+◌, ◌-◌, ◌/◌, ◌≤◌, ◌<◌, length, ◌∙◌, arith}
+use Rattle.std.proofs.Common.{ℕ, List, sym, subst, ◌≡◌, ◌+◌, arith}
 use Rattle.mac_base.specs.ZoneState.{ZoneState}
 use Rattle.zone_index.specs.Marks.{AreMarked}
 use Rattle.zone_index.proofs.Exchanged.{extended-marked}
 use Rattle.zone_index.proofs.Rules.{Rule, fixes, goes}
-use Rattle.std.specs.Prelude.{slice_index, min}
-use Rattle.mac_base.specs.HeadKind.{zone_header}
-use Rattle.mac_base.specs.ZoneMap.{address_behind, total_size}
+use Rattle.mac_base.specs.ZoneMap.{address_behind}
 use Rattle.zone_index.specs.Rooms.{AreRooms}
 use Rattle.zone_index.proofs.Known.{size-known}
 use Rattle.zone_index.proofs.PagesKept.{forgets-read, pages-kept}
@@ -18,22 +15,18 @@ use Rattle.zone_index.proofs.zone.IndexedZone.extend.Goals as goal
 
 pub invariant_of-self : goal.invariant_of-self
 invariant_of-self c =
-    let keep : (r : Rule) (marks : List ℕ) → AreMarked r.test c.self.inside.zone marks → AreMarked r.test c.extend.new.self marks = λ r marks are. subst (λ (z : ZoneState). AreMarked r.test z marks) (sym c.extend.ensures) (extended-marked r c.self.inside.zone marks are) in record {
+    let keep : (r : Rule) (marks : List ℕ) → AreMarked r.test c.self.inside.zone marks → AreMarked r.test c.extend.new.self marks = λ r marks are. subst (λ (z : ZoneState). AreMarked r.test z marks) (sym c.extend.ensures) (extended-marked r c.self.inside.zone marks are) in
+    let size = size-known c.self.inside.zone c.spec-spec.result c.spec-spec.ensures.sizes in
+    let base = c.base-base.ensures.value in
+    let long = c.size.ensures.value in
+    let end : c.base-base.result + c.size.result ≡ address_behind c.self.inside.zone.shape c.self.inside.zone.heap.map = omega arith in record {
       fixed = keep fixes _ c.self.invariant.fixed;
       purgeable = keep goes _ c.self.invariant.purgeable;
-      rooms = (let size = size-known c.self.inside.zone c.spec-spec.result c.spec-spec.ensures.sizes in
-          let base = c.base-base.ensures.value in
-          let long = c.size.ensures.value in
-          let end : c.base-base.result + c.size.result ≡ address_behind c.self.inside.zone.shape c.self.inside.zone.heap.map = omega arith in
-          subst (λ (z : ZoneState). AreRooms z c.touch.new.self) (sym c.extend.ensures)
+      rooms = subst (λ (z : ZoneState). AreRooms z c.touch.new.self) (sym c.extend.ensures)
           (rooms-extended c.self.inside.zone c.self.inside.rooms c.touch.new.self c.self.invariant.rooms end
-          (touched-first c.self.inside.rooms c.touch.new.self (c.base-base.result + c.size.result) c.self.view_is c.leaf_at-leaf.ensures.value c.touch.ensures.sums c.touch.ensures.here c.touch.ensures.others)));
-      pages = (let size = size-known c.self.inside.zone c.spec-spec.result c.spec-spec.ensures.sizes in
-          let base = c.base-base.ensures.value in
-          let long = c.size.ensures.value in
-          let end : c.base-base.result + c.size.result ≡ address_behind c.self.inside.zone.shape c.self.inside.zone.heap.map = omega arith in
-          pages-kept c.self.inside.pages c.forget.new.pages (c.forget.auto.pages ∙ c.deref_mut.ensures.len) c.extend.ensures
-          (pages-extended c.self.inside.zone c.self.inside.pages.items c.forget.new.pages c.self.invariant.pages end
-          (forgets-read (c.base-base.result + c.size.result) (c.base-base.result + c.size.result) c.self.view_is c.deref_mut.ensures.value c.page_at-page.ensures.value c.page_at-page.ensures.value c.forget.ensures)));
+          (touched-first c.self.inside.rooms c.touch.new.self (c.base-base.result + c.size.result) c.self.view_is c.leaf_at-leaf.ensures.value c.touch.ensures.sums c.touch.ensures.here c.touch.ensures.others));
+      pages = pages-kept c.forget.new.self c.extend.ensures
+          (pages-extended c.self.inside.zone c.self.inside.pages c.forget.new.self c.self.invariant.pages end
+          (forgets-read (c.base-base.result + c.size.result) (c.base-base.result + c.size.result) c.self.view_is c.page_at-page.ensures.value c.page_at-page.ensures.value c.forget.ensures));
       lengths = lengths-of c.self.inside.lengths c.extend.ensures c.self.invariant.lengths;
     }

@@ -18,7 +18,7 @@ invariant_of-self c =
       fixed = keep fixes _ c.self.invariant.fixed;
       purgeable = keep goes _ c.self.invariant.purgeable;
       rooms = subst (λ (z : ZoneState). AreRooms z c.self.inside.rooms) (sym c.give_back.ensures) (rooms-returned c.self.inside.zone c.self.inside.rooms c.self.invariant.rooms c.args.block c.args.loan.bytes);
-      pages = subst (λ (z : ZoneState). ArePages z c.self.inside.pages.items) (sym c.give_back.ensures) (pages-returned c.self.inside.zone c.self.inside.pages.items c.self.invariant.pages c.args.block c.args.loan.bytes);
+      pages = subst (λ (z : ZoneState). ArePages z c.self.inside.pages) (sym c.give_back.ensures) (pages-returned c.self.inside.zone c.self.inside.pages c.self.invariant.pages c.args.block c.args.loan.bytes);
       lengths = (let loan = subst (λ (z : ZoneState). IsLoanOf z c.args.block c.args.loan) (sym c.self.view_is) c.requires in
           lengths-of c.self.inside.lengths c.give_back.ensures (lengths-kept c.self.inside.zone.heap.table (returned c.args.block c.args.loan.bytes c.self.inside.zone.heap).table c.self.inside.lengths c.self.invariant.lengths (same-with_bytes c.args.block c.args.loan.bytes c.self.inside.zone.heap.table loan.long)));
     }

@@ -1,4 +1,4 @@
-use Rattle.std.proofs.Common.{ℕ, List, ◌≡◌, ap, sym, subst, ◌+◌, ◌∷◌, true, arith, ◌∙◌, refl}
+use Rattle.std.proofs.Common.{◌≤◌, ℕ, List, ◌≡◌, ap, sym, subst, ◌+◌, ◌∷◌, true, arith, refl}
 use Rattle.mac_base.specs.ZoneState.{ZoneState}
 use Rattle.linked_zone.specs.Changes.{enlarged}
 use Rattle.linked_zone.specs.Places.{CanGrow, EntryAt, NamedAt}
@@ -7,7 +7,7 @@ use Rattle.zone_index.proofs.Exchanged.{enlarged-marked}
 use Rattle.zone_index.proofs.Rules.{Rule, fixes, goes}
 use Rattle.mac_base.specs.declared.block.Kind.TheVariants.{Free}
 use Rattle.mac_base.specs.HandleTable.{has_block}
-use Rattle.mac_base.specs.ZoneMap.{block}
+use Rattle.mac_base.specs.ZoneMap.{address_behind, block}
 use Rattle.linked_zone.specs.Fit.{Fits}
 use Rattle.zone_index.specs.Rooms.{AreRooms, leaf}
 use Rattle.mac_base.specs.declared.block.Entry.{Entry}
@@ -19,29 +19,38 @@ use Rattle.zone_index.proofs.RoomsRenewed.{touched-first, touched-next}
 use Rattle.zone_index.proofs.RoomsChanged.{grown-entry, rooms-grown}
 use Rattle.zone_index.proofs.Fronts.{entry-high}
 use Rattle.zone_index.proofs.zone.IndexedZone.grow.Goals as goal
+use Rattle.zone_index.proofs.zone.IndexedZone.grow.Goals.{After-page-first}
+
+-- where the block is, and that it ends within the zone
+named : (c : After-page-first) → NamedAt c.args.self.now c.args.block c.place_of-at.result
+named c = subst (λ (z : ZoneState). NamedAt z c.args.block c.place_of-at.result) c.self.view_is c.place_of-at.ensures
+
+high : (c : After-page-first) → c.place_of-at.result + c.args.size ≤ address_behind c.args.self.now.shape c.args.self.now.heap.map
+high c =
+    let can = c.requires.room in
+    named-reach c.args.self.now c.args.block c.place_of-at.result c.args.size c.page-first.ensures.fits (named c) can.before can.here (block Free can.free ∷ can.behind) can.map can.named (let within = can.fits.within in omega arith)
+
+-- and its first bytes
+entry : (c : After-page-first) → EntryAt c.args.self.now c.place_of-at.result
+entry c = let n = named c in record { before = n.before; here = n.here; behind = n.behind; map = n.map; place = n.place }
 
 pub invariant_of-self : goal.invariant_of-self
 invariant_of-self c =
     let can = subst (λ (z : ZoneState). CanGrow z c.args.block c.args.size c.args.length) (sym c.self.view_is) c.requires.room in
-    let keep : (r : Rule) (marks : List ℕ) → AreMarked r.test c.self.inside.zone marks → AreMarked r.test c.grow.new.self marks = λ r marks are. subst (λ (z : ZoneState). AreMarked r.test z marks) (sym (c.grow.ensures can)) (enlarged-marked r c.self.inside.zone marks are can) in record {
+    let keep : (r : Rule) (marks : List ℕ) → AreMarked r.test c.self.inside.zone marks → AreMarked r.test c.grow.new.self marks = λ r marks are. subst (λ (z : ZoneState). AreMarked r.test z marks) (sym (c.grow.ensures can)) (enlarged-marked r c.self.inside.zone marks are can) in
+    let fits = c.spec-spec.ensures.fits in
+    let place = named-place c.self.inside.zone c.args.block c.place_of-at.result fits c.place_of-at.ensures can.before can.here (block Free can.free ∷ can.behind) can.map can.named in record {
       fixed = keep fixes _ c.self.invariant.fixed;
       purgeable = keep goes _ c.self.invariant.purgeable;
-      rooms = (let named = c.place_of-at.ensures in
-          let fits = c.spec-spec.ensures.fits in
-          let place = named-place c.self.inside.zone c.args.block c.place_of-at.result fits named can.before can.here (block Free can.free ∷ can.behind) can.map can.named in
-          let read = ap (λ (e : Entry). e.size) (c.entry_at.ensures (grown-entry c.self.inside.zone can place)) in
+      rooms = (let read = ap (λ (e : Entry). e.size) (c.entry_at.ensures (grown-entry c.self.inside.zone can place)) in
           let middle = subst (λ n. c.leaf_at-middle.result ≡ leaf c.args.self.now.shape (c.place_of-at.result + n)) read c.leaf_at-middle.ensures.value in
           subst (λ (z : ZoneState). AreRooms z c.touch-3.new.self) (sym (c.grow.ensures can))
           (rooms-grown c.self.inside.zone c.self.inside.rooms c.touch-3.new.self c.self.invariant.rooms can place
           (touched-next c.self.inside.rooms c.touch-2.new.self c.touch-3.new.self (c.place_of-at.result + c.args.size) (touched-next c.self.inside.rooms c.touch.new.self c.touch-2.new.self (c.place_of-at.result + can.here.size) (touched-first c.self.inside.rooms c.touch.new.self c.place_of-at.result c.self.view_is c.leaf-low.ensures.value c.touch.ensures.sums c.touch.ensures.here c.touch.ensures.others) c.self.view_is middle c.touch-2.ensures.sums c.touch-2.ensures.here c.touch-2.ensures.others) c.self.view_is c.leaf_at-high.ensures.value c.touch-3.ensures.sums c.touch-3.ensures.here c.touch-3.ensures.others)));
-      pages = (let named = c.place_of-at.ensures in
-          let fits = c.spec-spec.ensures.fits in
-          let place = named-place c.self.inside.zone c.args.block c.place_of-at.result fits named can.before can.here (block Free can.free ∷ can.behind) can.map can.named in
-          pages-kept c.self.inside.pages c.forget.new.pages (c.forget.auto.pages ∙ c.deref_mut.ensures.len) (c.grow.ensures can)
-          (pages-grown c.self.inside.zone c.self.inside.pages.items c.forget.new.pages c.self.invariant.pages can place
-          (forgets-read c.place_of-at.result (c.place_of-at.result + c.args.size) c.self.view_is c.deref_mut.ensures.value c.page-first.ensures.value c.page_at-last.ensures.value c.forget.ensures)));
-      lengths = (let fits = c.spec-spec.ensures.fits in
-          let has = named-owner c.self.inside.zone c.args.block can.before can.here (block Free can.free ∷ can.behind) fits can.map can.named in
+      pages = pages-kept c.forget.new.self (c.grow.ensures can)
+          (pages-grown c.self.inside.zone c.self.inside.pages c.forget.new.self c.self.invariant.pages can place
+          (forgets-read c.place_of-at.result (c.place_of-at.result + c.args.size) c.self.view_is c.page-first.ensures.value c.page_at-last.ensures.value c.forget.ensures));
+      lengths = (let has = named-owner c.self.inside.zone c.args.block can.before can.here (block Free can.free ∷ can.behind) fits can.map can.named in
           lengths-of c.note.new.self (c.grow.ensures can) (lengths-sized c.self.inside.zone.heap.table c.self.inside.lengths c.note.new.self c.args.block c.args.block c.args.length refl c.self.invariant.lengths c.note.ensures has));
     }
 
@@ -57,38 +66,19 @@ place_of-at-requires c =
     (named-owner c.args.self.now c.args.block can.before can.here (block Free can.free ∷ can.behind) (subst Fits same c.spec-spec.ensures.fits) can.map can.named)
 
 pub overflow_add-end : goal.overflow_add-end
-overflow_add-end c =
-    let can = c.requires.room in
-    let named = subst (λ (z : ZoneState). NamedAt z c.args.block c.place_of-at.result) c.self.view_is c.place_of-at.ensures in
-    let high = named-reach c.args.self.now c.args.block c.place_of-at.result c.args.size c.page-first.ensures.fits named can.before can.here (block Free can.free ∷ can.behind) can.map can.named (let within = can.fits.within in omega arith) in
-    let reach = c.page-first.ensures.reach in
-    omega arith
+overflow_add-end c = let end = high (goal.at.overflow_add-end c).After-page-first in let reach = c.page-first.ensures.reach in omega arith
 
 pub page_at-last-requires-clause-low : goal.page_at-last-requires-clause-low
-page_at-last-requires-clause-low c =
-    let same = c.self.view_is in
-    let named = subst (λ (z : ZoneState). NamedAt z c.args.block c.place_of-at.result) same c.place_of-at.ensures in
-    let place = named.place in
-    omega arith
+page_at-last-requires-clause-low c = let place = (named (goal.at.page_at-last-requires-clause-low c).After-page-first).place in omega arith
 
 pub page_at-last-requires-clause-high : goal.page_at-last-requires-clause-high
-page_at-last-requires-clause-high c =
-    let can = c.requires.room in
-    let named = subst (λ (z : ZoneState). NamedAt z c.args.block c.place_of-at.result) c.self.view_is c.place_of-at.ensures in
-    named-reach c.args.self.now c.args.block c.place_of-at.result c.args.size c.page-first.ensures.fits named can.before can.here (block Free can.free ∷ can.behind) can.map can.named (let within = can.fits.within in omega arith)
+page_at-last-requires-clause-high c = high (goal.at.page_at-last-requires-clause-high c).After-page-first
 
 pub leaf_at-high-requires-clause-high : goal.leaf_at-high-requires-clause-high
-leaf_at-high-requires-clause-high c =
-    let can = c.requires.room in
-    let named = subst (λ (z : ZoneState). NamedAt z c.args.block c.place_of-at.result) c.self.view_is c.place_of-at.ensures in
-    named-reach c.args.self.now c.args.block c.place_of-at.result c.args.size c.page-first.ensures.fits named can.before can.here (block Free can.free ∷ can.behind) can.map can.named (let within = can.fits.within in omega arith)
+leaf_at-high-requires-clause-high c = high (goal.at.leaf_at-high-requires-clause-high c).After-page-first
 
 pub leaf_at-high-requires-clause-low : goal.leaf_at-high-requires-clause-low
-leaf_at-high-requires-clause-low c =
-    let same = c.self.view_is in
-    let named = subst (λ (z : ZoneState). NamedAt z c.args.block c.place_of-at.result) same c.place_of-at.ensures in
-    let place = named.place in
-    omega arith
+leaf_at-high-requires-clause-low c = let place = (named (goal.at.leaf_at-high-requires-clause-low c).After-page-first).place in omega arith
 
 pub entry_at-requires : goal.entry_at-requires
 entry_at-requires c =
@@ -97,23 +87,18 @@ entry_at-requires c =
 
 pub overflow_add-behind : goal.overflow_add-behind
 overflow_add-behind c =
-    let named = subst (λ (z : ZoneState). NamedAt z c.args.block c.place_of-at.result) c.self.view_is c.place_of-at.ensures in
-    let e : EntryAt c.args.self.now c.place_of-at.result = record { before = named.before; here = named.here; behind = named.behind; map = named.map; place = named.place } in
+    let e = entry (goal.at.overflow_add-behind c).After-page-first in
     let read = ap (λ (e : Entry). e.size) (subst (λ (z : ZoneState). (e : EntryAt z c.place_of-at.result) → c.entry_at.result ≡ e.here) c.self.view_is c.entry_at.ensures e) in
     let high = entry-high c.args.self.now c.place_of-at.result e in
     let reach = c.page-first.ensures.reach in
     omega arith
 
 pub leaf_at-middle-requires-clause-low : goal.leaf_at-middle-requires-clause-low
-leaf_at-middle-requires-clause-low c =
-    let named = subst (λ (z : ZoneState). NamedAt z c.args.block c.place_of-at.result) c.self.view_is c.place_of-at.ensures in
-    let place = named.place in
-    omega arith
+leaf_at-middle-requires-clause-low c = let place = (named (goal.at.leaf_at-middle-requires-clause-low c).After-page-first).place in omega arith
 
 pub leaf_at-middle-requires-clause-high : goal.leaf_at-middle-requires-clause-high
 leaf_at-middle-requires-clause-high c =
-    let named = subst (λ (z : ZoneState). NamedAt z c.args.block c.place_of-at.result) c.self.view_is c.place_of-at.ensures in
-    let e : EntryAt c.args.self.now c.place_of-at.result = record { before = named.before; here = named.here; behind = named.behind; map = named.map; place = named.place } in
+    let e = entry (goal.at.leaf_at-middle-requires-clause-high c).After-page-first in
     let read = ap (λ (e : Entry). e.size) (subst (λ (z : ZoneState). (e : EntryAt z c.place_of-at.result) → c.entry_at.result ≡ e.here) c.self.view_is c.entry_at.ensures e) in
     let high = entry-high c.args.self.now c.place_of-at.result e in
     omega arith

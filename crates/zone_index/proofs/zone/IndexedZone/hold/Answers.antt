@@ -1,5 +1,6 @@
-use Rattle.std.proofs.Common.{ℕ, List, ◌≡◌, sym, subst, ◌+◌, true, arith, ◌∷◌, ◌∙◌, refl}
+use Rattle.std.proofs.Common.{◌≤◌, ℕ, List, ◌≡◌, sym, subst, ◌+◌, true, arith, refl}
 use Rattle.mac_base.specs.ZoneState.{ZoneState}
+use Rattle.mac_base.specs.ZoneMap.{address_behind}
 use Rattle.linked_zone.specs.Changes.{held_there}
 use Rattle.linked_zone.specs.Places.{CanHold, NamedAt}
 use Rattle.zone_index.specs.Marks.{AreMarked}
@@ -15,27 +16,32 @@ use Rattle.zone_index.proofs.Measured.{lengths-of, lengths-sized}
 use Rattle.zone_index.proofs.RoomsRenewed.{touched-first, touched-next}
 use Rattle.zone_index.proofs.RoomsChanged.{rooms-held}
 use Rattle.zone_index.proofs.zone.IndexedZone.hold.Goals as goal
+use Rattle.zone_index.proofs.zone.IndexedZone.hold.Goals.{After-page-first}
+
+-- where the block is, and that it ends within the zone
+named : (c : After-page-first) → NamedAt c.args.self.now c.args.block c.place_of-at.result
+named c = subst (λ (z : ZoneState). NamedAt z c.args.block c.place_of-at.result) c.self.view_is c.place_of-at.ensures
+
+high : (c : After-page-first) → c.place_of-at.result + c.args.size ≤ address_behind c.args.self.now.shape c.args.self.now.heap.map
+high c =
+    let can = c.requires.room in
+    named-reach c.args.self.now c.args.block c.place_of-at.result c.args.size c.page-first.ensures.fits (named c) can.before can.here can.behind can.map can.named (let within = can.fits.within in omega arith)
 
 pub invariant_of-self : goal.invariant_of-self
 invariant_of-self c =
     let can = subst (λ (z : ZoneState). CanHold z c.args.block c.args.size c.args.length) (sym c.self.view_is) c.requires.room in
-    let keep : (r : Rule) (marks : List ℕ) → AreMarked r.test c.self.inside.zone marks → AreMarked r.test c.hold.new.self marks = λ r marks are. subst (λ (z : ZoneState). AreMarked r.test z marks) (sym (c.hold.ensures can)) (held-marked r c.self.inside.zone marks are can) in record {
+    let keep : (r : Rule) (marks : List ℕ) → AreMarked r.test c.self.inside.zone marks → AreMarked r.test c.hold.new.self marks = λ r marks are. subst (λ (z : ZoneState). AreMarked r.test z marks) (sym (c.hold.ensures can)) (held-marked r c.self.inside.zone marks are can) in
+    let fits = c.spec-spec.ensures.fits in
+    let place = named-place c.self.inside.zone c.args.block c.place_of-at.result fits c.place_of-at.ensures can.before can.here can.behind can.map can.named in record {
       fixed = keep fixes _ c.self.invariant.fixed;
       purgeable = keep goes _ c.self.invariant.purgeable;
-      rooms = (let named = c.place_of-at.ensures in
-          let fits = c.spec-spec.ensures.fits in
-          let place = named-place c.self.inside.zone c.args.block c.place_of-at.result fits named can.before can.here can.behind can.map can.named in
-          subst (λ (z : ZoneState). AreRooms z c.touch-2.new.self) (sym (c.hold.ensures can))
+      rooms = subst (λ (z : ZoneState). AreRooms z c.touch-2.new.self) (sym (c.hold.ensures can))
           (rooms-held c.self.inside.zone c.self.inside.rooms c.touch-2.new.self c.self.invariant.rooms can place
-          (touched-next c.self.inside.rooms c.touch.new.self c.touch-2.new.self (c.place_of-at.result + c.args.size) (touched-first c.self.inside.rooms c.touch.new.self c.place_of-at.result c.self.view_is c.leaf-low.ensures.value c.touch.ensures.sums c.touch.ensures.here c.touch.ensures.others) c.self.view_is c.leaf_at-high.ensures.value c.touch-2.ensures.sums c.touch-2.ensures.here c.touch-2.ensures.others)));
-      pages = (let named = c.place_of-at.ensures in
-          let fits = c.spec-spec.ensures.fits in
-          let place = named-place c.self.inside.zone c.args.block c.place_of-at.result fits named can.before can.here can.behind can.map can.named in
-          pages-kept c.self.inside.pages c.forget.new.pages (c.forget.auto.pages ∙ c.deref_mut.ensures.len) (c.hold.ensures can)
-          (pages-held c.self.inside.zone c.self.inside.pages.items c.forget.new.pages c.self.invariant.pages can place
-          (forgets-read c.place_of-at.result (c.place_of-at.result + c.args.size) c.self.view_is c.deref_mut.ensures.value c.page-first.ensures.value c.page_at-last.ensures.value c.forget.ensures)));
-      lengths = (let fits = c.spec-spec.ensures.fits in
-          let has = named-owner c.self.inside.zone c.args.block can.before can.here can.behind fits can.map can.named in
+          (touched-next c.self.inside.rooms c.touch.new.self c.touch-2.new.self (c.place_of-at.result + c.args.size) (touched-first c.self.inside.rooms c.touch.new.self c.place_of-at.result c.self.view_is c.leaf-low.ensures.value c.touch.ensures.sums c.touch.ensures.here c.touch.ensures.others) c.self.view_is c.leaf_at-high.ensures.value c.touch-2.ensures.sums c.touch-2.ensures.here c.touch-2.ensures.others));
+      pages = pages-kept c.forget.new.self (c.hold.ensures can)
+          (pages-held c.self.inside.zone c.self.inside.pages c.forget.new.self c.self.invariant.pages can place
+          (forgets-read c.place_of-at.result (c.place_of-at.result + c.args.size) c.self.view_is c.page-first.ensures.value c.page_at-last.ensures.value c.forget.ensures));
+      lengths = (let has = named-owner c.self.inside.zone c.args.block can.before can.here can.behind fits can.map can.named in
           lengths-of c.note.new.self (c.hold.ensures can) (lengths-sized c.self.inside.zone.heap.table c.self.inside.lengths c.note.new.self c.args.block c.args.block c.args.length refl c.self.invariant.lengths c.note.ensures has));
     }
 
@@ -51,35 +57,16 @@ place_of-at-requires c =
     (named-owner c.args.self.now c.args.block can.before can.here can.behind (subst Fits same c.spec-spec.ensures.fits) can.map can.named)
 
 pub overflow_add-end : goal.overflow_add-end
-overflow_add-end c =
-    let can = c.requires.room in
-    let named = subst (λ (z : ZoneState). NamedAt z c.args.block c.place_of-at.result) c.self.view_is c.place_of-at.ensures in
-    let high = named-reach c.args.self.now c.args.block c.place_of-at.result c.args.size c.page-first.ensures.fits named can.before can.here can.behind can.map can.named (let within = can.fits.within in omega arith) in
-    let reach = c.page-first.ensures.reach in
-    omega arith
+overflow_add-end c = let end = high (goal.at.overflow_add-end c).After-page-first in let reach = c.page-first.ensures.reach in omega arith
 
 pub page_at-last-requires-clause-low : goal.page_at-last-requires-clause-low
-page_at-last-requires-clause-low c =
-    let same = c.self.view_is in
-    let named = subst (λ (z : ZoneState). NamedAt z c.args.block c.place_of-at.result) same c.place_of-at.ensures in
-    let place = named.place in
-    omega arith
+page_at-last-requires-clause-low c = let place = (named (goal.at.page_at-last-requires-clause-low c).After-page-first).place in omega arith
 
 pub page_at-last-requires-clause-high : goal.page_at-last-requires-clause-high
-page_at-last-requires-clause-high c =
-    let can = c.requires.room in
-    let named = subst (λ (z : ZoneState). NamedAt z c.args.block c.place_of-at.result) c.self.view_is c.place_of-at.ensures in
-    named-reach c.args.self.now c.args.block c.place_of-at.result c.args.size c.page-first.ensures.fits named can.before can.here can.behind can.map can.named (let within = can.fits.within in omega arith)
+page_at-last-requires-clause-high c = high (goal.at.page_at-last-requires-clause-high c).After-page-first
 
 pub leaf_at-high-requires-clause-high : goal.leaf_at-high-requires-clause-high
-leaf_at-high-requires-clause-high c =
-    let can = c.requires.room in
-    let named = subst (λ (z : ZoneState). NamedAt z c.args.block c.place_of-at.result) c.self.view_is c.place_of-at.ensures in
-    named-reach c.args.self.now c.args.block c.place_of-at.result c.args.size c.page-first.ensures.fits named can.before can.here can.behind can.map can.named (let within = can.fits.within in omega arith)
+leaf_at-high-requires-clause-high c = high (goal.at.leaf_at-high-requires-clause-high c).After-page-first
 
 pub leaf_at-high-requires-clause-low : goal.leaf_at-high-requires-clause-low
-leaf_at-high-requires-clause-low c =
-    let same = c.self.view_is in
-    let named = subst (λ (z : ZoneState). NamedAt z c.args.block c.place_of-at.result) same c.place_of-at.ensures in
-    let place = named.place in
-    omega arith
+leaf_at-high-requires-clause-low c = let place = (named (goal.at.leaf_at-high-requires-clause-low c).After-page-first).place in omega arith

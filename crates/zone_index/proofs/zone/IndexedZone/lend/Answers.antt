@@ -16,6 +16,6 @@ invariant_of-self c =
       fixed = keep fixes _ c.self.invariant.fixed;
       purgeable = keep goes _ c.self.invariant.purgeable;
       rooms = subst (λ (z : ZoneState). AreRooms z c.self.inside.rooms) (sym c.lend.ensures.zone) (rooms-lent c.self.inside.zone c.self.inside.rooms c.self.invariant.rooms c.args.block);
-      pages = subst (λ (z : ZoneState). ArePages z c.self.inside.pages.items) (sym c.lend.ensures.zone) (pages-lent c.self.inside.zone c.self.inside.pages.items c.self.invariant.pages c.args.block);
+      pages = subst (λ (z : ZoneState). ArePages z c.self.inside.pages) (sym c.lend.ensures.zone) (pages-lent c.self.inside.zone c.self.inside.pages c.self.invariant.pages c.args.block);
       lengths = lengths-of c.self.inside.lengths c.lend.ensures.zone c.self.invariant.lengths;
     }

@@ -1,4 +1,4 @@
-use Rattle.std.proofs.Common.{◌<◌, ◌∙◌, ap, subst, arith}
+use Rattle.std.proofs.Common.{◌∙◌, ap, arith}
 use Rattle.mac_base.specs.ZoneMap.{free_bytes}
 use Rattle.mac_base.specs.ZoneState.{ZoneState}
 use Rattle.zone_index.proofs.Found.{none-lowest}

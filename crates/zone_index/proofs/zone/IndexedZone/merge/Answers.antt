@@ -1,4 +1,4 @@
-use Rattle.std.proofs.Common.{ℕ, List, ◌≡◌, sym, subst, ◌+◌, ◌∷◌, ◌∙◌, arith}
+use Rattle.std.proofs.Common.{◌≤◌, ℕ, List, ◌≡◌, sym, subst, ◌+◌, ◌∷◌, arith}
 use Rattle.mac_base.specs.ZoneState.{ZoneState}
 use Rattle.linked_zone.specs.Changes.{joined_pair}
 use Rattle.linked_zone.specs.Places.{FreePair, FreeAt}
@@ -7,7 +7,7 @@ use Rattle.zone_index.proofs.Exchanged.{joined-marked}
 use Rattle.zone_index.proofs.Rules.{Rule, fixes, goes}
 use Rattle.zone_index.specs.Rooms.{AreRooms, leaf}
 use Rattle.mac_base.specs.declared.block.Kind.TheVariants.{Free}
-use Rattle.mac_base.specs.ZoneMap.{block}
+use Rattle.mac_base.specs.ZoneMap.{address_behind, block}
 use Rattle.zone_index.specs.Pages.{page}
 use Rattle.zone_index.proofs.PagesKept.{forgets-read, pages-kept, part-ends}
 use Rattle.zone_index.proofs.Changed.{first_free}
@@ -16,22 +16,31 @@ use Rattle.zone_index.proofs.Measured.{lengths-of}
 use Rattle.zone_index.proofs.RoomsRenewed.{touched-first, touched-next}
 use Rattle.zone_index.proofs.RoomsChanged.{rooms-merge}
 use Rattle.zone_index.proofs.zone.IndexedZone.merge.Goals as goal
+use Rattle.zone_index.proofs.zone.IndexedZone.merge.Goals.{After-free_size}
+
+-- it ends within the zone
+high : (c : After-free_size) → c.args.at + c.free_size.result ≤ address_behind c.args.self.now.shape c.args.self.now.heap.map
+high c =
+    let pair = c.requires in
+    let place = pair.place in
+    let size = subst (λ (z : ZoneState). (f : FreeAt z c.args.at) → c.free_size.result ≡ f.size) c.self.view_is c.free_size.ensures (first_free c.args.self.now pair) in
+    let ends = part-ends c.args.self.now pair.before (block Free pair.first ∷ block Free pair.second ∷ pair.behind) pair.map in
+    omega arith
 
 pub invariant_of-self : goal.invariant_of-self
 invariant_of-self c =
     let pair = subst (λ (z : ZoneState). FreePair z c.args.at) (sym c.self.view_is) c.requires in
-    let keep : (r : Rule) (marks : List ℕ) → AreMarked r.test c.self.inside.zone marks → AreMarked r.test c.merge.new.self marks = λ r marks are. subst (λ (z : ZoneState). AreMarked r.test z marks) (sym (c.merge.ensures pair)) (joined-marked r c.self.inside.zone marks are c.args.at pair) in record {
+    let keep : (r : Rule) (marks : List ℕ) → AreMarked r.test c.self.inside.zone marks → AreMarked r.test c.merge.new.self marks = λ r marks are. subst (λ (z : ZoneState). AreMarked r.test z marks) (sym (c.merge.ensures pair)) (joined-marked r c.self.inside.zone marks are c.args.at pair) in
+    let size = c.free_size.ensures (first_free c.self.inside.zone pair) in record {
       fixed = keep fixes _ c.self.invariant.fixed;
       purgeable = keep goes _ c.self.invariant.purgeable;
-      rooms = (let size = c.free_size.ensures (first_free c.self.inside.zone pair) in
-          subst (λ (z : ZoneState). AreRooms z c.touch-2.new.self) (sym (c.merge.ensures pair))
+      rooms = subst (λ (z : ZoneState). AreRooms z c.touch-2.new.self) (sym (c.merge.ensures pair))
           (rooms-merge c.self.inside.zone c.self.inside.rooms c.touch-2.new.self c.self.invariant.rooms pair
-          (touched-next c.self.inside.rooms c.touch.new.self c.touch-2.new.self (c.args.at + pair.first) (touched-first c.self.inside.rooms c.touch.new.self c.args.at c.self.view_is c.leaf-low.ensures.value c.touch.ensures.sums c.touch.ensures.here c.touch.ensures.others) c.self.view_is (subst (λ n. c.leaf_at-high.result ≡ leaf c.args.self.now.shape (c.args.at + n)) size c.leaf_at-high.ensures.value) c.touch-2.ensures.sums c.touch-2.ensures.here c.touch-2.ensures.others)));
-      pages = (let size = c.free_size.ensures (first_free c.self.inside.zone pair) in
-          pages-kept c.self.inside.pages c.forget.new.pages (c.forget.auto.pages ∙ c.deref_mut.ensures.len) (c.merge.ensures pair)
-          (pages-merge c.self.inside.zone c.self.inside.pages.items c.forget.new.pages c.self.invariant.pages pair
-          (forgets-read c.args.at (c.args.at + pair.first) c.self.view_is c.deref_mut.ensures.value c.page-first.ensures.value
-          (subst (λ n. c.page_at-last.result ≡ page c.args.self.now.shape (c.args.at + n)) size c.page_at-last.ensures.value) c.forget.ensures)));
+          (touched-next c.self.inside.rooms c.touch.new.self c.touch-2.new.self (c.args.at + pair.first) (touched-first c.self.inside.rooms c.touch.new.self c.args.at c.self.view_is c.leaf-low.ensures.value c.touch.ensures.sums c.touch.ensures.here c.touch.ensures.others) c.self.view_is (subst (λ n. c.leaf_at-high.result ≡ leaf c.args.self.now.shape (c.args.at + n)) size c.leaf_at-high.ensures.value) c.touch-2.ensures.sums c.touch-2.ensures.here c.touch-2.ensures.others));
+      pages = pages-kept c.forget.new.self (c.merge.ensures pair)
+          (pages-merge c.self.inside.zone c.self.inside.pages c.forget.new.self c.self.invariant.pages pair
+          (forgets-read c.args.at (c.args.at + pair.first) c.self.view_is c.page-first.ensures.value
+          (subst (λ n. c.page_at-last.result ≡ page c.args.self.now.shape (c.args.at + n)) size c.page_at-last.ensures.value) c.forget.ensures));
       lengths = lengths-of c.self.inside.lengths (c.merge.ensures pair) c.self.invariant.lengths;
     }
 
@@ -40,26 +49,10 @@ returns c =
     subst (λ (z : ZoneState). (pair : FreePair z c.args.at) → c.merge.new.self ≡ joined_pair z pair) c.self.view_is c.merge.ensures
 
 pub overflow_add-behind : goal.overflow_add-behind
-overflow_add-behind c =
-    let pair = c.requires in
-    let place = pair.place in
-    let size = subst (λ (z : ZoneState). (f : FreeAt z c.args.at) → c.free_size.result ≡ f.size) (c.self.view_is) c.free_size.ensures (first_free c.args.self.now pair) in
-    let reach = c.page-first.ensures.reach in
-    let ends = part-ends c.args.self.now pair.before (block Free pair.first ∷ block Free pair.second ∷ pair.behind) pair.map in
-    omega arith
+overflow_add-behind c = let end = high (goal.at.overflow_add-behind c).After-free_size in let reach = c.page-first.ensures.reach in omega arith
 
 pub page_at-last-requires-clause-high : goal.page_at-last-requires-clause-high
-page_at-last-requires-clause-high c =
-    let pair = c.requires in
-    let place = pair.place in
-    let size = subst (λ (z : ZoneState). (f : FreeAt z c.args.at) → c.free_size.result ≡ f.size) (c.self.view_is) c.free_size.ensures (first_free c.args.self.now pair) in
-    let ends = part-ends c.args.self.now pair.before (block Free pair.first ∷ block Free pair.second ∷ pair.behind) pair.map in
-    omega arith
+page_at-last-requires-clause-high c = high (goal.at.page_at-last-requires-clause-high c).After-free_size
 
 pub leaf_at-high-requires-clause-high : goal.leaf_at-high-requires-clause-high
-leaf_at-high-requires-clause-high c =
-    let pair = c.requires in
-    let place = pair.place in
-    let size = subst (λ (z : ZoneState). (f : FreeAt z c.args.at) → c.free_size.result ≡ f.size) (c.self.view_is) c.free_size.ensures (first_free c.args.self.now pair) in
-    let ends = part-ends c.args.self.now pair.before (block Free pair.first ∷ block Free pair.second ∷ pair.behind) pair.map in
-    omega arith
+leaf_at-high-requires-clause-high c = high (goal.at.leaf_at-high-requires-clause-high c).After-free_size

@@ -13,12 +13,11 @@ use Rattle.zone_index.proofs.zone.IndexedZone.release.Goals as goal
 
 pub invariant_of-self : goal.invariant_of-self
 invariant_of-self c =
-    let keep : (r : Rule) (marks : List ℕ) → AreMarked r.test c.self.inside.zone marks → AreMarked r.test c.release.new.self marks = λ r marks are. subst (λ (z : ZoneState). AreMarked r.test z marks) (sym c.release.ensures) (given_back-marked r c.self.inside.zone marks are c.args.handle) in record {
+    let keep : (r : Rule) (marks : List ℕ) → AreMarked r.test c.self.inside.zone marks → AreMarked r.test c.release.new.self marks = λ r marks are. subst (λ (z : ZoneState). AreMarked r.test z marks) (sym c.release.ensures) (given_back-marked r c.self.inside.zone marks are c.args.handle) in
+    let empty = subst (λ (z : ZoneState). live_at z.heap.table c.args.handle ≡ Some EmptyHandle) (sym c.self.view_is) c.requires in record {
       fixed = keep fixes _ c.self.invariant.fixed;
       purgeable = keep goes _ c.self.invariant.purgeable;
-      rooms = (let empty = subst (λ (z : ZoneState). live_at z.heap.table c.args.handle ≡ Some EmptyHandle) (sym c.self.view_is) c.requires in
-          subst (λ (z : ZoneState). AreRooms z c.self.inside.rooms) (sym c.release.ensures) (rooms-released c.self.inside.zone c.self.inside.rooms c.self.invariant.rooms c.args.handle empty));
-      pages = (let empty = subst (λ (z : ZoneState). live_at z.heap.table c.args.handle ≡ Some EmptyHandle) (sym c.self.view_is) c.requires in
-          subst (λ (z : ZoneState). ArePages z c.self.inside.pages.items) (sym c.release.ensures) (pages-released c.self.inside.zone c.self.inside.pages.items c.self.invariant.pages c.args.handle empty));
+      rooms = subst (λ (z : ZoneState). AreRooms z c.self.inside.rooms) (sym c.release.ensures) (rooms-released c.self.inside.zone c.self.inside.rooms c.self.invariant.rooms c.args.handle empty);
+      pages = subst (λ (z : ZoneState). ArePages z c.self.inside.pages) (sym c.release.ensures) (pages-released c.self.inside.zone c.self.inside.pages c.self.invariant.pages c.args.handle empty);
       lengths = (let empty = subst (λ (z : ZoneState). live_at z.heap.table c.args.handle ≡ Some EmptyHandle) (sym c.self.view_is) c.requires in lengths-of c.self.inside.lengths c.release.ensures (lengths-kept c.self.inside.zone.heap.table (without c.args.handle c.self.inside.zone.heap.table) c.self.inside.lengths c.self.invariant.lengths (same-without c.args.handle c.self.inside.zone.heap.table empty)));
     }

@@ -10,8 +10,6 @@ use Rattle.zone_index.specs.Purging.{may_go}
 use Rattle.zone_index.proofs.Freed.{moved-marked, relocated-marked}
 use Rattle.zone_index.proofs.Placed.{placed}
 use Rattle.zone_index.specs.Rooms.{AreRooms}
-use Rattle.std.proofs.lemmas.List.{with_items_is}
-use Rattle.std.specs.Vec.{with_items}
 use Rattle.linked_zone.specs.Fit.{Fits}
 use Rattle.zone_index.proofs.Changing.{pages-relocated}
 use Rattle.zone_index.proofs.PagesKept.{forgets-read, pages-kept}
@@ -30,26 +28,22 @@ invariant_of-self c =
     let marks = c.self.inside.purgeable in
     let mark = c.get-mark.ensures ∙ ap (slice_index marks) old.value in
     let first = c.write.ensures ∙ ap (λ p. set marks p 0) old.value in
-    let both = c.write-2.ensures ∙ (λ i. set (first i) (new.value i) (mark i)) in record {
+    let both = c.write-2.ensures ∙ (λ i. set (first i) (new.value i) (mark i)) in
+    let fits = subst Fits (sym c.self.view_is) c.page-from_page.ensures.fits in record {
       fixed = subst (λ (z : ZoneState). AreMarked is_fixed z c.self.inside.marks) (sym (c.relocate.ensures room)) (relocated-marked z c.self.inside.marks c.self.invariant.fixed c.args.handle c.args.length c.args.at room.free unlocked);
       purgeable = subst (λ (z : ZoneState). AreMarked may_go z c.write-2.new.marks) (sym (c.relocate.ensures room))
           (subst (AreMarked may_go (relocated c.args.handle c.args.length z room.free)) (sym both)
           (moved-marked z marks c.self.invariant.purgeable old.sizes c.args.handle c.args.length c.block_of-from.result c.args.at room.free c.block_of-from.ensures old.inside new.inside));
-      rooms = (let own = c.block_of-from.ensures in
-          let fits = subst Fits (sym c.self.view_is) c.page-from_page.ensures.fits in
-          subst (λ (z : ZoneState). AreRooms z c.touch-2.new.self) (sym (c.relocate.ensures room))
+      rooms = subst (λ (z : ZoneState). AreRooms z c.touch-2.new.self) (sym (c.relocate.ensures room))
           (rooms-relocated c.self.inside.zone c.self.inside.rooms c.touch.new.self c.self.invariant.rooms c.block_of-from.result
           (touched-first c.self.inside.rooms c.touch.new.self c.block_of-from.result c.self.view_is c.leaf-from_leaf.ensures.value c.touch.ensures.sums c.touch.ensures.here c.touch.ensures.others)
-          c.args.handle c.args.length c.args.at c.touch-2.new.self room.free fits own
-          (touched-first c.touch.new.self c.touch-2.new.self c.args.at c.self.view_is c.leaf-to_leaf.ensures.value c.touch-2.ensures.sums c.touch-2.ensures.here c.touch-2.ensures.others)));
-      pages = (let own = c.block_of-from.ensures in
-          let fits = subst Fits (sym c.self.view_is) c.page-from_page.ensures.fits in
-          let first = with_items_is c.self.inside.pages c.forget.new.pages (c.forget.auto.pages ∙ c.deref_mut.ensures.len) in
-          pages-kept (with_items c.self.inside.pages c.forget.new.pages) c.forget-2.new.pages (c.forget-2.auto.pages ∙ c.deref_mut-2.ensures.len) (c.relocate.ensures room)
-          (pages-relocated c.self.inside.zone c.self.inside.pages.items c.forget.new.pages c.self.invariant.pages c.block_of-from.result
-          (forgets-read c.block_of-from.result c.block_of-from.result c.self.view_is c.deref_mut.ensures.value c.page-from_page.ensures.value c.page-from_page.ensures.value c.forget.ensures)
-          c.args.handle c.args.length c.args.at c.forget-2.new.pages room.free fits own
-          (forgets-read c.args.at c.args.at c.self.view_is (c.deref_mut-2.ensures.value ∙ first) c.page-to_page.ensures.value c.page-to_page.ensures.value c.forget-2.ensures)));
+          c.args.handle c.args.length c.args.at c.touch-2.new.self room.free fits c.block_of-from.ensures
+          (touched-first c.touch.new.self c.touch-2.new.self c.args.at c.self.view_is c.leaf-to_leaf.ensures.value c.touch-2.ensures.sums c.touch-2.ensures.here c.touch-2.ensures.others));
+      pages = pages-kept c.forget-2.new.self (c.relocate.ensures room)
+          (pages-relocated c.self.inside.zone c.self.inside.pages c.forget.new.self c.self.invariant.pages c.block_of-from.result
+          (forgets-read c.block_of-from.result c.block_of-from.result c.self.view_is c.page-from_page.ensures.value c.page-from_page.ensures.value c.forget.ensures)
+          c.args.handle c.args.length c.args.at c.forget-2.new.self room.free fits c.block_of-from.ensures
+          (forgets-read c.args.at c.args.at c.self.view_is c.page-to_page.ensures.value c.page-to_page.ensures.value c.forget-2.ensures));
       lengths = (let full = subst (λ (z : ZoneState). is_full z.heap.table c.args.handle ≡ true) (sym c.self.view_is) c.requires.full in
           lengths-of c.note.new.self (c.relocate.ensures room) (lengths-sized c.self.inside.zone.heap.table c.self.inside.lengths c.note.new.self c.args.handle c.number.result c.args.length c.number.ensures c.self.invariant.lengths c.note.ensures (ap (λ b. b || is_pointer c.self.inside.zone.heap.table c.args.handle) full)));
     }

@@ -31,15 +31,11 @@ invariant_of-self c =
       purgeable = subst (λ (z : ZoneState). AreMarked may_go z c.write-2.new.marks) (sym c.set_flags.ensures)
           (subst (AreMarked may_go (flagged c.args.handle c.args.flags z)) (sym (c.write-2.ensures ∙ ap (λ p. set c.self.inside.purgeable p c.from-2.result) p.value))
           (flagged-marked goes z c.self.inside.purgeable c.self.invariant.purgeable c.args.handle c.block_of-at.result c.args.flags fits p.sizes full c.block_of-at.ensures p.inside c.from-2.result (λ is. goes_now ∙ ap bool_byte is) (λ is. goes_now ∙ ap bool_byte is)));
-      rooms = (let own = c.block_of-at.ensures in
-          let fits = subst Fits (sym c.self.view_is) c.page-page.ensures.fits in
-          subst (λ (z : ZoneState). AreRooms z c.touch.new.self) (sym c.set_flags.ensures)
+      rooms = subst (λ (z : ZoneState). AreRooms z c.touch.new.self) (sym c.set_flags.ensures)
           (rooms-flagged c.self.inside.zone c.self.inside.rooms c.touch.new.self c.self.invariant.rooms c.block_of-at.result
-          (touched-first c.self.inside.rooms c.touch.new.self c.block_of-at.result c.self.view_is c.leaf-leaf.ensures.value c.touch.ensures.sums c.touch.ensures.here c.touch.ensures.others) c.args.handle c.args.flags fits own));
-      pages = (let own = c.block_of-at.ensures in
-          let fits = subst Fits (sym c.self.view_is) c.page-page.ensures.fits in
-          pages-kept c.self.inside.pages c.forget.new.pages (c.forget.auto.pages ∙ c.deref_mut.ensures.len) c.set_flags.ensures
-          (pages-flagged c.self.inside.zone c.self.inside.pages.items c.forget.new.pages c.self.invariant.pages c.block_of-at.result
-          (forgets-read c.block_of-at.result c.block_of-at.result c.self.view_is c.deref_mut.ensures.value c.page-page.ensures.value c.page-page.ensures.value c.forget.ensures) c.args.handle c.args.flags fits own));
+          (touched-first c.self.inside.rooms c.touch.new.self c.block_of-at.result c.self.view_is c.leaf-leaf.ensures.value c.touch.ensures.sums c.touch.ensures.here c.touch.ensures.others) c.args.handle c.args.flags fits c.block_of-at.ensures);
+      pages = pages-kept c.forget.new.self c.set_flags.ensures
+          (pages-flagged c.self.inside.zone c.self.inside.pages c.forget.new.self c.self.invariant.pages c.block_of-at.result
+          (forgets-read c.block_of-at.result c.block_of-at.result c.self.view_is c.page-page.ensures.value c.page-page.ensures.value c.forget.ensures) c.args.handle c.args.flags fits c.block_of-at.ensures);
       lengths = lengths-of c.self.inside.lengths c.set_flags.ensures (lengths-kept c.self.inside.zone.heap.table (with_flags c.args.handle c.args.flags c.self.inside.zone.heap.table) c.self.inside.lengths c.self.invariant.lengths (same-with_flags c.args.handle c.args.flags c.self.inside.zone.heap.table));
     }

@@ -1,8 +1,8 @@
-use Rattle.std.proofs.Common.{◌≡◌, ◌-◌, ◌/◌, ap, sym, subst, arith, [], ◌∷◌, ◌++◌, IsTrue, ◌+◌, ◌∙◌, ◌<◌, List, length}
+use Rattle.std.proofs.Common.{◌≤◌, ◌≡◌, ◌-◌, ◌/◌, ap, sym, subst, arith, [], ◌∷◌, ◌++◌, IsTrue, ◌+◌, ◌∙◌, ◌<◌, List, length}
 use Rattle.std.specs.Prelude.{IsTrue, [], ◌∷◌, ◌++◌}
 use Rattle.mac_base.specs.declared.block.Entry.{Entry}
 use Rattle.mac_base.specs.Gap.{is_fixed}
-use Rattle.mac_base.specs.ZoneMap.{total_size}
+use Rattle.mac_base.specs.ZoneMap.{address_behind, total_size}
 use Rattle.mac_base.specs.ZoneSizes.{ArePossible}
 use Rattle.mac_base.specs.ZoneState.{ZoneState}
 use Rattle.linked_zone.specs.Changes.{sunk}
@@ -25,6 +25,18 @@ use Rattle.zone_index.proofs.RoomsRenewed.{touched-first, touched-next}
 use Rattle.zone_index.proofs.RoomsChanged.{none_fixed-first, run_split, rooms-sink}
 use Rattle.block_sums.specs.declared.span.Span.{Span}
 use Rattle.zone_index.proofs.zone.IndexedZone.sink.Goals as goal
+use Rattle.zone_index.proofs.zone.IndexedZone.sink.Goals.{After-page-from}
+
+-- it ends within the zone
+high : (c : After-page-from) → c.args.at + c.entry_at-size.result.size ≤ address_behind c.args.self.now.shape c.args.self.now.heap.map
+high c =
+    let parcel = c.requires.parcel in
+    let place = parcel.place in
+    let long = parcel.long in
+    let size = ap (λ (e : Entry). e.size) (subst (λ (z : ZoneState). (e : EntryAt z c.args.at) → c.entry_at-size.result ≡ e.here) (c.self.view_is) c.entry_at-size.ensures (last_entry c.args.self.now parcel)) in
+    let ends = part-ends c.args.self.now parcel.before (parcel.blocks ++ parcel.here ∷ parcel.behind) parcel.map in
+    let all = total_size-append parcel.blocks (parcel.here ∷ parcel.behind) in
+    omega arith
 
 pub invariant_of-self : goal.invariant_of-self
 invariant_of-self c =
@@ -42,9 +54,9 @@ invariant_of-self c =
           (rooms-sink z c.self.inside.rooms c.pass.new.rooms c.touch-2.new.self c.self.invariant.rooms parcel (none_fixed-first z.heap.table parcel.blocks (parcel.here ∷ []) loose) c.pass.ensures.sums (passed (run_split z parcel))
           (touched-next c.pass.new.rooms c.touch.new.self c.touch-2.new.self c.args.start (touched-first c.pass.new.rooms c.touch.new.self c.args.at c.self.view_is c.leaf-old.ensures.value c.touch.ensures.sums c.touch.ensures.here c.touch.ensures.others) c.self.view_is c.leaf-new.ensures.value c.touch-2.ensures.sums c.touch-2.ensures.here c.touch-2.ensures.others)));
       pages = (let size = ap (λ (e : Entry). e.size) (c.entry_at-size.ensures (last_entry c.self.inside.zone parcel)) in
-          pages-kept c.self.inside.pages c.forget.new.pages (c.forget.auto.pages ∙ c.deref_mut.ensures.len) (c.sink-2.ensures parcel)
-          (pages-sink c.self.inside.zone c.self.inside.pages.items c.forget.new.pages c.self.invariant.pages parcel
-          (forgets-read c.args.start (c.args.at + parcel.here.size) c.self.view_is c.deref_mut.ensures.value c.page-from.ensures.value
+          pages-kept c.forget.new.self (c.sink-2.ensures parcel)
+          (pages-sink c.self.inside.zone c.self.inside.pages c.forget.new.self c.self.invariant.pages parcel
+          (forgets-read c.args.start (c.args.at + parcel.here.size) c.self.view_is c.page-from.ensures.value
           (subst (λ n. c.page_at-to.result ≡ page c.args.self.now.shape (c.args.at + n)) size c.page_at-to.ensures.value) c.forget.ensures)));
       lengths = lengths-of c.self.inside.lengths (c.sink-2.ensures parcel) c.self.invariant.lengths;
     }
@@ -86,25 +98,10 @@ returns c =
     subst (λ (z : ZoneState). (parcel : ParcelUpTo z c.args.start c.args.at) → c.sink-2.new.self ≡ sunk z parcel) c.self.view_is c.sink-2.ensures
 
 pub overflow_add-at : goal.overflow_add-at
-overflow_add-at c =
-    let parcel = c.requires.parcel in
-    let place = parcel.place in
-    let long = parcel.long in
-    let size = ap (λ (e : Entry). e.size) (subst (λ (z : ZoneState). (e : EntryAt z c.args.at) → c.entry_at-size.result ≡ e.here) (c.self.view_is) c.entry_at-size.ensures (last_entry c.args.self.now parcel)) in
-    let reach = c.page-from.ensures.reach in
-    let ends = part-ends c.args.self.now parcel.before (parcel.blocks ++ parcel.here ∷ parcel.behind) parcel.map in
-    let all = total_size-append parcel.blocks (parcel.here ∷ parcel.behind) in
-    omega arith
+overflow_add-at c = let end = high (goal.at.overflow_add-at c).After-page-from in let reach = c.page-from.ensures.reach in omega arith
 
 pub page_at-to-requires-clause-high : goal.page_at-to-requires-clause-high
-page_at-to-requires-clause-high c =
-    let parcel = c.requires.parcel in
-    let place = parcel.place in
-    let long = parcel.long in
-    let size = ap (λ (e : Entry). e.size) (subst (λ (z : ZoneState). (e : EntryAt z c.args.at) → c.entry_at-size.result ≡ e.here) (c.self.view_is) c.entry_at-size.ensures (last_entry c.args.self.now parcel)) in
-    let ends = part-ends c.args.self.now parcel.before (parcel.blocks ++ parcel.here ∷ parcel.behind) parcel.map in
-    let all = total_size-append parcel.blocks (parcel.here ∷ parcel.behind) in
-    omega arith
+page_at-to-requires-clause-high c = high (goal.at.page_at-to-requires-clause-high c).After-page-from
 
 pub leaf-old-requires : goal.leaf-old-requires
 leaf-old-requires c = last-entry c.args.self.now c.requires.parcel

@@ -1,4 +1,4 @@
-use Rattle.std.proofs.Common.{ℕ, List, ◌≡◌, sym, subst, ◌+◌, ◌∷◌, ◌∙◌, arith}
+use Rattle.std.proofs.Common.{◌≤◌, ℕ, List, ◌≡◌, sym, subst, ◌+◌, ◌∷◌, arith}
 use Rattle.mac_base.specs.ZoneState.{ZoneState}
 use Rattle.linked_zone.specs.Changes.{cut_in_two}
 use Rattle.linked_zone.specs.Places.{CanCut}
@@ -7,13 +7,23 @@ use Rattle.zone_index.proofs.Exchanged.{cut-marked}
 use Rattle.zone_index.proofs.Rules.{Rule, fixes, goes}
 use Rattle.zone_index.specs.Rooms.{AreRooms}
 use Rattle.mac_base.specs.declared.block.Kind.TheVariants.{Free}
-use Rattle.mac_base.specs.ZoneMap.{block}
+use Rattle.mac_base.specs.ZoneMap.{address_behind, block}
 use Rattle.zone_index.proofs.PagesKept.{forgets-read, pages-kept, part-ends}
 use Rattle.zone_index.proofs.Changing.{pages-split}
 use Rattle.zone_index.proofs.Measured.{lengths-of}
 use Rattle.zone_index.proofs.RoomsRenewed.{touched-first, touched-next}
 use Rattle.zone_index.proofs.RoomsChanged.{rooms-split}
 use Rattle.zone_index.proofs.zone.IndexedZone.split.Goals as goal
+use Rattle.zone_index.proofs.zone.IndexedZone.split.Goals.{After-page-first}
+
+-- it ends within the zone
+high : (c : After-page-first) → c.args.at + c.args.size ≤ address_behind c.args.self.now.shape c.args.self.now.heap.map
+high c =
+    let free = c.requires.free in
+    let place = free.place in
+    let smaller = c.requires.smaller in
+    let ends = part-ends c.args.self.now free.before (block Free free.size ∷ free.behind) free.map in
+    omega arith
 
 pub invariant_of-self : goal.invariant_of-self
 invariant_of-self c =
@@ -24,9 +34,9 @@ invariant_of-self c =
       rooms = subst (λ (z : ZoneState). AreRooms z c.touch-2.new.self) (sym (c.split.ensures can))
           (rooms-split c.self.inside.zone c.self.inside.rooms c.touch-2.new.self c.self.invariant.rooms can
           (touched-next c.self.inside.rooms c.touch.new.self c.touch-2.new.self (c.args.at + c.args.size) (touched-first c.self.inside.rooms c.touch.new.self c.args.at c.self.view_is c.leaf-low.ensures.value c.touch.ensures.sums c.touch.ensures.here c.touch.ensures.others) c.self.view_is c.leaf_at-high.ensures.value c.touch-2.ensures.sums c.touch-2.ensures.here c.touch-2.ensures.others));
-      pages = pages-kept c.self.inside.pages c.forget.new.pages (c.forget.auto.pages ∙ c.deref_mut.ensures.len) (c.split.ensures can)
-          (pages-split c.self.inside.zone c.self.inside.pages.items c.forget.new.pages c.self.invariant.pages can
-          (forgets-read c.args.at (c.args.at + c.args.size) c.self.view_is c.deref_mut.ensures.value c.page-first.ensures.value c.page_at-last.ensures.value c.forget.ensures));
+      pages = pages-kept c.forget.new.self (c.split.ensures can)
+          (pages-split c.self.inside.zone c.self.inside.pages c.forget.new.self c.self.invariant.pages can
+          (forgets-read c.args.at (c.args.at + c.args.size) c.self.view_is c.page-first.ensures.value c.page_at-last.ensures.value c.forget.ensures));
       lengths = lengths-of c.self.inside.lengths (c.split.ensures can) c.self.invariant.lengths;
     }
 
@@ -35,26 +45,10 @@ returns c =
     subst (λ (z : ZoneState). (can : CanCut z c.args.at c.args.size) → c.split.new.self ≡ cut_in_two c.args.size z can.free) c.self.view_is c.split.ensures
 
 pub overflow_add-behind : goal.overflow_add-behind
-overflow_add-behind c =
-    let free = c.requires.free in
-    let place = free.place in
-    let smaller = c.requires.smaller in
-    let reach = c.page-first.ensures.reach in
-    let ends = part-ends c.args.self.now free.before (block Free free.size ∷ free.behind) free.map in
-    omega arith
+overflow_add-behind c = let end = high (goal.at.overflow_add-behind c).After-page-first in let reach = c.page-first.ensures.reach in omega arith
 
 pub page_at-last-requires-clause-high : goal.page_at-last-requires-clause-high
-page_at-last-requires-clause-high c =
-    let free = c.requires.free in
-    let place = free.place in
-    let smaller = c.requires.smaller in
-    let ends = part-ends c.args.self.now free.before (block Free free.size ∷ free.behind) free.map in
-    omega arith
+page_at-last-requires-clause-high c = high (goal.at.page_at-last-requires-clause-high c).After-page-first
 
 pub leaf_at-high-requires-clause-high : goal.leaf_at-high-requires-clause-high
-leaf_at-high-requires-clause-high c =
-    let free = c.requires.free in
-    let place = free.place in
-    let smaller = c.requires.smaller in
-    let ends = part-ends c.args.self.now free.before (block Free free.size ∷ free.behind) free.map in
-    omega arith
+leaf_at-high-requires-clause-high c = high (goal.at.leaf_at-high-requires-clause-high c).After-page-first

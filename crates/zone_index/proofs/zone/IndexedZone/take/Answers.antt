@@ -4,7 +4,6 @@ use Rattle.std.proofs.Common.{refl}
 use Rattle.mac_base.specs.HandleTable.{EmptyHandle}
 use Rattle.zone_index.proofs.Changing.{pages-taken}
 use Rattle.zone_index.proofs.Measured.{lengths-given, lengths-of, lengths-still}
-use Rattle.zone_index.specs.Rooms.{AreRooms}
 use Rattle.zone_index.proofs.RoomsChanged.{rooms-taken}
 use Rattle.zone_index.proofs.zone.IndexedZone.take.Goals as goal
 
@@ -14,7 +13,7 @@ invariant_of-self c =
       fixed = take-marked fixes c.self.inside.zone c.self.inside.marks c.self.invariant.fixed c.take.new.self c.take.result c.take.ensures;
       purgeable = take-marked goes c.self.inside.zone c.self.inside.purgeable c.self.invariant.purgeable c.take.new.self c.take.result c.take.ensures;
       rooms = rooms-taken c.self.inside.zone c.self.inside.rooms c.self.invariant.rooms (c.spec-spec.ensures.fits) c.take.result c.take.new.self c.take.ensures;
-      pages = pages-taken c.self.inside.zone c.self.inside.pages.items c.self.invariant.pages (c.spec-spec.ensures.fits) c.take.result c.take.new.self c.take.ensures;
+      pages = pages-taken c.self.inside.zone c.self.inside.pages c.self.invariant.pages (c.spec-spec.ensures.fits) c.take.result c.take.new.self c.take.ensures;
       lengths = lengths-of c.self.inside.lengths c.in_err-handle.ensures.1 c.self.invariant.lengths;
     }
 
@@ -24,7 +23,7 @@ invariant_of-self-2 c =
       fixed = take-marked fixes c.self.inside.zone c.self.inside.marks c.self.invariant.fixed c.take.new.self c.take.result c.take.ensures;
       purgeable = take-marked goes c.self.inside.zone c.self.inside.purgeable c.self.invariant.purgeable c.take.new.self c.take.result c.take.ensures;
       rooms = (rooms-taken c.self.inside.zone c.self.inside.rooms c.self.invariant.rooms (c.spec-spec.ensures.fits) c.take.result c.take.new.self c.take.ensures);
-      pages = pages-taken c.self.inside.zone c.self.inside.pages.items c.self.invariant.pages (c.spec-spec.ensures.fits) c.take.result c.take.new.self c.take.ensures;
+      pages = pages-taken c.self.inside.zone c.self.inside.pages c.self.invariant.pages (c.spec-spec.ensures.fits) c.take.result c.take.new.self c.take.ensures;
       lengths = lengths-of c.note.new.self c.in_ok-handle.ensures.1
           (lengths-given c.self.inside.zone.heap.table c.reach.new.self c.note.new.self c.in_ok-handle.handle c.number-2.result 0 c.number-2.ensures
           (lengths-still c.self.inside.zone.heap.table c.self.inside.lengths c.reach.new.self c.self.invariant.lengths c.reach.ensures) c.note.ensures EmptyHandle refl);

@@ -7,7 +7,7 @@ use Rattle.block_bytes.specs.declared.header.Role.TheVariants.{Master}
 use Rattle.zone_records.proofs.Held.{held-now, heads-is}
 use Rattle.zone_records.proofs.Slots.{no-slot_outside, slot-found, slot-made, holder-range}
 use Rattle.zone_records.proofs.records.Records.is_slot.Goals as goal
-use Rattle.zone_records.proofs.records.Records.is_slot.Goals.{then-eq, else-eq, then-first-at, else-first-at, Then-at-first}
+use Rattle.zone_records.proofs.records.Records.is_slot.Goals.{then-eq, else-eq, then-first-at, else-first-at, Then-at-first-lt-MASTER_LENGTH}
 
 pub returns-in_default : goal.returns-in_default
 returns-in_default c = (
@@ -22,22 +22,15 @@ overflow_add-first c =
     let head = c.head_size.ensures ∙ ap head_size (sym (heads-is _ _ held)) in
     omega arith
 
-pub overflow_add-first-then-first-at : goal.overflow_add-first-then-first-at
-overflow_add-first-then-first-at c =
-    let held = held-now c.self.invariant c.self.view_is in
-    let high = holder-range _ _ held c.args.at c.in-Some.start c.in-Some.ensures.holds in
-    let head = c.head_size.ensures ∙ ap head_size (sym (heads-is _ _ held)) in
-    omega arith
-
 -- the tests that have passed
-passed : (c : Then-at-first) → (c.entry_at.result.role ≡ Master) × (c.in-Some.start + c.head_size.result ≤ c.args.at) × (c.args.at < c.in-Some.start + c.head_size.result + 256)
+passed : (c : Then-at-first-lt-MASTER_LENGTH) → (c.entry_at.result.role ≡ Master) × (c.in-Some.start + c.head_size.result ≤ c.args.at) × (c.args.at < c.in-Some.start + c.head_size.result + 256)
 passed c = elim c.if-first-at.branch [
-  | then-first-at w ↦ (search rules, omega arith, grind (arith, nat_tests))
-  | else-first-at w ↦ elim c.if-eq.branch [ then-eq v ↦ absurd (grind (arith, nat_tests)) | else-eq v ↦ absurd (grind (arith, nat_tests)) ]
+  | then-first-at w ↦ (search rules, omega arith, let is = w.value-is in let true = c.if-at-first-lt-MASTER_LENGTH.true in grind (arith, nat_tests))
+  | else-first-at w ↦ (let is = w.value-is in let true = c.if-at-first-lt-MASTER_LENGTH.true in absurd (grind (arith, nat_tests)))
 ]
 
-pub returns-then-at-first : goal.returns-then-at-first
-returns-then-at-first c =
+pub returns-then-at-first-lt-MASTER_LENGTH : goal.returns-then-at-first-lt-MASTER_LENGTH
+returns-then-at-first-lt-MASTER_LENGTH c =
     let held = held-now c.self.invariant c.self.view_is in
     let first = c.in-Some.start + c.head_size.result in
     let head = ap (λ n. c.in-Some.start + n) (c.head_size.ensures ∙ ap head_size (sym (heads-is _ _ held))) in
@@ -47,18 +40,18 @@ returns-then-at-first c =
       λ s. let even = (slot-found _ _ held c.args.at s c.in-Some.start first c.in-Some.ensures.holds head).3 in grind (arith, nat_tests),
     )
 
-pub returns-else-at-first : goal.returns-else-at-first
-returns-else-at-first c =
+pub returns-else-at-first-lt-MASTER_LENGTH : goal.returns-else-at-first-lt-MASTER_LENGTH
+returns-else-at-first-lt-MASTER_LENGTH c =
     let held = held-now c.self.invariant c.self.view_is in
     let first = c.in-Some.start + c.head_size.result in
     let head = ap (λ n. c.in-Some.start + n) (c.head_size.ensures ∙ ap head_size (sym (heads-is _ _ held))) in (
-      λ is. absurd (cc (is, c.if-at-first.false)),
+      λ is. absurd (cc (is, c.if-at-first-lt-MASTER_LENGTH.false)),
       λ s. let said = slot-found _ _ held c.args.at s c.in-Some.start first c.in-Some.ensures.holds head in
           let master : c.entry_at.result.role ≡ Master = ap (λ (h : Header). h.role) (c.entry_at.ensures c.in-Some.ensures.holds.block) ∙ said.0 in
           let low = said.1 in
           let high = said.2 in
           elim c.if-first-at.branch [
-            | then-first-at w ↦ absurd (grind (arith, nat_tests))
+            | then-first-at w ↦ (let value = w.value-is in let false = c.if-at-first-lt-MASTER_LENGTH.false in absurd (grind (arith, nat_tests)))
             | else-first-at w ↦ elim w.if-first-at.either [
               | inl below ↦ (let less = below.1 in absurd (omega arith))
               | inr other ↦ absurd (grind (arith, nat_tests))

@@ -1,5 +1,5 @@
 use Rattle.std.proofs.Common.{◌≡◌, ◌+◌, ap, ◌∙◌, arith}
-use Rattle.mac_base.specs.HeadKind.{master_length, slot_count, head_size}
+use Rattle.mac_base.specs.HeadKind.{master_length, slot_count, head_size, address_end}
 use Rattle.mac_base.specs.ZoneSizes.{ZoneSizes}
 use Rattle.zone_records.specs.Records.{Master}
 use Rattle.zone_records.specs.Places.{RoomFor}
@@ -7,7 +7,7 @@ use Rattle.zone_records.specs.Changes.{chained, filled}
 use Rattle.zone_records.specs.Word.{words_of}
 use Rattle.zone_records.proofs.Words.{length-chain}
 use Rattle.zone_records.proofs.Held.{Held, held-now, fields}
-use Rattle.zone_records.proofs.Chaining.{master-range, master-even, fixed-can, fixed-unlent, fixed-long, fixed-written, turn-can, master-ends}
+use Rattle.zone_records.proofs.Chaining.{master-end, master-range, master-even, fixed-can, fixed-unlent, fixed-long, fixed-written, turn-can, master-ends}
 use Rattle.zone_records.proofs.records.Records.place_master.Goals as goal
 use Rattle.zone_records.proofs.records.Records.place_master.Goals.{After-set_role, After-write_chain}
 
@@ -30,8 +30,9 @@ write_chain-requires-clause-long c =
 
 pub write_chain-requires-clause-low : goal.write_chain-requires-clause-low
 write_chain-requires-clause-low c =
-    let high = master-range _ _ (held-now c.self.invariant c.self.view_is) c.args.at c.requires.room in
+    let high = master-end _ _ (held-now c.self.invariant c.self.view_is) c.args.at c.requires.room in
     let head = c.head_size.ensures in
+    let top = ap address_end (c.heads-heads.ensures ∙ ap (λ (s : ZoneSizes). s.heads) c.spec.ensures) in
     omega arith
 
 pub write_chain-requires-clause-even : goal.write_chain-requires-clause-even
