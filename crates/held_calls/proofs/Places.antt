@@ -1,11 +1,12 @@
 -- The loans at the places of a table.
 use Rattle.std.specs.Option.{is_some, option_to_list}
-use Rattle.std.proofs.Common.{◌≡◌, ℕ, ◌+◌, ◌-◌, ◌<◌, ◌≤◌, ◌||◌, ◌==◌, Bool, true, false, cond, List, [], ◌∷◌, ◌++◌, length, take, drop, Option, Some, None, refl, sym, ap, ◌∙◌, arith, append_assoc, length-append, length-take, length-drop}
+use Rattle.std.proofs.Common.{◌≡◌, ℕ, ◌+◌, ◌-◌, ◌<◌, ◌≤◌, ◌||◌, ◌==◌, Bool, true, false, cond, List, [], ◌∷◌, ◌++◌, length, take, drop, Option, Some, None, inl, inr, refl, sym, ap, ◌∙◌, arith, append_assoc, length-append, length-take, length-drop}
 use Rattle.std.proofs.Math.ListN.{get_or, set}
 use Rattle.std.proofs.Math.Nat.{add-sub_cancel_left}
 use Rattle.std.proofs.Math.Seq.{drop-append_seam, get_or-append_seam, set-append_seam, take-append_seam, take-length, drop-length}
 use Rattle.std.proofs.lemmas.Grind.{flat_map-append}
-use Rattle.std.proofs.lemmas.List.{append-nil, drop-drop, length-take-le, take-append-drop, take_more}
+use Rattle.std.proofs.lemmas.Bool.{cases_lt}
+use Rattle.std.proofs.lemmas.List.{append-nil, drop-drop, length-take-le, take-append-drop, take_all, take_more}
 use borrow.Rule.Slice.PartMut.{post_of, put_mid}
 use Rattle.mac_base.specs.ZoneState.{written}
 use Rattle.mac_calls.specs.Loans.{held_bytes}
@@ -50,6 +51,13 @@ free_at places n at lt is free = let none : at ≡ None = is_none at free in rec
   parts = parts_at places n at lt is ∙ ap (λ (o : Option Held). take n places ++ o ∷ drop (n + 1) places) none;
   place = sym (length-take-le n places (omega arith));
 }
+
+-- where there are more places than loans, one that stands behind loans alone is there
+pub free_inside : (places : List (Option Held)) (n : ℕ) → length (held_at (take n places)) ≡ n → length (held_at places) < length places → n < length places
+free_inside places n full some = elim (cases_lt n (length places)) [
+  | inl inside ↦ inside
+  | inr past ↦ let whole = ap (λ (ps : List (Option Held)). length (held_at ps)) (take_all n places past) in absurd (omega (arith, full, some, whole))
+]
 
 -- a table with a loan behind places that are free
 pub first_at : (places : List (Option Held)) (n : ℕ) (at : Option Held) (held : Held) → n < length places → at ≡ get_or places n at → at ≡ Some held → held_at (take n places) ≡ [] → IsFirst held.block (held_at places)

@@ -174,12 +174,11 @@ fn free_place(places: &[Option<Held>]) -> usize
     requires { length (held_at places.now) < length places.now }
     ensures { FreeAt places.now result }
 {
-    for (place, held) in places.iter().enumerate() {
-        if held.is_none() {
-            return place;
-        }
+    let mut place = 0;
+    while places[place].is_some() {
+        place += 1;
     }
-    unreachable!()
+    place
 }
 
 /// The block whose loan comes first.

@@ -1,6 +1,6 @@
 -- Steps of calls that ask nothing.
 use Rattle.std.proofs.Common.{◌≡◌, ℕ, Bool, true, false, List, [], Option, Some, None, Result, Ok, Err, refl, ap, sym, subst, ◌∙◌}
-use Rattle.std.specs.Prelude.{IfOk, MatchBool, MatchResult, is_ok, map, if◌then◌else◌}
+use Rattle.std.specs.Prelude.{IfOk, MatchBool, MatchResult, ⊤, is_ok, map, if◌then◌else◌}
 use Rattle.std.specs.Option.{IsSomeAnd}
 use Rattle.mac_base.specs.declared.error.OsErr.{OsErr}
 use Rattle.mac_base.specs.declared.error.OsErr.TheVariants.{DskFulErr}
@@ -8,12 +8,15 @@ use Rattle.mac_base.specs.ZoneState.{ZoneState}
 use Rattle.mac_calls.specs.declared.resource_call.ResourceCall.{ResourceCall}
 use Rattle.mac_calls.specs.declared.resource_call.ResourceCall.TheVariants.{OpenResFile}
 use Rattle.mac_calls.specs.GrowZone.{Ask}
-use Rattle.mac_calls.specs.Outcomes.{Outcome}
+use Rattle.mac_calls.specs.Outcomes.{Outcome, done_outcome}
+use Rattle.mac_calls.specs.declared.reply.Results.{Results}
+use Rattle.mac_calls.specs.declared.reply.Results.TheVariants.{Nothing}
 use Rattle.mac_calls.specs.Tests.{unless_passed}
 use Rattle.fork_disk.specs.declared.store.ForkStore.{Ghosts}
 use Rattle.res_calls.specs.Answered.{answered_disks, file_of_work}
 use Rattle.res_calls.specs.Device.{device_works}
 use Rattle.res_calls.specs.Device as device
+use Rattle.res_calls.specs.Quiet.{quiet_results, quiet_state}
 use Rattle.res_calls.specs.Files.{ResState, ResourceEnd, refused_with}
 use Rattle.res_calls.specs.Steps.{StepsUnless, Work, Quiet, Opens, Updates, work_of, Memory}
 use Rattle.res_calls.specs.Steps as steps
@@ -21,11 +24,11 @@ use Rattle.res_calls.specs.Tests.{resource_refusal, first_refused_for}
 use Rattle.res_calls.specs.Updates.{Update, fits_fork}
 use Rattle.res_files.specs.FilesOn.{FailedAt, FilesOn, HonestAt, NoneFailed}
 use Rattle.res_table.specs.OpenFiles.{is_open}
-use Rattle.res_manager.specs.Ends.{EndsQuietly, IsUnwritten, OpensFile, Writes, WritesFile}
+use Rattle.res_manager.specs.Ends.{EndsQuietly, EndsTested, IsUnwritten, OpensFile, Writes, WritesFile}
 use Rattle.res_manager.specs.Steps.{ResourceSteps, state_of}
-use Rattle.res_manager.specs.Tests.{early_tests, late_tests}
+use Rattle.res_manager.specs.Tests.{Tests, early_tests, late_tests}
 use Rattle.res_calls.proofs.Answering.{before_itself, itself}
-use Rattle.res_manager.proofs.Refusals.{refused-early}
+use Rattle.res_manager.proofs.Refusals.{passed-early, refused-early}
 
 -- what holds of what is given
 pub if_ok : {T E : Type 0} (P Q : T → Type 0) (result : Result T E) → ((x : T) → P x → Q x) → IfOk result P → IfOk result Q
@@ -57,6 +60,40 @@ quiet_steps store old new on after c outcome passed quiet stores ends =
 -- a call that asked nothing
 pub unasked_steps : {S : Type 0} (store : Ghosts S) (old new : ZoneState) (on after : FilesOn S) (c : ResourceCall) (asks : List Ask) (outcome : Outcome) → asks ≡ [] → ResourceSteps store old on c [] outcome new after → ResourceSteps store old on c asks outcome new after
 unasked_steps store old new on after c asks outcome none steps = subst (λ (them : List Ask). ResourceSteps store old on c them outcome new after) (sym none) steps
+
+-- a call that is refused before all work, or else gives nothing and needs neither room nor a disk
+pub tested_steps : {S : Type 0} (store : Ghosts S) (old new : ZoneState) (on after : FilesOn S) (c : ResourceCall) (asks : List Ask) (done : Result ⊤ OsErr) → asks ≡ [] → late_tests c ≡ [] → work_of (state_of store.fork old on) c ≡ Quiet
+    → after.stores ≡ on.stores → EndsTested store.fork old on c done new after → ResourceSteps store old on c asks (done_outcome done) new after
+tested_steps store old new on after c asks (Ok u) none late quiet stores ends =
+    let state : ResState = state_of store.fork old on in
+    unasked_steps store old new on after c asks (Ok Nothing) none
+    (quiet_steps store old new on after c (Ok Nothing) (passed-early state c ends.0 ∙ ap (first_refused_for state) late) quiet stores ends.1)
+tested_steps {S} store old new on after c asks (Err code) none late quiet stores ends =
+    let P : ZoneState → Type 0 = λ zone. ResourceSteps store old on c asks (Err code) zone after in
+    let Q : FilesOn S → Type 0 = λ files. ResourceSteps store old on c asks (Err code) old files in
+    subst P (sym ends.1.0) (subst Q (sym ends.1.1) (unasked_steps store old old on on c asks (Err code) none (refused_steps store old on c code ends.0)))
+
+-- a call that is refused, or else tells what is there and changes nothing
+pub told_steps : {S : Type 0} (store : Ghosts S) (zone : ZoneState) (on : FilesOn S) (c : ResourceCall) (asks : List Ask) (outcome : Outcome) → asks ≡ [] → late_tests c ≡ [] → work_of (state_of store.fork zone on) c ≡ Quiet
+    → quiet_state c (state_of store.fork zone on) ≡ state_of store.fork zone on → Tests (state_of store.fork zone on) (early_tests c) outcome → IfOk outcome (λ results. results ≡ quiet_results (state_of store.fork zone on) c)
+    → ResourceSteps store zone on c asks outcome zone on
+told_steps store zone on c asks (Ok results) none late quiet same passed value =
+    let state : ResState = state_of store.fork zone on in
+    let ends : EndsQuietly store.fork zone on c (Ok results) zone on =
+    ap (λ (r : Results). let e : ResourceEnd = record { outcome = Ok r; state = quiet_state c state } in e) (sym value)
+    ∙ ap (λ (s : ResState). let e : ResourceEnd = record { outcome = Ok results; state = s } in e) same in
+    unasked_steps store zone zone on on c asks (Ok results) none
+    (quiet_steps store zone zone on on c (Ok results) (passed-early state c passed ∙ ap (first_refused_for state) late) quiet refl ends)
+told_steps store zone on c asks (Err code) none late quiet same passed value =
+    unasked_steps store zone zone on on c asks (Err code) none (refused_steps store zone on c code passed)
+
+-- the same where host memory may lack
+pub told_if_ok : {S E : Type 0} (store : Ghosts S) (zone : ZoneState) (on : FilesOn S) (c : ResourceCall) (asks : List Ask) (result : Result Outcome E) → asks ≡ [] → late_tests c ≡ [] → work_of (state_of store.fork zone on) c ≡ Quiet
+    → quiet_state c (state_of store.fork zone on) ≡ state_of store.fork zone on → IfOk result (λ outcome. (state : ResState) → state.files ≡ on.files → Tests state (early_tests c) outcome)
+    → IfOk result (λ outcome. (state : ResState) → state.files ≡ on.files → IfOk outcome (λ results. results ≡ quiet_results state c)) → IfOk result (λ outcome. ResourceSteps store zone on c asks outcome zone on)
+told_if_ok store zone on c asks (Ok outcome) none late quiet same passed value =
+    told_steps store zone on c asks outcome none late quiet same (passed (state_of store.fork zone on) refl) (value (state_of store.fork zone on) refl)
+told_if_ok store zone on c asks (Err full) none late quiet same passed value = tt
 
 -- a call that opens a file
 pub opened_steps : {S : Type 0} (store : Ghosts S) (zone : ZoneState) (on after : FilesOn S) (k : ℕ) (outcome : Outcome) → resource_refusal (state_of store.fork zone on) (OpenResFile k) ≡ None

@@ -1,9 +1,10 @@
 -- How calls end that ask nothing.
-use Rattle.std.specs.Prelude.{◌≡◌, ℕ, List, Result, MatchBool}
+use Rattle.std.specs.Prelude.{◌≡◌, ℕ, List, Result, Ok, MatchBool, MatchResult, ⊤}
 use Rattle.mac_base.specs.declared.error.OsErr.{OsErr}
 use Rattle.mac_base.specs.declared.error.OsErr.TheVariants.{DskFulErr}
 use Rattle.mac_base.specs.ZoneState.{ZoneState}
 use Rattle.mac_calls.specs.declared.resource_call.ResourceCall.{ResourceCall}
+use Rattle.mac_calls.specs.declared.reply.Results.TheVariants.{Nothing}
 use Rattle.mac_calls.specs.Outcomes.{Outcome}
 use Rattle.res_calls.specs.Changes.{FileTable}
 use Rattle.res_calls.specs.Device.{Device, ReadsBy, device_works}
@@ -15,10 +16,16 @@ use Rattle.res_calls.specs.Updates.{Update, fits_fork, update_end}
 use Rattle.fork_disk.specs.declared.store.ForkStore.{Ghosts}
 use Rattle.res_files.specs.FilesOn.{FailedAt, FilesOn, HonestAt, NoneFailed}
 use Rattle.res_manager.specs.Steps.{state_of}
+use Rattle.res_manager.specs.Tests.{Tests, early_tests}
 
 -- the call ends so and leaves these, as calls do that need neither room in the zone nor a disk
 abbrev pub EndsQuietly : {S : Type 0} → (S → List ℕ) → ZoneState → FilesOn S → ResourceCall → Outcome → ZoneState → FilesOn S → Type 0
 EndsQuietly fork old old_files call outcome new new_files = quiet_end call (state_of fork old old_files) ≡ record { outcome = outcome; state = state_of fork new new_files }
+
+-- such a call is refused by the first early test that it doesn't pass, and leaves all as it was; else it ends so, and gives nothing
+abbrev pub EndsTested : {S : Type 0} → (S → List ℕ) → ZoneState → FilesOn S → ResourceCall → Result ⊤ OsErr → ZoneState → FilesOn S → Type 0
+EndsTested fork old old_files call done new new_files = Tests (state_of fork old old_files) (early_tests call) done
+    × MatchResult done (λ _. EndsQuietly fork old old_files call (Ok Nothing) new new_files) (λ _. (new ≡ old) × (new_files ≡ old_files))
 
 -- What a call that makes an update does to the disk and leaves, where its fork holds what is written: a device may fail.
 pub record Writes {S : Type 0} (store : Ghosts S) (old : ZoneState) (old_files : FilesOn S) (call : ResourceCall) (u : Update) (outcome : Outcome) (new : ZoneState) (new_files : FilesOn S) : Type 0 where

@@ -1,18 +1,19 @@
 //! The calls that get or load a resource.
 
-ghost use Rattle.std.specs.Prelude.{◌≡◌, [], IsSome, IfSome, length};
+ghost use Rattle.std.specs.Prelude.{◌≡◌, [], Some, IsSome, IfOk, length};
 ghost use Rattle.linked_zone.specs.Loans.{KeepsLoans};
 ghost use Rattle.mac_calls.specs.declared.resource_call.ResourceCall.TheVariants.{Getting};
 ghost use Rattle.res_calls.specs.Files.{ResState};
 ghost use Rattle.res_calls.specs.Loads.{loaded_results, loads_bytes, row_wanted};
 ghost use Rattle.res_files.specs.Stores.{KeepsStores};
-ghost use Rattle.res_manager.specs.Steps.{ResourceSteps, state_of};
-ghost use Rattle.res_manager.specs.Tests.{Passes, early_tests};
+ghost use Rattle.res_manager.specs.Steps.{ResourceSteps};
+ghost use Rattle.res_manager.specs.Tests.{Tests, early_tests};
 ghost use Rattle.res_table.specs.OpenFiles.{row_at};
 
 use crate::load::get_row;
-use crate::tests::test_id;
+use crate::tests::{test_file, test_id, test_row};
 use fork_disk::store::ForkStore;
+use mac_base::error::OsErr;
 use mac_base::handle::Handle;
 use mac_calls::{GettingCall, GrowZone, Outcome, Results};
 use mem_calls::MemoryManager;
@@ -26,7 +27,6 @@ pub(crate) fn get<S: ForkStore, G: GrowZone>(
     call: GettingCall,
     procedure: &mut G,
 ) -> Outcome
-    requires passed { Passes (state_of S.fork memory.old files.old) (early_tests (Getting call)) }
     requires unasked { G.asks procedure.old ≡ [] }
     ensures step { ResourceSteps S.ForkStore memory.old files.old (Getting call) (G.asks procedure.new) result memory.new files.new }
     ensures keeps { KeepsStores S.ForkStore files.old.stores files.new.stores }
@@ -36,9 +36,7 @@ pub(crate) fn get<S: ForkStore, G: GrowZone>(
     ensures shape { memory.new.shape ≡ memory.old.shape }
     ensures count { length files.new.stores ≡ length files.old.stores }
 {
-    let Some(place) = place_wanted(files, &call) else {
-        unreachable!();
-    };
+    let place = test_wanted(files, &call)?;
     let loads = loads_bytes(files, &call);
     match get_row(files, memory, place, loads, procedure) {
         Ok(handle) => Ok(given(&call, handle)),
@@ -46,16 +44,31 @@ pub(crate) fn get<S: ForkStore, G: GrowZone>(
     }
 }
 
-/// Where the row stands that a call gets or loads, once the call's tests have passed.
-fn place_wanted<S: ForkStore>(files: &ResourceFiles<S>, call: &GettingCall) -> Option<RowPlace>
-    ensures value { (state : ResState) → state.files ≡ files.now.files → Passes state (early_tests (Getting call.now)) → result ≡ row_wanted state (Getting call.now) }
-    ensures there { IfSome result (λ place. IsSome (row_at place files.now.files)) }
+/// The place of the row that a call gets or loads, or the call's refusal.
+fn test_wanted<S: ForkStore>(
+    files: &ResourceFiles<S>,
+    call: &GettingCall,
+) -> Result<RowPlace, OsErr>
+    ensures passed { (state : ResState) → state.files ≡ files.now.files → Tests state (early_tests (Getting call.now)) result }
+    ensures value { (state : ResState) → state.files ≡ files.now.files → IfOk result (λ place. row_wanted state (Getting call.now) ≡ Some place) }
+    ensures there { IfOk result (λ place. IsSome (row_at place files.now.files)) }
 {
     match *call {
-        GettingCall::GetResource { kind, id } => files.find(kind, test_id(id).ok()?),
-        GettingCall::Get1Resource { kind, id } => files.find_here(kind, test_id(id).ok()?),
-        GettingCall::GetIndResource { kind, index } => files.find_ith(kind, index),
-        GettingCall::LoadResource(handle) => files.row_of_handle(handle),
+        GettingCall::GetResource { kind, id } => {
+            test_file(files)?;
+            files.find(kind, test_id(id)?).ok_or(OsErr::ResNotFound)
+        }
+        GettingCall::Get1Resource { kind, id } => {
+            test_file(files)?;
+            files
+                .find_here(kind, test_id(id)?)
+                .ok_or(OsErr::ResNotFound)
+        }
+        GettingCall::GetIndResource { kind, index } => {
+            test_file(files)?;
+            files.find_ith(kind, index).ok_or(OsErr::ResNotFound)
+        }
+        GettingCall::LoadResource(handle) => test_row(files, handle, OsErr::ResNotFound),
     }
 }
 

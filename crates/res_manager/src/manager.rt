@@ -4,19 +4,20 @@ ghost use Rattle.std.specs.Prelude.{◌≡◌, [], None, length, IsTrue, IfOk, O
 ghost use Rattle.linked_zone.specs.Loans.{KeepsLoans};
 ghost use Rattle.res_calls.specs.Answered.{IsAnswered};
 ghost use Rattle.res_calls.specs.Tests.{resource_refusal};
+ghost use Rattle.mac_calls.specs.Outcomes.{done_outcome};
 ghost use Rattle.mac_calls.specs.declared.resource_call.ResourceCall.TheVariants.{OpenResFile};
 ghost use Rattle.res_files.specs.FilesOn.{HonestAt};
 ghost use Rattle.res_manager.specs.Crash.{LeavesForks};
 ghost use Rattle.res_manager.specs.Steps.{ResourceSteps, state_of, takes_memory};
-ghost use Rattle.res_manager.specs.Tests.{AreLent, Passes, early_tests};
+ghost use Rattle.res_manager.specs.Tests.{AreLent};
 
 use crate::getting::get;
 use crate::opening::open;
 use crate::quiet::{add, change, info, look};
-use crate::tests::test_call;
+use crate::tests::test_number;
 use crate::updating::update;
 use fork_disk::store::ForkStore;
-use mac_base::error::HostFull;
+use mac_base::error::{HostFull, OsErr};
 use mac_calls::{GrowZone, Outcome, ResourceCall, Results};
 use mem_calls::MemoryManager;
 use res_files::{MOST_FILES, ResourceFiles};
@@ -49,17 +50,11 @@ pub fn make<S: ForkStore, G: GrowZone>(
     ensures full { OnErr result (IsTrue (takes_memory (state_of S.fork memory.old files.old) call.now)) }
     ensures late { OnErr result (resource_refusal (state_of S.fork memory.old files.old) call.now ≡ None) }
 {
-    if let Err(code) = test_call(files, memory, lent, call) {
-        return Ok(Err(code));
-    }
     match *call {
         ResourceCall::Getting(call) => Ok(get(files, memory, call, procedure)),
-        ResourceCall::Looking(call) => Ok(Ok(look(files, call))),
-        ResourceCall::Changing(call) => {
-            change(files, memory, call);
-            Ok(Ok(Results::Nothing))
-        }
-        ResourceCall::Writing(call) => update(files, memory, call),
+        ResourceCall::Looking(call) => Ok(look(files, call)),
+        ResourceCall::Changing(call) => Ok(done(change(files, memory, call))),
+        ResourceCall::Writing(call) => update(files, memory, lent, call),
         ResourceCall::OpenResFile(number) => open_file(files, memory, number),
         ResourceCall::AddResource {
             handle,
@@ -68,11 +63,17 @@ pub fn make<S: ForkStore, G: GrowZone>(
             ref name,
         } => {
             let name = name.as_ref().map(|name| name.as_slice());
-            add(files, memory, alloc, handle, kind, id, name)?;
-            Ok(Ok(Results::Nothing))
+            Ok(done(add(files, memory, alloc, handle, kind, id, name)?))
         }
-        ResourceCall::GetResInfo(handle) => Ok(Ok(info(files, handle)?)),
+        ResourceCall::GetResInfo(handle) => info(files, handle),
     }
+}
+
+/// The outcome of a call that gives nothing.
+fn done(given: Result<(), OsErr>) -> Outcome
+    ensures { result ≡ done_outcome given }
+{
+    given.map(|()| Results::Nothing)
 }
 
 /// OpenResFile: opens a file, or gives its number where it is open already.
@@ -81,13 +82,16 @@ fn open_file<S: ForkStore>(
     memory: &MemoryManager,
     number: u32,
 ) -> Result<Outcome, HostFull>
-    requires { Passes (state_of S.fork memory.now files.old) (early_tests (OpenResFile number)) }
     ensures step { IfOk result (λ outcome. ResourceSteps S.ForkStore memory.now files.old (OpenResFile number) [] outcome memory.now files.new) }
     ensures leaves { LeavesForks S.ForkStore memory.now files.old (OpenResFile number) result memory.now files.new }
     ensures same { OnErr result (IsAnswered (HonestAt S.is_honest files.new.stores) (state_of S.fork memory.now files.new) (state_of S.fork memory.now files.old)) }
     ensures full { OnErr result (IsTrue (takes_memory (state_of S.fork memory.now files.old) (OpenResFile number))) }
+    ensures late { OnErr result (resource_refusal (state_of S.fork memory.now files.old) (OpenResFile number) ≡ None) }
     ensures count { length files.new.stores ≡ length files.old.stores }
 {
+    if let Err(code) = test_number(files, number) {
+        return Ok(Err(code));
+    }
     prove!(files.count() <= MOST_FILES);
     let number = number as u8;
     if files.is_open(number) {

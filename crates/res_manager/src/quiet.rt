@@ -1,59 +1,76 @@
 //! The calls that need neither room in the zone nor a disk.
 
-ghost use Rattle.std.specs.Prelude.{◌≡◌, length, nat_le, option_copied, IfOk, OnOk, OnErr, IsTrue, Ok};
+ghost use Rattle.std.specs.Prelude.{◌≡◌, length, nat_le, option_copied, IfOk, OnErr, Some, IsSome, IsTrue};
 ghost use Rattle.std.specs.Option.{option_map_or};
 ghost use Rattle.linked_zone.specs.Loans.{KeepsLoans};
+ghost use Rattle.mac_base.specs.ZoneState.{ZoneState};
 ghost use Rattle.mac_calls.specs.declared.resource_call.ResourceCall.TheVariants.{Looking, Changing, AddResource, GetResInfo};
-ghost use Rattle.mac_calls.specs.declared.resource_call.ChangingCall.TheVariants.{ReleaseResource, DetachResource, RemoveResource};
-ghost use Rattle.mac_calls.specs.declared.reply.Results.{Results};
+ghost use Rattle.mac_calls.specs.declared.resource_call.ChangingCall.TheVariants.{ReleaseResource, DetachResource, RemoveResource, ChangedResource, SetResAttrs};
 ghost use Rattle.res_calls.specs.Attributes.{marked, replaced_attributes};
+ghost use Rattle.res_calls.specs.Changes.{FileRow};
 ghost use Rattle.res_calls.specs.Files.{ResState};
-ghost use Rattle.res_calls.specs.Quiet.{quiet_results, attributes_changed};
+ghost use Rattle.res_calls.specs.Quiet.{quiet_results};
 ghost use Rattle.res_manager.specs.Steps.{state_of};
-ghost use Rattle.res_manager.specs.Tests.{Passes, early_tests};
-ghost use Rattle.res_manager.specs.Ends.{EndsQuietly};
+ghost use Rattle.res_table.specs.OpenFiles.{row_at};
+ghost use Rattle.res_manager.specs.Tests.{Passes, Tests, early_tests};
+ghost use Rattle.res_manager.specs.Ends.{EndsTested};
 
-use crate::rows::row_of;
-use crate::tests::{is_changed, test_id, test_open};
+use crate::rows::test_found;
+use crate::tests::{
+    is_changed, is_lent, require, test_adding, test_file, test_open, test_row, test_unchanged,
+    test_unprotected,
+};
 use bitflags::Flags;
 use fork_disk::store::ForkStore;
-use mac_base::error::HostFull;
+use mac_base::error::{HostFull, OsErr};
 use mac_base::handle::Handle;
 use mac_base::name::Name;
 use mac_base::resource::{ResAttrs, ResType};
-use mac_calls::{ChangingCall, LookingCall, ResourceInfo, Results};
+use mac_calls::{ChangingCall, LookingCall, Outcome, ResourceInfo, Results};
 use mem_calls::MemoryManager;
 use res_files::ResourceFiles;
 use res_table::attributes::unmarked;
+use res_table::chain::RowPlace;
 use std::alloc::Global;
 
-/// What a call gives that tells what the open files say.
-pub(crate) fn look<S: ForkStore>(files: &ResourceFiles<S>, call: LookingCall) -> Results
-    ensures { (state : ResState) → state.files ≡ files.now.files → result ≡ quiet_results state (Looking call) }
+/// Makes a call that tells what the open files say.
+pub(crate) fn look<S: ForkStore>(files: &ResourceFiles<S>, call: LookingCall) -> Outcome
+    ensures passed { (state : ResState) → state.files ≡ files.now.files → Tests state (early_tests (Looking call)) result }
+    ensures value { (state : ResState) → state.files ≡ files.now.files → IfOk result (λ results. results ≡ quiet_results state (Looking call)) }
 {
     match call {
-        LookingCall::GetResAttrs(handle) => match row_of(files, handle) {
-            Some(row) => Results::Number(row.resource.attributes.bits() as u32),
-            None => Results::Nothing,
-        },
-        LookingCall::SizeResource(handle) => match row_of(files, handle) {
-            Some(row) => Results::Number(row.resource.datum.length),
-            None => Results::Nothing,
-        },
-        LookingCall::HomeResFile(handle) => match files.row_of_handle(handle) {
-            Some(place) => Results::Number(place.file as u32),
-            None => Results::Nothing,
-        },
-        LookingCall::UniqueID(kind) => Results::Number(files.unique_id(kind)),
-        LookingCall::CountResources(kind) => Results::Number(files.count_of_type(kind)),
-        LookingCall::CountTypes => Results::Number(files.count_types()),
-        LookingCall::GetIndType(index) => match files.type_of_ith(index) {
-            Some(kind) => Results::Kind(kind),
-            None => Results::Nothing,
-        },
+        LookingCall::GetResAttrs(handle) => {
+            let row = test_found(files, handle)?;
+            Ok(Results::Number(row.resource.attributes.bits() as u32))
+        }
+        LookingCall::SizeResource(handle) => {
+            let row = test_found(files, handle)?;
+            Ok(Results::Number(row.resource.datum.length))
+        }
+        LookingCall::HomeResFile(handle) => {
+            let place = test_row(files, handle, OsErr::ResNotFound)?;
+            Ok(Results::Number(place.file as u32))
+        }
+        LookingCall::UniqueID(kind) => {
+            test_file(files)?;
+            Ok(Results::Number(files.unique_id(kind)))
+        }
+        LookingCall::CountResources(kind) => {
+            test_file(files)?;
+            Ok(Results::Number(files.count_of_type(kind)))
+        }
+        LookingCall::CountTypes => {
+            test_file(files)?;
+            Ok(Results::Number(files.count_types()))
+        }
+        LookingCall::GetIndType(index) => {
+            test_file(files)?;
+            let kind = files.type_of_ith(index).ok_or(OsErr::ResNotFound)?;
+            Ok(Results::Kind(kind))
+        }
         LookingCall::CurResFile => match files.current() {
-            Some(number) => Results::Number(number as u32),
-            None => Results::Number(0),
+            Some(number) => Ok(Results::Number(number as u32)),
+            None => Ok(Results::Number(0)),
         },
     }
 }
@@ -62,21 +79,24 @@ pub(crate) fn look<S: ForkStore>(files: &ResourceFiles<S>, call: LookingCall) ->
 pub(crate) fn info<S: ForkStore>(
     files: &ResourceFiles<S>,
     handle: Handle,
-) -> Result<Results, HostFull>
-    ensures { IfOk result (λ results. (state : ResState) → state.files ≡ files.now.files → results ≡ quiet_results state (GetResInfo handle)) }
+) -> Result<Outcome, HostFull>
+    ensures passed { IfOk result (λ outcome. (state : ResState) → state.files ≡ files.now.files → Tests state (early_tests (GetResInfo handle)) outcome) }
+    ensures value { IfOk result (λ outcome. (state : ResState) → state.files ≡ files.now.files → IfOk outcome (λ results. results ≡ quiet_results state (GetResInfo handle))) }
+    ensures late { OnErr result ((state : ResState) → state.files ≡ files.now.files → Passes state (early_tests (GetResInfo handle))) }
 {
-    let Some(row) = row_of(files, handle) else {
-        return Ok(Results::Nothing);
+    let row = match test_found(files, handle) {
+        Ok(row) => row,
+        Err(code) => return Ok(Err(code)),
     };
     let name = match &row.resource.name {
         Some(name) => Some(name.clone()?),
         None => None,
     };
-    Ok(Results::Info(ResourceInfo {
+    Ok(Ok(Results::Info(ResourceInfo {
         id: row.resource.id,
         kind: row.resource.kind,
         name,
-    }))
+    })))
 }
 
 /// A copy of the name of a resource that has one, of at most 255 bytes, in host memory.
@@ -95,9 +115,8 @@ pub(crate) fn change<S: ForkStore>(
     files: &mut ResourceFiles<S>,
     memory: &mut MemoryManager,
     call: ChangingCall,
-)
-    requires passed { Passes (state_of S.fork memory.old files.old) (early_tests (Changing call)) }
-    ensures quiet { EndsQuietly S.fork memory.old files.old (Changing call) (Ok Results.Nothing) memory.new files.new }
+) -> Result<(), OsErr>
+    ensures quiet { EndsTested S.fork memory.old files.old (Changing call) result memory.new files.new }
     ensures loans { KeepsLoans memory.old memory.new }
     ensures shape { memory.new.shape ≡ memory.old.shape }
     ensures stores { files.new.stores ≡ files.old.stores }
@@ -108,68 +127,112 @@ pub(crate) fn change<S: ForkStore>(
         ChangingCall::RemoveResource(handle) => remove(files, memory, handle),
         ChangingCall::ChangedResource(handle) => mark(files, handle),
         ChangingCall::SetResAttrs { handle, attributes } => {
-            set_attributes(files, handle, attributes as u8)
+            set_attributes(files, handle, attributes)
         }
-        ChangingCall::SetResLoad(number) => files.set_loads(number != 0),
+        ChangingCall::SetResLoad(number) => {
+            files.set_loads(number != 0);
+            Ok(())
+        }
         ChangingCall::UseResFile(number) => {
-            let Ok(number) = test_open(files, Some(number)) else {
-                unreachable!();
-            };
-            files.use_file(number)
+            test_file(files)?;
+            let number = test_open(files, Some(number))?;
+            files.use_file(number);
+            Ok(())
         }
     }
 }
 
 /// ReleaseResource: disposes of the handle, unless its resource is changed.
-fn release<S: ForkStore>(files: &mut ResourceFiles<S>, memory: &mut MemoryManager, handle: Handle)
-    ensures quiet { EndsQuietly S.fork memory.old files.old (Changing (ReleaseResource handle)) (Ok Results.Nothing) memory.new files.new }
+fn release<S: ForkStore>(
+    files: &mut ResourceFiles<S>,
+    memory: &mut MemoryManager,
+    handle: Handle,
+) -> Result<(), OsErr>
+    ensures quiet { EndsTested S.fork memory.old files.old (Changing (ReleaseResource handle)) result memory.new files.new }
     ensures loans { KeepsLoans memory.old memory.new }
     ensures shape { memory.new.shape ≡ memory.old.shape }
     ensures stores { files.new.stores ≡ files.old.stores }
 {
+    test_row(files, handle, OsErr::ResNotFound)?;
     if is_changed(files, handle) {
-        return;
+        return Ok(());
     }
+    require(!is_lent(memory, handle), OsErr::MemLockedErr)?;
     let _ = memory.dispose_handle(handle);
     files.forget(handle);
+    Ok(())
 }
 
 /// DetachResource: the handle is an ordinary one.
-fn detach<S: ForkStore>(files: &mut ResourceFiles<S>, memory: &mut MemoryManager, handle: Handle)
-    ensures quiet { EndsQuietly S.fork memory.old files.old (Changing (DetachResource handle)) (Ok Results.Nothing) memory.new files.new }
+fn detach<S: ForkStore>(
+    files: &mut ResourceFiles<S>,
+    memory: &mut MemoryManager,
+    handle: Handle,
+) -> Result<(), OsErr>
+    ensures quiet { EndsTested S.fork memory.old files.old (Changing (DetachResource handle)) result memory.new files.new }
     ensures loans { KeepsLoans memory.old memory.new }
     ensures shape { memory.new.shape ≡ memory.old.shape }
     ensures stores { files.new.stores ≡ files.old.stores }
 {
+    test_row(files, handle, OsErr::ResNotFound)?;
+    test_unchanged(files, handle, OsErr::ResAttrErr)?;
     let _ = memory.hclr_rbit(handle);
     files.forget(handle);
+    Ok(())
 }
 
 /// RemoveResource: the file no longer has the resource, and the handle is an ordinary one.
-fn remove<S: ForkStore>(files: &mut ResourceFiles<S>, memory: &mut MemoryManager, handle: Handle)
-    ensures quiet { EndsQuietly S.fork memory.old files.old (Changing (RemoveResource handle)) (Ok Results.Nothing) memory.new files.new }
+fn remove<S: ForkStore>(
+    files: &mut ResourceFiles<S>,
+    memory: &mut MemoryManager,
+    handle: Handle,
+) -> Result<(), OsErr>
+    ensures quiet { EndsTested S.fork memory.old files.old (Changing (RemoveResource handle)) result memory.new files.new }
     ensures loans { KeepsLoans memory.old memory.new }
     ensures shape { memory.new.shape ≡ memory.old.shape }
     ensures stores { files.new.stores ≡ files.old.stores }
 {
+    let place = test_row(files, handle, OsErr::RmvResFailed)?;
+    test_unprotected(files, handle, OsErr::RmvResFailed)?;
     let _ = memory.hclr_rbit(handle);
-    if let Some(place) = files.row_of_handle(handle) {
-        files.remove(place);
-    }
+    files.remove(place);
+    Ok(())
 }
 
 /// ChangedResource: the next update writes the resource.
-fn mark<S: ForkStore>(files: &mut ResourceFiles<S>, handle: Handle)
-    ensures { files.new ≡ record files.old { files = attributes_changed marked handle files.old.files } }
+fn mark<S: ForkStore>(files: &mut ResourceFiles<S>, handle: Handle) -> Result<(), OsErr>
+    ensures quiet { (zone : ZoneState) → EndsTested S.fork zone files.old (Changing (ChangedResource handle)) result zone files.new }
+    ensures stores { files.new.stores ≡ files.old.stores }
 {
-    let Some(place) = files.row_of_handle(handle) else {
-        return;
-    };
-    let Some(row) = files.row(place) else {
-        return;
-    };
-    let attributes = marked(row.resource.attributes);
+    let place = test_row(files, handle, OsErr::ResNotFound)?;
+    test_unprotected(files, handle, OsErr::ResAttrErr)?;
+    let attributes = marked(attributes_at(files, place));
     files.set_attributes(place, attributes);
+    Ok(())
+}
+
+/// SetResAttrs: the resource has other attributes, but whether it is changed stays.
+fn set_attributes<S: ForkStore>(
+    files: &mut ResourceFiles<S>,
+    handle: Handle,
+    attributes: u32,
+) -> Result<(), OsErr>
+    ensures quiet { (zone : ZoneState) → EndsTested S.fork zone files.old (Changing (SetResAttrs handle attributes)) result zone files.new }
+    ensures stores { files.new.stores ≡ files.old.stores }
+{
+    let place = test_row(files, handle, OsErr::ResNotFound)?;
+    require(attributes <= 255, OsErr::ParamErr)?;
+    let attributes = replaced_attributes(attributes as u8, attributes_at(files, place));
+    files.set_attributes(place, attributes);
+    Ok(())
+}
+
+/// The attributes of the row at a place.
+fn attributes_at<S: ForkStore>(files: &ResourceFiles<S>, place: RowPlace) -> ResAttrs
+    requires { IsSome (row_at place files.now.files) }
+    ensures { (r : FileRow) × (row_at place files.now.files ≡ Some r) × (result ≡ r.resource.attributes) }
+{
+    files.row(place).unwrap().resource.attributes
 }
 
 /// The attributes with resChanged.
@@ -179,20 +242,6 @@ fn marked(attributes: ResAttrs) -> ResAttrs
     let mut attributes = attributes;
     attributes.insert(ResAttrs::CHANGED);
     attributes
-}
-
-/// SetResAttrs: the resource has other attributes, but whether it is changed stays.
-fn set_attributes<S: ForkStore>(files: &mut ResourceFiles<S>, handle: Handle, attributes: u8)
-    ensures { files.new ≡ record files.old { files = attributes_changed (replaced_attributes attributes) handle files.old.files } }
-{
-    let Some(place) = files.row_of_handle(handle) else {
-        return;
-    };
-    let Some(row) = files.row(place) else {
-        return;
-    };
-    let attributes = replaced_attributes(attributes, row.resource.attributes);
-    files.set_attributes(place, attributes);
 }
 
 /// The attributes that SetResAttrs sets over old ones: resChanged stays as it was.
@@ -217,23 +266,21 @@ pub(crate) fn add<S: ForkStore>(
     kind: ResType,
     id: i64,
     name: Option<&[u8]>,
-) -> Result<(), HostFull>
-    requires { Passes (state_of S.fork memory.old files.old) (early_tests (AddResource handle kind id (option_copied name))) }
-    ensures quiet { OnOk result (EndsQuietly S.fork memory.old files.old (AddResource handle kind id (option_copied name.entry)) (Ok Results.Nothing) memory.new files.new) }
+) -> Result<Result<(), OsErr>, HostFull>
+    ensures quiet { IfOk result (λ done. EndsTested S.fork memory.old files.old (AddResource handle kind id (option_copied name.entry)) done memory.new files.new) }
+    ensures late { OnErr result (Passes (state_of S.fork memory.old files.old) (early_tests (AddResource handle kind id (option_copied name.entry)))) }
     ensures unchanged { OnErr result (memory.new ≡ memory.old) }
     ensures same { OnErr result (files.new ≡ files.old) }
     ensures loans { KeepsLoans memory.old memory.new }
     ensures shape { memory.new.shape ≡ memory.old.shape }
     ensures stores { files.new.stores ≡ files.old.stores }
 {
-    let Some(number) = files.current() else {
-        unreachable!();
-    };
-    let Ok(id) = test_id(id) else {
-        unreachable!();
+    let (number, id) = match test_adding(files, memory, handle, kind, id, name) {
+        Ok(found) => found,
+        Err(code) => return Ok(Err(code)),
     };
     let name = copy_if_named(alloc, name)?;
     files.add(number, handle, kind, id, name)?;
     let _ = memory.hset_rbit(handle);
-    Ok(())
+    Ok(Ok(()))
 }

@@ -10,12 +10,12 @@ ghost use Rattle.res_calls.specs.Updates.{Update, disposed, fits_fork, handles_o
 ghost use Rattle.res_manager.specs.Crash.{LeavesForks, SavesFork};
 ghost use Rattle.res_manager.specs.Ends.{WritesFile};
 ghost use Rattle.res_manager.specs.Steps.{ResourceSteps, state_of, takes_memory};
-ghost use Rattle.res_manager.specs.Tests.{Passes, early_tests};
+ghost use Rattle.res_manager.specs.Tests.{AreLent};
 ghost use Rattle.res_table.specs.OpenFiles.{is_open};
 ghost use Rattle.res_update.specs.Selected.{updated, reads_lent};
 
 use crate::contents::MemoryContents;
-use crate::tests::{is_changed, test_open};
+use crate::tests::{test_changed, test_closing, test_written};
 use fork_disk::store::ForkStore;
 use mac_base::error::{HostFull, OsErr};
 use mac_base::handle::Handle;
@@ -29,9 +29,10 @@ use res_update::selection::Selection;
 pub(crate) fn update<S: ForkStore>(
     files: &mut ResourceFiles<S>,
     memory: &mut MemoryManager,
+    lent: &[u32],
     call: WritingCall,
 ) -> Result<Outcome, HostFull>
-    requires passed { Passes (state_of S.fork memory.old files.old) (early_tests (Writing call)) }
+    requires lent { AreLent memory.old.heap.table lent.now }
     ensures step { IfOk result (λ outcome. ResourceSteps S.ForkStore memory.old files.old (Writing call) [] outcome memory.new files.new) }
     ensures leaves { LeavesForks S.ForkStore memory.old files.old (Writing call) result memory.new files.new }
     ensures loans { KeepsLoans memory.old memory.new }
@@ -45,18 +46,14 @@ pub(crate) fn update<S: ForkStore>(
 {
     match call {
         WritingCall::WriteResource(handle) => write_resource(files, memory, handle),
-        WritingCall::UpdateResFile(named) => {
-            let Ok(number) = test_open(files, named) else {
-                unreachable!();
-            };
-            write_file(files, memory, number, Selection::AllChanged)
-        }
-        WritingCall::CloseResFile(named) => {
-            let Ok(number) = test_open(files, named) else {
-                unreachable!();
-            };
-            close(files, memory, number)
-        }
+        WritingCall::UpdateResFile(named) => match test_changed(files, memory, lent, named) {
+            Ok(number) => write_file(files, memory, number, Selection::AllChanged),
+            Err(code) => Ok(Err(code)),
+        },
+        WritingCall::CloseResFile(named) => match test_closing(files, memory, lent, named) {
+            Ok(number) => close(files, memory, number),
+            Err(code) => Ok(Err(code)),
+        },
     }
 }
 
@@ -66,7 +63,6 @@ fn write_resource<S: ForkStore>(
     memory: &MemoryManager,
     handle: Handle,
 ) -> Result<Outcome, HostFull>
-    requires { Passes (state_of S.fork memory.now files.old) (early_tests (Writing (WriteResource handle))) }
     ensures step { IfOk result (λ outcome. ResourceSteps S.ForkStore memory.now files.old (Writing (WriteResource handle)) [] outcome memory.now files.new) }
     ensures leaves { LeavesForks S.ForkStore memory.now files.old (Writing (WriteResource handle)) result memory.now files.new }
     ensures count { length files.new.stores ≡ length files.old.stores }
@@ -74,13 +70,11 @@ fn write_resource<S: ForkStore>(
     ensures late { OnErr result (resource_refusal (state_of S.fork memory.now files.old) (Writing (WriteResource handle)) ≡ None) }
     ensures full { OnErr result (IsTrue (takes_memory (state_of S.fork memory.now files.old) (Writing (WriteResource handle)))) }
 {
-    let Some(place) = files.row_of_handle(handle) else {
-        unreachable!();
-    };
-    if !is_changed(files, handle) {
-        return Ok(Ok(Results::Nothing));
+    match test_written(files, memory, handle) {
+        Ok(Some(place)) => { write_file(files, memory, place.file, Selection::RowAt(place.index)) }
+        Ok(None) => Ok(Ok(Results::Nothing)),
+        Err(code) => Ok(Err(code)),
     }
-    write_file(files, memory, place.file, Selection::RowAt(place.index))
 }
 
 /// Closes a file once it is written: the handles of its rows are disposed of, in their order.

@@ -1,6 +1,7 @@
 -- Types of rows, and the runs that stand for them.
 use Rattle.std.proofs.Common.{◌≡◌, refl, sym, ap, ◌∙◌, arith, ℕ, zero, suc, ◌+◌, ◌-◌, ◌<◌, ◌≤◌, List, [], ◌∷◌, ◌++◌, length, get_or, take, drop, set, remove, replicate, slice_get, Bool, true, false, not, ◌||◌, ◌&&◌, Some, bytes_eq, ◌⊎◌, inl, inr, if◌then◌else◌, append_assoc}
-use Rattle.std.proofs.lemmas.List.{append-nil, get_or_default}
+use Rattle.std.proofs.lemmas.Bool.{cases_lt}
+use Rattle.std.proofs.lemmas.List.{append-nil, get_or_default, take_all}
 use Rattle.std.specs.Prelude.{nat_lt}
 use Rattle.std.proofs.lemmas.Bool.Decides.{nat_tests}
 use Rattle.std.proofs.lemmas.Slice.Eq.{bytes_eq-Decides}
@@ -287,3 +288,10 @@ run_taken runs i place run within is start end one =
 pub run_shorter : (runs : List TypeCount) (i place : ℕ) (run : TypeCount) → i < length runs → run ≡ get_or runs i run → length (expanded (take i runs)) ≤ place → place < length (expanded (take (i + 1) runs))
     → expanded (set runs i (record { kind = run.kind; count = run.count - 1 })) ≡ remove (expanded runs) place
 run_shorter runs i place run within is start end = runs_set runs i (record { kind = run.kind; count = run.count - 1 }) within ∙ sym (left_in runs i place run within is start end)
+
+-- a row that is there stands behind fewer runs than all
+pub run_inside : (runs : List TypeCount) (i left place : ℕ) → place ≡ length (expanded (take i runs)) + left → place < length (expanded runs) → i < length runs
+run_inside runs i left place all some = elim (cases_lt i (length runs)) [
+  | inl inside ↦ inside
+  | inr past ↦ let whole = ap (λ (rs : List TypeCount). length (expanded rs)) (take_all i runs past) in absurd (omega (arith, all, some, whole))
+]

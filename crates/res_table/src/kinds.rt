@@ -66,13 +66,12 @@ fn run_with(runs: &[TypeCount], place: usize) -> usize
     ensures end { place < length (expanded (take (result + 1) runs.now)) }
 {
     let mut left = place;
-    for (index, run) in runs.iter().enumerate() {
-        if left < run.count {
-            return index;
-        }
-        left -= run.count;
+    let mut index = 0;
+    while left >= runs[index].count {
+        left -= runs[index].count;
+        index += 1;
     }
-    unreachable!()
+    index
 }
 
 /// Whether a run is of the type that stands before it, if there is one.

@@ -7,6 +7,10 @@ use Rattle.std.proofs.lemmas.List.{get_or-map, length-map}
 use Rattle.std.proofs.lemmas.Slice.Eq.{bytes_eq-Decides}
 use Rattle.script_lang.specs.declared.table.CallName.{CallName}
 use Rattle.script_lang.specs.declared.table.CallName.TheVariants as name
+use Rattle.script_lang.specs.declared.table.HandleName.{HandleName}
+use Rattle.script_lang.specs.declared.table.HandleName.TheVariants as handle
+use Rattle.script_lang.specs.declared.table.ResourceHandleName.{ResourceHandleName}
+use Rattle.script_lang.specs.declared.table.ResourceHandleName.TheVariants as resource_handle
 use Rattle.script_lang.specs.declared.table.NumberName.{NumberName}
 use Rattle.script_lang.specs.declared.table.NumberName.TheVariants as number
 use Rattle.script_lang.specs.declared.table.PlainName.{PlainName}
@@ -38,7 +42,17 @@ has_name word call = bytes_eq (signature call).name word
 abbrev call_named : List ℕ → Option CallName
 call_named word = find (has_name word) all_calls
 
+handle_again : (call : HandleName) → call_named (signature (name.Number (number.Handle call))).name ≡ Some (name.Number (number.Handle call))
+handle_again handle.DisposeHandle = refl
+handle_again _ = refl
+
+resource_handle_again : (call : ResourceHandleName) → call_named (signature (name.Number (number.ResourceHandle call))).name ≡ Some (name.Number (number.ResourceHandle call))
+resource_handle_again resource_handle.LoadResource = refl
+resource_handle_again _ = refl
+
 number_again : (call : NumberName) → call_named (signature (name.Number call)).name ≡ Some (name.Number call)
+number_again (number.Handle call) = handle_again call
+number_again (number.ResourceHandle call) = resource_handle_again call
 number_again number.NewHandle = refl
 number_again _ = refl
 

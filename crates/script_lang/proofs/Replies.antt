@@ -7,7 +7,9 @@ use Rattle.mac_base.specs.ZoneMap.{block}
 use Rattle.mac_base.specs.declared.block.Kind.TheVariants.{Free, Master, Ptr, Rel}
 use Rattle.mac_calls.specs.declared.reply.Results.TheVariants.{Handle, Pointer, Address, Number, TwoNumbers, Code, Blocks, Kind, Info}
 use Rattle.script_lang.specs.declared.table.CallName.TheVariants as name
-use Rattle.script_lang.specs.declared.table.NumberName.TheVariants.{NewHandle, NewPtr, HGetState, Deref, GetResInfo, GetIndType, OpenResFile}
+use Rattle.script_lang.specs.declared.table.NumberName.TheVariants.{Handle as OnHandle, ResourceHandle, NewHandle, NewPtr, GetIndType, OpenResFile}
+use Rattle.script_lang.specs.declared.table.HandleName.TheVariants.{HGetState, Deref}
+use Rattle.script_lang.specs.declared.table.ResourceHandleName.TheVariants.{GetResInfo}
 use Rattle.script_lang.specs.declared.table.PlainName.TheVariants.{MaxMem, ZoneMap, MemError}
 use Rattle.script_lang.specs.Text.{address, reply_text, type_text, fault_text}
 
@@ -34,11 +36,11 @@ pointer_text : reply_text 1 (name.Number NewPtr) (record { outcome = Ok (Pointer
 unfolding address digits
 pointer_text = refl
 
-contents_text : reply_text 3 (name.Number Deref) (record { outcome = Ok (Address 0x0010_01AC) }) [] ≡ codes "3 Deref $001001AC 0\n"
+contents_text : reply_text 3 (name.Number (OnHandle Deref)) (record { outcome = Ok (Address 0x0010_01AC) }) [] ≡ codes "3 Deref $001001AC 0\n"
 unfolding address digits
 contents_text = refl
 
-state_text : reply_text 4 (name.Number HGetState) (record { outcome = Ok (Number 192) }) [] ≡ codes "4 HGetState 192 0\n"
+state_text : reply_text 4 (name.Number (OnHandle HGetState)) (record { outcome = Ok (Number 192) }) [] ≡ codes "4 HGetState 192 0\n"
 unfolding digits
 state_text = refl
 
@@ -62,11 +64,11 @@ most_text : reply_text 3 (name.Plain MaxMem) (record { outcome = Ok (TwoNumbers 
 unfolding digits
 most_text = refl
 
-nameless_text : reply_text 6 (name.Number GetResInfo) (record { outcome = Ok (Info (record { id = pos 128; kind = codes "TEXT"; name = None })) }) [] ≡ codes "6 GetResInfo 128 'TEXT' none 0\n"
+nameless_text : reply_text 6 (name.Number (ResourceHandle GetResInfo)) (record { outcome = Ok (Info (record { id = pos 128; kind = codes "TEXT"; name = None })) }) [] ≡ codes "6 GetResInfo 128 'TEXT' none 0\n"
 unfolding digits
 nameless_text = refl
 
-named_text : reply_text 10 (name.Number GetResInfo) (record { outcome = Ok (Info (record { id = negsuc 127; kind = codes "TEXT"; name = Some (codes "n") })) }) [] ≡ codes "10 GetResInfo -128 'TEXT' \"n\" 0\n"
+named_text : reply_text 10 (name.Number (ResourceHandle GetResInfo)) (record { outcome = Ok (Info (record { id = negsuc 127; kind = codes "TEXT"; name = Some (codes "n") })) }) [] ≡ codes "10 GetResInfo -128 'TEXT' \"n\" 0\n"
 unfolding digits
 named_text = refl
 

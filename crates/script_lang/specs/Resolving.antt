@@ -16,6 +16,10 @@ use Rattle.script_lang.specs.declared.line.NamedCall.{NamedCall}
 use Rattle.script_lang.specs.declared.line.NamedCall.TheVariants as named
 use Rattle.script_lang.specs.declared.line.NumberOperand.{NumberOperand}
 use Rattle.script_lang.specs.declared.line.NumberOperand.TheVariants as number_operand
+use Rattle.script_lang.specs.declared.table.HandleName.{HandleName}
+use Rattle.script_lang.specs.declared.table.HandleName.TheVariants as handle_name
+use Rattle.script_lang.specs.declared.table.ResourceHandleName.{ResourceHandleName}
+use Rattle.script_lang.specs.declared.table.ResourceHandleName.TheVariants as resource_handle_name
 use Rattle.script_lang.specs.declared.table.NumberName.{NumberName}
 use Rattle.script_lang.specs.declared.table.NumberName.TheVariants as number_name
 use Rattle.script_lang.specs.declared.table.PlainName.{PlainName}
@@ -44,42 +48,50 @@ abbrev pub id_of : Variables → IdOperand → ℤ
 id_of variables (id_operand.Id id) = id
 id_of variables (id_operand.Variable name) = pos (value_of variables name)
 
+-- the call of this name on a handle
+abbrev pub handle_call : HandleName → ℕ → Call
+handle_call handle_name.DisposeHandle handle = Memory (memory.DisposeHandle handle)
+handle_call handle_name.EmptyHandle handle = Memory (memory.EmptyHandle handle)
+handle_call handle_name.GetHandleSize handle = Memory (memory.GetHandleSize handle)
+handle_call handle_name.HLock handle = Memory (memory.HLock handle)
+handle_call handle_name.HUnlock handle = Memory (memory.HUnlock handle)
+handle_call handle_name.HPurge handle = Memory (memory.HPurge handle)
+handle_call handle_name.HNoPurge handle = Memory (memory.HNoPurge handle)
+handle_call handle_name.HSetRBit handle = Memory (memory.HSetRBit handle)
+handle_call handle_name.HClrRBit handle = Memory (memory.HClrRBit handle)
+handle_call handle_name.HGetState handle = Memory (memory.HGetState handle)
+handle_call handle_name.Deref handle = Memory (memory.Deref handle)
+handle_call handle_name.MoveHHi handle = Memory (memory.MoveHHi handle)
+handle_call handle_name.HLockHi handle = Memory (memory.HLockHi handle)
+handle_call handle_name.HandToHand handle = Memory (memory.HandToHand handle)
+
+-- the call of this name on the handle of a resource
+abbrev pub resource_handle_call : ResourceHandleName → ℕ → Call
+resource_handle_call resource_handle_name.LoadResource handle = Resource (Getting (LoadResource handle))
+resource_handle_call resource_handle_name.ReleaseResource handle = Resource (Changing (ReleaseResource handle))
+resource_handle_call resource_handle_name.DetachResource handle = Resource (Changing (DetachResource handle))
+resource_handle_call resource_handle_name.ChangedResource handle = Resource (Changing (ChangedResource handle))
+resource_handle_call resource_handle_name.RemoveResource handle = Resource (Changing (RemoveResource handle))
+resource_handle_call resource_handle_name.WriteResource handle = Resource (Writing (WriteResource handle))
+resource_handle_call resource_handle_name.GetResAttrs handle = Resource (Looking (GetResAttrs handle))
+resource_handle_call resource_handle_name.GetResInfo handle = Resource (GetResInfo handle)
+resource_handle_call resource_handle_name.SizeResource handle = Resource (Looking (SizeResource handle))
+resource_handle_call resource_handle_name.HomeResFile handle = Resource (Looking (HomeResFile handle))
+
 -- the call of this name on a number
 abbrev pub number_call : NumberName → ℕ → Call
+number_call (number_name.Handle call) number = handle_call call number
+number_call (number_name.ResourceHandle call) number = resource_handle_call call number
 number_call number_name.NewHandle number = Memory (memory.NewHandle number)
 number_call number_name.NewPtr number = Memory (memory.NewPtr number)
-number_call number_name.DisposeHandle number = Memory (memory.DisposeHandle number)
 number_call number_name.DisposePtr number = Memory (memory.DisposePtr number)
-number_call number_name.EmptyHandle number = Memory (memory.EmptyHandle number)
-number_call number_name.GetHandleSize number = Memory (memory.GetHandleSize number)
 number_call number_name.GetPtrSize number = Memory (memory.GetPtrSize number)
-number_call number_name.HLock number = Memory (memory.HLock number)
-number_call number_name.HUnlock number = Memory (memory.HUnlock number)
-number_call number_name.HPurge number = Memory (memory.HPurge number)
-number_call number_name.HNoPurge number = Memory (memory.HNoPurge number)
-number_call number_name.HSetRBit number = Memory (memory.HSetRBit number)
-number_call number_name.HClrRBit number = Memory (memory.HClrRBit number)
-number_call number_name.HGetState number = Memory (memory.HGetState number)
-number_call number_name.Deref number = Memory (memory.Deref number)
 number_call number_name.RecoverHandle number = Memory (memory.RecoverHandle number)
-number_call number_name.MoveHHi number = Memory (memory.MoveHHi number)
-number_call number_name.HLockHi number = Memory (memory.HLockHi number)
-number_call number_name.HandToHand number = Memory (memory.HandToHand number)
 number_call number_name.CompactMem number = Memory (memory.CompactMem number)
 number_call number_name.PurgeMem number = Memory (memory.PurgeMem number)
 number_call number_name.ReserveMem number = Memory (memory.ReserveMem number)
 number_call number_name.Lend number = Loan (loan.Lend number)
 number_call number_name.Return number = Loan (loan.Return number)
-number_call number_name.LoadResource number = Resource (Getting (LoadResource number))
-number_call number_name.ReleaseResource number = Resource (Changing (ReleaseResource number))
-number_call number_name.DetachResource number = Resource (Changing (DetachResource number))
-number_call number_name.ChangedResource number = Resource (Changing (ChangedResource number))
-number_call number_name.RemoveResource number = Resource (Changing (RemoveResource number))
-number_call number_name.WriteResource number = Resource (Writing (WriteResource number))
-number_call number_name.GetResAttrs number = Resource (Looking (GetResAttrs number))
-number_call number_name.GetResInfo number = Resource (GetResInfo number)
-number_call number_name.SizeResource number = Resource (Looking (SizeResource number))
-number_call number_name.HomeResFile number = Resource (Looking (HomeResFile number))
 number_call number_name.GetIndType number = Resource (Looking (GetIndType number))
 number_call number_name.SetResLoad number = Resource (Changing (SetResLoad number))
 number_call number_name.OpenResFile number = Resource (OpenResFile number)

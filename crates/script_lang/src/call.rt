@@ -3,12 +3,13 @@
 ghost use Rattle.std.specs.Prelude.{◌≡◌};
 ghost use Rattle.mac_calls.specs.declared.call.Call.TheVariants.{Resource};
 ghost use Rattle.mac_calls.specs.declared.resource_call.ResourceCall.TheVariants.{Getting, Looking, Changing, Writing};
+ghost use Rattle.script_lang.specs.declared.line.NamedCall.TheVariants.{BlockMove, AddResource};
 ghost use Rattle.script_lang.specs.Resolving as calls;
 
 use crate::line::{CallLine, IdOperand, NamedCall, NumberOperand};
 use crate::table::{
-    BytesName, FileName, KindName, NumberName, PlainName, ResourceName, ThreeNumbersName,
-    TwoNumbersName,
+    BytesName, FileName, HandleName, KindName, NumberName, PlainName, ResourceHandleName,
+    ResourceName, ThreeNumbersName, TwoNumbersName,
 };
 use crate::vars::Vars;
 use mac_base::handle::{Handle, Ptr};
@@ -66,46 +67,63 @@ fn writing(call: WritingCall) -> Call<'static>
     Call::Resource(ResourceCall::Writing(call))
 }
 
+/// The call of this name on a handle.
+fn handle_call(call: HandleName, handle: Handle) -> Call<'static>
+    ensures { result ≡ calls.handle_call call handle }
+{
+    match call {
+        HandleName::DisposeHandle => Call::Memory(MemoryCall::DisposeHandle(handle)),
+        HandleName::EmptyHandle => Call::Memory(MemoryCall::EmptyHandle(handle)),
+        HandleName::GetHandleSize => Call::Memory(MemoryCall::GetHandleSize(handle)),
+        HandleName::HLock => Call::Memory(MemoryCall::HLock(handle)),
+        HandleName::HUnlock => Call::Memory(MemoryCall::HUnlock(handle)),
+        HandleName::HPurge => Call::Memory(MemoryCall::HPurge(handle)),
+        HandleName::HNoPurge => Call::Memory(MemoryCall::HNoPurge(handle)),
+        HandleName::HSetRBit => Call::Memory(MemoryCall::HSetRBit(handle)),
+        HandleName::HClrRBit => Call::Memory(MemoryCall::HClrRBit(handle)),
+        HandleName::HGetState => Call::Memory(MemoryCall::HGetState(handle)),
+        HandleName::Deref => Call::Memory(MemoryCall::Deref(handle)),
+        HandleName::MoveHHi => Call::Memory(MemoryCall::MoveHHi(handle)),
+        HandleName::HLockHi => Call::Memory(MemoryCall::HLockHi(handle)),
+        HandleName::HandToHand => Call::Memory(MemoryCall::HandToHand(handle)),
+    }
+}
+
+/// The call of this name on the handle of a resource.
+fn resource_handle_call(call: ResourceHandleName, handle: Handle) -> Call<'static>
+    ensures { result ≡ calls.resource_handle_call call handle }
+{
+    match call {
+        ResourceHandleName::LoadResource => getting(GettingCall::LoadResource(handle)),
+        ResourceHandleName::ReleaseResource => changing(ChangingCall::ReleaseResource(handle)),
+        ResourceHandleName::DetachResource => changing(ChangingCall::DetachResource(handle)),
+        ResourceHandleName::ChangedResource => changing(ChangingCall::ChangedResource(handle)),
+        ResourceHandleName::RemoveResource => changing(ChangingCall::RemoveResource(handle)),
+        ResourceHandleName::WriteResource => writing(WritingCall::WriteResource(handle)),
+        ResourceHandleName::GetResAttrs => looking(LookingCall::GetResAttrs(handle)),
+        ResourceHandleName::GetResInfo => Call::Resource(ResourceCall::GetResInfo(handle)),
+        ResourceHandleName::SizeResource => looking(LookingCall::SizeResource(handle)),
+        ResourceHandleName::HomeResFile => looking(LookingCall::HomeResFile(handle)),
+    }
+}
+
 /// The call of this name on a number.
 fn number_call(call: NumberName, number: u32) -> Call<'static>
     ensures { result ≡ calls.number_call call number }
 {
-    let handle = Handle::new(number);
     match call {
+        NumberName::Handle(call) => handle_call(call, Handle::new(number)),
+        NumberName::ResourceHandle(call) => resource_handle_call(call, Handle::new(number)),
         NumberName::NewHandle => Call::Memory(MemoryCall::NewHandle(number)),
         NumberName::NewPtr => Call::Memory(MemoryCall::NewPtr(number)),
-        NumberName::DisposeHandle => Call::Memory(MemoryCall::DisposeHandle(handle)),
         NumberName::DisposePtr => Call::Memory(MemoryCall::DisposePtr(Ptr::new(number))),
-        NumberName::EmptyHandle => Call::Memory(MemoryCall::EmptyHandle(handle)),
-        NumberName::GetHandleSize => Call::Memory(MemoryCall::GetHandleSize(handle)),
         NumberName::GetPtrSize => Call::Memory(MemoryCall::GetPtrSize(Ptr::new(number))),
-        NumberName::HLock => Call::Memory(MemoryCall::HLock(handle)),
-        NumberName::HUnlock => Call::Memory(MemoryCall::HUnlock(handle)),
-        NumberName::HPurge => Call::Memory(MemoryCall::HPurge(handle)),
-        NumberName::HNoPurge => Call::Memory(MemoryCall::HNoPurge(handle)),
-        NumberName::HSetRBit => Call::Memory(MemoryCall::HSetRBit(handle)),
-        NumberName::HClrRBit => Call::Memory(MemoryCall::HClrRBit(handle)),
-        NumberName::HGetState => Call::Memory(MemoryCall::HGetState(handle)),
-        NumberName::Deref => Call::Memory(MemoryCall::Deref(handle)),
         NumberName::RecoverHandle => Call::Memory(MemoryCall::RecoverHandle(number)),
-        NumberName::MoveHHi => Call::Memory(MemoryCall::MoveHHi(handle)),
-        NumberName::HLockHi => Call::Memory(MemoryCall::HLockHi(handle)),
-        NumberName::HandToHand => Call::Memory(MemoryCall::HandToHand(handle)),
         NumberName::CompactMem => Call::Memory(MemoryCall::CompactMem(number)),
         NumberName::PurgeMem => Call::Memory(MemoryCall::PurgeMem(number)),
         NumberName::ReserveMem => Call::Memory(MemoryCall::ReserveMem(number)),
         NumberName::Lend => Call::Loan(LoanCall::Lend(number)),
         NumberName::Return => Call::Loan(LoanCall::Return(number)),
-        NumberName::LoadResource => getting(GettingCall::LoadResource(handle)),
-        NumberName::ReleaseResource => changing(ChangingCall::ReleaseResource(handle)),
-        NumberName::DetachResource => changing(ChangingCall::DetachResource(handle)),
-        NumberName::ChangedResource => changing(ChangingCall::ChangedResource(handle)),
-        NumberName::RemoveResource => changing(ChangingCall::RemoveResource(handle)),
-        NumberName::WriteResource => writing(WritingCall::WriteResource(handle)),
-        NumberName::GetResAttrs => looking(LookingCall::GetResAttrs(handle)),
-        NumberName::GetResInfo => Call::Resource(ResourceCall::GetResInfo(handle)),
-        NumberName::SizeResource => looking(LookingCall::SizeResource(handle)),
-        NumberName::HomeResFile => looking(LookingCall::HomeResFile(handle)),
         NumberName::GetIndType => looking(LookingCall::GetIndType(number)),
         NumberName::SetResLoad => changing(ChangingCall::SetResLoad(number)),
         NumberName::OpenResFile => Call::Resource(ResourceCall::OpenResFile(number)),
@@ -239,6 +257,44 @@ fn kind_call(call: KindName, kind: ResType) -> Call<'static>
     }
 }
 
+/// BlockMove, with the values that its operands have now.
+fn block_move_call(
+    from: NumberOperand,
+    start: NumberOperand,
+    to: NumberOperand,
+    offset: NumberOperand,
+    count: NumberOperand,
+    vars: &Vars,
+) -> Call<'static>
+    ensures { result ≡ calls.resolved vars.now (BlockMove from start to offset count) }
+{
+    Call::Memory(MemoryCall::BlockMove {
+        from: number_of(from, vars),
+        start: number_of(start, vars),
+        to: number_of(to, vars),
+        offset: number_of(offset, vars),
+        count: number_of(count, vars),
+    })
+}
+
+/// AddResource, with the values that its operands have now.
+fn add_resource_call<'a>(
+    handle: NumberOperand,
+    kind: ResType,
+    id: IdOperand,
+    name: &Option<Span<'a>>,
+    vars: &Vars,
+) -> Call<'a>
+    ensures { result ≡ calls.resolved vars.now (AddResource handle kind id name.now) }
+{
+    Call::Resource(ResourceCall::AddResource {
+        handle: Handle::new(number_of(handle, vars)),
+        kind,
+        id: id_of(id, vars),
+        name: name.as_ref().map(|name| Span::new(name.as_slice())),
+    })
+}
+
 /// The call that a line makes, with the values that its operands have now.
 pub fn resolve<'a>(line: &CallLine<'a>, vars: &Vars) -> Call<'a>
     ensures { result ≡ calls.call_of vars.now line.now }
@@ -255,25 +311,10 @@ pub fn resolve<'a>(line: &CallLine<'a>, vars: &Vars) -> Call<'a>
             number_of(*second, vars),
             number_of(*third, vars),
         ),
-        NamedCall::BlockMove {
-            from,
-            start,
-            to,
-            offset,
-            count,
-        } => Call::Memory(MemoryCall::BlockMove {
-            from: number_of(*from, vars),
-            start: number_of(*start, vars),
-            to: number_of(*to, vars),
-            offset: number_of(*offset, vars),
-            count: number_of(*count, vars),
-        }),
-        NamedCall::Bytes {
-            call,
-            block,
-            offset,
-            bytes,
-        } => bytes_call(
+        NamedCall::BlockMove(from, start, to, offset, count) => {
+            block_move_call(*from, *start, *to, *offset, *count, vars)
+        }
+        NamedCall::Bytes(call, block, offset, bytes) => bytes_call(
             *call,
             number_of(*block, vars),
             number_of(*offset, vars),
@@ -285,17 +326,9 @@ pub fn resolve<'a>(line: &CallLine<'a>, vars: &Vars) -> Call<'a>
             index: number_of(*index, vars),
         }),
         NamedCall::Kind(call, kind) => kind_call(*call, *kind),
-        NamedCall::AddResource {
-            handle,
-            kind,
-            id,
-            name,
-        } => Call::Resource(ResourceCall::AddResource {
-            handle: Handle::new(number_of(*handle, vars)),
-            kind: *kind,
-            id: id_of(*id, vars),
-            name: name.as_ref().map(|name| Span::new(name.as_slice())),
-        }),
+        NamedCall::AddResource(handle, kind, id, name) => {
+            add_resource_call(*handle, *kind, *id, name, vars)
+        }
         NamedCall::File(call, file) => file_call(*call, file.map(|file| number_of(file, vars))),
     }
 }

@@ -21,8 +21,8 @@ pub use line::{
 pub use printing::{NO_MEMORY, fault_line};
 pub use reply::ReplyText;
 pub use table::{
-    BytesName, CallName, FileName, KindName, NumberName, PlainName, ResourceName, Signature,
-    ThreeNumbersName, TwoNumbersName,
+    BytesName, CallName, FileName, HandleName, KindName, NumberName, PlainName, ResourceHandleName,
+    ResourceName, Signature, ThreeNumbersName, TwoNumbersName,
 };
 pub use taken::first_number;
 pub use vars::{Vars, values_are_kept};

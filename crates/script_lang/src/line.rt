@@ -66,28 +66,15 @@ pub enum NamedCall<'a> {
     Number(NumberName, NumberOperand),
     TwoNumbers(TwoNumbersName, NumberOperand, NumberOperand),
     ThreeNumbers(ThreeNumbersName, NumberOperand, NumberOperand, NumberOperand),
-    BlockMove {
-        from: NumberOperand,
-        start: NumberOperand,
-        to: NumberOperand,
-        offset: NumberOperand,
-        count: NumberOperand,
-    },
-    Bytes {
-        call: BytesName,
-        block: NumberOperand,
-        offset: NumberOperand,
-        bytes: Span<'a>,
-    },
+    /// A block and a start in it, a block and an offset in it, and a count.
+    BlockMove(NumberOperand, NumberOperand, NumberOperand, NumberOperand, NumberOperand),
+    /// A block, an offset in it, and bytes.
+    Bytes(BytesName, NumberOperand, NumberOperand, Span<'a>),
     Resource(ResourceName, ResType, IdOperand),
     GetIndResource(ResType, NumberOperand),
     Kind(KindName, ResType),
-    AddResource {
-        handle: NumberOperand,
-        kind: ResType,
-        id: IdOperand,
-        name: Option<Span<'a>>,
-    },
+    /// A handle, a type, an id and a name.
+    AddResource(NumberOperand, ResType, IdOperand, Option<Span<'a>>),
     File(FileName, Option<NumberOperand>),
 }
 
@@ -104,12 +91,12 @@ impl<'a> NamedCall<'a> {
             NamedCall::Number(call, ..) => CallName::Number(*call),
             NamedCall::TwoNumbers(call, ..) => CallName::TwoNumbers(*call),
             NamedCall::ThreeNumbers(call, ..) => CallName::ThreeNumbers(*call),
-            NamedCall::BlockMove { .. } => CallName::BlockMove,
-            NamedCall::Bytes { call, .. } => CallName::Bytes(*call),
+            NamedCall::BlockMove(..) => CallName::BlockMove,
+            NamedCall::Bytes(call, ..) => CallName::Bytes(*call),
             NamedCall::Resource(call, ..) => CallName::Resource(*call),
             NamedCall::GetIndResource(..) => CallName::GetIndResource,
             NamedCall::Kind(call, _) => CallName::Kind(*call),
-            NamedCall::AddResource { .. } => CallName::AddResource,
+            NamedCall::AddResource(..) => CallName::AddResource,
             NamedCall::File(call, _) => CallName::File(*call),
         }
     }

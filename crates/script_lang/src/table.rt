@@ -5,16 +5,12 @@ ghost use Rattle.script_lang.specs.declared.table.CallName.{CallName};
 ghost use Rattle.script_lang.specs.declared.table.Row.{Row};
 ghost use Rattle.script_lang.specs.Table as table;
 
-/// The calls on a number: a size, a handle, a pointer, a file or an index.
+/// The calls on a handle.
 #[derive(Clone, Copy)]
-pub enum NumberName {
-    NewHandle,
-    NewPtr,
+pub enum HandleName {
     DisposeHandle,
-    DisposePtr,
     EmptyHandle,
     GetHandleSize,
-    GetPtrSize,
     HLock,
     HUnlock,
     HPurge,
@@ -23,15 +19,14 @@ pub enum NumberName {
     HClrRBit,
     HGetState,
     Deref,
-    RecoverHandle,
     MoveHHi,
     HLockHi,
     HandToHand,
-    CompactMem,
-    PurgeMem,
-    ReserveMem,
-    Lend,
-    Return,
+}
+
+/// The calls on the handle of a resource.
+#[derive(Clone, Copy)]
+pub enum ResourceHandleName {
     LoadResource,
     ReleaseResource,
     DetachResource,
@@ -42,6 +37,23 @@ pub enum NumberName {
     GetResInfo,
     SizeResource,
     HomeResFile,
+}
+
+/// The calls on a number: a handle, a size, a pointer, a file or an index.
+#[derive(Clone, Copy)]
+pub enum NumberName {
+    Handle(HandleName),
+    ResourceHandle(ResourceHandleName),
+    NewHandle,
+    NewPtr,
+    DisposePtr,
+    GetPtrSize,
+    RecoverHandle,
+    CompactMem,
+    PurgeMem,
+    ReserveMem,
+    Lend,
+    Return,
     GetIndType,
     SetResLoad,
     OpenResFile,
@@ -154,31 +166,31 @@ macro_rules! table_of_calls {
         $make! {
             $($given)*
             Number(NumberName::NewHandle) gives b"NewHandle",
-            Number(NumberName::DisposeHandle) does b"DisposeHandle",
+            Number(NumberName::Handle(HandleName::DisposeHandle)) does b"DisposeHandle",
             Bytes(BytesName::Poke) does b"Poke",
             ThreeNumbers(ThreeNumbersName::Peek) does b"Peek",
             Plain(PlainName::NewEmptyHandle) gives b"NewEmptyHandle",
             Number(NumberName::NewPtr) gives b"NewPtr",
             Number(NumberName::DisposePtr) does b"DisposePtr",
-            Number(NumberName::EmptyHandle) does b"EmptyHandle",
-            Number(NumberName::GetHandleSize) gives b"GetHandleSize",
+            Number(NumberName::Handle(HandleName::EmptyHandle)) does b"EmptyHandle",
+            Number(NumberName::Handle(HandleName::GetHandleSize)) gives b"GetHandleSize",
             TwoNumbers(TwoNumbersName::SetHandleSize) does b"SetHandleSize",
             Number(NumberName::GetPtrSize) gives b"GetPtrSize",
             TwoNumbers(TwoNumbersName::SetPtrSize) does b"SetPtrSize",
-            Number(NumberName::HLock) does b"HLock",
-            Number(NumberName::HUnlock) does b"HUnlock",
-            Number(NumberName::HPurge) does b"HPurge",
-            Number(NumberName::HNoPurge) does b"HNoPurge",
-            Number(NumberName::HSetRBit) does b"HSetRBit",
-            Number(NumberName::HClrRBit) does b"HClrRBit",
-            Number(NumberName::HGetState) gives b"HGetState",
+            Number(NumberName::Handle(HandleName::HLock)) does b"HLock",
+            Number(NumberName::Handle(HandleName::HUnlock)) does b"HUnlock",
+            Number(NumberName::Handle(HandleName::HPurge)) does b"HPurge",
+            Number(NumberName::Handle(HandleName::HNoPurge)) does b"HNoPurge",
+            Number(NumberName::Handle(HandleName::HSetRBit)) does b"HSetRBit",
+            Number(NumberName::Handle(HandleName::HClrRBit)) does b"HClrRBit",
+            Number(NumberName::Handle(HandleName::HGetState)) gives b"HGetState",
             TwoNumbers(TwoNumbersName::HSetState) does b"HSetState",
-            Number(NumberName::Deref) gives b"Deref",
+            Number(NumberName::Handle(HandleName::Deref)) gives b"Deref",
             Number(NumberName::RecoverHandle) gives b"RecoverHandle",
             TwoNumbers(TwoNumbersName::ReallocateHandle) does b"ReallocateHandle",
-            Number(NumberName::MoveHHi) does b"MoveHHi",
-            Number(NumberName::HLockHi) does b"HLockHi",
-            Number(NumberName::HandToHand) gives b"HandToHand",
+            Number(NumberName::Handle(HandleName::MoveHHi)) does b"MoveHHi",
+            Number(NumberName::Handle(HandleName::HLockHi)) does b"HLockHi",
+            Number(NumberName::Handle(HandleName::HandToHand)) gives b"HandToHand",
             TwoNumbers(TwoNumbersName::PtrToHand) gives b"PtrToHand",
             ThreeNumbers(ThreeNumbersName::PtrToXHand) does b"PtrToXHand",
             ThreeNumbers(ThreeNumbersName::PtrAndHand) does b"PtrAndHand",
@@ -202,20 +214,20 @@ macro_rules! table_of_calls {
             Resource(ResourceName::GetResource) gives b"GetResource",
             Resource(ResourceName::Get1Resource) gives b"Get1Resource",
             GetIndResource gives b"GetIndResource",
-            Number(NumberName::LoadResource) does b"LoadResource",
-            Number(NumberName::ReleaseResource) does b"ReleaseResource",
-            Number(NumberName::DetachResource) does b"DetachResource",
+            Number(NumberName::ResourceHandle(ResourceHandleName::LoadResource)) does b"LoadResource",
+            Number(NumberName::ResourceHandle(ResourceHandleName::ReleaseResource)) does b"ReleaseResource",
+            Number(NumberName::ResourceHandle(ResourceHandleName::DetachResource)) does b"DetachResource",
             AddResource does b"AddResource",
-            Number(NumberName::ChangedResource) does b"ChangedResource",
-            Number(NumberName::RemoveResource) does b"RemoveResource",
-            Number(NumberName::WriteResource) does b"WriteResource",
+            Number(NumberName::ResourceHandle(ResourceHandleName::ChangedResource)) does b"ChangedResource",
+            Number(NumberName::ResourceHandle(ResourceHandleName::RemoveResource)) does b"RemoveResource",
+            Number(NumberName::ResourceHandle(ResourceHandleName::WriteResource)) does b"WriteResource",
             File(FileName::UpdateResFile) does b"UpdateResFile",
             File(FileName::CloseResFile) does b"CloseResFile",
-            Number(NumberName::GetResAttrs) gives b"GetResAttrs",
+            Number(NumberName::ResourceHandle(ResourceHandleName::GetResAttrs)) gives b"GetResAttrs",
             TwoNumbers(TwoNumbersName::SetResAttrs) does b"SetResAttrs",
-            Number(NumberName::GetResInfo) does b"GetResInfo",
-            Number(NumberName::SizeResource) gives b"SizeResource",
-            Number(NumberName::HomeResFile) gives b"HomeResFile",
+            Number(NumberName::ResourceHandle(ResourceHandleName::GetResInfo)) does b"GetResInfo",
+            Number(NumberName::ResourceHandle(ResourceHandleName::SizeResource)) gives b"SizeResource",
+            Number(NumberName::ResourceHandle(ResourceHandleName::HomeResFile)) gives b"HomeResFile",
             Kind(KindName::UniqueID) gives b"UniqueID",
             Plain(PlainName::CountTypes) gives b"CountTypes",
             Kind(KindName::CountResources) gives b"CountResources",
@@ -251,17 +263,17 @@ macro_rules! does {
 
 /// The signature of a call, by its row.
 macro_rules! signature_of {
-    ($one:ident $($form:ident $(($kind:ident::$call:ident))? $row:ident $name:literal,)*) => {
+    ($one:ident $($form:ident $(($($call:tt)+))? $row:ident $name:literal,)*) => {
         match $one {
-            $(CallName::$form $(($kind::$call))? => $row!($name),)*
+            $(CallName::$form $(($($call)+))? => $row!($name),)*
         }
     };
 }
 
 /// All rows.
 macro_rules! rows_of {
-    ($($form:ident $(($kind:ident::$call:ident))? $row:ident $name:literal,)*) => {
-        &[$(Row { name: $name, call: CallName::$form $(($kind::$call))? },)*]
+    ($($form:ident $(($($call:tt)+))? $row:ident $name:literal,)*) => {
+        &[$(Row { name: $name, call: CallName::$form $(($($call)+))? },)*]
     };
 }
 

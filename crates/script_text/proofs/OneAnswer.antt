@@ -10,6 +10,10 @@ use Rattle.script_lang.specs.declared.table.FileName.{FileName}
 use Rattle.script_lang.specs.declared.table.FileName.TheVariants as file
 use Rattle.script_lang.specs.declared.table.KindName.{KindName}
 use Rattle.script_lang.specs.declared.table.KindName.TheVariants as kind
+use Rattle.script_lang.specs.declared.table.HandleName.{HandleName}
+use Rattle.script_lang.specs.declared.table.HandleName.TheVariants as handle
+use Rattle.script_lang.specs.declared.table.ResourceHandleName.{ResourceHandleName}
+use Rattle.script_lang.specs.declared.table.ResourceHandleName.TheVariants as resource_handle
 use Rattle.script_lang.specs.declared.table.NumberName.{NumberName}
 use Rattle.script_lang.specs.declared.table.NumberName.TheVariants as number
 use Rattle.script_lang.specs.declared.table.PlainName.{PlainName}
@@ -91,7 +95,17 @@ plain_not_two : (call : PlainName) → length (signature (name.Plain call)).name
 plain_not_two plain.NewEmptyHandle e = absurd (omega (arith, e))
 plain_not_two _ e = absurd (omega (arith, e))
 
+handle_not_two : (call : HandleName) → length (signature (name.Number (number.Handle call))).name ≡ 2 → ⊥
+handle_not_two handle.DisposeHandle e = absurd (omega (arith, e))
+handle_not_two _ e = absurd (omega (arith, e))
+
+resource_handle_not_two : (call : ResourceHandleName) → length (signature (name.Number (number.ResourceHandle call))).name ≡ 2 → ⊥
+resource_handle_not_two resource_handle.LoadResource e = absurd (omega (arith, e))
+resource_handle_not_two _ e = absurd (omega (arith, e))
+
 number_not_two : (call : NumberName) → length (signature (name.Number call)).name ≡ 2 → ⊥
+number_not_two (number.Handle call) e = handle_not_two call e
+number_not_two (number.ResourceHandle call) e = resource_handle_not_two call e
 number_not_two number.NewHandle e = absurd (omega (arith, e))
 number_not_two _ e = absurd (omega (arith, e))
 

@@ -81,13 +81,7 @@ fn block_move<'a>(tokens: &[Token<'_>], names: &Names<'_>) -> Option<NamedCall<'
     let to = number_or_variable(*to, names)?;
     let offset = number_or_variable(*offset, names)?;
     let count = number_or_variable(*count, names)?;
-    Some(NamedCall::BlockMove {
-        from,
-        start,
-        to,
-        offset,
-        count,
-    })
+    Some(NamedCall::BlockMove(from, start, to, offset, count))
 }
 
 fn bytes_call<'a>(
@@ -110,12 +104,7 @@ fn bytes_call<'a>(
     let Some(bytes) = bytes_of(arena, *bytes)? else {
         return Ok(None);
     };
-    Ok(Some(NamedCall::Bytes {
-        call,
-        block,
-        offset,
-        bytes,
-    }))
+    Ok(Some(NamedCall::Bytes(call, block, offset, bytes)))
 }
 
 fn resource_call<'a>(
@@ -214,12 +203,7 @@ fn add_resource<'a>(
     let Some(name) = optional_bytes(arena, rest, names)? else {
         return Ok(None);
     };
-    Ok(Some(NamedCall::AddResource {
-        handle,
-        kind,
-        id,
-        name,
-    }))
+    Ok(Some(NamedCall::AddResource(handle, kind, id, name)))
 }
 
 fn file_call<'a>(call: FileName, tokens: &[Token<'_>], names: &Names<'_>) -> Option<NamedCall<'a>>

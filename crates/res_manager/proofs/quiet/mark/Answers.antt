@@ -1,11 +1,16 @@
-use Rattle.std.proofs.Common.{sym, ap, ◌∙◌}
+use Rattle.std.proofs.Common.{Ok, rules, sym, ap, ◌∙◌}
 use Rattle.mac_base.specs.declared.resource.ResAttrs.{ResAttrs}
+use Rattle.mac_calls.specs.declared.reply.Results.TheVariants.{Nothing}
 use Rattle.res_calls.specs.Attributes.{marked}
+use Rattle.res_calls.specs.Files.{ResourceEnd}
+use Rattle.res_files.specs.FilesOn.{FilesOn}
+use Rattle.res_manager.specs.Steps.{state_of}
 use Rattle.res_manager.proofs.Changing.{attributes_set}
 use Rattle.res_manager.proofs.quiet.mark.Goals as goal
 
-pub returns : goal.returns
-returns g c =
-    let some = c.in-Some-row.ensures.some in
-    attributes_set c.args.files.now c.set_attributes.new.self c.args.handle c.in-Some.place some.0 marked c.marked-attributes.result (sym c.row_of_handle.ensures.value ∙ c.in-Some.is) some.1
-    (c.marked-attributes.ensures ∙ ap (λ (a : ResAttrs). marked a) some.2.attributes) c.set_attributes.ensures
+pub returns-clause-quiet : goal.returns-clause-quiet
+returns-clause-quiet g c = λ zone.
+    let row = c.attributes_at.ensures in
+    let set = attributes_set c.args.files.now c.set_attributes.new.self c.args.handle c.in_ok-place.place row.0 marked c.marked-attributes.result c.in_ok-place.ensures.value row.1
+    (c.marked-attributes.ensures ∙ ap (λ (a : ResAttrs). marked a) row.2) c.set_attributes.ensures in
+    (search rules, ap (λ (files : FilesOn _). let e : ResourceEnd = record { outcome = Ok Nothing; state = state_of g.S.ForkStore.fork zone files } in e) (sym set))
