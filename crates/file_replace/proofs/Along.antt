@@ -1,7 +1,8 @@
 -- How what a crash may leave goes on from call to call.
-use Rattle.std.proofs.Common.{◌≡◌, ◌⊎◌, inl, inr, ℕ, false, List, [], ◌∷◌, ◌++◌, Option, Some, None, Result, Ok, Err, refl, sym, ◌∙◌, ap, subst}
-use Rattle.std.specs.Prelude.{OnOk, OnErr, IfErr, MatchResult}
+use Rattle.std.proofs.Common.{◌≡◌, ◌⊎◌, inl, inr, ℕ, Bool, true, false, not, if◌then◌else◌, List, [], ◌∷◌, ◌++◌, Option, Some, None, Result, Ok, Err, refl, sym, ◌∙◌, ap, subst}
+use Rattle.std.specs.Prelude.{IsTrue, OnOk, IfErr, MatchResult, is_ok}
 use Rattle.fork_disk.specs.Crash.{AlwaysFinds, Finds, at_first, and_then}
+use Rattle.file_replace.specs.declared.calls.Call.TheVariants as calls
 use Rattle.file_replace.specs.declared.place.PlainFile.{PlainFile}
 use Rattle.file_replace.specs.declared.place.Event.TheVariants.{Made, Changed, Synced, Failed, Renamed, Tried, Asked}
 use Rattle.file_replace.specs.declared.place.FolderSync.{FolderSync}
@@ -9,9 +10,9 @@ use Rattle.file_replace.specs.declared.place.FolderSync.TheVariants.{Done, NotOf
 use Rattle.file_replace.specs.declared.replacement.Step.{Step}
 use Rattle.file_replace.specs.declared.replacement.Step.TheVariants.{Rename}
 use Rattle.file_replace.specs.declared.replacement.Stopped.{Stopped}
-use Rattle.file_replace.specs.Place.{Folder, History, MayBe, MayLeave, MaySettle, has_failed}
-use Rattle.file_replace.specs.OnPlace.{Follows, moved}
-use Rattle.file_replace.specs.Replacing.{HasAfter, IsEarly, IsNew, IsOldOrNew}
+use Rattle.file_replace.specs.Place.{Answered, Folder, History, MayBe, MayLeave, MaySettle, has_failed}
+use Rattle.file_replace.specs.OnPlace.{Fits, answered, happened, moved, synced}
+use Rattle.file_replace.specs.Replacing.{HasAfter, IsEarly, IsNew, IsOldOrNew, is_beside, with_removal}
 
 abbrev pub Left : Type 0
 Left = Option PlainFile
@@ -26,13 +27,11 @@ module _ (P : Left → Type 0) where
   same_end old mid new so_far same = subst (λ (h : History). AlwaysFinds MayLeave P old h) (sym same) so_far
 
   -- the file beside was changed, or synced, or a sync of it failed: the path is as it was
-  pub along_changed : (old mid new : History) → AlwaysFinds MayLeave P old mid → Follows Changed mid new → AlwaysFinds MayLeave P old new
-  along_changed old mid new so_far (inl is) = same_end old (Changed ∷ mid) new (and_then so_far (leaves_now old mid so_far)) is
-  along_changed old mid new so_far (inr same) = same_end old mid new so_far same
+  pub along_changed : (old mid new : History) → AlwaysFinds MayLeave P old mid → new ≡ Changed ∷ mid → AlwaysFinds MayLeave P old new
+  along_changed old mid new so_far is = same_end old (Changed ∷ mid) new (and_then so_far (leaves_now old mid so_far)) is
 
-  pub along_failed : (old mid new : History) → AlwaysFinds MayLeave P old mid → Follows Failed mid new → AlwaysFinds MayLeave P old new
-  along_failed old mid new so_far (inl is) = same_end old (Failed ∷ mid) new (and_then so_far (leaves_now old mid so_far)) is
-  along_failed old mid new so_far (inr same) = same_end old mid new so_far same
+  pub along_failed : (old mid new : History) → AlwaysFinds MayLeave P old mid → new ≡ Failed ∷ mid → AlwaysFinds MayLeave P old new
+  along_failed old mid new so_far is = same_end old (Failed ∷ mid) new (and_then so_far (leaves_now old mid so_far)) is
 
   pub along_synced : (file : PlainFile) (old mid new : History) → AlwaysFinds MayLeave P old mid → new ≡ Synced file ∷ mid → AlwaysFinds MayLeave P old new
   along_synced file old mid new so_far is = same_end old (Synced file ∷ mid) new (and_then so_far (leaves_now old mid so_far)) is
@@ -42,9 +41,8 @@ pub or_new : (mode : Option ℕ) (bytes : List ℕ) (start old new : History) �
 or_new mode bytes start old new (at_first here) = at_first (λ left may. inl (here left may))
 or_new mode bytes start old new (and_then {event} {past} so_far here) = and_then (or_new mode bytes start old past so_far) (λ left may. inl (here left may))
 
-pub still_trusted : (old new : History) → Follows Changed old new → has_failed old ≡ false → has_failed new ≡ false
-still_trusted old new (inl is) trusted = ap has_failed is ∙ trusted
-still_trusted old new (inr same) trusted = ap has_failed same ∙ trusted
+pub still_trusted : (old new : History) → new ≡ Changed ∷ old → has_failed old ≡ false → has_failed new ≡ false
+still_trusted old new is trusted = ap has_failed is ∙ trusted
 
 -- the file that was synced takes the path
 module _ (mode : Option ℕ) (bytes : List ℕ) (file : PlainFile) (start mid now : History) (trusted : has_failed mid ≡ false) (synced : now ≡ Synced file ∷ mid)
@@ -74,10 +72,9 @@ module _ (mode : Option ℕ) (bytes : List ℕ) (file : PlainFile) (start mid no
   settles new is left may = comes left (subst (λ (h : History). MaySettle h left) is may)
 
   -- whether it was done or not
-  pub along_rename : {T E : Type 0} (answer : Result T E) (new : History) → MatchResult answer (λ _. new ≡ Renamed ∷ now) (λ _. new ≡ Tried ∷ now)
-      → AlwaysFinds MayLeave (IsOldOrNew start mode bytes) start new
-  along_rename (Ok value) new is = along_renamed new is
-  along_rename (Err error) new is = along_tried new is
+  pub along_rename : (ok : Bool) (here : Folder) (new : History) → new ≡ happened calls.Rename ok here now → AlwaysFinds MayLeave (IsOldOrNew start mode bytes) start new
+  along_rename true here new is = along_renamed new is
+  along_rename false here new is = along_tried new is
 
 -- two stretches in a row, the second by what might be left after the first
 pub along_then : (P : Left → Type 0) (old mid new : History) → AlwaysFinds MayLeave P old mid → AlwaysFinds MayLeave P mid new → AlwaysFinds MayLeave P old new
@@ -123,58 +120,63 @@ pub early_passes : {T E : Type 0} (step : Step) (answer : Result T E) (result : 
 early_passes step answer (Ok value) early is = tt
 early_passes step answer (Err stopped) early is = step_is IsEarly step stopped.step is.1 early
 
+-- a call was done
+done : {T E : Type 0} (answer : Result T E) (value : T) → answer ≡ Ok value → IsTrue (is_ok answer)
+done {T} {E} answer value is = subst (λ (r : Result T E). IsTrue (is_ok r)) (sym is) refl
+
 -- the empty file is filled
-pub written : {T E : Type 0} (bytes : List ℕ) (old new : Left) (answer : Result T E) (value : T) → answer ≡ Ok value → ((file : PlainFile) × (old ≡ Some file) × (file.bytes ≡ []))
-    → OnOk answer ((file : PlainFile) → old ≡ Some file → new ≡ Some (record file { bytes = file.bytes ++ bytes })) → IsNew None bytes new
-written {T} {E} bytes old new answer value is empty has =
-    let becomes : (file : PlainFile) → old ≡ Some file → new ≡ Some (record file { bytes = file.bytes ++ bytes }) =
-    subst (λ (r : Result T E). OnOk r ((file : PlainFile) → old ≡ Some file → new ≡ Some (record file { bytes = file.bytes ++ bytes }))) is has in
-    (record empty.0 { bytes = empty.0.bytes ++ bytes }, becomes empty.0 empty.1, ap (λ (l : List ℕ). l ++ bytes) empty.2, tt)
+pub written : {T E : Type 0} (bytes : List ℕ) (old new : Folder) (answer : Result T E) (value : T) → answer ≡ Ok value → ((file : PlainFile) × (old.beside ≡ Some file) × (file.bytes ≡ []))
+    → Fits calls.Write (is_ok answer) bytes old new → IsNew None bytes new.beside
+written bytes old new answer value is empty fits =
+    (record empty.0 { bytes = empty.0.bytes ++ bytes }, fits.1 (done answer value is) empty.0 empty.1, ap (λ (l : List ℕ). l ++ bytes) empty.2, tt)
 
 -- and gets its mode
-pub given : {T E : Type 0} (step : Step) (mode : ℕ) (bytes : List ℕ) (old new : Left) (answer : Result T E) (result : Result T (Stopped E)) → IsStep step answer result → IsNew None bytes old
-    → OnOk answer ((file : PlainFile) → old ≡ Some file → new ≡ Some (record file { mode = mode })) → OnOk result (IsNew (Some mode) bytes new)
-given step mode bytes old new answer (Err stopped) told is has = tt
-given {T} {E} step mode bytes old new answer (Ok value) told is has =
-    let becomes : (file : PlainFile) → old ≡ Some file → new ≡ Some (record file { mode = mode }) =
-    subst (λ (r : Result T E). OnOk r ((file : PlainFile) → old ≡ Some file → new ≡ Some (record file { mode = mode }))) told has in
-    (record is.0 { mode = mode }, becomes is.0 is.1, is.2, refl)
+pub given : {T E : Type 0} (step : Step) (mode : ℕ) (bytes : List ℕ) (old new : Folder) (answer : Result T E) (result : Result T (Stopped E)) → IsStep step answer result → IsNew None bytes old.beside
+    → Fits (calls.SetMode mode) (is_ok answer) [] old new → OnOk result (IsNew (Some mode) bytes new.beside)
+given step mode bytes old new answer (Err stopped) told is fits = tt
+given step mode bytes old new answer (Ok value) told is fits = (record is.0 { mode = mode }, fits.1 (done answer value told) is.0 is.1, is.2, refl)
 
 -- what a sync did
-pub synced_is : {T E : Type 0} (beside : Left) (old new : History) (answer : Result T E) (value : T) → answer ≡ Ok value → OnOk answer ((file : PlainFile) → beside ≡ Some file → new ≡ Synced file ∷ old)
-    → (file : PlainFile) → beside ≡ Some file → new ≡ Synced file ∷ old
-synced_is {T} {E} beside old new answer value is has = subst (λ (r : Result T E). OnOk r ((file : PlainFile) → beside ≡ Some file → new ≡ Synced file ∷ old)) is has
+pub synced_is : {T E : Type 0} (here : Folder) (old new : History) (answer : Result T E) (value : T) → answer ≡ Ok value → new ≡ happened calls.Sync (is_ok answer) here old
+    → (file : PlainFile) → here.beside ≡ Some file → new ≡ Synced file ∷ old
+synced_is {T} {E} here old new answer value is was file beside =
+    was ∙ ap (λ (r : Result T E). happened calls.Sync (is_ok r) here old) is ∙ ap (λ (b : Left). synced b old) beside
 
-pub failed_is : {T E : Type 0} (old new : History) (answer : Result T E) (error : E) → answer ≡ Err error → OnErr answer (Follows Failed old new) → Follows Failed old new
-failed_is {T} {E} old new answer error is has = subst (λ (r : Result T E). OnErr r (Follows Failed old new)) is has
+pub failed_is : {T E : Type 0} (here : Folder) (old new : History) (answer : Result T E) (error : E) → answer ≡ Err error → new ≡ happened calls.Sync (is_ok answer) here old → new ≡ Failed ∷ old
+failed_is {T} {E} here old new answer error is was = was ∙ ap (λ (r : Result T E). happened calls.Sync (is_ok r) here old) is
 
 -- the file beside goes to the path
 module _ {T E : Type 0} (mode : Option ℕ) (bytes : List ℕ) (now new : Folder) (beside : IsNew mode bytes now.beside) (step : Step) (answer : Result T E) where
   come : new ≡ moved now → IsNew mode bytes new.path
   come moves = subst (λ (f : Folder). IsNew mode bytes f.path) (sym moves) beside
 
-  pub comes_to : (result : Result T (Stopped E)) → IsStep step answer result → OnOk answer (new ≡ moved now) → OnOk result (IsNew mode bytes new.path)
-  comes_to (Err stopped) told has = tt
-  comes_to (Ok value) told has = come (subst (λ (r : Result T E). OnOk r (new ≡ moved now)) told has)
+  pub comes_to : (result : Result T (Stopped E)) → IsStep step answer result → Fits calls.Rename (is_ok answer) [] now new → OnOk result (IsNew mode bytes new.path)
+  comes_to (Err stopped) told fits = tt
+  comes_to (Ok value) told fits = come (subst (λ (r : Result T E). Fits calls.Rename (is_ok r) [] now new) told fits)
 
-  pub goes : (result : Result T (Stopped E)) → IsStep step answer result → OnOk answer (new ≡ moved now) → OnOk result (new.beside ≡ None)
-  goes (Err stopped) told has = tt
-  goes (Ok value) told has = ap (λ (f : Folder). f.beside) (subst (λ (r : Result T E). OnOk r (new ≡ moved now)) told has)
+  pub goes : (result : Result T (Stopped E)) → IsStep step answer result → Fits calls.Rename (is_ok answer) [] now new → OnOk result (new.beside ≡ None)
+  goes (Err stopped) told fits = tt
+  goes (Ok value) told fits = ap (λ (f : Folder). f.beside) (subst (λ (r : Result T E). Fits calls.Rename (is_ok r) [] now new) told fits)
 
   either : (old : Left) → now.path ≡ old → (new ≡ moved now) ⊎ (new ≡ now) → HasAfter Rename mode bytes old new.path
   either old same (inl moves) = inr (come moves)
   either old same (inr stays) = inl (ap (λ (f : Folder). f.path) stays ∙ same)
 
-  pub stays_or_comes : (old : Left) (result : Result T (Stopped E)) → step ≡ Rename → IsStep step answer result → now.path ≡ old → OnErr answer ((new ≡ moved now) ⊎ (new ≡ now))
+  pub stays_or_comes : (old : Left) (result : Result T (Stopped E)) → step ≡ Rename → IsStep step answer result → now.path ≡ old → Fits calls.Rename (is_ok answer) [] now new
       → IfErr result (λ stopped. HasAfter stopped.step mode bytes old new.path)
-  stays_or_comes old (Ok value) is told same has = tt
-  stays_or_comes old (Err stopped) is told same has =
-      step_is (λ (s : Step). HasAfter s mode bytes old new.path) Rename stopped.step (told.1 ∙ is) (either old same (subst (λ (r : Result T E). OnErr r ((new ≡ moved now) ⊎ (new ≡ now))) told.0 has))
+  stays_or_comes old (Ok value) is told same fits = tt
+  stays_or_comes old (Err stopped) is told same fits =
+      step_is (λ (s : Step). HasAfter s mode bytes old new.path) Rename stopped.step (told.1 ∙ is) (either old same (subst (λ (r : Result T E). Fits calls.Rename (is_ok r) [] now new) told.0 fits))
 
 pub settles_at : {T E : Type 0} (step : Step) (mode : Option ℕ) (bytes : List ℕ) (file : PlainFile) (start mid now new : History) → has_failed mid ≡ false → now ≡ Synced file ∷ mid → IsNew mode bytes (Some file)
-    → AlwaysFinds MayLeave (MayLeave start) start now → (answer : Result T E) (result : Result T (Stopped E)) → IsStep step answer result
-    → MatchResult answer (λ _. new ≡ Renamed ∷ now) (λ _. new ≡ Tried ∷ now) → OnOk result (Finds MaySettle (IsNew mode bytes) new)
-settles_at step mode bytes file start mid now new trusted synced is_new so_far answer (Err stopped) told crash = tt
-settles_at {T} {E} step mode bytes file start mid now new trusted synced is_new so_far answer (Ok value) told crash =
-    settles mode bytes file start mid now trusted synced is_new so_far new
-    (subst (λ (r : Result T E). MatchResult r (λ _. new ≡ Renamed ∷ now) (λ _. new ≡ Tried ∷ now)) told crash)
+    → AlwaysFinds MayLeave (MayLeave start) start now → (here : Folder) (answer : Result T E) (result : Result T (Stopped E)) → IsStep step answer result
+    → new ≡ happened calls.Rename (is_ok answer) here now → OnOk result (Finds MaySettle (IsNew mode bytes) new)
+settles_at step mode bytes file start mid now new trusted synced is_new so_far here answer (Err stopped) told crash = tt
+settles_at {T} {E} step mode bytes file start mid now new trusted synced is_new so_far here answer (Ok value) told crash =
+    settles mode bytes file start mid now trusted synced is_new so_far new (crash ∙ ap (λ (r : Result T E). happened calls.Rename (is_ok r) here now) told)
+
+-- the file beside was to be removed
+pub removed : (step : Step) (ok is_left : Bool) (now put new : List Answered) → is_beside step ≡ true → ok ≡ not is_left → put ≡ now → new ≡ answered calls.Remove ok [] ∷ put → new ≡ with_removal step is_left now
+removed step ok is_left now put new beside answer made noted =
+    noted ∙ ap (λ (b : Bool). answered calls.Remove b [] ∷ put) answer ∙ ap (λ (m : List Answered). answered calls.Remove (not is_left) [] ∷ m) made
+    ∙ sym (ap (λ (b : Bool). if b then answered calls.Remove (not is_left) [] ∷ now else now) beside)

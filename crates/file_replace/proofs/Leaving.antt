@@ -5,8 +5,9 @@ use Rattle.file_replace.specs.declared.calls.Call.TheVariants as calls
 use Rattle.file_replace.specs.declared.place.PlainFile.{PlainFile}
 use Rattle.file_replace.specs.declared.place.FolderSync.TheVariants.{Done, NotOffered}
 use Rattle.file_replace.specs.declared.place.Event.TheVariants.{Found, Made, Changed, Synced, Failed, Renamed, Tried, Asked}
-use Rattle.file_replace.specs.Place.{Folder, History, IsMade, MayBe, MaySettle, MayLeave}
-use Rattle.file_replace.specs.Calls.{Answered, LeavesSomething, happened, history_of, synced}
+use Rattle.file_replace.specs.Place.{Answered, Folder, History, IsMade, MayBe, MaySettle, MayLeave}
+use Rattle.file_replace.specs.OnPlace.{happened, synced}
+use Rattle.file_replace.specs.Calls.{LeavesSomething, history_of}
 
 no_file : PlainFile
 no_file = record { bytes = []; mode = 0 }

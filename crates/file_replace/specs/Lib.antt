@@ -3,3 +3,4 @@ pub mod OnPlace
 pub mod Replacing
 pub mod Calls
 pub mod Memory
+pub mod Held

@@ -4,7 +4,7 @@ use Rattle.file_replace.specs.declared.calls.Noted.{Noted}
 use Rattle.file_replace.specs.declared.mem_place.MemFile.{MemFile}
 use Rattle.file_replace.specs.declared.place.PlainFile.{PlainFile}
 use Rattle.file_replace.specs.Place.{Folder, History}
-use Rattle.file_replace.specs.Calls.{happened}
+use Rattle.file_replace.specs.OnPlace.{happened}
 
 -- a file in memory, if there is one
 abbrev pub seen : Option MemFile → Option PlainFile

@@ -1,77 +1,62 @@
--- What a call does to a place that is honest after it. It was so before.
-use Rattle.std.specs.Prelude.{◌≡◌, ℕ, ◌⊎◌, List, [], ◌∷◌, ◌++◌, Some, None, Result, MatchResult, IfOk, OnOk, OnErr}
+-- What a call at a path does, by its answer.
+use Rattle.std.specs.Prelude.{◌≡◌, ℕ, ◌⊎◌, Bool, true, false, IsTrue, List, [], ◌∷◌, ◌++◌, Option, Some, None, Result, Ok, Err}
+use Rattle.file_replace.specs.declared.calls.Call.{Call}
+use Rattle.file_replace.specs.declared.calls.Call.TheVariants as calls
 use Rattle.file_replace.specs.declared.place.PlainFile.{PlainFile}
 use Rattle.file_replace.specs.declared.place.FolderSync.{FolderSync}
-use Rattle.file_replace.specs.declared.place.Event.{Event}
+use Rattle.file_replace.specs.declared.place.FolderSync.TheVariants.{NotOffered}
 use Rattle.file_replace.specs.declared.place.Event.TheVariants.{Made, Changed, Synced, Failed, Renamed, Tried, Asked}
-use Rattle.file_replace.specs.Place.{Folder, History}
+use Rattle.file_replace.specs.Place.{Answered, Folder, History, Seen, IfHonest}
 
 -- the file beside is at the path
 abbrev pub moved : Folder → Folder
 moved folder = record { path = folder.beside; beside = None }
 
--- the event came, or none did
-abbrev pub Follows : Event → History → History → Type 0
-Follows event old new = (new ≡ event ∷ old) ⊎ (new ≡ old)
+-- the file beside is this one now, if there was one
+abbrev pub Becomes : (PlainFile → PlainFile) → Folder → Folder → Type 0
+Becomes change old new = (file : PlainFile) → old.beside ≡ Some file → new.beside ≡ Some (change file)
 
-module _ {R : Type 0} (contents : R → Folder) (history : R → History) (is_honest : R → Type 0) (old new : R) where
-  -- both are as they were, and nothing happened
-  pub record Keeps : Type 0 where
-    pub honest : is_honest old
-    pub same : contents new ≡ contents old
-    pub calm : history new ≡ history old
+-- The answer of a call fits a folder that had the old files before it and has the new ones after it. A write and a mode change the file
+-- beside alone, a rename is done or not, and a file that can't be made isn't there.
+abbrev pub Fits : Call → Bool → List ℕ → Folder → Folder → Type 0
+Fits calls.Create true bytes old new = (new.path ≡ old.path) × ((file : PlainFile) × (new.beside ≡ Some file) × (file.bytes ≡ []))
+Fits calls.Create false bytes old new = new ≡ old
+Fits calls.Write ok bytes old new = (new.path ≡ old.path) × (IsTrue ok → Becomes (λ file. record file { bytes = file.bytes ++ bytes }) old new)
+Fits (calls.SetMode mode) ok bytes old new = (new.path ≡ old.path) × (IsTrue ok → Becomes (λ file. record file { mode = mode }) old new)
+Fits calls.Sync ok bytes old new = new ≡ old
+Fits calls.Rename true bytes old new = new ≡ moved old
+Fits calls.Rename false bytes old new = (new ≡ moved old) ⊎ (new ≡ old)
+Fits (calls.SyncFolder answer) ok bytes old new = new ≡ old
+Fits calls.Remove ok bytes old new = (new.path ≡ old.path) × (IsTrue ok → new.beside ≡ None)
 
-  -- the file at the path is as it was, and the one beside it may have been changed
-  pub record KeepsPath : Type 0 where
-    pub honest : is_honest old
-    pub path : (contents new).path ≡ (contents old).path
-    pub crash : Follows Changed (history old) (history new)
+-- a sync of the file beside, if there is one
+abbrev pub synced : Option PlainFile → History → History
+synced None past = past
+synced (Some file) past = Synced file ∷ past
 
-  -- an empty file was made beside the path
-  pub record Makes : Type 0 where
-    pub path : (contents new).path ≡ (contents old).path
-    pub empty : (file : PlainFile) × ((contents new).beside ≡ Some file) × (file.bytes ≡ [])
-    pub crash : history new ≡ Made ∷ history old
+-- what a call adds to what a crash may undo
+abbrev pub happened : Call → Bool → Folder → History → History
+happened calls.Create true old past = Made ∷ past
+happened calls.Create false old past = past
+happened calls.Write ok old past = Changed ∷ past
+happened (calls.SetMode mode) ok old past = Changed ∷ past
+happened calls.Sync true old past = synced old.beside past
+happened calls.Sync false old past = Failed ∷ past
+happened calls.Rename true old past = Renamed ∷ past
+happened calls.Rename false old past = Tried ∷ past
+happened (calls.SyncFolder answer) true old past = Asked answer ∷ past
+happened (calls.SyncFolder answer) false old past = past
+happened calls.Remove ok old past = past
 
-  pub record Creates {T E : Type 0} (result : Result T E) : Type 0 where
-    pub honest : is_honest old
-    pub made : OnOk result Makes
-    pub kept : OnErr result Keeps
+-- what the host told of a folder that it was to sync
+abbrev pub told : {E : Type 0} → Result FolderSync E → FolderSync
+told (Ok answer) = answer
+told (Err error) = NotOffered
 
-  -- these bytes are at the end of the file beside
-  pub record Writes {T E : Type 0} (bytes : List ℕ) (result : Result T E) : Type 0 where
-    pub keeps : KeepsPath
-    pub written : OnOk result ((file : PlainFile) → (contents old).beside ≡ Some file → (contents new).beside ≡ Some (record file { bytes = file.bytes ++ bytes }))
+-- a call with its answer
+abbrev pub answered : Call → Bool → List ℕ → Answered
+answered call ok bytes = (record { call = call; is_done = ok }, bytes)
 
-  -- the file beside has this mode
-  pub record SetsMode {T E : Type 0} (mode : ℕ) (result : Result T E) : Type 0 where
-    pub keeps : KeepsPath
-    pub set : OnOk result ((file : PlainFile) → (contents old).beside ≡ Some file → (contents new).beside ≡ Some (record file { mode = mode }))
-
-  -- a crash leaves the file beside as it is; where it fails, no later sync of it counts
-  pub record Syncs {T E : Type 0} (result : Result T E) : Type 0 where
-    pub honest : is_honest old
-    pub same : contents new ≡ contents old
-    pub durable : OnOk result ((file : PlainFile) → (contents old).beside ≡ Some file → history new ≡ Synced file ∷ history old)
-    pub failed : OnErr result (Follows Failed (history old) (history new))
-
-  -- the file beside has gone to the path; where it fails, all of this was done or nothing
-  pub record Renames {T E : Type 0} (result : Result T E) : Type 0 where
-    pub honest : is_honest old
-    pub done : OnOk result (contents new ≡ moved (contents old))
-    pub undone : OnErr result ((contents new ≡ moved (contents old)) ⊎ (contents new ≡ contents old))
-    pub crash : MatchResult result (λ _. history new ≡ Renamed ∷ history old) (λ _. history new ≡ Tried ∷ history old)
-
-  -- the host answers whether it can sync the folder, and then it is synced
-  pub record SyncsFolder {E : Type 0} (result : Result FolderSync E) : Type 0 where
-    pub honest : is_honest old
-    pub same : contents new ≡ contents old
-    pub asked : IfOk result (λ answer. history new ≡ Asked answer ∷ history old)
-    pub failed : OnErr result (history new ≡ history old)
-
-  -- no file is beside; where it fails, there may be one
-  pub record Removes {T E : Type 0} (result : Result T E) : Type 0 where
-    pub honest : is_honest old
-    pub path : (contents new).path ≡ (contents old).path
-    pub calm : history new ≡ history old
-    pub gone : OnOk result ((contents new).beside ≡ None)
+-- the call is noted, the answer fits, and this happened
+abbrev pub Does : Call → Bool → List ℕ → Seen → Seen → Type 0
+Does call ok bytes old new = (new.calls ≡ answered call ok bytes ∷ old.calls) × IfHonest (λ old new. Fits call ok bytes old.files new.files × (new.history ≡ happened call ok old.files old.history)) old new

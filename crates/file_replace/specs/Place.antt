@@ -1,5 +1,6 @@
 -- What is at a path and beside it, and what a crash may leave at the path.
-use Rattle.std.specs.Prelude.{◌≡◌, ⊤, ◌⊎◌, Bool, true, false, List, [], ◌∷◌, Option, Some}
+use Rattle.std.specs.Prelude.{◌≡◌, ℕ, ⊤, ◌⊎◌, Bool, true, false, List, [], ◌∷◌, Option, Some, None}
+use Rattle.file_replace.specs.declared.calls.Noted.{Noted}
 use Rattle.file_replace.specs.declared.place.PlainFile.{PlainFile}
 use Rattle.file_replace.specs.declared.place.FolderSync.TheVariants.{Done, NotOffered}
 use Rattle.file_replace.specs.declared.place.Event.{Event}
@@ -13,6 +14,25 @@ pub record Folder : Type 0 where
 -- the events since a start, the last one first
 abbrev pub History : Type 0
 History = List Event
+
+-- a call, whether it was done, and the bytes that were given to it
+abbrev pub Answered : Type 0
+Answered = Noted × List ℕ
+
+-- a place: the calls there, the newest first; and its files, what happened, and that it does what it answers and nobody else writes there
+pub record Seen : Type 1 where
+  pub calls : List Answered
+  pub files : Folder
+  pub history : History
+  pub is_honest : Type 0
+
+-- if the place is honest after a call, it was so before, and this is so
+abbrev pub IfHonest : (Seen → Seen → Type 0) → Seen → Seen → Type 0
+IfHonest Fact old new = new.is_honest → old.is_honest × Fact old new
+
+-- where it is honest, no file is beside the path
+abbrev pub IsClear : Seen → Type 0
+IsClear place = place.is_honest → place.files.beside ≡ None
 
 -- a sync of the file beside has failed since it was made
 abbrev pub has_failed : History → Bool

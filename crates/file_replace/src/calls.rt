@@ -35,6 +35,25 @@ pub struct Noted {
 /// The calls with their answers, the newest first, and the bytes that were given to each.
 pub type PlaceCalls = Record<(Noted, LinkedList<u8>)>;
 
+/// Which file calls were made at.
+#[derive(Clone, Copy)]
+pub enum At {
+    /// The one that is replaced.
+    File,
+    /// Its backup, whose name has a tilde more.
+    Backup,
+}
+
+/// The files that were put at these paths, the newest first, and the calls that each took.
+pub type HeldCalls = Record<(At, LinkedList<(Noted, LinkedList<u8>)>)>;
+
+/// Notes the calls that a file took.
+pub(crate) fn note_at(log: &mut HeldCalls, at: At, calls: &PlaceCalls)
+    ensures { log.new.events ≡ (at, calls.now.events) ∷ log.old.events }
+{
+    *log = Record::of_events_beside(log, &at, calls);
+}
+
 /// Notes a call with its answer.
 pub(crate) fn note(calls: &mut PlaceCalls, noted: Noted, bytes: &[u8])
     ensures { calls.new.events ≡ (noted, bytes.now) ∷ calls.old.events }

@@ -1,13 +1,18 @@
 //! Files that are replaced where they stand, and files that are written anew.
 
-ghost use Rattle.std.specs.Prelude.{◌≡◌, ◌≢◌, ◌↔◌};
+ghost use Rattle.std.specs.Prelude.{◌≡◌, ◌≢◌, ◌↔◌, [], ◌∷◌, ◌++◌, is_ok, IfOk, IfErr};
+ghost use Rattle.std.specs.Path.{path_buf_bytes};
+ghost use Rattle.file_replace.specs.OnPlace.{answered};
+ghost use Rattle.file_replace.specs.Held.{BacksUp, IsSameFile, IsUnopened, PutAt, PutsFile, ReplacesHeld, Saves, TellsBackup};
 
+use crate::calls::{At, Call, HeldCalls, Noted, note, note_at};
 use crate::host_place::FileReplacer;
 use crate::links::followed;
 use crate::place::FolderSync;
 use crate::replacement::{Fault, Step, replace};
 use crate::told::{NotReplaced, Stop};
 use crate::world::{FolderWorld, UnknownFolder};
+use fork_disk::Record;
 use std::alloc::AllocError;
 use std::fs::{File, OpenOptions, TryLockError};
 use std::io::ErrorKind;
@@ -33,10 +38,14 @@ pub struct Held {
     file: File,
     path: PathBuf,
     mode: u32,
+    /// The files that were put at its path and at its backup's. Only clauses read it.
+    log: HeldCalls,
 }
 
 /// Why a file that can't be opened isn't changed.
-fn unopened(error: io::Error) -> NotReplaced {
+fn unopened(error: io::Error) -> NotReplaced
+    ensures { IsUnopened result }
+{
     if error.kind() == ErrorKind::OutOfMemory {
         NotReplaced::HostFull
     } else {
@@ -45,7 +54,9 @@ fn unopened(error: io::Error) -> NotReplaced {
 }
 
 /// Locks a file against others that do so. Where the file system has no locks, there is none.
-fn lock(file: &File) -> Result<(), NotReplaced> {
+fn lock(file: &File) -> Result<(), NotReplaced>
+    ensures { IfErr result IsUnopened }
+{
     match file.try_lock() {
         Ok(()) => Ok(()),
         Err(TryLockError::WouldBlock) => Err(NotReplaced::InUse),
@@ -60,16 +71,21 @@ fn leads_to(rt: &HostRuntime, path: &PathBuf, file: &File) -> io::Result<bool> {
     Ok(there.dev() == here.dev() && there.ino() == here.ino())
 }
 
-/// Puts a file of these bytes at a path that is no link.
+/// Puts a file of these bytes at a path that is no link, and notes the calls.
 fn put<W: FolderWorld>(
     rt: &HostRuntime,
+    log: &mut HeldCalls,
+    at: At,
     path: PathBuf,
     bytes: &[u8],
     mode: Option<u32>,
-) -> Result<FolderSync, Stop> {
+) -> Result<FolderSync, Stop>
+    ensures { PutAt at mode bytes.now result log.old.events log.new.events }
+{
     let mut place: FileReplacer<W> = match FileReplacer::new(rt, path, 0) {
         Ok(place) => place,
         Err(error) => {
+            note_at(log, at, &Record::new());
             return Err(Stop {
                 step: Step::Create,
                 error,
@@ -77,7 +93,9 @@ fn put<W: FolderWorld>(
             });
         }
     };
-    match replace(&mut place, bytes, mode) {
+    let done = replace(&mut place, bytes, mode);
+    note_at(log, at, place.calls());
+    match done {
         Ok(answer) => Ok(answer),
         Err(Fault { step, error, .. }) => Err(Stop {
             step,
@@ -88,7 +106,9 @@ fn put<W: FolderWorld>(
 }
 
 /// The path of a file's backup.
-fn backup_of(rt: &HostRuntime, path: &PathBuf) -> Result<PathBuf, AllocError> {
+fn backup_of(rt: &HostRuntime, path: &PathBuf) -> Result<PathBuf, AllocError>
+    ensures { IfOk result (λ name. path_buf_bytes name ≡ path_buf_bytes path.now ++ 126 ∷ []) }
+{
     let mut name = String::from_str(rt.alloc(), path.as_str())?;
     name.push('~')?;
     PathBuf::from_str(rt.alloc(), name.as_str())
@@ -96,7 +116,10 @@ fn backup_of(rt: &HostRuntime, path: &PathBuf) -> Result<PathBuf, AllocError> {
 
 impl Held {
     /// Opens a file that is to be replaced, and locks it. A link is followed: the file that it leads to is replaced.
-    pub fn open(rt: &HostRuntime, path: &str) -> Result<Held, NotReplaced> {
+    pub fn open(rt: &HostRuntime, path: &str) -> Result<Held, NotReplaced>
+        ensures start { IfOk result (λ held. held.log.events ≡ []) }
+        ensures refuses { IfErr result IsUnopened }
+    {
         if !fs::metadata(rt, path).map_err(unopened)?.is_file() {
             return Err(NotReplaced::NotAFile);
         }
@@ -110,7 +133,13 @@ impl Held {
         match leads_to(rt, &path, &file) {
             Ok(true) => {
                 let mode = file.metadata().map_err(unopened)?.mode() & MODE_BITS;
-                Ok(Held { file, path, mode })
+                let log = Record::new();
+                Ok(Held {
+                    file,
+                    path,
+                    mode,
+                    log,
+                })
             }
             Ok(false) => Err(NotReplaced::Moved),
             Err(error) if error.kind() == ErrorKind::NotFound => Err(NotReplaced::Moved),
@@ -118,21 +147,34 @@ impl Held {
         }
     }
 
+    /// The files that were put at its path and at its backup's.
+    pub fn into_log(self) -> HeldCalls
+        ensures { result.events ≡ self.log.events }
+    {
+        let Held { log, .. } = self;
+        log
+    }
+
     /// The open file, to read it.
-    pub fn file(&self) -> &File {
+    pub fn file(&self) -> &File
+        ensures { result.now ≡ self.now.file }
+    {
         &self.file
     }
 
     /// Replaces the file. The old bytes are those that were read of it. Where the new ones are the same, nothing is written.
     /// Where it is to be kept, a copy of the old bytes is put at its name with a tilde, NAME~, before that.
     pub fn replace(
-        &self,
+        &mut self,
         rt: &HostRuntime,
         old: &[u8],
         new: &[u8],
         keeps_old: bool,
     ) -> Result<Outcome, NotReplaced>
-        ensures { (result ≡ Ok Outcome.Unchanged) ↔ (old.now ≡ new.now) }
+        ensures same { (result ≡ Ok Outcome.Unchanged) ↔ (old.now ≡ new.now) }
+        ensures kept { IsSameFile self.old self.new }
+        ensures named { IfErr result (TellsBackup (path_buf_bytes self.old.path)) }
+        ensures calls { ReplacesHeld keeps_old self.old.mode old.now new.now result self.old.log.events self.new.log.events }
     {
         if old == new {
             return Ok(Outcome::Unchanged);
@@ -144,38 +186,82 @@ impl Held {
     }
 
     /// Puts a file of these bytes in the place of this one.
-    fn put(&self, rt: &HostRuntime, bytes: &[u8]) -> Result<Outcome, NotReplaced>
-        ensures { result ≢ Ok Outcome.Unchanged }
+    fn put(&mut self, rt: &HostRuntime, bytes: &[u8]) -> Result<Outcome, NotReplaced>
+        ensures same { result ≢ Ok Outcome.Unchanged }
+        ensures kept { IsSameFile self.old self.new }
+        ensures named { IfErr result (TellsBackup (path_buf_bytes self.old.path)) }
+        ensures calls { PutsFile self.old.mode bytes.now result self.old.log.events self.new.log.events }
     {
         let path = self.path.clone()?;
-        match put::<UnknownFolder>(rt, path, bytes, Some(self.mode)) {
+        let mode = Some(self.mode);
+        match put::<UnknownFolder>(rt, &mut self.log, At::File, path, bytes, mode) {
             Ok(answer) => Ok(Outcome::Written(answer)),
             Err(stop) => Err(NotReplaced::Stopped(stop)),
         }
     }
 
     /// Puts a copy of the file beside it.
-    fn back_up(&self, rt: &HostRuntime, bytes: &[u8]) -> Result<(), NotReplaced> {
+    fn back_up(&mut self, rt: &HostRuntime, bytes: &[u8]) -> Result<(), NotReplaced>
+        ensures kept { IsSameFile self.old self.new }
+        ensures named { IfErr result (TellsBackup (path_buf_bytes self.old.path)) }
+        ensures calls { BacksUp self.old.mode bytes.now result self.old.log.events self.new.log.events }
+    {
         let name = backup_of(rt, &self.path)?;
-        match put::<UnknownFolder>(rt, name.clone()?, bytes, Some(self.mode)) {
+        let path = name.clone()?;
+        let mode = Some(self.mode);
+        match put::<UnknownFolder>(rt, &mut self.log, At::Backup, path, bytes, mode) {
             Ok(_) => Ok(()),
             Err(stop) => Err(NotReplaced::NoBackup { name, stop }),
         }
     }
 }
 
-/// Writes a file of these bytes. Where there is one, it is replaced, and keeps its mode; so the path has all of the new file or what it had before.
-/// What is no regular file, as a device or a pipe, is written to as it is.
-pub fn save(rt: &HostRuntime, path: &str, bytes: &[u8]) -> Result<Outcome, NotReplaced> {
+/// Writes these bytes to what is no regular file, and notes it.
+fn write_through(
+    rt: &HostRuntime,
+    log: &mut HeldCalls,
+    path: &str,
+    bytes: &[u8],
+) -> Result<(), NotReplaced>
+    ensures calls { log.new.events ≡ (At.File, answered Call.Write (is_ok result) bytes.now ∷ []) ∷ log.old.events }
+    ensures refuses { IfErr result IsUnopened }
+{
+    let done = fs::write(rt, path, bytes);
+    let mut calls = Record::new();
+    let noted = Noted {
+        call: Call::Write,
+        is_done: done.is_ok(),
+    };
+    note(&mut calls, noted, bytes);
+    note_at(log, At::File, &calls);
+    done.map_err(NotReplaced::Open)
+}
+
+/// Writes a file of these bytes, and notes the calls in a record that begins anew. Where there is one, it is replaced, and keeps its
+/// mode; so the path has all of the new file or what it had before. What is no regular file, as a device or a pipe, is written to as it
+/// is.
+pub fn save(
+    rt: &HostRuntime,
+    path: &str,
+    bytes: &[u8],
+    log: &mut HeldCalls,
+) -> Result<Outcome, NotReplaced>
+    ensures { Saves bytes.now result log.new.events }
+{
+    *log = Record::new();
     match Held::open(rt, path) {
-        Ok(held) => held.put(rt, bytes),
-        Err(NotReplaced::NotAFile) => match fs::write(rt, path, bytes) {
-            Ok(()) => Ok(Outcome::Written(FolderSync::NotOffered)),
-            Err(error) => Err(NotReplaced::Open(error)),
-        },
+        Ok(mut held) => {
+            let done = held.put(rt, bytes);
+            *log = held.into_log();
+            done
+        }
+        Err(NotReplaced::NotAFile) => {
+            write_through(rt, log, path, bytes)?;
+            Ok(Outcome::Written(FolderSync::NotOffered))
+        }
         Err(NotReplaced::Open(error)) if error.kind() == ErrorKind::NotFound => {
             let path = followed(rt, path).map_err(unopened)?;
-            match put::<UnknownFolder>(rt, path, bytes, None) {
+            match put::<UnknownFolder>(rt, log, At::File, path, bytes, None) {
                 Ok(answer) => Ok(Outcome::Written(answer)),
                 Err(stop) => Err(NotReplaced::Stopped(stop)),
             }

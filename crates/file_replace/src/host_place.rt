@@ -106,6 +106,7 @@ impl<'a, W: FolderWorld> FileReplacer<'a, W> {
     /// number.
     pub fn new(rt: &'a HostRuntime, path: PathBuf, number: u64) -> io::Result<FileReplacer<'a, W>>
         ensures number { IfOk result (λ place. place.number ≡ number) }
+        ensures path { IfOk result (λ place. place.path ≡ path) }
         ensures start { IfOk result (λ place. place.log.events ≡ []) }
     {
         Ok(FileReplacer {
@@ -118,6 +119,13 @@ impl<'a, W: FolderWorld> FileReplacer<'a, W> {
             log: Record::new(),
             world: PhantomData,
         })
+    }
+
+    /// The calls that were made there.
+    pub fn calls(&self) -> &PlaceCalls
+        ensures { result.now ≡ self.now.log }
+    {
+        &self.log
     }
 
     /// The path of the file that was made beside and neither renamed nor removed, if there is one.
@@ -175,11 +183,12 @@ fn remove(rt: &HostRuntime, path: &PathBuf) -> io::Result<()> {
 impl<'a, W: FolderWorld> Replaces for FileReplacer<'a, W> {
     type Error = io::Error;
 
-    ghost contents = { λ place. W.held place.number place.log.events };
-
-    ghost history = { λ place. history_of (W.held place.number) place.log.events };
-
-    ghost is_honest = { λ place. IsHonest (W.held place.number) place.log.events };
+    ghost seen = { λ place. record {
+      calls = place.log.events;
+      files = W.held place.number place.log.events;
+      history = history_of (W.held place.number) place.log.events;
+      is_honest = IsHonest (W.held place.number) place.log.events;
+    } };
 
     ghost failures = { λ place. place.failures };
 

@@ -12,7 +12,7 @@ mod replacement;
 mod told;
 mod world;
 
-pub use calls::{Call, Noted, PlaceCalls};
+pub use calls::{At, Call, HeldCalls, Noted, PlaceCalls};
 pub use held::{Held, Outcome, save};
 pub use host_place::FileReplacer;
 pub use laws::crash_laws;

@@ -1,5 +1,8 @@
 //! Where a path leads.
 
+ghost use Rattle.std.specs.Prelude.{◌≡◌, [], unwrap_or};
+ghost use Rattle.std.specs.Path.{path_buf_bytes, path_bytes, path_parent};
+
 use std::path::{Path, PathBuf};
 use std::{fs, io};
 
@@ -7,7 +10,9 @@ use std::{fs, io};
 const MOST_LINKS: u32 = 40;
 
 /// The folder of a file.
-pub(crate) fn folder_of<'a>(path: &'a PathBuf) -> Path<'a> {
+pub(crate) fn folder_of<'a>(path: &'a PathBuf) -> Path<'a>
+    ensures { path_bytes result ≡ unwrap_or (path_parent (path_buf_bytes path.now)) [] }
+{
     match path.parent() {
         Some(folder) => folder,
         None => Path::new(""),

@@ -1,11 +1,12 @@
 //! A path in memory.
 
-ghost use Rattle.std.specs.Prelude.{◌≡◌, ⊤, [], ◌∷◌, None, is_some, IsErr, MatchOption};
+ghost use Rattle.std.specs.Prelude.{◌≡◌, ⊤, [], ◌∷◌, None, option_copied, is_ok, IsErr, MatchOption};
 ghost use Rattle.fork_disk.specs.Disk.{Counts};
+ghost use Rattle.file_replace.specs.OnPlace.{answered};
 ghost use Rattle.file_replace.specs.Memory.{seen, folder, noted};
 ghost use Rattle.file_replace.specs.declared.place.Event.TheVariants.{Found};
 
-use crate::calls::{Call, Noted};
+use crate::calls::{self, Call, Noted, PlaceCalls};
 use crate::place::{Event, FolderSync, Replaces};
 use fork_disk::Record;
 use fork_disk::disk::DiskFault;
@@ -29,6 +30,7 @@ pub struct MemPlace {
     calls: u64,
     failures: u64,
     log: Record<Event>,
+    made: PlaceCalls,
 }
 
 /// Notes what a call did, for clauses alone.
@@ -62,16 +64,21 @@ impl MemPlace {
             turn,
             calls: 0,
             failures: 0,
+            made: Record::new(),
         }
     }
 
     /// The file at the path.
-    pub fn file(&self) -> Option<&MemFile> {
+    pub fn file(&self) -> Option<&MemFile>
+        ensures { option_copied result ≡ self.now.path }
+    {
         self.path.as_ref()
     }
 
     /// The file beside it.
-    pub fn beside(&self) -> Option<&MemFile> {
+    pub fn beside(&self) -> Option<&MemFile>
+        ensures { option_copied result ≡ self.now.beside }
+    {
         self.beside.as_ref()
     }
 
@@ -87,6 +94,7 @@ impl MemPlace {
         ensures path { self.new.path ≡ self.old.path }
         ensures beside { self.new.beside ≡ self.old.beside }
         ensures log { self.new.log ≡ self.old.log }
+        ensures made { self.new.made ≡ self.old.made }
         ensures failures { self.new.failures ≡ self.old.failures }
     {
         self.calls = self.calls.saturating_add(1);
@@ -94,15 +102,17 @@ impl MemPlace {
     }
 
     /// Notes a call that was done, or counts the failure of one that wasn't.
-    fn answer<T: Drop>(&mut self, call: Call, done: Option<T>) -> Result<T, DiskFault>
+    fn answer<T: Drop>(&mut self, call: Call, bytes: &[u8], done: Option<T>) -> Result<T, DiskFault>
         ensures path { self.new.path ≡ self.old.path }
         ensures beside { self.new.beside ≡ self.old.beside }
-        ensures noted { self.new.log.events ≡ noted (record { call = call; is_done = is_some done }) self.old.beside self.old.log.events }
+        ensures noted { self.new.log.events ≡ noted (record { call = call; is_done = is_ok result }) self.old.beside self.old.log.events }
+        ensures made { self.new.made.events ≡ answered call (is_ok result) bytes.now ∷ self.old.made.events }
         ensures cause { Counts self.old.failures self.new.failures result }
         ensures same { MatchOption done (IsErr result) (λ value. result ≡ Ok value) }
     {
         let is_done = done.is_some();
         note(&mut self.log, Noted { call, is_done }, &self.beside);
+        calls::note(&mut self.made, Noted { call, is_done }, bytes);
         match done {
             Some(value) => Ok(value),
             None => {
@@ -116,23 +126,19 @@ impl MemPlace {
 impl Replaces for MemPlace {
     type Error = DiskFault;
 
-    ghost contents = { λ place. folder place.path place.beside };
-
-    ghost history = { λ place. place.log.events };
-
-    ghost is_honest = { λ _. ⊤ };
+    ghost seen = { λ place. record { calls = place.made.events; files = folder place.path place.beside; history = place.log.events; is_honest = ⊤ } };
 
     ghost failures = { λ place. place.failures };
 
     fn create(&mut self, _is_private: bool) -> Result<(), DiskFault> {
         if self.is_turn() {
-            return self.answer(Call::Create, None);
+            return self.answer(Call::Create, &[], None);
         }
         self.beside = Some(MemFile {
             bytes: Vec::new(self.alloc),
             mode: 0o644,
         });
-        self.answer(Call::Create, Some(()))
+        self.answer(Call::Create, &[], Some(()))
     }
 
     fn write(&mut self, bytes: &[u8]) -> Result<(), DiskFault> {
@@ -146,46 +152,50 @@ impl Replaces for MemPlace {
             Some(file) => file.bytes.extend_from_slice(part).is_ok() && !is_turn,
             None => false,
         };
-        self.answer(Call::Write, done.then_some(()))
+        self.answer(Call::Write, bytes, done.then_some(()))
     }
 
     fn set_mode(&mut self, mode: u32) -> Result<(), DiskFault> {
         if self.is_turn() {
-            return self.answer(Call::SetMode(mode), None);
+            return self.answer(Call::SetMode(mode), &[], None);
         }
         if let Some(file) = &mut self.beside {
             file.mode = mode;
         }
-        self.answer(Call::SetMode(mode), Some(()))
+        self.answer(Call::SetMode(mode), &[], Some(()))
     }
 
     fn sync(&mut self) -> Result<(), DiskFault> {
         if self.is_turn() {
-            return self.answer(Call::Sync, None);
+            return self.answer(Call::Sync, &[], None);
         }
-        self.answer(Call::Sync, Some(()))
+        self.answer(Call::Sync, &[], Some(()))
     }
 
     fn rename(&mut self) -> Result<(), DiskFault> {
         if self.is_turn() {
-            return self.answer(Call::Rename, None);
+            return self.answer(Call::Rename, &[], None);
         }
         self.path = self.beside.take();
-        self.answer(Call::Rename, Some(()))
+        self.answer(Call::Rename, &[], Some(()))
     }
 
     fn sync_folder(&mut self) -> Result<FolderSync, DiskFault> {
         if self.is_turn() {
-            return self.answer(Call::SyncFolder(FolderSync::NotOffered), None);
+            return self.answer(Call::SyncFolder(FolderSync::NotOffered), &[], None);
         }
-        self.answer(Call::SyncFolder(FolderSync::Done), Some(FolderSync::Done))
+        self.answer(
+            Call::SyncFolder(FolderSync::Done),
+            &[],
+            Some(FolderSync::Done),
+        )
     }
 
     fn remove(&mut self) -> Result<(), DiskFault> {
         if self.is_turn() {
-            return self.answer(Call::Remove, None);
+            return self.answer(Call::Remove, &[], None);
         }
         self.beside = None;
-        self.answer(Call::Remove, Some(()))
+        self.answer(Call::Remove, &[], Some(()))
     }
 }

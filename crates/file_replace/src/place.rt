@@ -1,9 +1,10 @@
 //! A path at which a file is replaced, and the name beside it at which the new file is made.
 
-ghost use Rattle.std.specs.Prelude.{◌≡◌, ℕ, None, IsSome};
+ghost use Rattle.std.specs.Prelude.{ℕ, [], is_ok};
 ghost use Rattle.fork_disk.specs.Disk.{Counts};
-ghost use Rattle.file_replace.specs.Place.{Folder, History};
-ghost use Rattle.file_replace.specs.OnPlace.{Creates, Writes, SetsMode, Syncs, Renames, SyncsFolder, Removes};
+ghost use Rattle.file_replace.specs.declared.calls.Call.TheVariants as calls;
+ghost use Rattle.file_replace.specs.Place.{Seen, IsClear};
+ghost use Rattle.file_replace.specs.OnPlace.{Does, told};
 
 use std::collections::LinkedList;
 
@@ -53,14 +54,8 @@ pub trait Replaces {
     /// Why a call failed.
     type Error: Drop;
 
-    /// What the path has, and what is beside it.
-    ghost contents: { Self → Folder };
-
-    /// What happened since a start, the last event first.
-    ghost history: { Self → History };
-
-    /// It does what it answers, and nobody else writes there.
-    ghost is_honest: { Self → Type 0 };
+    /// What the path has and what is beside it, what happened since a start, and that the place is honest.
+    ghost seen: { Self → Seen };
 
     /// How often a call has failed.
     ghost failures: { Self → ℕ };
@@ -68,42 +63,38 @@ pub trait Replaces {
     /// Makes an empty file beside the path, at a name that no file has. A private one can be read by its owner alone until it gets its
     /// mode. Where it fails, no file was made.
     fn create(&mut self, is_private: bool) -> Result<(), Self::Error>
-        requires { is_honest self.old → (contents self.old).beside ≡ None }
-        ensures creates { is_honest self.new → Creates contents history is_honest self.old self.new result }
+        requires { IsClear (seen self.old) }
+        ensures creates { Does calls.Create (is_ok result) [] (seen self.old) (seen self.new) }
         ensures cause { Counts (failures self.old) (failures self.new) result };
 
     /// Writes all these bytes to the end of the file beside. Where it fails, that file may be any.
     fn write(&mut self, bytes: &[u8]) -> Result<(), Self::Error>
-        requires { is_honest self.old → IsSome (contents self.old).beside }
-        ensures writes { is_honest self.new → Writes contents history is_honest self.old self.new bytes.now result }
+        ensures writes { Does calls.Write (is_ok result) bytes.now (seen self.old) (seen self.new) }
         ensures cause { Counts (failures self.old) (failures self.new) result };
 
     /// Gives the file beside a mode. Where it fails, that file may be any.
     fn set_mode(&mut self, mode: u32) -> Result<(), Self::Error>
-        requires { is_honest self.old → IsSome (contents self.old).beside }
-        ensures sets { is_honest self.new → SetsMode contents history is_honest self.old self.new mode result }
+        ensures sets { Does (calls.SetMode mode) (is_ok result) [] (seen self.old) (seen self.new) }
         ensures cause { Counts (failures self.old) (failures self.new) result };
 
     /// Makes the file beside stable, so that a crash leaves it as it is. A sync that failed makes nothing stable, and may have dropped
     /// what waited for it: after one, none of that file counts.
     fn sync(&mut self) -> Result<(), Self::Error>
-        requires { is_honest self.old → IsSome (contents self.old).beside }
-        ensures syncs { is_honest self.new → Syncs contents history is_honest self.old self.new result }
+        ensures syncs { Does calls.Sync (is_ok result) [] (seen self.old) (seen self.new) }
         ensures cause { Counts (failures self.old) (failures self.new) result };
 
     /// Renames the file beside to the path. The file that was there is gone. Where it fails, all of this was done or nothing.
     fn rename(&mut self) -> Result<(), Self::Error>
-        requires { is_honest self.old → IsSome (contents self.old).beside }
-        ensures renames { is_honest self.new → Renames contents history is_honest self.old self.new result }
+        ensures renames { Does calls.Rename (is_ok result) [] (seen self.old) (seen self.new) }
         ensures cause { Counts (failures self.old) (failures self.new) result };
 
     /// Makes the folder's names stable, so that a crash leaves the path with the file that it has.
     fn sync_folder(&mut self) -> Result<FolderSync, Self::Error>
-        ensures syncs { is_honest self.new → SyncsFolder contents history is_honest self.old self.new result }
+        ensures syncs { Does (calls.SyncFolder (told result)) (is_ok result) [] (seen self.old) (seen self.new) }
         ensures cause { Counts (failures self.old) (failures self.new) result };
 
     /// Removes the file beside. The path is as it was in any case.
     fn remove(&mut self) -> Result<(), Self::Error>
-        ensures removes { is_honest self.new → Removes contents history is_honest self.old self.new result }
+        ensures removes { Does calls.Remove (is_ok result) [] (seen self.old) (seen self.new) }
         ensures cause { Counts (failures self.old) (failures self.new) result };
 }

@@ -1,8 +1,9 @@
 //! A file is put in the place of another.
 
-ghost use Rattle.std.specs.Prelude.{◌≡◌, true, None, MatchResult, IfErr};
+ghost use Rattle.std.specs.Prelude.{◌≡◌, true, MatchResult, IfErr};
 ghost use Rattle.fork_disk.specs.Disk.{Counts};
-ghost use Rattle.file_replace.specs.Replacing.{Fills, HasEmpty, Puts, ReplacesFile, RoseTwice};
+ghost use Rattle.file_replace.specs.Place.{IfHonest, IsClear};
+ghost use Rattle.file_replace.specs.Replacing.{CallsOf, Fills, HasEmpty, Puts, ReplacesFile, RoseTwice, Steps};
 
 use crate::place::{FolderSync, Replaces};
 
@@ -57,8 +58,9 @@ fn fill<R: Replaces>(
     bytes: &[u8],
     mode: Option<u32>,
 ) -> Result<(), Stopped<R::Error>>
-    requires { R.is_honest place.old → HasEmpty (R.contents place.old).beside (R.history place.old) }
-    ensures fills { R.is_honest place.new → Fills R.contents R.history R.is_honest place.old place.new mode bytes.now result }
+    requires { HasEmpty (R.seen place.old) }
+    ensures calls { Steps Step.Sync mode bytes.now result (R.seen place.old) (R.seen place.new) }
+    ensures fills { IfHonest (Fills mode bytes.now result) (R.seen place.old) (R.seen place.new) }
     ensures cause { Counts (R.failures place.old) (R.failures place.new) result }
 {
     at(Step::Write, place.write(bytes))?;
@@ -70,8 +72,9 @@ fn fill<R: Replaces>(
 
 /// Fills the empty file that was made beside the path, syncs it, and renames it to the path.
 fn put<R: Replaces>(place: &mut R, bytes: &[u8], mode: Option<u32>) -> Result<(), Stopped<R::Error>>
-    requires { R.is_honest place.old → HasEmpty (R.contents place.old).beside (R.history place.old) }
-    ensures puts { R.is_honest place.new → Puts R.contents R.history R.is_honest place.old place.new mode bytes.now result }
+    requires { HasEmpty (R.seen place.old) }
+    ensures calls { Steps Step.SyncFolder mode bytes.now result (R.seen place.old) (R.seen place.new) }
+    ensures puts { IfHonest (Puts mode bytes.now result) (R.seen place.old) (R.seen place.new) }
     ensures cause { Counts (R.failures place.old) (R.failures place.new) result }
 {
     fill(place, bytes, mode)?;
@@ -86,8 +89,9 @@ pub fn replace<R: Replaces>(
     bytes: &[u8],
     mode: Option<u32>,
 ) -> Result<FolderSync, Fault<R::Error>>
-    requires { R.is_honest place.old → (R.contents place.old).beside ≡ None }
-    ensures replaces { R.is_honest place.new → ReplacesFile R.contents R.history R.is_honest place.old place.new mode bytes.now result }
+    requires { IsClear (R.seen place.old) }
+    ensures calls { CallsOf mode bytes.now result (R.seen place.old).calls (R.seen place.new).calls }
+    ensures replaces { IfHonest (ReplacesFile mode bytes.now result) (R.seen place.old) (R.seen place.new) }
     ensures cause { Counts (R.failures place.old) (R.failures place.new) result }
     ensures left { IfErr result (λ fault. fault.is_left ≡ true → RoseTwice (R.failures place.old) (R.failures place.new)) }
 {

@@ -1,5 +1,8 @@
 //! Why a file wasn't replaced, as it is told.
 
+ghost use Rattle.std.specs.Prelude.{◌≡◌};
+ghost use Rattle.file_replace.specs.declared.told.NotReplaced.TheVariants.{HostFull};
+
 use crate::replacement::Step;
 use std::alloc::AllocError;
 use std::error::Error;
@@ -100,6 +103,8 @@ impl Display for NotReplaced {
 impl Error for NotReplaced {}
 
 impl From<AllocError> for NotReplaced {
+    ghost from_gives = { λ _ refusal. refusal ≡ HostFull };
+
     fn from(_: AllocError) -> NotReplaced {
         NotReplaced::HostFull
     }

@@ -1,8 +1,7 @@
 //! What is supposed of a folder of the host.
 
 ghost use Rattle.std.specs.Prelude.{ℕ, List, None};
-ghost use Rattle.file_replace.specs.Place.{Folder};
-ghost use Rattle.file_replace.specs.Calls.{Answered};
+ghost use Rattle.file_replace.specs.Place.{Answered, Folder};
 
 /// What paths had, and the names beside them, after each of the calls there. No code can know it, so a function over `W: FolderWorld` is
 /// proved for each world that there may be. Each path has a number of its own.

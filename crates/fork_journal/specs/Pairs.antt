@@ -1,5 +1,5 @@
 -- What a step of an update does to a pair of any kind that is honest after it.
-use Rattle.std.specs.Prelude.{◌≡◌, ℕ, ◌≤◌, true, false, List, drop, Option, Result, IfOk, OnOk, IsErrOf, MatchOption, Vec}
+use Rattle.std.specs.Prelude.{◌≡◌, ℕ, ◌≤◌, true, false, List, drop, length, Option, Result, IfOk, OnOk, IsErrOf, MatchOption, Vec}
 use Rattle.std.specs.Global.{Global}
 use Rattle.fork_disk.specs.declared.faults.RecoverFault.{RecoverFault}
 use Rattle.fork_disk.specs.declared.faults.RecoverFault.TheVariants.{Host}
@@ -13,6 +13,10 @@ use Rattle.fork_journal.specs.Recovery.{copied_length}
 -- the call reads at most
 abbrev pub OnlyReadsPair : {P : Type 0} → Ghosts P → P → P → Type 0
 OnlyReadsPair pair old new = KeepsPair pair.contents pair.history pair.is_honest old new
+
+-- where it is honest, a side of the pair has as many bytes
+abbrev pub HasBytes : {P : Type 0} → Ghosts P → Side → ℕ → P → Type 0
+HasBytes pair side n now = pair.is_honest now → n ≤ length (side_of side (pair.contents now))
 
 module _ {P : Type 0} (pair : Ghosts P) (old new : P) where
   -- the call only reads, and this is so of its answer

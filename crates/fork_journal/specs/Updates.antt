@@ -27,6 +27,16 @@ module _ {P : Type 0} (pair : Ghosts P) where
   abbrev pub IsPairStable : P → Type 0
   IsPairStable now = IsStable (pair.contents now) (pair.history now)
 
+  -- where it is honest, the pair can be replaced, it can be recovered, or a crash leaves its fork behind a shut gate
+  abbrev pub CanReplace : P → Type 0
+  CanReplace now = pair.is_honest now → IsPairReady now
+
+  abbrev pub CanRecover : P → Type 0
+  CanRecover now = pair.is_honest now → IsRecoverable (pair.contents now) (pair.history now)
+
+  abbrev pub HasShut : P → Type 0
+  HasShut now = pair.is_honest now → Leaves (IsShut (pair.contents now).fork) (pair.history now)
+
   module _ (old new : P) where
     -- whenever a crash comes, it leaves what has Q, and a recovery can make the pair ready
     pub record Passes (Q : Contents → Type 0) : Type 0 where

@@ -3,8 +3,8 @@
 ghost use Rattle.std.specs.Prelude.{◌≡◌, ◌<◌, ◌^◌, ⊤, [], ◌∷◌, length};
 ghost use Rattle.std.proofs.Common.{refl, ◌∙◌, ap};
 ghost use Rattle.fork_journal.specs.Crash.{Event, Found, History, MayLeave};
-ghost use Rattle.fork_journal.specs.Recovery.{copied_length, settled_fork, IsReady, IsRecoverable, IsStable, IsEither, MayFind};
-ghost use Rattle.fork_journal.specs.Updates.{pair_fork, IsPairReady};
+ghost use Rattle.fork_journal.specs.Recovery.{copied_length, settled_fork, IsReady, IsStable, IsEither, MayFind};
+ghost use Rattle.fork_journal.specs.Updates.{pair_fork, CanRecover, IsPairReady};
 
 use crate::pair::{PairDisk, Side};
 use crate::{recovery, update};
@@ -19,7 +19,7 @@ use std::alloc::Global;
 pub struct Journal<P: PairDisk> {
     alloc: Global,
     pair: P,
-    ghost recoverable: { P.is_honest pair → IsRecoverable (P.contents pair) (P.history pair) },
+    ghost recoverable: { CanRecover P.PairDisk pair },
 }
 
 impl<P: PairDisk> Journal<P> {

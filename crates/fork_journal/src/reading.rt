@@ -5,7 +5,7 @@ ghost use Rattle.byteorder.specs.Endian.{big_number};
 ghost use Rattle.fork_disk.specs.Disk.{bytes_at, Counts};
 ghost use Rattle.fork_disk.specs.Faults.{CountsDevice};
 ghost use Rattle.fork_journal.specs.Form.{must_shut};
-ghost use Rattle.fork_journal.specs.Pairs.{Answers, FindsUsable};
+ghost use Rattle.fork_journal.specs.Pairs.{Answers, FindsUsable, HasBytes};
 
 use crate::pair::{PairDisk, Side};
 use byteorder::{BigEndian, ByteOrder};
@@ -42,7 +42,7 @@ fn read_journal<P: PairDisk>(
     at: u64,
     len: u64,
 ) -> Result<Vec<u8>, RecoverFault>
-    requires { P.is_honest pair.old → at + len ≤ length (P.contents pair.old).journal }
+    requires { HasBytes P.PairDisk Side.Journal (at + len) pair.old }
     ensures answers { P.is_honest pair.new
         → Answers P.PairDisk pair.old pair.new (IfOk result (λ bytes. bytes.items ≡ bytes_at len at (P.contents pair.old).journal)) }
     ensures cause { CountsDevice (P.failures pair.old) (P.failures pair.new) result }

@@ -3,8 +3,8 @@
 ghost use Rattle.std.specs.Prelude.{◌≡◌, drop};
 ghost use Rattle.fork_disk.specs.Disk.{Counts};
 ghost use Rattle.fork_disk.specs.Faults.{CountsDevice};
-ghost use Rattle.fork_journal.specs.Recovery.{settled_fork, IsRecoverable};
-ghost use Rattle.fork_journal.specs.Updates.{IsStaged, Puts, RecoversPair};
+ghost use Rattle.fork_journal.specs.Recovery.{settled_fork};
+ghost use Rattle.fork_journal.specs.Updates.{CanRecover, IsStaged, Puts, RecoversPair};
 
 use crate::pair::{PairDisk, Side};
 use crate::reading::usable_fork;
@@ -28,7 +28,7 @@ pub(crate) fn finish<P: PairDisk>(pair: &mut P, fork: &[u8]) -> Result<(), DiskF
 /// Makes what a crash or a fault left whole again: it syncs the journal, and where that is usable, it writes its fork and shuts the
 /// gate. It may stop anywhere and be run again.
 pub fn recover<P: PairDisk>(alloc: Global, pair: &mut P) -> Result<(), RecoverFault>
-    requires { P.is_honest pair.old → IsRecoverable (P.contents pair.old) (P.history pair.old) }
+    requires { CanRecover P.PairDisk pair.old }
     ensures recovers { P.is_honest pair.new → RecoversPair P.PairDisk pair.old pair.new result }
     ensures cause { CountsDevice (P.failures pair.old) (P.failures pair.new) result }
 {

@@ -1,11 +1,11 @@
 //! The steps of an update, each with at most three calls of its own that change the device. Whenever a crash comes in a step, it
 //! leaves what it might have left before, but for the part that the step writes.
 
-ghost use Rattle.std.specs.Prelude.{◌+◌, ◌<◌, ◌≤◌, ◌^◌, ◌∷◌, ◌++◌, length, take, drop};
+ghost use Rattle.std.specs.Prelude.{◌+◌, ◌<◌, ◌^◌, ◌∷◌, ◌++◌, length, take, drop};
 ghost use Rattle.fork_disk.specs.Disk.{Counts};
 ghost use Rattle.fork_journal.specs.Crash.{side_of};
 ghost use Rattle.fork_journal.specs.Form.{text_of, IsSameFront, IsSameText};
-ghost use Rattle.fork_journal.specs.Pairs.{PutsSide};
+ghost use Rattle.fork_journal.specs.Pairs.{HasBytes, PutsSide};
 
 use crate::pair::{PairDisk, Side};
 use byteorder::{BigEndian, ByteOrder};
@@ -30,7 +30,7 @@ pub(crate) fn put_rest<P: PairDisk>(
     bytes: &[u8],
 ) -> Result<(), DiskFault>
     requires fits { at + length bytes.now < 2 ^ 64 }
-    requires there { P.is_honest pair.old → at ≤ length (side_of side (P.contents pair.old)) }
+    requires there { HasBytes P.PairDisk side at pair.old }
     ensures puts { P.is_honest pair.new → PutsSide P.PairDisk pair.old pair.new side (IsSameFront at)
         (take at (side_of side (P.contents pair.old)) ++ bytes.now) result }
     ensures cause { Counts (P.failures pair.old) (P.failures pair.new) result }
@@ -43,7 +43,7 @@ pub(crate) fn put_rest<P: PairDisk>(
 
 /// Writes the text of a fork after the gate, its length and its bytes, and makes sure of it.
 pub(crate) fn put_text<P: PairDisk>(pair: &mut P, fork: &[u8]) -> Result<(), DiskFault>
-    requires gate { P.is_honest pair.old → 1 ≤ length (P.contents pair.old).journal }
+    requires gate { HasBytes P.PairDisk Side.Journal 1 pair.old }
     requires short { length fork.now < 2 ^ 32 }
     ensures puts { P.is_honest pair.new → PutsSide P.PairDisk pair.old pair.new Side.Journal (IsSameFront 1)
         (take 1 (P.contents pair.old).journal ++ text_of fork.now) result }

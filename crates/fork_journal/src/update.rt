@@ -2,10 +2,9 @@
 
 ghost use Rattle.std.specs.Prelude.{◌<◌, ◌^◌, length};
 ghost use Rattle.fork_disk.specs.Disk.{Counts};
-ghost use Rattle.fork_journal.specs.Crash.{Leaves};
 ghost use Rattle.fork_journal.specs.Form.{text_of};
-ghost use Rattle.fork_journal.specs.Recovery.{IsReady, IsBeforeOrAfter, IsShut};
-ghost use Rattle.fork_journal.specs.Updates.{Shuts, Stages, Puts, ReplacesPair};
+ghost use Rattle.fork_journal.specs.Recovery.{IsBeforeOrAfter};
+ghost use Rattle.fork_journal.specs.Updates.{CanReplace, HasShut, Shuts, Stages, Puts, ReplacesPair};
 
 use crate::pair::PairDisk;
 use crate::reading::is_shutting_due;
@@ -16,7 +15,7 @@ use fork_disk::store::ReplaceFault;
 
 /// Shuts the gate where it is open or not there yet. Where it fails before its first write, nothing has changed.
 fn shut<P: PairDisk>(pair: &mut P) -> Result<(), ReplaceFault>
-    requires { P.is_honest pair.old → IsReady (P.contents pair.old) (P.history pair.old) }
+    requires { CanReplace P.PairDisk pair.old }
     ensures shuts { P.is_honest pair.new → Shuts P.PairDisk pair.old pair.new result }
     ensures cause { Counts (P.failures pair.old) (P.failures pair.new) result }
 {
@@ -33,7 +32,7 @@ fn shut<P: PairDisk>(pair: &mut P) -> Result<(), ReplaceFault>
 
 /// Writes the text of a fork behind the shut gate, and opens the gate.
 fn stage<P: PairDisk>(pair: &mut P, fork: &[u8]) -> Result<(), DiskFault>
-    requires shut { P.is_honest pair.old → Leaves (IsShut (P.contents pair.old).fork) (P.history pair.old) }
+    requires shut { HasShut P.PairDisk pair.old }
     requires short { length fork.now < 2 ^ 32 }
     ensures stages { P.is_honest pair.new → Stages P.PairDisk pair.old pair.new fork.now result }
     ensures cause { Counts (P.failures pair.old) (P.failures pair.new) result }
@@ -45,7 +44,7 @@ fn stage<P: PairDisk>(pair: &mut P, fork: &[u8]) -> Result<(), DiskFault>
 
 /// Writes the text of a fork behind the shut gate, and then the fork.
 fn put_both<P: PairDisk>(pair: &mut P, fork: &[u8]) -> Result<(), DiskFault>
-    requires shut { P.is_honest pair.old → Leaves (IsShut (P.contents pair.old).fork) (P.history pair.old) }
+    requires shut { HasShut P.PairDisk pair.old }
     requires short { length fork.now < 2 ^ 32 }
     ensures puts { P.is_honest pair.new → Puts P.PairDisk pair.old pair.new (IsBeforeOrAfter (P.contents pair.old).fork fork.now) fork.now
         (text_of fork.now) result }
@@ -58,7 +57,7 @@ fn put_both<P: PairDisk>(pair: &mut P, fork: &[u8]) -> Result<(), DiskFault>
 
 /// Puts another fork in the place of the one that is there. Reads come before the first write.
 pub fn replace<P: PairDisk>(pair: &mut P, fork: &[u8]) -> Result<(), ReplaceFault>
-    requires ready { P.is_honest pair.old → IsReady (P.contents pair.old) (P.history pair.old) }
+    requires ready { CanReplace P.PairDisk pair.old }
     requires short { length fork.now < 2 ^ 32 }
     ensures replaces { P.is_honest pair.new → ReplacesPair P.PairDisk pair.old pair.new fork.now result }
     ensures cause { Counts (P.failures pair.old) (P.failures pair.new) result }

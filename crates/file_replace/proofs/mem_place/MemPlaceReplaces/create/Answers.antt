@@ -7,6 +7,6 @@ abbrev empty_of : List ℕ → PlainFile
 empty_of bytes = record { bytes = bytes; mode = 420 }
 
 pub returns-clause-creates : goal.returns-clause-creates
-returns-clause-creates c honest =
+returns-clause-creates c =
     let is : seen c.answer-2.new.self.beside ≡ Some (empty_of []) = ap seen c.answer-2.ensures.beside ∙ ap (λ (l : List ℕ). Some (empty_of l)) c.new.ensures.items in
     let empty : (file : PlainFile) × (seen c.answer-2.new.self.beside ≡ Some file) × (file.bytes ≡ []) = (empty_of [], is, refl) in search rules

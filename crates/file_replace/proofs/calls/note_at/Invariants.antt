@@ -1,0 +1,5 @@
+use Rattle.file_replace.proofs.calls.note_at.Given as goal
+use Rattle.std.proofs.Common.{◌∷◌}
+
+abbrev pub ghost-of_events_beside : goal.ghost-of_events_beside
+ghost-of_events_beside a = (a._first.now, a._second.now.events) ∷ a._past.now.events
