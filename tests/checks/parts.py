@@ -1,8 +1,9 @@
-"""Checks that `resfork ls` and `resfork get` read of a large fork only its header, its map, and the lengths and bytes that they show.
+"""Checks that `resfork ls` and `resfork get` read of a raw fork only its header, its map, and the lengths and bytes that they show.
 
-The random forks of tests/checks/forks.py get bytes behind them that make them large, and what is shown is compared with the model, and with
-what is shown of the same bytes on the standard input, which is read whole. Of forks of 4 and 16 MB the bytes that a run reads are counted:
-wanted are at most those of the header, the map, four for each resource and the bytes that are written, with 65,536 for the program itself.
+Of random forks of tests/checks/forks.py, alone and with bytes behind them, what is shown is compared with the model, and with what is
+shown of the same bytes on the standard input, which is read whole. Of forks of 1 KB to 16.8 MB, the last with its map past 16 MB, the
+bytes that a run reads are counted, too: wanted are at most those that it reads of an empty file, the first 128 and 256, the map, four
+for each resource and the bytes that are written.
 """
 import os
 import random
@@ -12,10 +13,17 @@ import tempfile
 
 from checks.fork_questions import Difference
 from checks.forks import Choices, compare, run, try_fork
-from model.fork import FORMAT, NoFork, read_fork
+from model.fork import FORMAT, NoFork, listing, read_fork
 
-LARGE = 1 << 20
-OWN = 65536
+FRONT = 128 + 256
+# what /proc/self/io tells has more digits later
+DIGITS = 64
+BEHIND = 1 << 20
+# each resource begins as a BinHex text does
+BEGINNING = b"\r(This file must be converted"
+# how many resources, and of how many bytes each; the last map begins past 16 MB
+SIZES = [(4, 150)] + [(1 << it // 2, 1 << it - it // 2) for it in range(10, 24)]
+SIZES += [(1, 4194304), (1282, 568), (1000, 4096), (5000, 3000), (16, 1048000), (16, 1048572)]
 
 
 def whole(program, path, words):
@@ -35,9 +43,14 @@ def try_ways(program, path):
             raise Difference(f"{' '.join(words)}: {by_name} by its name, and {by_input} on the standard input")
 
 
+def datum(number, length):
+    """The bytes of a resource."""
+    return (BEGINNING + bytes([number % 251]) * length)[:length]
+
+
 def fork_of(count, length):
     """A fork of so many resources of so many bytes each, and how many bytes its map has."""
-    data = b"".join(struct.pack(">I", length) + bytes([it % 251]) * length for it in range(count))
+    data = b"".join(struct.pack(">I", length) + datum(it, length) for it in range(count))
     references = b"".join(struct.pack(">hHB", it, 0xFFFF, 0) + (it * (4 + length)).to_bytes(3, "big") + bytes(4) for it in range(count))
     the_map = bytes(24) + struct.pack(">HHH4s2H", 28, 38 + 12 * count, 0, b"DATA", count - 1, 10) + references
     return struct.pack(">4I", 256, 256 + len(data), len(data), len(the_map)) + bytes(240) + data + the_map, len(the_map)
@@ -49,35 +62,50 @@ def bytes_read():
         return next(int(line.split()[1]) for line in lines if line.startswith("rchar:"))
 
 
-def try_count(program, path, words, wanted, most):
-    """Compares what a run writes, and how many bytes it reads at most."""
+def counted(program, path, words):
+    """What a run writes, with its status, and how many bytes it reads."""
     with open(path + ".out", "wb") as output:
         before = bytes_read()
         status = subprocess.run([program, *words], stdin=subprocess.DEVNULL, stdout=output, check=False).returncode
         count = bytes_read() - before
     with open(path + ".out", "rb") as output:
-        compare(" ".join(words), (status, output.read(), ""), 0, wanted, "")
-    if count > most + OWN:
-        raise Difference(f"{' '.join(words)}: it read {count} bytes, and at most {most + OWN} are wanted")
-    return count
+        return (status, output.read(), ""), count
+
+
+def own_bytes(program, path):
+    """How many bytes a run reads of an empty file: those of the program itself."""
+    with open(path, "wb"):
+        pass
+    return counted(program, path, ["ls", path])[1]
+
+
+def try_count(program, path, words, wanted, most):
+    """Compares what a run writes, and how many bytes it reads at most."""
+    shown, count = counted(program, path, words)
+    compare(" ".join(words), shown, 0, wanted, "")
+    if count > most:
+        raise Difference(f"{' '.join(words)}: it read {count} bytes, and at most {most} are wanted")
 
 
 def try_size(program, path, count, length):
-    """Counts the bytes that are read of a fork of so many resources of so many bytes each. The result is how many those are for `ls`."""
+    """Counts the bytes that are read of a fork of so many resources of so many bytes each."""
+    most = own_bytes(program, path) + DIGITS + FRONT
     fork, map_length = fork_of(count, length)
     with open(path, "wb") as file:
         file.write(fork)
-    front = 16 + 256 + map_length + 4 * count
-    try_count(program, path, ["get", path, "DATA", str(count - 1)], bytes([(count - 1) % 251]) * length, front + length)
-    return try_count(program, path, ["ls", path], whole(program, path, ["ls", "-"])[1], front)
+    most += map_length + 4 * count
+    try_count(program, path, ["get", path, "DATA", str(count - 1)], datum(count - 1, length), most + length)
+    try_count(program, path, ["ls", path], listing(read_fork(fork, FORMAT)).encode(), most)
+    try_ways(program, path)
 
 
 def try_random(program, path, number):
-    """Tries a random fork with bytes behind it. The result is whether it is one."""
+    """Tries a random fork, alone and with bytes behind it. The result is whether it is one."""
     fork = Choices(number).fork()
-    large = fork + random.Random(number).randbytes(16) * (LARGE // 16)
-    try_fork(program, path, large, random.Random(number))
-    try_ways(program, path)
+    large = fork + random.Random(number).randbytes(16) * (BEHIND // 16)
+    for file in (fork, large):
+        try_fork(program, path, file, random.Random(number))
+        try_ways(program, path)
     try:
         read_fork(large, FORMAT)
     except NoFork:
@@ -86,7 +114,7 @@ def try_random(program, path, number):
 
 
 def main(program, count=40):
-    """Tries so many random forks, and counts what is read of forks of 4 and 16 MB."""
+    """Tries so many random forks, and counts what is read of forks of all sizes."""
     forks = 0
     with tempfile.TemporaryDirectory() as folder:
         path = os.path.join(folder, "fork")
@@ -95,16 +123,11 @@ def main(program, count=40):
             for number in range(1, count + 1):
                 what = f"fork {number}"
                 forks += try_random(program, path, number)
-            for rows, length in ((1, 4194304), (1000, 4096), (5000, 3000), (16, 1048000)):
+            for rows, length in SIZES:
                 what = f"{rows} resources of {length} bytes"
                 try_size(program, path, rows, length)
-            # a map past 16 MB isn't known by the first bytes, so this one may be read whole
-            what = "the largest fork"
-            with open(path, "wb") as file:
-                file.write(fork_of(16, 1048572)[0])
-            try_ways(program, path)
         except Difference as difference:
             print(f"{what}: {difference}")
             return 1
-    print(f"{count} random forks, of which {forks} are whole, and the bytes that are read of 4 large ones")
+    print(f"{count} random forks, of which {forks} are whole, and the bytes that are read of {len(SIZES)} forks of 1 KB to 16.8 MB")
     return 0

@@ -126,6 +126,14 @@ def in_bin_hex(file, after):
     return fork
 
 
+def has_fork_parts(file):
+    """Whether the file has the header of a fork whose data and map lie within it, and isn't a text, which has no zero byte."""
+    if len(file) < 16 or 0 not in file[:16]:
+        return False
+    data_at, map_at, data_length, map_length = struct.unpack(">4I", file[:16])
+    return data_at + data_length <= len(file) and map_at + map_length <= len(file) and map_length >= 28
+
+
 def resource_fork(file):
     """The bytes that are the file's resource fork: those in its container, or the whole file."""
     if len(file) >= 16 and not (file[0] or file[4] or file[8] or file[12]) and struct.unpack(">I", file[12:16])[0] >= 28:
@@ -135,7 +143,7 @@ def resource_fork(file):
         fork = in_apple(file)
     elif version := mac_binary_version(file):
         fork = in_mac_binary(version, file)
-    elif comment := COMMENT.search(file):
+    elif (comment := COMMENT.search(file)) and not has_fork_parts(file):
         return in_bin_hex(file, comment.end())
     else:
         return file

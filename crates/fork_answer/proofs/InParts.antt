@@ -1,12 +1,14 @@
 -- A file that is a resource fork, of which only some parts are read.
-use Rattle.std.proofs.Common.{◌≡◌, ◌≢◌, ◌∙◌, refl, sym, ap, subst, inl, inr, ℕ, zero, suc, ◌≤◌, Bool, true, false, List, [], ◌∷◌, length, take, Option, None, Some, IfSome, Result, Ok, Err, arith}
-use Rattle.std.specs.Prelude.{◌<◌, slice_get, option_map, if◌then◌else◌}
+use Rattle.std.proofs.Common.{◌≡◌, ◌≢◌, ◌∙◌, ◌⊎◌, min, refl, sym, ap, subst, inl, inr, ℕ, zero, suc, ◌≤◌, Bool, true, false, List, [], ◌∷◌, length, take, Option, None, Some, Result, Ok, Err, arith}
+use Rattle.std.specs.Prelude.{◌<◌, ◌&&◌, ◌||◌, not, is_none, is_some, slice_get, option_map, if◌then◌else◌, ⊤, MatchOption}
 use Rattle.std.specs.List.{AllByRecursion, filter}
-use Rattle.std.proofs.lemmas.Bool.{cases_Bool, cond-true, cond-false, le-leb, ne_eqb}
-use Rattle.std.proofs.lemmas.List.{get_or-take, length-take-le, take_all}
+use Rattle.std.proofs.lemmas.Bool.{and_right, cases_lt, cond-true, cond-false, lt-leb, ne_eqb}
+use Rattle.std.proofs.lemmas.List.{take_all}
+use Rattle.fork_bytes.specs.declared.fault.ForkFault.{ForkFault}
 use Rattle.fork_bytes.specs.declared.table.Table.{Table}
 use Rattle.fork_bytes.specs.Fork.{bytes_at, format_limits}
 use Rattle.fork_disk.specs.declared.store.ForkStore.{Ghosts}
+use Rattle.fork_disk.specs.Disk.{Rose}
 use Rattle.fork_list.specs.declared.find.Wanted.{Wanted}
 use Rattle.fork_list.specs.Find.{is_wanted}
 use Rattle.fork_list.specs.Listing.{listing}
@@ -14,16 +16,18 @@ use Rattle.fork_list.specs.Types.{type_lines}
 use Rattle.fork_list.proofs.Placed.{place_size, listing_at, type_lines_at, wanted_at}
 use Rattle.fork_reader.specs.Reading.{PlacedRow, IsWithin, row_at}
 use Rattle.fork_rows.specs.Opening.{OpensAsWithin, Reads, filled}
+use Rattle.fork_rows.specs.declared.fault.OpenFault.TheVariants.{Fork}
 use Rattle.fork_rows.specs.declared.table.PlacedTable.{PlacedTable}
 use Rattle.fork_rows.proofs.Kept.{read_twice}
 use Rattle.mac_files.specs.declared.container.Container.{Container}
-use Rattle.mac_files.specs.declared.container.Container.TheVariants.{Raw, AppleSingle, AppleDouble, MacBinary}
-use Rattle.mac_files.specs.declared.container.Version.{Version}
-use Rattle.mac_files.specs.Containers.{container_of, is_fork_header}
+use Rattle.mac_files.specs.declared.container.Container.TheVariants.{Raw}
+use Rattle.mac_files.specs.BinHex.{comment_of, is_bin_hex}
+use Rattle.mac_files.specs.Containers.{container_of, has_fork_parts, is_fork_header, is_raw, is_raw_by}
 use Rattle.mac_files.specs.Parts.{bytes_of, has_bytes}
+use Rattle.mac_files.proofs.Known.{raw}
 use Rattle.fork_answer.specs.Answer.{Answers, IsAsked, Shows, Writes, wanted_row}
-use Rattle.fork_answer.specs.InParts.{HasRows, IsForkWith, ShowsRows}
-use Rattle.fork_answer.specs.Source.{IsForkIn, IsForkAs}
+use Rattle.fork_answer.specs.InParts.{HasRows, IsForkWith, IsNoForkWith, IsNotRaw, IsReadAs, Never, ShowsRows}
+use Rattle.fork_answer.specs.Source.{IsForkAs, IsForkElsewhere, IsForkIn}
 use Rattle.fork_answer.specs.declared.answer.Failure.{Failure}
 use Rattle.fork_answer.specs.declared.answer.Failure.TheVariants as failure
 use Rattle.fork_answer.specs.declared.request.Choice.{Choice}
@@ -40,32 +44,28 @@ shows asked table text old new (Err (failure.Write fault)) is wrote = tt
 shows asked table text old new (Err (failure.Fork fault)) is wrote = absurd wrote
 shows asked table text old new (Err (failure.NoFork fault)) is wrote = absurd wrote
 
--- a file begins with the header of a fork where its first 16 bytes do
-same_header : (file : List ℕ) → 16 ≤ length file → is_fork_header (take 16 file) ≡ is_fork_header file
-unfolding is_fork_header
-same_header file long =
-    let front = length-take-le 16 file long in
-    let whole = le-leb 16 (length file) long in
-    let same = λ (i : ℕ) (low : i < 16). get_or-take 16 file i 0 low in
-    rw (front, whole, same 0 (omega arith), same 4 (omega arith), same 8 (omega arith), same 12 (omega arith), same 13 (omega arith), same 14 (omega arith), same 15 (omega arith)) refl
+-- a file is known by its length and its first bytes, of which 128 were read, or all
+front_read : (file : List ℕ) (n : ℕ) → n ≡ min 128 (length file) → bytes_at n 0 file ≡ take 128 file
+front_read file n is = elim (cases_lt 128 (length file)) [
+  | inl long ↦ let whole : n ≡ 128 = omega (arith, is, long) in ap (λ (k : ℕ). take k file) whole
+  | inr short ↦ take_all n file (omega (arith, is, short)) ∙ sym (take_all 128 file (omega arith))
+]
 
--- what has no such header is known as something else
-not_binary : (found : Option Version) → option_map MacBinary found ≡ Some Raw → ⊥
-not_binary None is = cc is
-not_binary (Some version) is = cc is
+pub known_by_front : (file front : List ℕ) (size n : ℕ) → size ≡ length file → n ≡ min 128 size → front ≡ bytes_at n 0 file → is_raw_by size front ≡ is_raw file
+known_by_front file front size n count is read =
+    let same : n ≡ min 128 (length file) = is ∙ ap (min 128) count in
+    ap (is_raw_by size) (read ∙ front_read file n same) ∙ ap (λ (k : ℕ). is_raw_by k (take 128 file)) count ∙ raw file
 
-not_raw : (single double : Bool) (found : Option Version) → (if single then Some AppleSingle else if double then Some AppleDouble else option_map MacBinary found) ≡ Some Raw → ⊥
-not_raw true double found is = cc is
-not_raw false true found is = cc is
-not_raw false false found is = not_binary found is
+-- what is shorter than a header isn't known
+not_raw : (file : List ℕ) → length file < 16 → is_raw file ≡ false
+unfolding is_fork_header has_fork_parts
+not_raw file short = rw (lt-leb 16 (length file) short) (and_right _ _ refl)
 
--- a file is known as a fork where its first 16 bytes are
-pub known_by_front : (file : List ℕ) → 16 ≤ length file → container_of (bytes_at 16 0 file) ≡ Some Raw → container_of file ≡ Some Raw
-known_by_front file long is =
-    elim (cases_Bool (is_fork_header (take 16 file))) [
-      | inl header ↦ cond-true _ _ _ (sym (same_header file long) ∙ header)
-      | inr other ↦ absurd (not_raw _ _ _ (sym (cond-false _ _ _ other) ∙ is))
-    ]
+pub is_long : (file : List ℕ) → is_raw file ≡ true → 16 ≤ length file
+is_long file is = elim (cases_lt (length file) 16) [
+  | inl short ↦ let never : false ≡ true = sym (not_raw file short) ∙ is in absurd (cc never)
+  | inr long ↦ long
+]
 
 -- the fork in a file that is known as a fork is the whole of it
 whole_part : (file : List ℕ) → 16 ≤ length file → option_map (λ part. bytes_of part file) (has_bytes (record { offset = 0; length = length file })) ≡ Some file
@@ -73,23 +73,57 @@ whole_part file long =
     let some : length file ≢ 0 = λ none. omega (arith, long, none) in
     ap (option_map (λ part. bytes_of part file)) (cond-false _ _ _ (ne_eqb (length file) 0 some)) ∙ ap (λ (bytes : List ℕ). Some bytes) (take_all (length file) file (omega arith))
 
-pub is_fork_in : (file : List ℕ) → 16 ≤ length file → container_of file ≡ Some Raw → IsForkIn file file
-is_fork_in file long is = let P : Option Container → Type 0 = λ known. IsForkAs known file file in subst P (sym is) (refl, whole_part file long)
+-- what is known as a fork by its header is so; what has a header and is in no container isn't BinHex
+known_fork : (file : List ℕ) → 16 ≤ length file → container_of file ≡ Some Raw → IsForkIn file file
+known_fork file long is = let P : Option Container → Type 0 = λ known. IsForkAs known file file in subst P (sym is) (refl, whole_part file long)
 
--- a fork that was opened, whose first 16 bytes were read again
-pub is_fork_with : (file : List ℕ) (table : PlacedTable) (front : List ℕ) → OpensAsWithin format_limits (Ok table) file → front ≡ bytes_at 16 0 file → container_of front ≡ Some Raw
-    → IsForkWith file table.rows
-is_fork_with file table front opens read is =
-    let long = opens.rows.0.header in record {
-      fork = is_fork_in file long (known_by_front file long (ap container_of (sym read) ∙ is));
-      table = (filled file table, opens.table, refl);
-      within = opens.within;
-    }
+known_elsewhere : (file : List ℕ) → container_of file ≡ None → has_fork_parts (length file) file ≡ true → IsForkIn file file
+known_elsewhere file none parts =
+    let P : Option Container → Type 0 = λ known. IsForkAs known file file in
+    let Q : Bool → Type 0 = λ text. IsForkElsewhere text file file in
+    let no_text : is_bin_hex file ≡ false = ap (λ (b : Bool). not b && is_some (comment_of file)) parts in
+    subst P (sym none) (subst Q (sym no_text) refl)
+
+pub is_fork_in : (file : List ℕ) → 16 ≤ length file → is_raw file ≡ true → IsForkIn file file
+is_fork_in file long is = by_header (is_fork_header file) (container_of file) refl refl is
+  where
+    by_header : (header : Bool) (known : Option Container) → is_fork_header file ≡ header → container_of file ≡ known
+        → (header || (is_none known && has_fork_parts (length file) file)) ≡ true → IsForkIn file file
+    by_header true known header other is = known_fork file long (cond-true _ _ _ header)
+    by_header false None header none is = known_elsewhere file none is
+    by_header false (Some container) header some is = absurd (cc is)
+
+-- a file that is known as a fork, which was opened
+pub is_fork_with : (file : List ℕ) (table : PlacedTable) → is_raw file ≡ true → OpensAsWithin format_limits (Ok table) file → IsForkWith file table.rows
+is_fork_with file table is opens = record {
+  fork = is_fork_in file (is_long file is) is;
+  table = (filled file table, opens.table, refl);
+  within = opens.within;
+}
+
+-- or isn't, since its bytes stand for no table
+pub is_no_fork_with : (file : List ℕ) (fault : ForkFault) → is_raw file ≡ true → OpensAsWithin format_limits (Err (Fork fault)) file → IsNoForkWith file fault
+is_no_fork_with file fault is opens = record {
+  fork = is_fork_in file (is_long file is) is;
+  some = λ none. (let long = is_long file is in let count = ap (λ (bytes : List ℕ). length bytes) none in omega (arith, long, count));
+  refuses = opens.refuses;
+}
 
 -- what is shown of its rows answers for the file
 pub answers : {T : Type 0} (file : List ℕ) (rows : List PlacedRow) (asked : Request) (old new : Option (List ℕ)) (result : Result T Failure)
     → IsForkWith file rows → ShowsRows asked rows old new file result → Answers asked file old new result
 answers file rows asked old new result is shown = inl (file, is.fork, inl (is.table.0, inr is.table.1, shown is.table.0 is.table.2))
+
+-- what was read is a table's rows, or a fault
+pub read_rows : (file : List ℕ) (read : Result (List PlacedRow) ForkFault) (rows : List PlacedRow) → IsReadAs file read → read ≡ Ok rows → IsForkWith file rows
+read_rows file read rows told is = let P : Result (List PlacedRow) ForkFault → Type 0 = IsReadAs file in subst P is told
+
+pub read_fault : (file : List ℕ) (read : Result (List PlacedRow) ForkFault) (fault : ForkFault) → IsReadAs file read → read ≡ Err fault → IsNoForkWith file fault
+read_fault file read fault told is = let P : Result (List PlacedRow) ForkFault → Type 0 = IsReadAs file in subst P is told
+
+pub refuses : (file : List ℕ) (fault : ForkFault) (asked : Request) (old new : Option (List ℕ)) → IsNoForkWith file fault
+    → Answers asked file old new (let result : Result ⊤ Failure = Err (failure.Fork fault) in result)
+refuses file fault asked old new is = inl (file, is.fork, inr (fault, is.some, is.refuses, refl))
 
 -- a store is read, and read again
 pub reads_twice : {S : Type 0} (store : Ghosts S) (start middle last : S) (P Q R : List ℕ → Type 0) → Reads store start middle P → Reads store middle last Q
@@ -131,11 +165,13 @@ types_answer file rows listed asked choice old new result is asks same wrote =
     let text = writes_same _ _ old new result (ap (λ (all : List PlacedRow). type_lines choice.letters choice.kinds.items all None all) same) wrote in
     subst P (sym asks) (answers file rows (request.Types choice) old new result is (types_show file choice rows old new result text))
 
--- or a resource
-pub get_answers : {T : Type 0} (file : List ℕ) (rows listed : List PlacedRow) (asked : Request) (wanted : Wanted) (old new : Option (List ℕ)) (shown : Option (Result T Failure))
-    → IsForkWith file rows → asked ≡ request.Get wanted → listed ≡ rows → IfSome shown (ShowsRows (request.Get wanted) listed old new file) → IfSome shown (Answers asked file old new)
-get_answers file rows listed asked wanted old new None is asks same shows = tt
-get_answers file rows listed asked wanted old new (Some result) is asks same shows =
+-- or a resource, of which nothing is told where a read failed
+pub get_answers : {T : Type 0} (file : List ℕ) (rows listed : List PlacedRow) (asked : Request) (wanted : Wanted) (old new : Option (List ℕ)) (start middle last : ℕ) (shown : Option (Result T Failure))
+    → middle ≡ start → IsForkWith file rows → asked ≡ request.Get wanted → listed ≡ rows → MatchOption shown (Never file ⊎ Rose middle last) (ShowsRows (request.Get wanted) listed old new file)
+    → MatchOption shown (IsNotRaw file ⊎ Rose start last) (Answers asked file old new)
+get_answers file rows listed asked wanted old new start middle last None calm is asks same (inl never) = absurd never
+get_answers file rows listed asked wanted old new start middle last None calm is asks same (inr rose) = let P : ℕ → Type 0 = λ n. Rose n last in inr (subst P calm rose)
+get_answers file rows listed asked wanted old new start middle last (Some result) calm is asks same shows =
     let P : Request → Type 0 = λ other. Answers other file old new result in
     let Q : List PlacedRow → Type 0 = λ all. ShowsRows (request.Get wanted) all old new file result in
     subst P (sym asks) (answers file rows (request.Get wanted) old new result is (subst Q same shows))

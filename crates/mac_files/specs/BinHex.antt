@@ -1,11 +1,12 @@
 -- BinHex 4.0 (RFC 1741): which file a text stands for, and the first fault of a text that stands for none.
-use Rattle.std.specs.Prelude.{ℕ, ◌+◌, ◌-◌, ◌*◌, ◌/◌, ◌%◌, ◌==◌, nat_lt, nat_eq, Bool, true, ◌&&◌, ◌||◌, if◌then◌else◌, List, [], ◌∷◌, ◌++◌, length, map, take, drop, replicate, fold, position, slice_index, slice_range, codes, Option, None, Some, is_some, unwrap_or, Result, Ok, Err}
+use Rattle.std.specs.Prelude.{ℕ, ◌+◌, ◌-◌, ◌*◌, ◌/◌, ◌%◌, ◌==◌, nat_lt, nat_eq, Bool, true, not, ◌&&◌, ◌||◌, if◌then◌else◌, List, [], ◌∷◌, ◌++◌, length, map, take, drop, replicate, fold, position, slice_index, slice_range, codes, Option, None, Some, is_some, unwrap_or, Result, Ok, Err}
 use Rattle.std.specs.List.{starts_with}
 use Rattle.std.specs.Fn.{iterate}
 use Rattle.std.specs.Int.Bits.{bit_xor}
 use Rattle.std.specs.Option.{option_or}
 use Rattle.std.specs.Result.{result_err}
 use Rattle.byteorder.specs.Endian.{big_from}
+use Rattle.mac_files.specs.Containers.{has_fork_parts}
 use Rattle.mac_files.specs.Crc.{with_bit}
 use Rattle.mac_files.specs.declared.bin_hex.digits.Placed.{Placed}
 use Rattle.mac_files.specs.declared.bin_hex.fault.Section.{Section}
@@ -29,9 +30,9 @@ line_from mark begins at (c ∷ cs) =
 abbrev pub comment_of : List ℕ → Option ℕ
 comment_of text = line_from (codes "(This file must be converted") true 0 text
 
--- a text is known as BinHex by this line
+-- a text is known as BinHex by this line; it doesn't begin with the header of a fork
 abbrev pub is_bin_hex : List ℕ → Bool
-is_bin_hex text = is_some (comment_of text)
+is_bin_hex text = not (has_fork_parts (length text) text) && is_some (comment_of text)
 
 -- the colon that begins the text: the first that begins a line, after the comment if there is one
 abbrev pub colon_of : List ℕ → Option ℕ

@@ -1,6 +1,6 @@
 -- By which bytes a container is known, and what it tells.
-use Rattle.std.specs.Prelude.{ℕ, ◌==◌, nat_le, ◌&&◌, if◌then◌else◌, Bool, List, [], ◌∷◌, length, slice_index, nat_eq, Option, None, Some, option_map}
-use Rattle.std.specs.List.{starts_with}
+use Rattle.std.specs.Prelude.{ℕ, ◌+◌, ◌==◌, nat_le, ◌&&◌, ◌||◌, if◌then◌else◌, Bool, List, [], ◌∷◌, length, take, slice_index, nat_eq, Option, None, Some, is_none, option_map}
+use Rattle.std.specs.List.{list_any, starts_with}
 use Rattle.byteorder.specs.Endian.{big_from}
 use Rattle.mac_files.specs.declared.container.Container.{Container}
 use Rattle.mac_files.specs.declared.container.Container.TheVariants.{Raw, AppleSingle, AppleDouble, MacBinary}
@@ -23,6 +23,18 @@ container_of file =
     else if starts_with nat_eq file (0 ∷ 5 ∷ 22 ∷ 0 ∷ []) then Some AppleSingle
     else if starts_with nat_eq file (0 ∷ 5 ∷ 22 ∷ 7 ∷ []) then Some AppleDouble
     else option_map MacBinary (version_of file)
+
+-- the header of a fork whose data and map lie within a file of so many bytes; one of its bytes is zero, as none of a text is
+unfoldable pub has_fork_parts : ℕ → List ℕ → Bool
+has_fork_parts size front = nat_le 16 (length front) && list_any (λ byte. byte == 0) (take 16 front)
+    && nat_le (big_from 0 4 front + big_from 8 4 front) size && nat_le (big_from 4 4 front + big_from 12 4 front) size && nat_le 28 (big_from 12 4 front)
+
+-- a file of so many bytes, that begins with these, is known as a resource fork and nothing else
+abbrev pub is_raw_by : ℕ → List ℕ → Bool
+is_raw_by size front = is_fork_header front || (is_none (container_of front) && has_fork_parts size front)
+
+abbrev pub is_raw : List ℕ → Bool
+is_raw file = is_raw_by (length file) file
 
 -- the first fault of a file that is read as this container
 abbrev pub fault_of : Container → List ℕ → Option ContainerFault

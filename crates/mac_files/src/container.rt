@@ -1,7 +1,7 @@
 //! By which bytes a container is known.
 
 ghost use Rattle.std.specs.Prelude.{◌≡◌};
-ghost use Rattle.mac_files.specs.Containers.{container_of, is_fork_header};
+ghost use Rattle.mac_files.specs.Containers.{container_of, has_fork_parts, is_fork_header, is_raw_by};
 
 use crate::mac_binary::version_of;
 use crate::number::read_four;
@@ -48,6 +48,19 @@ fn is_fork_header(file: &[u8]) -> bool
         && read_four(file, 12) >= 28
 }
 
+/// Whether a file of so many bytes begins with the header of a fork whose data and map lie within it. No text does, since a byte of the
+/// header is zero.
+#[tactic(auto, unfolding(crate::specs::Containers::has_fork_parts))]
+pub(crate) fn has_fork_parts(size: usize, front: &[u8]) -> bool
+    ensures { result ≡ has_fork_parts size front.now }
+{
+    front.len() >= FORK_HEADER_LENGTH
+        && front[..FORK_HEADER_LENGTH].contains(&0)
+        && read_four(front, 0) as usize + read_four(front, 8) as usize <= size
+        && read_four(front, 4) as usize + read_four(front, 12) as usize <= size
+        && read_four(front, 12) >= 28
+}
+
 /// The container that the bytes of a file are known as, or None. A file that begins with the header of a resource fork is Raw.
 pub fn container_of(file: &[u8]) -> Option<Container>
     ensures { result ≡ container_of file.now }
@@ -61,4 +74,11 @@ pub fn container_of(file: &[u8]) -> Option<Container>
     } else {
         version_of(file).map(Container::MacBinary)
     }
+}
+
+/// Whether a file of so many bytes is a resource fork and nothing else, by its first 128 bytes, or all where it has fewer.
+pub fn is_raw(size: usize, front: &[u8]) -> bool
+    ensures { result ≡ is_raw_by size front.now }
+{
+    is_fork_header(front) || container_of(front).is_none() && has_fork_parts(size, front)
 }

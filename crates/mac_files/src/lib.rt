@@ -17,6 +17,6 @@ pub mod part;
 mod read;
 
 pub use archive::archive_of;
-pub use container::container_of;
+pub use container::{container_of, is_raw};
 pub use laws::container_laws;
 pub use read::{data_in, fork_in, read_contents};

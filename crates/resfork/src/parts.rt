@@ -1,4 +1,4 @@
-//! Large files that are resource forks: of them only what is shown is read.
+//! Files that are resource forks and nothing else: of them only what is shown is read.
 
 use crate::INPUT;
 use fork_answer::request::Request;
@@ -11,16 +11,9 @@ use std::alloc::AllocError;
 use std::fs;
 use std::io::Write;
 
-/// A file of fewer bytes is read whole: that takes fewer calls.
-const LARGE: u64 = 1 << 20;
-
-/// The file of this name, if it is a large one.
-fn large_file<W: World>(rt: &HostRuntime, name: &str) -> Option<PlainStore<FileDisk<W>>> {
-    if name == INPUT {
-        return None;
-    }
-    let metadata = fs::metadata(rt, name).ok()?;
-    if !metadata.is_file() || metadata.len() < LARGE {
+/// The file of this name, if it can be read in parts.
+fn file_of<W: World>(rt: &HostRuntime, name: &str) -> Option<PlainStore<FileDisk<W>>> {
+    if name == INPUT || !fs::metadata(rt, name).ok()?.is_file() {
         return None;
     }
     let file = fs::open(rt, name).ok()?;
@@ -29,24 +22,28 @@ fn large_file<W: World>(rt: &HostRuntime, name: &str) -> Option<PlainStore<FileD
     })
 }
 
-/// Writes what is asked for of the file of this name. None where it isn't a large resource fork, or something is in the way.
-pub fn answer_of_large<W: World, O: Write>(
+/// Writes what is asked for of the file of this name. None where it isn't a resource fork and nothing else, where it is damaged, and
+/// where something is in the way: all of it has to be read then.
+pub fn answer_by_parts<W: World, O: Write>(
     rt: &HostRuntime,
     request: &Request,
     name: &str,
     output: &mut O,
 ) -> Option<Result<(), Failure>> {
-    let mut store = large_file::<W>(rt, name)?;
-    answer_in_parts(rt.alloc(), request, &mut store, output)
+    let mut store = file_of::<W>(rt, name)?;
+    match answer_in_parts(rt.alloc(), request, &mut store, output)? {
+        Err(Failure::Fork(_)) => None,
+        shown => Some(shown),
+    }
 }
 
-/// The list of the resources of the file of this name, as JSON. None where it isn't a large resource fork, or something is in the way.
-pub fn list_of_large<W: World>(
+/// The list of the resources of the file of this name, as JSON. None where all of the file has to be read.
+pub fn list_by_parts<W: World>(
     rt: &HostRuntime,
     name: &str,
     kinds: &[ResType],
 ) -> Option<Result<String, AllocError>> {
-    let mut store = large_file::<W>(rt, name)?;
-    let rows = rows_in_parts(rt.alloc(), &mut store)?;
+    let mut store = file_of::<W>(rt, name)?;
+    let rows = rows_in_parts(rt.alloc(), &mut store)?.ok()?;
     Some(fork_line(rt.alloc(), name, kinds, rows.as_slice()))
 }

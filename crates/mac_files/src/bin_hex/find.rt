@@ -3,6 +3,8 @@
 ghost use Rattle.std.specs.Prelude.{◌≡◌, ◌<◌, ◌≤◌, ◌+◌, length, drop, true, IfSome};
 ghost use Rattle.mac_files.specs.BinHex.{is_bin_hex, is_line_end, line_from, colon_of};
 
+use crate::container::has_fork_parts;
+
 /// With this the line begins that each tool writes before the text.
 const COMMENT: &[u8] = b"(This file must be converted";
 
@@ -29,11 +31,11 @@ fn find_line(text: &[u8], from: usize, mark: &[u8]) -> Option<usize>
     None
 }
 
-/// Whether a text is BinHex: a line begins with the comment that each tool writes before it.
+/// Whether a text is BinHex: a line begins with the comment that each tool writes before it. A file with a fork's header isn't a text.
 pub fn is_bin_hex(text: &[u8]) -> bool
     ensures { result ≡ is_bin_hex text.now }
 {
-    find_line(text, 0, COMMENT).is_some()
+    !has_fork_parts(text.len(), text) && find_line(text, 0, COMMENT).is_some()
 }
 
 /// Where the colon stands that begins the text: the first that begins a line, after the comment if there is one.

@@ -1,4 +1,4 @@
-use Rattle.std.proofs.Common.{◌≡◌, ◌∙◌, sym, ap, Option, None, Some, option_copied}
+use Rattle.std.proofs.Common.{◌≡◌, ◌∙◌, sym, ap, arith, Option, None, Some, option_copied}
 use Rattle.fork_answer.specs.Answer.{wanted_row}
 use Rattle.fork_answer.proofs.InParts.{found_shows, none_lacks, wanted_within, writes_same}
 use Rattle.fork_rows.proofs.Kept.{unread}
@@ -14,10 +14,11 @@ pub read_part-requires : goal.read_part-requires
 read_part-requires g c = λ honest. (
     let known = c.requires honest in
     let found : wanted_row c.args.wanted.now c.args.rows.now ≡ Some c.in-Some.row.now = sym c.find_row.ensures ∙ ap (λ (found : Option _). option_copied found) c.in-Some.is in
-    (known.0, wanted_within (g.S.ForkStore.fork c.args.store.now) c.args.wanted.now c.args.rows.now c.in-Some.row.now known.1 found))
+    let within = wanted_within (g.S.ForkStore.fork c.args.store.now) c.args.wanted.now c.args.rows.now c.in-Some.row.now known.1 found in
+    (known.0, omega arith))
 
-pub returns-clause-shows : goal.returns-clause-shows
-returns-clause-shows g c = λ honest. (
+pub returns-in-Ok-clause-shows : goal.returns-in-Ok-clause-shows
+returns-in-Ok-clause-shows g c = λ honest. (
     let file = g.S.ForkStore.fork c.args.store.now in
     let read = c.in-Ok.ensures.reads honest in
     let found : wanted_row c.args.wanted.now c.args.rows.now ≡ Some c.in-Some.row.now = sym c.find_row.ensures ∙ ap (λ (found : Option _). option_copied found) c.in-Some.is in

@@ -1,14 +1,25 @@
-use Rattle.std.proofs.Common.{◌≡◌, ◌∙◌, Some}
-use Rattle.mac_files.specs.declared.container.Container.TheVariants.{Raw}
-use Rattle.mac_files.specs.Containers.{container_of}
-use Rattle.fork_answer.proofs.InParts.{is_fork_with, reads_twice}
+use Rattle.std.proofs.Common.{◌≡◌, ◌∙◌, Err, subst, sym}
+use Rattle.fork_bytes.specs.Fork.{format_limits}
+use Rattle.fork_rows.specs.declared.fault.OpenFault.{OpenFault}
+use Rattle.fork_rows.specs.declared.fault.OpenFault.TheVariants.{Fork}
+use Rattle.fork_rows.specs.Opening.{OpensAsWithin}
+use Rattle.fork_answer.proofs.InParts.{is_fork_with, is_no_fork_with, reads_twice}
 use Rattle.fork_answer.proofs.parts.rows_in_parts.Goals as goal
 
-pub returns-in-Some-Raw : goal.returns-in-Some-Raw
-returns-in-Some-Raw g c = λ honest. (
-    let read = c.in-Ok-read_part.ensures.reads honest in
-    let opened = c.in-Ok.ensures.reads read.keeps.honest in
-    let told = c.container_of.ensures in let is = c.in-Some-Raw.is in let raw = c.in-Some-Raw.field-0-is in
-    let known : container_of c.deref.result.now ≡ Some Raw = cc in
-    reads_twice g.S.ForkStore _ _ _ _ _ _ opened read
-    (λ file opens part. is_fork_with file c.in-Ok.table c.deref.result.now opens (c.deref.ensures.value ∙ part) known))
+pub returns-in-Ok-clause-rows : goal.returns-in-Ok-clause-rows
+returns-in-Ok-clause-rows g c = λ honest. (
+    let opened = c.in-Ok.ensures.reads honest in
+    let known = c.in_ok-is_fork_alone.ensures.raw opened.keeps.honest in
+    reads_twice g.S.ForkStore _ _ _ _ _ _ known opened
+    (λ file is opens. is_fork_with file c.in-Ok.table (sym is ∙ c.if-not-branch.false) opens))
+
+pub returns-in-Err-Fork-clause-rows : goal.returns-in-Err-Fork-clause-rows
+returns-in-Err-Fork-clause-rows g c = λ honest. (
+    let opened = c.in-Err-Fork.ensures.reads honest in
+    let known = c.in_ok-is_fork_alone.ensures.raw opened.keeps.honest in
+    let field = c.in-Err-Fork.field-0-is in
+    let why : c.in-Err-Fork.field-0 ≡ Fork c.in-Err-Fork.fault = cc in
+    reads_twice g.S.ForkStore _ _ _ _ _ _ known opened
+    (λ file is opens.
+    let P : OpenFault → Type 0 = λ fault. OpensAsWithin format_limits (Err fault) file in
+    is_no_fork_with file c.in-Err-Fork.fault (sym is ∙ c.if-not-branch.false) (subst P why opens)))
