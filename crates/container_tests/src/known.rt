@@ -1,8 +1,9 @@
 //! What a file is known as.
 
 use mac_files::archive::Archive;
+use mac_files::bin_hex::is_bin_hex;
 use mac_files::container::Container;
-use mac_files::{archive_of, container_of};
+use mac_files::{archive_of, container_of, is_raw};
 use std::alloc::{AllocError, Global};
 
 /// The beginning of a file: these bytes at a place, and zeros.
@@ -46,6 +47,25 @@ fn knows_a_fork_by_its_header(rt: HostRuntime) -> Result<(), AllocError> {
     for (bytes, wanted) in cases {
         assert_eq!(rt; container_of(&beginning(rt.alloc(), bytes, 0)?), wanted);
     }
+    Ok(())
+}
+
+#[test]
+fn knows_a_fork_past_16_mb_by_its_front_and_its_length(rt: HostRuntime) -> Result<(), AllocError> {
+    let comment = b"\n(This file must be converted with BinHex 4.0)";
+    let header = b"\x00\x00\x01\x00\x01\x00\x01\x10\x00\x00\x00\x10\x00\x00\x00\x1C";
+    let file = beginning(rt.alloc(), header, 0)?;
+    assert!(rt; is_raw(0x0100_012C, &file));
+    assert!(rt; !is_raw(0x0100_012B, &file));
+    let mut fork = beginning(
+        rt.alloc(),
+        b"\x00\x00\x00\x10\x00\x00\x00\x80\x01\x00\x00\x00\x00\x00\x00\x1C",
+        0,
+    )?;
+    fork.extend_from_slice(comment)?;
+    assert!(rt; is_bin_hex(&fork));
+    fork[8] = 0;
+    assert!(rt; !is_bin_hex(&fork));
     Ok(())
 }
 

@@ -1,5 +1,5 @@
 -- Rows that are copied to others.
-use Rattle.std.specs.Prelude.{ℕ, ℤ, pos, zero, suc, ◌+◌, nat_lt, Bool, true, if◌then◌else◌, List, [], ◌∷◌, bytes_eq, length, Option, None, Some}
+use Rattle.std.specs.Prelude.{ℕ, ℤ, pos, zero, suc, ◌+◌, nat_lt, Bool, false, true, not, if◌then◌else◌, List, [], ◌∷◌, ◌++◌, bytes_eq, length, Option, None, Some}
 use Rattle.std.specs.List.{list_any}
 use Rattle.std.specs.Option.{option_and_then}
 use Rattle.fork_bytes.specs.Rows.{Row}
@@ -18,6 +18,16 @@ is_meant (One what) row = is_at what row
 -- whether one of these choices does
 abbrev pub is_chosen : List Choice → Row → Bool
 is_chosen choices row = list_any (λ choice. is_meant choice row) choices
+
+-- whether a choice, but that of all, means none of these rows
+abbrev pub is_unmet : List Row → Choice → Bool
+is_unmet rows All = false
+is_unmet rows choice = not (list_any (is_meant choice) rows)
+
+-- the first of these rows that has the type and the id of one before it, if there is one
+abbrev pub second_of : List Row → List Row → Option Row
+second_of before [] = None
+second_of before (row ∷ rows) = if is_there (id_of row) before then Some row else second_of (before ++ row ∷ []) rows
 
 -- the least id from this on that no row of a type has, if it is among so many
 abbrev pub least_free : List ℕ → List Row → ℕ → ℕ → Option ℤ

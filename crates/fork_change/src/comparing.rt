@@ -245,6 +245,7 @@ pub fn compare<'r, 'a>(
         ≡ attributes_diff first.now.map_attributes second.now.map_attributes) }
     ensures before { IfOk result (λ found. IfSome found.extra (λ at. take at first.now.extra ≡ take at second.now.extra)) }
     ensures differs { IfOk result (λ found. IfSome found.extra (λ at. slice_get first.now.extra at ≢ slice_get second.now.extra at)) }
+    ensures same { IfOk result (λ found. IfNone found.extra (first.now.extra ≡ second.now.extra)) }
     ensures none { IfOk result (λ found. IsEmpty found ↔ (first.now ≡ second.now)) }
 {
     let old = first.rows.as_slice();

@@ -47,7 +47,7 @@ pub enum Collision {
 }
 
 /// Whether a choice means a row.
-pub fn is_meant(choice: &Choice, row: &Row) -> bool
+pub(crate) fn is_meant(choice: &Choice, row: &Row) -> bool
     ensures { result ≡ is_meant choice.now row.now }
 {
     match choice {
@@ -58,7 +58,7 @@ pub fn is_meant(choice: &Choice, row: &Row) -> bool
 }
 
 /// Whether one of these choices does.
-fn is_chosen(choices: &[Choice], row: &Row) -> bool
+pub(crate) fn is_chosen(choices: &[Choice], row: &Row) -> bool
     ensures { result ≡ is_chosen choices.now row.now }
 {
     choices.iter().any(|choice| is_meant(choice, row))

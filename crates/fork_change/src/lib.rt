@@ -2,6 +2,7 @@
 //! their order, the extra bytes and the map's attributes stay as they are.
 #![tactic(auto)]
 
+mod choosing;
 pub mod comparing;
 pub mod copying;
 mod ids;
@@ -14,8 +15,9 @@ pub mod row;
 mod search;
 mod setting;
 
+pub use choosing::{second_of, unmet};
 pub use comparing::{Difference, Differences, compare, first_difference, is_same_table};
-pub use copying::{Choice, Collision, copy, is_meant, same_table};
+pub use copying::{Choice, Collision, copy, same_table};
 pub use laws::change_laws;
 pub use putting::{put, put_new};
 pub use refusal::Refusal;

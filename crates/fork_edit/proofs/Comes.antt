@@ -7,9 +7,8 @@ use Rattle.fork_change.specs.Rows.{with_rows}
 use Rattle.fork_change.specs.declared.refusal.Refusal.{Refusal}
 use Rattle.fork_edit.specs.Changes.{Differs, IsTableIn}
 use Rattle.fork_edit.specs.Edits.{Becomes, edited}
-use Rattle.fork_edit.specs.Files.{HasTable, IsWhy, Refuses}
+use Rattle.fork_edit.specs.Files.{HasTable, Refuses}
 use Rattle.fork_edit.specs.declared.edit.Edit.{Edit}
-use Rattle.fork_edit.specs.declared.file.NotWritten.{NotWritten}
 
 abbrev becomes : Table → Result Table Refusal
 becomes after = Ok after

@@ -1,5 +1,5 @@
 -- Each entry of a list of which none is outside the file lies within it.
-use Rattle.std.proofs.Common.{◌≡◌, ℕ, zero, suc, ◌+◌, ◌*◌, ◌<◌, Bool, true, false, not, if◌then◌else◌, List, Option, None, Some, refl, subst, sym, length, find, arith}
+use Rattle.std.proofs.Common.{◌≡◌, ℕ, zero, suc, ◌+◌, ◌*◌, ◌<◌, Bool, true, false, not, if◌then◌else◌, List, Option, None, Some, refl, subst, length, find, arith}
 use Rattle.mac_files.specs.Apple.{entries_from, entry_at, entry_count, entry_outside}
 use Rattle.mac_files.specs.Parts.{lies_within}
 use Rattle.mac_files.specs.declared.fault.Entry.{Entry}

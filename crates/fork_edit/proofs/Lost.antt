@@ -1,5 +1,5 @@
 -- Where nothing is lost, the container holds the new file.
-use Rattle.std.proofs.Common.{◌≡◌, ℕ, zero, suc, Bool, true, false, List, [], ◌∷◌, ◌++◌, map, refl, arith}
+use Rattle.std.proofs.Common.{◌≡◌, zero, suc, Bool, true, false, List, [], ◌∷◌, ◌++◌, map, refl, arith}
 use Rattle.std.specs.Prelude.{◌&&◌, not, if◌then◌else◌}
 use Rattle.mac_write.specs.Bytes.{AreBytes}
 use Rattle.mac_write.specs.Lost.{NothingIsLost, holds, is_lost}

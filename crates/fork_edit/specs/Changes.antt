@@ -3,12 +3,11 @@ use Rattle.std.specs.Prelude.{◌≡◌, ◌≢◌, ℕ, ◌⊎◌, List, Option
 use Rattle.fork_bytes.specs.Rows.{Row}
 use Rattle.fork_bytes.specs.declared.table.Table.{Table}
 use Rattle.fork_answer.specs.Answer.{IsReadOf, IsTableOf}
-use Rattle.fork_answer.specs.Source.{IsNoForkIn}
 use Rattle.fork_answer.specs.declared.answer.Failure.TheVariants as failure
 use Rattle.fork_change.specs.Rows.{with_rows}
 use Rattle.fork_change.specs.declared.refusal.Refusal.TheVariants as why
 use Rattle.fork_edit.specs.Edits.{edited}
-use Rattle.fork_edit.specs.Files.{HasTable, IsSourceOf, Refuses}
+use Rattle.fork_edit.specs.Files.{HasTable, IsNoSourceIn, IsSourceOf, Refuses}
 use Rattle.fork_edit.specs.declared.edit.Edit.{Edit}
 use Rattle.fork_edit.specs.declared.change.NewFile.{NewFile}
 use Rattle.fork_edit.specs.declared.change.NotChanged.{NotChanged}
@@ -29,7 +28,7 @@ Comes file from edit (Ok None) = (table : Table) × IsTableIn file table × (edi
 Comes file from edit (Ok (Some new)) = (table : Table) × (rows : List Row) × Differs file from edit table rows × HasTable file (with_rows table rows) new.file.items × Refuses file (with_rows table rows) None
 Comes file from edit (Err (unchanged.Edit fault)) = (table : Table) × IsTableIn file table × ((fault ≡ why.HostFull) ⊎ (edited edit from table.rows ≡ Err fault))
 Comes file from edit (Err (unchanged.Write fault)) = (table : Table) × (rows : List Row) × Differs file from edit table rows × Refuses file (with_rows table rows) (Some fault)
-Comes file from edit (Err (unchanged.Read (failure.NoFork fault))) = IsNoForkIn file fault
+Comes file from edit (Err (unchanged.Read (failure.NoFork fault))) = IsNoSourceIn file fault
 Comes file from edit (Err (unchanged.Read (failure.Fork fault))) = (fork : List ℕ) × IsSourceOf file fork × IsReadOf fork (Err fault)
 Comes file from edit (Err (unchanged.Read other)) = ⊥
 Comes file from edit (Err unchanged.HostFull) = ⊤

@@ -11,6 +11,9 @@ use Rattle.mac_write.specs.declared.detail.Detail.TheVariants.{Comment, DataFork
 use Rattle.mac_write.specs.Lost.{holds, is_lost}
 use Rattle.mac_write.specs.Targets.{text_of, unwritten}
 use Rattle.mac_write.specs.Written.{held}
+use Rattle.fork_answer.specs.Source.{IsNoForkElsewhere}
+use Rattle.fork_answer.specs.declared.source.NoFork.{NoFork}
+use Rattle.fork_answer.specs.declared.source.NoFork.TheVariants as none
 use Rattle.fork_edit.specs.Extras.{extras}
 use Rattle.fork_edit.specs.declared.convert.Rewritten.{Rewritten}
 use Rattle.fork_edit.specs.declared.convert.Loss.{Loss}
@@ -39,6 +42,16 @@ IsFileAs (Some container) bytes file = (fault_of container bytes ≡ None) × (f
 -- the file that bytes hold
 abbrev pub IsFileOf : List ℕ → Parts → Type 0
 IsFileOf bytes file = IsFileAs (container_of bytes) bytes file
+
+-- why bytes hold no file: the first fault of their container or of their text, or want of memory
+abbrev pub IsNoFileAs : Option Container → List ℕ → NoFork → Type 0
+IsNoFileAs None bytes fault = IsNoForkElsewhere (is_bin_hex bytes) bytes fault
+IsNoFileAs (Some container) bytes (none.Container fault) = fault_of container bytes ≡ Some fault
+IsNoFileAs (Some container) bytes other = ⊥
+
+-- the same by what they are known as
+abbrev pub IsNoFileOf : List ℕ → NoFork → Type 0
+IsNoFileOf bytes fault = IsNoFileAs (container_of bytes) bytes fault
 
 -- the same file with a name and a data fork
 abbrev pub completed : Parts → List ℕ → List ℕ → Parts

@@ -1,6 +1,6 @@
 -- What a file has that no container is given: all but the forks, the name, the type, the creator and the flags, the first two dates
 -- and the comment.
-use Rattle.std.specs.Prelude.{ℕ, ◌==◌, nat_le, nat_lt, Bool, true, false, ◌&&◌, ◌||◌, not, if◌then◌else◌, List, [], ◌∷◌, ◌++◌, length, drop, bytes_eq, Option, None, Some, is_some}
+use Rattle.std.specs.Prelude.{ℕ, ◌==◌, nat_le, nat_lt, Bool, false, ◌&&◌, ◌||◌, not, if◌then◌else◌, List, [], ◌∷◌, ◌++◌, length, drop, bytes_eq, Option, None, Some, is_some}
 use Rattle.std.specs.List.{filter_map}
 use Rattle.mac_files.specs.Apple.{entries_of, entry_of}
 use Rattle.mac_files.specs.Containers.{container_of}

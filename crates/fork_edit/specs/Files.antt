@@ -1,8 +1,9 @@
 -- A file whose resource fork is another one.
-use Rattle.std.specs.Prelude.{◌≡◌, ℕ, Bool, true, false, not, if◌then◌else◌, ◌⊎◌, List, [], length, Option, None, Some, option_map, Result, Ok, Err, ⊤}
+use Rattle.std.specs.Prelude.{◌≡◌, ◌≢◌, ℕ, Bool, true, false, not, if◌then◌else◌, ◌⊎◌, List, [], length, Option, None, Some, option_map, Result, Ok, Err, ⊤}
 use Rattle.mac_files.specs.declared.bin_hex.fault.BinHexFault.{BinHexFault}
 use Rattle.mac_files.specs.declared.container.Container.{Container}
-use Rattle.mac_files.specs.declared.container.Container.TheVariants.{Raw}
+use Rattle.mac_files.specs.declared.container.Container.TheVariants.{Raw, MacBinary}
+use Rattle.mac_files.specs.declared.container.Version.TheVariants.{I}
 use Rattle.mac_files.specs.Containers.{container_of}
 use Rattle.mac_files.specs.BinHex.{File, bin_hex_of, is_bin_hex}
 use Rattle.mac_write.specs.Forks.{refusal, with_fork}
@@ -14,13 +15,24 @@ use Rattle.fork_bytes.specs.Laws.{IsGrouped}
 use Rattle.fork_bytes.specs.Written.{IsTooBigWithin, written}
 use Rattle.fork_answer.specs.Answer.{IsTableOf}
 use Rattle.fork_answer.specs.Source.{IsForkIn, IsNoForkIn}
+use Rattle.fork_answer.specs.declared.source.NoFork.{NoFork}
 use Rattle.fork_answer.specs.declared.source.NoFork.TheVariants.{Absent}
 use Rattle.fork_edit.specs.declared.file.NotWritten.{NotWritten}
 use Rattle.fork_edit.specs.declared.file.NotWritten.TheVariants as unwritten
 
+-- a container has no resource fork; what only seems to be MacBinary I, which has no signature, isn't taken for one
+pub record IsWithoutFork (file : List ℕ) : Type 0 where
+  pub none : IsNoForkIn file Absent
+  pub sure : container_of file ≢ Some (MacBinary I)
+
 -- the resource fork of a file; a container without one has one of no bytes
 abbrev pub IsSourceOf : List ℕ → List ℕ → Type 0
-IsSourceOf file fork = IsForkIn file fork ⊎ (IsNoForkIn file Absent × (fork ≡ []))
+IsSourceOf file fork = IsForkIn file fork ⊎ (IsWithoutFork file × (fork ≡ []))
+
+-- why there is none
+pub record IsNoSourceIn (file : List ℕ) (fault : NoFork) : Type 0 where
+  pub none : IsNoForkIn file fault
+  pub unsure : fault ≡ Absent → container_of file ≡ Some (MacBinary I)
 
 -- the file is kept as it was, with these bytes as its resource fork: in its container, as a BinHex text, or as nothing but the fork
 abbrev pub IsKeptElsewhere : Bool → List ℕ → List ℕ → List ℕ → Type 0

@@ -7,11 +7,8 @@ ghost use Rattle.fork_edit.specs.Edits.{Becomes, copied_to, edited, put_in, remo
 
 use fork_bytes::table::{Contents, Row, Table};
 use fork_change::row::{Change, ResourceId};
-use fork_change::{
-    Choice, Collision, Refusal, copy, is_meant, put, put_new, remove, row_to_put, set,
-};
-use std::alloc::{AllocError, Global};
-use std::collections::BTreeSet;
+use fork_change::{Choice, Collision, Refusal, copy, put, put_new, remove, row_to_put, set};
+pub use fork_change::{second_of, unmet};
 
 /// A change of a table.
 #[derive(Drop)]
@@ -102,29 +99,4 @@ pub fn edited<'a>(table: Table<'a>, from: &[Row<'a>], edit: Edit<'a>) -> Result<
             on_collision,
         } => copy_in(table, from, chosen, on_collision),
     }
-}
-
-/// The first choice, but that of all, that means no row.
-pub fn unmet<'c>(choices: &'c [Choice], rows: &[Row]) -> Option<&'c Choice> {
-    choices.iter().find(|choice| match choice {
-        Choice::All => false,
-        choice => !rows.iter().any(|row| is_meant(choice, row)),
-    })
-}
-
-/// The first row that is meant and has the type and the id of another one before it.
-pub fn second_of<'r, 'a>(
-    alloc: Global,
-    choices: &[Choice],
-    rows: &'r [Row<'a>],
-) -> Result<Option<&'r Row<'a>>, AllocError> {
-    let mut seen = BTreeSet::new(alloc);
-    for row in rows {
-        if choices.iter().any(|choice| is_meant(choice, row))
-            && !seen.insert((row.kind.bytes(), row.id))?
-        {
-            return Ok(Some(row));
-        }
-    }
-    Ok(None)
 }

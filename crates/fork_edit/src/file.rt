@@ -8,8 +8,8 @@ ghost use Rattle.mac_write.specs.Forks.{refusal, with_fork};
 ghost use Rattle.fork_bytes.specs.Fork.{format_limits};
 ghost use Rattle.fork_bytes.specs.Written.{IsTooBigWithin};
 ghost use Rattle.fork_answer.specs.Answer.{IsTableOf};
-ghost use Rattle.fork_answer.specs.Source.{IsForkIn, IsNoForkIn, fork_of};
-ghost use Rattle.fork_edit.specs.Files.{HasTable, IsForkBy, IsKeptAs, IsKeptElsewhere, IsSourceOf, Refuses, RefusesFork, alone_why, is_alone, kept_why, text_why};
+ghost use Rattle.fork_answer.specs.Source.{IsForkIn, fork_of};
+ghost use Rattle.fork_edit.specs.Files.{HasTable, IsForkBy, IsKeptAs, IsKeptElsewhere, IsNoSourceIn, IsSourceOf, Refuses, RefusesFork, alone_why, is_alone, kept_why, text_why};
 
 use fork_answer::{Found, NoFork, read_table, resource_fork};
 use fork_bytes::fault::{ForkFault, WriteFault};
@@ -78,7 +78,7 @@ impl From<BinHexFault> for NotWritten {
 /// signature, isn't taken for a container without one.
 pub fn fork_or_none<'a>(alloc: Global, file: &'a [u8]) -> Result<Found<'a>, NoFork>
     ensures fork { IfOk result (λ found. IsSourceOf file.now (fork_of found)) }
-    ensures none { IfErr result (IsNoForkIn file.now) }
+    ensures none { IfErr result (IsNoSourceIn file.now) }
 {
     match resource_fork(alloc, file) {
         Err(NoFork::Absent) if container_of(file) != Some(Container::MacBinary(Version::I)) => {

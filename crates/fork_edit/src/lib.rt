@@ -7,4 +7,3 @@ pub mod difference;
 pub mod edit;
 pub mod extra;
 pub mod file;
-mod known;

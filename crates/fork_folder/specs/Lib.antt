@@ -4,3 +4,4 @@ pub mod Counts
 pub mod Laws
 pub mod Packed
 pub mod PackedAgain
+pub mod Paths

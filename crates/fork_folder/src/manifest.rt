@@ -1,12 +1,17 @@
 //! What `resources.json` says.
 
-use crate::rows::{Entry, PackFault};
+ghost use Rattle.std.specs.Prelude.{◌≡◌, IfErr, IfOk};
+ghost use Rattle.std.specs.List.{AllByRecursion, list_any};
+ghost use Rattle.fork_folder.specs.declared.rows.PackFault.TheVariants.{BadEntry};
+ghost use Rattle.fork_folder.specs.Paths.{IsInFolder, IsRefusedPath, is_dots, is_end, is_inside, is_plain};
+
+use crate::rows::{Entry, Flaw, PackFault};
 use bitflags::Flags;
 use mac_base::name::Name;
 use mac_base::resource::{ResAttrs, ResType};
 use mac_text::bytes_of;
 use serde::Deserialize;
-use std::alloc::Global;
+use std::alloc::{AllocError, Global};
 
 /// A resource as the manifest has it. Type and name are MacRoman, as UTF-8.
 #[derive(Debug, Drop, Deserialize)]
@@ -37,7 +42,7 @@ pub struct Packing {
 }
 
 /// Four bytes that a text in UTF-8 shows. None where it doesn't show four, or has a character that MacRoman lacks.
-fn four_of(alloc: Global, text: &str) -> Result<Option<[u8; 4]>, PackFault> {
+fn four_of(alloc: Global, text: &str) -> Result<Option<[u8; 4]>, AllocError> {
     let Some(bytes) = bytes_of(alloc, text)? else {
         return Ok(None);
     };
@@ -48,7 +53,7 @@ fn four_of(alloc: Global, text: &str) -> Result<Option<[u8; 4]>, PackFault> {
 }
 
 /// The name of a resource. None where MacRoman lacks a character, or it has more than 255.
-fn name_of(alloc: Global, text: &str) -> Result<Option<Name>, PackFault> {
+fn name_of(alloc: Global, text: &str) -> Result<Option<Name>, AllocError> {
     match bytes_of(alloc, text)? {
         Some(bytes) => Ok(Name::new(alloc, bytes.as_slice())?),
         None => Ok(None),
@@ -56,31 +61,55 @@ fn name_of(alloc: Global, text: &str) -> Result<Option<Name>, PackFault> {
 }
 
 /// Whether a path is a folder's name and a file's, both of which lead nowhere else.
-fn is_inside(path: &str) -> bool {
-    let bytes = path.as_bytes();
-    let slashes = bytes.iter().filter(|byte| **byte == b'/').count();
-    let slash = bytes.iter().position(|byte| *byte == b'/');
-    match slash {
-        Some(at) => {
-            let (folder, name) = (&bytes[..at], &bytes[at + 1..]);
-            slashes == 1 && is_plain(folder) && is_plain(name)
-        }
+fn is_inside(path: &str) -> bool
+    ensures { result ≡ is_inside path.now }
+{
+    match path.split_once('/') {
+        Some((folder, name)) => is_plain(folder.as_bytes()) && is_plain(name.as_bytes()),
         None => false,
     }
 }
 
+/// Whether a byte can't stand in the name of a file: it ends a part of a path, or the path.
+fn is_end(byte: u8) -> bool
+    ensures { result ≡ is_end byte }
+{
+    byte == b'/' || byte == 0
+}
+
+/// Whether one of these bytes is such.
+fn has_end(part: &[u8]) -> bool
+    ensures { result ≡ list_any is_end part.now }
+{
+    part.iter().any(|byte| is_end(*byte))
+}
+
+/// Whether a part of a path names the folder itself or the one above.
+fn is_dots(part: &[u8]) -> bool
+    ensures { result ≡ is_dots part.now }
+{
+    part == b"".as_slice() || part == b".".as_slice() || part == b"..".as_slice()
+}
+
 /// Whether a part of a path names something in its folder.
-fn is_plain(part: &[u8]) -> bool {
-    !part.is_empty() && part != b".".as_slice() && part != b"..".as_slice() && !part.contains(&0)
+fn is_plain(part: &[u8]) -> bool
+    ensures { result ≡ is_plain part.now }
+{
+    !is_dots(part) && !has_end(part)
 }
 
 /// What is bad in an entry.
-fn bad(file: String, what: &'static str) -> PackFault {
+fn bad(file: String, what: Flaw) -> PackFault
+    ensures { result ≡ BadEntry file what }
+{
     PackFault::BadEntry { file, what }
 }
 
 /// What the manifest says of a resource.
-fn entry_of(alloc: Global, resource: Resource) -> Result<Entry, PackFault> {
+fn entry_of(alloc: Global, resource: Resource) -> Result<Entry, PackFault>
+    ensures inside { IfOk result IsInFolder }
+    ensures outside { IfErr result IsRefusedPath }
+{
     let Resource {
         kind,
         id,
@@ -89,17 +118,17 @@ fn entry_of(alloc: Global, resource: Resource) -> Result<Entry, PackFault> {
         file,
     } = resource;
     let Some(kind) = four_of(alloc, kind.as_str())? else {
-        return Err(bad(file, "its type isn't four characters of MacRoman"));
+        return Err(bad(file, Flaw::Kind));
     };
     let name = match text {
         Some(text) => match name_of(alloc, text.as_str())? {
             Some(name) => Some(name),
-            None => return Err(bad(file, "its name isn't at most 255 characters of MacRoman")),
+            None => return Err(bad(file, Flaw::Name)),
         },
         None => None,
     };
     if !is_inside(file.as_str()) {
-        return Err(bad(file, "its file isn't one in a folder of the folder"));
+        return Err(bad(file, Flaw::Path));
     }
     Ok(Entry {
         kind: ResType::new(kind),
@@ -125,8 +154,12 @@ fn extra_of(text: &str) -> Option<[u8; 240]> {
     Some(extra)
 }
 
-/// What a manifest says that `unpack` wrote. An error says what isn't so, and in which file's entry.
-pub fn manifest_of(alloc: Global, text: &str) -> Result<Packing, PackFault> {
+/// What a manifest says that `unpack` wrote. An error says what isn't so, and in which file's entry. Each file is in a folder of the
+/// folder, and a path is refused only where it leads elsewhere.
+pub fn manifest_of(alloc: Global, text: &str) -> Result<Packing, PackFault>
+    ensures inside { IfOk result (λ packing. AllByRecursion IsInFolder packing.entries.items) }
+    ensures outside { IfErr result IsRefusedPath }
+{
     let manifest: Manifest = match serde_json::from_str(alloc, text) {
         Ok(manifest) => manifest,
         Err(error) => return Err(PackFault::BadManifest(error.to_string(alloc)?)),

@@ -21,6 +21,20 @@ pub struct Entry {
     pub file: String,
 }
 
+/// What is bad in the entry of a resource.
+#[derive(Clone, Copy, Debug, Error)]
+pub enum Flaw {
+    /// Its type isn't four characters of MacRoman.
+    #[error("its type isn't four characters of MacRoman")]
+    Kind,
+    /// Its name has a character that MacRoman lacks, or more than 255.
+    #[error("its name isn't at most 255 characters of MacRoman")]
+    Name,
+    /// The path of its file leads elsewhere than into a folder of the folder.
+    #[error("its file isn't one in a folder of the folder")]
+    Path,
+}
+
 /// Why a folder's files aren't packed.
 #[derive(Debug, Drop, Error)]
 pub enum PackFault {
@@ -29,7 +43,7 @@ pub enum PackFault {
     BadManifest(String),
     /// What it says of the resource in this file isn't so of any.
     #[error("what it says of the resource in {file} is bad: {what}")]
-    BadEntry { file: String, what: &'static str },
+    BadEntry { file: String, what: Flaw },
     /// What it says of the 240 extra bytes are none.
     #[error("`extra`, of 480 hexadecimal digits, is bad")]
     BadExtra,

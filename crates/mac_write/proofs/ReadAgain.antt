@@ -1,6 +1,6 @@
 -- What is written is read again.
 use Rattle.std.proofs.Common.{◌≡◌, ◌≢◌, ℕ, ◌≤◌, ◌<◌, Bool, true, false, List, [], ◌∷◌, length, ◌+◌, None, Some, Result, Ok, Err, IfOk, refl, sym, subst, inr, arith}
-use Rattle.std.specs.Prelude.{slice_index, nat_le, nat_lt, ◌==◌, ◌&&◌, ◌||◌, if◌then◌else◌}
+use Rattle.std.specs.Prelude.{slice_index, take, nat_le, nat_lt, ◌==◌, ◌&&◌, ◌||◌, if◌then◌else◌}
 use Rattle.std.specs.List.{list_any}
 use Rattle.std.specs.Option.{option_or}
 use Rattle.std.specs.Result.{result_err}
@@ -8,7 +8,7 @@ use Rattle.std.proofs.lemmas.Bool.{and_left, and_right, cond-false, eqb-false, l
 use Rattle.std.proofs.lemmas.List.{take_all}
 use Rattle.mac_files.specs.declared.container.Container.TheVariants.{AppleDouble, AppleSingle, Raw}
 use Rattle.mac_files.specs.BinHex.{is_bin_hex, line_from}
-use Rattle.mac_files.specs.Containers.{container_of, is_fork_header}
+use Rattle.mac_files.specs.Containers.{container_of, has_fork_parts, is_fork_header}
 use Rattle.mac_files.specs.Faults.{apple_fault}
 use Rattle.mac_files.specs.MacBinary.{has_form, version_of}
 use Rattle.mac_write.specs.declared.refusal.Refusal.{Refusal}
@@ -68,9 +68,13 @@ no_form text other =
 text_unknown : (file : Parts) → container_of (hex_text (hex_file file)) ≡ None
 text_unknown file = rw (no_fork (hex_text (hex_file file)) refl, no_form (hex_text (hex_file file)) refl) refl
 
+no_parts : (text : List ℕ) → list_any (λ byte. byte == 0) (take 16 text) ≡ false → has_fork_parts (length text) text ≡ false
+unfolding has_fork_parts
+no_parts text none = and_left _ _ (and_left _ _ (and_left _ _ (and_right _ _ none)))
+
 text_known : (file : Parts) → is_bin_hex (hex_text (hex_file file)) ≡ true
 unfolding line_from
-text_known file = refl
+text_known file = rw (no_parts (hex_text (hex_file file)) refl) refl
 
 text_again : (file : Parts) → IsFile file → hex_unwritten file ≡ None → IsReadAsText (held target.BinHex file) (hex_text (hex_file file))
 text_again file is none =

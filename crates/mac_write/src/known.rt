@@ -23,7 +23,7 @@ fn know_flags(_flags: u16)
 {}
 
 /// What a file is made of is bytes.
-pub(crate) fn know_file(file: &MacFile)
+pub fn know_file(file: &MacFile)
     ensures { IsFile (view file.now) }
 {
     know_bytes(file.name);

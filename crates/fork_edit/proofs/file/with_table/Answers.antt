@@ -1,6 +1,4 @@
 use Rattle.std.proofs.Common.{ℕ, List, inl, refl, subst}
-use Rattle.fork_bytes.specs.Fork.{format_limits}
-use Rattle.fork_bytes.specs.Written.{IsTooBigWithin}
 use Rattle.fork_answer.specs.Answer.{IsTableOf}
 use Rattle.fork_edit.proofs.Refusing.{big_of, made_big, made_refused, small_of}
 use Rattle.fork_edit.proofs.file.with_table.Goals as goal
