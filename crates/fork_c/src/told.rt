@@ -13,6 +13,7 @@ use mac_base::error::{NO_ERR, OsErr};
 use std::alloc::Global;
 
 /// The table that bytes stand for, or the code that C is told.
+#[tactic(auto, using(crate::proofs::Pieces::few_bytes, crate::proofs::Pieces::few_rows))]
 pub(crate) fn read<'a>(alloc: Global, fork: &'a [u8]) -> Result<Table<'a>, i16>
     ensures table { IfOk result (λ table. StandsFor fork.now table) }
     ensures few { IfOk result (λ table. length table.rows ≤ max_rows) }

@@ -4,27 +4,22 @@ use Rattle.std.specs.Int.RustNames.{bit_and}
 use Rattle.fork_list.specs.declared.attribute.Attribute.{Attribute}
 use Rattle.fork_list.specs.declared.attribute.Attribute.TheVariants.{Bit7, SysHeap, Purgeable, Locked, Protected, Preload, Changed, Bit0}
 
--- the bit of an attribute
-abbrev pub bit_of : Attribute → ℕ
-bit_of Bit7 = 128
-bit_of SysHeap = 64
-bit_of Purgeable = 32
-bit_of Locked = 16
-bit_of Protected = 8
-bit_of Preload = 4
-bit_of Changed = 2
-bit_of Bit0 = 1
+-- the bit of an attribute, and the word for it
+abbrev pub named : Attribute → ℕ × List ℕ
+named Bit7 = (128, codes "bit7")
+named SysHeap = (64, codes "sysHeap")
+named Purgeable = (32, codes "purgeable")
+named Locked = (16, codes "locked")
+named Protected = (8, codes "protected")
+named Preload = (4, codes "preload")
+named Changed = (2, codes "changed")
+named Bit0 = (1, codes "bit0")
 
--- the word for an attribute
+abbrev pub bit_of : Attribute → ℕ
+bit_of attribute = (named attribute).0
+
 abbrev pub word_of : Attribute → List ℕ
-word_of Bit7 = codes "bit7"
-word_of SysHeap = codes "sysHeap"
-word_of Purgeable = codes "purgeable"
-word_of Locked = codes "locked"
-word_of Protected = codes "protected"
-word_of Preload = codes "preload"
-word_of Changed = codes "changed"
-word_of Bit0 = codes "bit0"
+word_of attribute = (named attribute).1
 
 -- the words for those of these attributes that are set, each with a comma before it, but the first with this
 abbrev pub words_of : List ℕ → ℕ → List Attribute → List ℕ

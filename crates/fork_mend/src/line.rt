@@ -1,10 +1,10 @@
 //! What can be read of a fork as text.
 
 ghost use Rattle.std.specs.Prelude.{◌≡◌, Some, IfOk, string_bytes};
-ghost use Rattle.fork_mend.specs.Lines.{place_text, gap_text, loss_text, id_text, name_line, found_line, lost_line, run_line, item_line, salvage_listing};
+ghost use Rattle.fork_mend.specs.Lines.{place_text, gap_text, loss_text, id_text, name_line, item_line, salvage_listing};
 
 use fork_list::{KindText, RowText};
-use fork_salvage::{FoundName, FoundRow, Gap, Item, Loss, LostRow, Salvage, Span};
+use fork_salvage::{FoundName, Gap, Item, Loss, Salvage, Span};
 use mac_text::letters::Letters;
 use std::alloc::{AllocError, Global};
 use std::fmt;
@@ -46,18 +46,9 @@ impl fmt::Display for LossText {
 
     fn fmt<W: fmt::Write>(&self, f: &mut fmt::Formatter<W>) -> fmt::Result {
         match self.0 {
-            Loss::Reference(gap) => {
-                let gap = GapText(gap);
-                write!(f, "its reference has {gap}")
-            }
-            Loss::Length(gap) => {
-                let gap = GapText(gap);
-                write!(f, "its length has {gap}")
-            }
-            Loss::Bytes(gap) => {
-                let gap = GapText(gap);
-                write!(f, "it has {gap}")
-            }
+            Loss::Reference(gap) => write!(f, "its reference has {gap}", gap = GapText(gap)),
+            Loss::Length(gap) => write!(f, "its length has {gap}", gap = GapText(gap)),
+            Loss::Bytes(gap) => write!(f, "it has {gap}", gap = GapText(gap)),
         }
     }
 }
@@ -85,79 +76,18 @@ impl fmt::Display for NameLine {
     ghost output = { λ n. Some (name_line n.0) };
 
     fn fmt<W: fmt::Write>(&self, f: &mut fmt::Formatter<W>) -> fmt::Result {
-        match self.0 {
-            FoundName::Outside(place) => {
-                let place = Place(place);
-                writeln!(f, "  its name, at {place}, ends outside of the map")
-            }
-            FoundName::Unnamed | FoundName::Named(_) => Ok(()),
-        }
-    }
-}
-
-/// The line of a resource that can be read, as a list shows it.
-#[derive(Clone, Copy)]
-struct FoundLine<'a> {
-    letters: Letters,
-    fork: &'a [u8],
-    found: FoundRow,
-}
-
-impl fmt::Display for FoundLine<'_> {
-    ghost output = { λ l. Some (found_line l.letters l.fork.now l.found) };
-
-    fn fmt<W: fmt::Write>(&self, f: &mut fmt::Formatter<W>) -> fmt::Result {
-        let found = self.found;
-        let row = RowText {
-            letters: self.letters,
-            kind: found.kind,
-            id: found.id,
-            count: found.bytes.length,
-            attributes: found.attributes,
-            name: found.name.of(self.fork),
+        let FoundName::Outside(place) = self.0 else {
+            return Ok(());
         };
-        let name = NameLine(found.name);
-        write!(f, "{row}\n{name}")
-    }
-}
-
-/// The line of a resource that can't be read.
-#[derive(Clone, Copy)]
-struct LostLine {
-    letters: Letters,
-    lost: LostRow,
-}
-
-impl fmt::Display for LostLine {
-    ghost output = { λ l. Some (lost_line l.letters l.lost) };
-
-    fn fmt<W: fmt::Write>(&self, f: &mut fmt::Formatter<W>) -> fmt::Result {
-        let kind = KindText::new(self.letters, self.lost.kind);
-        let id = IdText(self.lost.id);
-        let loss = LossText(self.lost.loss);
-        let reference = Place(self.lost.reference);
         writeln!(
             f,
-            "{kind} {id}        ? can't be read: {loss}; its reference stands at {reference}"
+            "  its name, at {place}, ends outside of the map",
+            place = Place(place)
         )
     }
 }
 
-/// The line of a run of bytes without type and id.
-#[derive(Clone, Copy)]
-struct RunLine(Span);
-
-impl fmt::Display for RunLine {
-    ghost output = { λ r. Some (run_line r.0) };
-
-    fn fmt<W: fmt::Write>(&self, f: &mut fmt::Formatter<W>) -> fmt::Result {
-        let count = self.0.length;
-        let place = Place(self.0.start);
-        writeln!(f, "-         - {count:>8} at {place}")
-    }
-}
-
-/// The line of an item.
+/// The line of an item: as a list shows it, or what of it can't be read, or a run of bytes without type and id.
 #[derive(Clone, Copy)]
 struct ItemLine<'a> {
     letters: Letters,
@@ -171,23 +101,33 @@ impl fmt::Display for ItemLine<'_> {
     fn fmt<W: fmt::Write>(&self, f: &mut fmt::Formatter<W>) -> fmt::Result {
         match self.item {
             Item::Row(found) => {
-                let line = FoundLine {
+                let row = RowText {
                     letters: self.letters,
-                    fork: self.fork,
-                    found,
+                    kind: found.kind,
+                    id: found.id,
+                    count: found.bytes.length,
+                    attributes: found.attributes,
+                    name: found.name.of(self.fork),
                 };
-                write!(f, "{line}")
+                let name = NameLine(found.name);
+                write!(f, "{row}\n{name}")
             }
             Item::Lost(lost) => {
-                let line = LostLine {
-                    letters: self.letters,
-                    lost,
-                };
-                write!(f, "{line}")
+                let kind = KindText::new(self.letters, lost.kind);
+                let id = IdText(lost.id);
+                let loss = LossText(lost.loss);
+                let reference = Place(lost.reference);
+                writeln!(
+                    f,
+                    "{kind} {id}        ? can't be read: {loss}; its reference stands at {reference}"
+                )
             }
-            Item::Run(span) => {
-                let line = RunLine(span);
-                write!(f, "{line}")
+            Item::Run(Span { start, length }) => {
+                writeln!(
+                    f,
+                    "-         - {length:>8} at {place}",
+                    place = Place(start)
+                )
             }
         }
     }

@@ -5,7 +5,7 @@ ghost use Rattle.std.specs.List.{filter};
 ghost use Rattle.fork_bytes.specs.Fork.{places, IsForkWithin, RefusesWithin, format_limits};
 ghost use Rattle.fork_salvage.specs.Plans.{IsPlan, IsTypes, IsTold, reference_of};
 ghost use Rattle.fork_salvage.specs.Salvage.{bytes_found, map_in, parts_at, told_list};
-ghost use Rattle.fork_salvage.specs.Faults.{header_fault, too_long, data_fault, map_fault, map_header_fault, parts_faults, earlier_type, same_type, list_fault, entry_faults, entries_faults, types_fault, name_fault, bytes_fault, row_faults, rows_faults, lists_faults, map_faults, found_faults};
+ghost use Rattle.fork_salvage.specs.Faults.{whole, header_fault, too_long, data_fault, map_fault, map_header_fault, parts_faults, earlier_type, same_type, list_fault, entry_faults, entries_faults, types_fault, name_fault, bytes_fault, row_faults, rows_faults, lists_faults, map_faults, found_faults};
 ghost use Rattle.fork_salvage.specs.Fault.{IsFault, refusal_of};
 ghost use Rattle.fork_salvage.specs.declared.fault.Fault.{Fault};
 
@@ -29,18 +29,22 @@ fn push_fault(faults: &mut Vec<Fault>, fault: Option<Fault>) -> Result<(), Alloc
     Ok(())
 }
 
+/// The fork as one part.
+fn whole(fork: &[u8]) -> Span
+    ensures { result ≡ whole fork.now }
+{
+    Span {
+        start: 0,
+        length: fork.len(),
+    }
+}
+
 /// Whether the fork ends within its header.
 fn header_fault(fork: &[u8]) -> Option<Fault>
     ensures { result ≡ header_fault fork.now }
 {
-    let whole = Span {
-        start: 0,
-        length: fork.len(),
-    };
-    match Gap::of(whole, 0, HEADER_LENGTH) {
-        Some(gap) => Some(Fault::Header(gap)),
-        None => None,
-    }
+    let gap = Gap::of(whole(fork), 0, HEADER_LENGTH)?;
+    Some(Fault::Header(gap))
 }
 
 /// Whether there are too many bytes.
@@ -60,14 +64,8 @@ fn data_fault(fork: &[u8], part: Span) -> Option<Fault>
     requires small { (part.start < 2 ^ 32) × (part.length < 2 ^ 32) }
     ensures { result ≡ data_fault fork.now }
 {
-    let whole = Span {
-        start: 0,
-        length: fork.len(),
-    };
-    match Gap::of(whole, part.start, part.length) {
-        Some(gap) => Some(Fault::Data(gap)),
-        None => None,
-    }
+    let gap = Gap::of(whole(fork), part.start, part.length)?;
+    Some(Fault::Data(gap))
 }
 
 /// Whether the map ends outside of the fork.
@@ -76,14 +74,8 @@ fn map_fault(fork: &[u8], map: Span) -> Option<Fault>
     requires small { (map.start < 2 ^ 32) × (map.length < 2 ^ 32) }
     ensures { result ≡ map_fault fork.now }
 {
-    let whole = Span {
-        start: 0,
-        length: fork.len(),
-    };
-    match Gap::of(whole, map.start, map.length) {
-        Some(gap) => Some(Fault::Map(gap)),
-        None => None,
-    }
+    let gap = Gap::of(whole(fork), map.start, map.length)?;
+    Some(Fault::Map(gap))
 }
 
 /// Whether the map is shorter than its own header.
@@ -91,10 +83,8 @@ fn map_header_fault(map: Span) -> Option<Fault>
     requires { map.start < 2 ^ 32 }
     ensures { result ≡ map_header_fault map }
 {
-    match Gap::of(map, 0, MAP_HEADER_LENGTH) {
-        Some(gap) => Some(Fault::MapHeader(gap)),
-        None => None,
-    }
+    let gap = Gap::of(map, 0, MAP_HEADER_LENGTH)?;
+    Some(Fault::MapHeader(gap))
 }
 
 /// The faults of the parts of a fork.
@@ -119,13 +109,9 @@ fn list_fault(map: Span, list: ReferenceList) -> Option<Fault>
     if list.count == 0 {
         return None;
     }
-    match Gap::of(map, list.start, REFERENCE_LENGTH * list.count) {
-        Some(gap) => {
-            let kind = list.kind;
-            Some(Fault::References(BadList { kind, gap }))
-        }
-        None => None,
-    }
+    let gap = Gap::of(map, list.start, REFERENCE_LENGTH * list.count)?;
+    let kind = list.kind;
+    Some(Fault::References(BadList { kind, gap }))
 }
 
 /// Whether an entry of the type list has the type of an earlier one.
@@ -176,15 +162,11 @@ fn types_fault(part: Span, map: &[u8]) -> Option<Fault>
 {
     let place = read_two(map, 24);
     if part.length < place + 2 {
-        return match Gap::of(part, place, 2) {
-            Some(gap) => Some(Fault::TypeCount(gap)),
-            None => None,
-        };
+        let gap = Gap::of(part, place, 2)?;
+        return Some(Fault::TypeCount(gap));
     }
-    match Gap::of(part, place + 2, ENTRY_LENGTH * read_count(map, place)) {
-        Some(gap) => Some(Fault::TypeList(gap)),
-        None => None,
-    }
+    let gap = Gap::of(part, place + 2, ENTRY_LENGTH * read_count(map, place))?;
+    Some(Fault::TypeList(gap))
 }
 
 /// The fault of the name of a reference that lies within the map.
@@ -203,10 +185,8 @@ fn name_fault(fork: &[u8], plan: &Plan, reference: MapReference) -> Option<Fault
         Some(count) => *count as usize,
         None => 0,
     };
-    match Gap::of(plan.map, start, 1 + count) {
-        Some(gap) => Some(Fault::Name(bad_row(fork, plan, reference, gap))),
-        None => None,
-    }
+    let gap = Gap::of(plan.map, start, 1 + count)?;
+    Some(Fault::Name(bad_row(fork, plan, reference, gap)))
 }
 
 /// The fault of the bytes of a reference that lies within the map.

@@ -306,6 +306,7 @@ fn find_fault(fork: &[u8], plan: &Plan) -> Option<Fault>
 
 /// The first fault of a fork, in the order of the reader's conditions and at the least place, or None exactly where the bytes are a
 /// fork within the format's limits. Its condition is the first that doesn't hold, as `fork_reader::read_fork_within` says it.
+#[tactic(auto, using(crate::proofs::Conditions::refuses_at, crate::proofs::Order::below_types))]
 pub fn first_fault(fork: &[u8]) -> Option<Fault>
     ensures fault { IfSome result (IsFault fork.now) }
     ensures refuses { IfSome result (λ fault. RefusesWithin format_limits fork.now (refusal_of fault)) }

@@ -1,5 +1,5 @@
 -- What C is told of a call.
-use Rattle.std.specs.Prelude.{◌≡◌, ℕ, ℤ, pos, List, [], Result, Option, Some, None, Ok, Err, unwrap_or}
+use Rattle.std.specs.Prelude.{◌≡◌, ℕ, ℤ, pos, Bool, true, false, List, [], Result, Option, Some, None, Ok, Err, unwrap_or}
 use Rattle.mac_base.specs.Codes.{code_of, minus}
 use Rattle.mac_base.specs.declared.error.OsErr.{OsErr}
 use Rattle.held_calls.specs.declared.window.Window.{Window}
@@ -7,7 +7,7 @@ use Rattle.held_calls.specs.Holding.{IsWindow}
 use Rattle.linked_zone.specs.Loans.{KeepsLoans}
 use Rattle.mac_base.specs.ZoneState.{ZoneState}
 use Rattle.mac_calls.specs.declared.loan_call.LoanCall.{LoanCall}
-use Rattle.mac_calls.specs.declared.loan_call.LoanCall.TheVariants.{Return}
+use Rattle.mac_calls.specs.declared.loan_call.LoanCall.TheVariants.{LentPeek, Return}
 use Rattle.mac_calls.specs.declared.memory_call.MemoryCall.{MemoryCall}
 use Rattle.mac_calls.specs.declared.reply.Results.{Results}
 use Rattle.mac_calls.specs.declared.reply.Results.TheVariants.{Handle, Pointer, Address, Number, TwoNumbers, Bytes}
@@ -58,6 +58,11 @@ bytes_told before _ = before
 abbrev pub shown_outcome : Result (Unit {0}) OsErr → List ℕ → Outcome
 shown_outcome (Ok u) bytes = Ok (Bytes bytes)
 shown_outcome (Err code) bytes = Err code
+
+-- whether a call on a lent block shows bytes
+abbrev pub shows : LoanCall → Bool
+shows (LentPeek block offset count) = true
+shows _ = false
 
 -- What is lent stays so, and where it is in the memory of the host.
 pub record StaysLent (old new : ZoneState) : Type 0 where

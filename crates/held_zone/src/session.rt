@@ -10,7 +10,7 @@ use held_calls::{bytes, lending, making};
 use mac_base::block::Block;
 use mac_base::error::{HostFull, OsErr};
 use mac_base::zone_spec::ZoneSpec;
-use mac_calls::{Answer, MemoryCall, Outcome};
+use mac_calls::{Answer, LoanCall, MemoryCall, Outcome};
 use mem_calls::MemoryManager;
 use std::alloc::Global;
 use std::marker::Model;
@@ -62,7 +62,7 @@ impl Session {
     ghost use Rattle.held_calls.specs.Making.{copies};
     ghost use Rattle.held_calls.specs.Holding.{IsWindow};
     ghost use Rattle.held_zone.specs.State.{IsNew, queue_refusal, with_no_asks};
-    ghost use Rattle.held_zone.specs.Told.{Makes, MakesLoan, shown_outcome};
+    ghost use Rattle.held_zone.specs.Told.{Makes, MakesLoan, shown_outcome, shows};
 
     /// A new zone. Nothing is lent, no answer waits, and nothing was asked.
     pub fn create(alloc: Global, spec: ZoneSpec) -> Result<Box<Session>, HostFull>
@@ -104,20 +104,26 @@ impl Session {
         Ok(())
     }
 
-    /// Lend: C has the bytes of a pointer's or a locked handle's block, until it gives them back.
-    pub fn lend(&mut self, block: u32) -> Outcome
-        ensures { MakesLoan self.old (loan_call.Lend block) result self.new }
+    /// Makes a call on a block that is lent or is to be lent. For one that shows bytes it returns none, and only what was
+    /// asked is forgotten.
+    pub fn make_loan(&mut self, call: &LoanCall<'_>) -> Option<Outcome>
+        ensures makes { IfSome result (λ outcome. MakesLoan self.old call.now outcome self.new) }
+        ensures plain { is_some result ≡ not (shows call.now) }
+        ensures unmade { IfNone result (self.new ≡ with_no_asks self.old) }
     {
         self.answers.begin();
-        lending::lend(&mut self.memory, &mut self.loans, block)
-    }
-
-    /// Return: C gives them back.
-    pub fn take_back(&mut self, block: u32) -> Outcome
-        ensures { MakesLoan self.old (loan_call.Return block) result self.new }
-    {
-        self.answers.begin();
-        lending::take_back(&mut self.memory, &mut self.loans, block)
+        let memory = &mut self.memory;
+        let loans = &mut self.loans;
+        match call {
+            LoanCall::Lend(block) => Some(lending::lend(memory, loans, *block)),
+            LoanCall::LentPeek { .. } => None,
+            LoanCall::LentPoke {
+                block,
+                offset,
+                bytes,
+            } => Some(lending::lent_poke(memory, loans, *block, *offset, bytes.as_slice())),
+            LoanCall::Return(block) => Some(lending::take_back(memory, loans, *block)),
+        }
     }
 
     /// LentPeek: copies bytes that C has of a block, from an offset on, over as many others.
@@ -127,14 +133,6 @@ impl Session {
     {
         self.answers.begin();
         lent::peek(&self.memory, &self.loans, block, offset, bytes)
-    }
-
-    /// LentPoke: copies bytes over those that C has of a block, from an offset on.
-    pub fn lent_poke(&mut self, block: u32, offset: u32, bytes: &[u8]) -> Outcome
-        ensures { MakesLoan self.old (loan_call.LentPoke block offset bytes.now) result self.new }
-    {
-        self.answers.begin();
-        lending::lent_poke(&self.memory, &mut self.loans, block, offset, bytes)
     }
 
     /// The window on the bytes that C has of a block. It is refused as Return is.

@@ -9,7 +9,7 @@ use crate::parked::Parked;
 use crate::session::Session;
 use crate::told;
 pub use held_calls::window::Window;
-use mac_calls::{MemoryCall, Outcome};
+use mac_calls::{LoanCall, MemoryCall, Outcome};
 use std::alloc::Global;
 use std::marker::Model;
 use std::{mem, ptr};
@@ -127,7 +127,7 @@ impl MhZone {
 
 impl MhZone {
     ghost use Rattle.held_calls.specs.Making.{copies};
-    ghost use Rattle.held_zone.specs.Told.{Called, Told, ToldNumber, ToldNumbers};
+    ghost use Rattle.held_zone.specs.Told.{Called, LoanCalled, LoanTold, Told, ToldNumber, ToldNumbers, shows};
 
     /// Makes a call of the Memory Manager, where there is a zone.
     pub fn call(&mut self, alloc: Global, call: &MemoryCall<'_>) -> Option<Outcome>
@@ -168,6 +168,25 @@ impl MhZone {
         ensures { ToldNumbers self.old.held.session call.now result (first.old, second.old) (first.new, second.new) self.new.held.session }
     {
         told::numbers(&self.call(alloc, call), first, second)
+    }
+
+    /// Makes a call on a block that is lent or is to be lent, where there is a zone.
+    fn call_loan(&mut self, alloc: Global, call: &LoanCall<'_>) -> Option<Outcome>
+        requires { IsFalse (shows call.now) }
+        ensures { LoanCalled self.old.held.session call.now result self.new.held.session }
+    {
+        let mut session = self.take(alloc)?;
+        let outcome = session.make_loan(call);
+        self.put(session);
+        outcome
+    }
+
+    /// Makes a call on a block that is lent or is to be lent, and tells its code.
+    pub fn loan(&mut self, alloc: Global, call: &LoanCall<'_>) -> i16
+        requires { IsFalse (shows call.now) }
+        ensures { LoanTold self.old.held.session call.now result self.new.held.session }
+    {
+        told::code(&self.call_loan(alloc, call))
     }
 }
 

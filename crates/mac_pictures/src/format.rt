@@ -1,9 +1,9 @@
 //! The formats of pictures in resources.
 
-ghost use Rattle.std.specs.Prelude.{◌≡◌, ◌≤◌, IfOk};
+ghost use Rattle.std.specs.Prelude.{◌≡◌, IfOk};
 ghost use Rattle.mac_pictures.specs.Formats.{format_of, masked, picture_of, plain};
 
-use crate::picture::Picture;
+use crate::picture::{Picture, Size};
 use std::alloc::{AllocError, Global};
 
 /// How the bytes of a resource are a picture.
@@ -35,49 +35,37 @@ pub fn format_of(kind: [u8; 4]) -> Option<Format>
     }
 }
 
+/// The size of an icon.
+const LARGE: Size = Size { row: 4, height: 32 };
+
+/// The size of a small icon or a cursor.
+const SMALL: Size = Size { row: 2, height: 16 };
+
 /// The most bytes of a resource.
 const LONGEST: usize = 4_194_304;
 
-/// The picture that bytes are, with so many of them in a row, or None where they are too many or too few.
-fn plain(
-    alloc: Global,
-    row: usize,
-    height: usize,
-    bytes: &[u8],
-) -> Result<Option<Picture>, AllocError>
-    requires wide { 1 ≤ row }
-    requires narrow { row ≤ 4 }
-    requires high { 1 ≤ height }
-    requires low { height ≤ 2097152 }
-    ensures { IfOk result (λ found. found ≡ plain row height bytes.now) }
+/// The picture of this size that bytes are, or None where they are too many or too few.
+fn plain(alloc: Global, size: Size, bytes: &[u8]) -> Result<Option<Picture>, AllocError>
+    ensures { IfOk result (λ found. found ≡ plain size.row size.height bytes.now) }
 {
-    if bytes.len() != row * height {
+    if bytes.len() != size.row * size.height {
         return Ok(None);
     }
     let mask = vec![in alloc; 255u8; bytes.len()]?;
-    let picture = Picture::new(alloc, row, height, bytes, mask.as_slice())?;
+    let picture = Picture::new(alloc, size, bytes, mask.as_slice())?;
     Ok(Some(picture))
 }
 
-/// The picture that bytes are and the mask that follows them, or None where they are too many or too few.
-fn masked(
-    alloc: Global,
-    row: usize,
-    height: usize,
-    bytes: &[u8],
-) -> Result<Option<Picture>, AllocError>
-    requires wide { 1 ≤ row }
-    requires narrow { row ≤ 4 }
-    requires high { 1 ≤ height }
-    requires low { height ≤ 2097152 }
-    ensures { IfOk result (λ found. found ≡ masked row height bytes.now) }
+/// The picture of this size that bytes are, and the mask that follows them, or None where they are too many or too few.
+fn masked(alloc: Global, size: Size, bytes: &[u8]) -> Result<Option<Picture>, AllocError>
+    ensures { IfOk result (λ found. found ≡ masked size.row size.height bytes.now) }
 {
-    let half = row * height;
+    let half = size.row * size.height;
     if bytes.len() != 2 * half {
         return Ok(None);
     }
     let (dots, mask) = bytes.split_at(half);
-    let picture = Picture::new(alloc, row, height, dots, mask)?;
+    let picture = Picture::new(alloc, size, dots, mask)?;
     Ok(Some(picture))
 }
 
@@ -89,7 +77,7 @@ fn cursor(alloc: Global, bytes: &[u8]) -> Result<Option<Picture>, AllocError>
         return Ok(None);
     }
     let (picture, _) = bytes.split_at(64);
-    masked(alloc, 2, 16, picture)
+    masked(alloc, SMALL, picture)
 }
 
 /// The picture of small icons, each below the one before.
@@ -100,7 +88,11 @@ fn small_icons(alloc: Global, bytes: &[u8]) -> Result<Option<Picture>, AllocErro
     if length == 0 || length > LONGEST || length % 32 != 0 {
         return Ok(None);
     }
-    plain(alloc, 2, length / 2, bytes)
+    let size = Size {
+        row: 2,
+        height: length / 2,
+    };
+    plain(alloc, size, bytes)
 }
 
 /// The picture that the bytes of a resource are, or None where they are too many or too few. The only error is that the host has no
@@ -113,9 +105,9 @@ pub fn picture_of(
     ensures { IfOk result (λ found. found ≡ picture_of format bytes.now) }
 {
     match format {
-        Format::Icon => plain(alloc, 4, 32, bytes),
-        Format::IconWithMask => masked(alloc, 4, 32, bytes),
-        Format::SmallIconWithMask => masked(alloc, 2, 16, bytes),
+        Format::Icon => plain(alloc, LARGE, bytes),
+        Format::IconWithMask => masked(alloc, LARGE, bytes),
+        Format::SmallIconWithMask => masked(alloc, SMALL, bytes),
         Format::Cursor => cursor(alloc, bytes),
         Format::SmallIcons => small_icons(alloc, bytes),
     }

@@ -3,6 +3,7 @@
 ghost use Rattle.mac_pictures.specs.Laws.{IsReadBack};
 
 /// A reader of PNG files finds the picture of which the file was written. It computes nothing.
+#[tactic(auto, using(crate::proofs::ReadBack::read_back))]
 pub fn png_law()
     ensures { IsReadBack }
 {}

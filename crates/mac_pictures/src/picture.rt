@@ -25,28 +25,34 @@ impl Model for Picture {
     ghost invariant = { λ p. IsImage (image p.width p.height p.dots.items) };
 }
 
+/// How many bytes a row of a picture has, and how many rows there are.
+#[derive(Clone, Copy)]
+pub(crate) struct Size {
+    pub(crate) row: usize,
+    pub(crate) height: usize,
+    ghost wide: { 1 ≤ row },
+    ghost narrow: { row ≤ 4 },
+    ghost high: { 1 ≤ height },
+    ghost low: { height ≤ 2097152 },
+}
+
 impl Picture {
     ghost use Rattle.mac_pictures.specs.Image.{image};
 
-    /// The picture of these bytes, with so many of them in a row, under a mask. The only error is that the host has no memory.
+    /// The picture of these bytes under a mask. The only error is that the host has no memory.
     pub(crate) fn new(
         alloc: Global,
-        row: usize,
-        height: usize,
+        size: Size,
         bytes: &[u8],
         mask: &[u8],
     ) -> Result<Picture, AllocError>
-        requires wide { 1 ≤ row }
-        requires narrow { row ≤ 4 }
-        requires high { 1 ≤ height }
-        requires low { height ≤ 2097152 }
-        requires bytes { length bytes.now ≡ row * height }
-        requires mask { length mask.now ≡ row * height }
-        ensures { IfOk result (λ picture. picture ≡ image (8 * row) height (dots_of bytes.now mask.now)) }
+        requires bytes { length bytes.now ≡ size.row * size.height }
+        requires mask { length mask.now ≡ size.row * size.height }
+        ensures { IfOk result (λ picture. picture ≡ image (8 * size.row) size.height (dots_of bytes.now mask.now)) }
     {
         Ok(Picture {
-            width: 8 * row,
-            height,
+            width: 8 * size.row,
+            height: size.height,
             dots: dots_of(alloc, bytes, mask)?,
         })
     }

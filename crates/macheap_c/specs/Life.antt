@@ -4,7 +4,7 @@ use Rattle.mac_base.specs.Codes.{minus}
 use Rattle.mac_base.specs.declared.block.HeadKind.{HeadKind}
 use Rattle.mac_base.specs.declared.block.HeadKind.TheVariants.{Bits24, Bits32}
 use Rattle.mac_base.specs.declared.zone_spec.BadSpec.{BadSpec}
-use Rattle.mac_base.specs.ZoneSizes.{ZoneSizes, first_fault}
+use Rattle.mac_base.specs.ZoneSizes.{ZoneSizes, first_fault, first_large_fault}
 use Rattle.held_zone.specs.State.{State, IsNew}
 use Rattle.held_zone.specs.Told.{no_zone}
 
@@ -20,6 +20,14 @@ faultless _ _ base size limit = None
 -- the sizes that C asks for, where a zone may have them
 abbrev pub sizes_of : ℕ → ℕ → ℕ → ℕ → Option ZoneSizes
 sizes_of mode base size limit = faultless (heads_of mode) (first_fault base size limit) base size limit
+
+-- those where the zone may be large
+abbrev pub large_with : Option HeadKind → ℕ → ℕ → ℕ → Option ZoneSizes
+large_with None base size limit = None
+large_with (Some heads) base size limit = faultless (Some heads) (first_large_fault heads base size limit) base size limit
+
+abbrev pub large_sizes_of : ℕ → ℕ → ℕ → ℕ → Option ZoneSizes
+large_sizes_of mode base size limit = large_with (heads_of mode) base size limit
 
 -- There is a new zone of these sizes; or none, since there are no such zones (paramErr), or the host has no memory (memFullErr).
 abbrev pub Begins : Option ZoneSizes → ℤ → Option State → Type 0

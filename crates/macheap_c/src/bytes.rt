@@ -1,12 +1,13 @@
-//! The calls that copy bytes of C.
+//! The calls that show C bytes: copies, or a window.
 
 ghost use Rattle.std.specs.Prelude.{◌≡◌, length};
+ghost use Rattle.mac_calls.specs.declared.loan_call.LoanCall.TheVariants as loan_call;
 ghost use Rattle.mac_calls.specs.declared.memory_call.MemoryCall.TheVariants as call;
-ghost use Rattle.held_zone.specs.Told.{Told, ToldBytes};
+ghost use Rattle.held_zone.specs.Told.{LoanToldBytes, ToldBytes, WindowTold};
 
 use held_zone::told::{self, NO_ZONE};
-use held_zone::zone::MhZone;
-use mac_calls::{MemoryCall, Span};
+use held_zone::zone::{MhZone, Window};
+use mac_base::error::NO_ERR;
 use std::alloc::Global;
 
 /// Copies `bytes.len()` bytes of a block, from an offset on, to C.
@@ -28,24 +29,45 @@ pub extern "C" fn mh_peek(
     told::done(done)
 }
 
-/// Copies bytes of C over those of a block, from an offset on.
+/// Copies bytes that C has of a lent block, from an offset on.
 #[unsafe(no_mangle)]
-pub extern "C" fn mh_poke(
+pub extern "C" fn mh_lent_peek(
     alloc: Global,
     zone: &mut MhZone,
     block: u32,
     offset: u32,
-    bytes: &[u8],
+    bytes: &mut [u8],
 ) -> i16
-    ensures { Told zone.old.held.session (call.Poke block offset bytes.now) result zone.new.held.session }
+    ensures { LoanToldBytes zone.old.held.session (loan_call.LentPeek block offset (length bytes.old)) result bytes.old bytes.new zone.new.held.session }
 {
-    let bytes = Span::new(bytes);
-    zone.code(
-        alloc,
-        &MemoryCall::Poke {
-            block,
-            offset,
-            bytes,
-        },
-    )
+    let Some(mut session) = zone.take(alloc) else {
+        return NO_ZONE;
+    };
+    let done = session.lent_peek(block, offset, bytes);
+    zone.put(session);
+    told::done(done)
+}
+
+/// The window on a lent block's bytes: C may read and write them there, until it gives them back.
+#[unsafe(no_mangle)]
+pub extern "C" fn mh_window(
+    alloc: Global,
+    zone: &mut MhZone,
+    block: u32,
+    window: &mut Window,
+) -> i16
+    ensures { WindowTold zone.old.held.session block result window.old window.new zone.new.held.session }
+{
+    let Some(mut session) = zone.take(alloc) else {
+        return NO_ZONE;
+    };
+    let found = session.window(block);
+    zone.put(session);
+    match found {
+        Ok(found) => {
+            *window = found;
+            NO_ERR
+        }
+        Err(code) => code.code(),
+    }
 }

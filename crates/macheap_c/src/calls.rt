@@ -1,12 +1,13 @@
-//! The calls of the Memory Manager that copy no bytes of C: each is made of its operands, and what it answers is written for C.
+//! The calls that show C no bytes: each is made of its operands, and what it answers is written for C.
 
 ghost use Rattle.std.specs.Prelude.{◌≡◌};
+ghost use Rattle.mac_calls.specs.declared.loan_call.LoanCall.TheVariants as loan_call;
 ghost use Rattle.mac_calls.specs.declared.memory_call.MemoryCall.TheVariants as call;
-ghost use Rattle.held_zone.specs.Told.{Told, ToldNumber, ToldNumbers};
+ghost use Rattle.held_zone.specs.Told.{LoanTold, Told, ToldNumber, ToldNumbers};
 
 use held_zone::zone::MhZone;
 use mac_base::handle::{Handle, Ptr};
-use mac_calls::MemoryCall;
+use mac_calls::{LoanCall, MemoryCall, Span};
 use std::alloc::Global;
 
 /// NewHandle: a new relocatable block of `size` zero bytes.
@@ -425,4 +426,65 @@ pub extern "C" fn mh_max_appl_zone(alloc: Global, zone: &mut MhZone) -> i16
     ensures { Told zone.old.held.session call.MaxApplZone result zone.new.held.session }
 {
     zone.code(alloc, &MemoryCall::MaxApplZone)
+}
+
+/// Copies bytes of C over those of a block, from an offset on.
+#[unsafe(no_mangle)]
+pub extern "C" fn mh_poke(
+    alloc: Global,
+    zone: &mut MhZone,
+    block: u32,
+    offset: u32,
+    bytes: &[u8],
+) -> i16
+    ensures { Told zone.old.held.session (call.Poke block offset bytes.now) result zone.new.held.session }
+{
+    let bytes = Span::new(bytes);
+    zone.code(
+        alloc,
+        &MemoryCall::Poke {
+            block,
+            offset,
+            bytes,
+        },
+    )
+}
+
+/// Lend: C has the bytes of a pointer's or a locked handle's block, until it gives them back. The block stays where it is,
+/// and calls that would read, write, free, resize or unlock it are refused.
+#[unsafe(no_mangle)]
+pub extern "C" fn mh_lend(alloc: Global, zone: &mut MhZone, block: u32) -> i16
+    ensures { LoanTold zone.old.held.session (loan_call.Lend block) result zone.new.held.session }
+{
+    zone.loan(alloc, &LoanCall::Lend(block))
+}
+
+/// Return: gives a block's bytes back.
+#[unsafe(no_mangle)]
+pub extern "C" fn mh_return(alloc: Global, zone: &mut MhZone, block: u32) -> i16
+    ensures { LoanTold zone.old.held.session (loan_call.Return block) result zone.new.held.session }
+{
+    zone.loan(alloc, &LoanCall::Return(block))
+}
+
+/// Copies bytes over those that C has of a lent block, from an offset on.
+#[unsafe(no_mangle)]
+pub extern "C" fn mh_lent_poke(
+    alloc: Global,
+    zone: &mut MhZone,
+    block: u32,
+    offset: u32,
+    bytes: &[u8],
+) -> i16
+    ensures { LoanTold zone.old.held.session (loan_call.LentPoke block offset bytes.now) result zone.new.held.session }
+{
+    let bytes = Span::new(bytes);
+    zone.loan(
+        alloc,
+        &LoanCall::LentPoke {
+            block,
+            offset,
+            bytes,
+        },
+    )
 }

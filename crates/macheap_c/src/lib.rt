@@ -5,6 +5,5 @@ mod bytes;
 mod calls;
 mod growing;
 mod image;
-mod lent;
 mod life;
 mod walk;

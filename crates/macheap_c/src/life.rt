@@ -1,7 +1,7 @@
 //! How a zone begins and ends.
 
 ghost use Rattle.std.specs.Prelude.{◌≡◌};
-ghost use Rattle.macheap_c.specs.Life.{Ends, IsMade, sizes_of};
+ghost use Rattle.macheap_c.specs.Life.{Ends, IsMade, heads_of, large_sizes_of, sizes_of};
 
 use held_zone::session::Session;
 use held_zone::told::NO_ZONE;
@@ -23,11 +23,34 @@ pub extern "C" fn mh_make_zone(
 ) -> i16
     ensures { IsMade zone.old.held.session (sizes_of mode base size limit) result zone.new.held.session }
 {
+    make(alloc, zone, spec_of(mode, base, size, limit))
+}
+
+/// As `mh_make_zone`, and the zone may be large: up to 1 GB with the blocks of mode 32, and up to the end of the 24-bit
+/// addresses with those of mode 24.
+#[unsafe(no_mangle)]
+pub extern "C" fn mh_make_zone_large(
+    alloc: Global,
+    zone: &mut MhZone,
+    base: u32,
+    size: u32,
+    limit: u32,
+    mode: u32,
+) -> i16
+    ensures { IsMade zone.old.held.session (large_sizes_of mode base size limit) result zone.new.held.session }
+{
+    make(alloc, zone, large_spec_of(mode, base, size, limit))
+}
+
+/// Makes a zone of these sizes, if there may be one, where there is none.
+fn make(alloc: Global, zone: &mut MhZone, spec: Option<ZoneSpec>) -> i16
+    ensures { IsMade zone.old.held.session spec result zone.new.held.session }
+{
     if let Some(session) = zone.take(alloc) {
         zone.put(session);
         return OsErr::ParamErr.code();
     }
-    let Some(spec) = spec_of(mode, base, size, limit) else {
+    let Some(spec) = spec else {
         return OsErr::ParamErr.code();
     };
     match Session::create(alloc, spec) {
@@ -43,12 +66,25 @@ pub extern "C" fn mh_make_zone(
 fn spec_of(mode: u32, base: u32, size: u32, limit: u32) -> Option<ZoneSpec>
     ensures { result ≡ sizes_of mode base size limit }
 {
-    let heads = match mode {
-        24 => HeadKind::Bits24,
-        32 => HeadKind::Bits32,
-        _ => return None,
-    };
-    ZoneSpec::with_kind(base, size, limit, heads).ok()
+    ZoneSpec::with_kind(base, size, limit, heads_of(mode)?).ok()
+}
+
+/// Those, where the zone may be large.
+fn large_spec_of(mode: u32, base: u32, size: u32, limit: u32) -> Option<ZoneSpec>
+    ensures { result ≡ large_sizes_of mode base size limit }
+{
+    ZoneSpec::large(base, size, limit, heads_of(mode)?).ok()
+}
+
+/// How blocks are headed in this mode, if there is such a mode.
+fn heads_of(mode: u32) -> Option<HeadKind>
+    ensures { result ≡ heads_of mode }
+{
+    match mode {
+        24 => Some(HeadKind::Bits24),
+        32 => Some(HeadKind::Bits32),
+        _ => None,
+    }
 }
 
 /// Ends a zone, and gives its memory back to the host.

@@ -1,23 +1,14 @@
 //! The walk over the blocks of a zone.
 
 ghost use Rattle.std.specs.Prelude.{◌≡◌};
-ghost use Rattle.mac_base.specs.FlagState.{state_of};
 ghost use Rattle.macheap_c.specs.Walk.{BlockTold, FirstTold, kind_number, owner_number, shown_block};
 
 use held_zone::told::NO_ZONE;
 use held_zone::zone::MhZone;
-use mac_base::block::{Block, Entry, Flags, Kind};
+use mac_base::block::{Block, Entry, Kind};
 use mac_base::error::{NO_ERR, OsErr};
+use mem_calls::state_of;
 use std::alloc::Global;
-
-/// The flag of a block that is locked.
-const LOCK: u32 = 128;
-
-/// That of one that may be purged.
-const PURGE: u32 = 64;
-
-/// That of one that has the contents of a resource.
-const RESOURCE: u32 = 32;
 
 /// A block: its header's address, its physical size, its kind (0 free, 1 master, 2 nonrelocatable, 3 relocatable), the
 /// pointer or handle whose block it is, and the bytes of contents and the flags that this one has.
@@ -95,14 +86,4 @@ fn kind_and_owner(kind: Kind) -> (u32, u32)
         Kind::Ptr(pointer) => (2, pointer.number()),
         Kind::Rel(handle) => (3, handle.number()),
     }
-}
-
-/// Flags as a number: lock 128, purgeable 64, resource 32, added.
-fn state_of(flags: Flags) -> u32
-    ensures { result ≡ state_of flags }
-{
-    let lock = if flags.lock { LOCK } else { 0 };
-    let purge = if flags.purge { PURGE } else { 0 };
-    let resource = if flags.resource { RESOURCE } else { 0 };
-    lock + purge + resource
 }

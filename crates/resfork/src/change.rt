@@ -6,6 +6,7 @@ use crate::message::{DONE, Problem};
 use crate::{read, write_text};
 use file_replace::{Held, save};
 use fork_bytes::table::Row;
+use fork_disk::Record;
 use fork_edit::change::{NewFile, changed};
 use fork_edit::edit::Edit;
 use std::io::{IsTerminal, Write};
@@ -49,7 +50,7 @@ fn change_in_place(
     from: &[Row<'_>],
     edit: Edit<'_>,
 ) -> Result<u8, Problem> {
-    let held = Held::open(rt, target.file)?;
+    let mut held = Held::open(rt, target.file)?;
     // a byte more, for the read that finds the end
     let expected = (held.file().metadata().map_err(Problem::Read)?.len() as usize).saturating_add(
         1,
@@ -59,10 +60,7 @@ fn change_in_place(
         return Ok(DONE);
     };
     held.replace(rt, &old, &changed.file, target.keeps_old)?;
-    match say(rt, target, &changed.told) {
-        Err(Problem::Print(error)) => Err(Problem::Said(error)),
-        said => said,
-    }
+    say(rt, target, &changed.told).map_err(Problem::after_change)
 }
 
 /// What becomes of a file, or None where nothing changes.
@@ -112,7 +110,7 @@ pub fn save_to(rt: &HostRuntime, output: &str, bytes: &[u8]) -> Result<(), Probl
         }
         return rt.stdout().write_all(bytes).map_err(Problem::Print);
     }
-    match save(rt, output, bytes) {
+    match save(rt, output, bytes, &mut Record::new()) {
         Ok(_) => Ok(()),
         Err(error) => Err(Problem::Output {
             path: String::from_str(rt.alloc(), output)?,

@@ -1,10 +1,7 @@
 //! Shows what the resource forks of old Macintosh files hold: `resfork ls FILE`, `resfork get FILE TYPE ID`.
 #![tactic(auto)]
 
-mod asked;
-mod asked_change;
 mod change;
-mod command;
 mod convert;
 mod input;
 mod message;
@@ -12,7 +9,6 @@ mod parts;
 mod rez;
 mod work;
 
-use asked::{Asked, NotAsked, asked_by};
 use change::save_to;
 use fork_answer::answer::answer;
 use fork_answer::request::Request;
@@ -24,17 +20,16 @@ use fork_report::{
 };
 use fork_view::unpack::unpack;
 use fork_view::{Unpacking, View, sight_of};
+use fork_words::asked::{Asked, NotAsked, asked_by};
+use fork_words::{INPUT, work as asked_change};
 use input::read_all;
 use mac_text::letters::Letters;
 use message::{BAD_WORDS, CANT_GO_ON, DONE, NO_FORK, Problem, tell_bad_words, tell_problem};
-use parts::{answer_of_large, list_of_large};
+use parts::{answer_by_parts, list_by_parts};
 use std::alloc::AllocError;
 use std::io::{ErrorKind, IsTerminal, Write};
 use std::process::ExitCode;
 use std::{env, fs, io};
-
-/// The word for the standard input, in place of a file's name.
-const INPUT: &str = "-";
 
 fn main(rt: HostRuntime) -> ExitCode {
     ExitCode::from(run(&rt))
@@ -42,41 +37,41 @@ fn main(rt: HostRuntime) -> ExitCode {
 
 /// Does what the words of the command line ask for. The result is the exit status.
 fn run(rt: &HostRuntime) -> u8 {
-    let alloc = rt.alloc();
     let words = match env::args(rt) {
         Ok(words) => words,
         Err(error) => return tell_no_words(rt, &error),
     };
-    let Ok(words) = words.collect::<Vec<String>>(alloc) else {
+    let Ok(words) = words.collect::<Vec<String>>(rt.alloc()) else {
         return tell_bad_words(rt, &NotAsked::HostFull);
     };
-    match asked_by(alloc, words.as_slice()) {
-        Ok(
-            Asked::Show {
-                request,
-                files,
-                output,
-            },
-        ) => show_all(rt, &request, files.as_slice(), output),
-        Ok(Asked::Report { report, files }) => report_all(rt, &report, files.as_slice()),
-        Ok(
-            Asked::Salvage {
-                file,
-                letters,
-                output,
-            },
-        ) => finish(rt, file, salvage_file(rt, file, letters, output)),
-        Ok(Asked::View { view, file, output }) => {
-            finish(rt, file, view_file(rt, &view, file, output))
-        }
-        Ok(Asked::Unpack { unpacking, file }) => finish(
+    match asked_by(rt.alloc(), words.as_slice()) {
+        Ok(asked) => done(rt, asked),
+        Err(error) => tell_bad_words(rt, &error),
+    }
+}
+
+/// Does what is asked for. The result is the exit status.
+fn done(rt: &HostRuntime, asked: Asked<'_>) -> u8 {
+    match asked {
+        Asked::Show {
+            request,
+            files,
+            output,
+        } => show_all(rt, &request, files.as_slice(), output),
+        Asked::Report { report, files } => report_all(rt, &report, files.as_slice()),
+        Asked::Salvage {
+            file,
+            letters,
+            output,
+        } => finish(rt, file, salvage_file(rt, file, letters, output)),
+        Asked::View { view, file, output } => finish(
             rt,
             file,
-            unpack_file(rt, &unpacking, file),
+            use_table(rt, file, &Viewing { view, output }),
         ),
-        Ok(Asked::Change(work)) => work::work(rt, work),
-        Ok(Asked::Tell(text)) => tell(rt, &text),
-        Err(error) => tell_bad_words(rt, &error),
+        Asked::Unpack { unpacking, file } => finish(rt, file, use_table(rt, file, &unpacking)),
+        Asked::Change(work) => work::work(rt, work),
+        Asked::Tell(text) => tell(rt, text),
     }
 }
 
@@ -87,10 +82,7 @@ fn show_all(rt: &HostRuntime, request: &Request, files: &[&str], output: Option<
         if files.len() > 1 && println!(rt; "{file}:").is_err() {
             return CANT_GO_ON;
         }
-        if let Err(problem) = show(rt, request, file, output) {
-            tell_problem(rt, file, &problem);
-            status = status.max(problem.status());
-        }
+        status = status.max(finish(rt, file, show(rt, request, file, output)));
     }
     status
 }
@@ -101,17 +93,18 @@ fn show(
     request: &Request,
     file: &str,
     output: Option<&str>,
-) -> Result<(), Problem> {
-    let alloc = rt.alloc();
-    if output.is_none() && request.is_for_files() && rt.stdout().is_terminal() {
-        return Err(Problem::Terminal);
-    }
+) -> Result<u8, Problem> {
     let Some(output) = output else {
-        return write_answer(rt, request, file, &mut rt.stdout());
+        if request.is_for_files() && rt.stdout().is_terminal() {
+            return Err(Problem::Terminal);
+        }
+        write_answer(rt, request, file, &mut rt.stdout())?;
+        return Ok(DONE);
     };
-    let mut text = Vec::new(alloc);
+    let mut text = Vec::new(rt.alloc());
     write_answer(rt, request, file, &mut text)?;
-    save_to(rt, output, text.as_slice())
+    save_to(rt, output, text.as_slice())?;
+    Ok(DONE)
 }
 
 /// Writes what is asked for of the file of this name.
@@ -121,7 +114,7 @@ fn write_answer<W: Write>(
     file: &str,
     output: &mut W,
 ) -> Result<(), Problem> {
-    if let Some(shown) = answer_of_large::<Unknown, W>(rt, request, file, output) {
+    if let Some(shown) = answer_by_parts::<Unknown, W>(rt, request, file, output) {
         return shown.map_err(|failure| Problem::Refused(Refusal::Show(failure)));
     }
     let alloc = rt.alloc();
@@ -134,19 +127,24 @@ fn write_answer<W: Write>(
 
 /// Reports on each of these files, and tells why of some nothing is told. The result is the highest status of them.
 fn report_all(rt: &HostRuntime, report: &Report, files: &[&str]) -> u8 {
-    let form = report.form();
+    let is_text = matches!(report.form(), Form::Text);
     let mut status = DONE;
     for file in files {
-        if let Form::Text = form
-            && files.len() > 1
-            && println!(rt; "{file}:").is_err()
-        {
+        if is_text && files.len() > 1 && println!(rt; "{file}:").is_err() {
             return CANT_GO_ON;
         }
-        let told = report_file(rt, report, file);
-        status = status.max(finish(rt, file, print_told(rt, form, file, told)));
+        status = status.max(finish(rt, file, report_one(rt, report, file)));
     }
     status
+}
+
+/// Reports on the file of this name. The result is its status, or why nothing is told.
+fn report_one(rt: &HostRuntime, report: &Report, file: &str) -> Result<u8, Problem> {
+    match report_file(rt, report, file) {
+        Ok(told) => print_told(rt, &told),
+        Err(problem) if matches!(report.form(), Form::Json) => Err(refused(rt, file, problem)),
+        Err(problem) => Err(problem),
+    }
 }
 
 /// What is told of the file of this name.
@@ -155,7 +153,7 @@ fn report_file(rt: &HostRuntime, report: &Report, file: &str) -> Result<Told, Pr
         kinds,
         shown: Bytes::Hidden,
     } = report
-        && let Some(line) = list_of_large::<Unknown>(rt, file, kinds.as_slice())
+        && let Some(line) = list_by_parts::<Unknown>(rt, file, kinds.as_slice())
     {
         return Ok(Told::whole(line?));
     }
@@ -163,27 +161,21 @@ fn report_file(rt: &HostRuntime, report: &Report, file: &str) -> Result<Told, Pr
     Ok(report_on(rt.alloc(), report, file, &bytes)?)
 }
 
-/// Writes what is told of a file. The result is its status, or why nothing is told.
-fn print_told(
-    rt: &HostRuntime,
-    form: Form,
-    file: &str,
-    told: Result<Told, Problem>,
-) -> Result<u8, Problem> {
-    match told {
-        Ok(Told { text, is_damaged }) => {
-            write_text(rt, &text)?;
-            Ok(if is_damaged { NO_FORK } else { DONE })
-        }
-        Err(problem) => {
-            if let Form::Json = form
-                && let Ok(line) = refusal_line(rt, file, &problem)
-            {
-                write_text(rt, &line)?;
-            }
-            Err(problem)
-        }
+/// Writes what is told of a file. The result is its status.
+fn print_told(rt: &HostRuntime, told: &Told) -> Result<u8, Problem> {
+    write_text(rt, &told.text)?;
+    Ok(if told.is_damaged { NO_FORK } else { DONE })
+}
+
+/// Writes as JSON why nothing is told of a file, which is what is in the way then, unless the line isn't written.
+fn refused(rt: &HostRuntime, file: &str, problem: Problem) -> Problem {
+    if let Ok(line) = refusal_line(rt, file, &problem)
+        && let Err(unprinted) = write_text(rt, &line)
+    {
+        drop(problem);
+        return unprinted;
     }
+    problem
 }
 
 /// The line of JSON for a file that isn't shown.
@@ -205,7 +197,9 @@ fn finish(rt: &HostRuntime, file: &str, done: Result<u8, Problem>) -> u8 {
         Ok(status) => status,
         Err(problem) => {
             tell_problem(rt, file, &problem);
-            problem.status()
+            let status = problem.status();
+            drop(problem);
+            status
         }
     }
 }
@@ -258,32 +252,51 @@ fn table_found<'a>(
     ))?)
 }
 
-/// Shows resources of the file of this name to people. A picture isn't written to a terminal.
-fn view_file(
-    rt: &HostRuntime,
-    view: &View,
-    file: &str,
-    output: Option<&str>,
-) -> Result<u8, Problem> {
-    let bytes = read(rt, file).map_err(Problem::Read)?;
-    let found = fork_found(rt, &bytes)?;
-    let table = table_found(rt, &found, &bytes)?;
-    let sight = sight_of(rt.alloc(), view, table.rows.as_slice()).map_err(Problem::View)?;
-    match output {
-        Some(output) => save_to(rt, output, sight.bytes.as_slice())?,
-        None if sight.is_picture && rt.stdout().is_terminal() => return Err(Problem::Terminal),
-        None => rt.stdout().write_all(&sight.bytes).map_err(Problem::Print)?,
-    }
-    Ok(DONE)
+/// Something that is done with the table of a file's resource fork.
+pub trait TableUse {
+    /// Does it. The result is the exit status.
+    fn done(&self, rt: &HostRuntime, bytes: &[u8], table: &Table<'_>) -> Result<u8, Problem>;
 }
 
-/// Writes the resources of the file of this name to a folder.
-fn unpack_file(rt: &HostRuntime, unpacking: &Unpacking<'_>, file: &str) -> Result<u8, Problem> {
+/// Does something with the table of the file of this name.
+pub fn use_table<U: TableUse>(rt: &HostRuntime, file: &str, table_use: &U) -> Result<u8, Problem> {
     let bytes = read(rt, file).map_err(Problem::Read)?;
-    let found = fork_found(rt, &bytes)?;
-    let table = table_found(rt, &found, &bytes)?;
-    unpack(rt, unpacking, &bytes, &table).map_err(Problem::Unpack)?;
-    Ok(DONE)
+    use_table_in(rt, &bytes, table_use)
+}
+
+/// Does something with the table of the resource fork in these bytes.
+fn use_table_in<U: TableUse>(rt: &HostRuntime, bytes: &[u8], table_use: &U) -> Result<u8, Problem> {
+    let found = fork_found(rt, bytes)?;
+    let table = table_found(rt, &found, bytes)?;
+    table_use.done(rt, bytes, &table)
+}
+
+/// Resources are shown to people, in a file of this name or on the standard output.
+#[derive(Drop)]
+struct Viewing<'a> {
+    view: View,
+    output: Option<&'a str>,
+}
+
+impl TableUse for Viewing<'_> {
+    /// A picture isn't written to a terminal.
+    fn done(&self, rt: &HostRuntime, _bytes: &[u8], table: &Table<'_>) -> Result<u8, Problem> {
+        let sight = sight_of(rt.alloc(), &self.view, table.rows.as_slice()).map_err(Problem::View)?;
+        match self.output {
+            Some(output) => save_to(rt, output, sight.bytes.as_slice())?,
+            None if sight.is_picture && rt.stdout().is_terminal() => return Err(Problem::Terminal),
+            None => rt.stdout().write_all(&sight.bytes).map_err(Problem::Print)?,
+        }
+        Ok(DONE)
+    }
+}
+
+impl TableUse for Unpacking<'_> {
+    /// The resources are written to a folder.
+    fn done(&self, rt: &HostRuntime, bytes: &[u8], table: &Table<'_>) -> Result<u8, Problem> {
+        unpack(rt, self, bytes, table).map_err(Problem::Unpack)?;
+        Ok(DONE)
+    }
 }
 
 /// The bytes of the file of this name, or of the standard input.
@@ -298,7 +311,7 @@ fn read(rt: &HostRuntime, file: &str) -> io::Result<Vec<u8>> {
 }
 
 /// Writes the help or the version. The result is the exit status.
-fn tell(rt: &HostRuntime, text: &clap::Error) -> u8 {
+fn tell(rt: &HostRuntime, text: clap::Error) -> u8 {
     match print!(rt; "{text}") {
         Ok(()) => DONE,
         Err(_) => CANT_GO_ON,

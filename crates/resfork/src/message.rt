@@ -1,6 +1,5 @@
 //! What is told on the standard error, and the exit statuses.
 
-use crate::asked::NotAsked;
 use file_replace::NotReplaced;
 use fork_answer::Failure;
 use fork_change::row::ResourceId;
@@ -11,14 +10,15 @@ use fork_list::KindText;
 use fork_report::Refusal;
 use fork_rez::fault::RezFault;
 use fork_view::{NotShown, NotUnpacked};
+use fork_words::asked::NotAsked;
 use mac_base::error::HostFull;
 use mac_base::resource::ResType;
 use mac_files::archive::Archive;
 use mac_text::letters::Letters;
 use std::alloc::{AllocError, Global};
-use std::io;
+use std::fmt::Display;
 use std::io::ErrorKind;
-use thiserror::Error;
+use std::{fmt, io};
 
 /// The exit status where all was done.
 pub const DONE: u8 = 0;
@@ -36,86 +36,91 @@ pub const NO_FORK: u8 = 3;
 pub const CANT_GO_ON: u8 = 4;
 
 /// Why a file isn't shown, or not all of it.
-#[derive(Debug, Drop, Error)]
+#[derive(Drop)]
 pub enum Problem {
     /// The file can't be read.
-    #[error("can't be read: {0}")]
     Read(io::Error),
     /// What it holds can't be shown.
-    #[error("{0}")]
     Refused(Refusal),
     /// The file of this name isn't written.
-    #[error("{error}")]
     Output { path: String, error: NotReplaced },
     /// It is changed, but the standard output takes no more.
-    #[error("it is changed, but what changed can't be told: {0}")]
     Said(io::Error),
     /// No resource that is to be copied has this type.
-    #[error("there is no such resource")]
     NoKind(ResType),
     /// Two resources that are copied have one type and id.
-    #[error("two of these resources have one type and id: copy them one by one, by get and put")]
     Twice,
     /// A file that is there has more than a resource fork.
-    #[error("it is there, and is more than a resource fork, which would be lost: name another file")]
     Container(String),
     /// The standard output takes no more.
-    #[error("the output can't be written: {0}")]
     Print(io::Error),
     /// Its resources can't be shown so.
-    #[error("{0}")]
     View(NotShown),
     /// Not all of its resources are written to a folder.
-    #[error("{0}")]
     Unpack(NotUnpacked),
     /// A file isn't replaced.
-    #[error("{0}")]
     Replace(NotReplaced),
     /// Its resources aren't changed.
-    #[error("{0}")]
     Edit(fork_change::Refusal),
     /// A file with these resources isn't written.
-    #[error("not written: {0}")]
     Write(NotWritten),
     /// A file that belongs to it can't be read.
-    #[error("{path} can't be read: {error}")]
     Unread { path: String, error: io::Error },
     /// A text says no resources.
-    #[error("{0}")]
     Rez(RezFault),
     /// A folder isn't one to which resources were unpacked.
-    #[error("{0}")]
     Pack(PackFault),
     /// A resource stands apart from one before it of its type.
-    #[error("{0} stands apart from the other resources of its type: put those of one type together")]
     Apart(String),
     /// A file of a folder is no text.
-    #[error("{0} is no UTF-8 text")]
     NoText(String),
     /// A container can't hold these things of the file.
-    #[error("{0} would be lost; --lossy leaves it out")]
     Lost(String),
     /// Its data fork would be lost.
-    #[error("its data fork would be lost; --data FILE writes it to a file of its own")]
     DataLost,
     /// `--data` names a file where none is read or written.
-    #[error("--data names the file of a data fork that stands alone, and there is none here")]
     NoDataFile,
     /// Two files that are written are one.
-    #[error("the data fork would take the place of the file that is written")]
     OneFile,
     /// The container can't hold it.
-    #[error("not written: {0}")]
     Convert(mac_write::refusal::Refusal),
     /// There is no such file.
-    #[error("there is no such file; --create makes a new one")]
     NoFile,
     /// The host has no memory.
-    #[error("the host has no memory")]
     HostFull,
     /// The standard output is a terminal.
-    #[error("the bytes of a resource aren't for a terminal: name a file with -o OUT, or pipe them on")]
     Terminal,
+}
+
+impl fmt::Display for Problem {
+    fn fmt<W: fmt::Write>(&self, f: &mut fmt::Formatter<W>) -> fmt::Result {
+        match self {
+            Problem::Read(shown) => write!(f, "can't be read: {shown}"),
+            Problem::Refused(shown) => shown.fmt(f),
+            Problem::Output { error, .. } => error.fmt(f),
+            Problem::Said(shown) => write!(
+                f,
+                "it is changed, but what changed can't be told: {shown}"
+            ),
+            Problem::Print(shown) => write!(f, "the output can't be written: {shown}"),
+            Problem::View(shown) => shown.fmt(f),
+            Problem::Unpack(shown) => shown.fmt(f),
+            Problem::Replace(shown) => shown.fmt(f),
+            Problem::Edit(shown) => shown.fmt(f),
+            Problem::Write(shown) => write!(f, "not written: {shown}"),
+            Problem::Unread { path, error } => write!(f, "{path} can't be read: {error}"),
+            Problem::Rez(shown) => shown.fmt(f),
+            Problem::Pack(shown) => shown.fmt(f),
+            Problem::Apart(shown) => write!(
+                f,
+                "{shown} stands apart from the other resources of its type: put those of one type together"
+            ),
+            Problem::NoText(shown) => write!(f, "{shown} is no UTF-8 text"),
+            Problem::Lost(shown) => write!(f, "{shown} would be lost; --lossy leaves it out"),
+            Problem::Convert(shown) => write!(f, "not written: {shown}"),
+            problem => f.write_str(problem.text()),
+        }
+    }
 }
 
 impl From<AllocError> for Problem {
@@ -147,18 +152,32 @@ fn status_of_refusal(refusal: &Refusal) -> u8 {
     match refusal {
         Refusal::Show(Failure::NotFound) => NOT_FOUND,
         Refusal::Show(Failure::HostFull) | Refusal::Show(Failure::Write(_)) => CANT_GO_ON,
-        Refusal::Show(Failure::Fork(_))
-        | Refusal::Show(Failure::NoFork(_))
-        | Refusal::Container { .. }
-        | Refusal::Archive(_)
-        | Refusal::Damaged { .. }
-        | Refusal::Nothing
-        | Refusal::TooMuch
-        | Refusal::Unknown(_) => NO_FORK,
+        _ => NO_FORK,
     }
 }
 
 impl Problem {
+    /// What is said of a problem of which no more is known.
+    fn text(&self) -> &'static str {
+        match self {
+            Problem::NoKind(_) => "there is no such resource",
+            Problem::Twice =>
+                "two of these resources have one type and id: copy them one by one, by get and put",
+            Problem::Container(_) =>
+                "it is there, and is more than a resource fork, which would be lost: name another file",
+            Problem::DataLost =>
+                "its data fork would be lost; --data FILE writes it to a file of its own",
+            Problem::NoDataFile =>
+                "--data names the file of a data fork that stands alone, and there is none here",
+            Problem::OneFile => "the data fork would take the place of the file that is written",
+            Problem::NoFile => "there is no such file; --create makes a new one",
+            Problem::HostFull => "the host has no memory",
+            Problem::Terminal =>
+                "the bytes of a resource aren't for a terminal: name a file with -o OUT, or pipe them on",
+            _ => "",
+        }
+    }
+
     /// Why this file isn't changed.
     pub fn of_change(alloc: Global, fault: NotChanged, file: &[u8]) -> Problem {
         match fault {
@@ -168,6 +187,14 @@ impl Problem {
             NotChanged::Edit(refusal) => Problem::Edit(refusal),
             NotChanged::Write(fault) => Problem::Write(fault),
             NotChanged::HostFull => Problem::HostFull,
+        }
+    }
+
+    /// The problem, where a file is changed already.
+    pub fn after_change(self) -> Problem {
+        match self {
+            Problem::Print(error) => Problem::Said(error),
+            problem => problem,
         }
     }
 
@@ -186,29 +213,12 @@ impl Problem {
             | Problem::View(NotShown::NoPicture)
             | Problem::View(NotShown::NoText)
             | Problem::View(NotShown::ManyPictures) => BAD_WORDS,
-            Problem::Read(_)
-            | Problem::Output { .. }
-            | Problem::Said(_)
-            | Problem::Container(_)
-            | Problem::Unpack(_)
-            | Problem::View(NotShown::HostFull)
-            | Problem::Print(_)
-            | Problem::Edit(fork_change::Refusal::HostFull)
-            | Problem::Edit(fork_change::Refusal::NoFreeId)
-            | Problem::Write(_)
-            | Problem::Replace(_)
-            | Problem::Unread { .. }
-            | Problem::NoFile
-            | Problem::Lost(_)
-            | Problem::DataLost
-            | Problem::Convert(_)
-            | Problem::Rez(RezFault::HostFull)
-            | Problem::Pack(PackFault::HostFull)
-            | Problem::HostFull => CANT_GO_ON,
+            Problem::Pack(PackFault::HostFull) => CANT_GO_ON,
             Problem::Rez(RezFault::Refused(_))
             | Problem::Pack(_)
             | Problem::Apart(_)
             | Problem::NoText(_) => NO_FORK,
+            _ => CANT_GO_ON,
         }
     }
 

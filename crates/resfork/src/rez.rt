@@ -3,10 +3,10 @@
 use crate::asked_change::Target;
 use crate::change::{say, write_output};
 use crate::message::{DONE, Problem};
-use crate::{fork_found, read, table_found};
+use crate::{TableUse, read, use_table};
 use fork_bytes::table::{Row, Table};
 use fork_edit::file::with_table;
-use fork_folder::manifest::manifest_of;
+use fork_folder::manifest::{Packing, manifest_of};
 use fork_folder::rows::{Entry, packed};
 use fork_rez::{derez, rez};
 use mac_base::resource::ResType;
@@ -23,16 +23,23 @@ use std::io::Write;
 /// The file that says what isn't in the files of the resources.
 const MANIFEST: &str = "resources.json";
 
+/// Resources of these types, or all where there are none, are written as a text.
+#[derive(Clone, Copy)]
+struct Derez<'a>(&'a [ResType]);
+
+impl TableUse for Derez<'_> {
+    fn done(&self, rt: &HostRuntime, _bytes: &[u8], table: &Table<'_>) -> Result<u8, Problem> {
+        let Ok(text) = derez(rt.alloc(), self.0, table) else {
+            return Err(Problem::HostFull);
+        };
+        rt.stdout().write_all(&text).map_err(Problem::Print)?;
+        Ok(DONE)
+    }
+}
+
 /// Writes resources of a file as a text.
 pub fn derez_file(rt: &HostRuntime, file: &str, kinds: &[ResType]) -> Result<u8, Problem> {
-    let bytes = read(rt, file).map_err(Problem::Read)?;
-    let found = fork_found(rt, &bytes)?;
-    let table = table_found(rt, &found, &bytes)?;
-    let Ok(text) = derez(rt.alloc(), kinds, &table) else {
-        return Err(Problem::HostFull);
-    };
-    rt.stdout().write_all(&text).map_err(Problem::Print)?;
-    Ok(DONE)
+    use_table(rt, file, &Derez(kinds))
 }
 
 /// Writes a fork of a text.
@@ -129,13 +136,8 @@ fn read_files(
     Ok(files)
 }
 
-/// Writes a fork of the files in a folder and what `resources.json` says of them, in a file like this one.
-pub fn pack_folder(
-    rt: &HostRuntime,
-    folder: &str,
-    like: &[u8],
-    target: &Target<'_>,
-) -> Result<u8, Problem> {
+/// What `resources.json` says of a folder.
+fn packing_of(rt: &HostRuntime, folder: &str) -> Result<Packing, Problem> {
     let alloc = rt.alloc();
     let path = format!(in alloc; "{folder}/{MANIFEST}")?;
     let text = match read(rt, path.as_str()) {
@@ -145,9 +147,19 @@ pub fn pack_folder(
     let Ok(text) = str::from_utf8(&text) else {
         return Err(Problem::NoText(path));
     };
-    let packing = manifest_of(alloc, text).map_err(Problem::Pack)?;
+    manifest_of(alloc, text).map_err(Problem::Pack)
+}
+
+/// Writes a fork of the files in a folder and what `resources.json` says of them, in a file like this one.
+pub fn pack_folder(
+    rt: &HostRuntime,
+    folder: &str,
+    like: &[u8],
+    target: &Target<'_>,
+) -> Result<u8, Problem> {
+    let packing = packing_of(rt, folder)?;
     let files = read_files(rt, folder, packing.entries.as_slice())?;
-    let rows = packed(alloc, packing.entries.as_slice(), &files).map_err(Problem::Pack)?;
+    let rows = packed(rt.alloc(), packing.entries.as_slice(), &files).map_err(Problem::Pack)?;
     let table = Table {
         rows,
         extra: packing.extra,

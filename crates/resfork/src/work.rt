@@ -3,9 +3,9 @@
 use crate::asked_change::{Putting, Target, Work};
 use crate::change::{change, create};
 use crate::convert::convert;
-use crate::message::{DONE, NOT_FOUND, Problem, tell_problem};
+use crate::message::{DONE, NOT_FOUND, Problem};
 use crate::rez::{derez_file, pack_folder, rez_file};
-use crate::{INPUT, fork_found, read, table_found, write_text};
+use crate::{INPUT, finish, fork_found, read, table_found, write_text};
 use fork_bytes::table::{Row, Table};
 use fork_change::{Choice, Collision, Refusal};
 use fork_edit::difference::text_of;
@@ -25,10 +25,7 @@ struct Failed<'a> {
 pub fn work(rt: &HostRuntime, work: Work<'_>) -> u8 {
     match done(rt, work) {
         Ok(status) => status,
-        Err(Failed { file, problem }) => {
-            tell_problem(rt, file, &problem);
-            problem.status()
-        }
+        Err(Failed { file, problem }) => finish(rt, file, Err(problem)),
     }
 }
 

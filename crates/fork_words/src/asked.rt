@@ -1,7 +1,8 @@
 //! The words of the command line.
 
-use crate::asked_change::{Work, work_of};
-use crate::command::command;
+use crate::command::program;
+use crate::fault::Fault;
+use crate::work::{Work, work_of};
 use clap::ArgMatches;
 use clap::error::ErrorKind;
 use fork_answer::request::{Choice, Request};
@@ -14,7 +15,7 @@ use mac_text::bytes_of;
 use mac_text::letters::Letters;
 use std::alloc::{AllocError, Global};
 use std::convert::AsStr;
-use thiserror::Error;
+use std::fmt;
 
 /// What the words ask for.
 #[derive(Drop)]
@@ -54,53 +55,24 @@ pub enum Asked<'a> {
 }
 
 /// Why the words ask for nothing.
-#[derive(Debug, Drop, Error)]
+#[derive(Drop)]
 pub enum NotAsked {
     /// A word is no option, or an operand is missing.
-    #[error("{0}")]
     Words(clap::Error),
-    /// There is no command.
-    #[error("error: no such command; see 'resfork --help'\n")]
-    NoCommand,
-    /// A type is none.
-    #[error("error: a type has four bytes, as TEXT or 'STR '; write it as resfork ls shows it, with \\xHH for a byte that isn't a letter\n")]
-    NoType,
-    /// A resource is named by nothing that may be an id or a name.
-    #[error("error: a resource is named by its id, from -32768 to 32767, or by its name, as resfork ls shows it, with \\xHH for a byte that isn't a letter\n")]
-    NoKey,
-    /// What `--data` has is no form of bytes, or the list isn't of JSON.
-    #[error("error: --data takes base64, and goes with --json\n")]
-    NoData,
-    /// A list of types has no form in JSON.
-    #[error("error: --types doesn't go with --json\n")]
-    NoTypesJson,
-    /// A resource's id is none.
-    #[error("error: an id is a number from -32768 to 32767\n")]
-    NoId,
-    /// The standard input is named twice.
-    #[error("error: the standard input can be read once: name a file in place of one -\n")]
-    TwoInputs,
-    /// What is read from the standard input has no place.
-    #[error("error: what is read from the standard input is written to the file that -o names\n")]
-    NoOutput,
-    /// A name is too long.
-    #[error("error: a name has at most 255 bytes\n")]
-    LongName,
-    /// Attributes are none.
-    #[error("error: --attrs takes words of sysHeap, purgeable, locked, protected, preload, changed, bit7 and bit0 with commas between them, or - for none; or +WORD and -WORD with commas between them\n")]
-    NoAttributes,
-    /// What `--nth` has is no count from 1 on.
-    #[error("error: --nth takes a count from 1 on\n")]
-    NoCount,
-    /// What `--to` has is no container.
-    #[error("error: --to takes raw, appledouble, applesingle, macbinary or binhex\n")]
-    NoContainer,
-    /// What `--as` has is no form.
-    #[error("error: --as takes text, hex or png\n")]
-    NoForm,
+    /// A word isn't what it has to be.
+    Fault(Fault),
     /// The host has no memory for the words.
-    #[error("error: the host has no memory\n")]
     HostFull,
+}
+
+impl fmt::Display for NotAsked {
+    fn fmt<W: fmt::Write>(&self, f: &mut fmt::Formatter<W>) -> fmt::Result {
+        match self {
+            NotAsked::Words(error) => write!(f, "{error}"),
+            NotAsked::Fault(fault) => writeln!(f, "error: {text}", text = fault.text()),
+            NotAsked::HostFull => writeln!(f, "error: the host has no memory"),
+        }
+    }
 }
 
 impl From<AllocError> for NotAsked {
@@ -109,42 +81,39 @@ impl From<AllocError> for NotAsked {
     }
 }
 
+impl From<Fault> for NotAsked {
+    fn from(fault: Fault) -> NotAsked {
+        NotAsked::Fault(fault)
+    }
+}
+
 /// What the words ask for, of which the first is the program's name.
 pub fn asked_by<'a, S: AsStr>(alloc: Global, words: &'a [S]) -> Result<Asked<'a>, NotAsked> {
-    let matches = match command(alloc)?.try_get_matches_from(words) {
-        Ok(matches) => matches,
-        Err(error) => return not_matched(error),
-    };
+    match program(alloc)?.try_get_matches_from(words) {
+        Ok(matches) => asked_of(alloc, &matches),
+        Err(error) => not_matched(error),
+    }
+}
+
+/// What the command asks for.
+fn asked_of<'a>(alloc: Global, matches: &ArgMatches<'a>) -> Result<Asked<'a>, NotAsked> {
     let Some((name, matches)) = matches.subcommand() else {
-        return Err(NotAsked::NoCommand);
+        return Err(NotAsked::Fault(Fault::NoCommand));
     };
     match name {
         "ls" => asked_to_list(alloc, matches),
         "get" => asked_to_get(alloc, matches),
-        "info" => Ok(Asked::Report {
-            report: Report::Info(form_of(matches)),
-            files: files_named(alloc, matches)?,
-        }),
-        "check" => Ok(Asked::Report {
-            report: Report::Check(form_of(matches)),
-            files: files_named(alloc, matches)?,
-        }),
-        "salvage" => Ok(Asked::Salvage {
-            file: matches.get_str("file").unwrap_or(""),
-            letters: letters_of(matches),
-            output: matches.get_str("output"),
-        }),
+        "info" => reported(alloc, Report::Info(form_of(matches)), matches),
+        "check" => reported(alloc, Report::Check(form_of(matches)), matches),
+        "salvage" => Ok(asked_to_salvage(matches)),
         "show" => asked_to_view(alloc, matches),
         "unpack" => asked_to_unpack(alloc, matches),
-        name => match work_of(alloc, name, matches)? {
-            Some(work) => Ok(Asked::Change(work)),
-            None => Err(NotAsked::NoCommand),
-        },
+        name => Ok(Asked::Change(work_of(alloc, name, matches)?)),
     }
 }
 
 /// The form in which something is told.
-pub fn form_of(matches: &ArgMatches<'_>) -> Form {
+pub(crate) fn form_of(matches: &ArgMatches<'_>) -> Form {
     if matches.get_flag("json") {
         Form::Json
     } else {
@@ -161,64 +130,98 @@ fn letters_of(matches: &ArgMatches<'_>) -> Letters {
     }
 }
 
+/// The value of an option or an operand that must be there.
+pub(crate) fn word<'a>(matches: &ArgMatches<'a>, name: &str) -> &'a str {
+    matches.get_str(name).unwrap_or("")
+}
+
 /// The files that a command names.
 fn files_named<'a>(alloc: Global, matches: &ArgMatches<'a>) -> Result<Vec<&'a str>, AllocError> {
     Vec::from_slice(alloc, matches.get_strs("file").unwrap_or(&[]))
 }
 
-/// What `ls` asks for.
-fn asked_to_list<'a>(alloc: Global, matches: &ArgMatches<'a>) -> Result<Asked<'a>, NotAsked> {
+/// A report on files.
+fn reported<'a>(
+    alloc: Global,
+    report: Report,
+    matches: &ArgMatches<'a>,
+) -> Result<Asked<'a>, NotAsked> {
     let files = files_named(alloc, matches)?;
-    let kinds = kinds_named(alloc, matches)?;
-    let shown = match (matches.get_str("data"), form_of(matches)) {
-        (None, _) => Bytes::Hidden,
-        (Some("base64"), Form::Json) => Bytes::Base64,
-        _ => return Err(NotAsked::NoData),
-    };
-    if let Form::Json = form_of(matches) {
-        if matches.get_flag("types") {
-            return Err(NotAsked::NoTypesJson);
-        }
-        return Ok(Asked::Report {
-            report: Report::List { kinds, shown },
-            files,
-        });
-    }
-    let letters = letters_of(matches);
-    let choice = Choice { letters, kinds };
-    let request = if matches.get_flag("types") {
-        Request::Types(choice)
-    } else {
-        Request::List(choice)
-    };
-    Ok(Asked::Show {
-        request,
-        files,
-        output: None,
-    })
+    Ok(Asked::Report { report, files })
 }
 
-/// What `get` asks for.
-fn asked_to_get<'a>(alloc: Global, matches: &ArgMatches<'a>) -> Result<Asked<'a>, NotAsked> {
+/// What `salvage` asks for.
+fn asked_to_salvage<'a>(matches: &ArgMatches<'a>) -> Asked<'a> {
+    Asked::Salvage {
+        file: word(matches, "file"),
+        letters: letters_of(matches),
+        output: matches.get_str("output"),
+    }
+}
+
+/// How `ls` shows the bytes of resources.
+fn bytes_shown(matches: &ArgMatches<'_>) -> Result<Bytes, Fault> {
+    let is_json = matches.get_flag("json");
+    let shown = match matches.get_str("data") {
+        None => Bytes::Hidden,
+        Some("base64") if is_json => Bytes::Base64,
+        Some(_) => return Err(Fault::NoData),
+    };
+    if is_json && matches.get_flag("types") {
+        return Err(Fault::NoTypesJson);
+    }
+    Ok(shown)
+}
+
+/// What is shown of files.
+fn shown<'a>(
+    alloc: Global,
+    request: Request,
+    matches: &ArgMatches<'a>,
+) -> Result<Asked<'a>, NotAsked> {
     let files = files_named(alloc, matches)?;
-    let kind = kind_named(alloc, matches.get_str("type").unwrap_or(""))?;
-    let key = key_named(alloc, matches.get_str("key").unwrap_or(""))?;
-    let nth = nth_named(matches.get_str("nth").unwrap_or("1"))?;
-    let wanted = Wanted { kind, key, nth };
     Ok(Asked::Show {
-        request: Request::Get(wanted),
+        request,
         files,
         output: matches.get_str("output"),
     })
 }
 
+/// What `ls` asks for.
+fn asked_to_list<'a>(alloc: Global, matches: &ArgMatches<'a>) -> Result<Asked<'a>, NotAsked> {
+    let kinds = kinds_named(alloc, matches)?;
+    let shown_bytes = bytes_shown(matches)?;
+    if let Form::Json = form_of(matches) {
+        let report = Report::List {
+            kinds,
+            shown: shown_bytes,
+        };
+        return reported(alloc, report, matches);
+    }
+    let letters = letters_of(matches);
+    let choice = Choice { letters, kinds };
+    if matches.get_flag("types") {
+        shown(alloc, Request::Types(choice), matches)
+    } else {
+        shown(alloc, Request::List(choice), matches)
+    }
+}
+
+/// What `get` asks for.
+fn asked_to_get<'a>(alloc: Global, matches: &ArgMatches<'a>) -> Result<Asked<'a>, NotAsked> {
+    let kind = kind_named(alloc, word(matches, "type"))?;
+    let key = key_named(alloc, word(matches, "key"))?;
+    let nth = nth_named(matches.get_str("nth").unwrap_or("1"))?;
+    shown(alloc, Request::Get(Wanted { kind, key, nth }), matches)
+}
+
 /// The form that `--as` names.
-fn shown_as(word: &str) -> Result<ShowAs, NotAsked> {
+fn shown_as(word: &str) -> Result<ShowAs, Fault> {
     match word {
         "text" => Ok(ShowAs::Text),
         "hex" => Ok(ShowAs::Hex),
         "png" => Ok(ShowAs::Png),
-        _ => Err(NotAsked::NoForm),
+        _ => Err(Fault::NoForm),
     }
 }
 
@@ -244,7 +247,7 @@ fn asked_to_view<'a>(alloc: Global, matches: &ArgMatches<'a>) -> Result<Asked<'a
     let chosen = chosen_by(alloc, matches)?;
     Ok(Asked::View {
         view: View { chosen, form },
-        file: matches.get_str("file").unwrap_or(""),
+        file: word(matches, "file"),
         output: matches.get_str("output"),
     })
 }
@@ -255,14 +258,17 @@ fn asked_to_unpack<'a>(alloc: Global, matches: &ArgMatches<'a>) -> Result<Asked<
     Ok(Asked::Unpack {
         unpacking: Unpacking {
             kinds,
-            folder: matches.get_str("folder").unwrap_or(""),
+            folder: word(matches, "folder"),
         },
-        file: matches.get_str("file").unwrap_or(""),
+        file: word(matches, "file"),
     })
 }
 
 /// The types that `-t` names.
-pub fn kinds_named(alloc: Global, matches: &ArgMatches<'_>) -> Result<Vec<ResType>, NotAsked> {
+pub(crate) fn kinds_named(
+    alloc: Global,
+    matches: &ArgMatches<'_>,
+) -> Result<Vec<ResType>, NotAsked> {
     let mut kinds = Vec::new(alloc);
     for word in matches.get_strs("type").unwrap_or(&[]) {
         let kind = kind_named(alloc, word)?;
@@ -272,11 +278,11 @@ pub fn kinds_named(alloc: Global, matches: &ArgMatches<'_>) -> Result<Vec<ResTyp
 }
 
 /// The type that a word names.
-pub fn kind_named(alloc: Global, word: &str) -> Result<ResType, NotAsked> {
+pub(crate) fn kind_named(alloc: Global, word: &str) -> Result<ResType, NotAsked> {
     let Some(bytes) = bytes_of(alloc, word)? else {
-        return Err(NotAsked::NoType);
+        return Err(NotAsked::Fault(Fault::NoType));
     };
-    kind_of(bytes.as_slice()).ok_or(NotAsked::NoType)
+    kind_of(bytes.as_slice()).ok_or(NotAsked::Fault(Fault::NoType))
 }
 
 /// The id that a word names, or the name.
@@ -288,18 +294,18 @@ fn key_named(alloc: Global, word: &str) -> Result<Key, NotAsked> {
 }
 
 /// The name that a word shows.
-pub fn name_named(alloc: Global, word: &str) -> Result<Vec<u8>, NotAsked> {
+pub(crate) fn name_named(alloc: Global, word: &str) -> Result<Vec<u8>, NotAsked> {
     let Some(bytes) = bytes_of(alloc, word)? else {
-        return Err(NotAsked::NoKey);
+        return Err(NotAsked::Fault(Fault::NoKey));
     };
-    name_of(alloc, bytes.as_slice())?.ok_or(NotAsked::NoKey)
+    name_of(alloc, bytes.as_slice())?.ok_or(NotAsked::Fault(Fault::NoKey))
 }
 
 /// How many resources to pass over, by a word that counts from 1.
-fn nth_named(word: &str) -> Result<usize, NotAsked> {
+fn nth_named(word: &str) -> Result<usize, Fault> {
     match word.parse::<usize>() {
         Ok(nth) if nth > 0 => Ok(nth - 1),
-        _ => Err(NotAsked::NoCount),
+        _ => Err(Fault::NoCount),
     }
 }
 

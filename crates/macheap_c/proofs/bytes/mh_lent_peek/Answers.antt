@@ -1,7 +1,7 @@
 use Rattle.std.proofs.Common.{rules, ◌∙◌, Some}
 use Rattle.held_zone.specs.Told.{shown_outcome}
 use Rattle.held_zone.proofs.Shown.{bytes-shown, code-shown}
-use Rattle.macheap_c.proofs.lent.mh_lent_peek.Goals as goal
+use Rattle.macheap_c.proofs.bytes.mh_lent_peek.Goals as goal
 
 pub returns : goal.returns
 returns c =

@@ -1,7 +1,8 @@
 //! The words of the commands that change files, and of those that compare them.
 
 use crate::INPUT;
-use crate::asked::{NotAsked, form_of, kind_named, kinds_named, name_named};
+use crate::asked::{NotAsked, form_of, kind_named, kinds_named, name_named, word};
+use crate::fault::Fault;
 use bitflags::Flags;
 use clap::ArgMatches;
 use fork_change::row::{AttributeChange, Change, NameChange, ResourceId};
@@ -101,39 +102,47 @@ pub enum Work<'a> {
     Convert(Conversion<'a>),
 }
 
-/// What the words after this command ask for. None where it is no command that changes or compares files.
-pub fn work_of<'a>(
+/// What the words after this command ask for.
+pub(crate) fn work_of<'a>(
     alloc: Global,
     name: &str,
     matches: &ArgMatches<'a>,
-) -> Result<Option<Work<'a>>, NotAsked> {
-    let work = match name {
-        "put" => put(alloc, matches)?,
-        "rm" => remove(alloc, matches)?,
-        "set" => set(alloc, matches)?,
-        "cp" => copy(alloc, matches)?,
-        "diff" => compare(matches)?,
-        "derez" => Work::Derez {
-            file: word(matches, "file"),
-            kinds: kinds_named(alloc, matches)?,
-        },
-        "rez" => Work::Rez {
-            target: target_of(matches, word(matches, "file")),
-        },
-        "pack" => Work::Pack {
-            folder: word(matches, "folder"),
-            like: matches.get_str("like"),
-            target: target_of(matches, word(matches, "folder")),
-        },
-        "convert" => Work::Convert(asked_conversion(alloc, matches)?),
-        _ => return Ok(None),
-    };
-    Ok(Some(work))
+) -> Result<Work<'a>, NotAsked> {
+    match name {
+        "put" => put(alloc, matches),
+        "rm" => remove(alloc, matches),
+        "set" => set(alloc, matches),
+        "cp" => copy(alloc, matches),
+        "diff" => Ok(compare(matches)?),
+        "derez" => derez(alloc, matches),
+        "rez" => Ok(rez(matches)),
+        "pack" => Ok(pack(matches)),
+        "convert" => convert(alloc, matches),
+        _ => Err(NotAsked::Fault(Fault::NoCommand)),
+    }
 }
 
-/// The value of an option or an operand that must be there.
-fn word<'a>(matches: &ArgMatches<'a>, name: &str) -> &'a str {
-    matches.get_str(name).unwrap_or("")
+/// What `derez` asks for.
+fn derez<'a>(alloc: Global, matches: &ArgMatches<'a>) -> Result<Work<'a>, NotAsked> {
+    let kinds = kinds_named(alloc, matches)?;
+    let file = word(matches, "file");
+    Ok(Work::Derez { file, kinds })
+}
+
+/// What `rez` asks for.
+fn rez<'a>(matches: &ArgMatches<'a>) -> Work<'a> {
+    let target = target_of(matches, word(matches, "file"));
+    Work::Rez { target }
+}
+
+/// What `pack` asks for.
+fn pack<'a>(matches: &ArgMatches<'a>) -> Work<'a> {
+    let folder = word(matches, "folder");
+    Work::Pack {
+        folder,
+        like: matches.get_str("like"),
+        target: target_of(matches, folder),
+    }
 }
 
 /// How many letters a type has.
@@ -144,13 +153,16 @@ fn changed_target<'a>(
     matches: &ArgMatches<'a>,
     file: &'a str,
     other: &str,
-) -> Result<Target<'a>, NotAsked> {
+) -> Result<Target<'a>, Fault> {
     let target = target_of(matches, file);
-    if file == INPUT && other == INPUT {
-        return Err(NotAsked::TwoInputs);
+    if file != INPUT {
+        return Ok(target);
     }
-    if file == INPUT && target.output.is_none() && !target.is_dry {
-        return Err(NotAsked::NoOutput);
+    if other == INPUT {
+        return Err(Fault::TwoInputs);
+    }
+    if target.output.is_none() && !target.is_dry {
+        return Err(Fault::NoOutput);
     }
     Ok(target)
 }
@@ -160,37 +172,39 @@ fn target_of<'a>(matches: &ArgMatches<'a>, file: &'a str) -> Target<'a> {
     Target {
         file,
         output: matches.get_str("output"),
-        keeps_old: matches.contains_id("backup") && matches.get_flag("backup"),
+        keeps_old: matches.get_flag("backup"),
         is_dry: matches.get_flag("dry"),
         is_quiet: matches.get_flag("quiet"),
     }
 }
 
 /// The id that a word names.
-fn id_named(word: &str) -> Result<i16, NotAsked> {
+fn id_named(word: &str) -> Result<i16, Fault> {
     match word.parse::<i16>() {
         Ok(id) => Ok(id),
-        Err(_) => Err(NotAsked::NoId),
+        Err(_) => Err(Fault::NoId),
     }
 }
 
 /// The type and the id that two words name.
 fn resource_named(alloc: Global, kind: &str, id: &str) -> Result<ResourceId, NotAsked> {
-    Ok(ResourceId {
-        kind: kind_named(alloc, kind)?,
-        id: id_named(id)?,
-    })
+    let kind = kind_named(alloc, kind)?;
+    let id = id_named(id)?;
+    Ok(ResourceId { kind, id })
 }
 
 /// What becomes of a resource's name.
 fn name_change(alloc: Global, matches: &ArgMatches<'_>) -> Result<NameChange, NotAsked> {
+    if matches.get_flag("no-name") {
+        return Ok(NameChange::Clear);
+    }
     let Some(word) = matches.get_str("name") else {
         return Ok(NameChange::Keep);
     };
     let bytes = name_named(alloc, word)?;
     match Name::new(alloc, bytes.as_slice())? {
         Some(name) => Ok(NameChange::To(name)),
-        None => Err(NotAsked::LongName),
+        None => Err(NotAsked::Fault(Fault::LongName)),
     }
 }
 
@@ -249,11 +263,11 @@ fn bits_named(words: &str) -> Option<Bits> {
 }
 
 /// What becomes of a resource's attributes.
-fn attribute_change(matches: &ArgMatches<'_>) -> Result<AttributeChange, NotAsked> {
+fn attribute_change(matches: &ArgMatches<'_>) -> Result<AttributeChange, Fault> {
     let bits = match matches.get_str("attrs") {
         None => Bits { take: 0, add: 0 },
         Some("-") => Bits { take: 255, add: 0 },
-        Some(words) => bits_named(words).ok_or(NotAsked::NoAttributes)?,
+        Some(words) => bits_named(words).ok_or(Fault::NoAttributes)?,
     };
     Ok(AttributeChange {
         take: ResAttrs::from_bits_retain(bits.take),
@@ -263,62 +277,67 @@ fn attribute_change(matches: &ArgMatches<'_>) -> Result<AttributeChange, NotAske
 
 /// What `put` asks for.
 fn put<'a>(alloc: Global, matches: &ArgMatches<'a>) -> Result<Work<'a>, NotAsked> {
-    let change = Change {
-        to: resource_named(alloc, word(matches, "type"), word(matches, "id"))?,
-        name: name_change(alloc, matches)?,
-        attributes: attribute_change(matches)?,
-    };
+    let to = resource_named(alloc, word(matches, "type"), word(matches, "id"))?;
+    let name = name_change(alloc, matches)?;
+    let attributes = attribute_change(matches)?;
+    let input = matches.get_str("input");
+    let target = changed_target(matches, word(matches, "file"), input.unwrap_or(INPUT))?;
     Ok(Work::Put(Putting {
-        change,
-        input: matches.get_str("input"),
+        change: Change {
+            to,
+            name,
+            attributes,
+        },
+        input,
         is_new: matches.get_flag("new"),
         creates: matches.get_flag("create"),
-        target: changed_target(
-            matches,
-            word(matches, "file"),
-            matches.get_str("input").unwrap_or(INPUT),
-        )?,
+        target,
     }))
 }
 
-/// What `rm` asks for.
-fn remove<'a>(alloc: Global, matches: &ArgMatches<'a>) -> Result<Work<'a>, NotAsked> {
-    let kind = kind_named(alloc, word(matches, "type"))?;
+/// The resources of a type whose ids these words name.
+fn resources_named(
+    alloc: Global,
+    kind: ResType,
+    words: &[&str],
+) -> Result<Vec<ResourceId>, NotAsked> {
     let mut whats = Vec::new(alloc);
-    for word in matches.get_strs("id").unwrap_or(&[]) {
+    for word in words {
         let id = id_named(word)?;
         whats
             .push(ResourceId { kind, id })
             .map_err(AllocError::from)?;
     }
-    Ok(Work::Remove {
-        whats,
-        target: changed_target(matches, word(matches, "file"), "")?,
-    })
+    Ok(whats)
+}
+
+/// What `rm` asks for.
+fn remove<'a>(alloc: Global, matches: &ArgMatches<'a>) -> Result<Work<'a>, NotAsked> {
+    let kind = kind_named(alloc, word(matches, "type"))?;
+    let whats = resources_named(alloc, kind, matches.get_strs("id").unwrap_or(&[]))?;
+    let target = changed_target(matches, word(matches, "file"), "")?;
+    Ok(Work::Remove { whats, target })
 }
 
 /// What `set` asks for.
 fn set<'a>(alloc: Global, matches: &ArgMatches<'a>) -> Result<Work<'a>, NotAsked> {
     let old_kind = word(matches, "old-type");
     let old_id = word(matches, "old-id");
-    let to = resource_named(
-        alloc,
-        matches.get_str("type").unwrap_or(old_kind),
-        matches.get_str("id").unwrap_or(old_id),
-    )?;
-    let name = if matches.get_flag("no-name") {
-        NameChange::Clear
-    } else {
-        name_change(alloc, matches)?
-    };
+    let kind = matches.get_str("type").unwrap_or(old_kind);
+    let id = matches.get_str("id").unwrap_or(old_id);
+    let to = resource_named(alloc, kind, id)?;
+    let name = name_change(alloc, matches)?;
+    let what = resource_named(alloc, old_kind, old_id)?;
+    let attributes = attribute_change(matches)?;
+    let target = changed_target(matches, word(matches, "file"), "")?;
     Ok(Work::Set {
-        what: resource_named(alloc, old_kind, old_id)?,
+        what,
         change: Change {
             to,
             name,
-            attributes: attribute_change(matches)?,
+            attributes,
         },
-        target: changed_target(matches, word(matches, "file"), "")?,
+        target,
     })
 }
 
@@ -334,11 +353,8 @@ fn choice_named(alloc: Global, word: &str) -> Result<Choice, NotAsked> {
     Ok(Choice::Kind(kind_named(alloc, word)?))
 }
 
-/// What `cp` asks for.
-fn copy<'a>(alloc: Global, matches: &ArgMatches<'a>) -> Result<Work<'a>, NotAsked> {
-    let [words @ .., file] = matches.get_strs("words").unwrap_or(&[]) else {
-        return Err(NotAsked::NoCommand);
-    };
+/// Which resources words of `cp` name: all where there are none.
+fn choices_named(alloc: Global, words: &[&str]) -> Result<Vec<Choice>, NotAsked> {
     let mut chosen = Vec::new(alloc);
     if words.is_empty() {
         chosen.push(Choice::All).map_err(AllocError::from)?;
@@ -347,7 +363,12 @@ fn copy<'a>(alloc: Global, matches: &ArgMatches<'a>) -> Result<Work<'a>, NotAske
         let choice = choice_named(alloc, word)?;
         chosen.push(choice).map_err(AllocError::from)?;
     }
-    let on_collision = if matches.get_flag("replace") {
+    Ok(chosen)
+}
+
+/// What becomes of a resource that is copied where its type and id are there.
+fn collision_of(matches: &ArgMatches<'_>) -> Collision {
+    if matches.get_flag("replace") {
         Collision::Replace
     } else if matches.get_flag("skip") {
         Collision::Skip
@@ -355,43 +376,50 @@ fn copy<'a>(alloc: Global, matches: &ArgMatches<'a>) -> Result<Work<'a>, NotAske
         Collision::Renumber
     } else {
         Collision::Refuse
+    }
+}
+
+/// What `cp` asks for.
+fn copy<'a>(alloc: Global, matches: &ArgMatches<'a>) -> Result<Work<'a>, NotAsked> {
+    let [words @ .., file] = matches.get_strs("words").unwrap_or(&[]) else {
+        return Err(NotAsked::Fault(Fault::NoCommand));
     };
+    let chosen = choices_named(alloc, words)?;
+    let from = word(matches, "from");
+    let target = changed_target(matches, file, from)?;
     Ok(Work::Copy {
-        from: word(matches, "from"),
+        from,
         chosen,
-        on_collision,
-        target: changed_target(matches, file, word(matches, "from"))?,
+        on_collision: collision_of(matches),
+        target,
     })
 }
 
 /// What `diff` asks for.
-fn compare<'a>(matches: &ArgMatches<'a>) -> Result<Work<'a>, NotAsked> {
+fn compare<'a>(matches: &ArgMatches<'a>) -> Result<Work<'a>, Fault> {
     let a = word(matches, "a");
     let b = word(matches, "b");
     if a == INPUT && b == INPUT {
-        return Err(NotAsked::TwoInputs);
+        return Err(Fault::TwoInputs);
     }
     let form = form_of(matches);
     Ok(Work::Compare { a, b, form })
 }
 
 /// The container that a word names.
-fn kind_of_container(word: &str) -> Result<Kind, NotAsked> {
+fn kind_of_container(word: &str) -> Result<Kind, Fault> {
     match word {
         "raw" => Ok(Kind::Raw),
         "appledouble" => Ok(Kind::AppleDouble),
         "applesingle" => Ok(Kind::AppleSingle),
         "macbinary" => Ok(Kind::MacBinary),
         "binhex" => Ok(Kind::BinHex),
-        _ => Err(NotAsked::NoContainer),
+        _ => Err(Fault::NoContainer),
     }
 }
 
 /// What `convert` asks for.
-fn asked_conversion<'a>(
-    alloc: Global,
-    matches: &ArgMatches<'a>,
-) -> Result<Conversion<'a>, NotAsked> {
+fn convert<'a>(alloc: Global, matches: &ArgMatches<'a>) -> Result<Work<'a>, NotAsked> {
     let name = match matches.get_str("name") {
         Some(word) => Some(name_named(alloc, word)?),
         None => None,
@@ -399,13 +427,14 @@ fn asked_conversion<'a>(
     let data = matches.get_str("data");
     let file = word(matches, "file");
     if file == INPUT && data == Some(INPUT) {
-        return Err(NotAsked::TwoInputs);
+        return Err(NotAsked::Fault(Fault::TwoInputs));
     }
-    Ok(Conversion {
-        kind: kind_of_container(word(matches, "to"))?,
+    let kind = kind_of_container(word(matches, "to"))?;
+    Ok(Work::Convert(Conversion {
+        kind,
         data,
         name,
         is_lossy: matches.get_flag("lossy"),
         target: target_of(matches, file),
-    })
+    }))
 }

@@ -136,21 +136,22 @@ fn has(text: &str, word: &str) -> bool {
     text.split(" ").any(|other| other == word)
 }
 
-/// The word of a line, where it is one of this command.
-fn word_of<'a>(line: &'a str, command: &str) -> Option<Word<'a>> {
-    let mut fields = line.splitn(8, ";");
-    if !has(fields.next()?, command) {
-        return None;
+/// The nth of so many fields of a line.
+fn field(line: &str, count: usize, n: usize) -> &str {
+    line.splitn(count, ";").nth(n).unwrap_or("")
+}
+
+/// The word of a line.
+fn word_of(line: &str) -> Word<'_> {
+    Word {
+        name: field(line, 8, 1),
+        short: field(line, 8, 2),
+        long: field(line, 8, 3),
+        value: field(line, 8, 4),
+        marks: field(line, 8, 5),
+        rival: field(line, 8, 6),
+        help: field(line, 8, 7),
     }
-    Some(Word {
-        name: fields.next()?,
-        short: fields.next()?,
-        long: fields.next()?,
-        value: fields.next()?,
-        marks: fields.next()?,
-        rival: fields.next()?,
-        help: fields.next()?,
-    })
 }
 
 /// The forms of an option, where it is one.
@@ -205,8 +206,9 @@ fn arg_of<'a>(alloc: Global, word: &Word<'a>) -> Result<Arg<'a>, AllocError> {
 }
 
 /// The command of a line, without words.
-fn bare_command<'a>(alloc: Global, name: &'a str, about: &'a str, long: &'a str) -> Command<'a> {
-    let command = Command::new(alloc, name).about(about);
+fn bare_command<'a>(alloc: Global, line: &'a str) -> Command<'a> {
+    let command = Command::new(alloc, field(line, 3, 0)).about(field(line, 3, 1));
+    let long = field(line, 3, 2);
     if long.is_empty() {
         command
     } else {
@@ -214,23 +216,39 @@ fn bare_command<'a>(alloc: Global, name: &'a str, about: &'a str, long: &'a str)
     }
 }
 
+/// A command with the word of a line, where it is one of its words.
+fn with_word<'a>(
+    alloc: Global,
+    command: Command<'a>,
+    name: &str,
+    line: &'a str,
+) -> Result<Command<'a>, AllocError> {
+    if !has(field(line, 8, 0), name) {
+        return Ok(command);
+    }
+    command.arg(arg_of(alloc, &word_of(line))?)
+}
+
 /// The command of a line.
 fn command_of<'a>(alloc: Global, line: &'a str) -> Result<Command<'a>, AllocError> {
-    let mut fields = line.splitn(3, ";");
-    let name = fields.next().unwrap_or("");
-    let about = fields.next().unwrap_or("");
-    let long = fields.next().unwrap_or("");
-    let mut command = bare_command(alloc, name, about, long);
-    for line in WORDS.lines() {
-        if let Some(word) = word_of(line, name) {
-            command = command.arg(arg_of(alloc, &word)?)?;
-        }
+    let mut command = bare_command(alloc, line);
+    for word in WORDS.lines() {
+        command = with_word(alloc, command, field(line, 3, 0), word)?;
     }
     Ok(command)
 }
 
+/// The program with the command of a line.
+fn with_command<'a>(
+    alloc: Global,
+    program: Command<'a>,
+    line: &'a str,
+) -> Result<Command<'a>, AllocError> {
+    program.subcommand(command_of(alloc, line)?)
+}
+
 /// The program, without commands.
-fn program<'a>(alloc: Global) -> Result<Command<'a>, AllocError> {
+fn bare_program<'a>(alloc: Global) -> Result<Command<'a>, AllocError> {
     Ok(
         Command::new(alloc, "resfork")
             .bin_name("resfork")?
@@ -243,10 +261,10 @@ fn program<'a>(alloc: Global) -> Result<Command<'a>, AllocError> {
 }
 
 /// The program, with its commands.
-pub fn command<'a>(alloc: Global) -> Result<Command<'a>, AllocError> {
-    let mut command = program(alloc)?;
+pub(crate) fn program<'a>(alloc: Global) -> Result<Command<'a>, AllocError> {
+    let mut program = bare_program(alloc)?;
     for line in COMMANDS.lines() {
-        command = command.subcommand(command_of(alloc, line)?)?;
+        program = with_command(alloc, program, line)?;
     }
-    Ok(command)
+    Ok(program)
 }

@@ -1,0 +1,10 @@
+//! What the words of resfork's command line ask for.
+#![tactic(auto)]
+
+pub mod asked;
+mod command;
+pub mod fault;
+pub mod work;
+
+/// The word for the standard input, in place of a file's name.
+pub const INPUT: &str = "-";
