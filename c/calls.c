@@ -603,6 +603,53 @@ static void two_zones(void) {
     ended(&other);
 }
 
+/* Large zones, with blocks of several megabytes: one of 24-bit blocks that ends where their addresses do, and one of 64 MB of
+ * 32-bit blocks that ends at the last multiple of 4. A block has its bytes and 8 or 12 more, and begins where the one before it
+ * ends; the first has the zone's address and 52. */
+static void large(void) {
+    enum { MAX = 8388608 };
+    const uint32_t low = 0x1000, high = 0xFBFFFFFC;
+    MhZone zone = MH_NO_ZONE;
+    uint32_t out = 7;
+    IS(mh_make_zone(&zone, low, 0xFFF000, 0xFFF000, 24), MH_PARAM_ERR);
+    IS(mh_make_zone(&zone, high, 0x4000000, 0x4000000, 32), MH_PARAM_ERR);
+    IS(mh_make_zone_large(&zone, low, 0xFFF000, 0xFFF004, 24), MH_PARAM_ERR);
+    IS(mh_make_zone_large(&zone, low, 4096, 0xFFF004, 24), MH_PARAM_ERR);
+    IS(mh_make_zone_large(&zone, high, 4096, 0x4000004, 32), MH_PARAM_ERR);
+    IS(mh_make_zone_large(&zone, low, 4096, 0x40000004, 32), MH_PARAM_ERR);
+    IS(mh_make_zone_large(&zone, low, 4096, 4096, 16), MH_PARAM_ERR);
+    IS(mh_end_zone(&zone), MH_PARAM_ERR);
+    IS(mh_make_zone_large(&zone, low, 0xFFF000, 0xFFF000, 24), MH_NO_ERR);
+    IS(mh_make_zone_large(&zone, low, 0xFFF000, 0xFFF000, 24), MH_PARAM_ERR);
+    uint32_t a = new_handle(&zone, 5000000), b = new_handle(&zone, 4000000), c = new_handle(&zone, 6000000);
+    poke(&zone, b, "move");
+    IS(mh_dispose_handle(&zone, a), MH_NO_ERR);
+    IS(new_handle(&zone, 6000000), 0x103C);
+    IS(mh_hlock(&zone, b), MH_NO_ERR);
+    IS(mh_hpurge(&zone, c), MH_NO_ERR);
+    IS(new_handle(&zone, 6500000), 0x1048);
+    IS(mh_get_handle_size(&zone, c, &out), MH_NIL_HANDLE_ERR);
+    IS(mh_move_hhi(&zone, 0x103C), MH_NO_ERR);
+    PEEKS(&zone, b, 0, "move");
+    MAPS(&zone, {0x1034, 264, MH_MASTER, 0, 256, 0}, {0x113C, 4000008, MH_REL, 0x1040, 4000000, MH_LOCK}, {0x3D1A44, 6500008, MH_REL, 0x1048, 6500000, 0},
+         {0xA048EC, 272780, MH_FREE, 0, 0, 0}, {0xA47278, 6000008, MH_REL, 0x103C, 6000000, 0});
+    ended(&zone);
+    IS(mh_make_zone_large(&zone, high, 0x4000000, 0x4000000, 32), MH_NO_ERR);
+    uint32_t p = new_ptr(&zone, MAX);
+    IS(p, 0xFC000148);
+    IS(new_handle(&zone, MAX), 0xFC00003C);
+    IS(mh_new_handle(&zone, MAX + 1, &out), MH_PARAM_ERR);
+    IS(mh_set_handle_size(&zone, 0xFC00003C, 8), MH_NO_ERR);
+    IS(mh_move_hhi(&zone, 0xFC00003C), MH_NO_ERR);
+    IS(mh_deref(&zone, 0xFC00003C, &out), MH_NO_ERR);
+    IS(out, 0xFFFFFFF4);
+    poke(&zone, 0xFC00003C, "the last");
+    PEEKS(&zone, 0xFC00003C, 0, "the last");
+    MAPS(&zone, {0xFC000030, 268, MH_MASTER, 0, 256, 0}, {0xFC00013C, MAX + 12, MH_PTR, p, MAX, 0}, {0xFC800148, 58719904, MH_FREE, 0, 0, 0},
+         {0xFFFFFFE8, 20, MH_REL, 0xFC00003C, 8, 0});
+    ended(&zone);
+}
+
 int main(void) {
     misuse();
     refused();
@@ -617,6 +664,7 @@ int main(void) {
     windows(32);
     images();
     two_zones();
+    large();
     printf("%d of %d checks differ\n", faults, checks);
     return faults != 0;
 }

@@ -18,6 +18,9 @@
  * mh_make_zone on a zone that is there, mh_end_zone twice (paramErr); any number as a handle, a pointer, a size, an
  * offset or an address, live or not. A zone that is forgotten keeps its memory: end it. All memory of the host is taken
  * by mh_make_zone.
+ *
+ * MACHEAP_VERSION is the version of both headers. While it begins with 0, the next one may change what is here: a program
+ * is then built anew.
  */
 #ifndef MACHEAP_H
 #define MACHEAP_H
@@ -25,6 +28,8 @@
 #include <stdbool.h>
 #include <stddef.h>
 #include <stdint.h>
+
+#define MACHEAP_VERSION "0.1.0"
 
 #ifdef __cplusplus
 extern "C" {
@@ -55,6 +60,10 @@ typedef struct MhZone {
  * of 4: size 1024 at least, limit 1048576 at most and size or at least 16 more, base $1000 at least, base + limit
  * $1000000 at most. `mode` is 24 or 32: blocks with headers of 8 or of 12 bytes. Else paramErr. */
 MhErr mh_make_zone(MhZone *zone, uint32_t base, uint32_t size, uint32_t limit, uint32_t mode);
+/* The same for a large zone. Only two bounds are other ones: limit 1073741824 at most, and base + limit $1000000 at most in
+ * mode 24, whose headers and master pointers have no more bits, and below 2^32 in mode 32. The host gives three and a half
+ * times the limit's bytes, with the index; most of it is touched only as blocks come to lie there. */
+MhErr mh_make_zone_large(MhZone *zone, uint32_t base, uint32_t size, uint32_t limit, uint32_t mode);
 /* Ends a zone. It is MH_NO_ZONE then, and may be made again. */
 MhErr mh_end_zone(MhZone *zone);
 

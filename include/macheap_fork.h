@@ -15,6 +15,8 @@
 #include <stddef.h>
 #include <stdint.h>
 
+#define MACHEAP_VERSION "0.1.0"
+
 #ifdef __cplusplus
 extern "C" {
 #endif

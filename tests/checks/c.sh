@@ -1,51 +1,65 @@
 #!/bin/sh
-# Runs the C programs of c/ over the static libraries that build_c.sh builds: the calls, whose answers are compared with what is there,
-# plainly and with the sanitizers over the C side; 100,000 random calls, of which macheap prints the same; a zone that the host has no
-# memory for; the example, in C and, where there is a compiler, in C++ and in Rust; a fork, of which resfork prints the same; and forks
-# whose bytes are known, written anew. Words: the programs macheap and resfork, and the libraries' folder. It needs a C compiler,
+# Runs the C programs of c/ over the library as it is installed. These are: the calls, whose answers are compared with what is there, over
+# the shared library, and over the other with the sanitizers over the C side; 100,000 random calls, of which macheap prints the same; a
+# zone that the host has no memory for, over c/heap.c, too; a fork, of which resfork prints the same; and forks whose bytes are known,
+# written anew. Next the examples in C, C++ and Rust (c/check.sh). Then that the library is small, shows the names of its headers and no
+# other, asks for nothing but the C library's memory, and is installed below DESTDIR as in its place; and that the crate in Rust declares
+# what the header does. Words: the programs macheap and resfork, and the folder of what build_c.sh built. It needs make, a C compiler,
 # Python, and the kit's C code for the heap (RATTLE_KIT: the kit's folder).
 set -e
 program=$(realpath "$1")
 lister=$(realpath "$2")
 folder=$(realpath "$3")
 top=$(cd "$(dirname "$0")/../.." && pwd)
-kit=${RATTLE_KIT:-/opt/rattle}
 room=$(mktemp -d)
 trap 'rm -rf "$room"' EXIT
-# built LIBRARY NAME FLAG..: the program of c/NAME.c
-built() {
-    library=$folder/lib$1.a
-    name=$2
-    shift 2
-    ${CC:-cc} -std=c11 -Wall -Wextra -Werror "$@" -I"$top/include" "$top/c/$name.c" "$library" "$kit/c/liblibc_c.a" -o "$room/$name"
+tree=$room/tree/usr
+made() {
+    make -s -C "$top/c" OUT="$room/out" LIBRARIES="$folder" "$@"
 }
-built macheap_c calls -O2
+# built NAME FLAG..: the program of c/NAME.c
+built() {
+    name=$1
+    shift
+    ${CC:-cc} -std=c11 -Wall -Wextra -Werror "$@" -I"$tree/include" "$top/c/$name.c" "$library" -o "$room/$name"
+}
+# same WHAT ONE OTHER
+same() {
+    [ "$2" = "$3" ] || { printf 'c.sh: %s:\n%s\nand not\n%s\n' "$@" && exit 1; }
+}
+made install PREFIX="$tree"
+library=$tree/lib/libmacheap.so
+built calls -O2 "-Wl,-rpath,$tree/lib"
 "$room/calls"
-built macheap_c calls -O1 -fsanitize=address,undefined
+library=$tree/lib/libmacheap.a
+built calls -O1 -fsanitize=address,undefined
 "$room/calls"
-built macheap_c random -O1 -fsanitize=address,undefined
+built random -O1 -fsanitize=address,undefined
 for seed in 1 2 3 4; do
     "$room/random" "$room/script" "$room/replies" $seed 25000
     "$program" --limit 8192 < "$room/script" | cmp - "$room/replies"
 done
-built macheap_c no_memory -O1 -fsanitize=address,undefined -Wl,--wrap=malloc
+built no_memory -O1 -fsanitize=address,undefined -Wl,--wrap=malloc
 "$room/no_memory"
-built macheap_c emulator -O2
-"$room/emulator" | cmp - "$top/c/emulator.output"
-if command -v c++ > /dev/null; then
-    c++ -x c++ -std=c++17 -Wall -Wextra -Werror -I"$top/include" -c "$top/c/emulator.c" -o "$room/emulator.o"
-    c++ "$room/emulator.o" "$library" "$kit/c/liblibc_c.a" -o "$room/emulator"
-    "$room/emulator" | cmp - "$top/c/emulator.output"
-else
-    echo "c.sh: there is no c++, so the example was not built in C++" >&2
-fi
-if command -v rustc > /dev/null; then
-    rustc --edition 2024 -O "$top/c/emulator.rs" -o "$room/emulator" -C link-arg="$library" -C link-arg="$kit/c/liblibc_c.a"
-    "$room/emulator" | cmp - "$top/c/emulator.output"
-else
-    echo "c.sh: there is no rustc, so the example was not built in Rust" >&2
-fi
-built fork_c forks -O1 -fsanitize=address,undefined
+made all OUT="$room/other" HEAP="$room/other/heap.o"
+library=$room/other/libmacheap.a
+built no_memory -O1 -fsanitize=address,undefined -Wl,--wrap=malloc
+"$room/no_memory"
+library=$tree/lib/libmacheap.a
+built forks -O1 -fsanitize=address,undefined
 "$room/forks" "$top/crates/resfork/data/sample.rsrc" > "$room/list"
 "$lister" ls --raw "$top/crates/resfork/data/sample.rsrc" | cmp - "$room/list"
 "$top/tests/run" --forks "$room/forks" written
+"$top/c/check.sh" "$tree"
+
+"$top/tests/checks/declared.py"
+declared=$(grep -oh '\bm[hf]_[a-z_]*(' "$tree"/include/*.h | tr -d '(' | sort -u)
+same 'the names of libmacheap.a' "$(nm -g --defined-only "$library" | awk 'NF == 3 { print $3 }' | sort)" "$declared"
+same 'the names of libmacheap.so' "$(nm -D --defined-only "$tree/lib/libmacheap.so" | awk '{ print $3 }' | sort)" "$declared"
+asked=$(nm -u "$library" | awk 'NF == 2 { print $2 }' | sort -u | grep -vxE 'malloc|realloc|free|memcpy|memmove|memset|memcmp|bcmp' || true)
+same 'what libmacheap.a asks for' "$asked" ''
+size=$(wc -c < "$library")
+[ "$size" -lt 400000 ] || { echo "c.sh: libmacheap.a has $size bytes" && exit 1; }
+made install PREFIX=/usr DESTDIR="$room/below"
+same 'what is installed below DESTDIR' "$(cd "$room/below/usr" && find . | sort)" "$(cd "$tree" && find . | sort)"
+echo "libmacheap.a has $size bytes and $(echo "$declared" | wc -l) functions"

@@ -1,0 +1,64 @@
+#!/bin/sh
+# check.sh PREFIX: builds the examples over the library that `make install PREFIX=..` put there, as pkg-config finds it, and compares what
+# they print: in C from C99 on, below valgrind too, and in C++ from C++11 on; by CMake; in Rust, by cargo, or else by rustc. It says which
+# tool is missing, and so what is skipped; where CI is set, a missing compiler is a failure.
+set -e
+tree=$(realpath "$1")
+cd "$(dirname "$0")"
+export PKG_CONFIG_PATH="$tree/lib/pkgconfig" LD_LIBRARY_PATH="$tree/lib"
+room=$(mktemp -d)
+trap 'rm -rf "$room"' EXIT
+cc=${CC:-cc}
+cxx=${CXX:-c++}
+strict="-Wall -Wextra -Wpedantic -Werror"
+# here TOOL: whether there is one
+here() {
+    command -v "$1" > /dev/null && return
+    echo "c/check.sh: there is no $1, so its part is skipped" >&2
+    return 1
+}
+compiler() {
+    here "$1" || [ -z "$CI" ] || exit 1
+    command -v "$1" > /dev/null
+}
+# prints COMMAND..: it prints what the example has to print
+prints() {
+    "$@" > "$room/printed"
+    cmp "$room/printed" emulator.output
+}
+flags=-I$tree/include
+shared="-L$tree/lib -lmacheap"
+if here pkg-config; then
+    flags=$(pkg-config --cflags macheap)
+    shared=$(pkg-config --libs macheap)
+fi
+# shellcheck disable=SC2086 # the flags are words
+{
+    for standard in c99 c11 c17 c2x; do
+        $cc -std=$standard $strict $flags -fsyntax-only -include macheap_fork.h emulator.c forks.c
+    done
+    $cc -std=c99 $strict -O2 $flags emulator.c $shared -o "$room/emulator"
+    readelf -d "$room/emulator" | grep -q 'NEEDED.*\[libmacheap.so.1\]'
+    prints "$room/emulator"
+    ! here valgrind || prints valgrind -q --leak-check=full --show-leak-kinds=all --errors-for-leak-kinds=all --error-exitcode=1 "$room/emulator"
+    if compiler "$cxx"; then
+        for standard in c++11 c++14 c++17 c++20; do
+            $cxx -x c++ -std=$standard $strict $flags -fsyntax-only -include macheap_fork.h emulator.c
+        done
+        $cxx -x c++ -std=c++11 $strict -O2 $flags -c emulator.c -o "$room/emulator.o"
+        $cxx "$room/emulator.o" "$tree/lib/libmacheap.a" -o "$room/emulator"
+        prints "$room/emulator"
+    fi
+}
+if here cmake && here pkg-config; then
+    cmake -S . -B "$room/cmake" > "$room/log" || { cat "$room/log" && exit 1; }
+    cmake --build "$room/cmake" > "$room/log" || { cat "$room/log" && exit 1; }
+    prints "$room/cmake/emulator"
+fi
+if here cargo && here pkg-config; then
+    (cd rust && CARGO_TARGET_DIR=$room/cargo cargo test --quiet --offline --locked)
+elif compiler rustc; then
+    rustc --edition 2024 --crate-type lib --crate-name macheap rust/src/lib.rs -o "$room/libmacheap.rlib"
+    rustc --edition 2024 --extern "macheap=$room/libmacheap.rlib" emulator.rs -L "$tree/lib" -l static=macheap -o "$room/emulator"
+    prints "$room/emulator"
+fi

@@ -1,0 +1,127 @@
+//! The classic Macintosh's Memory Manager over one heap zone. macheap(3) says what each call does.
+pub mod sys;
+
+use std::{error, fmt, ptr, slice};
+use sys::{MH_NO_ZONE, MhAnswer, MhAsk, MhBlock, MhCarried, MhWindow, MhZone};
+
+/// The code of a call that was refused, which has changed nothing else.
+#[derive(Clone, Copy, Debug, PartialEq, Eq)]
+pub struct OsErr(pub i16);
+
+impl fmt::Display for OsErr {
+    fn fmt(&self, f: &mut fmt::Formatter) -> fmt::Result {
+        write!(f, "OSErr {}", self.0)
+    }
+}
+
+impl error::Error for OsErr {}
+
+pub type Result<T> = std::result::Result<T, OsErr>;
+
+fn told(code: i16) -> Result<()> {
+    if code == 0 { Ok(()) } else { Err(OsErr(code)) }
+}
+
+/// A zone, which ends when it is dropped. Handles, pointers and addresses are numbers of its own; any number may be given.
+pub struct Zone(MhZone);
+
+// In each `unsafe` below the zone is this one alone, and each pointer leads to a value or to bytes of its own.
+impl Zone {
+    pub fn new(base: u32, size: u32, limit: u32, mode: u32) -> Result<Zone> {
+        let mut zone = Zone(MH_NO_ZONE);
+        told(unsafe { sys::mh_make_zone(&mut zone.0, base, size, limit, mode) })?;
+        Ok(zone)
+    }
+
+    pub fn peek(&mut self, block: u32, offset: u32, bytes: &mut [u8]) -> Result<()> {
+        told(unsafe { sys::mh_peek(&mut self.0, block, offset, bytes.as_mut_ptr(), bytes.len()) })
+    }
+
+    pub fn poke(&mut self, block: u32, offset: u32, bytes: &[u8]) -> Result<()> {
+        told(unsafe { sys::mh_poke(&mut self.0, block, offset, bytes.as_ptr(), bytes.len()) })
+    }
+
+    pub fn image(&mut self, bytes: &mut [u8]) -> Result<()> {
+        told(unsafe { sys::mh_image(&mut self.0, bytes.as_mut_ptr(), bytes.len()) })
+    }
+
+    /// The bytes of a lent block. No call is made on the zone while they are held.
+    pub fn window(&mut self, block: u32) -> Result<&mut [u8]> {
+        let mut window = MhWindow { start: ptr::null_mut(), length: 0 };
+        told(unsafe { sys::mh_window(&mut self.0, block, &mut window) })?;
+        Ok(unsafe { slice::from_raw_parts_mut(window.start, window.length) })
+    }
+}
+
+impl Drop for Zone {
+    fn drop(&mut self) {
+        unsafe { sys::mh_end_zone(&mut self.0) };
+    }
+}
+
+/// Declares functions of macheap.h, and makes a method of each: it returns the results, or the code if that isn't 0.
+macro_rules! calls {
+    ($($call:ident is $name:ident($($operand:ident: $kind:ty),*) $(-> $($result:ident: $type:ty),+)?;)*) => {
+        unsafe extern "C" {
+            $(fn $call(zone: &mut MhZone, $($operand: $kind,)* $($($result: &mut $type),+)?) -> i16;)*
+        }
+        #[allow(unused_parens)]
+        impl Zone {$(
+            pub fn $name(&mut self, $($operand: $kind),*) -> Result<($($($type),+)?)> {
+                $($(let mut $result = <$type>::default();)+)?
+                told(unsafe { $call(&mut self.0, $($operand,)* $($(&mut $result),+)?) })?;
+                Ok(($($($result),+)?))
+            }
+        )*}
+    };
+}
+
+calls! {
+    mh_new_handle is new_handle(size: u32) -> handle: u32;
+    mh_new_empty_handle is new_empty_handle() -> handle: u32;
+    mh_new_ptr is new_ptr(size: u32) -> pointer: u32;
+    mh_dispose_handle is dispose_handle(handle: u32);
+    mh_dispose_ptr is dispose_ptr(pointer: u32);
+    mh_empty_handle is empty_handle(handle: u32);
+    mh_set_handle_size is set_handle_size(handle: u32, size: u32);
+    mh_get_handle_size is get_handle_size(handle: u32) -> number: u32;
+    mh_set_ptr_size is set_ptr_size(pointer: u32, size: u32);
+    mh_get_ptr_size is get_ptr_size(pointer: u32) -> number: u32;
+    mh_reallocate_handle is reallocate_handle(handle: u32, size: u32);
+    mh_hlock is hlock(handle: u32);
+    mh_hunlock is hunlock(handle: u32);
+    mh_hpurge is hpurge(handle: u32);
+    mh_hno_purge is hno_purge(handle: u32);
+    mh_hset_rbit is hset_rbit(handle: u32);
+    mh_hclr_rbit is hclr_rbit(handle: u32);
+    mh_hget_state is hget_state(handle: u32) -> number: u32;
+    mh_hset_state is hset_state(handle: u32, state: u32);
+    mh_deref is deref(handle: u32) -> address: u32;
+    mh_move_hhi is move_hhi(handle: u32);
+    mh_hlock_hi is hlock_hi(handle: u32);
+    mh_recover_handle is recover_handle(address: u32) -> handle: u32;
+    mh_reserve_mem is reserve_mem(size: u32);
+    mh_more_masters is more_masters();
+    mh_compact_mem is compact_mem(size: u32) -> number: u32;
+    mh_purge_mem is purge_mem(size: u32);
+    mh_max_mem is max_mem() -> largest: u32, growth: u32;
+    mh_purge_space is purge_space() -> total: u32, contiguous: u32;
+    mh_max_block is max_block() -> number: u32;
+    mh_free_mem is free_mem() -> number: u32;
+    mh_max_appl_zone is max_appl_zone();
+    mh_hand_to_hand is hand_to_hand(handle: u32) -> new_handle: u32;
+    mh_ptr_to_hand is ptr_to_hand(pointer: u32, count: u32) -> handle: u32;
+    mh_ptr_to_xhand is ptr_to_xhand(pointer: u32, handle: u32, count: u32);
+    mh_ptr_and_hand is ptr_and_hand(pointer: u32, handle: u32, count: u32);
+    mh_hand_and_hand is hand_and_hand(one: u32, other: u32);
+    mh_block_move is block_move(from: u32, start: u32, to: u32, offset: u32, count: u32);
+    mh_lend is lend(block: u32);
+    mh_return is give_back(block: u32);
+    mh_first_block is first_block() -> at: u32;
+    mh_block is block(at: u32) -> block: MhBlock;
+    mh_image_size is image_size() -> size: usize;
+    mh_queue_answer is queue_answer(answer: &MhAnswer);
+    mh_asked is asked() -> count: u32;
+    mh_ask is ask(index: u32) -> ask: MhAsk;
+    mh_carried is carried(index: u32, place: u32) -> carried: MhCarried;
+}
