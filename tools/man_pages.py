@@ -10,11 +10,13 @@ import sys
 import textwrap
 
 TOP = os.path.dirname(os.path.dirname(os.path.abspath(__file__)))
-HEAD = '.TH MACHEAP {} 2026-11-27 "macheap 1.0"'
+HEAD = '.TH MACHEAP {} 2026-11-28 "macheap {}"'
+VERSION = re.compile(r'#define MACHEAP_VERSION "(.*)"')
 OPTION = re.compile(r'\.arg\(\w+_option\(alloc, "(\w+)", (\w+)\)\)')
 HELP = re.compile(r'let (\w+_help) =\s*"([^"]*)";')
 ABOUT = re.compile(r'const ABOUT: &\[u8\] =\s*b"([^"\\]*)')
-FILES = ("fork", "journal")
+# what an option takes that takes no number
+VALUES = {"fork": "FILE", "journal": "FILE", "large": ""}
 QUOTE = re.compile(r"^```text \S+\n(.*?)^```$", re.M | re.S)
 COLUMNS = 70
 # the exit statuses of macheap: what happened, what both outputs have then, the status
@@ -68,21 +70,21 @@ def options():
     """The program's options: name, what its value is called, and its help."""
     source = read("crates/macheap/src/asked.rt")
     helps = dict(HELP.findall(source))
-    return [(name, "FILE" if name in FILES else "N", helps[text]) for name, text in OPTION.findall(source)]
+    return [(name, VALUES.get(name, "N"), helps[text]) for name, text in OPTION.findall(source)]
 
 
 def program():
     """macheap(1)."""
     about = ABOUT.search(read("crates/macheap/src/program.rt"))[1]
     script, printed = QUOTE.findall(read("docs/SCRIPT.md"))[:2]
-    made = [HEAD.format(1), ".SH NAME", f"macheap \\- {about[0].lower()}{about[1:]}", ".SH SYNOPSIS", ".B macheap"]
+    made = [head(1), ".SH NAME", f"macheap \\- {about[0].lower()}{about[1:]}", ".SH SYNOPSIS", ".B macheap"]
     for name, value, _ in options():
-        made += [f".RB [ \\-\\-{name}", f".IR {value} ]" + ("...\\&" if name in FILES else "")]
+        made += [f".RB [ \\-\\-{name}", f".IR {value} ]" + ("...\\&" if value == "FILE" else "")] if value else [f".RB [ \\-\\-{name} ]"]
     made += [".I < SCRIPT", ".SH DESCRIPTION", words("A script has a call of the Memory Manager or the Resource Manager in each line.")]
     made += [words("Each call prints its line number, name, result and code. docs/SCRIPT.md has the language and all calls.")]
     made += [".SH OPTIONS"]
     for name, value, said in options():
-        made += [".TP", f'.BI \\-\\-{name} " {value}"', words(said) + "."]
+        made += [".TP", f'.BI \\-\\-{name} " {value}"' if value else f".B \\-\\-{name}", words(said) + "."]
     made += [".TP", ".BR \\-h \", \" \\-\\-help", "Prints a help text, and runs nothing.", ".SH EXIT STATUS"]
     for what, output, message, status in STATUSES:
         made += [".TP", f".B {status}", words(f"{what[0].upper()}{what[1:]}. Standard output: {output}. Standard error: {message}.")]
@@ -118,10 +120,16 @@ def header(path):
     return comment(first[1]), made + said
 
 
+def head(section):
+    """The first line of the page in that section, with the version that the header has."""
+    with open(os.path.join(TOP, "include/macheap.h"), encoding="utf-8") as it:
+        return HEAD.format(section, VERSION.search(it.read())[1])
+
+
 def library():
     """macheap(3)."""
-    made = [HEAD.format(3), ".SH NAME", "macheap, macheap_fork \\- the classic Macintosh Memory Manager and resource forks, for C and C++"]
-    made += [".SH SYNOPSIS", code('#include "macheap.h"\n#include "macheap_fork.h"'), "docs/EMULATORS.md says how a program is linked."]
+    made = [head(3), ".SH NAME", "macheap, macheap_fork \\- the classic Macintosh Memory Manager and resource forks, for C and C++"]
+    made += [".SH SYNOPSIS", code('#include "macheap.h"\n#include "macheap_fork.h"'), code("cc emulator.c $(pkg-config --cflags --libs macheap)")]
     for path, title in [("include/macheap.h", "MEMORY MANAGER"), ("include/macheap_fork.h", "RESOURCE FORKS")]:
         said, declared = header(path)
         made += [f".SH {title}", *said[1:], *declared]
