@@ -445,7 +445,7 @@ def by_unar(peers, binary):
     if done is None or done.returncode:
         return
     for path in glob.glob(out + "/**/._*", recursive=True):
-        yield "unar", path
+        yield "unar", shutil.move(path, f"{binary}.unar")  # whose name says of which fork it is
 
 
 def of_t1mac(peers):
