@@ -29,3 +29,8 @@ pub mod Loaned
 pub mod Standing
 pub mod Lent
 pub mod Headline
+pub mod Ciphered
+pub mod CipheredCalls
+pub mod CipheredActs
+pub mod CipheredRuns
+pub mod SameLayout

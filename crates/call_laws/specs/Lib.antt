@@ -3,3 +3,4 @@ pub mod LastPut
 pub mod LastSet
 pub mod Course
 pub mod Headline
+pub mod Contents

@@ -1,5 +1,6 @@
+use Rattle.call_laws.proofs.CipheredActs.{ignores_contents, moves_contents, runs_ignore_contents, runs_move_contents}
 use Rattle.call_laws.proofs.Headline.{headline}
 use Rattle.call_laws.proofs.laws.heap_laws.Goals as goal
 
 pub returns : goal.returns
-returns c = record { headline = headline }
+returns c = record { headline = headline; moves_contents = moves_contents; runs_move_contents = runs_move_contents; ignores_contents = ignores_contents; runs_ignore_contents = runs_ignore_contents }
