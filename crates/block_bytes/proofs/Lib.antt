@@ -1,4 +1,5 @@
 pub mod Heads
+pub mod HeadsRead
 pub mod Rendered
 pub mod Sizes
 pub mod Walking
@@ -28,3 +29,9 @@ pub mod Carrying
 pub mod NextFree
 pub mod LastFree
 pub mod Extending
+pub mod Structures
+pub mod Exchanged
+pub mod AdoptedBlocks
+pub mod AdoptedZone
+pub mod Comparing
+pub mod WrittenHeaders

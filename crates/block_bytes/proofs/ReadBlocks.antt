@@ -81,7 +81,7 @@ held_in-rendered heads base b lent rest said =
     (part-middle head (body b) rest (head_size heads) (size_of heads b - head_size heads) (omega arith) (omega arith)) (omega arith)
 
 -- the bytes behind it are those of the others
-drop-rendered : (heads : HeadKind) (base : ℕ) (b : RawBlock) (rest : List ℕ)
+pub drop-rendered : (heads : HeadKind) (base : ℕ) (b : RawBlock) (rest : List ℕ)
     → drop (size_of heads b) (head_bytes heads base (header_of heads b) ++ (body b ++ rest)) ≡ rest
 drop-rendered heads base b rest =
     let head = head_bytes heads base (header_of heads b) in

@@ -24,7 +24,7 @@ use Rattle.block_bytes.proofs.Spans.{apart-above, apart-head, apart-middle, free
 use Rattle.block_bytes.proofs.Parts.{IsRead, image-read, stale_image, total-ends, possible-with, changed}
 
 -- no more bytes are free than there are
-free-within : (heads : HeadKind) (bs : List RawBlock) → free_total heads bs ≤ total_of heads bs
+pub free-within : (heads : HeadKind) (bs : List RawBlock) → free_total heads bs ≤ total_of heads bs
 free-within heads [] = omega arith
 free-within heads (b ∷ bs) = either (is_free b.role) (size_of heads b) (free-within heads bs)
   where

@@ -1,7 +1,8 @@
 -- A zone's header as bytes: how long it is, what is read there, and that its numbers are written.
-use Rattle.std.proofs.Common.{◌≡◌, ℕ, ◌<◌, ◌^◌, List, [], ◌++◌, length, refl, ap, sym, subst, ◌∙◌, arith, append_assoc, length-append}
+use Rattle.std.proofs.Common.{◌≡◌, ℕ, ◌/◌, ◌%◌, ◌<◌, ◌^◌, List, [], ◌∷◌, ◌++◌, length, take, drop, refl, ap, sym, subst, ◌∙◌, arith, append_assoc, append-nil, length-append, take-append-drop}
 use Rattle.std.proofs.lemmas.List.{length-replicate}
 use Rattle.byteorder.specs.Endian.{big_bytes, big_number}
+use Rattle.byteorder.specs.Numbers.{big_from-bytes}
 use Rattle.raw_region.specs.Bytes.{part, written}
 use Rattle.raw_region.proofs.Numbers.{length-big_bytes, number-bytes}
 use Rattle.mac_base.specs.HeadKind.{zone_header, slot_count}
@@ -51,6 +52,12 @@ module _ (end front free lowest : ℕ) (rest : List ℕ) where
     where
       bounded : (n : ℕ) → big_number 4 (big_bytes 4 n) < 2 ^ 32
       bounded n = omega arith
+
+  -- it is what the four bytes say
+  pub front-said : big_number 4 (part (zone_head end front free lowest ++ rest) front_field 4) ≡ big_number 4 (big_bytes 4 front)
+  front-said = let long = length-big_bytes 4 front in let before = length-before_front in
+      ap (λ (l : List ℕ). big_number 4 (part l front_field 4)) zone_head-parts
+      ∙ ap (big_number 4) (part-middle before_front (big_bytes 4 front) (big_bytes 4 free ++ (behind_free ++ (big_bytes 4 lowest ++ rest))) front_field 4 (omega arith) (omega arith))
 
   -- the free bytes are read
   pub free-read : free < 2 ^ 32 → big_number 4 (part (zone_head end front free lowest ++ rest) free_field 4) ≡ free
@@ -116,3 +123,31 @@ length-zone_head end front free lowest =
     let a1 = length-append (big_bytes 4 end) (zeros 4 ++ (big_bytes 4 front ++ q)) in let a2 = length-append (zeros 4) (big_bytes 4 front ++ q) in let a3 = length-append (big_bytes 4 front) q in
     let a4 = length-append (big_bytes 4 free) (zeros 4 ++ p) in let a5 = length-append (zeros 4) p in let a6 = length-append (big_bytes 2 slot_count) (zeros 26 ++ big_bytes 4 lowest) in
     let a7 = length-append (zeros 26) (big_bytes 4 lowest) in omega arith
+
+-- four bytes are those of the number that they say
+pub bytes-said : (n : ℕ) → big_bytes 4 (big_number 4 (big_bytes 4 n)) ≡ big_bytes 4 n
+bytes-said n =
+    let is : big_number 4 (big_bytes 4 n) ≡ n % 2 ^ 32 = ap (big_number 4) (sym (append-nil (big_bytes 4 n))) ∙ big_from-bytes 4 n [] in
+    let a : n % 2 ^ 32 / 0x100_0000 % 256 ≡ n / 0x100_0000 % 256 = omega arith in
+    let b : n % 2 ^ 32 / 0x1_0000 % 256 ≡ n / 0x1_0000 % 256 = omega arith in
+    let d : n % 2 ^ 32 / 0x100 % 256 ≡ n / 0x100 % 256 = omega arith in
+    let e : n % 2 ^ 32 % 256 ≡ n % 256 = omega arith in
+    ap (big_bytes 4) is ∙ (λ i. a i ∷ (b i ∷ (d i ∷ (e i ∷ []))))
+
+-- the header says the same of the free slots where the number that its bytes say is written
+pub front-again : (end front free lowest : ℕ) (rest : List ℕ)
+    → zone_head end (big_number 4 (part (zone_head end front free lowest ++ rest) front_field 4)) free lowest ≡ zone_head end front free lowest
+front-again end front free lowest rest =
+    ap (λ (l : List ℕ). big_bytes 4 end ++ (zeros 4 ++ (l ++ (big_bytes 4 free ++ (zeros 4 ++ (big_bytes 2 slot_count ++ (zeros 26 ++ big_bytes 4 lowest)))))))
+    (ap (big_bytes 4) (front-said end front free lowest rest) ∙ bytes-said front)
+
+-- bytes with a zone's header, and those behind it
+pub head-parts : (bytes : List ℕ) (end front free lowest : ℕ) → take zone_header bytes ≡ zone_head end front free lowest → bytes ≡ zone_head end front free lowest ++ drop zone_header bytes
+head-parts bytes end front free lowest is = sym (take-append-drop zone_header bytes) ∙ ap (λ (l : List ℕ). l ++ drop zone_header bytes) is
+
+-- a header with the number that the bytes say of the free slots is theirs
+pub front-same : (bytes : List ℕ) (end front free lowest : ℕ) → take zone_header bytes ≡ zone_head end front free lowest
+    → zone_head end (big_number 4 (part bytes front_field 4)) free lowest ≡ take zone_header bytes
+front-same bytes end front free lowest is =
+    ap (λ (l : List ℕ). zone_head end (big_number 4 (part l front_field 4)) free lowest) (head-parts bytes end front free lowest is)
+    ∙ front-again end front free lowest (drop zone_header bytes) ∙ sym is

@@ -8,3 +8,5 @@ pub mod NewLayout
 pub mod WritingBack
 pub mod Copying
 pub mod Walk
+pub mod Structure
+pub mod Adopting

@@ -19,12 +19,12 @@ use mac_base::error::HostFull;
 use mac_base::size::ZONE_HEADER;
 use mac_base::zone_spec::ZoneSpec;
 use place_numbers::Numbers;
-use raw_region::Lent;
+use raw_region::{Lent, Region};
 use std::alloc::Global;
 use std::marker::Model;
 
 /// What the index has at the place of a lent block. No block is as small.
-const LENT_MARK: u32 = 2;
+pub(crate) const LENT_MARK: u32 = 2;
 
 /// Where the first of some blocks has as many bytes, few of their numbers in the index are thought to be above 0.
 const SPARSE_SIZE: u32 = 1024;
@@ -38,13 +38,13 @@ const FEW_BYTES: usize = 256;
 /// where the lowest free block is. That an address is that of a block is up to the caller. After `create` no call takes
 /// memory of the host.
 pub struct Blocks {
-    spec: ZoneSpec,
-    memory: Memory,
+    pub(crate) spec: ZoneSpec,
+    pub(crate) memory: Memory,
     /// For each four bytes of the zone a number: where a block begins with them its size if it is free, 2 if it is lent, and
     /// else 1; or 0.
-    index: Numbers,
+    pub(crate) index: Numbers,
     /// How many blocks are lent.
-    loans: u32,
+    pub(crate) loans: u32,
 }
 
 impl Model for Blocks {
@@ -102,7 +102,7 @@ fn search_start(memory: &Memory, base: u32, changed: usize) -> usize
 }
 
 /// The first place, `from` or behind it, whose number is at least `least`. That of `from` is looked at before the search begins.
-fn first_from(index: &Numbers, least: u32, from: usize) -> Option<usize>
+pub(crate) fn first_from(index: &Numbers, least: u32, from: usize) -> Option<usize>
     requires { 0 < least }
     ensures first { IfSome result (λ at. FirstAtLeast index.now least from at) }
     ensures none { IfNone result ((j : ℕ) → from ≤ j → j < length index.now → slice_index index.now j < least) }
@@ -672,5 +672,26 @@ impl Blocks {
     {
         let size = self.end() - self.spec.base();
         self.memory.bytes(0, size as usize)
+    }
+}
+
+impl Blocks {
+    ghost use Rattle.block_bytes.specs.Layout.{NothingLent, image_of};
+
+    /// The region that the zone is in. The zone ends.
+    pub fn into_region(self) -> Region
+        requires nothing_lent { NothingLent self }
+        ensures bytes { result.bytes ≡ image_of self }
+        ensures name { result.name ≡ self.name }
+        ensures whole { result.lent ≡ [] }
+    {
+        let Blocks {
+            spec: _,
+            memory,
+            index,
+            loans: _,
+        } = self;
+        drop(index);
+        memory.into_region()
     }
 }

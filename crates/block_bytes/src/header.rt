@@ -1,9 +1,12 @@
 //! The header of a block.
 
-ghost use Rattle.std.specs.Prelude.{◌≡◌, ◌≤◌};
+ghost use Rattle.std.specs.Prelude.{◌≡◌, ◌≤◌, ◌↔◌, IsTrue, length};
+ghost use Rattle.byteorder.specs.Endian.{big_bytes};
+ghost use Rattle.mac_base.specs.HeadKind.{head_size};
 ghost use Rattle.block_bytes.specs.Head.{flags_byte, flags_in};
 
-use mac_base::block::Flags;
+use byteorder::{BigEndian, ByteOrder};
+use mac_base::block::{Flags, HeadKind};
 
 /// What a block's header says it is for.
 #[derive(Clone, Copy, Debug, PartialEq, Eq)]
@@ -22,6 +25,17 @@ pub enum Role {
 impl Role {
     ghost use Rattle.std.specs.Prelude.{◌≡◌, ◌<◌, ◌≤◌, ◌^◌};
     ghost use Rattle.block_bytes.specs.Head.{tag_of, flags_of, word_of, role_in};
+    ghost use Rattle.block_bytes.specs.Structure.{is_master};
+
+    /// Whether the block is a master block.
+    pub(crate) fn is_master(self) -> bool
+        ensures { result ≡ is_master self }
+    {
+        match self {
+            Role::Master => true,
+            Role::Free | Role::Fixed | Role::Relocatable(_, _) => false,
+        }
+    }
 
     /// The header's tag, with this in its low bits.
     pub(crate) fn tag(self, low: u32) -> u32
@@ -96,6 +110,48 @@ fn flags_in(byte: u32) -> Flags
     }
 }
 
+/// Whether four bytes are the same as four others.
+fn are_four_same(first: &[u8], second: &[u8]) -> bool
+    requires first { length first.now ≡ 4 }
+    requires second { length second.now ≡ 4 }
+    ensures { IsTrue result ↔ first.now ≡ second.now }
+{
+    BigEndian::read_u32(first) == BigEndian::read_u32(second)
+}
+
+/// Whether eight bytes are the same as eight others.
+fn are_eight_same(first: &[u8], second: &[u8]) -> bool
+    requires first { length first.now ≡ 8 }
+    requires second { length second.now ≡ 8 }
+    ensures { IsTrue result ↔ first.now ≡ second.now }
+{
+    BigEndian::read_u64(first) == BigEndian::read_u64(second)
+}
+
+/// Whether four bytes are those of a number.
+fn are_bytes_of(bytes: &[u8], number: u32) -> bool
+    requires { length bytes.now ≡ 4 }
+    ensures { IsTrue result ↔ bytes.now ≡ big_bytes 4 number }
+{
+    let mut four = [0; 4];
+    BigEndian::write_u32(&mut four, number);
+    are_four_same(bytes, &four)
+}
+
+/// Whether two block headers are the same bytes.
+pub(crate) fn is_same(heads: HeadKind, first: &[u8], second: &[u8]) -> bool
+    requires first { length first.now ≡ head_size heads }
+    requires second { length second.now ≡ head_size heads }
+    ensures { IsTrue result ↔ first.now ≡ second.now }
+{
+    match heads {
+        HeadKind::Bits24 => are_eight_same(first, second),
+        HeadKind::Bits32 => {
+            are_eight_same(&first[..8], &second[..8]) && are_four_same(&first[8..], &second[8..])
+        }
+    }
+}
+
 /// A block's header: the block's physical size in bytes, its header included; what the block is for; and the size
 /// correction, which is how many bytes at its end are over.
 #[derive(Clone, Copy, Debug, PartialEq, Eq)]
@@ -106,7 +162,10 @@ pub struct Header {
 }
 
 impl Header {
-    ghost use Rattle.std.specs.Prelude.{◌≡◌};
+    ghost use Rattle.std.specs.Prelude.{◌≡◌, ◌<◌, ◌≤◌, ◌↔◌, length, IsTrue};
+    ghost use Rattle.mac_base.specs.HeadKind.{address_end, head_size};
+    ghost use Rattle.block_bytes.specs.Adopting.{Fits};
+    ghost use Rattle.block_bytes.specs.Head.{head_bytes, most_over};
     ghost use Rattle.block_bytes.specs.Layout.{is_free};
     ghost use Rattle.block_bytes.specs.Starts.{mark_in, free_in};
 
@@ -137,6 +196,42 @@ impl Header {
         match self.role {
             Role::Free => self.size,
             Role::Fixed | Role::Master | Role::Relocatable(_, _) => 0,
+        }
+    }
+
+    /// Whether a block can have this header where so many bytes are left.
+    pub(crate) fn fits(self, heads: HeadKind, left: usize) -> bool
+        ensures { IsTrue result ↔ Fits heads left self }
+    {
+        self.size % 4 == 0
+            && heads.smallest_block() <= self.size
+            && self.size as usize <= left
+            && self.correction <= self.size - heads.head_size()
+            && (self.correction == 0 || !self.is_free())
+    }
+
+    /// Whether these bytes are those of the header, in a zone that begins at `base`.
+    pub(crate) fn has_bytes(self, heads: HeadKind, base: u32, bytes: &[u8]) -> bool
+        requires size { self.size < address_end heads }
+        requires correction { self.correction ≤ most_over heads }
+        requires long { length bytes.now ≡ head_size heads }
+        ensures { IsTrue result ↔ bytes.now ≡ head_bytes heads base self }
+    {
+        let word = self.role.word(base);
+        match heads {
+            HeadKind::Bits24 => {
+                let tag = self.role.tag(self.correction);
+                are_bytes_of(&bytes[..4], tag * 0x100_0000 + self.size)
+                    && are_bytes_of(&bytes[4..], word)
+            }
+            HeadKind::Bits32 => {
+                let tag = self.role.tag(0);
+                let flags = flags_byte(self.role.flags());
+                let first = tag * 0x100_0000 + flags * 0x1_0000 + self.correction;
+                are_bytes_of(&bytes[..4], first)
+                    && are_bytes_of(&bytes[4..8], self.size)
+                    && are_bytes_of(&bytes[8..], word)
+            }
         }
     }
 }

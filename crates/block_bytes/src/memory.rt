@@ -1,21 +1,23 @@
 //! The memory of a zone.
 
-ghost use Rattle.std.specs.Prelude.{◌≡◌, ◌+◌, ◌-◌, ◌≤◌, ◌<◌, ◌^◌, ◌++◌, [], ◌∷◌, length, replicate, drop, IfOk, IsTrue, IsFalse};
+ghost use Rattle.std.specs.Prelude.{◌≡◌, ◌+◌, ◌-◌, ◌≤◌, ◌<◌, ◌^◌, ◌++◌, ◌↔◌, [], ◌∷◌, length, replicate, take, drop, IfOk, IfSome, IfNone, IsTrue, IsFalse};
 ghost use Rattle.std.specs.Borrow.{sem};
 ghost use Rattle.byteorder.specs.Endian.{big_bytes, big_number};
 ghost use Rattle.mac_base.specs.HeadKind.{address_end, head_size, zone_header};
-ghost use Rattle.raw_region.specs.Bytes.{part};
+ghost use Rattle.raw_region.specs.Bytes.{part, written};
 ghost use Rattle.raw_region.specs.Span.{IsFree, IsListed, without};
 ghost use Rattle.raw_region.specs.State.{State, with_bytes};
+ghost use Rattle.block_bytes.specs.Adopting.{HasZoneHead, IsHeadAt};
 ghost use Rattle.block_bytes.specs.Head.{head_bytes, header_in, most_over};
 ghost use Rattle.block_bytes.specs.ZoneHead.{zone_head, end_field, front_field, free_field, lowest_field};
 ghost use Rattle.block_bytes.specs.Layout.{is_free};
 ghost use Rattle.block_bytes.specs.WritingBack.{WritesBackPart};
 
-use crate::header::{Header, Role, flags_byte};
+use crate::header::{Header, Role, flags_byte, is_same};
+use byteorder::{BigEndian, ByteOrder};
 use mac_base::block::HeadKind;
 use mac_base::error::HostFull;
-use mac_base::size::SLOT_COUNT;
+use mac_base::size::{SLOT_COUNT, ZONE_HEADER};
 use raw_region::{Lent, Region};
 use std::alloc::Global;
 use std::marker::Model;
@@ -59,6 +61,20 @@ impl Drop for Memory {
     }
 }
 
+/// The header of a zone: the address after its last block, the number of the free slots, how many bytes are free, and
+/// the address of the lowest free block.
+fn zone_head(end: u32, front: u32, free: u32, lowest: u32) -> [u8; ZONE_HEADER as usize]
+    ensures { result ≡ zone_head end front free lowest }
+{
+    let mut head = [0; ZONE_HEADER as usize];
+    BigEndian::write_u32(&mut head[END_FIELD..], end);
+    BigEndian::write_u32(&mut head[FRONT_FIELD..], front);
+    BigEndian::write_u32(&mut head[FREE_FIELD..], free);
+    BigEndian::write_u16(&mut head[SLOTS_FIELD..], SLOT_COUNT as u16);
+    BigEndian::write_u32(&mut head[LOWEST_FIELD..], lowest);
+    head
+}
+
 #[tactic(auto, using(raw_region::proofs::Rules::upkeep))]
 impl Memory {
     /// So many bytes of zero, of which none is lent.
@@ -69,6 +85,21 @@ impl Memory {
         Ok(Memory {
             region: Region::create(alloc, length)?,
         })
+    }
+
+    /// A region's bytes.
+    pub fn of(region: Region) -> Memory
+        ensures { result ≡ region }
+    {
+        Memory { region }
+    }
+
+    /// The region whose bytes these are.
+    pub fn into_region(self) -> Region
+        ensures { result ≡ self }
+    {
+        let Memory { region } = self;
+        region
     }
 
     /// How many bytes there are.
@@ -225,6 +256,92 @@ impl Memory {
                 correction: first % 256,
             },
         }
+    }
+
+    /// The header of a possible block at `at`, where a zone that begins at `base` has so many bytes left.
+    pub fn possible_header(
+        &self,
+        heads: HeadKind,
+        base: u32,
+        at: usize,
+        left: usize,
+    ) -> Option<Header>
+        requires inside { at + left ≤ length self.now.bytes }
+        requires small { left < address_end heads }
+        requires unlent { self.now.lent ≡ [] }
+        ensures some { IfSome result (λ h. IsHeadAt heads base self.now.bytes at left h) }
+        ensures none { IfNone result ((h : Header) → IsHeadAt heads base self.now.bytes at left h → ⊥) }
+    {
+        let _len = self.len();
+        if left < heads.smallest_block() as usize {
+            return None;
+        }
+        let header = self.header(heads, at);
+        if !header.fits(heads, left) {
+            return None;
+        }
+        let bytes = self.bytes(at, heads.head_size() as usize);
+        if header.has_bytes(heads, base, bytes) {
+            Some(header)
+        } else {
+            None
+        }
+    }
+
+    /// Whether the block header that stands at `at` is in the same place among other bytes.
+    pub fn has_header(&self, heads: HeadKind, at: usize, bytes: &[u8]) -> bool
+        requires inside { at + head_size heads ≤ length self.now.bytes }
+        requires within { at + head_size heads ≤ length bytes.now }
+        requires free { IsFree self.now.lent at (head_size heads) }
+        ensures { IsTrue result ↔ part self.now.bytes at (head_size heads) ≡ part bytes.now at (head_size heads) }
+    {
+        let _len = self.len();
+        let count = heads.head_size() as usize;
+        is_same(heads, self.bytes(at, count), &bytes[at..at + count])
+    }
+
+    /// Writes the block header that stands at `at` in the same place among other bytes.
+    pub fn write_header(&self, heads: HeadKind, at: usize, bytes: &mut [u8])
+        requires inside { at + head_size heads ≤ length self.now.bytes }
+        requires within { at + head_size heads ≤ length bytes.old }
+        requires free { IsFree self.now.lent at (head_size heads) }
+        ensures { bytes.new ≡ written bytes.old at (part self.now.bytes at (head_size heads)) }
+    {
+        let _len = self.len();
+        let count = heads.head_size() as usize;
+        bytes[at..at + count].copy_from_slice(self.bytes(at, count));
+    }
+
+    /// Whether the zone's header is at the front of other bytes.
+    pub fn has_zone_head(&self, bytes: &[u8]) -> bool
+        requires inside { zone_header ≤ length self.now.bytes }
+        requires within { zone_header ≤ length bytes.now }
+        requires free { IsFree self.now.lent 0 zone_header }
+        ensures { IsTrue result ↔ take zone_header bytes.now ≡ take zone_header self.now.bytes }
+    {
+        let count = ZONE_HEADER as usize;
+        &bytes[..count] == self.bytes(0, count)
+    }
+
+    /// Whether the bytes begin with the header of a zone whose last block ends at an address, that has so many free
+    /// bytes, and whose lowest free block is at an address.
+    pub fn is_zone_head(&self, end: u32, free: u32, lowest: u32) -> bool
+        requires inside { zone_header ≤ length self.now.bytes }
+        requires unlent { self.now.lent ≡ [] }
+        ensures { IsTrue result ↔ HasZoneHead self.now.bytes end free lowest }
+    {
+        self.has_zone_head(&zone_head(end, self.front(), free, lowest))
+    }
+
+    /// Writes the zone's header at the front of other bytes.
+    pub fn write_zone_head(&self, bytes: &mut [u8])
+        requires inside { zone_header ≤ length self.now.bytes }
+        requires within { zone_header ≤ length bytes.old }
+        requires free { IsFree self.now.lent 0 zone_header }
+        ensures { bytes.new ≡ written bytes.old 0 (take zone_header self.now.bytes) }
+    {
+        let count = ZONE_HEADER as usize;
+        bytes[..count].copy_from_slice(self.bytes(0, count));
     }
 
     /// Writes a block header at `at`, in a zone that begins at `base`.

@@ -26,7 +26,7 @@ use Rattle.linked_zone.specs.Flags.{flags_there}
 use Rattle.linked_zone.specs.Owned.{Owners, slot_flags, header_flags, next_free, slot_of_live, slot_of, owners_of, content_of, lent_of, records_of}
 use Rattle.linked_zone.specs.Places.{EntryAt, HasOwner, BlockOf, NamedAt}
 use Rattle.linked_zone.specs.Sizes.{sizes_of}
-use Rattle.linked_zone.specs.Fit.{Fits}
+use Rattle.linked_zone.specs.Fit.{Fits, HasRooms}
 use Rattle.linked_zone.proofs.Standing.{Stands}
 use Rattle.linked_zone.proofs.ChangeEmptied.{own_block}
 use Rattle.linked_zone.proofs.Owning.{slot-at, records-total}
@@ -225,25 +225,36 @@ pub record PointerBlock (z : ZoneState) (p : ℕ) : Type 0 where
   pub kind : entry.here.kind ≡ kind.Ptr p
   pub number : p ≡ at + head_size z.shape.heads
 
+-- each pointer has one
+pub pointer-block : (z : ZoneState) → Fits z → HasRooms z → (p : ℕ) → is_pointer z.heap.table p ≡ true → PointerBlock z p
+pointer-block z fits rooms p live =
+    let found = pointer_place z fits rooms p live in
+    let b = passing (address_behind z.shape []) (is_pointer_block p) z.heap.map found.0 found.1 in
+    let place = b.place in
+    record {
+      at = found.0;
+      entry = record { before = b.before; here = b.here; behind = b.behind; map = b.was; place = omega arith };
+      kind = pointer_kind p b.here.kind b.passes;
+      number = sym found.2;
+    }
+
 -- where no block passes a test, the one at a place doesn't
 passes-not : (at : ℕ) (test : Kind → Bool) (before : ZoneMap) (e : Entry) (behind : ZoneMap) → addresses_from at test (before ++ e ∷ behind) ≡ [] → test e.kind ≡ false
 passes-not at test [] e behind none = (nothing_passes (test e.kind) at (addresses_from (at + e.size) test behind) none).0
 passes-not at test (f ∷ before) e behind none = passes-not (at + f.size) test before e behind (nothing_passes (test f.kind) at (addresses_from (at + f.size) test (before ++ e ∷ behind)) none).1
 
-module _ (r : ZoneRecords) (z : ZoneState) (stands : Stands r z) where
-  -- each pointer has one
-  pub pointer-block : (p : ℕ) → is_pointer z.heap.table p ≡ true → PointerBlock z p
-  pointer-block p live =
-      let found = pointer_place z stands.fits stands.rooms p live in
-      let b = passing (address_behind z.shape []) (is_pointer_block p) z.heap.map found.0 found.1 in
-      let place = b.place in
-      record {
-        at = found.0;
-        entry = record { before = b.before; here = b.here; behind = b.behind; map = b.was; place = omega arith };
-        kind = pointer_kind p b.here.kind b.passes;
-        number = sym found.2;
-      }
+-- the handle whose block stands in the map has a block
+pub block-full : (z : ZoneState) → Fits z → (at h : ℕ) (e : EntryAt z at) → e.here.kind ≡ kind.Rel h → is_full z.heap.table h ≡ true
+block-full z fits at h e is = by_test (is_full z.heap.table h) refl
+  where
+    by_test : (b : Bool) → is_full z.heap.table h ≡ b → b ≡ true
+    by_test true full = refl
+    by_test false empty =
+        let none = nil_from_length _ (fits.coherent.handles h ∙ ap (λ b. cond b 1 0) empty) in
+        let passes = passes-not (address_behind z.shape []) (is_handle_block h) e.before e.here e.behind (ap (addresses_from (address_behind z.shape []) (is_handle_block h)) (sym e.map) ∙ none) in
+        absurd (cc (passes, ap (is_handle_block h) is, eqb_same h))
 
+module _ (r : ZoneRecords) (z : ZoneState) (stands : Stands r z) where
   -- where the contents of a pointer's block begin is a pointer
   pub pointer-made : (at p q : ℕ) (entry : Entry) (b : RecordAt r at) → ((b : RecordAt r at) → entry ≡ block (kind_of (at + head_size r.shape.heads) b.here.content) b.here.size) → entry.kind ≡ kind.Ptr q → p ≡ at + head_size z.shape.heads
       → is_pointer z.heap.table p ≡ true
@@ -258,7 +269,7 @@ module _ (r : ZoneRecords) (z : ZoneState) (stands : Stands r z) where
   pub pointer-said : (at p : ℕ) → is_pointer z.heap.table p ≡ true → at ≡ p - head_size z.shape.heads
       → (head_size z.shape.heads ≤ p) × ((b : RecordAt r at) × (kind_of (at + head_size r.shape.heads) b.here.content ≡ kind.Ptr p))
   pointer-said at p live is =
-      let mine = pointer-block p live in
+      let mine = pointer-block z stands.fits stands.rooms p live in
       let number = mine.number in
       let there = of-entry r z stands.blocks mine.at mine.entry in
       let same : mine.at ≡ at = omega arith in
@@ -269,7 +280,7 @@ module _ (r : ZoneRecords) (z : ZoneState) (stands : Stands r z) where
   -- its place
   pub pointer-named : (p : ℕ) → is_pointer z.heap.table p ≡ true → (head_size z.shape.heads ≤ p) × NamedAt z p (p - head_size z.shape.heads)
   pointer-named p live =
-      let mine = pointer-block p live in
+      let mine = pointer-block z stands.fits stands.rooms p live in
       let e = mine.entry in
       let number = mine.number in
       let same : mine.at ≡ p - head_size z.shape.heads = omega arith in
@@ -282,14 +293,7 @@ module _ (r : ZoneRecords) (z : ZoneState) (stands : Stands r z) where
 
   -- the handle whose block stands in the map is live
   handle-live : (at h : ℕ) (e : EntryAt z at) → e.here.kind ≡ kind.Rel h → is_handle z.heap.table h ≡ true
-  handle-live at h e is = full_handle z.heap.table h (by_test (is_full z.heap.table h) refl)
-    where
-      by_test : (b : Bool) → is_full z.heap.table h ≡ b → b ≡ true
-      by_test true full = refl
-      by_test false empty =
-          let none = nil_from_length _ (stands.fits.coherent.handles h ∙ ap (λ b. cond b 1 0) empty) in
-          let passes = passes-not (address_behind z.shape []) (is_handle_block h) e.before e.here e.behind (ap (addresses_from (address_behind z.shape []) (is_handle_block h)) (sym e.map) ∙ none) in
-          absurd (cc (passes, ap (is_handle_block h) is, eqb_same h))
+  handle-live at h e is = full_handle z.heap.table h (block-full z stands.fits at h e is)
 
   -- so each block has its owner
   pub has-owner : (at : ℕ) (e : EntryAt z at) → HasOwner z e.here.kind

@@ -31,6 +31,7 @@ mod EndsRun
 mod EndsSaid
 mod EndsSized
 mod EndsSlots
+mod EndsStructure
 mod EndsSwapped
 mod EndsTurned
 mod EndsWritten
@@ -44,6 +45,8 @@ mod ReadFree
 mod ReadNumbers
 mod Reported
 mod RelocatedPlaces
+pub mod Shown
 mod Standing
+pub mod Structured
 mod TwoPlaces
 mod Unlent

@@ -18,7 +18,7 @@ use Rattle.zone_records.specs.Records.{BlockRecord, ZoneRecords, block_record, F
 use Rattle.zone_records.specs.Records as zone_records
 use Rattle.zone_records.specs.Places.{RecordAt, SlotAt}
 use Rattle.zone_records.specs.Places as records
-use Rattle.linked_zone.specs.Owned.{Owners, owners_of, content_of, record_of, records_from, records_of}
+use Rattle.linked_zone.specs.Owned.{Owners, owners_of, slot_of, content_of, record_of, records_from, records_of}
 use Rattle.linked_zone.specs.Places.{EntryAt, LowestAt, FirstFrom, NoneFrom, SplitAt, FirstFree, LastFree, none_free}
 use Rattle.linked_zone.specs.Fit.{Fits, HasRooms}
 use Rattle.linked_zone.proofs.Owning.{records_from-append, records-total}
@@ -296,9 +296,22 @@ in-slots head n at (f ∷ low) e high x master c =
     (Contains-append_right (cond (is_master f.kind) (slots_from n (at + head)) []) (slots_at head n (at + f.size) (low ++ e ∷ high)) x
     (in-slots head n (at + f.size) low e high x master (subst (λ a. Contains (slots_from n a) x) same c)))
 
--- a slot of the blocks is one of the map's
-pub slot-of : (r : ZoneRecords) (z : ZoneState) → r ≡ records_of z → (x : ℕ) → SlotAt r x → Contains (slots z.shape z.heap.map) x
-slot-of r z is x slot =
+-- what stands among what a function makes of slots is what it makes of one
+slot-among : (f : ℕ → Slot) (n at : ℕ) (before : List Slot) (here : Slot) (behind : List Slot) → before ++ here ∷ behind ≡ map f (slots_from n at) → here ≡ f (at + 4 * length before)
+slot-among f zero at [] here behind is = absurd (cc is)
+slot-among f zero at (s ∷ before) here behind is = absurd (cc is)
+slot-among f (suc n) at [] here behind is = let same : at ≡ at + 4 * 0 = omega arith in let first : here ≡ f at = cc is in first ∙ ap f same
+slot-among f (suc n) at (s ∷ before) here behind is =
+    let same : (at + 4) + 4 * length before ≡ at + 4 * suc (length before) = omega arith in
+    slot-among f n (at + 4) before here behind (cc is) ∙ ap f same
+
+-- a slot of the blocks is one of the map's, and says what is written there
+pub record MapSlot (r : ZoneRecords) (z : ZoneState) (x : ℕ) (slot : SlotAt r x) : Type 0 where
+  pub among : Contains (slots z.shape z.heap.map) x
+  pub says : slot.here ≡ slot_of z x
+
+pub map-slot : (r : ZoneRecords) (z : ZoneState) → r ≡ records_of z → (x : ℕ) (slot : SlotAt r x) → MapSlot r z x slot
+map-slot r z is x slot =
     let o = owners_of z in
     let start = address_behind z.shape [] in
     let shape = ap (λ (r : ZoneRecords). r.shape) is in
@@ -311,6 +324,12 @@ slot-of r z is x slot =
     let total = ap total_of a.lower ∙ records-total o z.shape start a.low in
     let place = slot.place in
     let same : there + 4 * length slot.slots_before ≡ x = omega arith in
-    subst (λ m. Contains (slots z.shape m) x) (sym a.is)
-    (in-slots (head_size z.shape.heads) slot_count start a.low a.e a.high x master.0
-    (subst (λ y. Contains (slots_from slot_count there) y) same (slots_from-at slot_count there (length slot.slots_before) (omega arith))))
+    record {
+      among = subst (λ m. Contains (slots z.shape m) x) (sym a.is)
+          (in-slots (head_size z.shape.heads) slot_count start a.low a.e a.high x master.0
+          (subst (λ y. Contains (slots_from slot_count there) y) same (slots_from-at slot_count there (length slot.slots_before) (omega arith))));
+      says = slot-among o.slot slot_count there slot.slots_before slot.here slot.slots_behind master.1 ∙ ap o.slot same;
+    }
+
+pub slot-of : (r : ZoneRecords) (z : ZoneState) → r ≡ records_of z → (x : ℕ) → SlotAt r x → Contains (slots z.shape z.heap.map) x
+slot-of r z is x slot = (map-slot r z is x slot).among

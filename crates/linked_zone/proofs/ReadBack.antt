@@ -109,7 +109,7 @@ module _ (z : ZoneState) (fits : Fits z) (rooms : HasRooms z) where
           subst (Contains (numbers head slot_count start z.heap.map)) there.2 (pointer-numbers head slot_count start x z.heap.map there.0 there.1)
 
   -- the table is read off
-  table-back : lives_in z.shape blocks start blocks ≡ z.heap.table.live
+  pub table-back : lives_in z.shape blocks start blocks ≡ z.heap.table.live
   table-back =
       lives-back (owners_of z) z.shape z.heap.table blocks start z.heap.map (λ p. refl) all-pointers slot-says
       ∙ entries-read 0 (numbers head slot_count start z.heap.map) z.heap.table.live (live_at z.heap.table) (rising-numbers head slot_count start 0 z.heap.map (omega arith) rooms) fits.coherent.in_order (λ x c. refl) live_number

@@ -10,3 +10,4 @@ pub mod Flags
 pub mod Image
 pub mod Loans
 pub mod Copying
+pub mod Structure

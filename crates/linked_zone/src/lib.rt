@@ -7,6 +7,8 @@ mod flags;
 mod loans;
 mod relocating;
 mod sizes;
+mod structure;
 mod zone;
 
 pub use zone::LinkedZone;
+pub use zone_records::Agreement;

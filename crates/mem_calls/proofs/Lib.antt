@@ -14,3 +14,4 @@ pub mod Stepping
 pub mod Telling
 pub mod Trials
 pub mod Trying
+pub mod FlagsTaken

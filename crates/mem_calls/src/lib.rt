@@ -14,6 +14,7 @@ mod request;
 mod room;
 mod sizes;
 mod state;
+mod waking;
 
 pub use manager::MemoryManager;
 pub use state::state_of;

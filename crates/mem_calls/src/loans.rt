@@ -81,6 +81,7 @@ impl MemoryManager {
         requires { IsTrue (has_block self.now.heap.table block) }
         ensures { result ≡ (is_pointer self.now.heap.table block || is_locked self.now.heap.table block) }
     {
-        self.zone.is_pointer(Ptr::new(block)) || self.zone.flags(Handle::new(block)).lock
+        self.zone.linked().is_pointer(Ptr::new(block))
+            || self.zone.linked().flags(Handle::new(block)).lock
     }
 }

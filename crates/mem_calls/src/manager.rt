@@ -81,13 +81,13 @@ impl MemoryManager {
     pub fn status(&self, block: u32) -> Status
         ensures { result ≡ status_of self.now.heap.table block }
     {
-        if self.zone.has_block(block) {
-            if self.zone.is_lent(block) {
+        if self.zone.linked().has_block(block) {
+            if self.zone.linked().is_lent(block) {
                 Status::Lent
             } else {
                 Status::Full
             }
-        } else if self.zone.is_live(Handle::new(block)) {
+        } else if self.zone.linked().is_live(Handle::new(block)) {
             Status::Empty
         } else {
             Status::NotLive
@@ -99,7 +99,7 @@ impl MemoryManager {
         requires { status_of self.now.heap.table block ≡ Status.Full }
         ensures { result.now ≡ bytes_of self.now.heap.table block }
     {
-        self.zone.bytes(block)
+        self.zone.linked().contents(block)
     }
 
     /// The bytes of a block that is live, not empty and not lent, to be written.
@@ -125,7 +125,7 @@ impl MemoryManager {
     pub fn entry(&self, at: u32) -> Option<Block>
         ensures { result ≡ report_at self.now.shape self.now.heap at }
     {
-        self.zone.entry(at)
+        self.zone.linked().entry(at)
     }
 
     /// The bytes of the zone, from its start to the end of its last block: its header, and its blocks with their headers, master

@@ -22,7 +22,7 @@ pub(crate) fn test_handle(zone: &Zone, handle: Handle) -> Result<(), OsErr>
     if handle.number() == 0 {
         return Err(OsErr::NilHandleErr);
     }
-    if !zone.is_live(handle) {
+    if !zone.linked().is_live(handle) {
         return Err(OsErr::MemWzErr);
     }
     Ok(())
@@ -34,7 +34,7 @@ pub(crate) fn test_full(zone: &Zone, handle: Handle) -> Result<(), OsErr>
     ensures { Tests zone.now (IsHandle handle ∷ NotEmpty handle ∷ []) result }
 {
     test_handle(zone, handle)?;
-    if !zone.is_full(handle) {
+    if !zone.linked().is_full(handle) {
         return Err(OsErr::NilHandleErr);
     }
     Ok(())
@@ -44,7 +44,7 @@ pub(crate) fn test_full(zone: &Zone, handle: Handle) -> Result<(), OsErr>
 pub(crate) fn test_pointer(zone: &Zone, pointer: Ptr) -> Result<(), OsErr>
     ensures { Tests zone.now (IsPointer pointer ∷ []) result }
 {
-    if !zone.is_pointer(pointer) {
+    if !zone.linked().is_pointer(pointer) {
         return Err(OsErr::MemWzErr);
     }
     Ok(())
@@ -60,7 +60,7 @@ pub(crate) fn handle_flags(zone: &Zone, handle: Handle) -> Result<Flags, OsErr>
     test_full(zone, handle)?;
     // The zone's count of loans says that each is a pointer's or a locked handle's.
     prove!(zone.lent_count() <= MOST_LOANS);
-    Ok(zone.flags(handle))
+    Ok(zone.linked().flags(handle))
 }
 
 /// Whether a number is lent. Only a pointer or a locked handle is, so what has no block isn't.
@@ -70,7 +70,7 @@ pub(crate) fn is_lent(zone: &Zone, block: u32) -> bool
     // The zone's count of loans says so.
     let loans = zone.lent_count();
     prove!(loans <= MOST_LOANS);
-    loans > 0 && zone.has_block(block) && zone.is_lent(block)
+    loans > 0 && zone.linked().has_block(block) && zone.linked().is_lent(block)
 }
 
 /// Tests that a number isn't lent: memLockedErr where it is.
@@ -97,7 +97,7 @@ pub(crate) fn test_unlocked(zone: &Zone, handle: Handle) -> Result<(), OsErr>
     requires { IsTrue (is_handle zone.now.heap.table handle) }
     ensures { Tests zone.now (NotLocked MemPurErr handle ∷ []) result }
 {
-    if zone.flags(handle).lock {
+    if zone.linked().flags(handle).lock {
         return Err(OsErr::MemPurErr);
     }
     Ok(())
@@ -159,8 +159,8 @@ pub(crate) fn test_block_here(zone: &Zone, block: u32) -> Result<(), OsErr>
     if block == 0 {
         return Err(OsErr::NilHandleErr);
     }
-    if !zone.has_block(block) {
-        return Err(if zone.is_live(Handle::new(block)) {
+    if !zone.linked().has_block(block) {
+        return Err(if zone.linked().is_live(Handle::new(block)) {
             OsErr::NilHandleErr
         } else {
             OsErr::MemWzErr
@@ -174,7 +174,7 @@ pub(crate) fn test_within(zone: &Zone, block: u32, start: u32, count: u32) -> Re
     requires { IsTrue (has_block zone.now.heap.table block) }
     ensures { Tests zone.now (IsWithin block start count ∷ []) result }
 {
-    let length = zone.length(block);
+    let length = zone.linked().length(block);
     if start > length || count > length - start {
         return Err(OsErr::ParamErr);
     }

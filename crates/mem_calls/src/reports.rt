@@ -16,7 +16,7 @@ impl MemoryManager {
         ensures exact { IsExactStep self.now.shape self.now.heap call.FreeMem [] (Ok (Number result)) self.now.heap }
         ensures step { MemoryStep self.now.shape self.now.heap call.FreeMem [] (Ok (Number result)) self.now.heap }
     {
-        self.zone.free_bytes()
+        self.zone.linked().free_bytes()
     }
 
     /// MaxBlock: the most free bytes that moving blocks would bring together (Inside Macintosh: Memory, Assessing Memory

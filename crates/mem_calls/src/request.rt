@@ -176,7 +176,7 @@ fn run<G: GrowZone>(
 fn lacks_slot(zone: &Zone, request: &Request) -> bool
     ensures { result ≡ lacks_slot request.now zone.now.heap }
 {
-    matches!(request, Request::NewBlock(_) | Request::NewEmpty) && !zone.has_slot()
+    matches!(request, Request::NewBlock(_) | Request::NewEmpty) && !zone.linked().has_slot()
 }
 
 /// What a request gave, or memFullErr where it was not served.

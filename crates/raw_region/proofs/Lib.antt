@@ -1,6 +1,7 @@
 pub mod Carves
 pub mod Free
 pub mod Freed
+pub mod Hosts
 pub mod Indexes
 pub mod Laws
 pub mod Lists

@@ -5,9 +5,11 @@
 #![tactic(auto)]
 
 mod cells;
+mod host;
 mod loan;
 mod memory;
 mod region;
 
+pub use host::HostBytes;
 pub use loan::Lent;
 pub use region::Region;

@@ -22,7 +22,9 @@ impl Model for Room {
     ghost also_owns = { λ r. zeroed r.at r.len r.done };
 }
 
-/// The right to give `len` bytes from `at` on back to the allocator that they are of. It takes no memory.
+/// The right to give `len` bytes from `at` on back to the allocator that they are of. It takes no memory. Where it is
+/// dropped, the bytes stay with whoever has them.
+#[derive(Drop)]
 pub(crate) struct Lease<A: Allocator> {
     marker: PhantomData<A>,
     pub ghost alloc: { A },
@@ -32,4 +34,11 @@ pub(crate) struct Lease<A: Allocator> {
 
 impl<A: Allocator> Model for Lease<A> {
     ghost also_owns = { λ l. A.dealloc_token l.alloc (bytes_type l.len) l.at };
+}
+
+/// The allocator that bytes are of, and the right to give them back to it.
+#[derive(Drop)]
+pub(crate) struct Source {
+    pub(crate) lease: Lease<Global>,
+    pub(crate) alloc: Global,
 }

@@ -3,13 +3,14 @@
 ghost use Rattle.std.specs.Prelude.{◌≡◌, ◌^◌, ◌<◌, [], replicate, IfOk};
 
 use crate::cells::Cells;
-use crate::memory::{Lease, Room};
+use crate::memory::{Room, Source};
 use mac_base::error::HostFull;
 use std::alloc::Global;
 use std::marker::Model;
 
 mod access;
 mod blocks;
+mod host;
 mod loans;
 mod pieces;
 
@@ -18,20 +19,21 @@ mod pieces;
 /// when it runs. After `create` no call takes memory of the host.
 pub struct Region {
     cells: Cells,
-    lease: Lease<Global>,
-    alloc: Global,
+
+    // Where it is none, the bytes are the host's own.
+    source: Option<Source>,
 }
 
 impl Model for Region {
-    ghost use Rattle.std.specs.Prelude.{◌≡◌};
+    ghost use Rattle.std.specs.Prelude.{◌≡◌, IfSome};
     ghost use Rattle.raw_region.specs.State.{State};
 
     ghost Value = { State };
 
     ghost view = { λ r. record { name = r.cells.home; bytes = r.cells.bytes; lent = r.cells.lent } };
 
-    ghost invariant = { λ r. (r.cells.from ≡ 0) × (r.lease.alloc ≡ r.alloc) × (r.lease.at ≡ r.cells.at)
-        × (r.lease.len ≡ r.cells.len) };
+    ghost invariant = { λ r. (r.cells.from ≡ 0) × IfSome r.source (λ s. (s.lease.alloc ≡ s.alloc)
+        × (s.lease.at ≡ r.cells.at) × (s.lease.len ≡ r.cells.len)) };
 }
 
 impl Region {
@@ -47,8 +49,7 @@ impl Region {
                 }
                 Ok(Region {
                     cells: room.filled(),
-                    lease,
-                    alloc,
+                    source: Some(Source { lease, alloc }),
                 })
             }
             None => Err(HostFull),
@@ -57,15 +58,14 @@ impl Region {
 }
 
 impl Drop for Region {
-    /// A region ends only when nothing of it is lent.
+    /// A region ends only when nothing of it is lent. Memory of the allocator goes back to it.
     fn drop(self)
         requires nothing_lent { self.lent ≡ [] }
     {
-        let Region {
-            cells,
-            lease,
-            alloc,
-        } = self;
-        cells.free(lease, &alloc);
+        let Region { cells, source } = self;
+        match source {
+            Some(Source { lease, alloc }) => cells.free(lease, &alloc),
+            None => drop(cells.hand_back()),
+        }
     }
 }

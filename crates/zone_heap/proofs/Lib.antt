@@ -29,3 +29,4 @@ pub mod Purging
 pub mod Candidates
 pub mod Replacing
 pub mod Counting
+pub mod Refilled

@@ -5,18 +5,10 @@ use crate::zone::Zone;
 use mac_base::request::Request;
 
 impl Zone {
-    ghost use Rattle.std.specs.Prelude.{◌≡◌, not};
-    ghost use Rattle.mac_base.specs.Heap.{has_none};
+    ghost use Rattle.std.specs.Prelude.{◌≡◌};
     ghost use Rattle.mac_base.specs.Sound.{Sound};
     ghost use Rattle.linked_zone.specs.Loans.{KeepsLoans};
     ghost use Rattle.zone_heap.specs.Attempts.{Attempts, CanAsk};
-
-    /// Whether a slot is free for a new handle.
-    pub fn has_slot(&self) -> bool
-        ensures { result ≡ not (has_none self.now.heap.free_slots) }
-    {
-        self.pointers.linked().has_slot()
-    }
 
     /// Makes one attempt to serve a request in the zone as it is: blocks move where they must. Gives the number of the new
     /// handle or pointer, or of the block that the request is for; of a master block the address of its first slot, and 0

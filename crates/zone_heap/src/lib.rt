@@ -12,6 +12,7 @@ mod replace;
 mod reports;
 mod shortage;
 mod size;
+mod structure;
 mod zone;
 
 pub use block_bytes::check;

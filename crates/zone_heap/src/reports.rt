@@ -6,14 +6,6 @@ use mac_base::purge_space::PurgeSpace;
 impl Zone {
     ghost use Rattle.std.specs.Prelude.{◌≡◌};
     ghost use Rattle.mac_base.specs.Reports.{largest_room, purge_space, largest_purge_space};
-    ghost use Rattle.mac_base.specs.ZoneMap.{free_bytes};
-
-    /// FreeMem: the sum of the sizes of the free blocks (Inside Macintosh: Memory, "Assessing Memory Conditions").
-    pub fn free_bytes(&self) -> u32
-        ensures { result ≡ free_bytes self.now.heap.map }
-    {
-        self.pointers.linked().free_bytes()
-    }
 
     /// MaxBlock: the most free bytes that moving blocks would bring together, in one gap (Inside Macintosh: Memory, "Assessing Memory
     /// Conditions").

@@ -1,7 +1,7 @@
 //! The zone.
 
 use linked_zone::LinkedZone;
-use mac_base::block::{Block, Flags, HeadKind, Status};
+use mac_base::block::{Flags, HeadKind, Status};
 use mac_base::error::HostFull;
 use mac_base::handle::{Handle, Ptr};
 use mac_base::size::{MASTER_LENGTH, ZONE_HEADER, need_for};
@@ -56,7 +56,6 @@ impl Zone {
     ghost use Rattle.mac_base.specs.Releasing.{heap_released};
     ghost use Rattle.mac_base.specs.ZoneSizes.{shape_of};
     ghost use Rattle.zone_heap.specs.Placed.{resized_there};
-    ghost use Rattle.mac_base.specs.BlockReport.{report_at};
     ghost use Rattle.linked_zone.specs.Image.{IsImage};
     ghost use Rattle.block_bytes.specs.Walk.{Walks};
     ghost use Rattle.zone_heap.specs.WritingBack.{WritesBackBytes};
@@ -70,43 +69,6 @@ impl Zone {
         pointers.split(first, need_for(spec.heads(), MASTER_LENGTH));
         pointers.build_master(first);
         Ok(Zone { pointers })
-    }
-
-    /// Whether a handle is live: the address of a slot that isn't free.
-    pub fn is_live(&self, handle: Handle) -> bool
-        ensures { result ≡ is_handle self.now.heap.table handle }
-    {
-        self.pointers.linked().is_live(handle)
-    }
-
-    /// Whether a pointer is live: a nonrelocatable block's contents begin there.
-    pub fn is_pointer(&self, pointer: Ptr) -> bool
-        ensures { result ≡ is_pointer self.now.heap.table pointer }
-    {
-        self.pointers.linked().is_pointer(pointer)
-    }
-
-    /// Whether a number has a block: it is a handle that isn't empty, or a pointer.
-    pub fn has_block(&self, block: u32) -> bool
-        ensures { result ≡ has_block self.now.heap.table block }
-    {
-        self.pointers.linked().has_block(block)
-    }
-
-    /// Whether a live handle has a block. Only its slot is read.
-    pub fn is_full(&self, handle: Handle) -> bool
-        requires { IsTrue (is_handle self.now.heap.table handle) }
-        ensures { result ≡ is_full self.now.heap.table handle }
-    {
-        self.pointers.linked().is_full(handle)
-    }
-
-    /// Whether a handle or a pointer that has a block is lent.
-    pub fn is_lent(&self, block: u32) -> bool
-        requires { IsTrue (has_block self.now.heap.table block) }
-        ensures { result ≡ is_lent self.now.heap.table block }
-    {
-        self.pointers.linked().is_lent(block)
     }
 
     /// How many blocks are lent: 8 at most, each of them a pointer's or a locked handle's.
@@ -180,20 +142,13 @@ impl Zone {
         empty(&mut self.pointers, handle);
     }
 
-    /// The flags of a live handle; an empty one has none.
-    pub fn flags(&self, handle: Handle) -> Flags
-        requires { IsTrue (is_handle self.now.heap.table handle) }
-        ensures { result ≡ flags_of self.now.heap.table handle }
-    {
-        self.pointers.linked().flags(handle)
-    }
-
     /// Sets the flags of a handle that has a block. One that is lent stays locked.
     pub fn set_flags(&mut self, handle: Handle, flags: Flags)
         requires full { IsTrue (is_full self.old.heap.table handle) }
         requires fixed { IsTrue (flags.lock || not (is_lent self.old.heap.table handle)) }
         ensures heap { self.new.heap ≡ with_table (with_flags handle flags self.old.heap.table) self.old.heap }
         ensures shape { self.new.shape ≡ self.old.shape }
+        ensures memory { self.new.memory ≡ self.old.memory }
         ensures loans { KeepsLoans self.old self.new }
     {
         self.pointers.set_flags(handle, flags);
@@ -211,27 +166,11 @@ impl Zone {
         at + spec.heads().head_size()
     }
 
-    /// How many bytes a handle or a pointer has. It may be lent.
-    pub fn length(&self, block: u32) -> u32
-        requires { IsTrue (has_block self.now.heap.table block) }
-        ensures { result ≡ length (bytes_of self.now.heap.table block) }
-    {
-        self.pointers.linked().length(block)
-    }
-
     /// How many bytes a handle has: none where it isn't live, or empty.
     pub fn length_if_any(&self, handle: Handle) -> u32
         ensures { result ≡ length (bytes_of self.now.heap.table handle) }
     {
         self.pointers.length_if_any(handle)
-    }
-
-    /// The bytes of a handle or a pointer that has a block.
-    pub fn bytes(&self, block: u32) -> &[u8]
-        requires { status_of self.now.heap.table block ≡ Status.Full }
-        ensures { result.now ≡ bytes_of self.now.heap.table block }
-    {
-        self.pointers.linked().contents(block)
     }
 
     /// The bytes of a handle or a pointer that has a block, to be written.
@@ -252,6 +191,13 @@ impl Zone {
     {
         self.pointers.linked().spec().base() + ZONE_HEADER
     }
+    /// How many bytes a handle or a pointer has. It may be lent.
+    pub fn length(&self, block: u32) -> u32
+        requires { IsTrue (has_block self.now.heap.table block) }
+        ensures { result ≡ length (bytes_of self.now.heap.table block) }
+    {
+        self.pointers.linked().length(block)
+    }
 
     /// How the zone's blocks are headed.
     pub fn heads(&self) -> HeadKind
@@ -259,14 +205,6 @@ impl Zone {
     {
         self.pointers.linked().spec().heads()
     }
-
-    /// The block whose header stands at this address, if one does.
-    pub fn entry(&self, at: u32) -> Option<Block>
-        ensures { result ≡ report_at self.now.shape self.now.heap at }
-    {
-        self.pointers.linked().entry(at)
-    }
-
     /// The bytes of the zone, from its start to the end of its last block: its header, and its blocks with their
     /// headers, master pointers and contents. They are bytes that `check` takes.
     pub fn image(&self) -> &[u8]

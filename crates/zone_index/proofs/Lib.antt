@@ -1,3 +1,4 @@
+pub mod Alike
 pub mod Begun
 pub mod Bytes
 pub mod Changed
@@ -33,6 +34,7 @@ pub mod Passed
 pub mod Passing
 pub mod Placed
 pub mod Reached
+pub mod Refilled
 pub mod Reports
 pub mod RoomAt
 pub mod RoomSums

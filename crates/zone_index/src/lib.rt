@@ -4,6 +4,7 @@
 
 mod changes;
 mod disorder;
+mod exchange;
 mod fixed;
 mod gap;
 mod leaves;

@@ -1,5 +1,8 @@
 mod ReadWord
 mod ReadSlots
+mod Meaning
+mod Comparing
+mod SaidSlots
 mod Words
 mod Apart
 mod Held
@@ -9,7 +12,13 @@ mod FirstFree
 mod Headers
 mod Holding
 mod Slots
+mod MasterBlocks
+mod ShownBlocks
+mod Structures
+mod Writing
+mod Changed
 mod Blocks
+mod Adopted
 mod Placing
 mod Freeing
 mod Fitting
@@ -22,3 +31,4 @@ mod Lending
 mod Copied
 pub mod Chaining
 pub mod Extending
+pub mod OwnBytes

@@ -14,7 +14,7 @@ use Rattle.zone_records.specs.Places.{can_say, is_unmarked}
 use Rattle.zone_records.specs.Word.{slot_word, slot_in}
 
 -- the high byte of flags says them
-flags_from-state : (f : Flags) → flags_from (state_of f) ≡ f
+pub flags_from-state : (f : Flags) → flags_from (state_of f) ≡ f
 flags_from-state f = by_case f.lock f.purge f.resource
   where
     by_case : (a b c : Bool) → flags_from (state_of (record { lock = a; purge = b; resource = c })) ≡ record { lock = a; purge = b; resource = c }
@@ -28,7 +28,7 @@ flags_from-state f = by_case f.lock f.purge f.resource
     by_case true true true = refl
 
 -- it is even and below 256
-state-range : (f : Flags) → (state_of f % 2 ≡ 0) × (state_of f < 256)
+pub state-range : (f : Flags) → (state_of f % 2 ≡ 0) × (state_of f < 256)
 state-range f = by_case f.lock f.purge f.resource
   where
     by_case : (a b c : Bool) → let f : Flags = record { lock = a; purge = b; resource = c } in (state_of f % 2 ≡ 0) × (state_of f < 256)

@@ -26,14 +26,14 @@ use Rattle.zone_records.proofs.Looking.{of-block, sound-parts, not-lent}
 use Rattle.zone_records.proofs.Holding.{sound-same}
 
 -- a role that says a master block
-master-role : (heads : HeadKind) (base : ℕ) (r : Role) (bytes : List ℕ) (slots : List Slot) → content_in heads base r bytes ≡ Master slots → (r ≡ role.Master) × (slots_in heads slot_count bytes ≡ slots)
+pub master-role : (heads : HeadKind) (base : ℕ) (r : Role) (bytes : List ℕ) (slots : List Slot) → content_in heads base r bytes ≡ Master slots → (r ≡ role.Master) × (slots_in heads slot_count bytes ≡ slots)
 master-role heads base role.Free bytes slots is = absurd (cc is)
 master-role heads base role.Fixed bytes slots is = absurd (cc is)
 master-role heads base role.Master bytes slots is = (refl, cc is)
 master-role heads base (role.Relocatable offset flags) bytes slots is = absurd (cc is)
 
 -- the contents of a sound one have so many bytes
-master-long : (heads : HeadKind) (base : ℕ) (b : RawBlock) → is_sound heads base b ≡ true → b.role ≡ role.Master → length b.contents ≡ 256
+pub master-long : (heads : HeadKind) (base : ℕ) (b : RawBlock) → is_sound heads base b ≡ true → b.role ≡ role.Master → length b.contents ≡ 256
 master-long heads base b sound is = let here = ap (λ r. has_use base r (length b.contents)) (sym is) ∙ (sound-parts heads base b sound).use_is in grind (arith, nat_tests)
 
 module _ (l : Layout) (z : ZoneRecords) (held : Held l z) where
@@ -131,24 +131,23 @@ module _ (l : Layout) (z : ZoneRecords) (held : Held l z) where
         let four : x - first ≡ 4 * length s.slots_before = omega arith in
         (ap (λ (b : RawBlock). b.role) same.1 ∙ slot-role.0, omega arith, omega arith, ap (λ n. n % 4) four ∙ omega arith)
 
-  -- and each such number is a slot
-  pub slot-made : (x start first : ℕ) (h : HoldsByte l x start) → first ≡ start + head_size l.heads → h.block.here.role ≡ role.Master → first ≤ x → x < first + 256 → (x - first) % 4 ≡ 0 → SlotAt z x
-  slot-made x start first h is master low high even =
-      let b = h.block in
+  -- the slot at a place among the contents of a master block, and what it says
+  pub slot-at : (x start k : ℕ) (b : BlockAt l start) → b.here.role ≡ role.Master → k < 64 → x ≡ start + head_size l.heads + 4 * k → (s : SlotAt z x) × (s.here ≡ slot_in l.heads (big_number 4 (part b.here.contents (4 * k) 4)))
+  slot-at x start k b is few there =
       let r = of-block l z held start b in
       let sound = sound-one l b.before b.here b.behind held.sound b.blocks in
       let all = slots_in l.heads slot_count b.here.contents in
       let count = length-slots_in l.heads slot_count b.here.contents in
-      let parts = slots_at all ((x - first) / 4) (omega arith) in
+      let parts = slots_at all k (omega arith) in
       let rec : record_in l.heads l.base b.here ≡ block_record (Master (parts.before ++ parts.here ∷ parts.behind)) (size_of l.heads b.here) = (λ i. record {
         size = size_of l.heads b.here;
-        content = (ap (λ r. content_in l.heads l.base r b.here.contents) master ∙ ap Master parts.slots) i;
-        lent = (not-lent b.here.lent b.here.role (ap has_owner master) (sound-parts l.heads l.base b.here sound).owned) i;
+        content = (ap (λ r. content_in l.heads l.base r b.here.contents) is ∙ ap Master parts.slots) i;
+        lent = (not-lent b.here.lent b.here.role (ap has_owner is) (sound-parts l.heads l.base b.here sound).owned) i;
       }) in
       let place = r.place in
       let head = ap head_size (heads-is l z held) in
       let index = parts.place in
-      record {
+      let slot : SlotAt z x = record {
         before = r.before;
         size = size_of l.heads b.here;
         slots_before = parts.before;
@@ -157,7 +156,12 @@ module _ (l : Layout) (z : ZoneRecords) (held : Held l z) where
         behind = r.behind;
         blocks = r.blocks ∙ ap (λ h. r.before ++ h ∷ r.behind) rec;
         place = omega arith;
-      }
+      } in
+      (slot, (slot-read l.heads slot_count b.here.contents parts.before parts.here parts.behind parts.slots).1 ∙ ap (λ j. slot_in l.heads (big_number 4 (part b.here.contents (4 * j) 4))) index)
+
+  -- and each such number is a slot
+  pub slot-made : (x start first : ℕ) (h : HoldsByte l x start) → first ≡ start + head_size l.heads → h.block.here.role ≡ role.Master → first ≤ x → x < first + 256 → (x - first) % 4 ≡ 0 → SlotAt z x
+  slot-made x start first h is master low high even = (slot-at x start ((x - first) / 4) h.block master (omega arith) (omega arith)).0
 
   -- a block that has a byte lies within 32 bits
   pub holder-range : (x start : ℕ) (h : HoldsByte l x start) → start + size_of l.heads h.block.here ≤ 0xFFFF_FFFF

@@ -7,3 +7,6 @@ pub mod Reading
 pub mod Image
 pub mod WritingBack
 pub mod Copying
+pub mod Structure
+pub mod Adopting
+pub mod Masters

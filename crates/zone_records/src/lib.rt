@@ -1,9 +1,14 @@
 //! The blocks of a zone and the slots of its master blocks. That owners and blocks find each other is up to the caller.
 #![tactic(auto)]
 
+mod adopting;
 mod chain;
+mod masters;
 mod records;
 mod slot;
+mod structure;
 
+pub use block_bytes::{NotAdopted, WhyNot};
 pub use records::Records;
 pub use slot::Slot;
+pub use structure::Agreement;

@@ -8,14 +8,14 @@ use mac_base::error::HostFull;
 use mac_base::handle::{Handle, Ptr};
 use mac_base::size::MASTER_LENGTH;
 use mac_base::zone_spec::ZoneSpec;
-use raw_region::Lent;
+use raw_region::{Lent, Region};
 use std::alloc::Global;
 use std::marker::Model;
 
 /// The blocks of a zone with what is in them, and the slots of its master blocks. A contract sees the list. Free bytes
 /// and those that are over have no value there. After `create` no call takes memory of the host.
 pub struct Records {
-    blocks: Blocks,
+    pub(crate) blocks: Blocks,
 }
 
 impl Model for Records {
@@ -455,5 +455,22 @@ impl Records {
         if kept < length {
             self.blocks.clear_from(at, kept);
         }
+    }
+}
+
+impl Records {
+    ghost use Rattle.std.specs.Prelude.{◌≡◌, []};
+    ghost use Rattle.zone_records.specs.Records.{NothingLent};
+    ghost use Rattle.zone_records.specs.Structure.{IsIn};
+
+    /// The region that the zone is in. The zone ends.
+    pub fn into_region(self) -> Region
+        requires nothing_lent { NothingLent self }
+        ensures bytes { IsIn self result.bytes }
+        ensures name { result.name ≡ self.memory }
+        ensures whole { result.lent ≡ [] }
+    {
+        let Records { blocks } = self;
+        blocks.into_region()
     }
 }

@@ -80,7 +80,7 @@ fn state_of(flags: Flags) -> u32
 }
 
 /// The flags that a high byte says.
-fn flags_from(high: u32) -> Flags
+pub(crate) fn flags_from(high: u32) -> Flags
     ensures { result ≡ flags_from high }
 {
     Flags {

@@ -1,0 +1,170 @@
+-- Headers compared from an address on, up to the next master block.
+use Rattle.std.proofs.Common.{◌≡◌, ℕ, ◌+◌, ◌-◌, ◌<◌, ◌≤◌, Bool, true, false, List, [], ◌∷◌, ◌++◌, length, refl, sym, ap, subst, ◌∙◌, arith, append_assoc, append-nil, IsTrue}
+use Rattle.std.specs.Prelude.{◌&&◌, not, if◌then◌else◌}
+use Rattle.std.proofs.lemmas.List.Folds.{list_all-append}
+use Rattle.mac_base.specs.declared.block.HeadKind.{HeadKind}
+use Rattle.mac_base.specs.HeadKind.{head_size, zone_header}
+use Rattle.mac_base.specs.ZoneSizes.{ArePossible}
+use Rattle.raw_region.specs.Bytes.{part}
+use Rattle.block_bytes.specs.declared.blocks.Blocks.TheInside.{Inside}
+use Rattle.block_bytes.specs.declared.header.Role.{Role}
+use Rattle.block_bytes.specs.declared.header.Role.TheVariants.{Free, Fixed, Master, Relocatable}
+use Rattle.block_bytes.specs.Finding.{SplitAt}
+use Rattle.block_bytes.specs.Layout.{RawBlock, Layout, address_behind, image_of, size_of, total_of}
+use Rattle.block_bytes.specs.Reading.{layout_of, IsLayout}
+use Rattle.block_bytes.specs.Structure.{AgreeUpTo, HasHeaders, is_master, none_master, up_to_master}
+use Rattle.block_bytes.proofs.Exchanged.{length-all}
+use Rattle.block_bytes.proofs.Parts.{total-ends}
+use Rattle.block_bytes.proofs.ReadBlocks.{and-true}
+use Rattle.block_bytes.proofs.ReadParts.{ReadAt, read-at}
+use Rattle.block_bytes.proofs.Rendered.{total_of-append}
+use Rattle.block_bytes.proofs.Structures.{headers-append, headers-rest}
+use Rattle.block_bytes.proofs.Walking.{size_of-pos}
+
+-- a list of blocks is split at one place where the first parts are as large
+same_rest : (heads : HeadKind) (bs cs ds es : List RawBlock) → bs ++ cs ≡ ds ++ es → total_of heads bs ≡ total_of heads ds → cs ≡ es
+same_rest heads [] cs [] es e same = e
+same_rest heads [] cs (d ∷ ds) es e same = let some = size_of-pos heads d in absurd (omega arith)
+same_rest heads (x ∷ bs) cs [] es e same = let some = size_of-pos heads x in absurd (omega arith)
+same_rest heads (x ∷ bs) cs (d ∷ ds) es e same = let first : x ≡ d = cc in let rest : bs ++ cs ≡ ds ++ es = cc in let size = ap (size_of heads) first in
+    same_rest heads bs cs ds es rest (omega arith)
+
+-- a test that is refuted fails
+not_true : (t : Bool) → not t ≡ true → t ≡ false
+not_true true given = let e : false ≡ true = given in cc
+not_true false given = refl
+
+-- where some blocks are no master blocks, the first master block comes behind them
+up_to-passed : (passed rest : List RawBlock) → IsTrue (none_master passed) → up_to_master (passed ++ rest) ≡ passed ++ up_to_master rest
+up_to-passed [] rest others = refl
+up_to-passed (b ∷ bs) rest others =
+    let both = and-true (not (is_master b.role)) (none_master bs) others in
+    ap (λ (t : Bool). b ∷ (if t then [] else up_to_master (bs ++ rest))) (not_true (is_master b.role) both.0) ∙ ap (λ (cs : List RawBlock). b ∷ cs) (up_to-passed bs rest both.1)
+
+-- a role that is a master block's
+master-is : (role : Role) → is_master role ≡ true → role ≡ Master
+master-is Free is = let e : false ≡ true = is in cc
+master-is Fixed is = let e : false ≡ true = is in cc
+master-is Master is = refl
+master-is (Relocatable slot flags) is = let e : false ≡ true = is in cc
+
+-- the headers from an address up to an offset agree, and none of them is that of a master block
+pub record ComparedUpTo (l : Layout) (bytes : List ℕ) (from at : ℕ) : Type 0 where
+  pub start : List RawBlock
+  pub passed : List RawBlock
+  pub rest : List RawBlock
+  pub blocks : l.blocks ≡ start ++ (passed ++ rest)
+  pub first : from ≡ address_behind l start
+  pub place : at ≡ zone_header + total_of l.heads start + total_of l.heads passed
+  pub others : IsTrue (none_master passed)
+  pub agree : HasHeaders l bytes (zone_header + total_of l.heads start) passed
+
+-- so far none was compared
+pub compared-none : (l : Layout) (bytes : List ℕ) (from at : ℕ) → SplitAt l from → at ≡ from - l.base → ComparedUpTo l bytes from at
+compared-none l bytes from at s there = let place = s.place in
+    record { start = s.before; passed = []; rest = s.behind; blocks = s.blocks; first = s.place; place = omega arith; others = refl; agree = tt }
+
+-- then comes a block, with its header in the fields
+pub record NextAt (z : Inside) (l : Layout) (bytes : List ℕ) (from at : ℕ) : Type 0 where
+  pub compared : ComparedUpTo l bytes from at
+  pub here : RawBlock
+  pub behind : List RawBlock
+  pub next : compared.rest ≡ here ∷ behind
+  pub read : ReadAt z l at here
+
+-- below the end of the last block
+pub next-at : (z : Inside) → IsLayout z → ArePossible z.spec → (l : Layout) → layout_of z ≡ l → (bytes : List ℕ) (from at : ℕ) → ComparedUpTo l bytes from at → at < z.spec.size → NextAt z l bytes from at
+next-at z whole small l is bytes from at = subst (λ (m : Layout). ComparedUpTo m bytes from at → at < z.spec.size → NextAt z m bytes from at) is (λ r below. by_rest r.start r.passed r.rest r.blocks r.first r.place r.others r.agree below)
+  where
+    by_rest : (start passed rest : List RawBlock) → (layout_of z).blocks ≡ start ++ (passed ++ rest) → from ≡ address_behind (layout_of z) start
+        → at ≡ zone_header + total_of z.spec.heads start + total_of z.spec.heads passed → IsTrue (none_master passed)
+        → HasHeaders (layout_of z) bytes (zone_header + total_of z.spec.heads start) passed → at < z.spec.size → NextAt z (layout_of z) bytes from at
+    by_rest start passed [] blocks first place others agree below =
+        let sum = ap (total_of z.spec.heads) blocks in let a = total_of-append z.spec.heads start (passed ++ []) in let b = total_of-append z.spec.heads passed [] in let ends = total-ends z whole in absurd (omega arith)
+    by_rest start passed (b ∷ bs) blocks first place others agree below =
+        let before = start ++ passed in let e : (layout_of z).blocks ≡ before ++ b ∷ bs = blocks ∙ sym (append_assoc start passed (b ∷ bs)) in
+        let sum = total_of-append z.spec.heads start passed in let there : at ≡ zone_header + total_of z.spec.heads before = omega arith in
+        record {
+          compared = record { start = start; passed = passed; rest = b ∷ bs; blocks = blocks; first = first; place = place; others = others; agree = agree };
+          here = b;
+          behind = bs;
+          next = refl;
+          read = read-at z whole before b bs e small at there;
+        }
+
+-- as many bytes as the zone's are as many as those of the memory
+pub enough-bytes : (z : Inside) → IsLayout z → (l : Layout) → layout_of z ≡ l → (bytes : List ℕ) → length bytes ≡ length (image_of l) → length bytes ≡ z.spec.limit
+enough-bytes z whole l is bytes long = long ∙ ap (λ (m : Layout). length (image_of m)) (sym is) ∙ length-all z whole
+
+module _ (l : Layout) (bytes : List ℕ) (from at : ℕ) (r : ComparedUpTo l bytes from at) (s : SplitAt l from) where
+  -- the blocks from the address on
+  pub behind-is : s.behind ≡ r.passed ++ r.rest
+  behind-is = let p = s.place in let q = r.first in same_rest l.heads s.before s.behind r.start (r.passed ++ r.rest) (sym s.blocks ∙ r.blocks) (omega arith)
+
+  -- their offset
+  pub offset-is : zone_header + total_of l.heads r.start ≡ from - l.base
+  offset-is = let q = r.first in omega arith
+
+  -- all of them were compared where the zone ends
+  pub compared-all : address_behind l l.blocks ≤ l.base + at → IsTrue (none_master s.behind) × HasHeaders l bytes (from - l.base) s.behind
+  compared-all ends =
+      subst (λ (bs : List RawBlock). IsTrue (none_master bs) × HasHeaders l bytes (from - l.base) bs) (sym (behind-is ∙ ap (λ (bs : List RawBlock). r.passed ++ bs) (none r.rest r.blocks) ∙ append-nil r.passed))
+      (r.others, subst (λ (n : ℕ). HasHeaders l bytes n r.passed) offset-is r.agree)
+    where
+      none : (rest : List RawBlock) → l.blocks ≡ r.start ++ (r.passed ++ rest) → rest ≡ []
+      none [] blocks = refl
+      none (b ∷ bs) blocks =
+          let sum = ap (total_of l.heads) blocks in let first = total_of-append l.heads r.start (r.passed ++ b ∷ bs) in let second = total_of-append l.heads r.passed (b ∷ bs) in
+          let some = size_of-pos l.heads b in let place = r.place in absurd (omega arith)
+
+module _ (z : Inside) (l : Layout) (bytes : List ℕ) (from at : ℕ) (n : NextAt z l bytes from at) where
+  abbrev r : ComparedUpTo l bytes from at
+  r = n.compared
+
+  -- its header, where it agrees
+  agree-here : part z.memory.bytes at (head_size z.spec.heads) ≡ part bytes at (head_size z.spec.heads) → HasHeaders l bytes (zone_header + total_of l.heads r.start) (r.passed ++ n.here ∷ [])
+  agree-here same = headers-append l bytes (zone_header + total_of l.heads r.start) r.passed (n.here ∷ []) r.agree
+      ((λ i. part bytes (sym r.place i) (sym n.read.same i)) ∙ sym same ∙ n.read.head, tt)
+
+  -- the header agrees, and isn't that of a master block
+  pub compared-more : part z.memory.bytes at (head_size z.spec.heads) ≡ part bytes at (head_size z.spec.heads) → is_master n.here.role ≡ false → (next : ℕ) → next ≡ at + size_of l.heads n.here
+      → ComparedUpTo l bytes from next
+  compared-more same other next there = let place = r.place in let sum = total_of-append l.heads r.passed (n.here ∷ []) in record {
+    start = r.start;
+    passed = r.passed ++ n.here ∷ [];
+    rest = n.behind;
+    blocks = r.blocks ∙ ap (λ (bs : List RawBlock). r.start ++ (r.passed ++ bs)) n.next ∙ ap (λ (bs : List RawBlock). r.start ++ bs) (sym (append_assoc r.passed (n.here ∷ []) n.behind));
+    first = r.first;
+    place = omega arith;
+    others = list_all-append (λ (b : RawBlock). not (is_master b.role)) r.passed (n.here ∷ []) ∙ ap (λ (t : Bool). t && (not (is_master n.here.role) && true)) r.others ∙ ap (λ (t : Bool). not t && true) other;
+    agree = agree-here same;
+  }
+
+  module _ (s : SplitAt l from) where
+    -- the blocks from the address on
+    here-is : s.behind ≡ r.passed ++ n.here ∷ n.behind
+    here-is = behind-is l bytes from at r s ∙ ap (λ (bs : List RawBlock). r.passed ++ bs) n.next
+
+    -- the header agrees, and is that of a master block
+    pub agree-up_to : part z.memory.bytes at (head_size z.spec.heads) ≡ part bytes at (head_size z.spec.heads) → is_master n.here.role ≡ true → (place : ℕ) → place ≡ l.base + at
+        → AgreeUpTo l bytes (from - l.base) s.behind place
+    agree-up_to same is place there = let offset = offset-is l bytes from at r s in let p = r.place in record {
+      passed = r.passed;
+      here = n.here;
+      behind = n.behind;
+      blocks = here-is;
+      others = r.others;
+      master = master-is n.here.role is;
+      agree = subst (λ (k : ℕ). HasHeaders l bytes k (r.passed ++ n.here ∷ [])) offset (agree-here same);
+      place = omega arith;
+    }
+
+    -- it agrees where those up to the next master block do
+    pub same-here : HasHeaders l bytes (from - l.base) (up_to_master s.behind) → part z.memory.bytes at (head_size z.spec.heads) ≡ part bytes at (head_size z.spec.heads)
+    same-here headers =
+        let bs = r.passed ++ up_to_master (n.here ∷ n.behind) in let offset = offset-is l bytes from at r s in
+        let all : HasHeaders l bytes (zone_header + total_of l.heads r.start) bs =
+        subst (λ (k : ℕ). HasHeaders l bytes k bs) (sym offset)
+        (subst (HasHeaders l bytes (from - l.base)) (ap up_to_master here-is ∙ up_to-passed r.passed (n.here ∷ n.behind) r.others) headers) in
+        let here = headers-rest l bytes (zone_header + total_of l.heads r.start) r.passed (up_to_master (n.here ∷ n.behind)) all in
+        n.read.head ∙ sym here.0 ∙ (λ i. part bytes (sym r.place i) (sym n.read.same i))

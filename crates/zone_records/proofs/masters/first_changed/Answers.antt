@@ -1,0 +1,130 @@
+use Rattle.std.proofs.Common.{◌≡◌, ◌+◌, ◌-◌, ◌≤◌, ◌∙◌, IfNone, Option, None, Some, refl, sym, ap, subst, arith}
+use Rattle.block_bytes.specs.declared.header.Header.{Header}
+use Rattle.block_bytes.specs.Layout.{size_of}
+use Rattle.zone_records.specs.Masters.{SameWhere}
+use Rattle.zone_records.specs.Reading.{records_in}
+use Rattle.zone_records.specs.Structure.{NoneChanged}
+use Rattle.zone_records.proofs.Changed.{held, begins, none-changed, none-outside, first-changed}
+use Rattle.zone_records.proofs.MasterBlocks.{block-end, done-all, done-more, headers-from, master-there, next-end, next_block, none-next}
+use Rattle.zone_records.proofs.Structures.{agree-at, structure-agrees, structure-head_is}
+use Rattle.zone_records.proofs.masters.first_changed.Goals as goal
+
+-- what a clause says of `None` holds where it isn't `Some`
+if_none : {X P : Type 0} (r : Option X) → ((x : X) → r ≡ Some x → ⊥) → IfNone r P → P
+if_none None other says = says
+if_none (Some x) other says = absurd (other x refl)
+
+pub returns-in_err-at-clause-none : goal.returns-in_err-at-clause-none
+returns-in_err-at-clause-none c =
+    let l = c.args.blocks.now in
+    let bytes = c.args.bytes.now in
+    let base : c.base-first.result ≡ l.base = c.base-first.ensures.value ∙ c.spec.ensures.base in
+    let most = c.max.ensures in
+    subst (λ r. IfNone r (NoneChanged (records_in l) bytes c.args.from)) (sym c.from_residual.ensures)
+    (none-outside l c.requires.sound bytes c.args.from c.max.result (λ x reached low. omega arith) (omega arith) c.in_err-at.ensures.outside)
+
+pub loop-master-init : goal.loop-master-init
+loop-master-init c =
+    let l = c.args.blocks.now in
+    let base : c.base-first.result ≡ l.base = c.base-first.ensures.value ∙ c.spec.ensures.base in
+    let most = c.max.ensures in
+    begins l c.requires.sound c.args.bytes.now c.args.from c.max.result c.in_ok-at.at (λ x reached low. omega arith) c.in_ok-at.ensures.holds
+
+pub compare_from-requires-clause-whole : goal.compare_from-requires-clause-whole
+compare_from-requires-clause-whole c = let l = c.args.blocks.now in (structure-head_is l c.args.bytes.now (records_in l) (held l c.requires.sound c.args.bytes.now) c.requires.same).all
+
+pub changed_slot-requires-clause-whole : goal.changed_slot-requires-clause-whole
+changed_slot-requires-clause-whole c = let l = c.args.blocks.now in (structure-head_is l c.args.bytes.now (records_in l) (held l c.requires.sound c.args.bytes.now) c.requires.same).all
+
+pub changed_slot-requires-clause-block : goal.changed_slot-requires-clause-block
+changed_slot-requires-clause-block c =
+    let l = c.args.blocks.now in
+    let bytes = c.args.bytes.now in
+    let split = c.loop-master.invariant.split in
+    let master = c.in-NextMaster.master in
+    let next = c.in-NextMaster.ensures split in
+    let block = next_block l bytes c.loop-master.at split master next in
+    block
+
+pub changed_slot-requires-clause-master : goal.changed_slot-requires-clause-master
+changed_slot-requires-clause-master c =
+    let l = c.args.blocks.now in
+    let bytes = c.args.bytes.now in
+    let split = c.loop-master.invariant.split in
+    let master = c.in-NextMaster.master in
+    let next = c.in-NextMaster.ensures split in
+    let block = next_block l bytes c.loop-master.at split master next in
+    master-there l master block next.master
+
+pub changed_slot-requires-clause-agree : goal.changed_slot-requires-clause-agree
+changed_slot-requires-clause-agree c b =
+    let l = c.args.blocks.now in
+    let bytes = c.args.bytes.now in
+    let split = c.loop-master.invariant.split in
+    let master = c.in-NextMaster.master in
+    let next = c.in-NextMaster.ensures split in
+    let block = next_block l bytes c.loop-master.at split master next in
+    agree-at l bytes (structure-agrees l bytes (records_in l) (held l c.requires.sound bytes) c.requires.same) master b (master-there l master block next.master b)
+
+pub returns-in-Some-clause-first : goal.returns-in-Some-clause-first
+returns-in-Some-clause-first c =
+    let l = c.args.blocks.now in
+    let bytes = c.args.bytes.now in
+    let split = c.loop-master.invariant.split in
+    let master = c.in-NextMaster.master in
+    let next = c.in-NextMaster.ensures split in
+    let block = next_block l bytes c.loop-master.at split master next in
+    first-changed l c.requires.sound bytes c.args.from c.loop-master.at master c.in-Some.found.0 c.in-Some.found.1 c.loop-master.invariant next (c.in-Some.ensures.first block)
+
+pub entry_at-requires : goal.entry_at-requires
+entry_at-requires c =
+    let l = c.args.blocks.now in
+    let bytes = c.args.bytes.now in
+    let split = c.loop-master.invariant.split in
+    let master = c.in-NextMaster.master in
+    let next = c.in-NextMaster.ensures split in
+    let block = next_block l bytes c.loop-master.at split master next in
+    block
+
+pub overflow_add-at : goal.overflow_add-at
+overflow_add-at c =
+    let l = c.args.blocks.now in
+    let bytes = c.args.bytes.now in
+    let split = c.loop-master.invariant.split in
+    let master = c.in-NextMaster.master in
+    let next = c.in-NextMaster.ensures split in
+    let block = next_block l bytes c.loop-master.at split master next in
+    let size : c.entry_at.result.size ≡ size_of l.heads block.here = ap (λ (h : Header). h.size) (c.entry_at.ensures block) in
+    omega (arith, (block-end l c.requires.sound master block).0)
+
+pub loop-master-smaller : goal.loop-master-smaller
+loop-master-smaller c =
+    let l = c.args.blocks.now in
+    let bytes = c.args.bytes.now in
+    let split = c.loop-master.invariant.split in
+    let master = c.in-NextMaster.master in
+    let next = c.in-NextMaster.ensures split in
+    let block = next_block l bytes c.loop-master.at split master next in
+    let size : c.entry_at.result.size ≡ size_of l.heads block.here = ap (λ (h : Header). h.size) (c.entry_at.ensures block) in
+    let ends = next-end l bytes c.loop-master.at split master next in
+    omega (arith, ends.0, ends.1)
+
+pub loop-master-preserved : goal.loop-master-preserved
+loop-master-preserved c =
+    let l = c.args.blocks.now in
+    let bytes = c.args.bytes.now in
+    let split = c.loop-master.invariant.split in
+    let master = c.in-NextMaster.master in
+    let next = c.in-NextMaster.ensures split in
+    let block = next_block l bytes c.loop-master.at split master next in
+    let size : c.entry_at.result.size ≡ size_of l.heads block.here = ap (λ (h : Header). h.size) (c.entry_at.ensures block) in
+    done-more l bytes (SameWhere (λ x. c.args.from ≤ x) l bytes) c.loop-master.at c.loop-master.invariant master _ next (ap (λ n. master + n) size) (if_none c.changed_slot.result c.in_default-changed_slot.not-Some c.changed_slot.ensures.none block)
+
+pub returns : goal.returns
+returns c =
+    let l = c.args.blocks.now in
+    let bytes = c.args.bytes.now in
+    let done = c.loop-master.invariant in
+    let headers = (structure-agrees l bytes (records_in l) (held l c.requires.sound bytes) c.requires.same).headers in
+    let none = none-next l bytes (c.loop-master.at - l.base) done.split.behind c.compare_from.result (c.compare_from.ensures done.split) c.in_default.not-NextMaster (headers-from l bytes c.loop-master.at done.split headers) in
+    record { first = tt; none = none-changed l c.requires.sound bytes c.args.from (done-all l bytes (SameWhere (λ x. c.args.from ≤ x) l bytes) c.loop-master.at done none) }

@@ -1,0 +1,98 @@
+//! A zone made of bytes that others wrote.
+
+ghost use Rattle.std.specs.Prelude.{◌≡◌, ◌↔◌, [], length, IfOk, IfErr, IsTrue};
+ghost use Rattle.std.specs.List.{All};
+ghost use Rattle.mac_base.specs.HeadKind.{master_length, slot_count};
+ghost use Rattle.block_bytes.specs.Layout.{BlockAt, NothingLent, UnlentAt};
+ghost use Rattle.block_bytes.specs.declared.adopting.WhyNot.TheVariants.{NotZone};
+ghost use Rattle.zone_records.specs.Adopting.{IsUsed, IsZoneIn};
+ghost use Rattle.zone_records.specs.Records.{ZoneRecords};
+ghost use Rattle.zone_records.specs.Word.{slot_in, slot_word, slots_in, words_of};
+
+use crate::records::Records;
+use block_bytes::{Blocks, NotAdopted, Role, WhyNot};
+use byteorder::{BigEndian, ByteOrder};
+use mac_base::block::HeadKind;
+use mac_base::size::{MASTER_LENGTH, SLOT_COUNT, ZONE_HEADER};
+use mac_base::zone_spec::ZoneSpec;
+use raw_region::Region;
+use std::alloc::Global;
+
+/// Whether a word is that of the slot that it says: in a zone of 24-bit blocks its high byte has no other bits than
+/// those of flags, or than that of a free slot.
+fn says_itself(heads: HeadKind, word: u32) -> bool
+    ensures { IsTrue result ↔ slot_word heads (slot_in heads word) ≡ word }
+{
+    match heads {
+        HeadKind::Bits24 => {
+            let high = word / 0x100_0000;
+            high == 1 || high % 32 == 0
+        }
+        HeadKind::Bits32 => true,
+    }
+}
+
+/// Whether the contents of a master block are the words of slots.
+fn are_words(heads: HeadKind, words: &[u8]) -> bool
+    requires { length words.now ≡ master_length }
+    ensures { IsTrue result ↔ words.now ≡ words_of heads (slots_in heads slot_count words.now) }
+{
+    for index in 0..SLOT_COUNT {
+        let place = 4 * index as usize;
+        if !says_itself(heads, BigEndian::read_u32(&words[place..])) {
+            return false;
+        }
+    }
+    true
+}
+
+/// Whether the block at an address has what it is for.
+fn is_used(blocks: &Blocks, at: u32) -> bool
+    requires { UnlentAt blocks.now at }
+    ensures { (b : BlockAt blocks.now at) → IsTrue result ↔ IsUsed blocks.now.heads blocks.now.base b.here }
+{
+    let spec = blocks.spec();
+    match blocks.entry_at(at).role {
+        Role::Free | Role::Fixed => true,
+        Role::Master => {
+            let words = blocks.contents(at);
+            words.len() == MASTER_LENGTH as usize && are_words(spec.heads(), words)
+        }
+        Role::Relocatable(offset, _) => offset <= u32::MAX - spec.base(),
+    }
+}
+
+/// Whether all blocks of a zone have what they are for.
+fn are_used(blocks: &Blocks) -> bool
+    requires { NothingLent blocks.now }
+    ensures { IsTrue result ↔ All (IsUsed blocks.now.heads blocks.now.base) blocks.now.blocks }
+{
+    let end = blocks.end();
+    let mut at = blocks.spec().base() + ZONE_HEADER;
+    while at < end {
+        if !is_used(blocks, at) {
+            return false;
+        }
+        at += blocks.entry_at(at).size;
+    }
+    true
+}
+
+impl Records {
+    /// The zone of these sizes whose bytes a region has, whoever wrote them.
+    pub fn adopt(alloc: Global, spec: ZoneSpec, region: Region) -> Result<Records, NotAdopted>
+        requires whole { region.lent ≡ [] }
+        ensures zone { IfOk result (λ zone. IsZoneIn spec region.bytes zone × (zone.memory ≡ region.name)) }
+        ensures same { IfErr result (λ no. no.region ≡ region) }
+        ensures none { IfErr result (λ no. no.why ≡ NotZone → (z : ZoneRecords) → IsZoneIn spec region.bytes z → ⊥) }
+    {
+        let _base = spec.base();
+        let blocks = Blocks::adopt(alloc, spec, region)?;
+        if are_used(&blocks) {
+            return Ok(Records { blocks });
+        }
+        let region = blocks.into_region();
+        let why = WhyNot::NotZone;
+        Err(NotAdopted { region, why })
+    }
+}

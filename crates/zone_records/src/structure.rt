@@ -1,0 +1,85 @@
+//! A zone's structure, its headers and master pointers, compared with other bytes and written to them; and a zone whose
+//! bytes are exchanged for others with the same structure.
+
+ghost use Rattle.std.specs.Prelude.{◌≡◌, [], length, IfSome, IfNone};
+ghost use Rattle.zone_records.specs.Records.{NothingLent};
+ghost use Rattle.zone_records.specs.Structure.{Agrees, FirstChanged, HasStructure, IsIn, NoneChanged, SameFlags, shown};
+
+use crate::masters::{compare_blocks, first_changed, write_masters};
+use crate::records::Records;
+use mac_base::block::Flags;
+use raw_region::Region;
+
+/// How bytes agree with a zone.
+#[derive(Clone, Copy, Debug, PartialEq, Eq)]
+pub enum Agreement {
+    /// They haven't its structure: a header or a master pointer differs, in more than a handle's flags.
+    Damaged,
+    /// They have its structure, and say other flags of a handle in its master pointer.
+    FlagsChanged,
+    /// They have its structure, and say the same flags of each handle.
+    Same,
+}
+
+impl Agreement {
+    ghost use Rattle.std.specs.Prelude.{◌≡◌};
+    ghost use Rattle.zone_records.specs.Structure.{worse};
+
+    /// The agreement of two parts together.
+    pub(crate) fn with(self, other: Agreement) -> Agreement
+        ensures { result ≡ worse self other }
+    {
+        match self {
+            Agreement::Damaged => Agreement::Damaged,
+            Agreement::FlagsChanged => match other {
+                Agreement::Damaged => Agreement::Damaged,
+                Agreement::FlagsChanged | Agreement::Same => Agreement::FlagsChanged,
+            },
+            Agreement::Same => other,
+        }
+    }
+}
+
+impl Records {
+    /// How bytes agree with the zone.
+    pub fn agreement(&self, bytes: &[u8]) -> Agreement
+        ensures { Agrees self.now bytes.now result }
+    {
+        if !self.blocks.has_head(bytes) {
+            return Agreement::Damaged;
+        }
+        compare_blocks(&self.blocks, bytes)
+    }
+
+    /// The first slot from an address on of whose handle bytes say other flags, and these flags.
+    pub fn changed_slot(&self, bytes: &[u8], from: u32) -> Option<(u32, Flags)>
+        requires { HasStructure self.now bytes.now }
+        ensures first { IfSome result (λ found. FirstChanged self.now bytes.now from found.0 found.1) }
+        ensures none { IfNone result (NoneChanged self.now bytes.now from) }
+    {
+        first_changed(&self.blocks, bytes, from)
+    }
+
+    /// Exchanges the zone's bytes for those of a region with the same structure, and returns the region that it had.
+    pub fn exchange(&mut self, region: Region) -> Region
+        requires nothing_lent { NothingLent self.old }
+        requires whole { region.lent ≡ [] }
+        requires same { HasStructure self.old region.bytes }
+        ensures zone { self.new ≡ record (shown self.old region.bytes) { memory = region.name } }
+        ensures name { result.name ≡ self.old.memory }
+        ensures bytes { IsIn self.old result.bytes }
+        ensures lent { result.lent ≡ [] }
+    {
+        self.blocks.exchange(region)
+    }
+
+    /// Writes the zone's structure, its headers and master pointers, among as many other bytes as its limit.
+    pub fn write_structure(&self, bytes: &mut [u8])
+        requires whole { length bytes.old ≡ self.now.shape.limit }
+        ensures same { HasStructure self.now bytes.new }
+        ensures flags { SameFlags self.now bytes.new }
+    {
+        self.blocks.write_headers(bytes);
+        write_masters(&self.blocks, bytes);
+    }
+}
