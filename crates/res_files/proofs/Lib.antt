@@ -17,3 +17,4 @@ pub mod PlacedRows
 pub mod Rewritten
 pub mod Crash
 pub mod AmongHandles
+pub mod Replaced

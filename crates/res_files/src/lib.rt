@@ -10,6 +10,7 @@ mod opening;
 mod placing;
 mod queries;
 mod reading;
+mod replacing;
 mod tables;
 mod updating;
 
