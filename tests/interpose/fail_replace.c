@@ -1,6 +1,6 @@
 /* Stands between a program and the C library's calls that replace a file. It adds a letter for each to the file REPLACE_LOG: o for an open, c for one
-   that makes a file, l for flock, w for a write to a file, m for fchmod, y for fsync of a file and Y of a folder, n for rename, and u for unlink. The call of
-   the number in REPLACE_FAIL, from 1 on, isn't made and fails with the error REPLACE_ERROR, or EIO; so do all from the number in REPLACE_FROM on. The
+   that makes a file, l for flock, w for a write to a file, m for fchmod, y for fsync of a file and Y of a folder, n for rename, and u for unlink; r for a
+   read, p for a write and t for a cut in a file's place. A rename to the name REPLACE_BUSY fails with EBUSY, as where something is mounted. The call of the number in REPLACE_FAIL, from 1 on, isn't made and fails with the error REPLACE_ERROR, or EIO; so do all from the number in REPLACE_FROM on. The
    process ends before the call of the number in REPLACE_END. The write of the number in REPLACE_PART is made for half of its bytes. Writes to
    files take REPLACE_ROOM bytes in all, and then ENOSPC. To be loaded ahead of the C library, with LD_PRELOAD. */
 #define _GNU_SOURCE
@@ -10,6 +10,7 @@
 #include <signal.h>
 #include <stdarg.h>
 #include <stdlib.h>
+#include <string.h>
 #include <sys/stat.h>
 #include <unistd.h>
 
@@ -100,6 +101,24 @@ ssize_t write(int file, const void *bytes, size_t count)
     return most < 0 ? -1 : NEXT(write)(file, bytes, (size_t)most);
 }
 
+ssize_t pwrite(int file, const void *bytes, size_t count, off_t at)
+{
+    if (fails('p'))
+        return -1;
+    ssize_t most = taken(count);
+    return most < 0 ? -1 : NEXT(pwrite)(file, bytes, (size_t)most, at);
+}
+
+ssize_t pread(int file, void *buffer, size_t count, off_t at)
+{
+    return fails('r') ? -1 : NEXT(pread)(file, buffer, count, at);
+}
+
+int ftruncate(int file, off_t length)
+{
+    return fails('t') ? -1 : NEXT(ftruncate)(file, length);
+}
+
 int fchmod(int file, mode_t mode)
 {
     return fails('m') ? -1 : NEXT(fchmod)(file, mode);
@@ -114,7 +133,14 @@ int fsync(int file)
 
 int rename(const char *from, const char *to)
 {
-    return fails('n') ? -1 : NEXT(rename)(from, to);
+    const char *busy = getenv("REPLACE_BUSY");
+    if (fails('n'))
+        return -1;
+    if (busy != NULL && strcmp(to, busy) == 0) {
+        errno = EBUSY;
+        return -1;
+    }
+    return NEXT(rename)(from, to);
 }
 
 int unlink(const char *path)

@@ -4,3 +4,5 @@ pub mod Replacing
 pub mod Calls
 pub mod Memory
 pub mod Held
+pub mod Changed
+pub mod InPlace

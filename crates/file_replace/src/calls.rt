@@ -1,9 +1,12 @@
 //! The calls that were made at a path of the host, for clauses alone.
 
-ghost use Rattle.std.specs.Prelude.{◌≡◌, ◌∷◌};
+ghost use Rattle.std.specs.Prelude.{◌≡◌, [], ◌∷◌};
+ghost use Rattle.file_replace.specs.declared.calls.HeldCall.TheVariants.{InPlace, Put};
 
+use crate::changed::Reached;
 use crate::place::FolderSync;
 use fork_disk::Record;
+use fork_journal::{FilePair, Journal, PairWorld};
 use std::collections::LinkedList;
 
 /// A call of the system at a path, or on the file beside it.
@@ -44,14 +47,58 @@ pub enum At {
     Backup,
 }
 
-/// The files that were put at these paths, the newest first, and the calls that each took.
-pub type HeldCalls = Record<(At, LinkedList<(Noted, LinkedList<u8>)>)>;
+/// What was done for a file that is changed in its place, and how it ended.
+#[derive(Clone, Copy)]
+pub enum JournalCall {
+    /// It looked for a journal, and whether there may be one.
+    Look(bool),
+    /// It was to make an empty one, and whether it did.
+    Make(bool),
+    /// It was to sync the folder, and whether it did.
+    SyncFolder(bool),
+    /// It was to settle what an earlier change left, and whether it did.
+    Settle(bool),
+    /// It was to give the file other bytes, and which it has.
+    Change(Reached),
+    /// It was to remove the journal, and whether it did.
+    Remove(bool),
+}
+
+/// What was done for a file.
+#[derive(Drop)]
+pub enum HeldCall {
+    /// A file was put there, by these calls.
+    Put(At, LinkedList<(Noted, LinkedList<u8>)>),
+    /// It was to be changed in its place, by these calls on it and its journal.
+    InPlace(JournalCall, LinkedList<(LinkedList<u64>, LinkedList<u8>)>),
+}
+
+/// What was done for a file, the newest first.
+pub type HeldCalls = Record<HeldCall>;
 
 /// Notes the calls that a file took.
 pub(crate) fn note_at(log: &mut HeldCalls, at: At, calls: &PlaceCalls)
-    ensures { log.new.events ≡ (at, calls.now.events) ∷ log.old.events }
+    ensures { log.new.events ≡ Put at calls.now.events ∷ log.old.events }
 {
     *log = Record::of_events_beside(log, &at, calls);
+}
+
+/// Notes what was done at a journal's name.
+pub(crate) fn note_name(log: &mut HeldCalls, call: JournalCall)
+    ensures { log.new.events ≡ InPlace call [] ∷ log.old.events }
+{
+    *log = Record::of_events_beside(log, &call, &());
+}
+
+/// Notes what was done to a file and its journal.
+pub(crate) fn note_pair<W: PairWorld>(
+    log: &mut HeldCalls,
+    call: JournalCall,
+    store: &Journal<FilePair<W>>,
+)
+    ensures { log.new.events ≡ InPlace call store.now.pair.log.events ∷ log.old.events }
+{
+    *log = Record::of_events_beside(log, &call, store);
 }
 
 /// Notes a call with its answer.

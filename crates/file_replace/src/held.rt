@@ -1,18 +1,22 @@
 //! Files that are replaced where they stand, and files that are written anew.
 
-ghost use Rattle.std.specs.Prelude.{◌≡◌, ◌≢◌, ◌↔◌, [], ◌∷◌, ◌++◌, is_ok, IfOk, IfErr};
+ghost use Rattle.std.specs.Prelude.{◌≡◌, ◌≢◌, ◌↔◌, [], ◌∷◌, ◌++◌, is_ok, IfOk, IfErr, IsTrue, OnOk};
 ghost use Rattle.std.specs.Path.{path_buf_bytes};
 ghost use Rattle.file_replace.specs.OnPlace.{answered};
-ghost use Rattle.file_replace.specs.Held.{BacksUp, IsSameFile, IsUnopened, PutAt, PutsFile, ReplacesHeld, Saves, TellsBackup};
+ghost use Rattle.file_replace.specs.declared.calls.HeldCall.TheVariants.{Put};
+ghost use Rattle.file_replace.specs.Held.{BacksUp, IsBusy, IsSameFile, IsUnopened, PutAt, PutsFile, PutsInPlace, PutsNew, ReplacesHeld, Saves, TellsNames};
+ghost use Rattle.file_replace.specs.InPlace.{IsSettled};
 
-use crate::calls::{At, Call, HeldCalls, Noted, note, note_at};
+use crate::calls::{At, Call, HeldCalls, JournalCall, Noted, note, note_at, note_name};
 use crate::host_place::FileReplacer;
+use crate::in_place::{change_in_place, journal_of, may_be_there, settle_in_place};
 use crate::links::followed;
 use crate::place::FolderSync;
 use crate::replacement::{Fault, Step, replace};
 use crate::told::{NotReplaced, Stop};
 use crate::world::{FolderWorld, UnknownFolder};
 use fork_disk::Record;
+use fork_journal::PairWorld;
 use std::alloc::AllocError;
 use std::fs::{File, OpenOptions, TryLockError};
 use std::io::ErrorKind;
@@ -30,6 +34,8 @@ pub enum Outcome {
     Unchanged,
     /// It is there, and was synced; whether its folder was too is told.
     Written(FolderSync),
+    /// It couldn't be renamed over, so it was changed in its place, under a journal that is gone.
+    InPlace,
 }
 
 /// A file that is open to be replaced. It is locked until this is dropped, so read it after it is opened.
@@ -38,7 +44,7 @@ pub struct Held {
     file: File,
     path: PathBuf,
     mode: u32,
-    /// The files that were put at its path and at its backup's. Only clauses read it.
+    /// What was done for it. Only clauses read it.
     log: HeldCalls,
 }
 
@@ -114,10 +120,18 @@ fn backup_of(rt: &HostRuntime, path: &PathBuf) -> Result<PathBuf, AllocError>
     PathBuf::from_str(rt.alloc(), name.as_str())
 }
 
+/// Whether a file can't be renamed over: it is where something is mounted.
+fn is_busy(stop: &Stop) -> bool
+    ensures { IsTrue result ↔ IsBusy stop.now }
+{
+    stop.step == Step::Rename && stop.error.kind() == ErrorKind::ResourceBusy && stop.left.is_none()
+}
+
 impl Held {
-    /// Opens a file that is to be replaced, and locks it. A link is followed: the file that it leads to is replaced.
-    pub fn open(rt: &HostRuntime, path: &str) -> Result<Held, NotReplaced>
-        ensures start { IfOk result (λ held. held.log.events ≡ []) }
+    /// Opens a file that is to be replaced, and locks it. A link is followed: the file that it leads to is replaced. Where a change of
+    /// it was cut short, it is settled by its journal.
+    pub fn open<W: PairWorld>(rt: &HostRuntime, path: &str) -> Result<Held, NotReplaced>
+        ensures start { IfOk result (λ held. IsSettled (W.held 0) [] held.log.events) }
         ensures refuses { IfErr result IsUnopened }
     {
         if !fs::metadata(rt, path).map_err(unopened)?.is_file() {
@@ -132,8 +146,9 @@ impl Held {
         lock(&file)?;
         match leads_to(rt, &path, &file) {
             Ok(true) => {
+                let mut log = Record::new();
+                settle_in_place::<W>(rt, &file, &path, &mut log)?;
                 let mode = file.metadata().map_err(unopened)?.mode() & MODE_BITS;
-                let log = Record::new();
                 Ok(Held {
                     file,
                     path,
@@ -147,7 +162,7 @@ impl Held {
         }
     }
 
-    /// The files that were put at its path and at its backup's.
+    /// What was done for it.
     pub fn into_log(self) -> HeldCalls
         ensures { result.events ≡ self.log.events }
     {
@@ -162,9 +177,10 @@ impl Held {
         &self.file
     }
 
-    /// Replaces the file. The old bytes are those that were read of it. Where the new ones are the same, nothing is written.
-    /// Where it is to be kept, a copy of the old bytes is put at its name with a tilde, NAME~, before that.
-    pub fn replace(
+    /// Replaces the file, or changes it in its place where it can't be renamed over. The old bytes are those that were read of it. Where
+    /// the new ones are the same, nothing is written. Where it is to be kept, a copy of the old bytes is put at its name with a tilde,
+    /// NAME~, before that.
+    pub fn replace<W: PairWorld>(
         &mut self,
         rt: &HostRuntime,
         old: &[u8],
@@ -173,8 +189,8 @@ impl Held {
     ) -> Result<Outcome, NotReplaced>
         ensures same { (result ≡ Ok Outcome.Unchanged) ↔ (old.now ≡ new.now) }
         ensures kept { IsSameFile self.old self.new }
-        ensures named { IfErr result (TellsBackup (path_buf_bytes self.old.path)) }
-        ensures calls { ReplacesHeld keeps_old self.old.mode old.now new.now result self.old.log.events self.new.log.events }
+        ensures named { IfErr result (TellsNames (path_buf_bytes self.old.path)) }
+        ensures calls { ReplacesHeld (W.held 1) keeps_old self.old.mode old.now new.now result self.old.log.events self.new.log.events }
     {
         if old == new {
             return Ok(Outcome::Unchanged);
@@ -182,28 +198,45 @@ impl Held {
         if keeps_old {
             self.back_up(rt, old)?;
         }
-        self.put(rt, new)
+        self.put::<W>(rt, new)
     }
 
-    /// Puts a file of these bytes in the place of this one.
-    fn put(&mut self, rt: &HostRuntime, bytes: &[u8]) -> Result<Outcome, NotReplaced>
+    /// Puts a file of these bytes in the place of this one, or changes it in its place.
+    fn put<W: PairWorld>(&mut self, rt: &HostRuntime, bytes: &[u8]) -> Result<Outcome, NotReplaced>
         ensures same { result ≢ Ok Outcome.Unchanged }
         ensures kept { IsSameFile self.old self.new }
-        ensures named { IfErr result (TellsBackup (path_buf_bytes self.old.path)) }
-        ensures calls { PutsFile self.old.mode bytes.now result self.old.log.events self.new.log.events }
+        ensures named { IfErr result (TellsNames (path_buf_bytes self.old.path)) }
+        ensures calls { PutsFile (W.held 1) self.old.mode bytes.now result self.old.log.events self.new.log.events }
     {
         let path = self.path.clone()?;
         let mode = Some(self.mode);
         match put::<UnknownFolder>(rt, &mut self.log, At::File, path, bytes, mode) {
             Ok(answer) => Ok(Outcome::Written(answer)),
+            Err(stop) if is_busy(&stop) => self.put_in_place::<W>(rt, bytes),
             Err(stop) => Err(NotReplaced::Stopped(stop)),
+        }
+    }
+
+    /// Changes this file in its place.
+    fn put_in_place<W: PairWorld>(
+        &mut self,
+        rt: &HostRuntime,
+        bytes: &[u8],
+    ) -> Result<Outcome, NotReplaced>
+        ensures kept { IsSameFile self.old self.new }
+        ensures named { IfErr result (TellsNames (path_buf_bytes self.old.path)) }
+        ensures calls { PutsInPlace (W.held 1) bytes.now result self.old.log.events self.new.log.events }
+    {
+        match change_in_place::<W>(rt, &self.file, &self.path, bytes, &mut self.log) {
+            Ok(()) => Ok(Outcome::InPlace),
+            Err(cut) => Err(NotReplaced::InPlace(cut)),
         }
     }
 
     /// Puts a copy of the file beside it.
     fn back_up(&mut self, rt: &HostRuntime, bytes: &[u8]) -> Result<(), NotReplaced>
         ensures kept { IsSameFile self.old self.new }
-        ensures named { IfErr result (TellsBackup (path_buf_bytes self.old.path)) }
+        ensures named { IfErr result (TellsNames (path_buf_bytes self.old.path)) }
         ensures calls { BacksUp self.old.mode bytes.now result self.old.log.events self.new.log.events }
     {
         let name = backup_of(rt, &self.path)?;
@@ -223,7 +256,7 @@ fn write_through(
     path: &str,
     bytes: &[u8],
 ) -> Result<(), NotReplaced>
-    ensures calls { log.new.events ≡ (At.File, answered Call.Write (is_ok result) bytes.now ∷ []) ∷ log.old.events }
+    ensures calls { log.new.events ≡ Put At.File (answered Call.Write (is_ok result) bytes.now ∷ []) ∷ log.old.events }
     ensures refuses { IfErr result IsUnopened }
 {
     let done = fs::write(rt, path, bytes);
@@ -237,21 +270,49 @@ fn write_through(
     done.map_err(NotReplaced::Open)
 }
 
-/// Writes a file of these bytes, and notes the calls in a record that begins anew. Where there is one, it is replaced, and keeps its
-/// mode; so the path has all of the new file or what it had before. What is no regular file, as a device or a pipe, is written to as it
-/// is.
-pub fn save(
+/// Refuses a path that has no file, but a journal of one: it would be used on the new file.
+fn refuse_orphan(rt: &HostRuntime, path: &PathBuf) -> Result<(), NotReplaced>
+    ensures { IfErr result IsUnopened }
+{
+    let journal = journal_of(rt, path)?;
+    if may_be_there(rt, &journal) {
+        return Err(NotReplaced::Orphan(journal));
+    }
+    Ok(())
+}
+
+/// Puts a file of these bytes at a path that has none.
+fn put_new(
     rt: &HostRuntime,
     path: &str,
     bytes: &[u8],
     log: &mut HeldCalls,
 ) -> Result<Outcome, NotReplaced>
-    ensures { Saves bytes.now result log.new.events }
+    ensures { PutsNew bytes.now result log.old.events log.new.events }
+{
+    let path = followed(rt, path).map_err(unopened)?;
+    refuse_orphan(rt, &path)?;
+    match put::<UnknownFolder>(rt, log, At::File, path, bytes, None) {
+        Ok(answer) => Ok(Outcome::Written(answer)),
+        Err(stop) => Err(NotReplaced::Stopped(stop)),
+    }
+}
+
+/// Writes a file of these bytes, and notes the calls in a record that begins anew. Where there is one, it is replaced, and keeps its
+/// mode; so the path has all of the new file or what it had before. What is no regular file, as a device or a pipe, is written to as it
+/// is.
+pub fn save<W: PairWorld>(
+    rt: &HostRuntime,
+    path: &str,
+    bytes: &[u8],
+    log: &mut HeldCalls,
+) -> Result<Outcome, NotReplaced>
+    ensures { Saves (W.held 0) (W.held 1) bytes.now result log.new.events }
 {
     *log = Record::new();
-    match Held::open(rt, path) {
+    match Held::open::<W>(rt, path) {
         Ok(mut held) => {
-            let done = held.put(rt, bytes);
+            let done = held.put::<W>(rt, bytes);
             *log = held.into_log();
             done
         }
@@ -260,11 +321,37 @@ pub fn save(
             Ok(Outcome::Written(FolderSync::NotOffered))
         }
         Err(NotReplaced::Open(error)) if error.kind() == ErrorKind::NotFound => {
-            let path = followed(rt, path).map_err(unopened)?;
-            match put::<UnknownFolder>(rt, log, At::File, path, bytes, None) {
-                Ok(answer) => Ok(Outcome::Written(answer)),
-                Err(stop) => Err(NotReplaced::Stopped(stop)),
-            }
+            put_new(rt, path, bytes, log)
+        }
+        Err(refusal) => Err(refusal),
+    }
+}
+
+/// Settles the file of a path before it is read, where a change of it was cut short, and notes the calls in a record that begins anew.
+pub fn settle<W: PairWorld>(
+    rt: &HostRuntime,
+    path: &str,
+    log: &mut HeldCalls,
+) -> Result<(), NotReplaced>
+    ensures settles { OnOk result (IsSettled (W.held 0) [] log.new.events) }
+    ensures refuses { IfErr result IsUnopened }
+{
+    *log = Record::new();
+    let path = followed(rt, path).map_err(unopened)?;
+    let journal = journal_of(rt, &path)?;
+    if !may_be_there(rt, &journal) {
+        note_name(log, JournalCall::Look(false));
+        return Ok(());
+    }
+    match Held::open::<W>(rt, path.as_str()) {
+        Ok(held) => {
+            *log = held.into_log();
+            Ok(())
+        }
+        Err(NotReplaced::Open(error)) => Err(NotReplaced::Unsettled { journal, error }),
+        Err(NotReplaced::InUse) => {
+            let error = io::Error::other("another program is at work on it");
+            Err(NotReplaced::Unsettled { journal, error })
         }
         Err(refusal) => Err(refusal),
     }

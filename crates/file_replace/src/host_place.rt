@@ -50,7 +50,7 @@ fn limit_in(line: &str) -> Option<u64> {
 
 /// How long a file may be that this process writes, as Linux tells it. A write past it would end the process. Elsewhere no limit is
 /// known.
-fn longest_file(rt: &HostRuntime) -> u64 {
+pub(crate) fn longest_file(rt: &HostRuntime) -> u64 {
     match fs::read_to_string(rt, "/proc/self/limits") {
         Ok(limits) => limits.lines().find_map(limit_in).unwrap_or(u64::MAX),
         Err(_) => u64::MAX,
@@ -58,7 +58,7 @@ fn longest_file(rt: &HostRuntime) -> u64 {
 }
 
 /// Opens the folder of a path, to sync it, if its mode lets it be read.
-fn open_folder(rt: &HostRuntime, path: &PathBuf) -> io::Result<Option<File>> {
+pub(crate) fn open_folder(rt: &HostRuntime, path: &PathBuf) -> io::Result<Option<File>> {
     let folder = folder_of(path);
     let name = if folder.as_str() == "" {
         "."
@@ -159,7 +159,7 @@ impl<'a, W: FolderWorld> FileReplacer<'a, W> {
 }
 
 /// Syncs a folder, if the host offers that.
-fn sync_offered(folder: &Option<File>) -> io::Result<FolderSync> {
+pub(crate) fn sync_offered(folder: &Option<File>) -> io::Result<FolderSync> {
     let Some(folder) = folder else {
         return Ok(FolderSync::NotOffered);
     };

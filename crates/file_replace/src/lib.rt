@@ -2,8 +2,10 @@
 #![tactic(auto)]
 
 mod calls;
+mod changed;
 mod held;
 mod host_place;
+mod in_place;
 mod laws;
 mod links;
 mod mem_place;
@@ -12,12 +14,13 @@ mod replacement;
 mod told;
 mod world;
 
-pub use calls::{At, Call, HeldCalls, Noted, PlaceCalls};
-pub use held::{Held, Outcome, save};
+pub use calls::{At, Call, HeldCall, HeldCalls, JournalCall, Noted, PlaceCalls};
+pub use changed::{Reached, change};
+pub use held::{Held, Outcome, save, settle};
 pub use host_place::FileReplacer;
 pub use laws::crash_laws;
 pub use mem_place::{MemFile, MemPlace};
 pub use place::{Event, FolderSync, PlainFile, Replaces};
 pub use replacement::{Fault, Step, replace};
-pub use told::{NotReplaced, Stop};
+pub use told::{Cut, NotReplaced, Stop};
 pub use world::{FolderWorld, UnknownFolder};

@@ -3,6 +3,9 @@
 ghost use Rattle.std.specs.Prelude.{ℕ, List, None};
 ghost use Rattle.file_replace.specs.Place.{Answered, Folder};
 
+use fork_journal::PairWorld;
+use std::marker::PhantomData;
+
 /// What paths had, and the names beside them, after each of the calls there. No code can know it, so a function over `W: FolderWorld` is
 /// proved for each world that there may be. Each path has a number of its own.
 pub trait FolderWorld: Drop {
@@ -16,4 +19,24 @@ pub struct UnknownFolder;
 
 impl FolderWorld for UnknownFolder {
     ghost held = { λ _ _. record { path = None; beside = None } };
+}
+
+/// The pairs of a world by one number: here the file as it is settled and its journal, whatever number that pair has.
+#[derive(Drop)]
+pub(crate) struct Settled<W: PairWorld> {
+    of: PhantomData<W>,
+}
+
+impl<W: PairWorld> PairWorld for Settled<W> {
+    ghost held = { λ _ calls. W.held 0 calls };
+}
+
+/// And the file as it is changed, and its journal.
+#[derive(Drop)]
+pub(crate) struct Changed<W: PairWorld> {
+    of: PhantomData<W>,
+}
+
+impl<W: PairWorld> PairWorld for Changed<W> {
+    ghost held = { λ _ calls. W.held 1 calls };
 }

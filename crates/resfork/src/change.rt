@@ -9,6 +9,7 @@ use fork_bytes::table::Row;
 use fork_disk::Record;
 use fork_edit::change::{NewFile, changed};
 use fork_edit::edit::Edit;
+use fork_journal::UnknownPair;
 use std::io::{IsTerminal, Write};
 
 /// The word for the standard output, in place of a file's name.
@@ -22,7 +23,7 @@ pub fn change(
     edit: Edit<'_>,
 ) -> Result<u8, Problem> {
     if target.is_dry || target.output.is_some() {
-        let old = read(rt, target.file).map_err(Problem::Read)?;
+        let old = read(rt, target.file)?;
         change_into(rt, target, &old, from, edit)
     } else {
         change_in_place(rt, target, from, edit)
@@ -50,7 +51,7 @@ fn change_in_place(
     from: &[Row<'_>],
     edit: Edit<'_>,
 ) -> Result<u8, Problem> {
-    let mut held = Held::open(rt, target.file)?;
+    let mut held = Held::open::<UnknownPair>(rt, target.file)?;
     // a byte more, for the read that finds the end
     let expected = (held.file().metadata().map_err(Problem::Read)?.len() as usize).saturating_add(
         1,
@@ -59,7 +60,7 @@ fn change_in_place(
     let Some(changed) = changed_of(rt, &old, from, edit)? else {
         return Ok(DONE);
     };
-    held.replace(rt, &old, &changed.file, target.keeps_old)?;
+    held.replace::<UnknownPair>(rt, &old, &changed.file, target.keeps_old)?;
     say(rt, target, &changed.told).map_err(Problem::after_change)
 }
 
@@ -110,7 +111,7 @@ pub fn save_to(rt: &HostRuntime, output: &str, bytes: &[u8]) -> Result<(), Probl
         }
         return rt.stdout().write_all(bytes).map_err(Problem::Print);
     }
-    match save(rt, output, bytes, &mut Record::new()) {
+    match save::<UnknownPair>(rt, output, bytes, &mut Record::new()) {
         Ok(_) => Ok(()),
         Err(error) => Err(Problem::Output {
             path: String::from_str(rt.alloc(), output)?,

@@ -3,7 +3,7 @@
 use crate::asked_change::{Conversion, Target};
 use crate::change::{save_to, say};
 use crate::message::{DONE, Problem};
-use crate::{INPUT, fork_found, read, table_found};
+use crate::{INPUT, fork_found, read, read_whole, table_found};
 use fork_answer::Failure;
 use fork_edit::convert::{Loss, NotConverted, Rewritten, Transfer, converted, file_of, holds_data};
 use fork_report::Refusal;
@@ -102,7 +102,7 @@ fn data_for(
 ) -> Result<Vec<u8>, Problem> {
     let is_read = place_of(bytes) != Place::Inside && holds_data(asked.kind);
     match asked.data {
-        Some(path) if is_read && file.data_fork.is_empty() => match read(rt, path) {
+        Some(path) if is_read && file.data_fork.is_empty() => match read_whole(rt, path) {
             Ok(data) => Ok(data),
             Err(error) => Err(Problem::Unread {
                 path: String::from_str(rt.alloc(), path)?,
@@ -162,7 +162,7 @@ pub fn convert(rt: &HostRuntime, asked: &Conversion<'_>) -> Result<u8, Problem> 
     if asked.data == Some(output) {
         return Err(Problem::OneFile);
     }
-    let bytes = read(rt, input).map_err(Problem::Read)?;
+    let bytes = read(rt, input)?;
     check_fork(rt, &bytes)?;
     let source = file_of(alloc, &bytes).map_err(|fault| {
         Refusal::of_failure(alloc, Failure::NoFork(fault), &bytes)

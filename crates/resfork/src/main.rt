@@ -10,11 +10,13 @@ mod rez;
 mod work;
 
 use change::save_to;
+use file_replace::{NotReplaced, settle};
 use fork_answer::answer::answer;
 use fork_answer::request::Request;
 use fork_answer::{Failure, Found, read_table, resource_fork};
 use fork_bytes::table::Table;
-use fork_disk::Unknown;
+use fork_disk::{Record, Unknown};
+use fork_journal::UnknownPair;
 use fork_report::{
     Bytes, Form, Refusal, Report, Tally, Told, refused_line, report_on, salvage, salvage_list,
 };
@@ -118,7 +120,7 @@ fn write_answer<W: Write>(
         return shown.map_err(|failure| Problem::Refused(Refusal::Show(failure)));
     }
     let alloc = rt.alloc();
-    let bytes = read(rt, file).map_err(Problem::Read)?;
+    let bytes = read(rt, file)?;
     answer(alloc, request, &bytes, output).map_err(|failure| Refusal::of_failure(
         alloc, failure, &bytes,
     ))?;
@@ -157,7 +159,7 @@ fn report_file(rt: &HostRuntime, report: &Report, file: &str) -> Result<Told, Pr
     {
         return Ok(Told::whole(line?));
     }
-    let bytes = read(rt, file).map_err(Problem::Read)?;
+    let bytes = read(rt, file)?;
     Ok(report_on(rt.alloc(), report, file, &bytes)?)
 }
 
@@ -212,7 +214,7 @@ fn salvage_file(
     output: Option<&str>,
 ) -> Result<u8, Problem> {
     let alloc = rt.alloc();
-    let bytes = read(rt, file).map_err(Problem::Read)?;
+    let bytes = read(rt, file)?;
     let Some(output) = output else {
         let text = salvage_list(alloc, letters, &bytes)?;
         write_text(rt, &text)?;
@@ -260,7 +262,7 @@ pub trait TableUse {
 
 /// Does something with the table of the file of this name.
 pub fn use_table<U: TableUse>(rt: &HostRuntime, file: &str, table_use: &U) -> Result<u8, Problem> {
-    let bytes = read(rt, file).map_err(Problem::Read)?;
+    let bytes = read(rt, file)?;
     use_table_in(rt, &bytes, table_use)
 }
 
@@ -299,8 +301,25 @@ impl TableUse for Unpacking<'_> {
     }
 }
 
-/// The bytes of the file of this name, or of the standard input.
-fn read(rt: &HostRuntime, file: &str) -> io::Result<Vec<u8>> {
+/// The bytes of the file of this name, or of the standard input. A change of it that was cut short is finished or undone first.
+fn read(rt: &HostRuntime, file: &str) -> Result<Vec<u8>, Problem> {
+    if file != INPUT {
+        settled(rt, file)?;
+    }
+    read_whole(rt, file).map_err(Problem::Read)
+}
+
+/// Finishes or undoes a change of the file of this name that was cut short.
+fn settled(rt: &HostRuntime, file: &str) -> Result<(), Problem> {
+    match settle::<UnknownPair>(rt, file, &mut Record::new()) {
+        Ok(()) => Ok(()),
+        Err(NotReplaced::Open(error)) => Err(Problem::Read(error)),
+        Err(refusal) => Err(Problem::Replace(refusal)),
+    }
+}
+
+/// The bytes of the file of this name, or of the standard input, as they are.
+fn read_whole(rt: &HostRuntime, file: &str) -> io::Result<Vec<u8>> {
     if file == INPUT {
         return read_all(rt.alloc(), rt.stdin(), 0);
     }

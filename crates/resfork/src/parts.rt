@@ -1,6 +1,6 @@
 //! Files that are resource forks and nothing else: of them only what is shown is read.
 
-use crate::INPUT;
+use crate::{INPUT, settled};
 use fork_answer::request::Request;
 use fork_answer::{Failure, answer_in_parts, rows_in_parts};
 use fork_disk::store::PlainStore;
@@ -16,6 +16,7 @@ fn file_of<W: World>(rt: &HostRuntime, name: &str) -> Option<PlainStore<FileDisk
     if name == INPUT || !fs::metadata(rt, name).ok()?.is_file() {
         return None;
     }
+    settled(rt, name).ok()?;
     let file = fs::open(rt, name).ok()?;
     Some(PlainStore {
         disk: FileDisk::new(HostFile::new(file), 0),

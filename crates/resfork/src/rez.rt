@@ -3,7 +3,7 @@
 use crate::asked_change::Target;
 use crate::change::{say, write_output};
 use crate::message::{DONE, Problem};
-use crate::{TableUse, read, use_table};
+use crate::{TableUse, read, read_whole, use_table};
 use fork_bytes::table::{Row, Table};
 use fork_edit::file::with_table;
 use fork_folder::manifest::{Packing, manifest_of};
@@ -45,7 +45,7 @@ pub fn derez_file(rt: &HostRuntime, file: &str, kinds: &[ResType]) -> Result<u8,
 /// Writes a fork of a text.
 pub fn rez_file(rt: &HostRuntime, target: &Target<'_>) -> Result<u8, Problem> {
     let alloc = rt.alloc();
-    let text = read(rt, target.file).map_err(Problem::Read)?;
+    let text = read(rt, target.file)?;
     let made = rez(alloc, &text).map_err(Problem::Rez)?;
     let Ok(table) = made.table(alloc) else {
         return Err(Problem::HostFull);
@@ -59,7 +59,7 @@ fn is_container(rt: &HostRuntime, name: &str) -> bool {
         Ok(found) if found.is_file() => {}
         _ => return false,
     }
-    let Ok(bytes) = fs::read(rt, name) else {
+    let Ok(bytes) = read(rt, name) else {
         return false;
     };
     match container_of(&bytes) {
@@ -125,7 +125,7 @@ fn read_files(
     for entry in entries {
         let file = entry.file.as_str();
         let path = format!(in alloc; "{folder}/{file}")?;
-        let bytes = match read(rt, path.as_str()) {
+        let bytes = match read_whole(rt, path.as_str()) {
             Ok(bytes) => bytes,
             Err(error) => return Err(Problem::Unread { path, error }),
         };
@@ -140,7 +140,7 @@ fn read_files(
 fn packing_of(rt: &HostRuntime, folder: &str) -> Result<Packing, Problem> {
     let alloc = rt.alloc();
     let path = format!(in alloc; "{folder}/{MANIFEST}")?;
-    let text = match read(rt, path.as_str()) {
+    let text = match read_whole(rt, path.as_str()) {
         Ok(text) => text,
         Err(error) => return Err(Problem::Unread { path, error }),
     };

@@ -81,7 +81,7 @@ fn put<'a>(rt: &HostRuntime, asked: Putting<'a>) -> Result<u8, Failed<'a>> {
         target,
     } = asked;
     let input = input.unwrap_or(INPUT);
-    let bytes = of_file(input, read(rt, input).map_err(Problem::Read))?;
+    let bytes = of_file(input, read(rt, input))?;
     let edit = Edit::Put {
         change,
         bytes: &bytes,
@@ -98,7 +98,7 @@ fn copy_from<'a>(
     on_collision: Collision,
     target: Target<'a>,
 ) -> Result<u8, Failed<'a>> {
-    let bytes = of_file(from, read(rt, from).map_err(Problem::Read))?;
+    let bytes = of_file(from, read(rt, from))?;
     let found = of_file(from, fork_found(rt, &bytes))?;
     let table = of_file(from, table_found(rt, &found, &bytes))?;
     let rows = table.rows.as_slice();
@@ -125,10 +125,10 @@ fn can_copy(rt: &HostRuntime, chosen: &[Choice], rows: &[Row<'_>]) -> Result<(),
 
 /// Writes what differs between two files. The result says whether something does.
 fn compare<'a>(rt: &HostRuntime, form: Form, a: &'a str, b: &'a str) -> Result<u8, Failed<'a>> {
-    let old = of_file(a, read(rt, a).map_err(Problem::Read))?;
+    let old = of_file(a, read(rt, a))?;
     let old_fork = of_file(a, fork_found(rt, &old))?;
     let old_table = of_file(a, table_found(rt, &old_fork, &old))?;
-    let new = of_file(b, read(rt, b).map_err(Problem::Read))?;
+    let new = of_file(b, read(rt, b))?;
     let new_fork = of_file(b, fork_found(rt, &new))?;
     let new_table = of_file(b, table_found(rt, &new_fork, &new))?;
     of_file(
@@ -167,7 +167,7 @@ fn pack<'a>(
     target: Target<'a>,
 ) -> Result<u8, Failed<'a>> {
     let bytes = match like {
-        Some(like) => of_file(like, read(rt, like).map_err(Problem::Read))?,
+        Some(like) => of_file(like, read(rt, like))?,
         None => Vec::new(rt.alloc()),
     };
     of_file(folder, pack_folder(rt, folder, &bytes, &target))

@@ -1,0 +1,42 @@
+-- What became of a file that was put or changed in its place.
+use Rattle.std.proofs.Common.{◌≢◌, inr, ℕ, true, false, List, Some, Result, Ok, Err, refl}
+use Rattle.file_replace.specs.declared.calls.At.TheVariants as at
+use Rattle.file_replace.specs.declared.held.Outcome.{Outcome}
+use Rattle.file_replace.specs.declared.held.Outcome.TheVariants.{InPlace, Unchanged, Written}
+use Rattle.file_replace.specs.declared.told.NotReplaced.{NotReplaced}
+use Rattle.file_replace.specs.declared.told.NotReplaced.TheVariants as refusals
+use Rattle.file_replace.specs.declared.told.Stop.{Stop}
+use Rattle.file_replace.specs.InPlace.{Held, Log}
+use Rattle.file_replace.specs.Held.{BacksUp, IsBusy, PutAt, PutsFile, PutsInPlace, ReplacesHeld}
+
+module _ (held : Held) (mode : ℕ) (bytes : List ℕ) where
+  -- a path that couldn't be renamed over was changed in its place
+  pub in_place : (stop : Stop) (result : Result Outcome NotReplaced) (old mid new : Log) → IsBusy stop → PutAt at.File (Some mode) bytes (Err stop) old mid → PutsInPlace held bytes result mid new
+      → PutsFile held mode bytes result old new
+  in_place stop (Ok InPlace) old mid new busy put places = (stop, mid, busy, put, places)
+  in_place stop (Ok Unchanged) old mid new busy put places = absurd places
+  in_place stop (Ok (Written answer)) old mid new busy put places = absurd places
+  in_place stop (Err (refusals.InPlace cut)) old mid new busy put places = (stop, mid, busy, put, places)
+  in_place stop (Err (refusals.Open error)) old mid new busy put places = absurd places
+  in_place stop (Err refusals.NotAFile) old mid new busy put places = absurd places
+  in_place stop (Err refusals.InUse) old mid new busy put places = absurd places
+  in_place stop (Err refusals.Moved) old mid new busy put places = absurd places
+  in_place stop (Err (refusals.Stopped other)) old mid new busy put places = absurd places
+  in_place stop (Err (refusals.NoBackup name other)) old mid new busy put places = absurd places
+  in_place stop (Err (refusals.Unsettled journal error)) old mid new busy put places = absurd places
+  in_place stop (Err (refusals.Orphan journal)) old mid new busy put places = absurd places
+  in_place stop (Err refusals.HostFull) old mid new busy put places = absurd places
+
+  -- no copy is kept of it, or one was put first
+  pub put_alone : (before : List ℕ) (result : Result Outcome NotReplaced) (old new : Log) → result ≢ Ok Unchanged → PutsFile held mode bytes result old new → ReplacesHeld held false mode before bytes result old new
+  put_alone before (Ok Unchanged) old new changed puts = absurd (changed refl)
+  put_alone before (Ok (Written answer)) old new changed puts = puts
+  put_alone before (Ok InPlace) old new changed puts = puts
+  put_alone before (Err refusal) old new changed puts = puts
+
+  pub put_after : {T : Type 0} (before : List ℕ) (done : T) (result : Result Outcome NotReplaced) (old mid new : Log) → result ≢ Ok Unchanged → BacksUp mode before (Ok done) old mid → PutsFile held mode bytes result mid new
+      → ReplacesHeld held true mode before bytes result old new
+  put_after before done (Ok Unchanged) old mid new changed backs puts = absurd (changed refl)
+  put_after before done (Ok (Written answer)) old mid new changed backs puts = inr (mid, backs, puts)
+  put_after before done (Ok InPlace) old mid new changed backs puts = inr (mid, backs, puts)
+  put_after before done (Err refusal) old mid new changed backs puts = inr (mid, backs, puts)
