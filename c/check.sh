@@ -22,10 +22,12 @@ compiler() {
     command -v "$1" > /dev/null
 }
 # prints COMMAND..: it prints what the example has to print
+output=emulator.output
 prints() {
     "$@" > "$room/printed"
-    cmp "$room/printed" emulator.output
+    cmp "$room/printed" "$output"
 }
+memcheck="valgrind -q --leak-check=full --show-leak-kinds=all --errors-for-leak-kinds=all --error-exitcode=1"
 flags=-I$tree/include
 shared="-L$tree/lib -lmacheap"
 if here pkg-config; then
@@ -35,21 +37,36 @@ fi
 # shellcheck disable=SC2086 # the flags are words
 {
     for standard in c99 c11 c17 c2x; do
-        $cc -std=$standard $strict $flags -fsyntax-only -include macheap_fork.h emulator.c forks.c
+        $cc -std=$standard $strict $flags -fsyntax-only -include macheap_fork.h -include resman.h emulator.c forks.c
     done
     $cc -std=c99 $strict -O2 $flags emulator.c $shared -o "$room/emulator"
     readelf -d "$room/emulator" | grep -q 'NEEDED.*\[libmacheap.so.1\]'
     prints "$room/emulator"
-    ! here valgrind || prints valgrind -q --leak-check=full --show-leak-kinds=all --errors-for-leak-kinds=all --error-exitcode=1 "$room/emulator"
+    ! here valgrind || prints $memcheck "$room/emulator"
     if compiler "$cxx"; then
         for standard in c++11 c++14 c++17 c++20; do
-            $cxx -x c++ -std=$standard $strict $flags -fsyntax-only -include macheap_fork.h emulator.c
+            $cxx -x c++ -std=$standard $strict $flags -fsyntax-only -include macheap_fork.h -include resman.h emulator.c
         done
         $cxx -x c++ -std=c++11 $strict -O2 $flags -c emulator.c -o "$room/emulator.o"
         $cxx "$room/emulator.o" "$tree/lib/libmacheap.a" -o "$room/emulator"
         prints "$room/emulator"
     fi
 }
+# the emulator whose guest has the zone in its own memory
+guest=../examples/emulator
+output=$guest/emulator.output
+# shellcheck disable=SC2086 # the flags are words
+{
+    $cc -std=c99 $strict -O2 $flags "$guest/emulator.c" "$guest/m68k.c" $shared -o "$room/guest"
+    prints "$room/guest"
+    ! here valgrind || prints $memcheck "$room/guest"
+    if compiler "$cxx"; then
+        $cxx -x c++ -std=c++11 $strict -O2 $flags "$guest/emulator.c" "$guest/m68k.c" -x none "$tree/lib/libmacheap.a" -o "$room/guest"
+        prints "$room/guest"
+    fi
+}
+! here m68k-linux-gnu-as || "$guest/assemble.sh" | cmp - "$guest/guest.h"
+output=emulator.output
 if here cmake && here pkg-config; then
     cmake -S . -B "$room/cmake" > "$room/log" || { cat "$room/log" && exit 1; }
     cmake --build "$room/cmake" > "$room/log" || { cat "$room/log" && exit 1; }

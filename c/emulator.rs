@@ -2,7 +2,7 @@
 use macheap::{OsErr, Result, Zone, sys::MH_PARAM_ERR};
 
 struct Machine {
-    zone: Zone,
+    zone: Zone<'static>,
     a0: u32,
     d0: u32,
 }

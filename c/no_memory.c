@@ -1,6 +1,8 @@
-/* Each allocation of mh_make_zone fails in turn: the answer is memFullErr, there is no zone, and nothing is kept. It is linked
- * with -Wl,--wrap=malloc. */
+/* Each allocation of mh_make_zone fails in turn: the answer is memFullErr, there is no zone, and nothing is kept. So
+ * do those of calls on resource files: nothing has changed then, and the call succeeds once there is memory. It is
+ * linked with -Wl,--wrap=malloc. */
 #include "macheap.h"
+#include "resman.h"
 
 #include <stdio.h>
 #include <stdlib.h>
@@ -14,6 +16,73 @@ void *__wrap_malloc(size_t size) {
     if (left == 0) return NULL;
     if (left > 0) left--;
     return __real_malloc(size);
+}
+
+enum { TEXT = 0x54455854, MOST = 4096 };
+
+/* It must be so, or the program ends. */
+static void must(int at, bool holds) {
+    if (holds) return;
+    printf("line %d: it isn't so\n", at);
+    exit(1);
+}
+#define MUST(holds) must(__LINE__, holds)
+
+/* A call on resource files. */
+typedef MhErr Makes(MrFiles *, MhZone *);
+
+static uint8_t fork[MOST];
+static size_t length;
+static uint32_t number;
+
+static MhErr begins(MrFiles *files, MhZone *zone) {
+    (void)zone;
+    return mr_begin(files);
+}
+static MhErr opens(MrFiles *files, MhZone *zone) { return mr_open(files, zone, fork, length, &number); }
+static MhErr adds(MrFiles *files, MhZone *zone) {
+    static const uint8_t name[] = "name";
+    return mr_add_resource(files, zone, number, TEXT, 128, name, 4);
+}
+static MhErr updates(MrFiles *files, MhZone *zone) { return mr_update_res_file(files, zone, 1); }
+
+/* The call with each of its allocations failing in turn, behind those before it. */
+static void in_turn(Makes *const *before, size_t some, Makes *call) {
+    MhErr code = MH_MEM_FULL_ERR;
+    int count = 0;
+    for (; code == MH_MEM_FULL_ERR && count < 1000; count++) {
+        MhZone zone = MH_NO_ZONE;
+        MrFiles files = MR_NO_FILES;
+        MUST(mh_make_zone(&zone, 0x100000, 4096, 4096, 24) == MH_NO_ERR);
+        for (size_t at = 0; at < some; at++) MUST(before[at](&files, &zone) == MH_NO_ERR);
+        if (call == adds) MUST(mh_new_handle(&zone, 60, &number) == MH_NO_ERR);
+        left = count;
+        code = call(&files, &zone);
+        left = -1;
+        if (code == MH_MEM_FULL_ERR) MUST(call(&files, &zone) == MH_NO_ERR);
+        else MUST(code == MH_NO_ERR || (call == updates && code == MR_IO_ERR));
+        if (call == updates && code == MR_IO_ERR) code = MH_MEM_FULL_ERR;
+        if (call == updates && code == MH_NO_ERR) {
+            MUST(mr_fork_size(&files, 1, &length) == MH_NO_ERR && length <= MOST);
+            MUST(mr_fork(&files, 1, fork, length) == MH_NO_ERR);
+        }
+        MUST(mr_end(&files) == MH_NO_ERR && mh_end_zone(&zone) == MH_NO_ERR);
+    }
+    MUST(code == MH_NO_ERR && count > 1);
+}
+
+/* A new handle, for the resource that is added. */
+static MhErr makes(MrFiles *files, MhZone *zone) {
+    (void)files;
+    return mh_new_handle(zone, 60, &number);
+}
+
+static void files_in_turn(void) {
+    Makes *const steps[] = {begins, opens, makes, adds};
+    in_turn(steps, 0, begins);
+    in_turn(steps, 2, adds);
+    in_turn(steps, 4, updates);
+    in_turn(steps, 1, opens);
 }
 
 int main(void) {
@@ -30,5 +99,6 @@ int main(void) {
         }
     }
     if (code != MH_NO_ERR || count < 2) printf("the last code is %d, behind %d trials\n", code, count);
+    files_in_turn();
     return code != MH_NO_ERR || count < 2;
 }

@@ -1,6 +1,8 @@
 /* Makes random calls on a zone, and writes them as a script to the first file and what C is told as replies to the second: macheap
  * prints the same replies for that script. Its words: the files, a seed, and how many calls. With an odd seed no block is lent, and
- * after each call the words of the zone's header are compared with a walk over its blocks. */
+ * after each call the words of the zone's header are compared with a walk over its blocks. With a seed that leaves 3 when divided by 4
+ * the zone is in memory of a guest, who writes bytes and flags there itself while the zone sleeps, and once in 1,000 calls damages it:
+ * for macheap its writes are Poke and HSetState. */
 #include "macheap.h"
 
 #include <inttypes.h>
@@ -8,9 +10,12 @@
 #include <stdlib.h>
 #include <string.h>
 
-enum { KEPT = 48, LENT = 8, BYTES = 8 };
+enum { KEPT = 48, LENT = 8, BYTES = 8, BASE = 0x100000, SIZE = 4096, LIMIT = 8192 };
 
 static MhZone zone = MH_NO_ZONE;
+static uint8_t ram[LIMIT]; /* of the guest */
+static MhAsleep asleep = MH_NO_ASLEEP;
+static MhMemory memory = {ram, LIMIT, true};
 static FILE *script, *replies;
 static uint64_t state;
 static uint32_t kept[KEPT]; /* handles and pointers, some of which are dead */
@@ -174,12 +179,48 @@ static uint32_t word_at(const uint8_t *bytes, uint32_t at) {
     return (uint32_t)bytes[at] << 24 | (uint32_t)bytes[at + 1] << 16 | (uint32_t)bytes[at + 2] << 8 | bytes[at + 3];
 }
 
+/* A byte of the zone's header is another one: the zone sleeps on until it is right again. */
+static bool is_damaged(void) {
+    uint32_t at = below(52);
+    uint8_t by = (uint8_t)(1 + below(255));
+    ram[at] ^= by;
+    bool told_so = mh_wake(&zone, &asleep, &memory) == MH_DAMAGED;
+    ram[at] ^= by;
+    return told_so;
+}
+
+/* The guest's turn, while the zone sleeps: it writes bytes of a handle's block through the master pointer, or the flags in that. */
+static bool guest(void) {
+    uint32_t handle = kept[below(KEPT)], length = 0;
+    bool full = mh_get_handle_size(&zone, handle, &length) == MH_NO_ERR && length > 0;
+    if (mh_sleep(&zone, &asleep, &memory) != MH_NO_ERR) return false;
+    if (below(1000) == 0 && !is_damaged()) return false;
+    if (full) {
+        uint8_t *master = ram + (handle - BASE);
+        uint8_t *contents = ram + ((word_at(master, 0) & 0xFFFFFF) - BASE);
+        line++;
+        if (below(2)) {
+            uint32_t at = below(length), count = 1 + below(length - at < BYTES ? length - at : BYTES);
+            fprintf(script, "Poke %" PRIu32 " %" PRIu32 " $\"", handle, at);
+            for (uint32_t n = 0; n < count; n++) fprintf(script, "%02X", contents[at + n] = (uint8_t)(0x80 + below(128)));
+            fprintf(script, "\"\n");
+            told("Poke", MH_NO_ERR, NULL, 0);
+        } else {
+            uint32_t flags = 32 * below(8);
+            fprintf(script, "HSetState %" PRIu32 " %" PRIu32 "\n", handle, flags);
+            told("HSetState", MH_NO_ERR, NULL, 0);
+            *master = (uint8_t)flags;
+        }
+    }
+    return mh_wake(&zone, &asleep, &memory) == MH_NO_ERR;
+}
+
 /* Whether bkLim, zcbFree and allocPtr are the end of the zone, the sum of its free blocks, and the lowest of these, or 0. */
 static bool is_walked(void) {
-    enum { BASE = 0x100000, HEADER = 52, MOST = 8192 };
-    static uint8_t bytes[MOST];
+    enum { HEADER = 52 };
+    static uint8_t bytes[LIMIT];
     size_t size = 0;
-    if (mh_image_size(&zone, &size) != MH_NO_ERR || size > MOST || mh_image(&zone, bytes, size) != MH_NO_ERR) return false;
+    if (mh_image_size(&zone, &size) != MH_NO_ERR || size > LIMIT || mh_image(&zone, bytes, size) != MH_NO_ERR) return false;
     uint32_t at = HEADER, sum = 0, lowest = 0;
     while (at < size) {
         uint32_t length = word_at(bytes, at) & 0xFFFFFF;
@@ -197,13 +238,16 @@ int main(int count, char **words) {
     if (count != 5 || !(script = fopen(words[1], "w")) || !(replies = fopen(words[2], "w"))) return 2;
     state = strtoull(words[3], NULL, 10);
     int calls = atoi(words[4]);
-    if (mh_make_zone(&zone, 0x100000, 4096, 8192, 24) != MH_NO_ERR) return 1;
+    bool is_guests = state % 4 == 3;
+    if (is_guests ? mh_make_zone_at(&asleep, &memory, BASE, SIZE, LIMIT, 24) || mh_wake(&zone, &asleep, &memory)
+                  : mh_make_zone(&zone, BASE, SIZE, LIMIT, 24)) return 1;
     static void (*const kinds[])(void) = {one_operand, one_operand, one_operand, two_operands, looks, looks_around, lends, comes, comes, comes, bytes, bytes};
     bool walks = state % 2 == 1;
     for (line = 1; line <= calls; line++) {
         void (*kind)(void) = kinds[below(sizeof kinds / sizeof kinds[0])];
         (walks && kind == lends ? comes : kind)();
         if (walks && !is_walked()) return fprintf(stderr, "line %d: a word of the zone's header is another than the walk's\n", line), 3;
+        if (is_guests && !guest()) return fprintf(stderr, "line %d: the zone doesn't wake\n", line), 3;
     }
     return mh_end_zone(&zone) != MH_NO_ERR || fclose(script) || fclose(replies);
 }

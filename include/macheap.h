@@ -14,10 +14,10 @@
  *  - One call at a time on one zone, on one thread, and none from a signal handler. Two zones are independent.
  *  - malloc, realloc and free of the program are those of one C library.
  *
- * What is tested, and answered with a code that changes nothing: any call before mh_make_zone or after mh_end_zone,
- * mh_make_zone on a zone that is there, mh_end_zone twice (paramErr); any number as a handle, a pointer, a size, an
- * offset or an address, live or not. A zone that is forgotten keeps its memory: end it. All memory of the host is taken
- * by mh_make_zone.
+ * What is tested, and answered with a code that changes nothing: any call before mh_make_zone, after mh_end_zone or while
+ * the zone sleeps, mh_make_zone on a zone that is there, mh_end_zone twice (paramErr); any number as a handle, a pointer, a
+ * size, an offset or an address, live or not. A zone that is forgotten keeps its memory: end it. All memory of the host is
+ * taken by the call that makes a zone.
  *
  * MACHEAP_VERSION is the version of both headers. While it begins with 0, the next one may change what is here: a program
  * is then built anew.
@@ -45,6 +45,7 @@ enum {
     MH_MEM_WZ_ERR = -111,     /* the number names no block of the zone */
     MH_MEM_PUR_ERR = -112,    /* the block is locked, and can't be purged */
     MH_MEM_BC_ERR = -115,     /* no handle's contents begin there */
+    MH_DAMAGED = -116,        /* the bytes haven't the zone's structure (memSCErr) */
     MH_MEM_LOCKED_ERR = -117  /* the block is locked, or lent */
 };
 
@@ -195,6 +196,53 @@ typedef struct MhCarried {
 MhErr mh_asked(MhZone *zone, uint32_t *count);
 MhErr mh_ask(MhZone *zone, uint32_t index, MhAsk *ask);
 MhErr mh_carried(MhZone *zone, uint32_t index, uint32_t place, MhCarried *carried);
+
+/* A zone in memory of the host: the RAM of an emulator, whose guest writes there as it likes. The zone sleeps while the guest
+ * runs, and wakes in these bytes for calls:
+ *
+ *     MhZone zone = MH_NO_ZONE;
+ *     MhAsleep asleep = MH_NO_ASLEEP;
+ *     MhMemory memory = {ram + BASE, LIMIT, true};
+ *     mh_make_zone_at(&asleep, &memory, BASE, SIZE, LIMIT, 24);
+ *     ..                                    the guest runs
+ *     mh_wake(&zone, &asleep, &memory);
+ *     mh_new_handle(&zone, 100, &handle);   any calls
+ *     mh_sleep(&zone, &asleep, &memory);
+ *     ..                                    the guest runs, and reads ram[handle ..]
+ *
+ * An MhMemory is bytes of the host: it fills one in, with `here` true. While a zone is awake in them it is {NULL, 0, false}: then
+ * the bytes are the library's, and the host neither reads nor writes them, until mh_sleep gives them back. While the zone
+ * sleeps the library has no pointer into them, and reads and writes none of them. At each mh_wake they may be in another place.
+ *
+ * For any bytes whatever, mh_wake returns, and nothing outside them is touched. Where they have the zone's structure it is awake
+ * in them just as they are: with their contents, and in mode 24 with the lock, purge and resource bits that they have in the master
+ * pointers of handles with a block. The structure is all else that the zone says of itself: its header, the headers of its blocks,
+ * and where master pointers lead. Where one of these bytes isn't as the library left it, the answer is MH_DAMAGED, and all
+ * stays: no byte has changed, and the zone sleeps on. It wakes once the bytes are right again.
+ *
+ * A zone asleep is a few words in an MhAsleep, and as much memory of the host as an MhZone has. */
+typedef struct MhAsleep {
+    MhZone zone;
+} MhAsleep;
+typedef struct MhMemory {
+    uint8_t *start;
+    size_t length; /* below 2^63 */
+    bool here;
+} MhMemory;
+
+#define MH_NO_ASLEEP {MH_NO_ZONE}
+
+/* Makes a zone that sleeps, of the sizes that mh_make_zone_large takes, and writes its structure into the bytes, as many as its
+ * limit. paramErr where they are more or fewer or gone, where a zone sleeps there, and for sizes that there aren't. */
+MhErr mh_make_zone_at(MhAsleep *asleep, MhMemory *memory, uint32_t base, uint32_t size, uint32_t limit, uint32_t mode);
+/* Wakes it. paramErr where `zone` is there, where none sleeps, and where the bytes are gone or aren't as many as its limit. */
+MhErr mh_wake(MhZone *zone, MhAsleep *asleep, MhMemory *memory);
+/* Puts it to sleep. memLockedErr while a block is lent; paramErr for a zone that isn't in bytes of the host, where another zone
+ * sleeps in `asleep`, and where `memory` has bytes. Queued answers, and what was asked, stay. */
+MhErr mh_sleep(MhZone *zone, MhAsleep *asleep, MhMemory *memory);
+/* Ends it. The bytes are as they are. (mh_end_zone of a zone that is awake in bytes of the host ends it, too, and these are never
+ * given back: put it to sleep first.) */
+MhErr mh_end_asleep(MhAsleep *asleep);
 
 #ifdef __cplusplus
 }

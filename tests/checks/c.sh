@@ -1,11 +1,12 @@
 #!/bin/sh
 # Runs the C programs of c/ over the library as it is installed. These are: the calls, whose answers are compared with what is there, over
-# the shared library, and over the other with the sanitizers over the C side; 100,000 random calls, of which macheap prints the same; a
-# zone that the host has no memory for, over c/heap.c, too; a fork, of which resfork prints the same; and forks whose bytes are known,
-# written anew. Next the examples in C, C++ and Rust (c/check.sh). Then that the library is small, shows the names of its headers and no
-# other, asks for nothing but the C library's memory, and is installed below DESTDIR as in its place; and that the crate in Rust declares
-# what the header does. Words: the programs macheap and resfork, and the folder of what build_c.sh built. It needs make, a C compiler,
-# Python, and the kit's C code for the heap (RATTLE_KIT: the kit's folder).
+# the shared library, and over the other with the sanitizers over the C side; the same of a zone in memory that a guest writes, with
+# 40,000 random calls and 600 zones that are damaged; 175,000 random calls, 100,000 of them on a zone that a guest writes, of which
+# macheap prints the same; and 100,000 on resource files; a zone that the host has no memory for, over c/heap.c, too; a fork, of which
+# resfork prints the same; and forks whose bytes are known, written anew. Next the examples in C, C++ and Rust (c/check.sh). Then that the
+# library is small, shows the names of its headers and no other, asks for nothing but the C library's memory, and is installed below
+# DESTDIR as in its place; and that the crate in Rust declares what the header does. Words: the programs macheap and resfork, and the
+# folder of what build_c.sh built. It needs make, a C compiler, Python, and the kit's C code for the heap (RATTLE_KIT: the kit's folder).
 set -e
 program=$(realpath "$1")
 lister=$(realpath "$2")
@@ -31,13 +32,23 @@ made install PREFIX="$tree"
 library=$tree/lib/libmacheap.so
 built calls -O2 "-Wl,-rpath,$tree/lib"
 "$room/calls"
+built guest -O2 "-Wl,-rpath,$tree/lib"
+"$room/guest"
 library=$tree/lib/libmacheap.a
 built calls -O1 -fsanitize=address,undefined
 "$room/calls"
+built guest -O1 -fsanitize=address,undefined
+"$room/guest"
 built random -O1 -fsanitize=address,undefined
-for seed in 1 2 3 4; do
+for seed in 1 2 4 3 7 11 15; do
     "$room/random" "$room/script" "$room/replies" $seed 25000
     "$program" --limit 8192 < "$room/script" | cmp - "$room/replies"
+done
+built resources -O1 -fsanitize=address,undefined
+for seed in 1 2 3 4; do
+    "$room/resources" "$room/script" "$room/replies" $seed 25000 "$room/one" "$room/two"
+    "$program" --zone 2048 --limit 4096 --fork "$room/one" --fork "$room/two" < "$room/script" | cmp - "$room/replies"
+    cmp "$room/one" "$room/one.new" && cmp "$room/two" "$room/two.new"
 done
 built no_memory -O1 -fsanitize=address,undefined -Wl,--wrap=malloc
 "$room/no_memory"
@@ -53,7 +64,7 @@ built forks -O1 -fsanitize=address,undefined
 "$top/c/check.sh" "$tree"
 
 "$top/tests/checks/declared.py"
-declared=$(grep -oh '\bm[hf]_[a-z_]*(' "$tree"/include/*.h | tr -d '(' | sort -u)
+declared=$(grep -oh '\bm[hfr]_[a-z0-9_]*(' "$tree"/include/*.h | tr -d '(' | sort -u)
 same 'the names of libmacheap.a' "$(nm -g --defined-only "$library" | awk 'NF == 3 { print $3 }' | sort)" "$declared"
 same 'the names of libmacheap.so' "$(nm -D --defined-only "$tree/lib/libmacheap.so" | awk '{ print $3 }' | sort)" "$declared"
 asked=$(nm -u "$library" | awk 'NF == 2 { print $2 }' | sort -u | grep -vxE 'malloc|realloc|free|memcpy|memmove|memset|memcmp|bcmp' || true)

@@ -1,8 +1,9 @@
 //! The classic Macintosh's Memory Manager over one heap zone. macheap(3) says what each call does.
 pub mod sys;
 
+use std::marker::PhantomData;
 use std::{error, fmt, ptr, slice};
-use sys::{MH_NO_ZONE, MhAnswer, MhAsk, MhBlock, MhCarried, MhWindow, MhZone};
+use sys::{MH_NO_ASLEEP, MH_NO_ZONE, MhAnswer, MhAsk, MhAsleep, MhBlock, MhCarried, MhMemory, MhWindow, MhZone};
 
 /// The code of a call that was refused, which has changed nothing else.
 #[derive(Clone, Copy, Debug, PartialEq, Eq)]
@@ -22,17 +23,20 @@ fn told(code: i16) -> Result<()> {
     if code == 0 { Ok(()) } else { Err(OsErr(code)) }
 }
 
-/// A zone, which ends when it is dropped. Handles, pointers and addresses are numbers of its own; any number may be given.
-pub struct Zone(MhZone);
+/// A zone: of memory of its own, and then it ends when it is dropped; or awake in bytes of the caller, and then it sleeps again, or
+/// ends if a block is lent. Handles, pointers and addresses are numbers of its own; any number may be given.
+pub struct Zone<'a>(MhZone, Option<&'a mut MhAsleep>, PhantomData<&'a mut [u8]>);
 
 // In each `unsafe` below the zone is this one alone, and each pointer leads to a value or to bytes of its own.
-impl Zone {
-    pub fn new(base: u32, size: u32, limit: u32, mode: u32) -> Result<Zone> {
-        let mut zone = Zone(MH_NO_ZONE);
+impl Zone<'static> {
+    pub fn new(base: u32, size: u32, limit: u32, mode: u32) -> Result<Zone<'static>> {
+        let mut zone = Zone(MH_NO_ZONE, None, PhantomData);
         told(unsafe { sys::mh_make_zone(&mut zone.0, base, size, limit, mode) })?;
         Ok(zone)
     }
+}
 
+impl Zone<'_> {
     pub fn peek(&mut self, block: u32, offset: u32, bytes: &mut [u8]) -> Result<()> {
         told(unsafe { sys::mh_peek(&mut self.0, block, offset, bytes.as_mut_ptr(), bytes.len()) })
     }
@@ -53,9 +57,46 @@ impl Zone {
     }
 }
 
-impl Drop for Zone {
+impl Drop for Zone<'_> {
     fn drop(&mut self) {
-        unsafe { sys::mh_end_zone(&mut self.0) };
+        let mut gone = MhMemory { start: ptr::null_mut(), length: 0, here: false };
+        let sleeps = match &mut self.1 {
+            Some(asleep) => unsafe { sys::mh_sleep(&mut self.0, asleep, &mut gone) == 0 },
+            None => false,
+        };
+        if !sleeps {
+            unsafe { sys::mh_end_zone(&mut self.0) };
+        }
+    }
+}
+
+/// A zone that sleeps, and wakes in bytes that others may write meanwhile. It ends when it is dropped.
+pub struct Asleep(MhAsleep);
+
+fn handed_over(bytes: &mut [u8]) -> MhMemory {
+    MhMemory { start: bytes.as_mut_ptr(), length: bytes.len(), here: true }
+}
+
+impl Asleep {
+    /// Makes a zone in these bytes, as many as its limit.
+    pub fn new(bytes: &mut [u8], base: u32, size: u32, mode: u32) -> Result<Asleep> {
+        let mut asleep = Asleep(MH_NO_ASLEEP);
+        let limit = u32::try_from(bytes.len()).map_err(|_| OsErr(sys::MH_PARAM_ERR))?;
+        told(unsafe { sys::mh_make_zone_at(&mut asleep.0, &mut handed_over(bytes), base, size, limit, mode) })?;
+        Ok(asleep)
+    }
+
+    /// Wakes the zone in these bytes, as long as they are borrowed. `MH_DAMAGED` if they haven't the structure that it left.
+    pub fn wake<'a>(&'a mut self, bytes: &'a mut [u8]) -> Result<Zone<'a>> {
+        let mut zone = MH_NO_ZONE;
+        told(unsafe { sys::mh_wake(&mut zone, &mut self.0, &mut handed_over(bytes)) })?;
+        Ok(Zone(zone, Some(&mut self.0), PhantomData))
+    }
+}
+
+impl Drop for Asleep {
+    fn drop(&mut self) {
+        unsafe { sys::mh_end_asleep(&mut self.0) };
     }
 }
 
@@ -66,7 +107,7 @@ macro_rules! calls {
             $(fn $call(zone: &mut MhZone, $($operand: $kind,)* $($($result: &mut $type),+)?) -> i16;)*
         }
         #[allow(unused_parens)]
-        impl Zone {$(
+        impl Zone<'_> {$(
             pub fn $name(&mut self, $($operand: $kind),*) -> Result<($($($type),+)?)> {
                 $($(let mut $result = <$type>::default();)+)?
                 told(unsafe { $call(&mut self.0, $($operand,)* $($(&mut $result),+)?) })?;

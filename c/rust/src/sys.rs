@@ -1,4 +1,4 @@
-//! What macheap.h declares beside its functions, and those functions that are given a zone to make or to end, or an array.
+//! What macheap.h declares beside its functions, and those functions that make, end, wake or put to sleep a zone, or are given an array.
 use std::ptr;
 
 /// A zone, or none. It may be moved, but no copy of one with a zone is used.
@@ -10,12 +10,29 @@ pub struct MhZone {
 
 pub const MH_NO_ZONE: MhZone = MhZone { live: false, held: ptr::null_mut() };
 
+/// A zone that sleeps, or none. It may be moved, but no copy of one with a zone is used.
+#[repr(C)]
+pub struct MhAsleep {
+    pub zone: MhZone,
+}
+
+pub const MH_NO_ASLEEP: MhAsleep = MhAsleep { zone: MH_NO_ZONE };
+
+/// Bytes of the host, for a zone to wake in.
+#[repr(C)]
+pub struct MhMemory {
+    pub start: *mut u8,
+    pub length: usize,
+    pub here: bool,
+}
+
 pub const MH_PARAM_ERR: i16 = -50;
 pub const MH_MEM_FULL_ERR: i16 = -108;
 pub const MH_NIL_HANDLE_ERR: i16 = -109;
 pub const MH_MEM_WZ_ERR: i16 = -111;
 pub const MH_MEM_PUR_ERR: i16 = -112;
 pub const MH_MEM_BC_ERR: i16 = -115;
+pub const MH_DAMAGED: i16 = -116;
 pub const MH_MEM_LOCKED_ERR: i16 = -117;
 pub const MH_LOCK: u32 = 128;
 pub const MH_PURGE: u32 = 64;
@@ -80,6 +97,10 @@ pub struct MhCarried {
 unsafe extern "C" {
     pub fn mh_make_zone(zone: &mut MhZone, base: u32, size: u32, limit: u32, mode: u32) -> i16;
     pub fn mh_end_zone(zone: &mut MhZone) -> i16;
+    pub fn mh_make_zone_at(asleep: &mut MhAsleep, memory: &mut MhMemory, base: u32, size: u32, limit: u32, mode: u32) -> i16;
+    pub fn mh_wake(zone: &mut MhZone, asleep: &mut MhAsleep, memory: &mut MhMemory) -> i16;
+    pub fn mh_sleep(zone: &mut MhZone, asleep: &mut MhAsleep, memory: &mut MhMemory) -> i16;
+    pub fn mh_end_asleep(asleep: &mut MhAsleep) -> i16;
     pub fn mh_peek(zone: &mut MhZone, block: u32, offset: u32, bytes: *mut u8, count: usize) -> i16;
     pub fn mh_poke(zone: &mut MhZone, block: u32, offset: u32, bytes: *const u8, count: usize) -> i16;
     pub fn mh_image(zone: &mut MhZone, bytes: *mut u8, count: usize) -> i16;

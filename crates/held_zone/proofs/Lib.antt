@@ -1,4 +1,5 @@
 pub mod Made
+pub mod Sleeping
 pub mod Shown
-mod Words
+pub mod Words
 mod Written

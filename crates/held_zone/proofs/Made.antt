@@ -1,5 +1,5 @@
 -- What a call leaves of what is lent, and of the answers that wait.
-use Rattle.std.proofs.Common.{◌≡◌, ◌∙◌, List, [], Option, Some, None, sym, ap, subst}
+use Rattle.std.proofs.Common.{◌≡◌, ◌∙◌, Bool, List, [], Option, Some, None, sym, ap, subst}
 use Rattle.std.specs.Prelude.{IfNone, IfSome}
 use Rattle.mac_base.specs.ZoneState.{ZoneState}
 use Rattle.linked_zone.specs.Loans.{KeepsLoans}
@@ -31,20 +31,20 @@ holds-made old new held call asks (Some outcome) steps same keeps holds = Holds-
 holds-made old new held call asks None steps same keeps holds = Holds-kept old new held keeps (ap (λ (z : ZoneState). z.heap.table.lent) same) holds
 
 -- a call that was made took its answers from the front of those that were left
-pub made-queued : (old new : State) (call : MemoryCall) (made : Option Outcome) → IfSome made (λ outcome. MemorySteps old.zone call new.asks outcome new.zone) → taken new.asks new.left ≡ old.left → OutOfAnswers new.asks new.left → new.loans ≡ old.loans → KeepsLoans old.zone new.zone
+pub made-queued : (old new : State) (call : MemoryCall) (made : Option Outcome) → IfSome made (λ outcome. MemorySteps old.zone call new.asks outcome new.zone) → taken new.asks new.left ≡ old.left → OutOfAnswers new.asks new.left → new.loans ≡ old.loans → new.guest ≡ old.guest → KeepsLoans old.zone new.zone
     → IfSome made (λ outcome. Makes old call outcome new)
-made-queued old new call (Some outcome) steps took out loans keeps = (exact-queued old.zone.shape old.zone.heap call outcome new.zone.heap new.asks new.left old.left steps.1 took out, steps.2, loans, stays_lent keeps)
-made-queued old new call None steps took out loans keeps = tt
+made-queued old new call (Some outcome) steps took out loans guest keeps = (exact-queued old.zone.shape old.zone.heap call outcome new.zone.heap new.asks new.left old.left steps.1 took out, steps.2, loans, guest, stays_lent keeps)
+made-queued old new call None steps took out loans guest keeps = tt
 
 -- the state of these parts
-abbrev state : ZoneState → Loans → List Answer → List Ask → State
-state zone loans left asks = record { zone = zone; loans = loans; left = left; asks = asks }
+abbrev pub state : ZoneState → Loans → List Answer → List Ask → Bool → State
+state zone loans left asks guest = record { zone = zone; loans = loans; left = left; asks = asks; guest = guest }
 
 -- a call that wasn't made changed nothing but what was asked
-pub not-made : (zone new : ZoneState) (loans : Loans) (source left : List Answer) (before asks : List Ask) (made : Option Outcome) → IfNone made (new ≡ zone) → IfNone made (asks ≡ []) → taken asks left ≡ source
-    → IfNone made (state new loans left asks ≡ with_no_asks (state zone loans source before))
-not-made zone new loans source left before asks (Some outcome) same unasked took = tt
-not-made zone new loans source left before asks None same unasked took =
-    ap (λ (z : ZoneState). state z loans left asks) same
-    ∙ ap (λ (made_asks : List Ask). state zone loans left made_asks) unasked
-    ∙ ap (λ (front : List Answer). state zone loans front []) (ap (λ (made_asks : List Ask). taken made_asks left) (sym unasked) ∙ took)
+pub not-made : (zone new : ZoneState) (loans : Loans) (source left : List Answer) (before asks : List Ask) (guest : Bool) (made : Option Outcome) → IfNone made (new ≡ zone) → IfNone made (asks ≡ []) → taken asks left ≡ source
+    → IfNone made (state new loans left asks guest ≡ with_no_asks (state zone loans source before guest))
+not-made zone new loans source left before asks guest (Some outcome) same unasked took = tt
+not-made zone new loans source left before asks guest None same unasked took =
+    ap (λ (z : ZoneState). state z loans left asks guest) same
+    ∙ ap (λ (made_asks : List Ask). state zone loans left made_asks guest) unasked
+    ∙ ap (λ (front : List Answer). state zone loans front [] guest) (ap (λ (made_asks : List Ask). taken made_asks left) (sym unasked) ∙ took)

@@ -1,3 +1,4 @@
+pub mod Asleep
 pub mod Held
 pub mod State
 pub mod Told

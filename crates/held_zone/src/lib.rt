@@ -1,8 +1,12 @@
 //! The zone that a program in C holds: what is behind it, the calls on it, and what C is told of them.
 #![tactic(auto)]
 
+pub mod asleep;
 mod lent;
-mod parked;
+pub mod memory;
+pub mod parked;
 pub mod session;
+pub mod spare;
 pub mod told;
+mod waking;
 pub mod zone;

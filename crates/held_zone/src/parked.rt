@@ -7,10 +7,10 @@ use std::alloc::Allocator;
 use std::marker::Model;
 
 /// A box taken apart: its pointer, which owns what the box did, and its allocator.
-pub(crate) struct Parked<T, A: Allocator> {
-    pub(crate) at: *mut T,
-    pub(crate) alloc: A,
-    pub(crate) ghost value: { T },
+pub struct Parked<T, A: Allocator> {
+    pub at: *mut T,
+    pub alloc: A,
+    pub ghost value: { T },
 }
 
 impl<T, A: Allocator> Model for Parked<T, A> {
@@ -19,7 +19,7 @@ impl<T, A: Allocator> Model for Parked<T, A> {
 
 impl<T: Drop, A: Allocator> Parked<T, A> {
     /// Takes a box apart.
-    pub(crate) fn of(boxed: Box<T, A>) -> Parked<T, A>
+    pub fn of(boxed: Box<T, A>) -> Parked<T, A>
         ensures { result.value ≡ boxed.value }
     {
         let (at, alloc) = Box::into_raw_with_allocator(boxed);
@@ -27,7 +27,7 @@ impl<T: Drop, A: Allocator> Parked<T, A> {
     }
 
     /// Makes the box again.
-    pub(crate) fn into_box(self) -> Box<T, A>
+    pub fn into_box(self) -> Box<T, A>
         ensures { result.value ≡ self.value }
     {
         let Parked { at, alloc } = self;

@@ -3,6 +3,7 @@
 ghost use Rattle.std.specs.Prelude.{◌≡◌, []};
 
 use crate::lent;
+use crate::spare::Spare;
 use held_calls::answers::{AnswerQueue, MOST_ASKS, MadeAsk};
 use held_calls::loans::Loans;
 use held_calls::window::Window;
@@ -20,20 +21,22 @@ const MOST_WAITING: usize = 16;
 
 /// The Memory Manager with its zone, the loans that C has of it, and the answers of its grow-zone procedure.
 pub struct Session {
-    memory: MemoryManager,
-    loans: Loans,
-    answers: AnswerQueue<MOST_WAITING>,
+    pub memory: MemoryManager,
+    pub loans: Loans,
+    pub answers: AnswerQueue<MOST_WAITING>,
+    pub spare: Spare,
 }
 
 impl Model for Session {
+    ghost use Rattle.std.specs.Prelude.{◌≡◌, is_some};
     ghost use Rattle.held_calls.specs.Holding.{Holds, loans_of};
     ghost use Rattle.held_zone.specs.State.{State};
 
     ghost Value = { State };
 
-    ghost view = { λ s. record { zone = s.memory; loans = loans_of s.loans; left = s.answers.left; asks = s.answers.asks } };
+    ghost view = { λ s. record { zone = s.memory; loans = loans_of s.loans; left = s.answers.left; asks = s.answers.asks; guest = is_some s.spare.region } };
 
-    ghost invariant = { λ s. Holds s.memory s.loans };
+    ghost invariant = { λ s. Holds s.memory s.loans × (s.spare.limit ≡ s.memory.shape.limit) };
 }
 
 impl Drop for Session {
@@ -43,9 +46,11 @@ impl Drop for Session {
             memory,
             loans,
             answers,
+            spare,
         } = self;
         drop(lending::finish(memory, loans));
         drop(answers);
+        drop(spare);
     }
 }
 
@@ -61,12 +66,14 @@ impl Session {
     ghost use Rattle.mac_calls.specs.Loans.{loan_refusal};
     ghost use Rattle.held_calls.specs.Making.{copies};
     ghost use Rattle.held_calls.specs.Holding.{IsWindow};
+    ghost use Rattle.held_zone.specs.Asleep.{IsAsleep};
     ghost use Rattle.held_zone.specs.State.{IsNew, queue_refusal, with_no_asks};
     ghost use Rattle.held_zone.specs.Told.{Makes, MakesLoan, shown_outcome, shows};
 
-    /// A new zone. Nothing is lent, no answer waits, and nothing was asked.
+    /// A new zone. Nothing is lent, no answer waits, and nothing was asked. It is in memory of its own.
     pub fn create(alloc: Global, spec: ZoneSpec) -> Result<Box<Session>, HostFull>
-        ensures { IfOk result (λ session. IsNew spec session.value) }
+        ensures new { IfOk result (λ session. IsNew spec session.value) }
+        ensures asleep { IfOk result (λ session. IsAsleep session.value) }
     {
         let answers = AnswerQueue::with_room(alloc)?;
         let memory = MemoryManager::create(alloc, spec)?;
@@ -74,6 +81,7 @@ impl Session {
             memory,
             loans: Loans::new(),
             answers,
+            spare: Spare::none(spec.limit() as usize),
         };
         Ok(Box::new(alloc, session)?)
     }
@@ -104,8 +112,8 @@ impl Session {
         Ok(())
     }
 
-    /// Makes a call on a block that is lent or is to be lent. For one that shows bytes it returns none, and only what was
-    /// asked is forgotten.
+    /// Makes a call on a block that is lent or is to be lent. For one that shows bytes it returns none, and only what
+    /// was asked is forgotten.
     pub fn make_loan(&mut self, call: &LoanCall<'_>) -> Option<Outcome>
         ensures makes { IfSome result (λ outcome. MakesLoan self.old call.now outcome self.new) }
         ensures plain { is_some result ≡ not (shows call.now) }
@@ -170,7 +178,7 @@ impl Session {
 
     /// Queues an answer behind the others: nothing is asked then. Sixteen may wait.
     pub fn queue(&mut self, answer: Answer) -> Result<(), OsErr>
-        ensures queued { OnOk result (self.new ≡ record { zone = self.old.zone; loans = self.old.loans; left = self.old.left ++ answer ∷ []; asks = [] }) }
+        ensures queued { OnOk result (self.new ≡ record self.old { left = self.old.left ++ answer ∷ []; asks = [] }) }
         ensures refusal { result_err result ≡ queue_refusal self.old }
         ensures unchanged { OnErr result (self.new ≡ self.old) }
     {

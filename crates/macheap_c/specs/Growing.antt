@@ -35,7 +35,7 @@ answer_of a = if list_all is_known (places_of a) then Some (record { calls = fla
 
 -- the answer waits behind the others, and nothing was asked, unless it is refused
 abbrev pub QueuedUnless : Option OsErr → State → Answer → ℤ → Option State → Type 0
-QueuedUnless None old answer code new = (code ≡ pos 0) × (new ≡ Some (record { zone = old.zone; loans = old.loans; left = old.left ++ answer ∷ []; asks = [] }))
+QueuedUnless None old answer code new = (code ≡ pos 0) × (new ≡ Some (record old { left = old.left ++ answer ∷ []; asks = [] }))
 QueuedUnless (Some refusal) old answer code new = (code ≡ code_of refusal) × (new ≡ Some old)
 
 -- the answer waits; where it is none, it is refused by paramErr

@@ -1,4 +1,5 @@
 pub mod Growing
+pub mod Guest
 pub mod Image
 pub mod Life
 pub mod Walk

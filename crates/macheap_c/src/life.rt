@@ -70,7 +70,7 @@ fn spec_of(mode: u32, base: u32, size: u32, limit: u32) -> Option<ZoneSpec>
 }
 
 /// Those, where the zone may be large.
-fn large_spec_of(mode: u32, base: u32, size: u32, limit: u32) -> Option<ZoneSpec>
+pub(crate) fn large_spec_of(mode: u32, base: u32, size: u32, limit: u32) -> Option<ZoneSpec>
     ensures { result ≡ large_sizes_of mode base size limit }
 {
     ZoneSpec::large(base, size, limit, heads_of(mode)?).ok()

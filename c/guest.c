@@ -1,0 +1,347 @@
+/* A zone in memory of the host that a guest writes: makes calls on it, each between mh_wake and mh_sleep, and compares
+ * what C is told, and the bytes, with what is expected. It prints a line for each that differs, and ends with status 1
+ * then. With the word `time` it prints how long such a call takes, and how long zones of many megabytes take to make. */
+#include "macheap.h"
+
+#include <inttypes.h>
+#include <stdio.h>
+#include <stdlib.h>
+#include <string.h>
+#include <time.h>
+
+enum { BASE = 0x100000, LIMIT = 0x40000, EDGE = 64, HANDLES = 2048 };
+
+static int faults;
+
+static void same(int line, const char *what, int64_t is, int64_t wanted) {
+    if (is == wanted) return;
+    printf("line %d: %s is %" PRId64 ", not %" PRId64 "\n", line, what, is, wanted);
+    if (++faults > 20) exit(1);
+}
+#define IS(what, wanted) same(__LINE__, #what, (int64_t)(what), (wanted))
+
+static uint64_t seed;
+
+static uint32_t below(uint32_t most) {
+    seed = seed * 6364136223846793005u + 1442695040888963407u;
+    return (uint32_t)(seed >> 33) % most;
+}
+
+/* the guest's RAM, with bytes around it that nothing may touch, and what a test compares it with */
+static uint8_t room[EDGE + LIMIT + EDGE], before[LIMIT];
+static uint8_t *const ram = room + EDGE;
+
+typedef struct Guest {
+    MhZone zone;
+    MhAsleep asleep;
+    MhMemory memory;
+    uint32_t mode;
+} Guest;
+
+static Guest made(uint32_t size, uint32_t limit, uint32_t mode) {
+    Guest guest = {MH_NO_ZONE, MH_NO_ASLEEP, {ram, limit, true}, mode};
+    memset(room, 0xE5, EDGE);
+    memset(room + EDGE + limit, 0xE5, EDGE);
+    IS(mh_make_zone_at(&guest.asleep, &guest.memory, BASE, size, limit, mode), MH_NO_ERR);
+    return guest;
+}
+
+static void woken(int line, Guest *guest) {
+    same(line, "the code of mh_wake", mh_wake(&guest->zone, &guest->asleep, &guest->memory), MH_NO_ERR);
+}
+#define WAKE(guest) woken(__LINE__, guest)
+
+static void slept(int line, Guest *guest) {
+    same(line, "the code of mh_sleep", mh_sleep(&guest->zone, &guest->asleep, &guest->memory), MH_NO_ERR);
+    same(line, "the bytes' place", guest->memory.start == ram && guest->memory.here, true);
+}
+#define SLEEP(guest) slept(__LINE__, guest)
+
+static void ended(Guest *guest) {
+    uint32_t limit = (uint32_t)guest->memory.length;
+    IS(mh_end_asleep(&guest->asleep), MH_NO_ERR);
+    IS(mh_end_asleep(&guest->asleep), MH_PARAM_ERR);
+    for (int at = 0; at < EDGE; at++) IS(room[at] == 0xE5 && room[EDGE + limit + at] == 0xE5, true);
+}
+
+static uint32_t word(uint32_t address) {
+    const uint8_t *at = ram + (address - BASE);
+    return (uint32_t)at[0] << 24 | (uint32_t)at[1] << 16 | (uint32_t)at[2] << 8 | at[3];
+}
+
+/* where the guest finds a handle's bytes */
+static uint8_t *bytes_of(const Guest *guest, uint32_t handle) {
+    uint32_t master = word(handle);
+    return ram + ((guest->mode == 24 ? master & 0xFFFFFF : master) - BASE);
+}
+
+/* Which bits of each byte are structure: all of headers and master blocks, but for the flags of full master pointers of
+ * mode 24. */
+static void mark(Guest *guest, uint8_t *bits) {
+    uint32_t head = guest->mode == 24 ? 8 : 12, at = 0;
+    MhBlock block;
+    memset(bits, 0, LIMIT);
+    IS(mh_first_block(&guest->zone, &at), MH_NO_ERR);
+    memset(bits, 0xFF, at - BASE);
+    for (; mh_block(&guest->zone, at, &block) == MH_NO_ERR; at += block.size) {
+        memset(bits + (at - BASE), 0xFF, block.kind == MH_MASTER ? head + block.length : head);
+        if (block.kind == MH_REL && guest->mode == 24) bits[block.owner - BASE] = 0x1F;
+    }
+}
+
+/* One byte differs in some bits: the zone wakes where none of them is structure. Else the code is MH_DAMAGED, and no
+ * byte has changed. */
+static void changed(Guest *guest, const uint8_t *bits, uint32_t at, uint8_t change) {
+    bool harmless = !(bits[at] & change);
+    ram[at] ^= change;
+    memcpy(before, ram, guest->memory.length);
+    IS(mh_wake(&guest->zone, &guest->asleep, &guest->memory), harmless ? MH_NO_ERR : MH_DAMAGED);
+    if (harmless) SLEEP(guest);
+    IS(guest->memory.start == ram && guest->memory.here, true);
+    IS(memcmp(before, ram, guest->memory.length), 0);
+    ram[at] ^= change;
+}
+
+/* A guest that follows master pointers, reads and writes. */
+static void lives(uint32_t mode) {
+    uint8_t text[5];
+    uint32_t handle = 0, pointer = 0, number = 0;
+    Guest guest = made(4096, 4096, mode);
+    WAKE(&guest);
+    IS(mh_new_handle(&guest.zone, 5, &handle), MH_NO_ERR);
+    IS(mh_new_ptr(&guest.zone, 8, &pointer), MH_NO_ERR);
+    IS(mh_poke(&guest.zone, handle, 0, (const uint8_t *)"hello", 5), MH_NO_ERR);
+    SLEEP(&guest);
+    IS(memcmp(bytes_of(&guest, handle), "hello", 5), 0);
+    memcpy(bytes_of(&guest, handle), "guest", 5);
+    memcpy(ram + (pointer - BASE), "12345678", 8);
+    WAKE(&guest);
+    IS(mh_peek(&guest.zone, handle, 0, text, 5), MH_NO_ERR);
+    IS(memcmp(text, "guest", 5), 0);
+    IS(mh_get_handle_size(&guest.zone, handle, &number), MH_NO_ERR);
+    IS(number, 5);
+    IS(mh_set_handle_size(&guest.zone, handle, 900), MH_NO_ERR);
+    IS(mh_deref(&guest.zone, handle, &number), MH_NO_ERR);
+    SLEEP(&guest);
+    IS(ram + (number - BASE) == bytes_of(&guest, handle), true);
+    IS(memcmp(bytes_of(&guest, handle), "guest", 5), 0);
+    IS(memcmp(ram + (pointer - BASE), "12345678", 8), 0);
+    ended(&guest);
+}
+
+/* The guest sets and clears flags by the bits of master pointers. */
+static void flags(void) {
+    uint32_t first = 0, second = 0, number = 0, place;
+    Guest guest = made(4096, 4096, 24);
+    WAKE(&guest);
+    IS(mh_new_handle(&guest.zone, 100, &first), MH_NO_ERR);
+    IS(mh_new_handle(&guest.zone, 100, &second), MH_NO_ERR);
+    SLEEP(&guest);
+    place = word(second);
+    ram[second - BASE] |= MH_LOCK;
+    WAKE(&guest);
+    IS(mh_hget_state(&guest.zone, second, &number), MH_NO_ERR);
+    IS(number, MH_LOCK);
+    IS(mh_dispose_handle(&guest.zone, first), MH_NO_ERR);
+    IS(mh_compact_mem(&guest.zone, 4096, &number), MH_NO_ERR);
+    SLEEP(&guest);
+    IS(word(second), (int64_t)(place | 0x80000000));
+    ram[second - BASE] = MH_PURGE;
+    WAKE(&guest);
+    IS(mh_compact_mem(&guest.zone, 4096, &number), MH_NO_ERR);
+    IS(mh_hget_state(&guest.zone, second, &number), MH_NO_ERR);
+    IS(number, MH_PURGE);
+    IS(mh_deref(&guest.zone, second, &number), MH_NO_ERR);
+    IS((number & 0xFFFFFF) < place, true);
+    IS(mh_compact_mem(&guest.zone, 4096, &number), MH_NO_ERR);
+    IS(mh_purge_mem(&guest.zone, number + 50), MH_NO_ERR);
+    SLEEP(&guest);
+    IS(word(second), 0);
+    ended(&guest);
+}
+
+/* Each byte of a small zone, in some bits. */
+static void each_byte(uint32_t mode) {
+    static uint8_t bits[LIMIT];
+    uint32_t handle = 0, number = 0;
+    Guest guest = made(1024, 1280, mode);
+    WAKE(&guest);
+    IS(mh_new_handle(&guest.zone, 30, &handle), MH_NO_ERR);
+    IS(mh_hlock(&guest.zone, handle), MH_NO_ERR);
+    IS(mh_new_handle(&guest.zone, 40, &handle), MH_NO_ERR);
+    IS(mh_empty_handle(&guest.zone, handle), MH_NO_ERR);
+    IS(mh_new_handle(&guest.zone, 50, &handle), MH_NO_ERR);
+    IS(mh_hpurge(&guest.zone, handle), MH_NO_ERR);
+    IS(mh_new_ptr(&guest.zone, 20, &number), MH_NO_ERR);
+    mark(&guest, bits);
+    SLEEP(&guest);
+    for (uint32_t at = 0; at < guest.memory.length; at++) {
+        for (uint8_t change = 1; change; change = (uint8_t)(change << 1)) changed(&guest, bits, at, change);
+        changed(&guest, bits, at, 0xFF);
+    }
+    memset(ram, 0, guest.memory.length);
+    IS(mh_wake(&guest.zone, &guest.asleep, &guest.memory), MH_DAMAGED);
+    ended(&guest);
+}
+
+/* Calls at random on a zone in the guest's RAM, each between mh_wake and mh_sleep, and on one like it of the library's
+ * own. */
+static void random_calls(uint32_t mode, uint32_t calls) {
+    static uint8_t image[LIMIT], others[LIMIT];
+    uint32_t handles[64] = {0};
+    MhZone plain = MH_NO_ZONE;
+    memset(ram, 0, LIMIT);
+    Guest guest = made(0x4000, 0x4000, mode);
+    IS(mh_make_zone(&plain, BASE, 0x4000, 0x4000, mode), MH_NO_ERR);
+    for (uint32_t n = 0; n < calls; n++) {
+        uint32_t *handle = &handles[below(64)], size = below(900), kind = below(8), one = 0, other = 0;
+        uint32_t state = below(8) * 32;
+        MhErr code = 0, wanted = 0;
+        WAKE(&guest);
+        MhZone *zones[] = {&guest.zone, &plain};
+        for (int z = 0; z < 2; z++) {
+            uint32_t *number = z ? &other : &one;
+            wanted = code;
+            if (kind < 2 && !*handle) code = mh_new_handle(zones[z], size, number);
+            else if (kind == 2) code = mh_dispose_handle(zones[z], *handle);
+            else if (kind == 3) code = mh_set_handle_size(zones[z], *handle, size);
+            else if (kind == 4) code = mh_hset_state(zones[z], *handle, state);
+            else if (kind == 5) code = mh_empty_handle(zones[z], *handle);
+            else if (kind == 6) code = mh_compact_mem(zones[z], size, number);
+            else code = mh_reallocate_handle(zones[z], *handle, size);
+        }
+        IS(code, wanted);
+        IS(one, other);
+        if (code == 0 && kind < 2 && !*handle) *handle = one;
+        if (code == 0 && kind == 2) *handle = 0;
+        size_t count = 0, as_many = 0;
+        IS(mh_image_size(&guest.zone, &count), MH_NO_ERR);
+        IS(mh_image_size(&plain, &as_many), MH_NO_ERR);
+        IS(count, (int64_t)as_many);
+        IS(mh_image(&guest.zone, image, count), MH_NO_ERR);
+        IS(mh_image(&plain, others, count), MH_NO_ERR);
+        IS(memcmp(image, others, count), 0);
+        SLEEP(&guest);
+        IS(memcmp(image, ram, count), 0);
+    }
+    IS(mh_end_zone(&plain), MH_NO_ERR);
+    ended(&guest);
+}
+
+/* Zones of up to 2,000 blocks: one byte of structure is changed, and right again. */
+static void damages(uint32_t zones) {
+    static uint8_t bits[LIMIT];
+    static uint32_t handles[HANDLES];
+    for (uint32_t n = 0; n < zones; n++) {
+        uint32_t count = 1 + below(n % 10 ? 200 : 2000), at;
+        Guest guest = made(LIMIT, LIMIT, n & 1 ? 24 : 32);
+        WAKE(&guest);
+        for (uint32_t i = 0; i < count; i++) IS(mh_new_handle(&guest.zone, below(80), &handles[i]), MH_NO_ERR);
+        for (uint32_t i = 0; i < count; i += 1 + below(4)) IS(mh_dispose_handle(&guest.zone, handles[i]), MH_NO_ERR);
+        mark(&guest, bits);
+        SLEEP(&guest);
+        do at = below(LIMIT);
+        while (bits[at] != 0xFF);
+        changed(&guest, bits, at, (uint8_t)(1 + below(255)));
+        at = below(LIMIT);
+        if (!bits[at]) changed(&guest, bits, at, 0xFF);
+        WAKE(&guest);
+        SLEEP(&guest);
+        ended(&guest);
+    }
+}
+
+/* What can't be done, and changes nothing. */
+static void misuse(void) {
+    static uint8_t elsewhere[4096];
+    uint32_t handle = 0;
+    MhZone plain = MH_NO_ZONE;
+    Guest none = {MH_NO_ZONE, MH_NO_ASLEEP, {elsewhere, 4096, true}, 24};
+    IS(mh_wake(&none.zone, &none.asleep, &none.memory), MH_PARAM_ERR);
+    IS(mh_sleep(&none.zone, &none.asleep, &none.memory), MH_PARAM_ERR);
+    IS(mh_make_zone_at(&none.asleep, &none.memory, BASE, 4096, 8192, 24), MH_PARAM_ERR);
+    IS(mh_make_zone_at(&none.asleep, &none.memory, BASE, 4096, 4096, 25), MH_PARAM_ERR);
+    IS(none.memory.start == elsewhere && none.memory.length == 4096 && none.memory.here, true);
+    Guest guest = made(4096, 4096, 24);
+    IS(mh_make_zone_at(&guest.asleep, &guest.memory, BASE, 4096, 4096, 24), MH_PARAM_ERR);
+    IS(mh_new_handle(&guest.zone, 10, &handle), MH_PARAM_ERR);
+    IS(mh_end_zone(&guest.zone), MH_PARAM_ERR);
+    guest.memory.length = 4092;
+    IS(mh_wake(&guest.zone, &guest.asleep, &guest.memory), MH_PARAM_ERR);
+    guest.memory.length = 4096;
+    IS(mh_make_zone(&plain, BASE, 4096, 4096, 24), MH_NO_ERR);
+    IS(mh_wake(&plain, &guest.asleep, &guest.memory), MH_PARAM_ERR);
+    IS(mh_sleep(&plain, &none.asleep, &guest.memory), MH_PARAM_ERR);
+    WAKE(&guest);
+    IS(guest.memory.start == NULL && guest.memory.length == 0 && !guest.memory.here, true);
+    IS(mh_sleep(&plain, &guest.asleep, &guest.memory), MH_PARAM_ERR);
+    IS(mh_wake(&guest.zone, &guest.asleep, &guest.memory), MH_PARAM_ERR);
+    IS(mh_sleep(&guest.zone, &guest.asleep, &none.memory), MH_PARAM_ERR);
+    IS(mh_new_ptr(&guest.zone, 10, &handle), MH_NO_ERR);
+    IS(mh_lend(&guest.zone, handle), MH_NO_ERR);
+    IS(mh_sleep(&guest.zone, &guest.asleep, &guest.memory), MH_MEM_LOCKED_ERR);
+    IS(mh_return(&guest.zone, handle), MH_NO_ERR);
+    SLEEP(&guest);
+    IS(mh_sleep(&guest.zone, &guest.asleep, &guest.memory), MH_PARAM_ERR);
+    memcpy(elsewhere, ram, 4096);
+    MhMemory moved = {elsewhere, 4096, true};
+    IS(mh_wake(&guest.zone, &guest.asleep, &moved), MH_NO_ERR);
+    IS(mh_poke(&guest.zone, handle, 0, (const uint8_t *)"moved", 5), MH_NO_ERR);
+    IS(mh_sleep(&guest.zone, &guest.asleep, &moved), MH_NO_ERR);
+    IS(moved.start == elsewhere && memcmp(elsewhere + (handle - BASE), "moved", 5) == 0, true);
+    IS(mh_end_zone(&plain), MH_NO_ERR);
+    ended(&guest);
+}
+
+static double seconds(void) {
+    struct timespec now;
+    timespec_get(&now, TIME_UTC);
+    return (double)now.tv_sec + (double)now.tv_nsec * 1e-9;
+}
+
+static int timed(void) {
+    enum { MEGABYTE = 0x100000, LARGE = 64 * MEGABYTE, BLOCKS = 2000, CALLS = 20000 };
+    uint8_t *bytes = calloc(LARGE, 1);
+    uint32_t handle = 0, number = 0;
+    MhZone zone = MH_NO_ZONE;
+    MhAsleep asleep = MH_NO_ASLEEP;
+    MhMemory memory = {bytes, MEGABYTE, true};
+    if (!bytes || mh_make_zone_at(&asleep, &memory, BASE, MEGABYTE, MEGABYTE, 24)) return 1;
+    if (mh_wake(&zone, &asleep, &memory)) return 1;
+    for (int n = 0; n < BLOCKS; n++) if (mh_new_handle(&zone, 400, &handle)) return 1;
+    if (mh_sleep(&zone, &asleep, &memory)) return 1;
+    double start = seconds();
+    for (int n = 0; n < CALLS; n++) {
+        if (mh_wake(&zone, &asleep, &memory) || mh_get_handle_size(&zone, handle, &number)) return 1;
+        if (mh_sleep(&zone, &asleep, &memory)) return 1;
+    }
+    double all = seconds() - start;
+    if (mh_wake(&zone, &asleep, &memory)) return 1;
+    start = seconds();
+    for (int n = 0; n < CALLS; n++) if (mh_get_handle_size(&zone, handle, &number)) return 1;
+    double call = seconds() - start;
+    printf("wake, GetHandleSize, sleep: %.2f us; GetHandleSize: %.3f us\n", all / CALLS * 1e6, call / CALLS * 1e6);
+    if (mh_sleep(&zone, &asleep, &memory) || mh_end_asleep(&asleep)) return 1;
+    for (uint32_t limit = MEGABYTE; limit <= LARGE; limit *= 8) {
+        memory = (MhMemory){bytes, limit, true};
+        start = seconds();
+        if (mh_make_zone_at(&asleep, &memory, BASE, limit, limit, 32)) return 1;
+        printf("a zone of %u MB is made in %.2f ms\n", limit / MEGABYTE, (seconds() - start) * 1e3);
+        if (mh_end_asleep(&asleep)) return 1;
+    }
+    free(bytes);
+    return 0;
+}
+
+int main(int count, char **words) {
+    if (count > 1 && strcmp(words[1], "time") == 0) return timed();
+    for (uint32_t mode = 24; mode <= 32; mode += 8) {
+        lives(mode);
+        each_byte(mode);
+        random_calls(mode, 20000);
+    }
+    flags();
+    damages(600);
+    misuse();
+    return faults != 0;
+}

@@ -1,0 +1,36 @@
+//! A zone that wakes in bytes of the caller, which reads and writes them while it sleeps.
+use macheap::{Asleep, OsErr, sys};
+
+const BASE: u32 = 0x10_0000;
+
+fn long(ram: &[u8], address: u32) -> u32 {
+    let at = (address - BASE) as usize;
+    u32::from_be_bytes(ram[at..at + 4].try_into().unwrap())
+}
+
+#[test]
+fn bytes_written_through_a_master_pointer_are_the_handles() {
+    let mut ram = vec![0; 65536];
+    let mut asleep = Asleep::new(&mut ram, BASE, 65536, 24).unwrap();
+    let handle = asleep.wake(&mut ram).unwrap().new_handle(2).unwrap();
+    // what the book says: the handle is the address of the master pointer, which has the address of the contents
+    let contents = (long(&ram, handle) & 0xFF_FFFF) - BASE;
+    ram[contents as usize..contents as usize + 2].copy_from_slice(b"Hi");
+    // the lock bit, as programs set it
+    ram[(handle - BASE) as usize] |= 0x80;
+    let mut zone = asleep.wake(&mut ram).unwrap();
+    let mut seen = [0; 2];
+    zone.peek(handle, 0, &mut seen).unwrap();
+    assert_eq!(&seen, b"Hi");
+    assert_eq!(zone.hget_state(handle), Ok(sys::MH_LOCK));
+}
+
+#[test]
+fn a_zone_whose_header_changed_sleeps_on() {
+    let mut ram = vec![0; 65536];
+    let mut asleep = Asleep::new(&mut ram, BASE, 65536, 32).unwrap();
+    ram[3] ^= 1;
+    assert_eq!(asleep.wake(&mut ram).err(), Some(OsErr(sys::MH_DAMAGED)));
+    ram[3] ^= 1;
+    assert_eq!(asleep.wake(&mut ram).unwrap().new_handle(0).map(|_| ()), Ok(()));
+}

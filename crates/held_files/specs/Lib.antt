@@ -1,0 +1,4 @@
+pub mod Forks
+pub mod Held
+pub mod Making
+pub mod Told

@@ -1,0 +1,133 @@
+-- What C is told of a call of the Resource Manager.
+use Rattle.std.specs.Int.{from_be_bytes, w32}
+use Rattle.std.specs.Prelude.{◌≡◌, ◌⊎◌, ◌==◌, ◌++◌, ℕ, ℤ, pos, nat_lt, if◌then◌else◌, List, [], ◌∷◌, drop, length, Option, Some, None, Ok, MatchBool, option_and_then, option_map, unwrap_or}
+use Rattle.held_files.specs.Forks.{ForksState, fork_of_number, free_number, HasFork, HasNoForks, without_handles}
+use Rattle.held_files.specs.Making.{MakesResource}
+use Rattle.held_zone.specs.State.{State}
+use Rattle.held_zone.specs.Told.{Makes, code_told, no_zone, number_told}
+use Rattle.mac_base.specs.Codes.{minus}
+use Rattle.mac_calls.specs.Outcomes.{Outcome}
+use Rattle.mac_calls.specs.Released.{disposed_in, disposed_of}
+use Rattle.mac_calls.specs.declared.reply.ResourceInfo.{ResourceInfo}
+use Rattle.mac_calls.specs.declared.reply.Results.TheVariants.{Info, Kind}
+use Rattle.held_files.specs.declared.told.MrInfo.{MrInfo}
+use Rattle.mac_calls.specs.declared.memory_call.MemoryCall.TheVariants.{DisposeHandle}
+use Rattle.mac_calls.specs.declared.resource_call.ResourceCall.TheVariants.{GetResInfo, OpenResFile}
+use Rattle.res_calls.specs.Device.{Disk}
+use Rattle.mac_calls.specs.declared.resource_call.ResourceCall.{ResourceCall}
+
+-- The call is made, where there are a zone and files; else there is no outcome, and both stay.
+abbrev pub ResourceCalled : Option State → Option ForksState → ResourceCall → Option Outcome → Option State → Option ForksState → Type 0
+ResourceCalled (Some old) (Some old_files) call (Some outcome) (Some new) (Some new_files) = MakesResource old old_files call outcome new new_files
+ResourceCalled (Some old) None call None new new_files = (new ≡ Some old) × (new_files ≡ None)
+ResourceCalled None old_files call None new new_files = (new ≡ None) × (new_files ≡ old_files)
+ResourceCalled _ _ call _ _ _ = ⊥
+
+-- The call is made, and C is told this code.
+abbrev pub ResourceTold : Option State → Option ForksState → ResourceCall → ℤ → Option State → Option ForksState → Type 0
+ResourceTold old old_files call code new new_files = (outcome : Option Outcome) × (code ≡ code_told outcome) × ResourceCalled old old_files call outcome new new_files
+
+-- The call is made, and C is told this code and this number, where another one was.
+abbrev pub ResourceToldNumber : Option State → Option ForksState → ResourceCall → ℤ → ℕ → ℕ → Option State → Option ForksState → Type 0
+ResourceToldNumber old old_files call code before number new new_files =
+    (outcome : Option Outcome) × (code ≡ code_told outcome) × (number ≡ number_told before outcome) × ResourceCalled old old_files call outcome new new_files
+
+-- the resource type that an outcome gives, as a number, written over the one that was there, which stays where it
+-- gives none
+abbrev pub kind_told : ℕ → Option Outcome → ℕ
+kind_told before (Some (Ok (Kind kind))) = from_be_bytes w32 kind
+kind_told before _ = before
+
+-- The call is made, and C is told this code and this resource type, where another one was.
+abbrev pub ResourceToldKind : Option State → Option ForksState → ResourceCall → ℤ → ℕ → ℕ → Option State → Option ForksState → Type 0
+ResourceToldKind old old_files call code before kind new new_files =
+    (outcome : Option Outcome) × (code ≡ code_told outcome) × (kind ≡ kind_told before outcome) × ResourceCalled old old_files call outcome new new_files
+
+-- what a resource is called, as C is shown it
+abbrev pub shown_info : ResourceInfo → MrInfo
+shown_info i = record { kind = from_be_bytes w32 i.kind; id = i.id; name_length = length (unwrap_or i.name []) }
+
+-- what an outcome says that a resource is called, with its name over the first bytes of a place; else both stay
+abbrev pub info_told : MrInfo × List ℕ → Option Outcome → MrInfo × List ℕ
+info_told before (Some (Ok (Info i))) = (shown_info i, unwrap_or i.name [] ++ drop (length (unwrap_or i.name [])) before.1)
+info_told before _ = before
+
+-- The call is made, and C is told this code and what the resource is called, where it has room for 255 bytes of a
+-- name; else the answer is paramErr, and no call is made.
+abbrev pub InfoTold : Option State → Option ForksState → ℕ → ℤ → MrInfo × List ℕ → MrInfo × List ℕ → Option State → Option ForksState → Type 0
+InfoTold old old_files h code before info new new_files = MatchBool (nat_lt (length before.1) 255)
+    ((code ≡ minus 50) × (info ≡ before) × (new ≡ old) × (new_files ≡ old_files))
+    ((outcome : Option Outcome) × (code ≡ code_told outcome) × (info ≡ info_told before outcome) × ResourceCalled old old_files (GetResInfo h) outcome new new_files)
+
+-- The file of a number, of which none is open, gets this fork and is opened, and C is told its number. There is no
+-- such number, and the answer is tmfoErr; or the host has no memory for a copy of the fork, and it is memFullErr:
+-- both change nothing.
+abbrev pub OpensFork : Option ℕ → State → ForksState → Disk → ℤ → ℕ → ℕ → State → ForksState → Type 0
+OpensFork None old old_files fork code before number new new_files = (code ≡ minus 42) × (number ≡ before) × (new ≡ old) × (new_files ≡ old_files)
+OpensFork (Some k) old old_files fork code before number new new_files =
+    ((code ≡ minus 108) × (number ≡ before) × (new ≡ old) × (new_files ≡ old_files))
+    ⊎ ((outcome : Outcome) × (code ≡ code_told (Some outcome)) × (number ≡ number_told before (Some outcome))
+    × ((given : ForksState) × HasFork k fork old_files given × MakesResource old given (OpenResFile k) outcome new new_files))
+
+-- C opens a file on a copy of a fork.
+abbrev pub OpenTold : Option State → Option ForksState → Disk → ℤ → ℕ → ℕ → Option State → Option ForksState → Type 0
+OpenTold (Some old) (Some old_files) fork code before number (Some new) (Some new_files) =
+    OpensFork (free_number old_files.files) old old_files fork code before number new new_files
+OpenTold (Some old) None fork code before number new new_files = (code ≡ no_zone) × (number ≡ before) × (new ≡ Some old) × (new_files ≡ None)
+OpenTold None old_files fork code before number new new_files = (code ≡ no_zone) × (number ≡ before) × (new ≡ None) × (new_files ≡ old_files)
+OpenTold _ _ fork code before number _ _ = ⊥
+
+-- Rows forget the handles of which answers to the zone's last call disposed.
+abbrev pub ForgetTold : Option State → Option ForksState → ℤ → Option State → Option ForksState → Type 0
+ForgetTold (Some old) (Some old_files) code new new_files =
+    (code ≡ pos 0) × (new ≡ Some old) × (new_files ≡ Some (without_handles (disposed_in old.asks) old_files))
+ForgetTold (Some old) None code new new_files = (code ≡ no_zone) × (new ≡ Some old) × (new_files ≡ None)
+ForgetTold None old_files code new new_files = (code ≡ no_zone) × (new ≡ None) × (new_files ≡ old_files)
+
+-- A handle is disposed of, and rows forget it, as well as those of which answers disposed.
+abbrev pub Disposes : State → ForksState → ℕ → Outcome → State → ForksState → Type 0
+Disposes old old_files h outcome new new_files =
+    Makes old (DisposeHandle h) outcome new × (new_files ≡ without_handles (disposed_of (DisposeHandle h) new.asks outcome) old_files)
+
+-- C disposes of a handle.
+abbrev pub DisposeTold : Option State → Option ForksState → ℕ → ℤ → Option State → Option ForksState → Type 0
+DisposeTold (Some old) (Some old_files) h code (Some new) (Some new_files) =
+    (outcome : Outcome) × (code ≡ code_told (Some outcome)) × Disposes old old_files h outcome new new_files
+DisposeTold (Some old) None h code new new_files = (code ≡ no_zone) × (new ≡ Some old) × (new_files ≡ None)
+DisposeTold None old_files h code new new_files = (code ≡ no_zone) × (new ≡ None) × (new_files ≡ old_files)
+DisposeTold _ _ h code _ _ = ⊥
+
+-- the name that C gives: none where it has no bytes
+abbrev pub name_given : List ℕ → Option (List ℕ)
+name_given [] = None
+name_given (x ∷ xs) = Some (x ∷ xs)
+
+-- how many bytes the fork of a number has
+abbrev pub fork_size : ℕ → ForksState → Option ℕ
+fork_size k files = option_map length (fork_of_number k files)
+
+-- the fork of a number, if it has so many bytes
+abbrev pub fork_sized : ℕ → ℕ → ForksState → Option Disk
+fork_sized k count files = option_and_then (λ (fork : Disk). if length fork == count then Some fork else None) (fork_of_number k files)
+
+-- something is shown; where there is nothing, the answer is paramErr
+abbrev pub Shows : {A : Type 0} → Option A → ℤ → A → A → Type 0
+Shows (Some found) code before shown = (code ≡ pos 0) × (shown ≡ found)
+Shows None code before shown = (code ≡ minus 50) × (shown ≡ before)
+
+-- C is shown something of files, which stay.
+abbrev pub ForkTold : {A : Type 0} → (ForksState → Option A) → Option ForksState → ℤ → A → A → Option ForksState → Type 0
+ForkTold of None code before shown new = (code ≡ no_zone) × (shown ≡ before) × (new ≡ None)
+ForkTold of (Some old) code before shown new = Shows (of old) code before shown × (new ≡ Some old)
+
+-- Files begin, unless the host has no memory for them (memFullErr). Where there are files, the answer is paramErr,
+-- and they stay.
+abbrev pub BeginTold : Option ForksState → ℤ → Option ForksState → Type 0
+BeginTold None code None = code ≡ minus 108
+BeginTold None code (Some new) = (code ≡ pos 0) × HasNoForks new
+BeginTold (Some old) code new = (code ≡ minus 50) × (new ≡ Some old)
+
+-- Files end, where there are some.
+abbrev pub EndTold : Option ForksState → ℤ → Option ForksState → Type 0
+EndTold None code new = (code ≡ no_zone) × (new ≡ None)
+EndTold (Some old) code new = (code ≡ pos 0) × (new ≡ None)

@@ -1,0 +1,240 @@
+//! Resource files whose forks are in memory.
+
+ghost use Rattle.std.specs.Prelude.{◌≡◌, ◌≤◌, [], ◌∷◌, length, map, replicate, option_copied, IfOk, IfSome, IsFalse};
+ghost use Rattle.held_files.specs.Forks.{fork_in, fork_of_number, free_number, numbers, HasFork};
+ghost use Rattle.mac_calls.specs.Released.{disposed_by, disposed_in};
+ghost use Rattle.res_table.specs.OpenFiles.{is_open};
+
+use fork_disk::MemDisk;
+use fork_disk::store::PlainStore;
+use held_calls::answers::{Carried, MOST_ASKS, MadeAsk};
+use held_zone::session::Session;
+use held_zone::told;
+use mac_base::error::{HostFull, OsErr};
+use mac_base::handle::Handle;
+use mac_base::releasing::ReleasingCall;
+use mac_calls::{MemoryCall, Outcome, ResourceCall};
+use res_files::ResourceFiles;
+use std::alloc::Global;
+use std::marker::Model;
+
+/// The numbers of files.
+const NUMBERS: [u8; 8] = [1, 2, 3, 4, 5, 6, 7, 8];
+
+/// Resource files, eight at most, with their forks in memory. A contract sees the open files, whether calls load what
+/// they get, and the forks.
+pub struct ForkFiles {
+    files: ResourceFiles<PlainStore<MemDisk>>,
+}
+
+impl Model for ForkFiles {
+    ghost use Rattle.std.specs.Prelude.{◌≡◌, length};
+    ghost use Rattle.held_files.specs.Forks.{ForksState, seen_on};
+
+    ghost Value = { ForksState };
+
+    ghost view = { λ f. seen_on f.files };
+
+    ghost invariant = { λ f. length f.files.stores ≡ 8 };
+}
+
+impl Drop for ForkFiles {
+    /// What isn't written stays unwritten.
+    fn drop(self) {
+        let ForkFiles { files } = self;
+        drop(files.into_stores());
+    }
+}
+
+/// tmfoErr: eight files are open.
+const TOO_MANY_FILES: i16 = -42;
+
+/// The handle of which a call of an answer disposed, where it was carried out.
+fn disposed_by(carried: &Carried) -> Option<Handle>
+    ensures { result ≡ disposed_by carried.now }
+{
+    match carried.call() {
+        ReleasingCall::DisposesHandle(handle) if carried.code().is_none() => Some(handle),
+        _ => None,
+    }
+}
+
+/// A fork in memory.
+fn store_of(fork: Vec<u8>) -> PlainStore<MemDisk>
+    ensures { fork_in result ≡ fork.items }
+{
+    PlainStore {
+        disk: MemDisk::from_bytes(fork),
+    }
+}
+
+/// Eight forks without bytes.
+fn no_stores(alloc: Global) -> Result<Vec<PlainStore<MemDisk>>, HostFull>
+    ensures forks { IfOk result (λ stores. map fork_in stores.items ≡ replicate 8 []) }
+    ensures eight { IfOk result (λ stores. length stores.items ≡ 8) }
+{
+    let stores = [
+        store_of(Vec::new(alloc)),
+        store_of(Vec::new(alloc)),
+        store_of(Vec::new(alloc)),
+        store_of(Vec::new(alloc)),
+        store_of(Vec::new(alloc)),
+        store_of(Vec::new(alloc)),
+        store_of(Vec::new(alloc)),
+        store_of(Vec::new(alloc)),
+    ];
+    match Vec::from_array(alloc, stores) {
+        Ok(stores) => Ok(stores),
+        Err(_) => Err(HostFull),
+    }
+}
+
+impl ForkFiles {
+    ghost use Rattle.std.specs.Prelude.{IsSome, OnErr, filter_map};
+    ghost use Rattle.held_files.specs.Told.{Disposes, OpensFork};
+    ghost use Rattle.held_files.specs.Forks.{HasNoForks, without_handles};
+    ghost use Rattle.held_files.specs.Making.{HasNoMemory, MakesResource, StepsOnForks};
+
+    /// Files of which none is open.
+    pub fn create(alloc: Global) -> Result<Box<ForkFiles>, HostFull>
+        ensures { IfOk result (λ files. HasNoForks files.value) }
+    {
+        let stores = no_stores(alloc)?;
+        let files = ForkFiles {
+            files: ResourceFiles::new(alloc, stores),
+        };
+        Ok(Box::new(alloc, files)?)
+    }
+
+    /// The first number of which no file is open.
+    pub fn free_number(&self) -> Option<u8>
+        ensures first { result ≡ free_number self.now.files }
+        ensures free { IfSome result (λ k. (1 ≤ k) × (k ≤ 8) × IsFalse (is_open k self.now.files)) }
+    {
+        NUMBERS
+            .iter()
+            .copied()
+            .find(|number| !self.files.is_open(*number))
+    }
+
+    /// Gives the file of a number, of which none is open, this fork.
+    pub fn put_fork(&mut self, number: u8, fork: Vec<u8>)
+        requires there { (1 ≤ number) × (number ≤ 8) }
+        requires closed { IsFalse (is_open number self.old.files) }
+        ensures { HasFork number fork.items self.old self.new }
+    {
+        drop(self.files.replace_store(number, store_of(fork)));
+    }
+
+    /// The fork of the file of a number, open or not, if there is such a number.
+    pub fn fork(&self, number: u32) -> Option<&[u8]>
+        ensures { option_copied result ≡ fork_of_number number self.now }
+    {
+        if 1 <= number && number <= 8 {
+            Some(self.files.store(number as u8).disk.bytes())
+        } else {
+            None
+        }
+    }
+
+    /// Gives a copy of a fork to the first number of which no file is open, and opens that file. Its number is
+    /// written, and the code told.
+    pub fn open(
+        &mut self,
+        alloc: Global,
+        session: &mut Session,
+        fork: &[u8],
+        number: &mut u32,
+    ) -> i16
+        ensures { OpensFork (free_number self.old.files) session.old self.old fork.now result number.old number.new session.new self.new }
+    {
+        let Some(free) = self.free_number() else {
+            return TOO_MANY_FILES;
+        };
+        let Ok(copy) = Vec::from_slice(alloc, fork) else {
+            return OsErr::MemFullErr.code();
+        };
+        self.put_fork(free, copy);
+        let call = ResourceCall::OpenResFile(free as u32);
+        let outcome = self.make(alloc, session, &call);
+        told::number(&Some(outcome), number)
+    }
+
+    /// No row has this handle.
+    fn forget(&mut self, handle: Handle)
+        ensures { self.new ≡ without_handles (handle ∷ []) self.old }
+    {
+        self.files.forget(handle);
+    }
+
+    /// No row has a handle of which one of these calls disposed.
+    fn forget_carried(&mut self, carried: &[Carried])
+        ensures { self.new ≡ without_handles (filter_map disposed_by carried.now) self.old }
+    {
+        for call in carried {
+            if let Some(handle) = disposed_by(call) {
+                self.forget(handle);
+            }
+        }
+    }
+
+    /// No row has a handle of which an answer to one of these asks disposed.
+    pub fn forget_asked(&mut self, asks: &[MadeAsk])
+        ensures { self.new ≡ without_handles (disposed_in asks.now) self.old }
+    {
+        for ask in asks {
+            self.forget_carried(ask.carried());
+        }
+    }
+
+    /// Disposes of a handle, which no row has then, nor one of which an answer disposed.
+    pub fn dispose(&mut self, session: &mut Session, handle: Handle) -> Option<Outcome>
+        ensures made { IfSome result (λ outcome. Disposes session.old self.old handle outcome session.new self.new) }
+        ensures some { IsSome result }
+    {
+        let made = session.make(&MemoryCall::DisposeHandle(handle));
+        self.forget_asked(session.asks());
+        if let Some(Ok(_)) = made {
+            self.forget(handle);
+        }
+        made
+    }
+
+    /// Makes a call of the Resource Manager over the zone of a session; one that finds no room takes the answers that
+    /// are left. Where the host has no memory for it, it is memFullErr.
+    pub fn make(&mut self, alloc: Global, session: &mut Session, call: &ResourceCall<'_>) -> Outcome
+        ensures { MakesResource session.old self.old call.now result session.new self.new }
+    {
+        match self.step(alloc, session, call) {
+            Ok(outcome) => outcome,
+            Err(_) => Err(OsErr::MemFullErr),
+        }
+    }
+
+    /// The same, and it says where the host has no memory.
+    fn step(
+        &mut self,
+        alloc: Global,
+        session: &mut Session,
+        call: &ResourceCall<'_>,
+    ) -> Result<Outcome, HostFull>
+        ensures steps { IfOk result (λ outcome. StepsOnForks session.old self.old call.now outcome session.new self.new) }
+        ensures full { OnErr result (HasNoMemory session.old self.old call.now (Err OsErr.MemFullErr) session.new self.new) }
+    {
+        session.answers.begin();
+        let lent = session.loans.blocks();
+        let memory = &mut session.memory;
+        let answers = &mut session.answers;
+        let made = res_manager::make(
+            &mut self.files,
+            memory,
+            lent.as_slice(),
+            alloc,
+            call,
+            answers,
+        );
+        // What was asked says whether answers are left.
+        prove!(session.answers.asks().len() <= MOST_ASKS);
+        made
+    }
+}

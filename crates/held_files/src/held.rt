@@ -1,0 +1,261 @@
+//! Resource files that C holds.
+
+ghost use Rattle.std.specs.Prelude.{◌≡◌, Option, Some, None, IsTrue};
+ghost use Rattle.std.specs.Option.{option_map};
+ghost use Rattle.held_files.specs.Forks.{ForksState};
+ghost use Rattle.held_files.specs.Held.{is_there};
+
+use crate::files::ForkFiles;
+use crate::told::{MrInfo, info, kind};
+use held_zone::parked::Parked;
+use held_zone::told::{self, NO_ZONE};
+use held_zone::zone::MhZone;
+use mac_base::error::{NO_ERR, OsErr};
+use mac_base::handle::Handle;
+use mac_calls::{Outcome, ResourceCall};
+use std::alloc::Global;
+use std::marker::Model;
+use std::{mem, ptr};
+
+/// Files behind a pointer, or none.
+#[repr(C)]
+#[derive(Drop)]
+pub struct Held {
+    at: *mut u8,
+    pub ghost files: { Option ForksState },
+}
+
+impl Model for Held {
+    ghost use Rattle.held_files.specs.Held.{held};
+
+    ghost also_owns = { λ h. held h.files h.at };
+}
+
+impl Held {
+    /// No files.
+    fn none(at: *mut u8) -> Held
+        ensures { result.files ≡ None }
+    {
+        Held { at }
+    }
+
+    /// These files.
+    fn of(parked: Parked<ForkFiles, Global>) -> Held
+        ensures { result.files ≡ Some parked.value }
+    {
+        let Parked { at, alloc: _ } = parked;
+        Held { at: at as *mut u8 }
+    }
+
+    /// The files.
+    fn into_parked(self, alloc: Global) -> Parked<ForkFiles, Global>
+        requires { IsTrue (is_there self.files) }
+        ensures { self.files ≡ Some result.value }
+    {
+        let Held { at } = self;
+        Parked {
+            at: at as *mut ForkFiles,
+            alloc,
+        }
+    }
+
+    /// The files in their box.
+    fn into_box(self, alloc: Global) -> Box<ForkFiles>
+        requires { IsTrue (is_there self.files) }
+        ensures { self.files ≡ Some result.value }
+    {
+        let parked = self.into_parked(alloc);
+        parked.into_box()
+    }
+}
+
+/// Resource files that C holds: live, or none.
+#[repr(C)]
+#[derive(Drop)]
+pub struct MrFiles {
+    live: bool,
+    pub held: Held,
+    ghost agrees: { live ≡ is_there held.files },
+}
+
+impl MrFiles {
+    /// No files.
+    fn none() -> MrFiles
+        ensures { result.held.files ≡ None }
+    {
+        let at = null();
+        MrFiles::without(at)
+    }
+
+    /// No files, behind this pointer.
+    fn without(at: *mut u8) -> MrFiles
+        ensures { result.held.files ≡ None }
+    {
+        let held = Held::none(at);
+        MrFiles { live: false, held }
+    }
+
+    /// The files, where there are some.
+    fn opened(self, alloc: Global) -> Option<Box<ForkFiles>>
+        ensures { self.held.files ≡ option_map (λ files. files.value) result }
+    {
+        let MrFiles { live, held } = self;
+        if !live {
+            return None;
+        }
+        let files = held.into_box(alloc);
+        Some(files)
+    }
+
+    /// Takes the files out, where there are some.
+    pub fn take(&mut self, alloc: Global) -> Option<Box<ForkFiles>>
+        ensures given { self.old.held.files ≡ option_map (λ files. files.value) result }
+        ensures none { self.new.held.files ≡ None }
+    {
+        let before = mem::replace(self, MrFiles::none());
+        before.opened(alloc)
+    }
+
+    /// Puts files in, where there are none.
+    pub fn put(&mut self, files: Box<ForkFiles>)
+        requires none { self.old.held.files ≡ None }
+        ensures { self.new.held.files ≡ Some files.value }
+    {
+        *self = MrFiles {
+            live: true,
+            held: Held::of(Parked::of(files)),
+        };
+    }
+}
+
+/// The null pointer.
+fn null() -> *mut u8 {
+    ptr::null_mut()
+}
+
+impl MrFiles {
+    ghost use Rattle.held_files.specs.Told.{DisposeTold, ForgetTold, InfoTold, OpenTold, ResourceCalled, ResourceTold, ResourceToldKind, ResourceToldNumber};
+
+    /// Makes a call of the Resource Manager, where there are files and a zone.
+    pub fn call(
+        &mut self,
+        alloc: Global,
+        zone: &mut MhZone,
+        call: &ResourceCall<'_>,
+    ) -> Option<Outcome>
+        ensures { ResourceCalled zone.old.held.session self.old.held.files call.now result zone.new.held.session self.new.held.files }
+    {
+        let mut session = zone.take(alloc)?;
+        let Some(mut files) = self.take(alloc) else {
+            zone.put(session);
+            return None;
+        };
+        let outcome = files.make(alloc, &mut session, call);
+        self.put(files);
+        zone.put(session);
+        Some(outcome)
+    }
+
+    /// Makes a call, and tells its code.
+    pub fn code(&mut self, alloc: Global, zone: &mut MhZone, call: &ResourceCall<'_>) -> i16
+        ensures { ResourceTold zone.old.held.session self.old.held.files call.now result zone.new.held.session self.new.held.files }
+    {
+        told::code(&self.call(alloc, zone, call))
+    }
+
+    /// Makes a call, tells its code, and writes its number, where it gives one.
+    pub fn number(
+        &mut self,
+        alloc: Global,
+        zone: &mut MhZone,
+        call: &ResourceCall<'_>,
+        number: &mut u32,
+    ) -> i16
+        ensures { ResourceToldNumber zone.old.held.session self.old.held.files call.now result number.old number.new zone.new.held.session self.new.held.files }
+    {
+        told::number(&self.call(alloc, zone, call), number)
+    }
+
+    /// Makes a call, tells its code, and writes its resource type, where it gives one.
+    pub fn kind(
+        &mut self,
+        alloc: Global,
+        zone: &mut MhZone,
+        call: &ResourceCall<'_>,
+        number: &mut u32,
+    ) -> i16
+        ensures { ResourceToldKind zone.old.held.session self.old.held.files call.now result number.old number.new zone.new.held.session self.new.held.files }
+    {
+        kind(&self.call(alloc, zone, call), number)
+    }
+
+    /// GetResInfo: tells its code, and writes what the resource is called. paramErr where there is no room for 255
+    /// bytes of a name.
+    pub fn info(
+        &mut self,
+        alloc: Global,
+        zone: &mut MhZone,
+        handle: Handle,
+        shown: &mut MrInfo,
+        name: &mut [u8],
+    ) -> i16
+        ensures { InfoTold zone.old.held.session self.old.held.files handle result (shown.old, name.old) (shown.new, name.new) zone.new.held.session self.new.held.files }
+    {
+        if name.len() < 255 {
+            return OsErr::ParamErr.code();
+        }
+        let outcome = self.call(alloc, zone, &ResourceCall::GetResInfo(handle));
+        info(&outcome, shown, name)
+    }
+
+    /// Opens a file on a copy of a fork, tells the code, and writes the file's number.
+    pub fn open(&mut self, alloc: Global, zone: &mut MhZone, fork: &[u8], number: &mut u32) -> i16
+        ensures { OpenTold zone.old.held.session self.old.held.files fork.now result number.old number.new zone.new.held.session self.new.held.files }
+    {
+        let Some(mut session) = zone.take(alloc) else {
+            return NO_ZONE;
+        };
+        let Some(mut files) = self.take(alloc) else {
+            zone.put(session);
+            return NO_ZONE;
+        };
+        let code = files.open(alloc, &mut session, fork, number);
+        self.put(files);
+        zone.put(session);
+        code
+    }
+
+    /// No resource has a handle of which an answer to the zone's last call disposed.
+    pub fn forget(&mut self, alloc: Global, zone: &mut MhZone) -> i16
+        ensures { ForgetTold zone.old.held.session self.old.held.files result zone.new.held.session self.new.held.files }
+    {
+        let Some(session) = zone.take(alloc) else {
+            return NO_ZONE;
+        };
+        let Some(mut files) = self.take(alloc) else {
+            zone.put(session);
+            return NO_ZONE;
+        };
+        files.forget_asked(session.asks());
+        self.put(files);
+        zone.put(session);
+        NO_ERR
+    }
+
+    /// Disposes of a handle, which no resource has then, and tells the code.
+    pub fn dispose(&mut self, alloc: Global, zone: &mut MhZone, handle: Handle) -> i16
+        ensures { DisposeTold zone.old.held.session self.old.held.files handle result zone.new.held.session self.new.held.files }
+    {
+        let Some(mut session) = zone.take(alloc) else {
+            return NO_ZONE;
+        };
+        let Some(mut files) = self.take(alloc) else {
+            zone.put(session);
+            return NO_ZONE;
+        };
+        let outcome = files.dispose(&mut session, handle);
+        self.put(files);
+        zone.put(session);
+        told::code(&outcome)
+    }
+}

@@ -1,0 +1,6 @@
+//! The resource files that a program in C holds: their forks in memory, the calls on them, and what C is told of these.
+#![tactic(auto)]
+
+pub mod files;
+pub mod held;
+pub mod told;

@@ -1,0 +1,75 @@
+//! A session whose zone sleeps, and wakes in bytes of the host.
+
+use crate::session::Session;
+use crate::spare::Spare;
+use mac_base::error::OsErr;
+use raw_region::Region;
+use std::mem;
+
+impl Session {
+    ghost use Rattle.std.specs.Prelude.{◌≡◌, [], length, IfOk, IfErr, OnErr};
+    ghost use Rattle.std.specs.Result.{result_err};
+    ghost use Rattle.linked_zone.specs.Structure.{HasStructure};
+    ghost use Rattle.held_zone.specs.Asleep.{FallsAsleep, IsAsleep, IsInRegion, IsSettled, awake_in, sleep_refusal};
+
+    /// How many bytes the zone may have, and its memory has.
+    pub fn limit(&self) -> usize
+        ensures { result ≡ self.now.zone.shape.limit }
+    {
+        self.spare.limit
+    }
+
+    /// Writes the structure of the zone, which sleeps, into a region as long as its limit, and gives the region back.
+    pub fn settle(&mut self, region: Region) -> Region
+        requires asleep { IsAsleep self.old }
+        requires whole { region.lent ≡ [] }
+        requires long { length region.bytes ≡ self.old.zone.shape.limit }
+        ensures settled { IsSettled self.new region result }
+        ensures unchanged { self.new ≡ self.old }
+        ensures asleep { IsAsleep self.new }
+    {
+        let own = self.memory.sleep(region);
+        match self.memory.wake(own) {
+            Ok(region) => region,
+
+            // The zone's own region has its structure.
+            Err(own) => own,
+        }
+    }
+
+    /// Wakes the zone, which sleeps, in a region whose bytes have its structure. Else it sleeps on, and the region
+    /// comes back.
+    pub fn wake(&mut self, region: Region) -> Result<(), Region>
+        requires asleep { IsAsleep self.old }
+        requires whole { region.lent ≡ [] }
+        ensures awake { IfOk result (λ u. HasStructure self.old.zone region.bytes × (self.new ≡ awake_in region self.old)) }
+        ensures damaged { IfErr result (λ given. (HasStructure self.old.zone region.bytes → ⊥) × (given ≡ region) × (self.new ≡ self.old)) }
+    {
+        match self.memory.wake(region) {
+            Ok(kept) => {
+                self.spare = Spare::of(kept);
+                Ok(())
+            }
+            Err(region) => Err(region),
+        }
+    }
+
+    /// Puts the zone to sleep, which is awake in bytes of the host, and gives these back.
+    pub fn sleep(&mut self) -> Result<Region, OsErr>
+        ensures region { IfOk result (λ region. IsInRegion self.old region) }
+        ensures asleep { IfOk result (λ region. FallsAsleep self.old region self.new) }
+        ensures refusal { result_err result ≡ sleep_refusal self.old }
+        ensures unchanged { OnErr result (self.new ≡ self.old) }
+    {
+        let limit = self.spare.limit;
+        let before = mem::replace(&mut self.spare, Spare::none(limit));
+        let Some(kept) = before.into_region() else {
+            return Err(OsErr::ParamErr);
+        };
+        if self.memory.lent_count() > 0 {
+            self.spare = Spare::of(kept);
+            return Err(OsErr::MemLockedErr);
+        }
+        Ok(self.memory.sleep(kept))
+    }
+}

@@ -1,0 +1,65 @@
+-- What C is told of a zone that sleeps, and wakes in its bytes.
+use Rattle.std.specs.Prelude.{◌≡◌, ◌⊎◌, ℤ, pos, Bool, true, false, ◌==◌, length, Option, Some, None}
+use Rattle.linked_zone.specs.Structure.{HasStructure}
+use Rattle.mac_base.specs.Codes.{code_of, minus}
+use Rattle.mac_base.specs.declared.error.OsErr.{OsErr}
+use Rattle.mac_base.specs.ZoneSizes.{ZoneSizes}
+use Rattle.raw_region.specs.State.{State as Region}
+use Rattle.held_zone.specs.Asleep.{FallsAsleep, IsInRegion, IsSettled, awake_in, sleep_refusal}
+use Rattle.held_zone.specs.State.{State, IsNew}
+
+-- the code by which C is told that bytes haven't the structure of a zone
+abbrev pub damaged : ℤ
+damaged = minus 116
+
+-- paramErr, and C has the zone that was awake, the one that slept, and the bytes that were there
+abbrev pub Refused : Option State → Option State → Option Region → ℤ → Option State → Option State → Option Region → Type 0
+Refused zone asleep memory code new_zone new_asleep new_memory = (code ≡ minus 50) × (new_zone ≡ zone) × (new_asleep ≡ asleep) × (new_memory ≡ memory)
+
+-- a zone wakes in bytes that have its structure, which are gone then; else it sleeps on, and the bytes are as they were
+abbrev pub WakesIn : State → Region → ℤ → Option State → Option State → Option Region → Type 0
+WakesIn old region code zone asleep memory =
+    (HasStructure old.zone region.bytes × (code ≡ pos 0) × (zone ≡ Some (awake_in region old)) × (asleep ≡ None) × (memory ≡ None))
+    ⊎ ((HasStructure old.zone region.bytes → ⊥) × (code ≡ damaged) × (zone ≡ None) × (asleep ≡ Some old) × (memory ≡ Some region))
+
+-- bytes that aren't as many as the zone's limit are refused
+abbrev pub WakesWhere : Bool → State → Region → ℤ → Option State → Option State → Option Region → Type 0
+WakesWhere true old region code zone asleep memory = WakesIn old region code zone asleep memory
+WakesWhere false old region code zone asleep memory = Refused None (Some old) (Some region) code zone asleep memory
+
+-- A zone wakes where none is awake, one sleeps, and there are bytes for it.
+abbrev pub IsWoken : Option State → Option State → Option Region → ℤ → Option State → Option State → Option Region → Type 0
+IsWoken None (Some old) (Some region) code zone asleep memory = WakesWhere (length region.bytes == old.zone.shape.limit) old region code zone asleep memory
+IsWoken old_zone old_asleep old_memory code zone asleep memory = Refused old_zone old_asleep old_memory code zone asleep memory
+
+-- the zone sleeps, and the bytes in which it was are there again
+abbrev pub SleepsOutOf : State → Option State → Option Region → Type 0
+SleepsOutOf old (Some new) (Some region) = FallsAsleep old region new × IsInRegion old region
+SleepsOutOf old _ _ = ⊥
+
+-- a zone falls asleep unless it is refused: then it is awake as before
+abbrev pub SleepsUnless : Option OsErr → State → ℤ → Option State → Option State → Option Region → Type 0
+SleepsUnless None old code zone asleep memory = (code ≡ pos 0) × (zone ≡ None) × SleepsOutOf old asleep memory
+SleepsUnless (Some refusal) old code zone asleep memory = (code ≡ code_of refusal) × (zone ≡ Some old) × (asleep ≡ None) × (memory ≡ None)
+
+-- A zone that is awake falls asleep where none sleeps, and where the bytes that C has are gone.
+abbrev pub IsPutToSleep : Option State → Option State → Option Region → ℤ → Option State → Option State → Option Region → Type 0
+IsPutToSleep (Some old) None None code zone asleep memory = SleepsUnless (sleep_refusal old) old code zone asleep memory
+IsPutToSleep old_zone old_asleep old_memory code zone asleep memory = Refused old_zone old_asleep old_memory code zone asleep memory
+
+-- there is a new zone of these sizes, asleep, and the bytes have its structure; or none, since the host has no memory
+-- (memFullErr)
+abbrev pub BeginsIn : ZoneSizes → Region → ℤ → Option State → Option Region → Type 0
+BeginsIn sizes region code (Some new) (Some kept) = (code ≡ pos 0) × IsNew sizes new × IsSettled new region kept
+BeginsIn sizes region code None memory = (code ≡ minus 108) × (memory ≡ Some region)
+BeginsIn sizes region code (Some new) None = ⊥
+
+-- bytes that aren't as many as the limit are refused
+abbrev pub BeginsWhere : Bool → ZoneSizes → Region → ℤ → Option State → Option Region → Type 0
+BeginsWhere true sizes region code asleep memory = BeginsIn sizes region code asleep memory
+BeginsWhere false sizes region code asleep memory = (code ≡ minus 50) × (asleep ≡ None) × (memory ≡ Some region)
+
+-- A zone is made asleep where none sleeps, in bytes that are there. Else the answer is paramErr, and all stays.
+abbrev pub IsMadeAt : Option State → Option ZoneSizes → Option Region → ℤ → Option State → Option Region → Type 0
+IsMadeAt None (Some sizes) (Some region) code asleep memory = BeginsWhere (length region.bytes == sizes.limit) sizes region code asleep memory
+IsMadeAt old sizes region code asleep memory = (code ≡ minus 50) × (asleep ≡ old) × (memory ≡ region)

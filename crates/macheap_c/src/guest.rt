@@ -1,0 +1,204 @@
+//! A zone that sleeps, and wakes in bytes of the host that a guest may write meanwhile.
+
+ghost use Rattle.std.specs.Prelude.{◌≡◌, [], length, None, Some};
+ghost use Rattle.held_zone.specs.Asleep.{IsAsleep, IsSettled, region_of};
+ghost use Rattle.macheap_c.specs.Guest.{IsMadeAt, IsPutToSleep, IsWoken};
+ghost use Rattle.macheap_c.specs.Life.{Ends, large_sizes_of};
+
+use crate::life::large_spec_of;
+use held_zone::asleep::MhAsleep;
+use held_zone::memory::MhMemory;
+use held_zone::session::Session;
+use held_zone::told::NO_ZONE;
+use held_zone::zone::MhZone;
+use mac_base::error::{NO_ERR, OsErr};
+use mac_base::zone_spec::ZoneSpec;
+use raw_region::Region;
+use std::alloc::Global;
+
+/// The bytes haven't the zone's structure: memSCErr.
+const DAMAGED: i16 = -116;
+
+/// Makes a zone that sleeps, as `mh_make_zone_large` does one that is awake, and writes its structure into bytes, as
+/// many as its limit.
+#[unsafe(no_mangle)]
+pub extern "C" fn mh_make_zone_at(
+    alloc: Global,
+    asleep: &mut MhAsleep,
+    memory: &mut MhMemory,
+    base: u32,
+    size: u32,
+    limit: u32,
+    mode: u32,
+) -> i16
+    ensures { IsMadeAt asleep.old.zone.held.session (large_sizes_of mode base size limit) (region_of memory.old.host) result asleep.new.zone.held.session (region_of memory.new.host) }
+{
+    make_at(
+        alloc,
+        asleep,
+        memory,
+        large_spec_of(mode, base, size, limit),
+    )
+}
+
+/// Makes a zone of these sizes that sleeps, if there may be one, where there is none.
+fn make_at(
+    alloc: Global,
+    asleep: &mut MhAsleep,
+    memory: &mut MhMemory,
+    spec: Option<ZoneSpec>,
+) -> i16
+    ensures { IsMadeAt asleep.old.zone.held.session spec (region_of memory.old.host) result asleep.new.zone.held.session (region_of memory.new.host) }
+{
+    if let Some(session) = asleep.take(alloc) {
+        asleep.put(session);
+        return OsErr::ParamErr.code();
+    }
+    match spec {
+        Some(spec) => make(alloc, asleep, memory, spec),
+        None => OsErr::ParamErr.code(),
+    }
+}
+
+/// Makes a zone of these sizes that sleeps.
+fn make(alloc: Global, asleep: &mut MhAsleep, memory: &mut MhMemory, spec: ZoneSpec) -> i16
+    requires none { asleep.old.zone.held.session ≡ None }
+    ensures { IsMadeAt None (Some spec) (region_of memory.old.host) result asleep.new.zone.held.session (region_of memory.new.host) }
+{
+    let Some(region) = memory.take() else {
+        return OsErr::ParamErr.code();
+    };
+    if region.len() != spec.limit() as usize {
+        memory.put(region);
+        return OsErr::ParamErr.code();
+    }
+    match Session::create(alloc, spec) {
+        Ok(session) => {
+            let (session, kept) = settled(session, region);
+            memory.put(kept);
+            asleep.put(session);
+            NO_ERR
+        }
+        Err(_) => {
+            memory.put(region);
+            OsErr::MemFullErr.code()
+        }
+    }
+}
+
+/// The zone, and the bytes in which its structure is then.
+fn settled(session: Box<Session>, region: Region) -> (Box<Session>, Region)
+    requires asleep { IsAsleep session.value }
+    requires whole { region.lent ≡ [] }
+    requires long { length region.bytes ≡ session.value.zone.shape.limit }
+    ensures same { result.0.value ≡ session.value }
+    ensures settled { IsSettled session.value region result.1 }
+{
+    let mut session = session;
+    let kept = session.settle(region);
+    (session, kept)
+}
+
+/// Wakes the zone that sleeps in bytes that have its structure: it has the contents and flags that they have, and they
+/// are gone. Else the zone sleeps on, and no byte has changed.
+#[unsafe(no_mangle)]
+pub extern "C" fn mh_wake(
+    alloc: Global,
+    zone: &mut MhZone,
+    asleep: &mut MhAsleep,
+    memory: &mut MhMemory,
+) -> i16
+    ensures { IsWoken zone.old.held.session asleep.old.zone.held.session (region_of memory.old.host) result zone.new.held.session asleep.new.zone.held.session (region_of memory.new.host) }
+{
+    if let Some(session) = zone.take(alloc) {
+        zone.put(session);
+        return OsErr::ParamErr.code();
+    }
+    let Some(session) = asleep.take(alloc) else {
+        return NO_ZONE;
+    };
+    wake(session, zone, asleep, memory)
+}
+
+/// Wakes a zone that was asleep.
+fn wake(
+    session: Box<Session>,
+    zone: &mut MhZone,
+    asleep: &mut MhAsleep,
+    memory: &mut MhMemory,
+) -> i16
+    requires none { zone.old.held.session ≡ None }
+    requires out { asleep.old.zone.held.session ≡ None }
+    requires asleep { IsAsleep session.value }
+    ensures { IsWoken None (Some session.value) (region_of memory.old.host) result zone.new.held.session asleep.new.zone.held.session (region_of memory.new.host) }
+{
+    let mut session = session;
+    let Some(region) = memory.take() else {
+        asleep.put(session);
+        return OsErr::ParamErr.code();
+    };
+    if region.len() != session.limit() {
+        asleep.put(session);
+        memory.put(region);
+        return OsErr::ParamErr.code();
+    }
+    match session.wake(region) {
+        Ok(()) => {
+            zone.put(session);
+            NO_ERR
+        }
+        Err(region) => {
+            asleep.put(session);
+            memory.put(region);
+            DAMAGED
+        }
+    }
+}
+
+/// Puts the zone that is awake to sleep, and gives the bytes back in which it was.
+#[unsafe(no_mangle)]
+pub extern "C" fn mh_sleep(
+    alloc: Global,
+    zone: &mut MhZone,
+    asleep: &mut MhAsleep,
+    memory: &mut MhMemory,
+) -> i16
+    ensures { IsPutToSleep zone.old.held.session asleep.old.zone.held.session (region_of memory.old.host) result zone.new.held.session asleep.new.zone.held.session (region_of memory.new.host) }
+{
+    if let Some(session) = asleep.take(alloc) {
+        asleep.put(session);
+        return OsErr::ParamErr.code();
+    }
+    if let Some(region) = memory.take() {
+        memory.put(region);
+        return OsErr::ParamErr.code();
+    }
+    let Some(mut session) = zone.take(alloc) else {
+        return NO_ZONE;
+    };
+    match session.sleep() {
+        Ok(region) => {
+            asleep.put(session);
+            memory.put(region);
+            NO_ERR
+        }
+        Err(code) => {
+            zone.put(session);
+            code.code()
+        }
+    }
+}
+
+/// Ends a zone that sleeps, and gives its memory back to the host.
+#[unsafe(no_mangle)]
+pub extern "C" fn mh_end_asleep(alloc: Global, asleep: &mut MhAsleep) -> i16
+    ensures { Ends asleep.old.zone.held.session result asleep.new.zone.held.session }
+{
+    match asleep.take(alloc) {
+        Some(session) => {
+            drop(session);
+            NO_ERR
+        }
+        None => NO_ZONE,
+    }
+}

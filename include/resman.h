@@ -1,0 +1,120 @@
+/* The classic Macintosh Resource Manager over a heap zone and resource forks in memory, for programs in C and C++.
+ *
+ * Each function is one call, made over the files and the zone that are given with it, and answers with an OSErr, as
+ * those of macheap.h do. A call that is refused writes nothing through its pointers. What each does, to the byte, is
+ * what the project's contracts say of the call of that name: crates/held_files/specs, and docs/THEOREM.md. A call
+ * that loads a resource makes its block in the zone, and takes answers of the grow-zone procedure that are queued
+ * there (mh_queue_answer).
+ *
+ * What the caller promises beside what macheap.h says, and nothing tests:
+ *  - An MrFiles begins as MR_NO_FILES, and then only these functions write it. It may be moved, but a copy is never
+ *    passed.
+ *  - One call at a time on one MrFiles, on one thread.
+ *
+ * Files know handles as numbers. So that these stay those of their resources, a program does this; else a call may
+ * take another block for a resource's, and harms nothing of the host:
+ *  - It gives each call on files the same zone, from the first handle on.
+ *  - It disposes of handles by mr_dispose_handle, and after each call of macheap.h that asked (mh_asked) it calls
+ *    mr_forget. A call of this header needs none after it: it has forgotten what its answers disposed of, and may
+ *    have got that number for a new handle.
+ *
+ * What is tested: calls before mr_begin or after mr_end, or on a zone that isn't there (paramErr); any number as a
+ * handle or a file. Files that are forgotten keep their memory: end them. Unlike those of macheap.h, these calls may
+ * take memory of the host: memFullErr says that there is none, and nothing has changed then, or of a call that loads,
+ * that the zone has no room.
+ */
+#ifndef RESMAN_H
+#define RESMAN_H
+
+#include "macheap.h"
+
+#ifdef __cplusplus
+extern "C" {
+#endif
+
+enum {
+    MR_DSK_FUL_ERR = -34,      /* no fork can hold what is to be written */
+    MR_IO_ERR = -36,           /* the host has no memory for a longer fork. The file is closed */
+    MR_EOF_ERR = -39,          /* the fork ends too early */
+    MR_TMFO_ERR = -42,         /* eight files are open */
+    MR_RES_NOT_FOUND = -192,   /* no such resource */
+    MR_RES_F_NOT_FOUND = -193, /* no such resource file is open */
+    MR_ADD_RES_FAILED = -194,
+    MR_RMV_RES_FAILED = -196,
+    MR_RES_ATTR_ERR = -198, /* the resource's attributes forbid the call */
+    MR_MAP_READ_ERR = -199  /* the resource map is damaged */
+};
+
+/* Resource files, or none. Its fields are the library's. */
+typedef struct MrFiles {
+    bool live;
+    void *held;
+} MrFiles;
+
+#define MR_NO_FILES {false, NULL}
+
+/* Begins files of which none is open. paramErr where they have begun. mr_end ends them; what isn't written stays
+ * unwritten. */
+MhErr mr_begin(MrFiles *files);
+MhErr mr_end(MrFiles *files);
+
+/* Opens a file on a copy of this fork, and makes it the current one: OpenResFile. No bytes are a file without
+ * resources; others that are no fork are eofErr or mapReadErr. Its number is `file`, from 1 to 8: eight files at most
+ * are open at a time, or it is tmfoErr, and the number of one that was closed is used again. */
+MhErr mr_open(MrFiles *files, MhZone *zone, const uint8_t *fork, size_t length, uint32_t *file);
+/* How many bytes the fork of a file has now, and a copy of them, for the host to write: after an update they are the
+ * new fork's. After mr_close_res_file they are there until the number is used again. paramErr where `length` is
+ * another one. */
+MhErr mr_fork_size(MrFiles *files, uint32_t file, size_t *length);
+MhErr mr_fork(MrFiles *files, uint32_t file, uint8_t *fork, size_t length);
+
+/* Resources. `kind` is a resource type as a number, its first letter in the highest byte: 0x54455854 for 'TEXT'.
+ * mr_get_resource looks in the current file and then in those opened before it; those whose names have a 1 look in
+ * the current file alone. */
+MhErr mr_get_resource(MrFiles *files, MhZone *zone, uint32_t kind, int16_t id, uint32_t *handle);
+MhErr mr_get1_resource(MrFiles *files, MhZone *zone, uint32_t kind, int16_t id, uint32_t *handle);
+MhErr mr_get1_ind_resource(MrFiles *files, MhZone *zone, uint32_t kind, uint32_t index, uint32_t *handle);
+MhErr mr_load_resource(MrFiles *files, MhZone *zone, uint32_t handle);
+MhErr mr_set_res_load(MrFiles *files, MhZone *zone, uint32_t load);
+MhErr mr_release_resource(MrFiles *files, MhZone *zone, uint32_t handle);
+MhErr mr_detach_resource(MrFiles *files, MhZone *zone, uint32_t handle);
+
+/* What the files say. */
+MhErr mr_get_res_attrs(MrFiles *files, MhZone *zone, uint32_t handle, uint32_t *number);
+MhErr mr_size_resource(MrFiles *files, MhZone *zone, uint32_t handle, uint32_t *number);
+MhErr mr_home_res_file(MrFiles *files, MhZone *zone, uint32_t handle, uint32_t *number);
+MhErr mr_unique1_id(MrFiles *files, MhZone *zone, uint32_t kind, uint32_t *number);
+MhErr mr_count1_types(MrFiles *files, MhZone *zone, uint32_t *number);
+MhErr mr_count1_resources(MrFiles *files, MhZone *zone, uint32_t kind, uint32_t *number);
+MhErr mr_cur_res_file(MrFiles *files, MhZone *zone, uint32_t *number);
+MhErr mr_use_res_file(MrFiles *files, MhZone *zone, uint32_t file);
+MhErr mr_get1_ind_type(MrFiles *files, MhZone *zone, uint32_t index, uint32_t *kind);
+/* What a resource is called. The bytes of its name are written to `name`, which has 255 at least, or it is paramErr. */
+typedef struct MrInfo {
+    uint32_t kind;
+    int16_t id;
+    uint32_t name_length; /* 0 where it has none */
+} MrInfo;
+MhErr mr_get_res_info(MrFiles *files, MhZone *zone, uint32_t handle, MrInfo *info, uint8_t *name, size_t room);
+
+/* Changes. Attributes are one byte. mr_add_resource makes a handle's block a resource of the current file, without a
+ * name where `length` is 0. */
+MhErr mr_changed_resource(MrFiles *files, MhZone *zone, uint32_t handle);
+MhErr mr_set_res_attrs(MrFiles *files, MhZone *zone, uint32_t handle, uint32_t attributes);
+MhErr mr_add_resource(MrFiles *files, MhZone *zone, uint32_t handle, uint32_t kind, int16_t id, const uint8_t *name,
+                      size_t length);
+MhErr mr_rmve_resource(MrFiles *files, MhZone *zone, uint32_t handle);
+MhErr mr_write_resource(MrFiles *files, MhZone *zone, uint32_t handle);
+MhErr mr_update_res_file(MrFiles *files, MhZone *zone, uint32_t file);
+MhErr mr_close_res_file(MrFiles *files, MhZone *zone, uint32_t file);
+
+/* Handles that go. mr_dispose_handle is mh_dispose_handle, and no resource has the handle then. After mr_forget no
+ * resource has a handle that an answer of the grow-zone procedure disposed of in the zone's last call. */
+MhErr mr_dispose_handle(MrFiles *files, MhZone *zone, uint32_t handle);
+MhErr mr_forget(MrFiles *files, MhZone *zone);
+
+#ifdef __cplusplus
+}
+#endif
+
+#endif
