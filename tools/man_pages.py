@@ -94,10 +94,13 @@ def program():
 
 
 def comment(text):
-    """A comment of a header: its paragraphs, and the points of a list."""
+    """A comment of a header: its paragraphs, the points of a list, and lines of code, which are indented."""
     lines = [re.sub(r"^ ?\* ?", "", it) for it in text.strip().split("\n")]
     made = []
     for part in re.split(r"\n\s*\n", "\n".join(lines)):
+        if part.startswith("    "):
+            made += [".PP", code(textwrap.dedent(part))]
+            continue
         first, *points = re.split(r"^ *- ", part, flags=re.M)
         made += [".PP", words(first)]
         for point in points:
@@ -128,9 +131,9 @@ def head(section):
 
 def library():
     """macheap(3)."""
-    made = [head(3), ".SH NAME", "macheap, macheap_fork \\- the classic Macintosh Memory Manager and resource forks, for C and C++"]
-    made += [".SH SYNOPSIS", code('#include "macheap.h"\n#include "macheap_fork.h"'), code("cc emulator.c $(pkg-config --cflags --libs macheap)")]
-    for path, title in [("include/macheap.h", "MEMORY MANAGER"), ("include/macheap_fork.h", "RESOURCE FORKS")]:
+    made = [head(3), ".SH NAME", "macheap, resman, macheap_fork \\- the classic Macintosh Memory Manager, Resource Manager and resource forks, for C and C++"]
+    made += [".SH SYNOPSIS", code('#include "macheap.h"\n#include "resman.h"\n#include "macheap_fork.h"'), code("cc emulator.c $(pkg-config --cflags --libs macheap)")]
+    for path, title in [("include/macheap.h", "MEMORY MANAGER"), ("include/resman.h", "RESOURCE MANAGER"), ("include/macheap_fork.h", "RESOURCE FORKS")]:
         said, declared = header(path)
         made += [f".SH {title}", *said[1:], *declared]
     return "\n".join([*made, ".SH SEE ALSO", ".BR macheap (1),", ".BR resfork (1)"]) + "\n"

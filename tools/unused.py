@@ -35,6 +35,10 @@ EXAMPLES = {
 # what may stay though nothing reaches it, and why
 STAYS = {
     "crates/fork_bytes/specs/Fork.antt: HasParts": "the first of what macheap's limits say, beside the others",
+    "crates/held_zone/proofs/Sleeping.antt: as_it_was": "a theorem: a zone that falls asleep and wakes in the same bytes is as it was",
+    "crates/linked_zone/proofs/Structured.antt: own-structure": "beside own-shown: what the bytes that a zone is in say of it",
+    "crates/linked_zone/proofs/Structured.antt: own-flags": "beside own-shown: what the bytes that a zone is in say of it",
+    "crates/zone_records/proofs/OwnBytes.antt: part-of": "beside rest-of: the part before that rest",
     "crates/script_tests/src/files.rt: run_over_files": "a theorem, which nothing calls",
     "crates/script_tests/src/files.rt: run_over_journalled_files": "a theorem, which nothing calls",
     "crates/script_tests/src/files.rt: files_can_be_honest": "a theorem, which nothing calls",
