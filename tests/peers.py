@@ -210,7 +210,8 @@ def beside_fork(peers, way, path, fork):
     tried(peers, way)
 
 
-# what programs that read fonts are told of a file: of a raw fork, and of a container of each kind
+# what programs that read fonts are told of a file: of a raw fork, and of a container of each kind. (FreeType takes each MacBinary file
+# whose name has two letters for a Windows font, whose first bytes are those, too. So no file here has such a name.)
 FONTS = {
     "fork": [["ftdump", "-n"], ["fontforge", "-quiet", "-lang=ff", "-c", 'Open($1); Print($fontname, " ", CharCnt())'], ["t1unmac", "--raw"]],
     "MacBinary": [["ftdump", "-n"], ["t1unmac", "--macbinary"]],
@@ -367,10 +368,10 @@ def raw_forks(peers, named):
     if font:
         shutil.copy(font, os.path.join(folder, "a.ttf"))
         ff = ["fontforge", "-quiet", "-lang=ff", "-c"]
-        peers.run(ff + ['Open("a.ttf"); SelectAll(); ScaleToEm(1000); Generate("a.pfb"); Generate("ff.dfont"); Generate("ff.otf.dfont")'])
-        forks += [path for path in (os.path.join(folder, it) for it in ("ff.dfont", "ff.otf.dfont")) if os.path.exists(path)]
+        peers.run(ff + ['Open("a.ttf"); SelectAll(); ScaleToEm(1000); Generate("a.pfb"); Generate("forge.dfont"); Generate("forge.otf.dfont")'])
+        forks += [path for path in (os.path.join(folder, it) for it in ("forge.dfont", "forge.otf.dfont")) if os.path.exists(path)]
         if os.path.exists(os.path.join(folder, "a.pfb")):
-            forks += [peers.made(["t1mac", "-r", "a.pfb", "t1.rsrc"], "t1.rsrc")]
+            forks += [peers.made(["t1mac", "-r", "a.pfb", "type1.rsrc"], "type1.rsrc")]
         for flag, ending in (("-dfont", "dfont"), ("-res", "res")):
             if (done := peers.run(["ufond", flag, "a.ttf"])) and not done.returncode:
                 new = [it for it in glob.glob(os.path.join(folder, f"*.{ending}")) if os.path.basename(it).split(".")[0] not in ("ff", "uf")]
@@ -495,7 +496,7 @@ def main():
             for way, path in containers(peers, fork):
                 beside_fork(peers, way, path, fork)
                 written_of(peers, python, way, path)
-        t1 = os.path.join(folder, "t1.rsrc")
+        t1 = os.path.join(folder, "type1.rsrc")
         for way, path in of_t1mac(peers) if os.path.exists(t1) else []:
             beside_fork(peers, way, path, t1)
             written_of(peers, python, way, path)
