@@ -34,4 +34,5 @@ pub mod Exchanged
 pub mod AdoptedBlocks
 pub mod AdoptedZone
 pub mod Comparing
-pub mod WrittenHeaders
+pub mod WrittenOwn
+pub mod Alone

@@ -108,7 +108,7 @@ two-written front mid rest x y x' y' p q first second =
     ∙ set_at (front ++ x' ∷ mid) y rest y' q (omega arith) ∙ append_assoc front (x' ∷ mid) (y' ∷ rest)
 
 -- the marks behind a block's own, where it is cut
-unmarked-apart : (whole first second : ℕ) → whole ≡ first + second → first % 4 ≡ 0 → second % 4 ≡ 0 → 4 ≤ first → 4 ≤ second
+pub unmarked-apart : (whole first second : ℕ) → whole ≡ first + second → first % 4 ≡ 0 → second % 4 ≡ 0 → 4 ≤ first → 4 ≤ second
     → unmarked (whole / 4 - 1) ≡ unmarked (first / 4 - 1) ++ (0 ∷ unmarked (second / 4 - 1))
 unmarked-apart whole first second sum even even' some some' =
     ap (λ (n : ℕ). unmarked n) (let e : whole / 4 - 1 ≡ first / 4 - 1 + suc (second / 4 - 1) = omega arith in e)

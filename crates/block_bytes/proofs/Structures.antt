@@ -1,5 +1,5 @@
 -- Bytes have a zone's structure exactly where its header is at their front and those of its blocks are in their places.
-use Rattle.std.proofs.Common.{◌≡◌, ℕ, suc, ◌+◌, ◌≤◌, Bool, true, false, List, [], ◌∷◌, ◌++◌, length, take, drop, refl, sym, ap, subst, ◌∙◌, arith, append_assoc, length-append, length-drop, drop-drop, take-append-drop, take_at, drop_at}
+use Rattle.std.proofs.Common.{◌≡◌, ℕ, suc, ◌+◌, ◌≤◌, Bool, true, false, List, [], ◌∷◌, ◌++◌, length, take, drop, refl, sym, ap, subst, ◌∙◌, arith, append_assoc, length-append, drop-drop, take-append-drop, take_at, drop_at}
 use Rattle.std.specs.Prelude.{◌-◌, ◌/◌, ◌%◌, ◌&&◌, ◌||◌, ◌==◌, not, nat_le, if◌then◌else◌, replicate}
 use Rattle.std.specs.List.{list_all}
 use Rattle.mac_base.specs.declared.block.HeadKind.{HeadKind}
@@ -162,21 +162,3 @@ module _ (l : Layout) (bytes : List ℕ) where
     all = head.all;
     image = (λ i. (header-alike (enough head.all) ∙ sym head.head) i ++ sym (rendered-shown zone_header l.blocks (enough head.all) headers) i) ∙ take-append-drop zone_header bytes;
   }
-
-module _ (l : Layout) (old : List ℕ) (all : length old ≡ length (image_of l)) where
-  -- other contents are as many bytes
-  pub length-shown : length (image_of (shown l old)) ≡ length (image_of l)
-  length-shown =
-      let s = shown l old in let alike = alike-shown l.heads old zone_header l.blocks (enough l old all) in let total = alike.total in
-      let a = length-append (header_bytes l) (rendered l.heads l.base l.blocks ++ l.spare) in let b = length-append (rendered l.heads l.base l.blocks) l.spare in
-      let c = length-header l in let d = length-rendered l.heads l.base l.blocks in
-      let a' = length-append (header_bytes s) (rendered s.heads s.base s.blocks ++ s.spare) in let b' = length-append (rendered s.heads s.base s.blocks) s.spare in
-      let c' = length-header s in let d' = length-rendered s.heads s.base s.blocks in
-      let e = length-drop (zone_header + total_of l.heads l.blocks) old in omega arith
-
-  -- the zone with other contents has its structure
-  pub structure-shown : HasStructure l (image_of (shown l old))
-  structure-shown =
-      let s = shown l old in let long = length-header s in let rest = rendered s.heads s.base s.blocks ++ s.spare in
-      structure-from l (image_of s) (record { all = length-shown; head = take_at (header_bytes s) rest zone_header long ∙ header-alike l old (enough l old all) })
-      (headers-rendered l (image_of s) old zone_header l.blocks s.spare (enough l old all) (drop_at (header_bytes s) rest zone_header long))

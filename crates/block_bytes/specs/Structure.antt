@@ -1,5 +1,5 @@
 -- The structure of a zone, its header and those of its blocks, and what bytes with this structure say of the rest.
-use Rattle.std.specs.Prelude.{◌≡◌, ℕ, ◌+◌, Bool, not, true, false, IsTrue, List, [], ◌∷◌, ◌++◌, length, take, drop, ⊤, if◌then◌else◌}
+use Rattle.std.specs.Prelude.{◌≡◌, ℕ, ◌+◌, ◌<◌, ◌≤◌, Bool, not, true, false, IsTrue, List, [], ◌∷◌, ◌++◌, length, take, drop, ⊤, if◌then◌else◌}
 use Rattle.std.specs.List.{list_all}
 use Rattle.mac_base.specs.declared.block.HeadKind.{HeadKind}
 use Rattle.mac_base.specs.HeadKind.{head_size, zone_header}
@@ -9,7 +9,7 @@ use Rattle.block_bytes.specs.declared.header.Role.TheVariants.{Free, Fixed, Mast
 use Rattle.block_bytes.specs.declared.structure.Compared.{Compared}
 use Rattle.block_bytes.specs.declared.structure.Compared.TheVariants.{Differ, NextMaster, AllAgree}
 use Rattle.block_bytes.specs.Head.{head_bytes}
-use Rattle.block_bytes.specs.Layout.{RawBlock, Layout, size_of, total_of, header_of, header_bytes, image_of}
+use Rattle.block_bytes.specs.Layout.{RawBlock, Layout, BlockAt, size_of, total_of, header_of, header_bytes, image_of}
 
 -- the block at an offset, with the contents that bytes have in its place
 abbrev pub shown_block : HeadKind → List ℕ → ℕ → RawBlock → RawBlock
@@ -74,3 +74,31 @@ abbrev pub Compares : Layout → List ℕ → ℕ → List RawBlock → Compared
 Compares l bytes offset bs Differ = HasHeaders l bytes offset (up_to_master bs) → ⊥
 Compares l bytes offset bs (NextMaster at) = AgreeUpTo l bytes offset bs at
 Compares l bytes offset bs AllAgree = IsTrue (none_master bs) × HasHeaders l bytes offset bs
+
+-- the bytes of a block that are the zone's own: its header, and of a master block its contents too
+abbrev pub own_bytes : HeadKind → ℕ → RawBlock → List ℕ
+own_bytes heads base b = head_bytes heads base (header_of heads b) ++ (if is_master b.role then b.contents else [])
+
+-- a block's contents are in their place among bytes
+abbrev pub AreWritten : List ℕ → ℕ → List ℕ → Type 0
+AreWritten bytes at contents = part bytes at (length contents) ≡ contents
+
+-- something holds of each master block's contents and their offset. The first of the blocks is at an offset
+abbrev pub EachMaster : (ℕ → List ℕ → Type 0) → HeadKind → ℕ → List RawBlock → Type 0
+EachMaster P heads at [] = ⊤
+EachMaster P heads at (b ∷ bs) = (b.role ≡ Master → P (at + head_size heads) b.contents) × EachMaster P heads (at + size_of heads b) bs
+
+-- the header of a block has the byte at an offset
+pub record InHeader (l : Layout) (at : ℕ) : Type 0 where
+  pub start : ℕ
+  pub block : BlockAt l start
+  pub low : start ≤ l.base + at
+  pub high : l.base + at < start + head_size l.heads
+
+-- the contents of a master block have the byte at an offset
+pub record InMaster (l : Layout) (at : ℕ) : Type 0 where
+  pub start : ℕ
+  pub block : BlockAt l start
+  pub master : block.here.role ≡ Master
+  pub low : start + head_size l.heads ≤ l.base + at
+  pub high : l.base + at < start + head_size l.heads + length block.here.contents

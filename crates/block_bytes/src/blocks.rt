@@ -403,8 +403,8 @@ impl Blocks {
         let second = offset + size as usize;
         self.memory.set_header(heads, offset, base, front);
         self.memory.set_header(heads, second, base, rest);
-        self.index.set(second / 4, rest.size);
         self.index.set(offset / 4, front.mark());
+        self.index.set(second / 4, rest.size);
         count_free(
             &mut self.memory,
             &self.index,
@@ -435,8 +435,8 @@ impl Blocks {
         };
         let offset = (at - base) as usize;
         self.memory.set_header(heads, offset, base, header);
-        self.index.set(offset / 4, header.mark());
         self.index.set((next - base) as usize / 4, 0);
+        self.index.set(offset / 4, header.mark());
         count_free(
             &mut self.memory,
             &self.index,

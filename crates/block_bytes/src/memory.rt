@@ -37,6 +37,14 @@ const SLOTS_FIELD: usize = 20;
 /// Where it has the address of the lowest free block.
 const LOWEST_FIELD: usize = 48;
 
+/// Writes other bytes over those at an offset.
+pub(crate) fn write_at(bytes: &mut [u8], start: usize, others: &[u8])
+    requires { start + length others.now ≤ length bytes.old }
+    ensures { bytes.new ≡ written bytes.old start others.now }
+{
+    bytes[start..start + others.len()].copy_from_slice(others);
+}
+
 /// The bytes of a zone from its start to its limit. A contract sees what it sees of the region.
 pub(crate) struct Memory {
     region: Region,
@@ -307,9 +315,10 @@ impl Memory {
         requires free { IsFree self.now.lent at (head_size heads) }
         ensures { bytes.new ≡ written bytes.old at (part self.now.bytes at (head_size heads)) }
     {
-        let _len = self.len();
-        let count = heads.head_size() as usize;
-        bytes[at..at + count].copy_from_slice(self.bytes(at, count));
+        match heads {
+            HeadKind::Bits24 => write_at(bytes, at, self.bytes(at, 8)),
+            HeadKind::Bits32 => write_at(bytes, at, self.bytes(at, 12)),
+        }
     }
 
     /// Whether the zone's header is at the front of other bytes.

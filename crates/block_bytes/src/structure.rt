@@ -1,13 +1,15 @@
 //! A zone's structure, its header and those of its blocks, compared with other bytes and written to them; and a zone whose
 //! bytes are exchanged for others with the same structure.
 
-ghost use Rattle.std.specs.Prelude.{◌≡◌, ◌+◌, ◌-◌, ◌↔◌, [], length, IsTrue};
+ghost use Rattle.std.specs.Prelude.{◌≡◌, ℕ, ◌+◌, ◌-◌, ◌≤◌, ◌↔◌, [], length, slice_index, IsTrue};
+ghost use Rattle.mac_base.specs.HeadKind.{zone_header};
+ghost use Rattle.raw_region.specs.Bytes.{written};
 ghost use Rattle.block_bytes.specs.Finding.{SplitAt};
-ghost use Rattle.block_bytes.specs.Layout.{NothingLent, image_of};
-ghost use Rattle.block_bytes.specs.Structure.{Compares, HasHead, HasStructure, shown};
+ghost use Rattle.block_bytes.specs.Layout.{BlockAt, NothingLent, image_of, size_of};
+ghost use Rattle.block_bytes.specs.Structure.{AreWritten, Compares, EachMaster, HasHead, HasStructure, InHeader, InMaster, own_bytes, shown};
 
 use crate::blocks::Blocks;
-use crate::memory::Memory;
+use crate::memory::{Memory, write_at};
 use mac_base::size::ZONE_HEADER;
 use raw_region::Region;
 use std::mem;
@@ -69,19 +71,38 @@ impl Blocks {
         before.into_region()
     }
 
-    /// Writes the zone's header and those of its blocks among as many other bytes as it has. No other of these changes.
-    pub fn write_headers(&self, bytes: &mut [u8])
+    /// Writes the header of the block at an offset among as many other bytes as the zone has, and if it is a master block
+    /// its contents too. Returns the block's size.
+    fn write_block(&self, at: u32, bytes: &mut [u8]) -> u32
+        requires whole { length bytes.old ≡ length (image_of self.now) }
+        requires block { BlockAt self.now (self.now.base + at) }
+        ensures size { (b : BlockAt self.now (self.now.base + at)) → result ≡ size_of self.now.heads b.here }
+        ensures written { (b : BlockAt self.now (self.now.base + at)) → bytes.new ≡ written bytes.old at (own_bytes self.now.heads self.now.base b.here) }
+    {
+        let base = self.spec.base();
+        let heads = self.spec.heads();
+        self.memory.write_header(heads, at as usize, bytes);
+        let header = self.memory.header(heads, at as usize);
+        if header.role.is_master() {
+            let start = (at + heads.head_size()) as usize;
+            write_at(bytes, start, self.contents(base + at));
+        }
+        header.size
+    }
+
+    /// Writes the zone's own bytes, which are its header, those of its blocks and the contents of its master blocks, among
+    /// as many other bytes as it has. No other of these changes.
+    pub fn write_own_bytes(&self, bytes: &mut [u8])
         requires whole { length bytes.old ≡ length (image_of self.now) }
         ensures same { HasStructure self.now bytes.new }
-        ensures others { image_of (shown self.now bytes.old) ≡ bytes.new }
+        ensures masters { EachMaster (AreWritten bytes.new) self.now.heads zone_header self.now.blocks }
+        ensures others { (at : ℕ) → zone_header ≤ at → (InHeader self.now at → ⊥) → (InMaster self.now at → ⊥) → slice_index bytes.new at ≡ slice_index bytes.old at }
     {
-        let heads = self.spec.heads();
-        let size = self.spec.size() as usize;
+        let size = self.spec.size();
         self.memory.write_zone_head(bytes);
-        let mut at = ZONE_HEADER as usize;
+        let mut at = ZONE_HEADER;
         while at < size {
-            self.memory.write_header(heads, at, bytes);
-            at += self.memory.header(heads, at).size as usize;
+            at += self.write_block(at, bytes);
         }
     }
 }

@@ -1,100 +1,497 @@
--- Numbers that move with their marks and sizes.
-use Rattle.std.proofs.Common.{◌≡◌, ℕ, List, sym, ap, ◌∙◌, ◌+◌, ◌-◌, ◌≤◌, inl, inr, length, get_or, arith}
-use Rattle.std.proofs.lemmas.Bool.{cases_lt}
-use Rattle.std.proofs.lemmas.List.{get_or_past}
-use Rattle.place_numbers.proofs.Moved.{shifted-down, shifted-up}
-use Rattle.place_numbers.specs.Parts.{numbers_of, AreParts}
+-- What the two lists say of numbers that move.
+use Rattle.std.proofs.Common.{◌≡◌, ◌≢◌, ℕ, List, length, refl, sym, ap, subst, ◌∙◌, ◌+◌, ◌-◌, ◌/◌, ◌^◌, ◌<◌, ◌≤◌, inl, inr, get_or, arith, get_or-set_same, get_or-set_other, length-set}
+use Rattle.std.specs.Prelude.{◌⊎◌}
+use Rattle.std.proofs.Math.ListN.{set}
+use Rattle.std.proofs.lemmas.Bool.{cases_eq, cases_lt}
+use Rattle.place_numbers.specs.Parts.{number_at, numbers_of, AreSpread, HasLarge, AreParts}
 use Rattle.place_numbers.specs.Shifted.{shifted_down, shifted_up}
-use Rattle.place_numbers.proofs.Parts.{at, only, length-numbers}
+use Rattle.place_numbers.proofs.Moved.{MovedDown, MovedUp, shifted-down, shifted-up}
+use Rattle.place_numbers.proofs.Parts.{by-small, by-large, at, only, length-numbers}
 
--- where what stands at a place came from, whatever the list. Past the end there is 0
-source-down : (from to n len j : ℕ) → to ≤ from → from + n ≤ len → (i : ℕ) × ((xs : List ℕ) → length xs ≡ len → get_or (shifted_down from to n xs) j 0 ≡ get_or xs i 0)
-source-down from to n len j down inside = elim (cases_lt j to) [
-  | inl low ↦ (j, λ xs is. (shifted-down xs from to n down (omega arith)).below j low)
-  | inr past ↦ elim (cases_lt (j + (from - to)) (from + n)) [
-    | inl early ↦ (j + (from - to), λ xs is. (shifted-down xs from to n down (omega arith)).moved j past early)
-    | inr late ↦ elim (cases_lt j (from + n)) [
-      | inl before ↦ (len, λ xs is. (shifted-down xs from to n down (omega arith)).zeros j past late before ∙ sym (get_or_past xs len 0 (omega arith)))
-      | inr behind ↦ (j, λ xs is. (shifted-down xs from to n down (omega arith)).behind j behind)
+-- where the number at a place came from: none, or it was that of another place, whose size stands there too
+pub record CameFrom (xs ys ks zs now : List ℕ) (k : ℕ) : Type 0 where
+  pub place : ℕ
+  pub mark : get_or ks k 0 ≡ get_or xs place 0
+  pub number : get_or now k 0 ≡ number_at xs ys place
+  pub size : get_or xs place 0 ≡ 255 → get_or zs (k / 64) 0 ≡ get_or ys (place / 64) 0
+
+-- numbers that came from others, or are 0
+module _ (xs ys ks zs now : List ℕ) (parts : AreParts xs ys) (marks-long : length ks ≡ length xs) (sizes-long : length zs ≡ length ys) (now-long : length now ≡ length xs)
+    (spread : AreSpread now) (source : (k : ℕ) → ((get_or ks k 0 ≡ 0) × (get_or now k 0 ≡ 0)) ⊎ CameFrom xs ys ks zs now k) (has : (run : ℕ) → 1 ≤ get_or zs run 0 → HasLarge ks run) where
+  is-number : (k : ℕ) → get_or now k 0 ≡ number_at ks zs k
+  is-number k = elim (source k) [
+    | inl none ↦ let mark = none.0 in none.1 ∙ sym (by-small ks zs k (omega (arith, mark)) ∙ mark)
+    | inr from ↦ elim (cases_lt (get_or xs from.place 0) 255) [
+      | inl low ↦ let mark = from.mark in from.number ∙ by-small xs ys from.place low ∙ sym (by-small ks zs k (omega (arith, mark, low)) ∙ mark)
+      | inr high ↦
+          let mark = from.mark in let most = parts.most from.place in
+          from.number ∙ by-large xs ys from.place high ∙ sym (by-large ks zs k (omega (arith, mark, high)) ∙ from.size (omega (arith, most, high)))
     ]
   ]
-]
 
-source-up : (from to n len j : ℕ) → from ≤ to → to + n ≤ len → (i : ℕ) × ((xs : List ℕ) → length xs ≡ len → get_or (shifted_up from to n xs) j 0 ≡ get_or xs i 0)
-source-up from to n len j up inside = elim (cases_lt j from) [
-  | inl low ↦ (j, λ xs is. (shifted-up xs from to n up (omega arith)).below j low)
-  | inr past ↦ elim (cases_lt j (to + n)) [
-    | inl before ↦ elim (cases_lt j (from + (to - from))) [
-      | inl early ↦ (len, λ xs is. (shifted-up xs from to n up (omega arith)).zeros j past early before ∙ sym (get_or_past xs len 0 (omega arith)))
-      | inr late ↦ (j - (to - from), λ xs is. (shifted-up xs from to n up (omega arith)).moved j late before)
-    ]
-    | inr behind ↦ (j, λ xs is. (shifted-up xs from to n up (omega arith)).behind j behind)
+  size-there : (k : ℕ) → get_or ks k 0 ≡ 255 → 255 ≤ get_or zs (k / 64) 0
+  size-there k one = elim (source k) [
+    | inl none ↦ let mark = none.0 in absurd (omega (arith, mark, one))
+    | inr from ↦
+        let was : get_or xs from.place 0 ≡ 255 = sym from.mark ∙ one in
+        let size = from.size was in let old = parts.large from.place was in omega (arith, size, old)
   ]
-]
 
--- lists that change places alike
-module _ (xs ys now ks ls new : List ℕ) (parts : AreParts xs ys) (view : numbers_of xs ys ≡ now) (long : length ks ≡ length xs) (same : length ls ≡ length ks) (as-long : length new ≡ length ks)
-    (source : (j : ℕ) → (i : ℕ) × (get_or ks j 0 ≡ get_or xs i 0) × (get_or ls j 0 ≡ get_or ys i 0) × (get_or new j 0 ≡ get_or now i 0)) where
-  alike-parts : AreParts ks ls
-  alike-parts = record {
-    count = same;
-    most = λ j. let s = source j in let x = s.1 in let m = parts.most s.0 in omega arith;
-    small = λ j low. let s = source j in let x = s.1 in let y = s.2 in let z = parts.small s.0 (omega arith) in omega arith;
-    large = λ j full. let s = source j in let x = s.1 in let y = s.2 in let z = parts.large s.0 (omega arith) in omega arith;
+  most-there : (k : ℕ) → get_or ks k 0 ≤ 255
+  most-there k = elim (source k) [
+    | inl none ↦ let mark = none.0 in omega (arith, mark)
+    | inr from ↦ let mark = from.mark in let most = parts.most from.place in omega (arith, mark, most)
+  ]
+
+  large-there : (k : ℕ) → 255 ≤ get_or ks k 0 → 255 ≤ get_or now k 0
+  large-there k high =
+      let most = most-there k in let size = size-there k (omega (arith, most, high)) in
+      let is = is-number k ∙ by-large ks zs k high in omega (arith, is, size)
+
+  pub moved-parts : AreParts ks zs
+  moved-parts = record {
+    few = subst (λ (n : ℕ). n < 2 ^ 40) (sym marks-long) parts.few;
+    runs = sizes-long ∙ parts.runs ∙ sym (ap (λ (n : ℕ). n / 64 + 1) marks-long);
+    most = most-there;
+    spread = record { apart = λ i j less one two. spread.apart i j less (large-there i one) (large-there j two) };
+    large = size-there;
+    none = has;
   }
 
-  alike-view : numbers_of ks ls ≡ new
-  alike-view = only ks ls new same as-long (λ j.
-      let s = source j in let x = s.1 in let y = s.2 in let z = s.3 in let there = ap (λ (l : List ℕ). get_or l s.0 0) (sym view) ∙ at xs ys s.0 parts.count in omega arith)
+  pub moved-view : numbers_of ks zs ≡ now
+  moved-view = only ks zs now (now-long ∙ sym marks-long) is-number
 
-module _ (xs ys now ks ls : List ℕ) (from to n : ℕ) (parts : AreParts xs ys) (view : numbers_of xs ys ≡ now) where
-  whole : length now ≡ length xs
-  whole = ap length (sym view) ∙ length-numbers xs ys
+-- a mark of 255 whose size a run has, while the marks from `to` up to `place` have been gone through: those from `to + gap` on move down by
+-- `gap`, and those before them are gone
+pub record StandsDown (xs : List ℕ) (to gap place run : ℕ) : Type 0 where
+  pub mark : ℕ
+  pub large : get_or xs mark 0 ≡ 255
+  pub here : ((mark < to) × (mark / 64 ≡ run)) ⊎ (((place ≤ mark) × (mark / 64 ≡ run)) ⊎ ((to + gap ≤ mark) × (mark < place) × ((mark - gap) / 64 ≡ run)))
 
-  module _ (marks : ks ≡ shifted_down from to n xs) (sizes : ls ≡ shifted_down from to n ys) (down : to ≤ from) (inside : from + n ≤ length now) where
-    long-down : (zs : List ℕ) → length zs ≡ length now → length (shifted_down from to n zs) ≡ length now
-    long-down zs is = (shifted-down zs from to n down (omega arith)).len ∙ is
+-- the sizes ys have become zs then
+pub record SizesDown (xs ys zs : List ℕ) (to gap place : ℕ) : Type 0 where
+  pub runs : length zs ≡ length ys
+  pub below : (j : ℕ) → j < to → get_or xs j 0 ≡ 255 → get_or zs (j / 64) 0 ≡ get_or ys (j / 64) 0
+  pub moved : (j : ℕ) → to + gap ≤ j → j < place → get_or xs j 0 ≡ 255 → get_or zs ((j - gap) / 64) 0 ≡ get_or ys (j / 64) 0
+  pub behind : (j : ℕ) → place ≤ j → get_or xs j 0 ≡ 255 → get_or zs (j / 64) 0 ≡ get_or ys (j / 64) 0
+  pub none : (run : ℕ) → 1 ≤ get_or zs run 0 → StandsDown xs to gap place run
 
-    source : (j : ℕ) → (i : ℕ) × (get_or ks j 0 ≡ get_or xs i 0) × (get_or ls j 0 ≡ get_or ys i 0) × (get_or (shifted_down from to n now) j 0 ≡ get_or now i 0)
-    source j =
-        let s = source-down from to n (length now) j down inside in let w = whole in let count = parts.count in
-        (s.0, ap (λ (l : List ℕ). get_or l j 0) marks ∙ s.1 xs (omega arith), ap (λ (l : List ℕ). get_or l j 0) sizes ∙ s.1 ys (omega arith), s.1 now (omega arith))
+-- at first
+pub down-begun : (xs ys : List ℕ) (to gap : ℕ) → AreParts xs ys → SizesDown xs ys ys to gap to
+down-begun xs ys to gap parts = record {
+  runs = refl;
+  below = λ j _ _. refl;
+  moved = λ j low high _. absurd (omega (arith, low, high));
+  behind = λ j _ _. refl;
+  none = λ run some. let has = parts.none run some in record {
+    mark = has.place;
+    large = has.large;
+    here = elim (cases_lt has.place to) [ inl low ↦ inl (low, has.here) | inr high ↦ inr (inl (high, has.here)) ];
+  };
+}
 
-    long-marks : length ks ≡ length xs
-    long-marks = let w = whole in let l = ap length marks ∙ long-down xs (omega arith) in omega arith
+-- the next mark of 255 stands at a place
+module _ (xs ys zs : List ℕ) (to gap place end here : ℕ) (parts : AreParts xs ys) (so-far : SizesDown xs ys zs to gap place) (first : to ≤ place) (from : place ≤ here) (below-end : here < end)
+    (inside : end ≤ length xs) (one : get_or xs here 0 ≡ 255) (between : (j : ℕ) → place ≤ j → j < here → get_or xs j 0 < 255)
+    (clear : (j i : ℕ) → j < to → to + gap ≤ i → i < end → get_or xs j 0 ≡ 255 → get_or xs i 0 ≡ 255 → j + 64 ≤ i - gap) where
+  far : (i j : ℕ) → i < j → get_or xs i 0 ≡ 255 → get_or xs j 0 ≡ 255 → i + 64 ≤ j
+  far i j less first second = parts.spread.apart i j less (omega (arith, first)) (omega (arith, second))
 
-    long-sizes : length ls ≡ length ks
-    long-sizes = let w = whole in let count = parts.count in let k = long-marks in let l = ap length sizes ∙ long-down ys (omega arith) in omega arith
+  run-inside : here / 64 < length zs
+  run-inside = let runs = so-far.runs in let all = parts.runs in omega (arith, runs, all, inside, below-end)
 
-    long-new : length (shifted_down from to n now) ≡ length ks
-    long-new = let w = whole in let k = long-marks in let l = long-down now (omega arith) in omega arith
+  cleared-other : (run : ℕ) → run ≢ here / 64 → get_or (set zs (here / 64) 0) run 0 ≡ get_or zs run 0
+  cleared-other run other = get_or-set_other zs (here / 64) run 0 0 other
 
-    pub down-parts : AreParts ks ls
-    down-parts = alike-parts xs ys now ks ls (shifted_down from to n now) parts view long-marks long-sizes long-new source
+  cleared-here : get_or (set zs (here / 64) 0) (here / 64) 0 ≡ 0
+  cleared-here = get_or-set_same zs (here / 64) 0 0 run-inside
 
-    pub down-view : numbers_of ks ls ≡ shifted_down from to n now
-    down-view = alike-view xs ys now ks ls (shifted_down from to n now) parts view long-marks long-sizes long-new source
+  -- it is gone
+  pub down-gone : here < to + gap → SizesDown xs ys (set zs (here / 64) 0) to gap (here + 1)
+  down-gone low = record {
+    runs = length-set zs (here / 64) 0 ∙ so-far.runs;
+    below = λ j less large. let apart = far j here (omega (arith, less, first, from)) large one in cleared-other (j / 64) (λ same. omega (arith, same, apart)) ∙ so-far.below j less large;
+    moved = λ j past less large. absurd (omega (arith, past, less, low));
+    behind = λ j past large. let apart = far here j (omega (arith, past)) one large in cleared-other (j / 64) (λ same. omega (arith, same, apart)) ∙ so-far.behind j (omega (arith, past, from)) large;
+    none = λ run some. gone-none run some;
+  }
+    where
+      gone-none : (run : ℕ) → 1 ≤ get_or (set zs (here / 64) 0) run 0 → StandsDown xs to gap (here + 1) run
+      gone-none run some = elim (cases_eq run (here / 64)) [
+        | inl same ↦ let none = ap (λ (r : ℕ). get_or (set zs (here / 64) 0) r 0) same ∙ cleared-here in absurd (omega (arith, none, some))
+        | inr other ↦
+            let was = so-far.none run (subst (λ (n : ℕ). 1 ≤ n) (cleared-other run other) some) in
+            record {
+              mark = was.mark;
+              large = was.large;
+              here = elim was.here [
+                | inl under ↦ inl under
+                | inr later ↦ elim later [
+                  | inl past ↦ inr (inl (
+                    (elim (cases_lt here was.mark) [
+                      | inl above ↦ (let so : here + 1 ≤ was.mark = omega (arith, above) in so)
+                      | inr not ↦ elim (cases_eq was.mark here) [
+                        | inl same ↦ absurd (other (sym past.1 ∙ ap (λ (k : ℕ). k / 64) same))
+                        | inr differ ↦ let small = between was.mark past.0 (omega (arith, not, differ)) in let large = was.large in absurd (omega (arith, small, large))
+                      ]
+                    ]),
+                    past.1,
+                  ))
+                  | inr gone ↦ let before = gone.1 in let after = gone.0 in absurd (omega (arith, before, after, from, low))
+                ]
+              ];
+            }
+      ]
 
-  module _ (marks : ks ≡ shifted_up from to n xs) (sizes : ls ≡ shifted_up from to n ys) (up : from ≤ to) (inside : to + n ≤ length now) where
-    long-up : (zs : List ℕ) → length zs ≡ length now → length (shifted_up from to n zs) ≡ length now
-    long-up zs is = (shifted-up zs from to n up (omega arith)).len ∙ is
+  -- or it moves
+  pub down-moved : to + gap ≤ here → SizesDown xs ys (set (set zs (here / 64) 0) ((here - gap) / 64) (get_or zs (here / 64) 0)) to gap (here + 1)
+  down-moved high = record {
+    runs = length-set (set zs (here / 64) 0) ((here - gap) / 64) (get_or zs (here / 64) 0) ∙ length-set zs (here / 64) 0 ∙ so-far.runs;
+    below = λ j less large.
+        let apart = far j here (omega (arith, less, first, from)) large one in let clear-of = clear j here less high below-end large one in
+        both-other (j / 64) (λ same. omega (arith, same, apart)) (λ same. omega (arith, same, clear-of)) ∙ so-far.below j less large;
+    moved = λ j past less large. elim (cases_eq j here) [
+      | inl same ↦
+          ap (λ (k : ℕ). get_or ws ((k - gap) / 64) 0) same ∙ there ∙ so-far.behind here from one ∙ sym (ap (λ (k : ℕ). get_or ys (k / 64) 0) same)
+      | inr differ ↦ elim (cases_lt j place) [
+        | inl early ↦
+            let apart = far j here (omega (arith, less, differ)) large one in
+            both-other ((j - gap) / 64) (λ same. omega (arith, same, apart)) (λ same. omega (arith, same, apart, past)) ∙ so-far.moved j past early large
+        | inr late ↦ let small = between j late (omega (arith, less, differ)) in absurd (omega (arith, small, large))
+      ]
+    ];
+    behind = λ j past large.
+        let apart = far here j (omega (arith, past)) one large in
+        both-other (j / 64) (λ same. omega (arith, same, apart)) (λ same. omega (arith, same, apart)) ∙ so-far.behind j (omega (arith, past, from)) large;
+    none = λ run some. moved-none run some;
+  }
+    where
+      ws : List ℕ
+      ws = set (set zs (here / 64) 0) ((here - gap) / 64) (get_or zs (here / 64) 0)
 
-    source-of : (j : ℕ) → (i : ℕ) × (get_or ks j 0 ≡ get_or xs i 0) × (get_or ls j 0 ≡ get_or ys i 0) × (get_or (shifted_up from to n now) j 0 ≡ get_or now i 0)
-    source-of j =
-        let s = source-up from to n (length now) j up inside in let w = whole in let count = parts.count in
-        (s.0, ap (λ (l : List ℕ). get_or l j 0) marks ∙ s.1 xs (omega arith), ap (λ (l : List ℕ). get_or l j 0) sizes ∙ s.1 ys (omega arith), s.1 now (omega arith))
+      there : get_or (set (set zs (here / 64) 0) ((here - gap) / 64) (get_or zs (here / 64) 0)) ((here - gap) / 64) 0 ≡ get_or zs (here / 64) 0
+      there =
+          let long = length-set zs (here / 64) 0 in let within = run-inside in
+          get_or-set_same (set zs (here / 64) 0) ((here - gap) / 64) (get_or zs (here / 64) 0) 0 (omega (arith, long, within))
 
-    marks-up : length ks ≡ length xs
-    marks-up = let w = whole in let l = ap length marks ∙ long-up xs (omega arith) in omega arith
+      both-other : (run : ℕ) → run ≢ here / 64 → run ≢ (here - gap) / 64
+          → get_or (set (set zs (here / 64) 0) ((here - gap) / 64) (get_or zs (here / 64) 0)) run 0 ≡ get_or zs run 0
+      both-other run other new = get_or-set_other (set zs (here / 64) 0) ((here - gap) / 64) run (get_or zs (here / 64) 0) 0 new ∙ cleared-other run other
 
-    sizes-up : length ls ≡ length ks
-    sizes-up = let w = whole in let count = parts.count in let k = marks-up in let l = ap length sizes ∙ long-up ys (omega arith) in omega arith
+      moved-none : (run : ℕ) → 1 ≤ get_or (set (set zs (here / 64) 0) ((here - gap) / 64) (get_or zs (here / 64) 0)) run 0 → StandsDown xs to gap (here + 1) run
+      moved-none run some = elim (cases_eq run ((here - gap) / 64)) [
+        | inl same ↦ record { mark = here; large = one; here = inr (inr (high, (let less : here < here + 1 = omega arith in less), sym same)) }
+        | inr new ↦ elim (cases_eq run (here / 64)) [
+          | inl same ↦
+              let none = get_or-set_other (set zs (here / 64) 0) ((here - gap) / 64) run (get_or zs (here / 64) 0) 0 new ∙ ap (λ (r : ℕ). get_or (set zs (here / 64) 0) r 0) same ∙ cleared-here in
+              absurd (omega (arith, none, some))
+          | inr other ↦
+              let was = so-far.none run (subst (λ (n : ℕ). 1 ≤ n) (both-other run other new) some) in
+              record {
+                mark = was.mark;
+                large = was.large;
+                here = elim was.here [
+                  | inl under ↦ inl under
+                  | inr later ↦ elim later [
+                    | inl past ↦ inr (inl (
+                      (elim (cases_lt here was.mark) [
+                        | inl above ↦ (let so : here + 1 ≤ was.mark = omega (arith, above) in so)
+                        | inr not ↦ elim (cases_eq was.mark here) [
+                          | inl same ↦ absurd (other (sym past.1 ∙ ap (λ (k : ℕ). k / 64) same))
+                          | inr differ ↦ let small = between was.mark past.0 (omega (arith, not, differ)) in let large = was.large in absurd (omega (arith, small, large))
+                        ]
+                      ]),
+                      past.1,
+                    ))
+                    | inr gone ↦ let before = gone.1 in inr (inr (gone.0, (let so : was.mark < here + 1 = omega (arith, before, from) in so), gone.2))
+                  ]
+                ];
+              }
+        ]
+      ]
 
-    new-up : length (shifted_up from to n now) ≡ length ks
-    new-up = let w = whole in let k = marks-up in let l = long-up now (omega arith) in omega arith
+-- all have been gone through
+module _ (xs ys zs : List ℕ) (from to n place : ℕ) (parts : AreParts xs ys) (order : to ≤ from) (inside : from + n ≤ length xs)
+    (spread : AreSpread (shifted_down from to n (numbers_of xs ys))) where
+  down-marks : MovedDown xs (shifted_down from to n xs) to (from - to) (from + n)
+  down-marks = shifted-down xs from to n order inside
 
-    pub up-parts : AreParts ks ls
-    up-parts = alike-parts xs ys now ks ls (shifted_up from to n now) parts view marks-up sizes-up new-up source-of
+  down-numbers : MovedDown (numbers_of xs ys) (shifted_down from to n (numbers_of xs ys)) to (from - to) (from + n)
+  down-numbers = let l = length-numbers xs ys in shifted-down (numbers_of xs ys) from to n order (omega (arith, l, inside))
 
-    pub up-view : numbers_of ks ls ≡ shifted_up from to n now
-    up-view = alike-view xs ys now ks ls (shifted_up from to n now) parts view marks-up sizes-up new-up source-of
+  is-large : (j : ℕ) → get_or xs j 0 ≡ 255 → 255 ≤ get_or (numbers_of xs ys) j 0
+  is-large j one = let is = at xs ys j ∙ by-large xs ys j (omega (arith, one)) in let size = parts.large j one in omega (arith, is, size)
+
+  -- those that move stay apart from those before them
+  pub down-clear : (j i : ℕ) → j < to → to + (from - to) ≤ i → i < from + n → get_or xs j 0 ≡ 255 → get_or xs i 0 ≡ 255 → j + 64 ≤ i - (from - to)
+  down-clear j i low past below first second =
+      let back : i - (from - to) + (from - to) ≡ i = omega (arith, past) in
+      let one = down-numbers.below j low in let big-one = is-large j first in
+      let two = down-numbers.moved (i - (from - to)) (omega (arith, past)) (omega (arith, back, below)) ∙ ap (λ (k : ℕ). get_or (numbers_of xs ys) k 0) back in let big-two = is-large i second in
+      spread.apart j (i - (from - to)) (omega (arith, past, low)) (omega (arith, one, big-one)) (omega (arith, two, big-two))
+
+  module _ (done : SizesDown xs ys zs to (from - to) place) (within : place ≤ from + n) (none-left : (j : ℕ) → place ≤ j → j < from + n → get_or xs j 0 < 255) where
+    down-source : (k : ℕ) → ((get_or (shifted_down from to n xs) k 0 ≡ 0) × (get_or (shifted_down from to n (numbers_of xs ys)) k 0 ≡ 0))
+        ⊎ CameFrom xs ys (shifted_down from to n xs) zs (shifted_down from to n (numbers_of xs ys)) k
+    down-source k = elim (cases_lt k to) [
+      | inl low ↦ inr (record { place = k; mark = down-marks.below k low; number = down-numbers.below k low ∙ at xs ys k; size = done.below k low })
+      | inr past ↦ elim (cases_lt (k + (from - to)) (from + n)) [
+        | inl moves ↦ inr (record {
+          place = k + (from - to);
+          mark = down-marks.moved k past moves;
+          number = down-numbers.moved k past moves ∙ at xs ys (k + (from - to));
+          size = λ large. elim (cases_lt (k + (from - to)) place) [
+            | inl gone-through ↦
+                let back : k + (from - to) - (from - to) ≡ k = omega arith in
+                sym (ap (λ (m : ℕ). get_or zs (m / 64) 0) back) ∙ done.moved (k + (from - to)) (omega (arith, past)) gone-through large
+            | inr left ↦ let small = none-left (k + (from - to)) left moves in absurd (omega (arith, small, large))
+          ];
+        })
+        | inr late ↦ elim (cases_lt k (from + n)) [
+          | inl before ↦ inl (down-marks.zeros k past late before, down-numbers.zeros k past late before)
+          | inr behind ↦ inr (record { place = k; mark = down-marks.behind k behind; number = down-numbers.behind k behind ∙ at xs ys k; size = done.behind k (omega (arith, behind, within)) })
+        ]
+      ]
+    ]
+
+    down-has : (run : ℕ) → 1 ≤ get_or zs run 0 → HasLarge (shifted_down from to n xs) run
+    down-has run some =
+        let it = done.none run some in
+        elim it.here [
+          | inl under ↦ record { place = it.mark; here = under.1; large = down-marks.below it.mark under.0 ∙ it.large }
+          | inr later ↦ elim later [
+            | inl past ↦ elim (cases_lt it.mark (from + n)) [
+              | inl left ↦ let small = none-left it.mark past.0 left in let large = it.large in absurd (omega (arith, small, large))
+              | inr behind ↦ record { place = it.mark; here = past.1; large = down-marks.behind it.mark behind ∙ it.large }
+            ]
+            | inr moved ↦
+                let above = moved.0 in let below = moved.1 in let back : it.mark - (from - to) + (from - to) ≡ it.mark = omega (arith, above) in
+                record {
+                  place = it.mark - (from - to);
+                  here = moved.2;
+                  large = down-marks.moved (it.mark - (from - to)) (omega (arith, above)) (omega (arith, back, below, within)) ∙ ap (λ (k : ℕ). get_or xs k 0) back ∙ it.large;
+                }
+          ]
+        ]
+
+    long-shifted : length (shifted_down from to n (numbers_of xs ys)) ≡ length xs
+    long-shifted = down-numbers.len ∙ length-numbers xs ys
+
+    pub down-parts : AreParts (shifted_down from to n xs) zs
+    down-parts = moved-parts xs ys (shifted_down from to n xs) zs (shifted_down from to n (numbers_of xs ys)) parts down-marks.len done.runs long-shifted spread down-source down-has
+
+    pub down-view : numbers_of (shifted_down from to n xs) zs ≡ shifted_down from to n (numbers_of xs ys)
+    down-view = moved-view xs ys (shifted_down from to n xs) zs (shifted_down from to n (numbers_of xs ys)) parts down-marks.len done.runs long-shifted spread down-source down-has
+
+-- a mark of 255 whose size a run has, while the marks from `place` up to `end` have been gone through: those that stay below `end` move up by
+-- `gap`, and the others are gone
+pub record StandsUp (xs : List ℕ) (end gap place run : ℕ) : Type 0 where
+  pub mark : ℕ
+  pub large : get_or xs mark 0 ≡ 255
+  pub here : ((end ≤ mark) × (mark / 64 ≡ run)) ⊎ (((mark < place) × (mark / 64 ≡ run)) ⊎ ((place ≤ mark) × (mark + gap < end) × ((mark + gap) / 64 ≡ run)))
+
+-- the sizes ys have become zs then
+pub record SizesUp (xs ys zs : List ℕ) (end gap place : ℕ) : Type 0 where
+  pub runs : length zs ≡ length ys
+  pub above : (j : ℕ) → end ≤ j → get_or xs j 0 ≡ 255 → get_or zs (j / 64) 0 ≡ get_or ys (j / 64) 0
+  pub moved : (j : ℕ) → place ≤ j → j + gap < end → get_or xs j 0 ≡ 255 → get_or zs ((j + gap) / 64) 0 ≡ get_or ys (j / 64) 0
+  pub below : (j : ℕ) → j < place → get_or xs j 0 ≡ 255 → get_or zs (j / 64) 0 ≡ get_or ys (j / 64) 0
+  pub none : (run : ℕ) → 1 ≤ get_or zs run 0 → StandsUp xs end gap place run
+
+-- at first
+pub up-begun : (xs ys : List ℕ) (end gap : ℕ) → AreParts xs ys → SizesUp xs ys ys end gap end
+up-begun xs ys end gap parts = record {
+  runs = refl;
+  above = λ j _ _. refl;
+  moved = λ j low high _. absurd (omega (arith, low, high));
+  below = λ j _ _. refl;
+  none = λ run some. let has = parts.none run some in record {
+    mark = has.place;
+    large = has.large;
+    here = elim (cases_lt has.place end) [ inl low ↦ inr (inl (low, has.here)) | inr high ↦ inl (high, has.here) ];
+  };
+}
+
+-- the next mark of 255 stands at a place
+module _ (xs ys zs : List ℕ) (end gap place from here : ℕ) (parts : AreParts xs ys) (so-far : SizesUp xs ys zs end gap place) (last : place ≤ end) (before : here < place) (start : from ≤ here)
+    (inside : end ≤ length xs) (one : get_or xs here 0 ≡ 255) (between : (j : ℕ) → here < j → j < place → get_or xs j 0 < 255)
+    (clear : (i j : ℕ) → from ≤ i → i + gap < end → end ≤ j → get_or xs i 0 ≡ 255 → get_or xs j 0 ≡ 255 → i + gap + 64 ≤ j) where
+  far-up : (i j : ℕ) → i < j → get_or xs i 0 ≡ 255 → get_or xs j 0 ≡ 255 → i + 64 ≤ j
+  far-up i j less first second = parts.spread.apart i j less (omega (arith, first)) (omega (arith, second))
+
+  run-inside-up : here / 64 < length zs
+  run-inside-up = let runs = so-far.runs in let all = parts.runs in omega (arith, runs, all, inside, before, last)
+
+  cleared-other-up : (run : ℕ) → run ≢ here / 64 → get_or (set zs (here / 64) 0) run 0 ≡ get_or zs run 0
+  cleared-other-up run other = get_or-set_other zs (here / 64) run 0 0 other
+
+  cleared-here-up : get_or (set zs (here / 64) 0) (here / 64) 0 ≡ 0
+  cleared-here-up = get_or-set_same zs (here / 64) 0 0 run-inside-up
+
+  -- a mark below the place that isn't this one stands below it
+  still-below : (mark run : ℕ) → mark < place → mark / 64 ≡ run → run ≢ here / 64 → get_or xs mark 0 ≡ 255 → mark < here
+  still-below mark run low is other large = elim (cases_lt mark here) [
+    | inl under ↦ under
+    | inr not ↦ elim (cases_eq mark here) [
+      | inl same ↦ absurd (other (sym is ∙ ap (λ (k : ℕ). k / 64) same))
+      | inr differ ↦ let small = between mark (omega (arith, not, differ)) low in absurd (omega (arith, small, large))
+    ]
+  ]
+
+  -- it is gone
+  pub up-gone : end ≤ here + gap → SizesUp xs ys (set zs (here / 64) 0) end gap here
+  up-gone high = record {
+    runs = length-set zs (here / 64) 0 ∙ so-far.runs;
+    above = λ j past large. let apart = far-up here j (omega (arith, past, before, last)) one large in cleared-other-up (j / 64) (λ same. omega (arith, same, apart)) ∙ so-far.above j past large;
+    moved = λ j past less large. absurd (omega (arith, past, less, high));
+    below = λ j less large. let apart = far-up j here less large one in cleared-other-up (j / 64) (λ same. omega (arith, same, apart)) ∙ so-far.below j (omega (arith, less, before)) large;
+    none = λ run some. gone-none run some;
+  }
+    where
+      gone-none : (run : ℕ) → 1 ≤ get_or (set zs (here / 64) 0) run 0 → StandsUp xs end gap here run
+      gone-none run some = elim (cases_eq run (here / 64)) [
+        | inl same ↦ let none = ap (λ (r : ℕ). get_or (set zs (here / 64) 0) r 0) same ∙ cleared-here-up in absurd (omega (arith, none, some))
+        | inr other ↦
+            let was = so-far.none run (subst (λ (n : ℕ). 1 ≤ n) (cleared-other-up run other) some) in
+            record {
+              mark = was.mark;
+              large = was.large;
+              here = elim was.here [
+                | inl over ↦ inl over
+                | inr earlier ↦ elim earlier [
+                  | inl low ↦ inr (inl (still-below was.mark run low.0 low.1 other was.large, low.1))
+                  | inr gone ↦ let after = gone.0 in let within = gone.1 in absurd (omega (arith, after, within, before, high))
+                ]
+              ];
+            }
+      ]
+
+  -- or it moves
+  pub up-moved : here + gap < end → SizesUp xs ys (set (set zs (here / 64) 0) ((here + gap) / 64) (get_or zs (here / 64) 0)) end gap here
+  up-moved low = record {
+    runs = length-set (set zs (here / 64) 0) ((here + gap) / 64) (get_or zs (here / 64) 0) ∙ length-set zs (here / 64) 0 ∙ so-far.runs;
+    above = λ j past large.
+        let apart = far-up here j (omega (arith, past, before, last)) one large in let clear-of = clear here j start low past one large in
+        both-other (j / 64) (λ same. omega (arith, same, apart)) (λ same. omega (arith, same, clear-of)) ∙ so-far.above j past large;
+    moved = λ j past less large. elim (cases_eq j here) [
+      | inl same ↦ ap (λ (k : ℕ). get_or ws ((k + gap) / 64) 0) same ∙ there ∙ so-far.below here before one ∙ sym (ap (λ (k : ℕ). get_or ys (k / 64) 0) same)
+      | inr differ ↦ elim (cases_lt j place) [
+        | inl early ↦ let small = between j (omega (arith, past, differ)) early in absurd (omega (arith, small, large))
+        | inr late ↦
+            let apart = far-up here j (omega (arith, past, differ)) one large in
+            both-other ((j + gap) / 64) (λ same. omega (arith, same, apart)) (λ same. omega (arith, same, apart)) ∙ so-far.moved j late less large
+      ]
+    ];
+    below = λ j less large.
+        let apart = far-up j here less large one in
+        both-other (j / 64) (λ same. omega (arith, same, apart)) (λ same. omega (arith, same, apart)) ∙ so-far.below j (omega (arith, less, before)) large;
+    none = λ run some. moved-none run some;
+  }
+    where
+      ws : List ℕ
+      ws = set (set zs (here / 64) 0) ((here + gap) / 64) (get_or zs (here / 64) 0)
+
+      there : get_or (set (set zs (here / 64) 0) ((here + gap) / 64) (get_or zs (here / 64) 0)) ((here + gap) / 64) 0 ≡ get_or zs (here / 64) 0
+      there =
+          let long = length-set zs (here / 64) 0 in let runs = so-far.runs in let all = parts.runs in
+          get_or-set_same (set zs (here / 64) 0) ((here + gap) / 64) (get_or zs (here / 64) 0) 0 (omega (arith, long, runs, all, low, inside))
+
+      both-other : (run : ℕ) → run ≢ here / 64 → run ≢ (here + gap) / 64
+          → get_or (set (set zs (here / 64) 0) ((here + gap) / 64) (get_or zs (here / 64) 0)) run 0 ≡ get_or zs run 0
+      both-other run other new = get_or-set_other (set zs (here / 64) 0) ((here + gap) / 64) run (get_or zs (here / 64) 0) 0 new ∙ cleared-other-up run other
+
+      moved-none : (run : ℕ) → 1 ≤ get_or (set (set zs (here / 64) 0) ((here + gap) / 64) (get_or zs (here / 64) 0)) run 0 → StandsUp xs end gap here run
+      moved-none run some = elim (cases_eq run ((here + gap) / 64)) [
+        | inl same ↦ record { mark = here; large = one; here = inr (inr ((let so : here ≤ here = omega arith in so), low, sym same)) }
+        | inr new ↦ elim (cases_eq run (here / 64)) [
+          | inl same ↦
+              let none = get_or-set_other (set zs (here / 64) 0) ((here + gap) / 64) run (get_or zs (here / 64) 0) 0 new ∙ ap (λ (r : ℕ). get_or (set zs (here / 64) 0) r 0) same ∙ cleared-here-up in
+              absurd (omega (arith, none, some))
+          | inr other ↦
+              let was = so-far.none run (subst (λ (n : ℕ). 1 ≤ n) (both-other run other new) some) in
+              record {
+                mark = was.mark;
+                large = was.large;
+                here = elim was.here [
+                  | inl over ↦ inl over
+                  | inr earlier ↦ elim earlier [
+                    | inl under ↦ inr (inl (still-below was.mark run under.0 under.1 other was.large, under.1))
+                    | inr gone ↦ let after = gone.0 in inr (inr ((let so : here ≤ was.mark = omega (arith, after, before) in so), gone.1, gone.2))
+                  ]
+                ];
+              }
+        ]
+      ]
+
+-- all have been gone through
+module _ (xs ys zs : List ℕ) (from to n place : ℕ) (parts : AreParts xs ys) (order : from ≤ to) (inside : to + n ≤ length xs)
+    (spread : AreSpread (shifted_up from to n (numbers_of xs ys))) where
+  up-marks : MovedUp xs (shifted_up from to n xs) (to + n) (to - from) from
+  up-marks = shifted-up xs from to n order inside
+
+  up-numbers : MovedUp (numbers_of xs ys) (shifted_up from to n (numbers_of xs ys)) (to + n) (to - from) from
+  up-numbers = let l = length-numbers xs ys in shifted-up (numbers_of xs ys) from to n order (omega (arith, l, inside))
+
+  is-large-up : (j : ℕ) → get_or xs j 0 ≡ 255 → 255 ≤ get_or (numbers_of xs ys) j 0
+  is-large-up j one = let is = at xs ys j ∙ by-large xs ys j (omega (arith, one)) in let size = parts.large j one in omega (arith, is, size)
+
+  -- those that move stay apart from those behind them
+  pub up-clear : (i j : ℕ) → from ≤ i → i + (to - from) < to + n → to + n ≤ j → get_or xs i 0 ≡ 255 → get_or xs j 0 ≡ 255 → i + (to - from) + 64 ≤ j
+  up-clear i j past below behind first second =
+      let back : i + (to - from) - (to - from) ≡ i = omega arith in
+      let one = up-numbers.moved (i + (to - from)) (omega (arith, past)) below ∙ ap (λ (k : ℕ). get_or (numbers_of xs ys) k 0) back in let big-one = is-large-up i first in
+      let two = up-numbers.behind j behind in let big-two = is-large-up j second in
+      spread.apart (i + (to - from)) j (omega (arith, below, behind)) (omega (arith, one, big-one)) (omega (arith, two, big-two))
+
+  module _ (done : SizesUp xs ys zs (to + n) (to - from) place) (within : from ≤ place) (none-left : (j : ℕ) → from ≤ j → j < place → get_or xs j 0 < 255) where
+    up-source : (k : ℕ) → ((get_or (shifted_up from to n xs) k 0 ≡ 0) × (get_or (shifted_up from to n (numbers_of xs ys)) k 0 ≡ 0))
+        ⊎ CameFrom xs ys (shifted_up from to n xs) zs (shifted_up from to n (numbers_of xs ys)) k
+    up-source k = elim (cases_lt k from) [
+      | inl low ↦ inr (record { place = k; mark = up-marks.below k low; number = up-numbers.below k low ∙ at xs ys k; size = done.below k (omega (arith, low, within)) })
+      | inr past ↦ elim (cases_lt k (to + n)) [
+        | inr behind ↦ inr (record { place = k; mark = up-marks.behind k behind; number = up-numbers.behind k behind ∙ at xs ys k; size = done.above k behind })
+        | inl before ↦ elim (cases_lt k (from + (to - from))) [
+          | inl early ↦ inl (up-marks.zeros k past early before, up-numbers.zeros k past early before)
+          | inr late ↦ inr (record {
+            place = k - (to - from);
+            mark = up-marks.moved k late before;
+            number = up-numbers.moved k late before ∙ at xs ys (k - (to - from));
+            size = λ large. elim (cases_lt (k - (to - from)) place) [
+              | inl left ↦ let small = none-left (k - (to - from)) (omega (arith, late)) left in absurd (omega (arith, small, large))
+              | inr gone-through ↦
+                  let back : k - (to - from) + (to - from) ≡ k = omega (arith, late) in
+                  sym (ap (λ (m : ℕ). get_or zs (m / 64) 0) back) ∙ done.moved (k - (to - from)) gone-through (omega (arith, back, before)) large
+            ];
+          })
+        ]
+      ]
+    ]
+
+    up-has : (run : ℕ) → 1 ≤ get_or zs run 0 → HasLarge (shifted_up from to n xs) run
+    up-has run some =
+        let it = done.none run some in
+        elim it.here [
+          | inl over ↦ record { place = it.mark; here = over.1; large = up-marks.behind it.mark over.0 ∙ it.large }
+          | inr earlier ↦ elim earlier [
+            | inl low ↦ elim (cases_lt it.mark from) [
+              | inl under ↦ record { place = it.mark; here = low.1; large = up-marks.below it.mark under ∙ it.large }
+              | inr left ↦ let small = none-left it.mark left low.0 in let large = it.large in absurd (omega (arith, small, large))
+            ]
+            | inr moved ↦
+                let above = moved.0 in let below = moved.1 in let back : it.mark + (to - from) - (to - from) ≡ it.mark = omega arith in
+                record {
+                  place = it.mark + (to - from);
+                  here = moved.2;
+                  large = up-marks.moved (it.mark + (to - from)) (omega (arith, above, within)) below ∙ ap (λ (k : ℕ). get_or xs k 0) back ∙ it.large;
+                }
+          ]
+        ]
+
+    long-shifted-up : length (shifted_up from to n (numbers_of xs ys)) ≡ length xs
+    long-shifted-up = up-numbers.len ∙ length-numbers xs ys
+
+    pub up-parts : AreParts (shifted_up from to n xs) zs
+    up-parts = moved-parts xs ys (shifted_up from to n xs) zs (shifted_up from to n (numbers_of xs ys)) parts up-marks.len done.runs long-shifted-up spread up-source up-has
+
+    pub up-view : numbers_of (shifted_up from to n xs) zs ≡ shifted_up from to n (numbers_of xs ys)
+    up-view = moved-view xs ys (shifted_up from to n xs) zs (shifted_up from to n (numbers_of xs ys)) parts up-marks.len done.runs long-shifted-up spread up-source up-has

@@ -1,19 +1,23 @@
 //! Numbers at places, with searches for the first and the last that is large enough. Those below 255 are kept in a byte each, so
-//! that few bytes move where a run of them moves, and the others beside them.
+//! that few bytes move where a run of them moves, and beside them one larger number for each 64 places.
 #![tactic(auto)]
 
-ghost use Rattle.std.specs.Prelude.{◌≡◌, ◌<◌, length, set};
+ghost use Rattle.std.specs.Prelude.{◌≡◌, ◌+◌, ◌≤◌, ◌<◌, length, set};
+ghost use Rattle.place_numbers.specs.Parts.{numbers_of, AreParts, AreSpread};
+ghost use Rattle.place_numbers.specs.Shifted.{shifted_down, shifted_up};
 
+mod bits;
 mod levels;
 mod number;
 mod row;
 
+pub use bits::Bits;
 use levels::Levels;
 use std::alloc::{AllocError, Global};
 use std::marker::Model;
 
 /// Numbers of a byte each.
-pub type Marks = Levels<u8>;
+type Marks = Levels<u8>;
 
 /// Numbers of any size.
 type Sizes = Levels<u32>;
@@ -21,13 +25,16 @@ type Sizes = Levels<u32>;
 /// The mark of each number that is at least as large.
 const LARGE: u8 = 255;
 
-/// So many numbers, each at its place from 0 on. A contract sees their list. After `create` no call takes memory of the
-/// host.
+/// How many places have one size.
+const RUN: usize = 64;
+
+/// So many numbers, each at its place from 0 on, of which those of at least 255 are 64 places or more apart. A contract sees their list.
+/// After `create` no call takes memory of the host.
 #[derive(Drop)]
 pub struct Numbers {
     /// For each number the number itself, or 255 where it is above.
     marks: Marks,
-    /// For each number of at least 255 the number itself, and else 0.
+    /// For each 64 places the number of at least 255 that is at one of them, and else 0.
     sizes: Sizes,
 }
 
@@ -53,9 +60,25 @@ fn write(sizes: &mut Sizes, place: usize, size: u32)
     }
 }
 
+/// The size of 64 places, once a number is written at one of them, where this mark and this size were.
+fn next_size(mark: u8, size: u32, number: u32) -> u32
+    ensures large { 255 ≤ number → result ≡ number }
+    ensures same { number < 255 → mark < 255 → result ≡ size }
+    ensures none { number < 255 → 255 ≤ mark → result ≡ 0 }
+{
+    if number >= LARGE as u32 {
+        number
+    } else if mark == LARGE {
+        0
+    } else {
+        size
+    }
+}
+
 impl Numbers {
     ghost use Rattle.std.specs.Prelude.{◌≡◌, ℕ, ◌+◌, ◌≤◌, ◌<◌, ◌^◌, length, slice_index, set, replicate, IfOk, IfSome, IfNone};
     ghost use Rattle.place_numbers.specs.Numbers.{FirstAtLeast, LastAtLeast};
+    ghost use Rattle.place_numbers.specs.Parts.{AreSpread, IsAlone};
     ghost use Rattle.place_numbers.specs.Shifted.{shifted_down, shifted_up};
 
     /// So many numbers, all 0. The only error is that the host has no memory.
@@ -65,7 +88,7 @@ impl Numbers {
     {
         Ok(Numbers {
             marks: Marks::create(alloc, count)?,
-            sizes: Sizes::create(alloc, count)?,
+            sizes: Sizes::create(alloc, count / RUN + 1)?,
         })
     }
 
@@ -85,22 +108,20 @@ impl Numbers {
         if mark < LARGE {
             mark as u32
         } else {
-            self.sizes.get(place)
+            self.sizes.get(place / RUN)
         }
     }
 
-    /// Writes the number at a place.
+    /// Writes the number at a place. One of at least 255 is 64 places or more from each other such number.
     pub fn set(&mut self, place: usize, number: u32)
-        requires { place < length self.old }
+        requires inside { place < length self.old }
+        requires alone { 255 ≤ number → IsAlone self.old place }
         ensures { self.new ≡ set self.old place number }
     {
-        if number < LARGE as u32 {
-            self.marks.set(place, number as u8);
-            write(&mut self.sizes, place, 0);
-        } else {
-            self.marks.set(place, LARGE);
-            write(&mut self.sizes, place, number);
-        }
+        let run = place / RUN;
+        let size = next_size(self.marks.get(place), self.sizes.get(run), number);
+        self.marks.set(place, number.min(LARGE as u32) as u8);
+        write(&mut self.sizes, run, size);
     }
 
     /// Moves the `count` numbers from `from` on down to `to` and behind. Those that stood between are gone, and as many zeros stand
@@ -108,10 +129,11 @@ impl Numbers {
     pub fn shift_down(&mut self, from: usize, to: usize, count: usize, sparse: bool)
         requires order { to ≤ from }
         requires inside { from + count ≤ length self.old }
+        requires spread { AreSpread (shifted_down from to count self.old) }
         ensures { self.new ≡ shifted_down from to count self.old }
     {
+        shift_sizes_down(&self.marks, &mut self.sizes, from, to, count);
         self.marks.shift_down(from, to, count, sparse);
-        self.sizes.shift_few_down(from, to, count);
     }
 
     /// Moves the `count` numbers from `from` on up to `to` and behind. Those that stood there are gone, and as many zeros stand
@@ -119,10 +141,11 @@ impl Numbers {
     pub fn shift_up(&mut self, from: usize, to: usize, count: usize, sparse: bool)
         requires order { from ≤ to }
         requires inside { to + count ≤ length self.old }
+        requires spread { AreSpread (shifted_up from to count self.old) }
         ensures { self.new ≡ shifted_up from to count self.old }
     {
+        shift_sizes_up(&self.marks, &mut self.sizes, from, to, count);
         self.marks.shift_up(from, to, count, sparse);
-        self.sizes.shift_few_up(from, to, count);
     }
 
     /// The first place, `from` or behind it, whose number is at least `least`.
@@ -132,10 +155,14 @@ impl Numbers {
         ensures none { IfNone result ((j : ℕ) → from ≤ j → j < length self.now → slice_index self.now j < least) }
     {
         if least <= LARGE as u32 {
-            self.marks.first_at_least(least, from)
-        } else {
-            self.sizes.first_at_least(least, from)
+            return self.marks.first_at_least(least, from);
         }
+        let at = self.marks.first_at_least(LARGE as u32, from)?;
+        if least <= self.sizes.get(at / RUN) {
+            return Some(at);
+        }
+        let run = self.sizes.first_at_least(least, at / RUN + 1)?;
+        self.marks.first_at_least(LARGE as u32, run * RUN)
     }
 
     /// The last place before `end` whose number is at least `least`.
@@ -146,9 +173,65 @@ impl Numbers {
         ensures none { IfNone result ((j : ℕ) → j < end → slice_index self.now j < least) }
     {
         if least <= LARGE as u32 {
-            self.marks.last_at_least(least, end)
-        } else {
-            self.sizes.last_at_least(least, end)
+            return self.marks.last_at_least(least, end);
+        }
+        let at = self.marks.last_at_least(LARGE as u32, end)?;
+        if least <= self.sizes.get(at / RUN) {
+            return Some(at);
+        }
+        let run = self.sizes.last_at_least(least, at / RUN)?;
+        self.marks.last_at_least(LARGE as u32, run * RUN + RUN)
+    }
+}
+
+/// Moves the sizes of the numbers from `from` on down, as `shift_down` moves their marks.
+fn shift_sizes_down(marks: &Marks, sizes: &mut Sizes, from: usize, to: usize, count: usize)
+    requires order { to ≤ from }
+    requires inside { from + count ≤ length marks.now }
+    requires parts { AreParts marks.now sizes.old }
+    requires spread { AreSpread (shifted_down from to count (numbers_of marks.now sizes.old)) }
+    ensures parts { AreParts (shifted_down from to count marks.now) sizes.new }
+    ensures numbers { numbers_of (shifted_down from to count marks.now) sizes.new ≡ shifted_down from to count (numbers_of marks.now sizes.old) }
+{
+    let _len = marks.len();
+    let gap = from - to;
+    let end = from + count;
+    let mut place = to;
+    while let Some(at) = marks.first_at_least(LARGE as u32, place) {
+        if end <= at {
+            break;
+        }
+        place = at + 1;
+        let size = sizes.get(at / RUN);
+        sizes.set(at / RUN, 0);
+        if from <= at {
+            sizes.set((at - gap) / RUN, size);
+        }
+    }
+}
+
+/// Moves the sizes of the numbers from `from` on up, as `shift_up` moves their marks.
+fn shift_sizes_up(marks: &Marks, sizes: &mut Sizes, from: usize, to: usize, count: usize)
+    requires order { from ≤ to }
+    requires inside { to + count ≤ length marks.now }
+    requires parts { AreParts marks.now sizes.old }
+    requires spread { AreSpread (shifted_up from to count (numbers_of marks.now sizes.old)) }
+    ensures parts { AreParts (shifted_up from to count marks.now) sizes.new }
+    ensures numbers { numbers_of (shifted_up from to count marks.now) sizes.new ≡ shifted_up from to count (numbers_of marks.now sizes.old) }
+{
+    let _len = marks.len();
+    let gap = to - from;
+    let end = from + count;
+    let mut behind = to + count;
+    while let Some(at) = marks.last_at_least(LARGE as u32, behind) {
+        if at < from {
+            break;
+        }
+        behind = at;
+        let size = sizes.get(at / RUN);
+        sizes.set(at / RUN, 0);
+        if at < end {
+            sizes.set((at + gap) / RUN, size);
         }
     }
 }

@@ -1,6 +1,7 @@
 use Rattle.std.proofs.Common.{◌≡◌, ◌-◌, ◌+◌, ◌/◌, ℕ, refl, sym, ap, subst, ◌∙◌, arith}
 use Rattle.std.proofs.Math.ListN.{set}
 use Rattle.block_bytes.specs.Adopting.{IsHeadAt, BlocksUpTo}
+use Rattle.block_bytes.proofs.Alone.{alone-read}
 use Rattle.block_bytes.proofs.AdoptedBlocks.{head-at-same, none-read, length-index, free-few, none-next, more-next}
 use Rattle.block_bytes.proofs.adopting.read_blocks.Goals as goal
 use Rattle.block_bytes.proofs.adopting.read_blocks.Goals.{After-mark, After-free_bytes-free, After-limit-limit}
@@ -24,8 +25,11 @@ loop-at-init c = none-read c.args.spec c.size-size.ensures.possible c.args.memor
 pub loop-at-preserved : goal.loop-at-preserved
 loop-at-preserved c = more (goal.at.loop-at-preserved c).After-free_bytes-free (read (goal.at.loop-at-preserved c).After-mark)
 
-pub set-requires : goal.set-requires
-set-requires c =
+pub set-requires-clause-alone : goal.set-requires-clause-alone
+set-requires-clause-alone c = λ high. alone-read c.args.spec c.args.memory.now.bytes c.loop-at.index c.loop-at.at c.loop-at.free c.loop-at.invariant
+
+pub set-requires-clause-inside : goal.set-requires-clause-inside
+set-requires-clause-inside c =
     let p = c.size-size.ensures.possible in let even = p.even_limit in let high = p.within in let size = c.size-size.ensures.value in let below = c.loop-at-test.true in
     let long = length-index c.args.spec p c.args.memory.now.bytes c.requires.whole c.loop-at.index c.loop-at.at c.loop-at.free c.loop-at.invariant in omega arith
 

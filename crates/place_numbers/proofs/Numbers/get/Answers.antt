@@ -5,6 +5,9 @@ use Rattle.place_numbers.proofs.Numbers.get.Goals as goal
 pub get-mark-requires : goal.get-mark-requires
 get-mark-requires c = let l = long c.self.inside.marks c.self.inside.sizes c.args.self.now c.self.invariant c.self.view_is in omega (arith, l, c.requires)
 
+pub get-requires : goal.get-requires
+get-requires c = let l = long c.self.inside.marks c.self.inside.sizes c.args.self.now c.self.invariant c.self.view_is in let runs = c.self.invariant.runs in omega (arith, l, runs, c.requires)
+
 pub returns-then-mark-lt-LARGE : goal.returns-then-mark-lt-LARGE
 returns-then-mark-lt-LARGE c =
     let same = by-mark c.self.inside.marks c.self.inside.sizes c.args.self.now c.self.invariant c.self.view_is c.args.place in

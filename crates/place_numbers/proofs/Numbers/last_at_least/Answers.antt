@@ -1,13 +1,10 @@
-use Rattle.std.proofs.Common.{arith}
+use Rattle.std.proofs.Common.{◌<◌, ◌≤◌, ℕ, subst, arith}
 use Rattle.std.proofs.lemmas.Option.{IfSome_then}
-use Rattle.place_numbers.proofs.Parts.{long, none-then, last-mark, no-last-mark, last-size, no-last-size}
+use Rattle.place_numbers.proofs.Parts.{long, none-then, last-mark, no-last-mark, last-size, no-large-before, no-size-before, last-run, no-last-run}
 use Rattle.place_numbers.proofs.Numbers.last_at_least.Goals as goal
 
 pub last_at_least-requires-clause-inside : goal.last_at_least-requires-clause-inside
 last_at_least-requires-clause-inside c = let l = long c.self.inside.marks c.self.inside.sizes c.args.self.now c.self.invariant c.self.view_is in omega (arith, l, c.requires.inside)
-
-pub last_at_least-requires-else-least-clause-inside : goal.last_at_least-requires-else-least-clause-inside
-last_at_least-requires-else-least-clause-inside c = let l = long c.self.inside.marks c.self.inside.sizes c.args.self.now c.self.invariant c.self.view_is in omega (arith, l, c.requires.inside, c.self.invariant.count)
 
 pub returns-then-least-clause-last : goal.returns-then-least-clause-last
 returns-then-least-clause-last c = IfSome_then c.last_at_least.result c.last_at_least.ensures.last
@@ -17,10 +14,27 @@ pub returns-then-least-clause-none : goal.returns-then-least-clause-none
 returns-then-least-clause-none c = none-then c.last_at_least.result c.last_at_least.ensures.none
     (λ none. no-last-mark c.self.inside.marks c.self.inside.sizes c.args.self.now c.self.invariant c.self.view_is c.args.least c.args.end (omega arith) none)
 
-pub returns-else-least-clause-last : goal.returns-else-least-clause-last
-returns-else-least-clause-last c = IfSome_then c.last_at_least-else-least.result c.last_at_least-else-least.ensures.last
-    (λ at it. last-size c.self.inside.marks c.self.inside.sizes c.args.self.now c.self.invariant c.self.view_is c.args.least c.args.end at (omega arith) it)
+pub last_at_least-requires-2-clause-inside : goal.last_at_least-requires-2-clause-inside
+last_at_least-requires-2-clause-inside c = let l = long c.self.inside.marks c.self.inside.sizes c.args.self.now c.self.invariant c.self.view_is in omega (arith, l, c.requires.inside)
 
-pub returns-else-least-clause-none : goal.returns-else-least-clause-none
-returns-else-least-clause-none c = none-then c.last_at_least-else-least.result c.last_at_least-else-least.ensures.none
-    (λ none. no-last-size c.self.inside.marks c.self.inside.sizes c.args.self.now c.self.invariant c.self.view_is c.args.least c.args.end (omega arith) none)
+pub returns-in_err-at-clause-none : goal.returns-in_err-at-clause-none
+returns-in_err-at-clause-none c = rw c.from_residual.ensures (no-large-before c.self.inside.marks c.self.inside.sizes c.args.self.now c.self.invariant c.self.view_is c.args.least c.args.end (omega arith) c.in_err-at.ensures.none)
+
+pub returns-then-least-get-clause-last : goal.returns-then-least-get-clause-last
+returns-then-least-get-clause-last c =
+    last-size c.self.inside.marks c.self.inside.sizes c.args.self.now c.self.invariant c.self.view_is c.args.least c.args.end c.in_ok-at.at (omega arith) c.in_ok-at.ensures.last
+    (subst (λ (n : ℕ). c.args.least ≤ n) c.get.ensures c.if-least-get.true)
+
+pub returns-in_err-run-clause-none : goal.returns-in_err-run-clause-none
+returns-in_err-run-clause-none c = rw c.from_residual-in_err-run.ensures
+    (no-size-before c.self.inside.marks c.self.inside.sizes c.args.self.now c.self.invariant c.self.view_is c.args.least c.args.end c.in_ok-at.at (omega arith) c.in_ok-at.ensures.last
+    (subst (λ (n : ℕ). n < c.args.least) c.get.ensures c.if-least-get.false) c.in_err-run.ensures.none)
+
+pub returns-clause-last : goal.returns-clause-last
+returns-clause-last c = IfSome_then c.last_at_least-4.result c.last_at_least-4.ensures.last (λ there it.
+    last-run c.self.inside.marks c.self.inside.sizes c.args.self.now c.self.invariant c.self.view_is c.args.least c.args.end c.in_ok-at.at c.in_ok-run.run' there (omega arith) c.in_ok-at.ensures.last
+    (subst (λ (n : ℕ). n < c.args.least) c.get.ensures c.if-least-get.false) c.in_ok-run.ensures.last it)
+
+pub returns-clause-none : goal.returns-clause-none
+returns-clause-none c = none-then c.last_at_least-4.result c.last_at_least-4.ensures.none (λ none.
+    absurd (no-last-run c.self.inside.marks c.self.inside.sizes c.args.self.now c.self.invariant c.self.view_is c.in_ok-run.run' (let large = c.in_ok-run.ensures.last.large in omega arith) none))

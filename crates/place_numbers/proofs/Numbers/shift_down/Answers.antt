@@ -1,18 +1,22 @@
-use Rattle.std.proofs.Common.{arith}
+use Rattle.std.proofs.Common.{List, ℕ, ◌∙◌, sym, ap, subst, arith}
+use Rattle.place_numbers.specs.Parts.{AreSpread, numbers_of}
+use Rattle.place_numbers.specs.Shifted.{shifted_down}
 use Rattle.place_numbers.proofs.Parts.{long}
-use Rattle.place_numbers.proofs.MovedParts.{down-parts, down-view}
 use Rattle.place_numbers.proofs.Numbers.shift_down.Goals as goal
+
+pub shift_sizes_down-requires-clause-inside : goal.shift_sizes_down-requires-clause-inside
+shift_sizes_down-requires-clause-inside c = let l = long c.self.inside.marks c.self.inside.sizes c.args.self.now c.self.invariant c.self.view_is in omega (arith, l, c.requires.inside)
+
+pub shift_sizes_down-requires-clause-spread : goal.shift_sizes_down-requires-clause-spread
+shift_sizes_down-requires-clause-spread c = subst (λ (l : List ℕ). AreSpread (shifted_down c.args.from c.args.to c.args.count l)) (sym c.self.view_is) c.requires.spread
 
 pub shift_down-requires-clause-inside : goal.shift_down-requires-clause-inside
 shift_down-requires-clause-inside c = let l = long c.self.inside.marks c.self.inside.sizes c.args.self.now c.self.invariant c.self.view_is in omega (arith, l, c.requires.inside)
 
-pub shift_few_down-requires-clause-inside : goal.shift_few_down-requires-clause-inside
-shift_few_down-requires-clause-inside c = let l = long c.self.inside.marks c.self.inside.sizes c.args.self.now c.self.invariant c.self.view_is in omega (arith, l, c.requires.inside, c.self.invariant.count)
-
 pub invariant_of-self : goal.invariant_of-self
-invariant_of-self c = down-parts c.self.inside.marks c.self.inside.sizes c.args.self.now c.shift_down.new.self c.shift_few_down.new.self c.args.from c.args.to c.args.count c.self.invariant c.self.view_is
-    c.shift_down.ensures c.shift_few_down.ensures c.requires.order c.requires.inside
+invariant_of-self c = rw c.shift_down.ensures c.shift_sizes_down.ensures.parts
 
 pub returns : goal.returns
-returns c = down-view c.self.inside.marks c.self.inside.sizes c.args.self.now c.shift_down.new.self c.shift_few_down.new.self c.args.from c.args.to c.args.count c.self.invariant c.self.view_is
-    c.shift_down.ensures c.shift_few_down.ensures c.requires.order c.requires.inside
+returns c =
+    ap (λ (l : List ℕ). numbers_of l c.shift_sizes_down.new.sizes) c.shift_down.ensures ∙ c.shift_sizes_down.ensures.numbers
+    ∙ ap (λ (l : List ℕ). shifted_down c.args.from c.args.to c.args.count l) c.self.view_is

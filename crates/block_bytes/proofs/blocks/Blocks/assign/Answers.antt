@@ -8,6 +8,7 @@ use Rattle.block_bytes.specs.Head.{most_over, head_bytes}
 use Rattle.block_bytes.specs.Layout.{Layout, BlockAt, CanBe, body, raw_block, header_of, size_of, with_blocks}
 use Rattle.block_bytes.specs.Starts.{mark_in, free_in}
 use Rattle.block_bytes.specs.Reading.{layout_of}
+use Rattle.block_bytes.proofs.Alone.{alone-at, mark-size}
 use Rattle.block_bytes.proofs.ReadBlocks.{IsPossible-from, head_size-positive}
 use Rattle.block_bytes.proofs.Parts.{IsRead, rear, IsIn-from}
 use Rattle.block_bytes.proofs.Changes.{body-raw_block, size-body, header-raw_block, head-written, head-changed}
@@ -45,8 +46,15 @@ pub set_header-requires-clause-correction : goal.set_header-requires-clause-corr
 set_header-requires-clause-correction c = let o = over c.args.self.now c.args.at c.args.role c.args.length c.requires c.entry_at-old.result (c.entry_at-old.ensures c.requires.block) in let few = o.1 in
     let heads = c.heads-heads.ensures ∙ ap (λ (l : Layout). l.heads) c.self.view_is in let e = c.head_size.ensures ∙ ap head_size heads in let e' = ap most_over heads in omega arith
 
-pub set-requires : goal.set-requires
-set-requires c = let h = IsHere-from c.self.inside c.self.invariant c.args.self.now c.self.view_is c.args.at c.entry_at-old.result c.requires.block (c.entry_at-old.ensures c.requires.block) in
+pub set-requires-clause-alone : goal.set-requires-clause-alone
+set-requires-clause-alone c = λ high.
+    let r = c.entry_at-old.result in let header : Header = record { size = r.size; role = c.args.role; correction = r.size - c.head_size.result - c.args.length } in
+    let size : r.size ≡ size_of c.args.self.now.heads c.requires.block.here = ap (λ (h : Header). h.size) (c.entry_at-old.ensures c.requires.block) in
+    let mark = mark-size header c.mark.result c.mark.ensures high in
+    alone-at c.self.inside c.self.invariant c.args.self.now c.self.view_is c.args.at c.base-base.result c.mark.result ((c.args.at - c.base-base.result) / 4) c.requires.block c.base-base.ensures.value refl (omega (arith, mark, size)) high
+
+pub set-requires-clause-inside : goal.set-requires-clause-inside
+set-requires-clause-inside c = let h = IsHere-from c.self.inside c.self.invariant c.args.self.now c.self.view_is c.args.at c.entry_at-old.result c.requires.block (c.entry_at-old.ensures c.requires.block) in
     let some = head_size-positive c.self.inside.spec.heads in omega arith
 
 pub count_free-requires-clause-count : goal.count_free-requires-clause-count

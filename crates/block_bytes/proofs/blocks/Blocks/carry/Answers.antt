@@ -14,6 +14,8 @@ use Rattle.block_bytes.specs.Head.{most_over, head_bytes}
 use Rattle.block_bytes.specs.Layout.{RawBlock, Layout, BlockAt, ParcelAt, Carried, is_free, size_of, total_of, header_of, with_blocks}
 use Rattle.block_bytes.specs.Starts.{mark_in, first_marked}
 use Rattle.block_bytes.specs.Reading.{layout_of, IsLayout}
+use Rattle.place_numbers.specs.Parts.{IsAlone}
+use Rattle.block_bytes.proofs.Alone.{alone-down, ends-at, far-index, mark-size, spread-down}
 use Rattle.block_bytes.proofs.Heads.{head-free}
 use Rattle.block_bytes.proofs.Rendered.{total_of-append}
 use Rattle.block_bytes.proofs.Parts.{IsRead}
@@ -97,6 +99,15 @@ shift_down-requires-clause-inside c = let lie = lies c.self.inside c.self.invari
     let long = lie.long in let f = lie.from in let above = f.above in let below = f.below in let within = f.within in let small = c.base-base.ensures.possible in let base_is = c.base-base.ensures.value in
     let marks = f.marks in let even = f.even in let even_size = f.even_size in let even_count = f.even_count in omega arith
 
+pub shift_down-requires-clause-spread : goal.shift_down-requires-clause-spread
+shift_down-requires-clause-spread c = let lie = lies c.self.inside c.self.invariant c.args.self.now c.self.view_is c.args.at c.args.end c.entry_at-header.result c.requires c.entry_at-header.ensures in
+    let long = lie.long in let f = lie.from in let above = f.above in let below = f.below in let within = f.within in let small = c.base-base.ensures.possible in let base_is = c.base-base.ensures.value in
+    let marks = f.marks in let even = f.even in let even_size = f.even_size in let even_count = f.even_count in
+    let z = c.self.inside in let size = c.entry_at-header.result.size in let at = c.args.at in let base = c.base-base.result in
+    let w = subst (λ (l : Layout). ParcelAt l at c.args.end) (sym c.self.view_is) c.requires in let place = w.place in
+    let from = (at - base + size) / 4 in let to = (at - base) / 4 in let n = (c.args.end - at - size) / 4 in
+    spread-down z.index from to n (omega arith) (omega arith) (far-index z c.self.invariant) (ends-at z c.self.invariant w.before (w.here ∷ (w.others ++ w.behind)) w.blocks to (omega arith))
+
 -- the index is as long as before
 as_long : (z : Inside) (start : ℕ) (header : Header) (count base : ℕ) → LiesFrom z start header count → base ≡ z.spec.base
     → length (shifted_down ((start - base + header.size) / 4) ((start - base) / 4) (count / 4) z.index) ≡ length z.index
@@ -104,8 +115,22 @@ as_long z start header count base f base_is =
     let even = f.even in let even_size = f.even_size in let even_count = f.even_count in let marks = f.marks in let above = f.above in let below = f.below in
     length-shifted_down ((start - base + header.size) / 4) ((start - base) / 4) (count / 4) z.index (omega arith) (omega arith)
 
-pub set-requires : goal.set-requires
-set-requires c = let lie = lies c.self.inside c.self.invariant c.args.self.now c.self.view_is c.args.at c.args.end c.entry_at-header.result c.requires c.entry_at-header.ensures in
+pub set-requires-clause-alone : goal.set-requires-clause-alone
+set-requires-clause-alone c = λ high. let lie = lies c.self.inside c.self.invariant c.args.self.now c.self.view_is c.args.at c.args.end c.entry_at-header.result c.requires c.entry_at-header.ensures in
+    let long = lie.long in let f = lie.from in let above = f.above in let below = f.below in let within = f.within in let small = c.base-base.ensures.possible in let base_is = c.base-base.ensures.value in
+    let marks = f.marks in let even = f.even in let even_size = f.even_size in let even_count = f.even_count in
+    let z = c.self.inside in let size = c.entry_at-header.result.size in let at = c.args.at in let base = c.base-base.result in
+    let w = subst (λ (l : Layout). ParcelAt l at c.args.end) (sym c.self.view_is) c.requires in let place = w.place in
+    let from = (at - base + size) / 4 in let to = (at - base) / 4 in let n = (c.args.end - at - size) / 4 in
+    let mark = mark-size c.entry_at-header.result c.mark.result c.mark.ensures high in let far_on = w.long in
+    let sum = total_of-append z.spec.heads w.before (w.here ∷ w.others) in
+    let said = c.entry_at-header.ensures (carried_block c.args.self.now at c.args.end c.requires) in
+    subst (λ (ms : List ℕ). IsAlone ms (to + n)) (sym c.shift_down.ensures)
+    (alone-down z.index from to n (omega arith) (omega arith) (far-index z c.self.invariant) (ends-at z c.self.invariant w.before (w.here ∷ (w.others ++ w.behind)) w.blocks to (omega arith))
+    (ends-at z c.self.invariant (w.before ++ w.here ∷ w.others) w.behind (w.blocks ∙ sym (append_assoc w.before (w.here ∷ w.others) w.behind)) (from + n) (omega arith)) (omega arith) (to + n) refl)
+
+pub set-requires-clause-inside : goal.set-requires-clause-inside
+set-requires-clause-inside c = let lie = lies c.self.inside c.self.invariant c.args.self.now c.self.view_is c.args.at c.args.end c.entry_at-header.result c.requires c.entry_at-header.ensures in
     let long = lie.long in let f = lie.from in let above = f.above in let below = f.below in let within = f.within in let small = c.base-base.ensures.possible in let base_is = c.base-base.ensures.value in
     let even = f.even in let marks = f.marks in let some = f.large in let same = as_long c.self.inside c.args.at c.entry_at-header.result (c.args.end - c.args.at - c.entry_at-header.result.size) c.base-base.result f base_is in let shifted = ap length c.shift_down.ensures in omega arith
 

@@ -1,10 +1,11 @@
-use Rattle.std.proofs.Common.{◌≡◌, ◌+◌, ◌-◌, ap, subst, ◌∙◌, arith}
+use Rattle.std.proofs.Common.{ℕ, ◌/◌, ◌≡◌, ◌+◌, ◌-◌, ap, subst, ◌∙◌, arith}
 use Rattle.byteorder.specs.Endian.{big_bytes}
 use Rattle.mac_base.specs.HeadKind.{head_size}
 use Rattle.raw_region.specs.State.{State, with_bytes}
 use Rattle.block_bytes.specs.Layout.{Layout, extended}
 use Rattle.block_bytes.specs.Starts.{first_marked}
 use Rattle.block_bytes.specs.ZoneHead.{end_field}
+use Rattle.block_bytes.proofs.Alone.{alone-end}
 use Rattle.block_bytes.proofs.Parts.{IsRead}
 use Rattle.block_bytes.specs.ZoneHead.{CanCount}
 use Rattle.block_bytes.proofs.Settled.{counted}
@@ -25,8 +26,11 @@ set_header-requires-clause-free c = spare-free c.self.inside c.self.invariant c.
 read_first : (c : goal.After-set-arg-1) → AreRead c.self.inside c.heads-heads.result c.base-base.result c.size-size.result c.limit-limit.result
 read_first c = record { heads_is = c.heads-heads.ensures; base_is = c.base-base.ensures.value; size_is = c.size-size.ensures.value; limit_is = c.limit-limit.ensures.value; possible = c.base-base.ensures.possible; other = c.if-size-limit.false }
 
-pub set-requires : goal.set-requires
-set-requires c = let size = c.size-size.ensures.value in
+pub set-requires-clause-alone : goal.set-requires-clause-alone
+set-requires-clause-alone c = λ high. alone-end c.self.inside c.self.invariant (c.size-size.result / 4) (ap (λ (n : ℕ). n / 4) c.size-size.ensures.value)
+
+pub set-requires-clause-inside : goal.set-requires-clause-inside
+set-requires-clause-inside c = let size = c.size-size.ensures.value in
     let room = room-marked c.self.inside c.self.invariant c.size-size.ensures.possible (below c.self.inside c.heads-heads.result c.base-base.result c.size-size.result c.limit-limit.result (read_first c)) in omega arith
 
 -- what counting its bytes asks for

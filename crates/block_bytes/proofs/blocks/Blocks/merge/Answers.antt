@@ -1,17 +1,20 @@
-use Rattle.std.proofs.Common.{◌≡◌, ◌+◌, ◌-◌, ◌/◌, ◌∷◌, ◌++◌, List, ℕ, length, length-set, refl, ap, ◌∙◌, subst, arith}
+use Rattle.std.proofs.Common.{◌≡◌, ◌+◌, ◌-◌, ◌/◌, ◌≤◌, ◌∷◌, ◌++◌, List, ℕ, length, length-set, refl, sym, ap, ◌∙◌, subst, arith}
 use Rattle.std.proofs.Math.ListN.{set}
 use Rattle.mac_base.specs.HeadKind.{address_end, head_size}
+use Rattle.place_numbers.specs.Parts.{IsAlone}
 use Rattle.raw_region.specs.State.{State}
 use Rattle.block_bytes.specs.declared.header.Header.{Header}
 use Rattle.block_bytes.specs.Head.{most_over, head_bytes}
-use Rattle.block_bytes.specs.Layout.{Layout, BlockAt, CanMerge, body, raw_block, joint_body, size_of, header_of, with_blocks}
+use Rattle.block_bytes.specs.Layout.{Layout, BlockAt, PairAt, CanMerge, body, raw_block, joint_body, size_of, header_of, with_blocks}
 use Rattle.block_bytes.specs.Starts.{mark_in, free_in}
-use Rattle.block_bytes.specs.Reading.{layout_of}
-use Rattle.block_bytes.proofs.ReadBlocks.{head_size-positive}
+use Rattle.block_bytes.specs.Reading.{layout_of, IsLayout}
+use Rattle.block_bytes.specs.declared.blocks.Blocks.TheInside.{Inside}
+use Rattle.block_bytes.proofs.Alone.{alone-whole, mark-size}
+use Rattle.block_bytes.proofs.ReadBlocks.{smallest-block, head_size-positive}
 use Rattle.block_bytes.proofs.Parts.{IsRead, rear, IsIn-from}
 use Rattle.block_bytes.proofs.Changes.{body-raw_block, header-raw_block, head-written, merge-changed}
 use Rattle.block_bytes.proofs.Here.{IsHere-from, ArePair-from, next-block, first-block, size-joint, IsMerge-from}
-use Rattle.block_bytes.proofs.Counting.{kept-first, kept-written, free_in-small, can-count, none-lower, set-behind}
+use Rattle.block_bytes.proofs.Counting.{set-apart, kept-first, kept-written, free_in-small, can-count, none-lower, set-behind}
 use Rattle.block_bytes.proofs.blocks.Blocks.merge.Goals as goal
 
 pub overflow_add-next : goal.overflow_add-next
@@ -71,20 +74,41 @@ set_header-requires-clause-correction c =
     let m = IsMerge-from c.args.self.now c.args.at c.args.length c.requires c.entry_at-first.result c.entry_at-second.result one two in
     let e = c.head_size.ensures ∙ ap head_size c.heads-heads.ensures in let e' = ap (λ (l : Layout). head_size l.heads) c.self.view_is in let most = ap most_over c.heads-heads.ensures in let most' = ap (λ (l : Layout). most_over l.heads) c.self.view_is in omega arith
 
-pub set-requires : goal.set-requires
-set-requires c =
-    let first = first-block c.args.self.now c.args.at c.requires.pair in let one = c.entry_at-first.ensures first in
-    let h = IsHere-from c.self.inside c.self.invariant c.args.self.now c.self.view_is c.args.at c.entry_at-first.result first one in
-    let some = head_size-positive c.self.inside.spec.heads in omega arith
+-- the place of the joint block is one for a large number, once that of the second is cleared
+joined-alone : (z : Inside) → IsLayout z → (l : Layout) → layout_of z ≡ l → (at : ℕ) (pair : PairAt l at) (base : ℕ) → base ≡ z.spec.base → (index : List ℕ) (r s : ℕ) → r ≡ size_of l.heads pair.here → s ≡ size_of l.heads pair.next
+    → 255 ≤ r + s → index ≡ set z.index ((at + r - base) / 4) 0 → IsAlone index ((at - base) / 4)
+joined-alone z whole l is at pair base base_is index r s = subst (λ (m : Layout). (pair : PairAt m at) → r ≡ size_of m.heads pair.here → s ≡ size_of m.heads pair.next → 255 ≤ r + s → index ≡ set z.index ((at + r - base) / 4) 0 → IsAlone index ((at - base) / 4)) is
+    (λ pair one two large marks.
+    let place = pair.place in let i = IsIn-from z whole pair.before pair.here (pair.next ∷ pair.behind) pair.blocks in let even = i.here_possible.even in
+    subst (λ (ms : List ℕ). IsAlone ms ((at - base) / 4)) (sym marks)
+    (alone-whole z whole pair.before pair.here pair.next pair.behind pair.blocks ((at - base) / 4) ((at + r - base) / 4) (omega (arith, one, two, large)) (omega (arith, place, base_is)) (omega (arith, place, base_is, one, even)))) pair
 
-pub set-requires-2 : goal.set-requires-2
-set-requires-2 c =
-    let long : length c.set.new.self ≡ length c.self.inside.index = ap length c.set.ensures ∙ length-set c.self.inside.index _ _ in
+pub set-requires-clause-inside : goal.set-requires-clause-inside
+set-requires-clause-inside c =
     let first = first-block c.args.self.now c.args.at c.requires.pair in let one = c.entry_at-first.ensures first in
     let h = IsHere-from c.self.inside c.self.invariant c.args.self.now c.self.view_is c.args.at c.entry_at-first.result first one in
     let next = next-block c.args.self.now c.args.at (c.args.at + c.entry_at-first.result.size) c.requires.pair (ap (λ (h : Header). c.args.at + h.size) one) in let two = c.entry_at-second.ensures next in
     let h' = IsHere-from c.self.inside c.self.invariant c.args.self.now c.self.view_is (c.args.at + c.entry_at-first.result.size) c.entry_at-second.result next two in
     let some = head_size-positive c.self.inside.spec.heads in omega arith
+
+pub set-requires-clause-alone : goal.set-requires-clause-alone
+set-requires-clause-alone c = λ high. absurd (omega (arith, high))
+
+pub set-requires-2-clause-inside : goal.set-requires-2-clause-inside
+set-requires-2-clause-inside c =
+    let long : length c.set.new.self ≡ length c.self.inside.index = ap length c.set.ensures ∙ length-set c.self.inside.index _ _ in
+    let first = first-block c.args.self.now c.args.at c.requires.pair in let one = c.entry_at-first.ensures first in
+    let h = IsHere-from c.self.inside c.self.invariant c.args.self.now c.self.view_is c.args.at c.entry_at-first.result first one in
+    let some = head_size-positive c.self.inside.spec.heads in omega arith
+
+pub set-requires-2-clause-alone : goal.set-requires-2-clause-alone
+set-requires-2-clause-alone c = λ high.
+    let z = c.self.inside in let at = c.args.at in let base = c.base-base.result in let r = c.entry_at-first.result in let s = c.entry_at-second.result in
+    let first = first-block c.args.self.now at c.requires.pair in let one = c.entry_at-first.ensures first in
+    let next = next-block c.args.self.now at (at + r.size) c.requires.pair (ap (λ (h : Header). at + h.size) one) in let two = c.entry_at-second.ensures next in
+    let mark = mark-size (record { size = r.size + s.size; role = r.role; correction = r.size + s.size - c.head_size.result - c.args.length }) c.mark.result c.mark.ensures high in
+    joined-alone z c.self.invariant c.args.self.now c.self.view_is at c.requires.pair base c.base-base.ensures.value c.set.new.self r.size s.size
+    (ap (λ (h : Header). h.size) one) (ap (λ (h : Header). h.size) two) (omega (arith, mark, high)) c.set.ensures
 
 pub count_free-requires-clause-count : goal.count_free-requires-clause-count
 count_free-requires-clause-count c = let z = c.self.inside in let small = c.base-base.ensures.possible in let r = c.entry_at-first.result in let s = c.entry_at-second.result in
@@ -143,7 +167,9 @@ merged c can = let z = c.self.inside in let at = c.args.at in let n = c.args.len
     ∙ head-written z can.pair.before (header_of heads can.pair.here) (body can.pair.here ++ rear l (can.pair.next ∷ can.pair.behind)) i.bytes (at - c.base-base.result) c.heads-heads.result c.base-base.result
     (record { size = r.size + s.size; role = r.role; correction = r.size + s.size - c.head_size.result - n }) (header_of heads new) (omega arith) c.heads-heads.ensures c.base-base.ensures.value header)
     ((at - c.base-base.result) / 4) ((at + r.size - c.base-base.result) / 4) (omega arith) (omega arith)
-    (c.set-2.ensures ∙ ap (λ (ms : List ℕ). set ms ((at + r.size - c.base-base.result) / 4) 0) (c.set.ensures ∙ ap (λ (m : ℕ). set z.index ((at - c.base-base.result) / 4) m) (c.mark.ensures ∙ ap mark_in header)))
+    (c.set-2.ensures ∙ ap (λ (ms : List ℕ). set ms ((at - c.base-base.result) / 4) c.mark.result) c.set.ensures
+    ∙ set-apart z.index ((at + r.size - c.base-base.result) / 4) ((at - c.base-base.result) / 4) 0 c.mark.result (let p = i.here_possible in let large = p.large in let some = smallest-block heads in omega arith)
+    ∙ ap (λ (m : ℕ). set (set z.index ((at - c.base-base.result) / 4) m) ((at + r.size - c.base-base.result) / 4) 0) (c.mark.ensures ∙ ap mark_in header))
     c.base-base.ensures.value (c.free_bytes.ensures ∙ ap free_in header) (let a = c.free_bytes-2.ensures ∙ ap free_in one in let b = c.free_bytes-3.ensures ∙ ap free_in two in omega arith) c.count_free.ensures)
     can c.entry_at-first.ensures c.entry_at-second.ensures
 

@@ -14,6 +14,8 @@ use Rattle.block_bytes.specs.Head.{most_over, head_bytes}
 use Rattle.block_bytes.specs.Layout.{RawBlock, Layout, BlockAt, ParcelUpTo, Sunk, is_free, size_of, total_of, header_of, with_blocks}
 use Rattle.block_bytes.specs.Starts.{mark_in, first_marked}
 use Rattle.block_bytes.specs.Reading.{layout_of, IsLayout}
+use Rattle.place_numbers.specs.Parts.{IsAlone}
+use Rattle.block_bytes.proofs.Alone.{alone-up, ends-at, far-index, mark-size, spread-up}
 use Rattle.block_bytes.proofs.Heads.{head-free}
 use Rattle.block_bytes.proofs.Rendered.{total_of-append}
 use Rattle.block_bytes.proofs.Parts.{IsRead}
@@ -85,6 +87,18 @@ shift_up-requires-clause-inside c = let f = lies c.self.inside c.self.invariant 
     let order = c.requires.long in let above = f.above in let below = f.below in let within = f.within in let small = c.base-base.ensures.possible in let base_is = c.base-base.ensures.value in
     let marks = f.marks in let even = f.even in let even_size = f.even_size in let even_count = f.even_count in omega arith
 
+pub shift_up-requires-clause-spread : goal.shift_up-requires-clause-spread
+shift_up-requires-clause-spread c = let f = lies c.self.inside c.self.invariant c.args.self.now c.self.view_is c.args.start c.args.at c.entry_at-header.result c.requires c.entry_at-header.ensures in
+    let order = c.requires.long in let above = f.above in let below = f.below in let within = f.within in let small = c.base-base.ensures.possible in let base_is = c.base-base.ensures.value in
+    let marks = f.marks in let even = f.even in let even_size = f.even_size in let even_count = f.even_count in
+    let z = c.self.inside in let size = c.entry_at-header.result.size in let start = c.args.start in let base = c.base-base.result in
+    let w = subst (λ (l : Layout). ParcelUpTo l start c.args.at) (sym c.self.view_is) c.requires in let place = w.place in let far_on = w.long in
+    let from = (start - base) / 4 in let to = (start - base + size) / 4 in let n = (c.args.at - start) / 4 in
+    let sum = total_of-append z.spec.heads w.before w.others in
+    let low = ends-at z c.self.invariant w.before (w.others ++ w.here ∷ w.behind) w.blocks from (omega arith) in
+    let mid = ends-at z c.self.invariant (w.before ++ w.others) (w.here ∷ w.behind) (w.blocks ∙ sym (append_assoc w.before w.others (w.here ∷ w.behind))) (from + n) (omega arith) in
+    spread-up z.index from to n (omega arith) (omega arith) (far-index z c.self.invariant) low mid
+
 -- the index is as long as before
 as_long : (z : Inside) (start : ℕ) (header : Header) (count base : ℕ) → LiesFrom z start header count → base ≡ z.spec.base
     → length (shifted_up ((start - base) / 4) ((start - base + header.size) / 4) (count / 4) z.index) ≡ length z.index
@@ -92,8 +106,22 @@ as_long z start header count base f base_is =
     let even = f.even in let even_size = f.even_size in let even_count = f.even_count in let marks = f.marks in let above = f.above in let below = f.below in
     length-shifted_up ((start - base) / 4) ((start - base + header.size) / 4) (count / 4) z.index (omega arith) (omega arith)
 
-pub set-requires : goal.set-requires
-set-requires c = let f = lies c.self.inside c.self.invariant c.args.self.now c.self.view_is c.args.start c.args.at c.entry_at-header.result c.requires c.entry_at-header.ensures in
+pub set-requires-clause-alone : goal.set-requires-clause-alone
+set-requires-clause-alone c = λ high. let f = lies c.self.inside c.self.invariant c.args.self.now c.self.view_is c.args.start c.args.at c.entry_at-header.result c.requires c.entry_at-header.ensures in
+    let order = c.requires.long in let above = f.above in let below = f.below in let within = f.within in let small = c.base-base.ensures.possible in let base_is = c.base-base.ensures.value in
+    let marks = f.marks in let even = f.even in let even_size = f.even_size in let even_count = f.even_count in
+    let z = c.self.inside in let size = c.entry_at-header.result.size in let start = c.args.start in let base = c.base-base.result in
+    let w = subst (λ (l : Layout). ParcelUpTo l start c.args.at) (sym c.self.view_is) c.requires in let place = w.place in let far_on = w.long in
+    let from = (start - base) / 4 in let to = (start - base + size) / 4 in let n = (c.args.at - start) / 4 in
+    let sum = total_of-append z.spec.heads w.before w.others in
+    let low = ends-at z c.self.invariant w.before (w.others ++ w.here ∷ w.behind) w.blocks from (omega arith) in
+    let mid = ends-at z c.self.invariant (w.before ++ w.others) (w.here ∷ w.behind) (w.blocks ∙ sym (append_assoc w.before w.others (w.here ∷ w.behind))) (from + n) (omega arith) in
+    let mark = mark-size c.entry_at-header.result c.mark.result c.mark.ensures high in
+    subst (λ (ms : List ℕ). IsAlone ms from) (sym c.shift_up.ensures)
+    (alone-up z.index from to n (omega arith) (omega arith) (far-index z c.self.invariant) low mid (omega arith))
+
+pub set-requires-clause-inside : goal.set-requires-clause-inside
+set-requires-clause-inside c = let f = lies c.self.inside c.self.invariant c.args.self.now c.self.view_is c.args.start c.args.at c.entry_at-header.result c.requires c.entry_at-header.ensures in
     let order = c.requires.long in let above = f.above in let below = f.below in let within = f.within in let small = c.base-base.ensures.possible in let base_is = c.base-base.ensures.value in
     let even = f.even in let marks = f.marks in let some = f.large in let same = as_long c.self.inside c.args.start c.entry_at-header.result (c.args.at - c.args.start) c.base-base.result f base_is in let shifted = ap length c.shift_up.ensures in omega arith
 

@@ -1,0 +1,51 @@
+use Rattle.std.proofs.Common.{◌-◌, ◌+◌, arith}
+use Rattle.place_numbers.proofs.MovedParts.{up-begun, up-clear, up-gone, up-moved, up-parts, up-view}
+use Rattle.place_numbers.proofs.shift_sizes_up.Goals as goal
+
+pub loop-at-init : goal.loop-at-init
+loop-at-init c =
+    record { inside = omega arith; done = up-begun c.args.marks.now c.args.sizes.now (c.args.to + c.args.count) (c.args.to - c.args.from) c.requires.parts }
+
+pub loop-at-preserved-then-at-end : goal.loop-at-preserved-then-at-end
+loop-at-preserved-then-at-end c =
+    let from = c.args.from in let to = c.args.to in let xs = c.args.marks.now in let ys = c.args.sizes.now in let it = c.in-Some.ensures.last in
+    let reached = it.inside in let one = it.large in let most = c.requires.parts.most c.in-Some.at in
+    record {
+      inside = omega arith;
+      done = rw (c.set-then-at-end.ensures, c.set.ensures, c.get-size.ensures) (up-moved xs ys c.loop-at.sizes (to + c.args.count) (to - from) c.loop-at.behind from c.in-Some.at c.requires.parts
+          c.loop-at.invariant.done c.loop-at.invariant.inside.1 reached c.if-at-from.false c.requires.inside (omega (arith, one, most)) it.last
+          (up-clear xs ys c.loop-at.sizes from to c.args.count c.loop-at.behind c.requires.parts c.requires.order c.requires.inside c.requires.spread)
+          (let low = c.if-at-end.true in let order = c.requires.order in omega (arith, low, order)));
+    }
+
+pub loop-at-preserved : goal.loop-at-preserved
+loop-at-preserved c =
+    let from = c.args.from in let to = c.args.to in let xs = c.args.marks.now in let ys = c.args.sizes.now in let it = c.in-Some.ensures.last in
+    let reached = it.inside in let one = it.large in let most = c.requires.parts.most c.in-Some.at in
+    record {
+      inside = omega arith;
+      done = rw c.set.ensures (up-gone xs ys c.loop-at.sizes (to + c.args.count) (to - from) c.loop-at.behind from c.in-Some.at c.requires.parts
+          c.loop-at.invariant.done c.loop-at.invariant.inside.1 reached c.if-at-from.false c.requires.inside (omega (arith, one, most)) it.last
+          (up-clear xs ys c.loop-at.sizes from to c.args.count c.loop-at.behind c.requires.parts c.requires.order c.requires.inside c.requires.spread)
+          (let high = c.if-at-end.false in let order = c.requires.order in omega (arith, high, order)));
+    }
+
+pub returns-then-at-from-clause-parts : goal.returns-then-at-from-clause-parts
+returns-then-at-from-clause-parts c =
+    up-parts c.args.marks.now c.args.sizes.now c.loop-at.sizes c.args.from c.args.to c.args.count c.loop-at.behind c.requires.parts c.requires.order c.requires.inside c.requires.spread
+    c.loop-at.invariant.done c.loop-at.invariant.inside.0 (λ j past below. c.in-Some.ensures.last.last j (let found = c.if-at-from.true in omega (arith, found, past)) below)
+
+pub returns-then-at-from-clause-numbers : goal.returns-then-at-from-clause-numbers
+returns-then-at-from-clause-numbers c =
+    up-view c.args.marks.now c.args.sizes.now c.loop-at.sizes c.args.from c.args.to c.args.count c.loop-at.behind c.requires.parts c.requires.order c.requires.inside c.requires.spread
+    c.loop-at.invariant.done c.loop-at.invariant.inside.0 (λ j past below. c.in-Some.ensures.last.last j (let found = c.if-at-from.true in omega (arith, found, past)) below)
+
+pub returns-in_default-clause-parts : goal.returns-in_default-clause-parts
+returns-in_default-clause-parts c =
+    up-parts c.args.marks.now c.args.sizes.now c.loop-at.sizes c.args.from c.args.to c.args.count c.loop-at.behind c.requires.parts c.requires.order c.requires.inside c.requires.spread
+    c.loop-at.invariant.done c.loop-at.invariant.inside.0 (λ j past below. c.in_default.ensures.none j below)
+
+pub returns-in_default-clause-numbers : goal.returns-in_default-clause-numbers
+returns-in_default-clause-numbers c =
+    up-view c.args.marks.now c.args.sizes.now c.loop-at.sizes c.args.from c.args.to c.args.count c.loop-at.behind c.requires.parts c.requires.order c.requires.inside c.requires.spread
+    c.loop-at.invariant.done c.loop-at.invariant.inside.0 (λ j past below. c.in_default.ensures.none j below)

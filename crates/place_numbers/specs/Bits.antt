@@ -1,0 +1,38 @@
+-- Marks that are kept as bits of words.
+use Rattle.std.specs.Prelude.{◌≡◌, ℕ, ◌+◌, ◌/◌, ◌%◌, ◌^◌, ◌≤◌, ◌<◌, Bool, true, false, List, length, map, slice_index}
+use Rattle.std.specs.Int.{bit_at}
+use Rattle.std.specs.List.{range_with_len}
+
+-- the number that stands for a mark, or for none
+abbrev pub mark_of : Bool → ℕ
+mark_of true = 1
+mark_of false = 0
+
+-- the first bit of a word, `from` or behind it, that is 1
+pub record FirstBit (word from at : ℕ) : Type 0 where
+  pub inside : (from ≤ at) × (at < 32)
+  pub one : bit_at word at ≡ 1
+  pub first : (i : ℕ) → from ≤ i → i < at → bit_at word i ≡ 0
+
+-- the last bit of a word before `end` that is 1
+pub record LastBit (word end at : ℕ) : Type 0 where
+  pub inside : at < end
+  pub one : bit_at word at ≡ 1
+  pub last : (i : ℕ) → at < i → i < end → bit_at word i ≡ 0
+
+-- the mark at a place: each word has those of 32 places, the lowest bit that of the first
+abbrev pub bit_of : List ℕ → ℕ → ℕ
+bit_of words j = bit_at (slice_index words (j / 32)) (j % 32)
+
+-- the marks of so many places
+abbrev pub bits_of : List ℕ → ℕ → List ℕ
+bits_of words count = map (bit_of words) (range_with_len 0 count)
+
+-- there are words for so many places, none has a mark behind these, and those that aren't 0 are noted
+pub record AreNoted (words used : List ℕ) (count : ℕ) : Type 0 where
+  pub few : count < 2 ^ 40
+  pub room : length words ≡ count / 32 + 1
+  pub each : length used ≡ length words
+  pub past : (j : ℕ) → count ≤ j → bit_of words j ≡ 0
+  pub zero : (w : ℕ) → slice_index used w ≡ 0 → slice_index words w ≡ 0
+  pub some : (w : ℕ) → 1 ≤ slice_index used w → 1 ≤ slice_index words w
