@@ -17,7 +17,8 @@ use Rattle.linked_zone.specs.Owned.{slot_of}
 use Rattle.linked_zone.specs.Places.{FreeAt}
 use Rattle.linked_zone.specs.Changes.{fixed}
 use Rattle.linked_zone.specs.Fit.{Fits, HasRooms}
-use Rattle.linked_zone.proofs.ChangeParts.{Contains-map, same_slot, none_named-fits, Fits-kept}
+use Rattle.linked_zone.proofs.ChangeParts.{same_slot, none_named-fits, Fits-kept}
+use Rattle.linked_zone.proofs.Numbered.{Contains-map}
 use Rattle.linked_zone.proofs.Lent.{loans-replaced, not-lent}
 use Rattle.linked_zone.proofs.ChangeBlock.{none_pointer, none_named-parts, addresses-only, swapped-addresses, swapped-slots, swapped-pointers, swapped-contents}
 

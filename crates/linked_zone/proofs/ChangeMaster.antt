@@ -26,7 +26,8 @@ use Rattle.linked_zone.specs.Owned.{slot_of, next_free, slot_of_live}
 use Rattle.linked_zone.specs.Places.{RoomFor}
 use Rattle.linked_zone.specs.Changes.{with_master}
 use Rattle.linked_zone.specs.Fit.{Fits, HasRooms}
-use Rattle.linked_zone.proofs.ChangeParts.{same_slot, next_free-skip, next_free-front, Contains-map}
+use Rattle.linked_zone.proofs.ChangeParts.{same_slot, next_free-skip, next_free-front}
+use Rattle.linked_zone.proofs.Numbered.{Contains-map}
 use Rattle.linked_zone.proofs.Lent.{loans-replaced}
 use Rattle.linked_zone.proofs.ChangeBlock.{swapped-addresses, swapped-pointers, swapped-contents}
 

@@ -14,10 +14,11 @@ use Rattle.mac_base.specs.Suits.{is_handle_block, is_pointer_block, slots, slots
 use Rattle.mac_base.specs.ZoneState.{ZoneState, with_heap}
 use Rattle.zone_laws.proofs.Tables.{AgreeBut, by_number, eqb_same, eqb_swap}
 use Rattle.zone_laws.proofs.Owners.{none_named, none_named-from, no_map}
-use Rattle.zone_laws.proofs.SlotPlaces.{slot_no_contents, Contains-none, Contains-here, Contains-later, Contains-cons_cases, slots_from-bounds, addresses_from-above}
+use Rattle.zone_laws.proofs.SlotPlaces.{slot_no_contents, Contains-none, Contains-here, Contains-later, slots_from-bounds, addresses_from-above}
 use Rattle.zone_laws.proofs.SlotOwners.{pointer_not_master}
 use Rattle.linked_zone.specs.Owned.{slot_of, next_free, slot_of_live}
 use Rattle.linked_zone.specs.Fit.{Fits, HasRooms}
+use Rattle.linked_zone.proofs.Numbered.{Contains-map}
 
 -- two zones say the same of a slot where it has the same in both
 pub same_slot : (z w : ZoneState) (x : ℕ) → w.shape.heads ≡ z.shape.heads → live_at w.heap.table x ≡ live_at z.heap.table x → contents_of w.shape x w.heap.map ≡ contents_of z.shape x z.heap.map
@@ -42,14 +43,6 @@ Contains-flat_map f [] y c = absurd (Contains-none y c)
 Contains-flat_map f (x ∷ xs) y c = elim (Contains-append_cases (f x) (flat_map f xs) y c) [
   | inl here ↦ (x, Contains-here x xs, here)
   | inr later ↦ let rest = Contains-flat_map f xs y later in (rest.0, Contains-later x xs rest.0 rest.1, rest.2)
-]
-
--- an element of a list under a function is the function at an element
-pub Contains-map : (f : ℕ → ℕ) (xs : List ℕ) (y : ℕ) → Contains (map f xs) y → (x : ℕ) × Contains xs x × (f x ≡ y)
-Contains-map f [] y c = absurd (Contains-none y c)
-Contains-map f (x ∷ xs) y c = elim (Contains-cons_cases (f x) (map f xs) y c) [
-  | inl here ↦ (x, Contains-here x xs, here)
-  | inr later ↦ let rest = Contains-map f xs y later in (rest.0, Contains-later x xs rest.0 rest.1, rest.2)
 ]
 
 -- a slot lies behind the zone's header

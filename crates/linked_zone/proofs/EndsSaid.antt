@@ -26,7 +26,8 @@ use Rattle.linked_zone.specs.Owned.{slot_flags, header_flags}
 use Rattle.linked_zone.specs.Fit.{has_room}
 use Rattle.linked_zone.specs.Places.{EntryAt}
 use Rattle.linked_zone.proofs.Standing.{Stands}
-use Rattle.linked_zone.proofs.ChangeParts.{Contains-flat_map, Contains-map, slot-above}
+use Rattle.linked_zone.proofs.ChangeParts.{Contains-flat_map, slot-above}
+use Rattle.linked_zone.proofs.Numbered.{Contains-map}
 use Rattle.linked_zone.proofs.ChangeMaster.{slots_at-below}
 
 -- ---- in general

@@ -1,3 +1,7 @@
+mod AdoptedBack
+mod AdoptedFits
+mod AdoptedRecords
+mod AdoptedZone
 mod Bare
 mod ChangeBlock
 mod ChangeCut
@@ -20,6 +24,7 @@ mod Ends
 mod EndsCopied
 mod EndsCut
 mod Movable
+mod Numbered
 mod EndsExtended
 mod EndsFlags
 mod EndsFollow
@@ -32,17 +37,20 @@ mod EndsSaid
 mod EndsSized
 mod EndsSlots
 mod EndsStructure
+mod EndsParts
 mod EndsSwapped
 mod EndsTurned
 mod EndsWritten
 mod Found
 mod Lent
 mod Located
+pub mod OneZone
 mod Owning
 mod ReadBack
 mod ReadBlocks
 mod ReadFree
 mod ReadNumbers
+mod Readable
 mod Reported
 mod RelocatedPlaces
 pub mod Shown

@@ -14,11 +14,13 @@ use Rattle.mac_base.specs.Suits.{is_handle_block, is_pointer_block, slots}
 use Rattle.mac_base.specs.ZoneState.{ZoneState}
 use Rattle.zone_laws.proofs.Tables.{not_live}
 use Rattle.zone_laws.proofs.SlotOwners.{pointer_not_master, address_from_contents}
-use Rattle.zone_laws.proofs.SlotPlaces.{Contains-none, Contains-here, Contains-later, Contains-cons_cases, slots_at-above, slot_no_contents}
+use Rattle.zone_laws.proofs.SlotPlaces.{Contains-none, Contains-cons_cases, slots_at-above, slot_no_contents}
 use Rattle.zone_records.specs.Records.{BlockRecord}
 use Rattle.linked_zone.specs.Owned.{slot_flags, header_flags, next_free, slot_of_live, slot_of, owners_of, records_of}
-use Rattle.linked_zone.specs.Reading.{either_flags, live_in, next_said, all_slots, lives_in, chain, state_in}
+use Rattle.linked_zone.specs.Reading.{either_flags, live_in, lives_in, state_in}
+use Rattle.zone_records.specs.Slots.{next_said, all_slots, chain}
 use Rattle.linked_zone.specs.Fit.{Fits, HasRooms}
+use Rattle.linked_zone.proofs.Numbered.{Contains-mapped}
 use Rattle.linked_zone.proofs.ReadNumbers.{numbers, rising-numbers, slot-numbers, pointer-numbers, entry_of, entries-read}
 use Rattle.linked_zone.proofs.ReadFree.{length-among, next-named, chain-all}
 use Rattle.linked_zone.proofs.ReadBlocks.{full_entry, pointers-there, ArePointersThere, map-back, lents-back, slots-back, lives-there-back, lives-back}
@@ -37,14 +39,6 @@ one_mapped : (e : ℕ × Live) (xs : List ℕ) → length xs ≡ 1 → map (λ a
 one_mapped e [] h = absurd (cc h)
 one_mapped e (x ∷ []) h = refl
 one_mapped e (x ∷ y ∷ xs) h = absurd (omega (arith, h))
-
--- what an element maps to is among what all do
-Contains-mapped : (f : ℕ → ℕ) (xs : List ℕ) (x : ℕ) → Contains xs x → Contains (map f xs) (f x)
-Contains-mapped f [] x c = absurd (Contains-none x c)
-Contains-mapped f (y ∷ ys) x c = elim (Contains-cons_cases y ys x c) [
-  | inl is ↦ subst (λ n. Contains (f y ∷ map f ys) (f n)) is (Contains-here (f y) (map f ys))
-  | inr later ↦ Contains-later (f y) (map f ys) (f x) (Contains-mapped f ys x later)
-]
 
 -- a number among those of a test is the one that is there where it passes
 only_number : (b : Bool) (p a : ℕ) → Contains (cond b (p ∷ []) []) a → (p ≡ a) × (b ≡ true)

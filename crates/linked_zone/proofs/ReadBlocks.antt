@@ -19,7 +19,8 @@ use Rattle.zone_laws.proofs.SlotPlaces.{Contains-here, Contains-later, slots_at,
 use Rattle.zone_records.specs.declared.slot.Slot.{Slot}
 use Rattle.zone_records.specs.Records.{BlockRecord, kind_of}
 use Rattle.linked_zone.specs.Owned.{Owners, content_of, lent_of, records_from}
-use Rattle.linked_zone.specs.Reading.{map_in, lents_in, addressed, either_flags, live_there, lives_there, live_in, live_of, lives_in, slots_of, all_slots}
+use Rattle.linked_zone.specs.Reading.{map_in, lents_in, either_flags, live_there, lives_there, live_in, live_of, lives_in}
+use Rattle.zone_records.specs.Slots.{addressed, slots_of, all_slots}
 use Rattle.linked_zone.proofs.ReadNumbers.{numbers_of, numbers, entry_of}
 
 -- ---- pointers

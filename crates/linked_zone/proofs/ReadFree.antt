@@ -11,7 +11,7 @@ use Rattle.zone_laws.proofs.Tables.{eqb_same, eqb_swap}
 use Rattle.zone_laws.proofs.SlotPlaces.{Contains-cons_cases, Contains-here, Contains-later, Contains-none}
 use Rattle.zone_records.specs.declared.slot.Slot.{Slot}
 use Rattle.linked_zone.specs.Owned.{next_free}
-use Rattle.linked_zone.specs.Reading.{next_said, next_named, chain}
+use Rattle.zone_records.specs.Slots.{next_said, next_named, chain}
 
 -- equality of numbers is one
 equal_numbers : IsEquivalence eqb
@@ -34,7 +34,7 @@ next-named f (y ∷ ys) x c = elim (eqb y x) as (λ b. eqb y x ≡ b → cond b 
     later test (inr c) = c
 
 -- no later number is the first of numbers that differ
-others_apart : (x : ℕ) (xs : List ℕ) (y : ℕ) → AllByRecursion (λ z. nat_eq x z ≡ false) xs → Contains xs y → eqb x y ≡ false
+pub others_apart : (x : ℕ) (xs : List ℕ) (y : ℕ) → AllByRecursion (λ z. nat_eq x z ≡ false) xs → Contains xs y → eqb x y ≡ false
 others_apart x [] y all c = absurd (Contains-none y c)
 others_apart x (z ∷ zs) y all c = elim (Contains-cons_cases z zs y c) [
   | inl is ↦ ap (λ n. eqb x n) (sym is) ∙ all.0

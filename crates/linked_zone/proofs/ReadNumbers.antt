@@ -117,7 +117,7 @@ entry_of x None = []
 entry_of x (Some l) = (x, l) ∷ []
 
 -- no key is found that all keys are above
-find-below : (x : ℕ) (es : List (ℕ × Live)) → below_all nat_cmp x es ≡ true → find nat_cmp x es ≡ None
+pub find-below : (x : ℕ) (es : List (ℕ × Live)) → below_all nat_cmp x es ≡ true → find nat_cmp x es ≡ None
 find-below x [] h = refl
 find-below x (e ∷ es) h =
     let parts = and_parts (is_lt (nat_cmp x e.0)) (below_all nat_cmp x es) h in
@@ -126,11 +126,11 @@ find-below x (e ∷ es) h =
     ap (λ b. cond b (Some e.1) (find nat_cmp x es)) apart ∙ find-below x es parts.1
 
 -- the first key is found
-find-first : (x : ℕ) (e : ℕ × Live) (es : List (ℕ × Live)) → x ≡ e.0 → find nat_cmp x (e ∷ es) ≡ Some e.1
+pub find-first : (x : ℕ) (e : ℕ × Live) (es : List (ℕ × Live)) → x ≡ e.0 → find nat_cmp x (e ∷ es) ≡ Some e.1
 find-first x e es is = let here : eq_by_cmp nat_cmp x e.0 ≡ true = grind (arith, nat_tests) in ap (λ b. cond b (Some e.1) (find nat_cmp x es)) here
 
 -- any other is one of the rest
-find-later : (x : ℕ) (e : ℕ × Live) (es : List (ℕ × Live)) → x ≢ e.0 → find nat_cmp x (e ∷ es) ≡ find nat_cmp x es
+pub find-later : (x : ℕ) (e : ℕ × Live) (es : List (ℕ × Live)) → x ≢ e.0 → find nat_cmp x (e ∷ es) ≡ find nat_cmp x es
 find-later x e es other = let apart : eq_by_cmp nat_cmp x e.0 ≡ false = grind (arith, nat_tests) in ap (λ b. cond b (Some e.1) (find nat_cmp x es)) apart
 
 -- a lower number is below all keys too

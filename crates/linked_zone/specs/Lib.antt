@@ -11,3 +11,6 @@ pub mod Image
 pub mod Loans
 pub mod Copying
 pub mod Structure
+pub mod Parts
+pub mod Faults
+pub mod Adopting

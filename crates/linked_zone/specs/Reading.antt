@@ -1,5 +1,5 @@
 -- How the handle table, the zone map and the free slots are read off the blocks.
-use Rattle.std.specs.Prelude.{◌≡◌, ℕ, zero, suc, ◌+◌, ◌%◌, ◌≤◌, ◌==◌, ◌||◌, if◌then◌else◌, List, [], ◌∷◌, ◌++◌, length, flat_map}
+use Rattle.std.specs.Prelude.{◌≡◌, ℕ, ◌+◌, ◌%◌, ◌≤◌, ◌==◌, ◌||◌, if◌then◌else◌, List, [], ◌∷◌, ◌++◌, length, flat_map}
 use Rattle.mac_base.specs.declared.block.Flags.{Flags}
 use Rattle.mac_base.specs.HeadKind.{Shape, head_size, zone_header, address_end}
 use Rattle.mac_base.specs.Loans.{owner_of}
@@ -9,6 +9,7 @@ use Rattle.mac_base.specs.ZoneState.{ZoneState}
 use Rattle.zone_records.specs.declared.slot.Slot.{Slot}
 use Rattle.zone_records.specs.declared.slot.Slot.TheVariants as slot
 use Rattle.zone_records.specs.Records.{Content, BlockRecord, ZoneRecords, Free, Fixed, Master, Relocatable, address_behind, kind_of}
+use Rattle.zone_records.specs.Slots.{addressed, all_slots, chain}
 use Rattle.linked_zone.specs.declared.zone.LinkedZone.TheInside.{Inside}
 use Rattle.linked_zone.specs.Owned.{records_of}
 use Rattle.linked_zone.specs.Fit.{Fits, HasSizes, HasRooms}
@@ -17,11 +18,6 @@ use Rattle.linked_zone.specs.Fit.{Fits, HasSizes, HasRooms}
 abbrev pub map_in : Shape → ℕ → List BlockRecord → ZoneMap
 map_in s at [] = []
 map_in s at (b ∷ bs) = block (kind_of (at + head_size s.heads) b.content) b.size ∷ map_in s (at + b.size) bs
-
--- slots with their addresses, the first at an address
-abbrev pub addressed : ℕ → List Slot → List (ℕ × Slot)
-addressed at [] = []
-addressed at (x ∷ xs) = (at, x) ∷ addressed (at + 4) xs
 
 -- the flags that are in one of two places
 abbrev pub either_flags : Flags → Flags → Flags
@@ -61,34 +57,6 @@ lives_in s all at (b ∷ bs) = live_of all (at + head_size s.heads) b.content ++
 abbrev pub lents_in : Shape → ℕ → List BlockRecord → List ℕ
 lents_in s at [] = []
 lents_in s at (b ∷ bs) = (if b.lent then owner_of (kind_of (at + head_size s.heads) b.content) else []) ++ lents_in s (at + b.size) bs
-
--- the slots of a block whose contents begin at an address
-abbrev pub slots_of : ℕ → Content → List (ℕ × Slot)
-slots_of at Free = []
-slots_of at (Fixed bytes) = []
-slots_of at (Master slots) = addressed at slots
-slots_of at (Relocatable h flags bytes) = []
-
--- all slots, where the first block stands at an address
-abbrev pub all_slots : Shape → ℕ → List BlockRecord → List (ℕ × Slot)
-all_slots s at [] = []
-all_slots s at (b ∷ bs) = slots_of (at + head_size s.heads) b.content ++ all_slots s (at + b.size) bs
-
--- the free slot that a slot names next, and 0 where it names none
-abbrev pub next_said : Slot → ℕ
-next_said (slot.Free next) = next
-next_said slot.Empty = 0
-next_said (slot.Full flags contents) = 0
-
--- what the slot at an address names, and 0 where there is none such
-abbrev pub next_named : ℕ → List (ℕ × Slot) → ℕ
-next_named x [] = 0
-next_named x ((y, s) ∷ others) = if y == x then next_said s else next_named x others
-
--- the free slots from x on, each named by the one before, to 0 or to n of them
-abbrev pub chain : ℕ → List (ℕ × Slot) → ℕ → List ℕ
-chain zero all x = []
-chain (suc n) all x = if x == 0 then [] else x ∷ chain n all (next_named x all)
 
 -- the zone that blocks stand for
 abbrev pub state_in : ZoneRecords → ZoneState

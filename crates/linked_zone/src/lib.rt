@@ -1,8 +1,10 @@
 //! A zone in which handles, pointers and blocks find each other, and free slots follow one another.
 #![tactic(auto)]
 
+mod adopting;
 mod changes;
 mod copying;
+mod finding;
 mod flags;
 mod loans;
 mod relocating;
@@ -11,4 +13,4 @@ mod structure;
 mod zone;
 
 pub use zone::LinkedZone;
-pub use zone_records::Agreement;
+pub use zone_records::{Agreement, NotAdopted, Part, WhyNot};

@@ -5,10 +5,12 @@ use crate::zone::LinkedZone;
 use mac_base::block::Flags;
 use mac_base::handle::Handle;
 use raw_region::Region;
-use zone_records::Agreement;
+use zone_records::{Agreement, Part};
 
 impl LinkedZone {
     ghost use Rattle.std.specs.Prelude.{◌≡◌, [], length, IfSome, IfNone};
+    ghost use Rattle.linked_zone.specs.Faults.{IsFirstFault};
+    ghost use Rattle.linked_zone.specs.Parts.{ContentsStay, OthersStay};
     ghost use Rattle.linked_zone.specs.Structure.{Agrees, FirstChanged, HasStructure, IsIn, NoneChanged, SameFlags, shown};
 
     /// How bytes agree with the zone.
@@ -41,12 +43,26 @@ impl LinkedZone {
         self.records.exchange(region)
     }
 
-    /// Writes the zone's structure, its headers and master pointers, among as many other bytes as its limit.
+    /// Writes the zone's structure, its headers and master pointers, among as many other bytes as its limit. No other of
+    /// these changes, so the contents of handles and pointers stay.
     pub fn write_structure(&self, bytes: &mut [u8])
         requires whole { length bytes.old ≡ self.now.shape.limit }
         ensures same { HasStructure self.now bytes.new }
         ensures flags { SameFlags self.now bytes.new }
+        ensures others { OthersStay self.now bytes.old bytes.new }
+        ensures contents { ContentsStay self.now bytes.old bytes.new }
     {
         self.records.write_structure(bytes);
+    }
+
+    /// The first of as many bytes as the zone's limit that isn't as its structure calls for, and the part of the structure
+    /// that it is in. None where they have the structure.
+    pub fn first_fault(&self, bytes: &[u8]) -> Option<(u32, Part)>
+        requires nothing_lent { self.now.heap.table.lent ≡ [] }
+        requires whole { length bytes.now ≡ self.now.shape.limit }
+        ensures fault { IfSome result (λ found. IsFirstFault self.now bytes.now found.0 found.1) }
+        ensures none { IfNone result (HasStructure self.now bytes.now) }
+    {
+        self.records.first_fault(bytes)
     }
 }

@@ -19,6 +19,7 @@ pub mod Known
 pub mod LeafWalk
 pub mod Locks
 pub mod Lowest
+pub mod Marked
 pub mod MarksKept
 pub mod MarksReplaced
 pub mod Measured

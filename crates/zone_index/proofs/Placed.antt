@@ -1,17 +1,12 @@
--- The places of blocks, and the marks of a new zone.
-use Rattle.std.proofs.Common.{◌≡◌, ℕ, ◌+◌, ◌/◌, ◌≤◌, ◌∷◌, replicate, ap, sym, ◌∙◌, subst, inl, inr, arith}
-use Rattle.std.proofs.lemmas.Bool.{false≢true}
-use Rattle.std.proofs.lemmas.List.{length-replicate}
+-- The places of blocks.
+use Rattle.std.proofs.Common.{◌≡◌, ℕ, ◌+◌, ◌/◌, ◌≤◌, ◌∷◌, ap, sym, ◌∙◌, subst, arith}
 use Rattle.mac_base.specs.ZoneMap.{total_size}
-use Rattle.mac_base.specs.ZoneSizes.{ArePossible, ZoneSizes}
-use Rattle.mac_base.specs.ZoneState.{Memory, ZoneState}
-use Rattle.linked_zone.specs.Changes.{bare_zone}
+use Rattle.mac_base.specs.ZoneSizes.{ArePossible}
+use Rattle.mac_base.specs.ZoneState.{ZoneState}
 use Rattle.linked_zone.specs.Fit.{HasSizes}
 use Rattle.linked_zone.specs.Places.{EntryAt, SplitAt}
 use Rattle.linked_zone.specs.Sizes.{sizes_of}
-use Rattle.zone_index.specs.Marks.{AreMarked, place}
-use Rattle.zone_index.proofs.Passing.{of-passing}
-use Rattle.zone_index.proofs.Rules.{Rule}
+use Rattle.zone_index.specs.Marks.{place}
 use Rattle.zone_laws.proofs.Maps.{total_size-append}
 
 -- an address between blocks is none behind the zone's limit
@@ -37,13 +32,3 @@ pub record Placed (z : ZoneState) (at p : ℕ) : Type 0 where
 
 pub placed : (i z : ZoneState) → i ≡ z → (at p : ℕ) → p ≡ place z.shape at → p ≤ z.shape.limit / 4 → HasSizes z → Placed i at p
 placed i z is at p value inside sizes = subst (λ (z : ZoneState). Placed z at p) (sym is) (record { value = value; inside = subst (λ p. p ≤ z.shape.limit / 4) value inside; sizes = sizes })
-
--- no block of a new zone passes
-pub bare-marked : (r : Rule) (memory : Memory) (sizes : ZoneSizes) (n : ℕ) → n ≡ sizes.limit / 4 + 1 → AreMarked r.test (bare_zone memory sizes) (replicate n 0)
-bare-marked r memory sizes n is = record {
-  places = length-replicate n 0 ∙ is;
-  marked = λ at f. elim (of-passing r.test (bare_zone memory sizes) at f).2 [
-    | inl here ↦ absurd (false≢true (sym (r.free _) ∙ here.1))
-    | inr later ↦ absurd later.2
-  ];
-}

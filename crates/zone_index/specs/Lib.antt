@@ -12,4 +12,5 @@ pub mod Walk
 pub mod Disorder
 pub mod Lengths
 pub mod WritingBack
+pub mod Index
 pub mod Zone

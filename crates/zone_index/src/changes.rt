@@ -2,7 +2,7 @@
 //! of their leaves are stale, forgets those of their pages, and notes how many bytes a handle has then.
 
 use crate::leaves::pass;
-use crate::marking::{carry, sink, write};
+use crate::marking::{carry, sink};
 use crate::purging::may_purge;
 use crate::zone::IndexedZone;
 use mac_base::block::Flags;
@@ -170,7 +170,7 @@ impl IndexedZone {
         let leaf = self.leaf(at);
         self.pages.forget(page, page);
         self.rooms.touch(leaf);
-        self.marks.set(place, 1);
+        self.marks.set(place, true);
         let pointer = self.zone.fix(at, length);
         let _spec = self.zone.spec();
         self.lengths.note(pointer.number(), length);
@@ -189,7 +189,7 @@ impl IndexedZone {
         let leaf = self.leaf(at);
         self.pages.forget(page, page);
         self.rooms.touch(leaf);
-        self.marks.set(place, 0);
+        self.marks.set(place, false);
         self.zone.unfix(pointer);
         self.lengths.note(pointer.number(), 0);
     }
@@ -206,8 +206,8 @@ impl IndexedZone {
         let leaf = self.leaf(at);
         self.pages.forget(page, page);
         self.rooms.touch(leaf);
-        write(&mut self.marks, place, 0);
-        write(&mut self.purgeable, place, 0);
+        self.marks.set(place, false);
+        self.purgeable.set(place, false);
         self.zone.empty(handle);
         self.lengths.note(handle.number(), 0);
     }
@@ -222,7 +222,7 @@ impl IndexedZone {
         let leaf = self.leaf(at);
         self.pages.forget(page, page);
         self.rooms.touch(leaf);
-        self.marks.set(place, 1);
+        self.marks.set(place, true);
         self.zone.build_master(at);
     }
 
@@ -237,8 +237,8 @@ impl IndexedZone {
         let leaf = self.leaf(at);
         self.pages.forget(page, page);
         self.rooms.touch(leaf);
-        write(&mut self.marks, place, u8::from(flags.lock));
-        write(&mut self.purgeable, place, u8::from(may_purge(flags)));
+        self.marks.set(place, flags.lock);
+        self.purgeable.set(place, may_purge(flags));
         self.zone.set_flags(handle, flags);
     }
 
@@ -263,8 +263,8 @@ impl IndexedZone {
         self.rooms.touch(from_leaf);
         self.rooms.touch(to_leaf);
         let mark = self.purgeable.get(old);
-        write(&mut self.purgeable, old, 0);
-        write(&mut self.purgeable, new, mark);
+        self.purgeable.set(old, false);
+        self.purgeable.set(new, mark);
         self.zone.relocate(handle, at, length);
         self.lengths.note(handle.number(), length);
     }

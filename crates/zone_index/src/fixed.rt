@@ -11,10 +11,10 @@ ghost use Rattle.zone_index.specs.Search.{LastFixed, NoneBelow};
 use crate::search::{Fixed, next_passing, passes_at};
 use linked_zone::LinkedZone;
 use mac_base::size::ZONE_HEADER;
-use place_numbers::Marks;
+use place_numbers::Bits;
 
 /// The address of the last fixed block below an address, if there is one.
-fn last_fixed(zone: &LinkedZone, marks: &Marks, end: u32) -> Option<u32>
+fn last_fixed(zone: &LinkedZone, marks: &Bits, end: u32) -> Option<u32>
     requires split { SplitAt zone.now end }
     requires marked { AreMarked is_fixed zone.now marks.now }
     ensures last { IfSome result (λ at. LastFixed zone.now end at) }
@@ -22,7 +22,7 @@ fn last_fixed(zone: &LinkedZone, marks: &Marks, end: u32) -> Option<u32>
 {
     let base = zone.spec().base();
     let mut place = (end - base) as usize / 4;
-    while let Some(found) = marks.last_at_least(1, place) {
+    while let Some(found) = marks.last_before(place) {
         let at = base + 4 * found as u32;
         if passes_at::<Fixed>(zone, at) {
             return Some(at);
@@ -33,7 +33,7 @@ fn last_fixed(zone: &LinkedZone, marks: &Marks, end: u32) -> Option<u32>
 }
 
 /// The address behind the gap that has the blocks from an address on.
-pub(crate) fn gap_end(zone: &LinkedZone, marks: &Marks, start: u32) -> u32
+pub(crate) fn gap_end(zone: &LinkedZone, marks: &Bits, start: u32) -> u32
     requires rest { RestAt zone.now start }
     requires marked { AreMarked is_fixed zone.now marks.now }
     ensures { (rest : RestAt zone.now start) → result ≡ start + total_size rest.blocks }
@@ -46,7 +46,7 @@ pub(crate) fn gap_end(zone: &LinkedZone, marks: &Marks, start: u32) -> u32
 }
 
 /// The address at which the gap begins that has the blocks before an address.
-pub(crate) fn gap_start(zone: &LinkedZone, marks: &Marks, end: u32) -> u32
+pub(crate) fn gap_start(zone: &LinkedZone, marks: &Bits, end: u32) -> u32
     requires front { FrontAt zone.now end }
     requires marked { AreMarked is_fixed zone.now marks.now }
     ensures { (front : FrontAt zone.now end) → result + total_size front.blocks ≡ end }

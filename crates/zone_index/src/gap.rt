@@ -13,7 +13,7 @@ use crate::leaves::{freshen, most_room, reached};
 use crate::zone::IndexedZone;
 use block_sums::Span;
 use linked_zone::LinkedZone;
-use place_numbers::Marks;
+use place_numbers::Bits;
 use sum_tree::StaleTree;
 
 impl IndexedZone {
@@ -45,7 +45,7 @@ impl IndexedZone {
 /// The first free block of the lowest gap with room, found by sums.
 fn lowest_by_sums(
     zone: &LinkedZone,
-    marks: &Marks,
+    marks: &Bits,
     rooms: &StaleTree<Span>,
     needed: u32,
 ) -> Option<u32>
@@ -62,7 +62,7 @@ fn lowest_by_sums(
 /// Whether the gap that begins at an address has `needed` free bytes, by the sums or else by its blocks.
 fn has_room(
     zone: &LinkedZone,
-    marks: &Marks,
+    marks: &Bits,
     rooms: &StaleTree<Span>,
     start: u32,
     needed: u32,

@@ -2,11 +2,13 @@
 //! moved down, what room it has, and how many bytes a handle has, without going through its blocks.
 #![tactic(auto)]
 
+mod adopting;
 mod changes;
 mod disorder;
 mod exchange;
 mod fixed;
 mod gap;
+mod index;
 mod leaves;
 mod lengths;
 mod marking;

@@ -1,33 +1,59 @@
 //! Changes of marks.
 
-ghost use Rattle.std.specs.Prelude.{◌≡◌, ℕ, ◌+◌, ◌≤◌, ◌<◌, length, set, slice_index, IsFalse};
+ghost use Rattle.std.specs.Prelude.{◌≡◌, ℕ, ◌+◌, ◌/◌, ◌≤◌, ◌<◌, length, set, slice_index, IsFalse};
+ghost use Rattle.mac_base.specs.BlockReport.{block_flags};
+ghost use Rattle.mac_base.specs.Gap.{is_fixed};
+ghost use Rattle.mac_base.specs.HandleTable.{HandleTable};
+ghost use Rattle.place_numbers.specs.Bits.{mark_of};
+ghost use Rattle.zone_index.specs.Marks.{AreMarked};
+ghost use Rattle.zone_index.specs.Purging.{may_go};
 ghost use Rattle.zone_index.specs.Turning.{IsCarried, IsSunk};
 
-use place_numbers::Marks;
+use crate::search::{BlockTest, Fixed, Going};
+use linked_zone::LinkedZone;
+use mac_base::block::Block;
+use mac_base::size::ZONE_HEADER;
+use place_numbers::Bits;
 
-/// Writes the mark at a place, where another stands there.
-pub(crate) fn write(marks: &mut Marks, place: usize, mark: u8)
+/// Marks a place where the block there passes a test.
+fn mark<T: BlockTest>(marks: &mut Bits, place: usize, block: &Block)
     requires { place < length marks.old }
-    ensures { marks.new ≡ set marks.old place mark }
+    ensures { (t : HandleTable) → block.now.flags ≡ block_flags t block.now.entry.kind
+        → marks.new ≡ set marks.old place (mark_of (T.test t block.now.entry.kind)) }
 {
-    if marks.get(place) != mark {
-        marks.set(place, mark);
+    marks.set(place, T::passes(*block));
+}
+
+/// Marks each fixed block of a zone, and each that may be purged. Each header is read once.
+pub(crate) fn mark_blocks(zone: &LinkedZone, marks: &mut Bits, purgeable: &mut Bits)
+    requires fixed { length marks.old ≡ zone.now.shape.limit / 4 + 1 }
+    requires purgeable { length purgeable.old ≡ zone.now.shape.limit / 4 + 1 }
+    ensures fixed { AreMarked is_fixed zone.now marks.new }
+    ensures purgeable { AreMarked may_go zone.now purgeable.new }
+{
+    let base = zone.spec().base();
+    let mut at = base + ZONE_HEADER;
+    while let Some(block) = zone.entry(at) {
+        let place = (at - base) as usize / 4;
+        mark::<Fixed>(marks, place, &block);
+        mark::<Going>(purgeable, place, &block);
+        at += block.entry.size;
     }
 }
 
 /// Whether a mark stands from one place on up to another.
-fn any_marked(marks: &Marks, first: usize, end: usize) -> bool
+fn any_marked(marks: &Bits, first: usize, end: usize) -> bool
     requires { end ≤ length marks.now }
     ensures { IsFalse result → (j : ℕ) → first ≤ j → j < end → slice_index marks.now j ≡ 0 }
 {
-    match marks.first_at_least(1, first) {
+    match marks.first_from(first) {
         Some(at) => at < end,
         None => false,
     }
 }
 
 /// The mark at a place goes behind those of `count` places that lie `step` places further on, which move down.
-pub(crate) fn carry(marks: &mut Marks, first: usize, step: usize, count: usize)
+pub(crate) fn carry(marks: &mut Bits, first: usize, step: usize, count: usize)
     requires some { 0 < step }
     requires inside { first + step + count ≤ length marks.old }
     ensures { IsCarried marks.old marks.new first step count }
@@ -35,13 +61,13 @@ pub(crate) fn carry(marks: &mut Marks, first: usize, step: usize, count: usize)
     let _len = marks.len();
     if any_marked(marks, first, first + step + count) {
         let mark = marks.get(first);
-        marks.shift_down(first + step, first, count, false);
+        marks.shift_down(first + step, first, count);
         marks.set(first + count, mark);
     }
 }
 
 /// The mark behind `count` places goes before theirs, which move up by `step` places.
-pub(crate) fn sink(marks: &mut Marks, first: usize, step: usize, count: usize)
+pub(crate) fn sink(marks: &mut Bits, first: usize, step: usize, count: usize)
     requires some { 0 < step }
     requires inside { first + step + count ≤ length marks.old }
     ensures { IsSunk marks.old marks.new first step count }
@@ -49,7 +75,7 @@ pub(crate) fn sink(marks: &mut Marks, first: usize, step: usize, count: usize)
     let _len = marks.len();
     if any_marked(marks, first, first + step + count) {
         let mark = marks.get(first + count);
-        marks.shift_up(first, first + step, count, false);
+        marks.shift_up(first, first + step, count);
         marks.set(first, mark);
     }
 }

@@ -8,7 +8,7 @@ ghost use Rattle.zone_index.specs.Search.{NextPassing, NonePassing};
 use crate::purging::may_purge;
 use linked_zone::LinkedZone;
 use mac_base::block::{Block, Kind};
-use place_numbers::Marks;
+use place_numbers::Bits;
 
 /// A test of blocks, for which marks are kept.
 pub(crate) trait BlockTest {
@@ -71,7 +71,7 @@ pub(crate) fn passes_at<T: BlockTest>(zone: &LinkedZone, at: u32) -> bool
 
 /// The address of the first block from an address on that passes, if there is one. Besides such blocks at most those are read that
 /// passed once.
-pub(crate) fn next_passing<T: BlockTest>(zone: &LinkedZone, marks: &Marks, from: u32) -> Option<u32>
+pub(crate) fn next_passing<T: BlockTest>(zone: &LinkedZone, marks: &Bits, from: u32) -> Option<u32>
     requires split { SplitAt zone.now from }
     requires marked { AreMarked T.test zone.now marks.now }
     ensures next { IfSome result (λ at. NextPassing T.test zone.now from at) }
@@ -79,7 +79,7 @@ pub(crate) fn next_passing<T: BlockTest>(zone: &LinkedZone, marks: &Marks, from:
 {
     let base = zone.spec().base();
     let mut place = (from - base) as usize / 4;
-    while let Some(found) = marks.first_at_least(1, place) {
+    while let Some(found) = marks.first_from(place) {
         let at = base + 4 * found as u32;
         if passes_at::<T>(zone, at) {
             return Some(at);

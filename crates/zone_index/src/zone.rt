@@ -1,9 +1,10 @@
 //! The zone.
 
 use crate::fixed::{gap_end, gap_start};
+use crate::index::Index;
 use crate::leaves::{LEAF_SIZE, freshen, most_room};
 use crate::lengths::Lengths;
-use crate::pages::{PAGE_SIZE, Pages, page_of, page_sums};
+use crate::pages::{Pages, page_of, page_sums};
 use crate::sums::{Sums, ZoneSums};
 use block_sums::Span;
 use linked_zone::LinkedZone;
@@ -11,20 +12,20 @@ use mac_base::error::HostFull;
 use mac_base::handle::Handle;
 use mac_base::size::ZONE_HEADER;
 use mac_base::zone_spec::ZoneSpec;
-use place_numbers::Marks;
+use place_numbers::Bits;
 use std::alloc::Global;
 use std::marker::Model;
 use sum_tree::StaleTree;
 
 /// A zone with its index. Contracts see its shape, its handle table, its zone map and its free slots in the order in which they are
-/// given. After `create` no call takes memory of the host.
+/// given. After `create` and `adopt` no call takes memory of the host.
 pub struct IndexedZone {
     pub(crate) zone: LinkedZone,
     /// A mark at each fixed block: master blocks, nonrelocatable blocks and those of locked handles. There is room for one at each
     /// four bytes of the zone. One may stand where no fixed block does.
-    pub(crate) marks: Marks,
+    pub(crate) marks: Bits,
     /// The same of the blocks that may be purged.
-    pub(crate) purgeable: Marks,
+    pub(crate) purgeable: Bits,
     /// What gaps have of the free bytes of the blocks that begin in each leaf.
     pub(crate) rooms: StaleTree<Span>,
     /// The sums of the blocks that begin in each page, where they are known.
@@ -88,21 +89,9 @@ impl IndexedZone {
     pub fn create(alloc: Global, spec: ZoneSpec) -> Result<IndexedZone, HostFull>
         ensures { IfOk result (λ zone. zone ≡ bare_zone zone.memory spec) }
     {
-        let places = spec.limit() as usize / 4 + 1;
-        let marks = Marks::create(alloc, places)?;
-        let purgeable = Marks::create(alloc, places)?;
-        let rooms = StaleTree::create(alloc, (spec.limit() / LEAF_SIZE) as usize + 1)?;
-        let pages = Pages::create(alloc, (spec.limit() / PAGE_SIZE) as usize + 1)?;
-        let lengths = Lengths::create(alloc, spec.base(), spec.limit() as usize / 4)?;
+        let index = Index::create(alloc, spec)?;
         let zone = LinkedZone::create(alloc, spec)?;
-        Ok(IndexedZone {
-            zone,
-            marks,
-            purgeable,
-            rooms,
-            pages,
-            lengths,
-        })
+        Ok(index.beside(zone))
     }
 
     /// The zone without its index, to be read.

@@ -1,5 +1,5 @@
 -- Blocks that have what they are for, in a zone that is adopted.
-use Rattle.std.proofs.Common.{◌≡◌, ℕ, zero, suc, ◌+◌, ◌*◌, ◌%◌, ◌^◌, ◌<◌, ◌≤◌, true, List, [], ◌∷◌, ◌++◌, length, take, drop, refl, ap, sym, ◌∙◌, subst, arith, append_assoc, append-nil, length-drop, drop-drop}
+use Rattle.std.proofs.Common.{◌≡◌, ℕ, zero, suc, ◌+◌, ◌*◌, ◌%◌, ◌<◌, ◌≤◌, true, List, [], ◌∷◌, ◌++◌, length, take, drop, refl, ap, sym, ◌∙◌, subst, arith, append_assoc, append-nil, length-drop, drop-drop}
 use Rattle.std.specs.List.{All, list_all}
 use Rattle.std.proofs.Math.Seq.{take-length}
 use Rattle.std.proofs.lemmas.Bool.{and_parts, and_from}
@@ -14,8 +14,7 @@ use Rattle.block_bytes.proofs.Rendered.{total_of-append}
 use Rattle.block_bytes.proofs.Walking.{size_of-pos}
 use Rattle.block_bytes.specs.Adopting as blocks
 use Rattle.block_bytes.specs.declared.header.Role.TheVariants as role
-use Rattle.mac_base.specs.declared.block.Flags.{Flags}
-use Rattle.std.specs.Prelude.{◌==◌, nat_lt}
+use Rattle.std.specs.Prelude.{◌==◌}
 use Rattle.std.proofs.lemmas.Bool.Decides.{nat_tests}
 use Rattle.block_bytes.specs.Finding.{SplitAt}
 use Rattle.block_bytes.specs.Layout.{RawBlock, Layout, BlockAt, UnlentAt, NothingLent, lent_count, size_of, total_of, is_possible, address_behind}

@@ -7,15 +7,16 @@ use Rattle.mac_base.specs.FlagState.{flags_from}
 use Rattle.mac_base.specs.HeadKind.{head_size, zone_header}
 use Rattle.block_bytes.specs.Finding.{HoldsByte, LiesOutside}
 use Rattle.block_bytes.specs.Layout.{RawBlock, Layout, size_of, total_of, address_behind}
-use Rattle.block_bytes.specs.Structure.{AgreeUpTo}
+use Rattle.block_bytes.specs.Structure.{EachMaster, AgreeUpTo}
+use Rattle.block_bytes.proofs.WrittenOwn.{each-join}
 use Rattle.zone_records.specs.declared.slot.Slot.{Slot}
 use Rattle.zone_records.specs.declared.slot.Slot.TheVariants as slot
-use Rattle.zone_records.specs.Masters.{EachMaster, OtherFlags, SameWhere, slot_of}
+use Rattle.zone_records.specs.Masters.{OtherFlags, SameWhere, slot_of}
 use Rattle.zone_records.specs.Reading.{AreSound, records_in}
 use Rattle.zone_records.specs.Structure.{FirstChanged, NoneChanged, said_flags, shown_slot}
 use Rattle.zone_records.proofs.Apart.{total-append}
 use Rattle.zone_records.proofs.Held.{Held, sound-one}
-use Rattle.zone_records.proofs.MasterBlocks.{Done, done-more, each-made, each-map, each-join, next_block}
+use Rattle.zone_records.proofs.MasterBlocks.{Done, done-more, each-made, each-map, next_block}
 use Rattle.zone_records.proofs.Slots.{master-long, slot-at}
 use Rattle.zone_records.proofs.Structures.{flags-where}
 

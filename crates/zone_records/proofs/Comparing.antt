@@ -87,7 +87,7 @@ four-bytes xs at bytes inside =
     bytes-number (part xs at 4) (length-take-le 4 (drop at xs) (omega arith)) (bytes-take 4 (drop at xs) (bytes-drop at xs bytes))
 
 -- the word of a slot that a word says has 32 bits too
-word-below : (heads : HeadKind) (w : ℕ) → w < 0x1_0000_0000 → slot_word heads (slot_in heads w) < 0x1_0000_0000
+pub word-below : (heads : HeadKind) (w : ℕ) → w < 0x1_0000_0000 → slot_word heads (slot_in heads w) < 0x1_0000_0000
 word-below Bits24 w small = let high = (state-range (flags_from (w / 0x100_0000))).1 in grind (arith, nat_tests)
 word-below Bits32 w small = grind (arith, nat_tests)
 

@@ -31,14 +31,14 @@ kind-same heads base at role.Master bytes = refl
 kind-same heads base at (role.Relocatable offset flags) bytes = refl
 
 -- the bytes of contents that a block has by its role
-length-same : (heads : HeadKind) (base : ℕ) (r : Role) (bytes : List ℕ) → has_use base r (length bytes) ≡ true → (r ≡ role.Free → ⊥) → length bytes ≡ length_of (content_in heads base r bytes)
+pub length-same : (heads : HeadKind) (base : ℕ) (r : Role) (bytes : List ℕ) → has_use base r (length bytes) ≡ true → (r ≡ role.Free → ⊥) → length bytes ≡ length_of (content_in heads base r bytes)
 length-same heads base role.Free bytes use_is held = absurd (held refl)
 length-same heads base role.Fixed bytes use_is held = refl
 length-same heads base role.Master bytes use_is held = grind (arith, nat_tests)
 length-same heads base (role.Relocatable offset flags) bytes use_is held = refl
 
 -- a handle's number has 32 bits
-handle-small : (base : ℕ) (r : Role) (n offset : ℕ) (flags : Flags) → has_use base r n ≡ true → r ≡ role.Relocatable offset flags → base + offset < 2 ^ 32
+pub handle-small : (base : ℕ) (r : Role) (n offset : ℕ) (flags : Flags) → has_use base r n ≡ true → r ≡ role.Relocatable offset flags → base + offset < 2 ^ 32
 handle-small base r n offset flags use_is is =
     let here : nat_lt (base + offset) (2 ^ 32) ≡ true = ap (λ r. has_use base r n) (sym is) ∙ use_is in grind (arith, nat_tests)
 

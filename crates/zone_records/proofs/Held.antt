@@ -1,5 +1,5 @@
 -- What is known of the blocks of bytes of a zone while it is changed, and when they are those of the changed one.
-use Rattle.std.proofs.Common.{◌≡◌, ◌+◌, ◌≤◌, true, List, [], ◌∷◌, ◌++◌, length, ap, sym, ◌∙◌, arith}
+use Rattle.std.proofs.Common.{◌≡◌, ◌+◌, ◌≤◌, true, List, [], ◌∷◌, ◌++◌, length, refl, ap, sym, ◌∙◌, arith}
 use Rattle.std.specs.List.{All, list_all}
 use Rattle.std.proofs.lemmas.List.Elements.{All-append, All-cons, All-head, All-nil, All-same, All-tail}
 use Rattle.std.proofs.lemmas.List.Folds.{list_all-append}
@@ -24,6 +24,10 @@ pub record Held (l : Layout) (z : ZoneRecords) : Type 0 where
 -- those of the fields
 pub held-now : {i : Inside} {z : ZoneRecords} → IsSound i → records_in i.blocks ≡ z → Held i.blocks z
 held-now inside shows = record { shows = shows; sound = inside.sound }
+
+-- those of the zone that they are
+pub held-read : (l : Layout) → AreSound l → Held l (records_in l)
+held-read l sound = record { shows = refl; sound = sound }
 
 -- so they are fields
 pub fields : (l : Layout) (z : ZoneRecords) → Held l z → IsSound (record { blocks = l })

@@ -1,10 +1,10 @@
 mod ReadWord
-mod ReadSlots
+pub mod ReadSlots
 mod Meaning
 mod Comparing
 mod SaidSlots
-mod Words
-mod Apart
+pub mod Words
+pub mod Apart
 mod Held
 mod Ranked
 pub mod Looking
@@ -12,13 +12,21 @@ mod FirstFree
 mod Headers
 mod Holding
 mod Slots
-mod MasterBlocks
+pub mod MasterBlocks
 mod ShownBlocks
 mod Structures
 mod Writing
+mod Kept
+mod FaultWords
+mod WrongBytes
+mod FaultFronts
 mod Changed
 mod Blocks
 mod Adopted
+mod ZoneSlots
+pub mod FreeWalk
+mod Linked
+mod RightBlocks
 mod Placing
 mod Freeing
 mod Fitting
@@ -27,7 +35,7 @@ mod Growing
 mod Turning
 mod Carrying
 mod Flagging
-mod Lending
+pub mod Lending
 mod Copied
 pub mod Chaining
 pub mod Extending

@@ -8,14 +8,15 @@ use Rattle.block_bytes.specs.Layout.{RawBlock, Layout, BlockAt, UnlentAt, has_ow
 use Rattle.block_bytes.specs.declared.structure.Compared.{Compared}
 use Rattle.block_bytes.specs.declared.structure.Compared.TheVariants.{Differ, NextMaster, AllAgree}
 use Rattle.block_bytes.specs.Finding.{SplitAt}
-use Rattle.block_bytes.specs.Structure.{HasHeaders, AgreeUpTo, Compares, is_master, none_master, up_to_master}
+use Rattle.block_bytes.specs.Structure.{EachMaster, HasHeaders, AgreeUpTo, Compares, is_master, none_master, up_to_master}
 use Rattle.block_bytes.proofs.Parts.{length-header}
 use Rattle.block_bytes.proofs.Rendered.{length-rendered}
 use Rattle.block_bytes.proofs.Same.{same-block}
 use Rattle.block_bytes.proofs.ReadBlocks.{head_size-positive}
 use Rattle.block_bytes.proofs.Structures.{headers-append, headers-first, headers-rest, headers-up_to}
+use Rattle.block_bytes.proofs.WrittenOwn.{each-join}
 use Rattle.zone_records.specs.declared.structure.Agreement.{Agreement}
-use Rattle.zone_records.specs.Masters.{SlotsAgree, SlotsSame, EachMaster, BlocksAgree, BlocksSame}
+use Rattle.zone_records.specs.Masters.{SlotsAgree, SlotsSame, BlocksAgree, BlocksSame}
 use Rattle.zone_records.specs.Structure.{Means, worse}
 use Rattle.zone_records.specs.Reading.{AreSound, is_sound}
 use Rattle.zone_records.specs.Word.{slots_in, words_of}
@@ -28,11 +29,6 @@ use Rattle.zone_records.proofs.Meaning.{means-both, means-same}
 
 module _ (P : ℕ → List ℕ → Type 0) (heads : HeadKind) where
   -- the same of their master blocks
-  pub each-join : (at : ℕ) (xs ys : List RawBlock) → EachMaster P heads at xs → EachMaster P heads (at + total_of heads xs) ys → EachMaster P heads at (xs ++ ys)
-  each-join at [] ys first rest = subst (λ n. EachMaster P heads n ys) (let e : at + 0 ≡ at = omega arith in e) rest
-  each-join at (x ∷ xs) ys first rest =
-      (first.0, each-join (at + size_of heads x) xs ys first.1 (subst (λ n. EachMaster P heads n ys) (let e : at + (size_of heads x + total_of heads xs) ≡ at + size_of heads x + total_of heads xs = omega arith in e) rest))
-
   pub each-first : (at : ℕ) (xs ys : List RawBlock) → EachMaster P heads at (xs ++ ys) → EachMaster P heads at xs
   each-first at [] ys all = tt
   each-first at (x ∷ xs) ys all = (all.0, each-first (at + size_of heads x) xs ys all.1)

@@ -15,11 +15,11 @@ use Rattle.block_bytes.specs.Head.{head_bytes, most_over}
 use Rattle.block_bytes.specs.Layout as raw
 use Rattle.block_bytes.specs.Layout.{RawBlock, Layout, size_of, header_of, rendered, can_be_told, has_owner, is_possible}
 use Rattle.block_bytes.specs.Structure as raw_structure
-use Rattle.block_bytes.specs.Structure.{shown_block}
+use Rattle.block_bytes.specs.Structure.{EachMaster, shown_block}
 use Rattle.block_bytes.proofs.ReadBlocks.{IsPossible-from}
 use Rattle.block_bytes.proofs.Heads.{length-head_bytes}
 use Rattle.block_bytes.proofs.Structures.{IsLong, shown-long}
-use Rattle.zone_records.specs.Masters.{SlotsAgree, EachMaster}
+use Rattle.zone_records.specs.Masters.{SlotsAgree}
 use Rattle.zone_records.specs.Reading.{content_in, record_in, has_use, is_sound, HasWords}
 use Rattle.zone_records.specs.Records.{Master, BlockRecord, total_of}
 use Rattle.zone_records.specs.Structure.{shown_content, shown_slots, shown_blocks}

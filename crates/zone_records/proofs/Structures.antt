@@ -9,12 +9,12 @@ use Rattle.block_bytes.specs.ZoneHead.{zone_head}
 use Rattle.block_bytes.specs.Layout as raw
 use Rattle.block_bytes.specs.Layout.{RawBlock, Layout, BlockAt, size_of, rendered, is_possible, header_bytes, image_of, zone_bytes, free_total, first_free, has_owner}
 use Rattle.block_bytes.specs.Structure as raw_structure
-use Rattle.block_bytes.specs.Structure.{HasHead, HasHeaders}
+use Rattle.block_bytes.specs.Structure.{EachMaster, HasHead, HasHeaders}
 use Rattle.block_bytes.proofs.Parts.{length-header}
 use Rattle.block_bytes.proofs.Rendered.{length-rendered}
 use Rattle.block_bytes.proofs.Structures.{alike-shown, structure-from, structure-head, structure-headers}
 use Rattle.zone_records.specs.declared.structure.Agreement.{Agreement}
-use Rattle.zone_records.specs.Masters.{SlotsAgree, SlotsSame, EachMaster, BlocksAgree, BlocksSame, SameWhere}
+use Rattle.zone_records.specs.Masters.{SlotsAgree, SlotsSame, BlocksAgree, BlocksSame, SameWhere}
 use Rattle.zone_records.specs.Places.{SlotAt}
 use Rattle.zone_records.specs.Reading.{records_in, is_sound, AreSound, HasWords}
 use Rattle.zone_records.specs.Records.{ZoneRecords, total_of}

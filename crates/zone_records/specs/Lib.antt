@@ -8,5 +8,9 @@ pub mod Image
 pub mod WritingBack
 pub mod Copying
 pub mod Structure
+pub mod Parts
+pub mod Faults
+pub mod Slots
 pub mod Adopting
 pub mod Masters
+pub mod Linking

@@ -1,15 +1,14 @@
 -- Master blocks whose words are compared with other bytes.
-use Rattle.std.specs.Prelude.{◌≡◌, ℕ, ◌+◌, ◌*◌, ◌/◌, ◌<◌, ◌≤◌, List, [], ◌∷◌, slice_index, ⊤}
+use Rattle.std.specs.Prelude.{◌≡◌, ℕ, ◌+◌, ◌*◌, ◌/◌, ◌<◌, ◌≤◌, List, slice_index}
 use Rattle.byteorder.specs.Endian.{big_bytes, big_number}
 use Rattle.mac_base.specs.declared.block.HeadKind.{HeadKind}
 use Rattle.mac_base.specs.declared.block.HeadKind.TheVariants.{Bits24, Bits32}
 use Rattle.mac_base.specs.declared.block.Flags.{Flags}
 use Rattle.mac_base.specs.FlagState.{flags_from}
-use Rattle.mac_base.specs.HeadKind.{head_size, master_length, slot_count}
+use Rattle.mac_base.specs.HeadKind.{slot_count}
 use Rattle.raw_region.specs.Bytes.{part}
-use Rattle.block_bytes.specs.declared.header.Role.TheVariants as role
-use Rattle.block_bytes.specs.Layout.{RawBlock, Layout, size_of}
-use Rattle.block_bytes.specs.Structure.{HasHeaders}
+use Rattle.block_bytes.specs.Layout.{RawBlock, Layout}
+use Rattle.block_bytes.specs.Structure.{EachMaster, HasHeaders}
 use Rattle.zone_records.specs.declared.slot.Slot.{Slot}
 use Rattle.zone_records.specs.declared.slot.Slot.TheVariants as slot
 use Rattle.zone_records.specs.Structure.{shown_slot}
@@ -80,15 +79,6 @@ pub record OtherFlags (l : Layout) (bytes : List ℕ) (at : ℕ) (contents : Lis
   pub other : IsSame l.heads bytes at contents index → ⊥
   pub said : flags ≡ flags_from (slice_index bytes (at + 4 * index))
   pub before : SameWhere (λ x. (from ≤ x) × (x < there)) l bytes at contents
-
--- a master block's contents are in their place among bytes
-abbrev pub AreWritten : List ℕ → ℕ → List ℕ → Type 0
-AreWritten bytes at contents = part bytes at master_length ≡ contents
-
--- something holds of each master block's contents and their offset. The first of the blocks is at an offset
-abbrev pub EachMaster : (ℕ → List ℕ → Type 0) → HeadKind → ℕ → List RawBlock → Type 0
-EachMaster P heads at [] = ⊤
-EachMaster P heads at (b ∷ bs) = (b.role ≡ role.Master → P (at + head_size heads) b.contents) × EachMaster P heads (at + size_of heads b) bs
 
 -- bytes have the headers of these blocks, the first at an offset, and agree with the master blocks among them
 pub record BlocksAgree (l : Layout) (bytes : List ℕ) (at : ℕ) (bs : List RawBlock) : Type 0 where

@@ -1,14 +1,19 @@
-//! A zone made of bytes that others wrote.
+//! A zone made of bytes that others wrote, which are tested before it is one: each block by itself, then the blocks with
+//! the slots, then the free slots.
 
-ghost use Rattle.std.specs.Prelude.{◌≡◌, ◌↔◌, [], length, IfOk, IfErr, IsTrue};
+ghost use Rattle.std.specs.Prelude.{◌≡◌, ◌↔◌, ◌<◌, ◌^◌, [], length, IfOk, IfErr, IsTrue};
 ghost use Rattle.std.specs.List.{All};
 ghost use Rattle.mac_base.specs.HeadKind.{master_length, slot_count};
 ghost use Rattle.block_bytes.specs.Layout.{BlockAt, NothingLent, UnlentAt};
 ghost use Rattle.block_bytes.specs.declared.adopting.WhyNot.TheVariants.{NotZone};
 ghost use Rattle.zone_records.specs.Adopting.{IsUsed, IsZoneIn};
+ghost use Rattle.zone_records.specs.Linking.{IsWhole};
+ghost use Rattle.zone_records.specs.Reading.{AreSound};
 ghost use Rattle.zone_records.specs.Records.{ZoneRecords};
 ghost use Rattle.zone_records.specs.Word.{slot_in, slot_word, slots_in, words_of};
 
+use crate::chained::is_chained;
+use crate::linking::are_right;
 use crate::records::Records;
 use block_bytes::{Blocks, NotAdopted, Role, WhyNot};
 use byteorder::{BigEndian, ByteOrder};
@@ -78,8 +83,29 @@ fn are_used(blocks: &Blocks) -> bool
     true
 }
 
+/// Whether possible blocks have what they are for, they and slots say each other, nothing can be joined or cut, and free
+/// slots follow one another.
+fn is_whole(blocks: &Blocks) -> bool
+    requires unlent { NothingLent blocks.now }
+    requires sound { All (IsUsed blocks.now.heads blocks.now.base) blocks.now.blocks → AreSound blocks.now }
+    ensures whole { IsTrue result ↔ IsWhole blocks.now }
+    ensures front { blocks.now.front < 2 ^ 32 }
+{
+    let _front = blocks.front();
+    if !are_used(blocks) {
+        return false;
+    }
+    if !are_right(blocks) {
+        return false;
+    }
+    is_chained(blocks)
+}
+
 impl Records {
-    /// The zone of these sizes whose bytes a region has, whoever wrote them.
+    /// The zone of these sizes whose bytes a region has, whoever wrote them: possible blocks that have what they are for,
+    /// handles' blocks and slots that say each other, free slots that follow one another, and nothing that could be joined
+    /// or cut. `NotZone` comes where the bytes aren't those of such a zone, and `HostFull` where the host has no memory
+    /// for what is kept beside it. The region then comes back as it was.
     pub fn adopt(alloc: Global, spec: ZoneSpec, region: Region) -> Result<Records, NotAdopted>
         requires whole { region.lent ≡ [] }
         ensures zone { IfOk result (λ zone. IsZoneIn spec region.bytes zone × (zone.memory ≡ region.name)) }
@@ -88,7 +114,7 @@ impl Records {
     {
         let _base = spec.base();
         let blocks = Blocks::adopt(alloc, spec, region)?;
-        if are_used(&blocks) {
+        if is_whole(&blocks) {
             return Ok(Records { blocks });
         }
         let region = blocks.into_region();

@@ -3,6 +3,11 @@
 
 mod adopting;
 mod chain;
+mod chained;
+mod faults;
+mod finding;
+mod linking;
+mod lookup;
 mod masters;
 mod records;
 mod slot;
@@ -11,4 +16,4 @@ mod structure;
 pub use block_bytes::{NotAdopted, WhyNot};
 pub use records::Records;
 pub use slot::Slot;
-pub use structure::Agreement;
+pub use structure::{Agreement, Part};

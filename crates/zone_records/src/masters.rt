@@ -1,13 +1,12 @@
-//! Master blocks compared with other bytes, and written among them.
+//! Master blocks compared with other bytes.
 
 ghost use Rattle.std.specs.Prelude.{◌≡◌, ◌≢◌, ℕ, ◌+◌, ◌-◌, ◌<◌, ◌≤◌, ◌↔◌, length, IfNone, IfSome, IsTrue};
 ghost use Rattle.mac_base.specs.declared.block.HeadKind.TheVariants.{Bits24};
 ghost use Rattle.mac_base.specs.HeadKind.{head_size, master_length, slot_count, zone_header};
-ghost use Rattle.raw_region.specs.Bytes.{part, written};
+ghost use Rattle.raw_region.specs.Bytes.{part};
 ghost use Rattle.block_bytes.specs.declared.header.Role.TheVariants.{Master};
 ghost use Rattle.block_bytes.specs.Layout.{BlockAt, image_of};
-ghost use Rattle.block_bytes.specs.Structure as raw;
-ghost use Rattle.zone_records.specs.Masters.{AreWritten, BlocksAgree, BlocksSame, EachMaster, FirstOther, IsSame, OtherFlags, SameWhere, SameWord, SlotsAgree, SlotsSame, WordAgrees};
+ghost use Rattle.zone_records.specs.Masters.{BlocksAgree, BlocksSame, FirstOther, IsSame, OtherFlags, SameWhere, SameWord, SlotsAgree, SlotsSame, WordAgrees};
 ghost use Rattle.zone_records.specs.Reading.{AreSound, records_in};
 ghost use Rattle.zone_records.specs.Structure.{FirstChanged, HasStructure, NoneChanged, Means};
 ghost use Rattle.zone_records.specs.Word.{slot_in, slot_word, slots_in, words_of};
@@ -33,7 +32,7 @@ fn differ_in_flags(ours: u32, theirs: u32) -> bool
 }
 
 /// How another word agrees with that of a slot.
-fn compare_words(heads: HeadKind, ours: u32, theirs: u32) -> Agreement
+pub(crate) fn compare_words(heads: HeadKind, ours: u32, theirs: u32) -> Agreement
     requires { slot_word heads (slot_in heads ours) ≡ ours }
     ensures { Means result (WordAgrees heads ours theirs) (SameWord heads ours theirs) }
 {
@@ -170,39 +169,4 @@ pub(crate) fn first_changed(blocks: &Blocks, bytes: &[u8], from: u32) -> Option<
         at = master + blocks.entry_at(master).size;
     }
     None
-}
-
-/// Writes other bytes over those at an offset.
-fn write_at(bytes: &mut [u8], start: usize, others: &[u8])
-    requires { start + length others.now ≤ length bytes.old }
-    ensures { bytes.new ≡ written bytes.old start others.now }
-{
-    bytes[start..start + others.len()].copy_from_slice(others);
-}
-
-/// Writes the contents of the master block at an address in their place among bytes.
-fn write_master(blocks: &Blocks, bytes: &mut [u8], at: u32)
-    requires sound { AreSound blocks.now }
-    requires whole { length bytes.old ≡ length (image_of blocks.now) }
-    requires block { BlockAt blocks.now at }
-    requires master { (b : BlockAt blocks.now at) → b.here.role ≡ Master }
-    ensures { (b : BlockAt blocks.now at) → bytes.new ≡ written bytes.old (at - blocks.now.base + head_size blocks.now.heads) b.here.contents }
-{
-    let spec = blocks.spec();
-    let start = (at - spec.base() + spec.heads().head_size()) as usize;
-    write_at(bytes, start, blocks.contents(at));
-}
-
-/// Writes the contents of all master blocks in their places among bytes that have a zone's headers.
-pub(crate) fn write_masters(blocks: &Blocks, bytes: &mut [u8])
-    requires sound { AreSound blocks.now }
-    requires same { raw.HasStructure blocks.now bytes.old }
-    ensures same { raw.HasStructure blocks.now bytes.new }
-    ensures masters { EachMaster (AreWritten bytes.new) blocks.now.heads zone_header blocks.now.blocks }
-{
-    let mut from = blocks.spec().base() + ZONE_HEADER;
-    while let Compared::NextMaster(at) = blocks.compare_from(bytes, from) {
-        write_master(blocks, bytes, at);
-        from = at + blocks.entry_at(at).size;
-    }
 }

@@ -1,6 +1,7 @@
 //! The blocks of a zone.
 
 use crate::chain::write_chain;
+use crate::lookup::{is_slot, slot};
 use crate::slot::Slot;
 use block_bytes::{Blocks, Role};
 use mac_base::block::{Entry, Flags, Kind};
@@ -182,14 +183,7 @@ impl Records {
     pub fn is_slot(&self, at: u32) -> bool
         ensures { IsTrue result ↔ SlotAt self.now at }
     {
-        let Some(start) = self.blocks.holder(at) else {
-            return false;
-        };
-        let first = start + self.head_size();
-        self.blocks.entry_at(start).role == Role::Master
-            && first <= at
-            && at - first < MASTER_LENGTH
-            && (at - first) % 4 == 0
+        is_slot(&self.blocks, at)
     }
 
     /// What the slot at an address says.
@@ -197,7 +191,7 @@ impl Records {
         requires { SlotAt self.now at }
         ensures { (s : SlotAt self.now at) → result ≡ s.here }
     {
-        Slot::read(self.spec().heads(), self.blocks.word(at))
+        slot(&self.blocks, at)
     }
 
     /// Makes the slot at an address say this.

@@ -2,10 +2,13 @@
 //! bytes are exchanged for others with the same structure.
 
 ghost use Rattle.std.specs.Prelude.{◌≡◌, [], length, IfSome, IfNone};
+ghost use Rattle.zone_records.specs.Faults.{IsFirstFault};
+ghost use Rattle.zone_records.specs.Parts.{ContentsStay, OthersStay};
 ghost use Rattle.zone_records.specs.Records.{NothingLent};
 ghost use Rattle.zone_records.specs.Structure.{Agrees, FirstChanged, HasStructure, IsIn, NoneChanged, SameFlags, shown};
 
-use crate::masters::{compare_blocks, first_changed, write_masters};
+use crate::faults::first_fault;
+use crate::masters::{compare_blocks, first_changed};
 use crate::records::Records;
 use mac_base::block::Flags;
 use raw_region::Region;
@@ -19,6 +22,17 @@ pub enum Agreement {
     FlagsChanged,
     /// They have its structure, and say the same flags of each handle.
     Same,
+}
+
+/// A part of a zone's structure.
+#[derive(Clone, Copy, Debug, PartialEq, Eq)]
+pub enum Part {
+    /// The zone's header.
+    ZoneHeader,
+    /// The header of a block.
+    BlockHeader,
+    /// A master pointer.
+    MasterPointer,
 }
 
 impl Agreement {
@@ -73,13 +87,26 @@ impl Records {
         self.blocks.exchange(region)
     }
 
-    /// Writes the zone's structure, its headers and master pointers, among as many other bytes as its limit.
+    /// Writes the zone's structure, its headers and master pointers, among as many other bytes as its limit. No other of
+    /// these changes, so the contents of blocks stay.
     pub fn write_structure(&self, bytes: &mut [u8])
         requires whole { length bytes.old ≡ self.now.shape.limit }
         ensures same { HasStructure self.now bytes.new }
         ensures flags { SameFlags self.now bytes.new }
+        ensures others { OthersStay self.now bytes.old bytes.new }
+        ensures contents { ContentsStay self.now bytes.old bytes.new }
     {
-        self.blocks.write_headers(bytes);
-        write_masters(&self.blocks, bytes);
+        self.blocks.write_own_bytes(bytes);
+    }
+
+    /// The first of as many bytes as the zone's limit that isn't as its structure calls for, and the part of the structure
+    /// that it is in. None where they have the structure.
+    pub fn first_fault(&self, bytes: &[u8]) -> Option<(u32, Part)>
+        requires nothing_lent { NothingLent self.now }
+        requires whole { length bytes.now ≡ self.now.shape.limit }
+        ensures fault { IfSome result (λ found. IsFirstFault self.now bytes.now found.0 found.1) }
+        ensures none { IfNone result (HasStructure self.now bytes.now) }
+    {
+        first_fault(&self.blocks, bytes)
     }
 }

@@ -22,11 +22,11 @@ invariant_of-self c =
     let z = c.self.inside.zone in
     let p = placed z c.args.self.now c.self.view_is c.block_of-at.result c.place-place.result c.place-place.ensures.value c.place-place.ensures.inside c.place-place.ensures.sizes in
     let fits = subst Fits (sym c.self.view_is) c.page-page.ensures.fits in record {
-      fixed = subst (λ (z : ZoneState). AreMarked is_fixed z c.write.new.marks) (sym c.empty.ensures)
-          (subst (AreMarked is_fixed (without_block c.args.handle z)) (sym (c.write.ensures ∙ ap (λ p. set c.self.inside.marks p 0) p.value))
+      fixed = subst (λ (z : ZoneState). AreMarked is_fixed z c.set.new.self) (sym c.empty.ensures)
+          (subst (AreMarked is_fixed (without_block c.args.handle z)) (sym (c.set.ensures ∙ ap (λ p. set c.self.inside.marks p 0) p.value))
           (emptied-marked fixes z c.self.inside.marks c.self.invariant.fixed c.args.handle c.block_of-at.result p.sizes c.block_of-at.ensures p.inside));
-      purgeable = subst (λ (z : ZoneState). AreMarked may_go z c.write-2.new.marks) (sym c.empty.ensures)
-          (subst (AreMarked may_go (without_block c.args.handle z)) (sym (c.write-2.ensures ∙ ap (λ p. set c.self.inside.purgeable p 0) p.value))
+      purgeable = subst (λ (z : ZoneState). AreMarked may_go z c.set-2.new.self) (sym c.empty.ensures)
+          (subst (AreMarked may_go (without_block c.args.handle z)) (sym (c.set-2.ensures ∙ ap (λ p. set c.self.inside.purgeable p 0) p.value))
           (emptied-marked goes z c.self.inside.purgeable c.self.invariant.purgeable c.args.handle c.block_of-at.result p.sizes c.block_of-at.ensures p.inside));
       rooms = subst (λ (z : ZoneState). AreRooms z c.touch.new.self) (sym c.empty.ensures)
           (rooms-emptied c.self.inside.zone c.self.inside.rooms c.touch.new.self c.self.invariant.rooms c.block_of-at.result

@@ -27,11 +27,11 @@ invariant_of-self c =
     let new = placed z c.args.self.now c.self.view_is c.args.at c.place-new.result c.place-new.ensures.value c.place-new.ensures.inside c.place-new.ensures.sizes in
     let marks = c.self.inside.purgeable in
     let mark = c.get-mark.ensures ∙ ap (slice_index marks) old.value in
-    let first = c.write.ensures ∙ ap (λ p. set marks p 0) old.value in
-    let both = c.write-2.ensures ∙ (λ i. set (first i) (new.value i) (mark i)) in
+    let first = c.set.ensures ∙ ap (λ p. set marks p 0) old.value in
+    let both = c.set-2.ensures ∙ (λ i. set (first i) (new.value i) (mark i)) in
     let fits = subst Fits (sym c.self.view_is) c.page-from_page.ensures.fits in record {
       fixed = subst (λ (z : ZoneState). AreMarked is_fixed z c.self.inside.marks) (sym (c.relocate.ensures room)) (relocated-marked z c.self.inside.marks c.self.invariant.fixed c.args.handle c.args.length c.args.at room.free unlocked);
-      purgeable = subst (λ (z : ZoneState). AreMarked may_go z c.write-2.new.marks) (sym (c.relocate.ensures room))
+      purgeable = subst (λ (z : ZoneState). AreMarked may_go z c.set-2.new.self) (sym (c.relocate.ensures room))
           (subst (AreMarked may_go (relocated c.args.handle c.args.length z room.free)) (sym both)
           (moved-marked z marks c.self.invariant.purgeable old.sizes c.args.handle c.args.length c.block_of-from.result c.args.at room.free c.block_of-from.ensures old.inside new.inside));
       rooms = subst (λ (z : ZoneState). AreRooms z c.touch-2.new.self) (sym (c.relocate.ensures room))

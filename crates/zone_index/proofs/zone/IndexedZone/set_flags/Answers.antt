@@ -9,7 +9,7 @@ use Rattle.zone_index.specs.Purging.{may_go}
 use Rattle.zone_index.proofs.Fresh.{flagged-marked}
 use Rattle.zone_index.proofs.Placed.{placed}
 use Rattle.zone_index.proofs.Rules.{fixes, goes}
-use mir.Val.{bool_byte}
+use Rattle.place_numbers.specs.Bits.{mark_of}
 use Rattle.zone_index.specs.Rooms.{AreRooms}
 use Rattle.zone_index.proofs.Changing.{pages-flagged}
 use Rattle.zone_index.proofs.PagesKept.{forgets-read, pages-kept}
@@ -24,13 +24,13 @@ invariant_of-self c =
     let p = placed z c.args.self.now c.self.view_is c.block_of-at.result c.place-place.result c.place-place.ensures.value c.place-place.ensures.inside c.place-place.ensures.sizes in
     let fits = subst (λ (z : ZoneState). Fits z) (sym c.self.view_is) c.place-place.ensures.fits in
     let full = subst (λ (z : ZoneState). is_full z.heap.table c.args.handle ≡ true) (sym c.self.view_is) c.requires in
-    let goes_now = c.from-2.ensures ∙ ap bool_byte c.may_purge.ensures in record {
-      fixed = subst (λ (z : ZoneState). AreMarked is_fixed z c.write.new.marks) (sym c.set_flags.ensures)
-          (subst (AreMarked is_fixed (flagged c.args.handle c.args.flags z)) (sym (c.write.ensures ∙ ap (λ p. set c.self.inside.marks p c.from.result) p.value))
-          (flagged-marked fixes z c.self.inside.marks c.self.invariant.fixed c.args.handle c.block_of-at.result c.args.flags fits p.sizes full c.block_of-at.ensures p.inside c.from.result (λ is. c.from.ensures ∙ ap bool_byte is) (λ is. c.from.ensures ∙ ap bool_byte is)));
-      purgeable = subst (λ (z : ZoneState). AreMarked may_go z c.write-2.new.marks) (sym c.set_flags.ensures)
-          (subst (AreMarked may_go (flagged c.args.handle c.args.flags z)) (sym (c.write-2.ensures ∙ ap (λ p. set c.self.inside.purgeable p c.from-2.result) p.value))
-          (flagged-marked goes z c.self.inside.purgeable c.self.invariant.purgeable c.args.handle c.block_of-at.result c.args.flags fits p.sizes full c.block_of-at.ensures p.inside c.from-2.result (λ is. goes_now ∙ ap bool_byte is) (λ is. goes_now ∙ ap bool_byte is)));
+    let goes_now = ap mark_of c.may_purge.ensures in record {
+      fixed = subst (λ (z : ZoneState). AreMarked is_fixed z c.set.new.self) (sym c.set_flags.ensures)
+          (subst (AreMarked is_fixed (flagged c.args.handle c.args.flags z)) (sym (c.set.ensures ∙ ap (λ p. set c.self.inside.marks p (mark_of c.args.flags.lock)) p.value))
+          (flagged-marked fixes z c.self.inside.marks c.self.invariant.fixed c.args.handle c.block_of-at.result c.args.flags fits p.sizes full c.block_of-at.ensures p.inside (mark_of c.args.flags.lock) (ap mark_of) (ap mark_of)));
+      purgeable = subst (λ (z : ZoneState). AreMarked may_go z c.set-2.new.self) (sym c.set_flags.ensures)
+          (subst (AreMarked may_go (flagged c.args.handle c.args.flags z)) (sym (c.set-2.ensures ∙ ap (λ p. set c.self.inside.purgeable p (mark_of c.may_purge.result)) p.value))
+          (flagged-marked goes z c.self.inside.purgeable c.self.invariant.purgeable c.args.handle c.block_of-at.result c.args.flags fits p.sizes full c.block_of-at.ensures p.inside (mark_of c.may_purge.result) (λ is. goes_now ∙ ap mark_of is) (λ is. goes_now ∙ ap mark_of is)));
       rooms = subst (λ (z : ZoneState). AreRooms z c.touch.new.self) (sym c.set_flags.ensures)
           (rooms-flagged c.self.inside.zone c.self.inside.rooms c.touch.new.self c.self.invariant.rooms c.block_of-at.result
           (touched-first c.self.inside.rooms c.touch.new.self c.block_of-at.result c.self.view_is c.leaf-leaf.ensures.value c.touch.ensures.sums c.touch.ensures.here c.touch.ensures.others) c.args.handle c.args.flags fits c.block_of-at.ensures);

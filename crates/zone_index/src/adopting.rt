@@ -1,0 +1,30 @@
+//! A zone with its index, made of bytes that others wrote.
+
+use crate::index::Index;
+use crate::zone::IndexedZone;
+use linked_zone::{LinkedZone, NotAdopted, WhyNot};
+use mac_base::zone_spec::ZoneSpec;
+use raw_region::Region;
+use std::alloc::Global;
+
+impl IndexedZone {
+    ghost use Rattle.std.specs.Prelude.{◌≡◌, [], IfOk, IfErr};
+    ghost use Rattle.block_bytes.specs.declared.adopting.WhyNot.TheVariants.{NotZone};
+    ghost use Rattle.linked_zone.specs.Adopting.{IsZoneIn};
+    ghost use Rattle.mac_base.specs.ZoneState.{ZoneState};
+
+    /// The zone of these sizes whose bytes a region has, whoever wrote them.
+    pub fn adopt(alloc: Global, spec: ZoneSpec, region: Region) -> Result<IndexedZone, NotAdopted>
+        requires whole { region.lent ≡ [] }
+        ensures zone { IfOk result (λ zone. IsZoneIn spec region.bytes zone × (zone.memory ≡ region.name)) }
+        ensures same { IfErr result (λ no. no.region ≡ region) }
+        ensures none { IfErr result (λ no. no.why ≡ NotZone → (z : ZoneState) → IsZoneIn spec region.bytes z → ⊥) }
+    {
+        let Ok(index) = Index::create(alloc, spec) else {
+            let why = WhyNot::HostFull;
+            return Err(NotAdopted { region, why });
+        };
+        let zone = LinkedZone::adopt(alloc, spec, region)?;
+        Ok(index.beside(zone))
+    }
+}

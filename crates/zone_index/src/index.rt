@@ -1,0 +1,73 @@
+//! The parts of an index, before and when they are put beside a zone.
+
+ghost use Rattle.zone_index.specs.Index.{IsBlank};
+
+use crate::leaves::LEAF_SIZE;
+use crate::lengths::Lengths;
+use crate::marking::mark_blocks;
+use crate::pages::{PAGE_SIZE, Pages};
+use crate::zone::IndexedZone;
+use block_sums::Span;
+use linked_zone::LinkedZone;
+use mac_base::error::HostFull;
+use mac_base::zone_spec::ZoneSpec;
+use place_numbers::Bits;
+use std::alloc::Global;
+use sum_tree::StaleTree;
+
+/// What is kept beside a zone. Its parts are those of `IndexedZone`.
+#[derive(Drop)]
+pub(crate) struct Index {
+    marks: Bits,
+    purgeable: Bits,
+    rooms: StaleTree<Span>,
+    pages: Pages,
+    lengths: Lengths,
+}
+
+impl Index {
+    ghost use Rattle.std.specs.Prelude.{◌≡◌, IfOk};
+
+    /// An index for a zone of these sizes, of which nothing is known. The only error is that the host has no memory.
+    pub(crate) fn create(alloc: Global, spec: ZoneSpec) -> Result<Index, HostFull>
+        ensures { IfOk result (IsBlank spec.limit) }
+    {
+        let places = spec.limit() as usize / 4 + 1;
+        let marks = Bits::create(alloc, places)?;
+        let purgeable = Bits::create(alloc, places)?;
+        let rooms = StaleTree::create(alloc, (spec.limit() / LEAF_SIZE) as usize + 1)?;
+        let pages = Pages::create(alloc, (spec.limit() / PAGE_SIZE) as usize + 1)?;
+        let lengths = Lengths::create(alloc, spec.base(), spec.limit() as usize / 4)?;
+        Ok(Index {
+            marks,
+            purgeable,
+            rooms,
+            pages,
+            lengths,
+        })
+    }
+
+    /// The zone with this index, which knew nothing of it: its blocks are marked, and the rest is found where it is asked
+    /// for.
+    pub(crate) fn beside(self, zone: LinkedZone) -> IndexedZone
+        requires { IsBlank zone.shape.limit self }
+        ensures { result ≡ zone }
+    {
+        let Index {
+            mut marks,
+            mut purgeable,
+            rooms,
+            pages,
+            lengths,
+        } = self;
+        mark_blocks(&zone, &mut marks, &mut purgeable);
+        IndexedZone {
+            zone,
+            marks,
+            purgeable,
+            rooms,
+            pages,
+            lengths,
+        }
+    }
+}
