@@ -1,11 +1,14 @@
 //! One attempt to serve a request, whatever it asks for.
 
+use crate::place::{new_block, new_empty, new_master, new_pointer, reserve};
+use crate::replace::replace;
 use crate::shortage::Shortage;
+use crate::size::resize_block;
 use crate::zone::Zone;
 use mac_base::request::Request;
+use zone_index::IndexedZone;
 
 impl Zone {
-    ghost use Rattle.std.specs.Prelude.{◌≡◌};
     ghost use Rattle.mac_base.specs.Sound.{Sound};
     ghost use Rattle.linked_zone.specs.Loans.{KeepsLoans};
     ghost use Rattle.zone_heap.specs.Attempts.{Attempts, CanAsk};
@@ -19,25 +22,37 @@ impl Zone {
         ensures attempt { Attempts request self.old result self.new }
         ensures loans { KeepsLoans self.old self.new }
     {
-        // What it holds is sound.
-        let _ = &self.pointers;
-        match request {
-            Request::NewBlock(length) => Ok(self.new_block(length)?.number()),
-            Request::NewEmpty => Ok(self.new_empty()?.number()),
-            Request::NewPointer(length) => Ok(self.new_pointer(length)?.number()),
-            Request::NewMaster => self.new_master(),
-            Request::Reserve(length) => {
-                self.reserve(length)?;
-                Ok(0)
-            }
-            Request::Resize(block, length) => {
-                self.resize_block(block, length)?;
-                Ok(block)
-            }
-            Request::Replace(handle, length) => {
-                self.replace(handle, length)?;
-                Ok(handle.number())
-            }
+        attempt(&mut self.pointers, request)
+    }
+}
+
+ghost use Rattle.linked_zone.specs.Loans.{KeepsLoans};
+ghost use Rattle.zone_heap.specs.Attempts.{Attempts, CanAsk, SoundZone};
+
+/// Makes one attempt to serve a request.
+fn attempt(zone: &mut IndexedZone, request: Request) -> Result<u32, Shortage>
+    requires ready { CanAsk zone.old request }
+    requires sound { SoundZone zone.old }
+    ensures attempt { Attempts request zone.old result zone.new }
+    ensures loans { KeepsLoans zone.old zone.new }
+    ensures sound { SoundZone zone.new }
+{
+    match request {
+        Request::NewBlock(length) => Ok(new_block(zone, length)?.number()),
+        Request::NewEmpty => Ok(new_empty(zone)?.number()),
+        Request::NewPointer(length) => Ok(new_pointer(zone, length)?.number()),
+        Request::NewMaster => new_master(zone),
+        Request::Reserve(length) => {
+            reserve(zone, length)?;
+            Ok(0)
+        }
+        Request::Resize(block, length) => {
+            resize_block(zone, block, length)?;
+            Ok(block)
+        }
+        Request::Replace(handle, length) => {
+            replace(zone, handle, length)?;
+            Ok(handle.number())
         }
     }
 }

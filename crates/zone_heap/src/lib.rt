@@ -1,6 +1,7 @@
 //! A heap zone: one attempt to place, size, flag, release or show a block.
 #![tactic(auto)]
 
+mod adopting;
 mod attempt;
 mod compact;
 mod copying;

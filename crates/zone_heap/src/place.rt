@@ -1,72 +1,17 @@
 //! New blocks, each where its definition places it.
 
 ghost use Rattle.std.specs.Prelude.{◌≤◌, MatchResult, ◌<◌, MatchOption};
-ghost use Rattle.mac_base.specs.Sound.{Sound};
 ghost use Rattle.mac_base.specs.declared.request.Request.TheVariants.{NewBlock, NewEmpty, NewPointer, NewMaster, Reserve};
 ghost use Rattle.linked_zone.specs.Loans.{KeepsLoans};
 ghost use Rattle.zone_heap.specs.Attempts.{Attempts, IsServed, IsRefused, SoundZone, most_asked};
 ghost use Rattle.zone_heap.specs.Room.{IsCleared, IsOpened, LacksRoom};
 
 use crate::shortage::Shortage;
-use crate::zone::{Zone, cut};
+use crate::zone::cut;
 use mac_base::handle::{Handle, Ptr};
 use mac_base::size::{MASTER_LENGTH, need_for};
 use zone_gaps::{squeeze_down, squeeze_up};
 use zone_index::IndexedZone;
-
-impl Zone {
-    /// Allocates a relocatable block of `length` bytes, all of them zero, and gives a handle to it. The block takes the
-    /// lowest free block that is large enough, or else the lowest gap with room, whose blocks are moved down to create it.
-    pub fn new_block(&mut self, length: u32) -> Result<Handle, Shortage>
-        requires size { length ≤ most_asked }
-        ensures sound { Sound self.old.shape self.old.heap }
-        ensures attempt { Attempts (NewBlock length) self.old result self.new }
-        ensures loans { KeepsLoans self.old self.new }
-    {
-        new_block(&mut self.pointers, length)
-    }
-
-    /// Allocates a master pointer, and gives it as an empty handle. There is none only where no master pointer is free.
-    pub fn new_empty(&mut self) -> Result<Handle, Shortage>
-        ensures sound { Sound self.old.shape self.old.heap }
-        ensures attempt { Attempts NewEmpty self.old result self.new }
-        ensures loans { KeepsLoans self.old self.new }
-    {
-        new_empty(&mut self.pointers)
-    }
-
-    /// Allocates a nonrelocatable block of `length` bytes, all of them zero, and gives a pointer to it. The block is as low
-    /// as possible: at the start of the lowest gap with room, whose blocks are moved up out of its way.
-    pub fn new_pointer(&mut self, length: u32) -> Result<Ptr, Shortage>
-        requires size { length ≤ most_asked }
-        ensures sound { Sound self.old.shape self.old.heap }
-        ensures attempt { Attempts (NewPointer length) self.old result self.new }
-        ensures loans { KeepsLoans self.old self.new }
-    {
-        new_pointer(&mut self.pointers, length)
-    }
-
-    /// Allocates a block of 64 additional master pointers, and gives the address of the first. They are the next to be
-    /// used, and their block is nonrelocatable, placed as `new_pointer` places one.
-    pub fn new_master(&mut self) -> Result<u32, Shortage>
-        ensures sound { Sound self.old.shape self.old.heap }
-        ensures attempt { Attempts NewMaster self.old result self.new }
-        ensures loans { KeepsLoans self.old self.new }
-    {
-        new_master(&mut self.pointers)
-    }
-
-    /// Creates free space for a block of `length` bytes as low as possible: at the start of the lowest gap with room, whose
-    /// blocks are moved up. The space isn't allocated: it stays free.
-    pub fn reserve(&mut self, length: u32) -> Result<(), Shortage>
-        requires size { length ≤ most_asked }
-        ensures sound { Sound self.old.shape self.old.heap }
-        ensures attempt { MatchResult result (λ _. IsServed (Reserve length) self.old 0 self.new) (λ why. IsRefused (Reserve length) self.old why self.new) }
-        ensures loans { KeepsLoans self.old self.new }
-    {
-        reserve(&mut self.pointers, length)
-    }
-}
 
 /// A new handle with `length` bytes of zero: in the lowest free block that has room, or else in the lowest gap with room,
 /// arranged down.

@@ -12,7 +12,7 @@ use crate::fitting::some_gap_has;
 use crate::place::open_lowest;
 use crate::shortage::Shortage;
 use crate::size::{gap_to_grow, grows_to};
-use crate::zone::{Zone, cut, empty};
+use crate::zone::{cut, empty};
 use mac_base::handle::Handle;
 use mac_base::size::need_for;
 use zone_index::IndexedZone;
@@ -57,18 +57,4 @@ pub(crate) fn has_room(zone: &mut IndexedZone, needed: u32, handle: Handle) -> b
     }
     let gap = gap_to_grow(zone, block);
     grows_to(zone, gap, block, needed)
-}
-
-impl Zone {
-    /// Gives an unlocked handle a new block of `length` bytes, all of them zero, in place of the block that it has, if it
-    /// has one (ReallocateHandle; Inside Macintosh: Memory, Managing Relocatable Blocks). The old block counts as free, so
-    /// that the new one may take its bytes: the new block takes the lowest free block that is large enough, or else the
-    /// lowest gap with room, whose blocks are moved down. Its flags are clear. Where it doesn't fit, nothing has changed.
-    pub fn replace(&mut self, handle: Handle, length: u32) -> Result<(), Shortage>
-        requires ready { CanAsk self.old (Replace handle length) }
-        ensures attempt { MatchResult result (λ _. IsServed (Replace handle length) self.old handle self.new) (λ why. IsRefused (Replace handle length) self.old why self.new) }
-        ensures loans { KeepsLoans self.old self.new }
-    {
-        replace(&mut self.pointers, handle, length)
-    }
 }

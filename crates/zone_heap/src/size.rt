@@ -16,7 +16,7 @@ ghost use Rattle.zone_heap.specs.declared.shortage.Shortage.TheVariants.{NoRoom}
 
 use crate::place::open_lowest;
 use crate::shortage::Shortage;
-use crate::zone::{Zone, cut, free_behind, front, join, shrink};
+use crate::zone::{cut, free_behind, front, join, shrink};
 use linked_zone::LinkedZone;
 use mac_base::handle::{Handle, Ptr};
 use mac_base::size::need_for;
@@ -169,19 +169,4 @@ fn resize_elsewhere(zone: &mut IndexedZone, handle: Handle, length: u32) -> Resu
     zone.relocate(handle, at, length);
     join(zone, old);
     Ok(())
-}
-
-impl Zone {
-    /// Gives the block of a handle or a pointer another size, `length` bytes (SetHandleSize, SetPtrSize; Inside Macintosh:
-    /// Memory, Changing the Sizes of Relocatable and Nonrelocatable Blocks). Where it fits in its place it stays there.
-    /// Else the other blocks of its gap make way for it: those of its own gap for a block that may move, and those of the
-    /// gap right behind for one that stays. Else a block that may move gets a new place. Bytes that were in it stay, as far
-    /// as they go, and those that are added are zero. Where it doesn't fit, nothing has changed.
-    pub fn resize_block(&mut self, block: u32, length: u32) -> Result<(), Shortage>
-        requires ready { CanAsk self.old (Resize block length) }
-        ensures attempt { MatchResult result (λ _. IsServed (Resize block length) self.old block self.new) (λ why. IsRefused (Resize block length) self.old why self.new) }
-        ensures loans { KeepsLoans self.old self.new }
-    {
-        resize_block(&mut self.pointers, block, length)
-    }
 }

@@ -1,6 +1,0 @@
-use Rattle.std.proofs.Common.{subst}
-use Rattle.linked_zone.specs.Loans.{KeepsLoans}
-use Rattle.zone_heap.proofs.zone.Zone.new_empty.Goals as goal
-
-pub returns-clause-loans : goal.returns-clause-loans
-returns-clause-loans c = subst (λ old. KeepsLoans old c.new_empty.new.zone) c.self.view_is c.new_empty.ensures.loans
