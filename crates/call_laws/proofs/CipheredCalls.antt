@@ -40,10 +40,16 @@ module _ (cipher : ℕ → ℕ) where
 
   refusal-ciphered : (s : Shape) (heap : Heap) (call : MemoryCall) → refusal s (heap_ciphered cipher heap) (call_ciphered cipher call) ≡ refusal s heap call
   refusal-ciphered s heap (memory_call.Poke x at bytes) = rw (length-map bytes cipher) (first_refusal-ciphered cipher s heap (tests_of (memory_call.Poke x at bytes)))
+  refusal-ciphered s heap (memory_call.NewHandleOf bytes) = rw (length-map bytes cipher) (first_refusal-ciphered cipher s heap (tests_of (memory_call.NewHandleOf bytes)))
+  refusal-ciphered s heap (memory_call.SetHandleTo h bytes) = rw (length-map bytes cipher) (first_refusal-ciphered cipher s heap (tests_of (memory_call.SetHandleTo h bytes)))
+  refusal-ciphered s heap (memory_call.Append h bytes) = rw (length-map bytes cipher) (first_refusal-ciphered cipher s heap (tests_of (memory_call.Append h bytes)))
   refusal-ciphered s heap call = first_refusal-ciphered cipher s heap (tests_of call)
 
   protected-ciphered : (call : MemoryCall) → protected_by (call_ciphered cipher call) ≡ protected_by call
   protected-ciphered (memory_call.Poke x at bytes) = refl
+  protected-ciphered (memory_call.NewHandleOf bytes) = refl
+  protected-ciphered (memory_call.SetHandleTo h bytes) = refl
+  protected-ciphered (memory_call.Append h bytes) = refl
   protected-ciphered call = refl
 
   request-ciphered : (t : HandleTable) (call : MemoryCall) → request_of (table_ciphered cipher t) (call_ciphered cipher call) ≡ request_of t call
@@ -51,6 +57,9 @@ module _ (cipher : ℕ → ℕ) where
   request-ciphered t (memory_call.PtrAndHand p h n) = rw (length-ciphered cipher t h)
   request-ciphered t (memory_call.HandAndHand a b) = rw (length-ciphered cipher t b, length-ciphered cipher t a)
   request-ciphered t (memory_call.Poke x at bytes) = refl
+  request-ciphered t (memory_call.NewHandleOf bytes) = rw (length-map bytes cipher)
+  request-ciphered t (memory_call.SetHandleTo h bytes) = rw (length-map bytes cipher)
+  request-ciphered t (memory_call.Append h bytes) = rw (length-ciphered cipher t h, length-map bytes cipher)
   request-ciphered t call = refl
 
   given-ciphered : (call : MemoryCall) (x : ℕ) → Ok (given_results (call_ciphered cipher call) x) ≡ outcome_ciphered cipher (Ok (given_results call x))
@@ -60,6 +69,9 @@ module _ (cipher : ℕ → ℕ) where
   given-ciphered (memory_call.HandToHand h) x = refl
   given-ciphered (memory_call.PtrToHand p n) x = refl
   given-ciphered (memory_call.Poke y at bytes) x = refl
+  given-ciphered (memory_call.NewHandleOf bytes) x = refl
+  given-ciphered (memory_call.SetHandleTo h bytes) x = refl
+  given-ciphered (memory_call.Append h bytes) x = refl
   given-ciphered call x = refl
 
   -- what it copies
@@ -74,6 +86,9 @@ module _ (cipher : ℕ → ℕ) where
   copied-ciphered (memory_call.HandAndHand a b) x entry t =
       rw (bytes-ciphered cipher entry b, bytes-ciphered cipher entry a, ← map-append cipher (bytes_of entry b) (bytes_of entry a)) (with_bytes-ciphered cipher b (bytes_of entry b ++ bytes_of entry a) t)
   copied-ciphered (memory_call.Poke y at bytes) x entry t = refl
+  copied-ciphered (memory_call.NewHandleOf bytes) x entry t = with_bytes-ciphered cipher x bytes t
+  copied-ciphered (memory_call.SetHandleTo h bytes) x entry t = with_bytes-ciphered cipher h bytes t
+  copied-ciphered (memory_call.Append h bytes) x entry t = rw (bytes-ciphered cipher entry h, ← map-append cipher (bytes_of entry h) bytes) (with_bytes-ciphered cipher h (bytes_of entry h ++ bytes) t)
   copied-ciphered call x entry t = refl
 
   -- ---- a call that makes a request
@@ -111,6 +126,9 @@ module _ (cipher : ℕ → ℕ) where
   rearranged-ciphered (memory_call.MoveHHi h) heap = rw (moved_high-same (fixes-ciphered cipher heap.table) h heap.map)
   rearranged-ciphered (memory_call.HLockHi h) heap = rw (moved_high-same (fixes-ciphered cipher heap.table) h heap.map)
   rearranged-ciphered (memory_call.Poke x at bytes) heap = refl
+  rearranged-ciphered (memory_call.NewHandleOf bytes) heap = refl
+  rearranged-ciphered (memory_call.SetHandleTo h bytes) heap = refl
+  rearranged-ciphered (memory_call.Append h bytes) heap = refl
   rearranged-ciphered call heap = refl
 
   flagged-ciphered : (h : ℕ) (change : Flags → Flags) (heap : Heap)
@@ -135,6 +153,9 @@ module _ (cipher : ℕ → ℕ) where
       let moved = take n (drop at (bytes_of t x)) in
       rw (bytes-ciphered cipher t x, slice-ciphered cipher at n (bytes_of t x), bytes-ciphered cipher t y, written-ciphered cipher to moved (bytes_of t y), with_bytes-ciphered cipher y (written to moved (bytes_of t y)) t)
   effect-ciphered s memory_call.MaxApplZone heap = refl
+  effect-ciphered s (memory_call.NewHandleOf bytes) heap = refl
+  effect-ciphered s (memory_call.SetHandleTo h bytes) heap = refl
+  effect-ciphered s (memory_call.Append h bytes) heap = refl
   effect-ciphered s call heap = refl
 
   -- ---- what it gives
@@ -170,6 +191,9 @@ module _ (cipher : ℕ → ℕ) where
   outcome_of-ciphered s heap memory_call.MaxBlock = rw (gaps-same heap.table (table_ciphered cipher heap.table) (fixes-ciphered cipher heap.table) heap.map)
   outcome_of-ciphered s heap memory_call.ZoneMap = rw (reports-ciphered heap.table (address_behind s []) heap.map)
   outcome_of-ciphered s heap (memory_call.Poke x at bytes) = refl
+  outcome_of-ciphered s heap (memory_call.NewHandleOf bytes) = refl
+  outcome_of-ciphered s heap (memory_call.SetHandleTo h bytes) = refl
+  outcome_of-ciphered s heap (memory_call.Append h bytes) = refl
   outcome_of-ciphered s heap call = refl
 
   quiet_outcome-ciphered : (s : Shape) (heap : Heap) (call : MemoryCall) → quiet_outcome s (heap_ciphered cipher heap) (call_ciphered cipher call) ≡ outcome_ciphered cipher (quiet_outcome s heap call)

@@ -84,6 +84,9 @@ flags-copied (memory_call.HandToHand h) g entry t last has = flags-written g (by
 flags-copied (memory_call.PtrToHand p n) g entry t last has = flags-written g (take n (bytes_of entry p)) t last has
 flags-copied (memory_call.PtrToXHand p h n) g entry t last has = flags-written h (take n (bytes_of entry p)) t last has
 flags-copied (memory_call.PtrAndHand p h n) g entry t last has = flags-written h (bytes_of entry h ++ take n (bytes_of entry p)) t last has
+flags-copied (memory_call.NewHandleOf bytes) g entry t last has = flags-written g bytes t last has
+flags-copied (memory_call.SetHandleTo h bytes) g entry t last has = flags-written h bytes t last has
+flags-copied (memory_call.Append h bytes) g entry t last has = flags-written h (bytes_of entry h ++ bytes) t last has
 flags-copied (memory_call.HandAndHand a b) g entry t last has = flags-written b (bytes_of entry b ++ bytes_of entry a) t last has
 flags-copied call g entry t last has = has
 
@@ -101,6 +104,9 @@ request-sets t (memory_call.HandToHand h) x last = refl
 request-sets t (memory_call.PtrToHand p n) x last = refl
 request-sets t (memory_call.PtrToXHand p h n) x last = refl
 request-sets t (memory_call.PtrAndHand p h n) x last = refl
+request-sets t (memory_call.NewHandleOf bytes) x last = refl
+request-sets t (memory_call.SetHandleTo h bytes) x last = refl
+request-sets t (memory_call.Append h bytes) x last = refl
 request-sets t (memory_call.HandAndHand a b) x last = refl
 request-sets t call x last = tt
 
@@ -144,6 +150,7 @@ module _ (s : Shape) (old : Heap) (last : LastSet) (has : HasFlags old.table las
   quiet-flags (memory_call.NewHandle n) outcome new none is q = absurd (cc none)
   quiet-flags (memory_call.HandToHand h) outcome new none is q = absurd (cc none)
   quiet-flags (memory_call.PtrToHand p n) outcome new none is q = absurd (cc none)
+  quiet-flags (memory_call.NewHandleOf bytes) outcome new none is q = absurd (cc none)
   quiet-flags (memory_call.ReallocateHandle h n) outcome new none is q = absurd (cc none)
   quiet-flags call outcome new none is q = ends call outcome _ new q.1 (flags-same old.table new.table last q.0.table has)
 

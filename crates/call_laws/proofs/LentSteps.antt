@@ -164,6 +164,11 @@ module _ (s : Shape) (heap : Heap) (t : HandleTable) (same : t.lent ≡ heap.tab
       (passed-NotLent s heap h (test_5 s heap (IsPointer p) (NotLent p) (IsHandle h) (NotEmpty h) (NotLent h) (IsWithin p 0 n ∷ []) is))
   served-kept (memory_call.PtrAndHand p h n) is = λ x _. rewritten h (refilled (resized (length (bytes_of heap.table h) + n) (bytes_of t h)) (live_at t h)) (bytes_of heap.table h ++ take n (bytes_of heap.table p))
       (passed-NotLent s heap h (test_5 s heap (IsPointer p) (NotLent p) (IsHandle h) (NotEmpty h) (NotLent h) (IsWithin p 0 n ∷ []) is))
+  served-kept (memory_call.NewHandleOf bytes) is = λ x none. filled x (FullHandle no_flags (zeros (length bytes))) bytes none
+  served-kept (memory_call.SetHandleTo h bytes) is = λ x _. rewritten h (refilled (resized (length bytes) (bytes_of t h)) (live_at t h)) bytes
+      (passed-NotLent s heap h (test_3 s heap (IsHandle h) (NotEmpty h) (NotLent h) (IsSize (length bytes) ∷ []) is))
+  served-kept (memory_call.Append h bytes) is = λ x _. rewritten h (refilled (resized (length (bytes_of heap.table h) + length bytes) (bytes_of t h)) (live_at t h)) (bytes_of heap.table h ++ bytes)
+      (passed-NotLent s heap h (test_3 s heap (IsHandle h) (NotEmpty h) (NotLent h) (IsSize (length bytes) ∷ []) is))
   served-kept (memory_call.HandAndHand a b) is = λ x _. rewritten b (refilled (resized (length (bytes_of heap.table b) + length (bytes_of heap.table a)) (bytes_of t b)) (live_at t b)) (bytes_of heap.table b ++ bytes_of heap.table a)
       (passed-NotLent s heap b (test_6 s heap (IsHandle a) (NotEmpty a) (NotLent a) (IsHandle b) (NotEmpty b) (NotLent b) [] is))
   served-kept call is = tt

@@ -34,3 +34,4 @@ pub mod CipheredCalls
 pub mod CipheredActs
 pub mod CipheredRuns
 pub mod SameLayout
+pub mod SameSource

@@ -115,6 +115,14 @@ module _ (s : Shape) (held : Moment) (last : LastPut) (inv : LoansHeld held) (sh
       let from = passed-NotLent s held.heap p (test_2 s held.heap (IsPointer p) (NotLent p) (IsHandle h ∷ NotEmpty h ∷ NotLent h ∷ IsWithin p 0 n ∷ []) is) in
       let onto = passed-NotLent s held.heap h (test_5 s held.heap (IsPointer p) (NotLent p) (IsHandle h) (NotEmpty h) (NotLent h) (IsWithin p 0 n ∷ []) is) in
       agree-put h (seen h ++ take n (seen p)) (last h ++ take n (last p)) onto (ap (λ v. v ++ take n (seen p)) (seen-here h onto) ∙ ap (λ v. last h ++ take n v) (seen-here p from))
+  agree-call (memory_call.NewHandleOf bytes) asks r new is step =
+      let g = block-here s held.heap (memory_call.NewHandleOf bytes) (length bytes) asks r new inv.fixed refl step in
+      agree-put (number_in r) bytes bytes (ap (λ r. is_lent held.heap.table (number_in r)) g.1 ∙ g.2) refl
+  agree-call (memory_call.SetHandleTo h bytes) asks r new is step =
+      agree-put h bytes bytes (passed-NotLent s held.heap h (test_3 s held.heap (IsHandle h) (NotEmpty h) (NotLent h) (IsSize (length bytes) ∷ []) is)) refl
+  agree-call (memory_call.Append h bytes) asks r new is step =
+      let here = passed-NotLent s held.heap h (test_3 s held.heap (IsHandle h) (NotEmpty h) (NotLent h) (IsSize (length bytes) ∷ []) is) in
+      agree-put h (seen h ++ bytes) (last h ++ bytes) here (ap (λ v. v ++ bytes) (seen-here h here))
   agree-call (memory_call.HandAndHand a b) asks r new is step =
       let from = passed-NotLent s held.heap a (test_3 s held.heap (IsHandle a) (NotEmpty a) (NotLent a) (IsHandle b ∷ NotEmpty b ∷ NotLent b ∷ []) is) in
       let onto = passed-NotLent s held.heap b (test_6 s held.heap (IsHandle a) (NotEmpty a) (NotLent a) (IsHandle b) (NotEmpty b) (NotLent b) [] is) in

@@ -93,6 +93,9 @@ copied-locked (memory_call.HandToHand g) x entry t h l = written-locked x (bytes
 copied-locked (memory_call.PtrToHand p n) x entry t h l = written-locked x (take n (bytes_of entry p)) t h l
 copied-locked (memory_call.PtrToXHand p g n) x entry t h l = written-locked g (take n (bytes_of entry p)) t h l
 copied-locked (memory_call.PtrAndHand p g n) x entry t h l = written-locked g (bytes_of entry g ++ take n (bytes_of entry p)) t h l
+copied-locked (memory_call.NewHandleOf bytes) x entry t h l = written-locked x bytes t h l
+copied-locked (memory_call.SetHandleTo g bytes) x entry t h l = written-locked g bytes t h l
+copied-locked (memory_call.Append g bytes) x entry t h l = written-locked g (bytes_of entry g ++ bytes) t h l
 copied-locked (memory_call.HandAndHand a b) x entry t h l = written-locked b (bytes_of entry b ++ bytes_of entry a) t h l
 copied-locked call x entry t h l = l
 

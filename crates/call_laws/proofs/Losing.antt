@@ -138,6 +138,9 @@ module _ (k : Trait) (x : ℕ) where
   copied-keeps (memory_call.PtrToHand p n) g entry t holds = bytes-keep g (take n (bytes_of entry p)) t holds
   copied-keeps (memory_call.PtrToXHand p h n) g entry t holds = bytes-keep h (take n (bytes_of entry p)) t holds
   copied-keeps (memory_call.PtrAndHand p h n) g entry t holds = bytes-keep h (bytes_of entry h ++ take n (bytes_of entry p)) t holds
+  copied-keeps (memory_call.NewHandleOf bytes) g entry t holds = bytes-keep g bytes t holds
+  copied-keeps (memory_call.SetHandleTo h bytes) g entry t holds = bytes-keep h bytes t holds
+  copied-keeps (memory_call.Append h bytes) g entry t holds = bytes-keep h (bytes_of entry h ++ bytes) t holds
   copied-keeps (memory_call.HandAndHand a b) g entry t holds = bytes-keep b (bytes_of entry b ++ bytes_of entry a) t holds
   copied-keeps call g entry t holds = holds
 

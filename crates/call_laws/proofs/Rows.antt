@@ -7,11 +7,11 @@ use Rattle.mac_base.specs.declared.block.HeadKind.TheVariants.{Bits24, Bits32}
 use Rattle.mac_base.specs.declared.block.Kind.TheVariants.{Free, Master, Ptr, Rel}
 use Rattle.mac_base.specs.HeadKind.{Shape, slot_count}
 use Rattle.mac_base.specs.ZoneMap.{block}
-use Rattle.mac_base.specs.HandleTable.{new_table, no_flags}
+use Rattle.mac_base.specs.HandleTable.{new_table, no_flags, zeros}
 use Rattle.mac_base.specs.Suits.{slots_from}
 use Rattle.mac_base.specs.Heap.{Heap, new_heap}
 use Rattle.mac_calls.specs.declared.memory_call.MemoryCall.{MemoryCall}
-use Rattle.mac_calls.specs.declared.memory_call.MemoryCall.TheVariants.{NewHandle, NewPtr, ReserveMem, CompactMem, PurgeMem, NewEmptyHandle, MoreMasters, MaxMem, PurgeSpace, MaxBlock, FreeMem, MaxApplZone, DisposeHandle, EmptyHandle, GetHandleSize, HandToHand, HLock, HPurge, HGetState, HSetState, MoveHHi, HLockHi, Deref, DisposePtr, GetPtrSize, RecoverHandle, SetHandleSize, SetPtrSize, ReallocateHandle, PtrToHand, HandAndHand, PtrToXHand, PtrAndHand, Peek, Poke, BlockMove, ZoneMap as WalkZone}
+use Rattle.mac_calls.specs.declared.memory_call.MemoryCall.TheVariants.{NewHandle, NewPtr, ReserveMem, CompactMem, PurgeMem, NewEmptyHandle, MoreMasters, MaxMem, PurgeSpace, MaxBlock, FreeMem, MaxApplZone, DisposeHandle, EmptyHandle, GetHandleSize, HandToHand, HLock, HPurge, HGetState, HSetState, MoveHHi, HLockHi, Deref, DisposePtr, GetPtrSize, RecoverHandle, SetHandleSize, SetPtrSize, ReallocateHandle, PtrToHand, HandAndHand, PtrToXHand, PtrAndHand, NewHandleOf, SetHandleTo, Append, Peek, Poke, BlockMove, ZoneMap as WalkZone}
 use Rattle.mac_calls.specs.GrowZone.{Answer}
 use Rattle.mac_base.specs.declared.releasing.ReleasingCall.TheVariants.{DisposesHandle, Empties}
 use Rattle.mac_calls.specs.declared.reply.Results.TheVariants.{Nothing, Handle, Pointer, Address, Number, TwoNumbers, Bytes, Blocks}
@@ -204,6 +204,13 @@ copies : outcomes_to zone fresh (NewPtr 4 ∷ Poke p1 0 (97 ∷ 98 ∷ 99 ∷ 10
     ≡ pointer p1 ∷ done ∷ handle h1 ∷ done ∷ bytes (97 ∷ 98 ∷ 99 ∷ 97 ∷ 98 ∷ []) ∷ done ∷ handle h2 ∷ bytes (97 ∷ [])
     ∷ done ∷ done ∷ done ∷ done ∷ done ∷ done ∷ number 3140 ∷ sizes 3140 0 ∷ number 3140 ∷ []
 copies = refl
+
+brings : outcomes_to zone fresh (NewHandleOf (97 ∷ 98 ∷ 99 ∷ []) ∷ Append h1 (100 ∷ 101 ∷ []) ∷ Peek h1 0 5 ∷ SetHandleTo h1 (120 ∷ []) ∷ Peek h1 0 1 ∷ GetHandleSize h1 ∷ Append h2 [] ∷ NewHandleOf (zeros 3773) ∷ [])
+    ≡ handle h1 ∷ done ∷ bytes (97 ∷ 98 ∷ 99 ∷ 100 ∷ 101 ∷ []) ∷ done ∷ bytes (120 ∷ []) ∷ number 1 ∷ refused MemWzErr ∷ refused MemFullErr ∷ []
+brings = refl
+
+brings_map : (heap_after zone fresh (NewHandleOf (97 ∷ 98 ∷ 99 ∷ []) ∷ Append h1 (zeros 100) ∷ [])).map ≡ block Master 264 ∷ block (Rel h1) 112 ∷ block Free 3668 ∷ []
+brings_map = refl
 
 protected_from_purging : outcomes_to zone fresh (NewHandle 2000 ∷ HPurge h1 ∷ HandToHand h1 ∷ GetHandleSize h1 ∷ []) ≡ handle h1 ∷ done ∷ refused MemFullErr ∷ number 2000 ∷ []
 protected_from_purging = refl

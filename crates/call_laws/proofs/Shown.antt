@@ -127,6 +127,13 @@ module _ (s : Shape) (old : Heap) (last : LastPut) (shows : TableShows old.table
       let onto = shows h (passed-NotEmpty s old h (test_4 s old (IsPointer p) (NotLent p) (IsHandle h) (NotEmpty h) (NotLent h ∷ IsWithin p 0 n ∷ []) is)) in
       copied (p ∷ h ∷ []) h (refilled (resized (length (bytes_of old.table h) + n) (bytes_of g.before h)) (live_at g.before h)) (bytes_of old.table h ++ take n (bytes_of old.table p)) (last h ++ take n (last p)) g.before mid new g.fewer
       (ap (λ b. b ++ take n (bytes_of old.table p)) onto ∙ ap (λ b. last h ++ take n b) from) g.table end
+  request-shows (memory_call.NewHandleOf bytes) is = λ x mid new g end.
+      copied [] x (FullHandle no_flags (zeros (length bytes))) bytes bytes g.before mid new g.fewer refl g.table end
+  request-shows (memory_call.SetHandleTo h bytes) is = λ x mid new g end.
+      copied (h ∷ []) h (refilled (resized (length bytes) (bytes_of g.before h)) (live_at g.before h)) bytes bytes g.before mid new g.fewer refl g.table end
+  request-shows (memory_call.Append h bytes) is = λ x mid new g end.
+      copied (h ∷ []) h (refilled (resized (length (bytes_of old.table h) + length bytes) (bytes_of g.before h)) (live_at g.before h)) (bytes_of old.table h ++ bytes) (last h ++ bytes) g.before mid new g.fewer
+      (ap (λ b. b ++ bytes) (shows h (passed-NotEmpty s old h (test_2 s old (IsHandle h) (NotEmpty h) (NotLent h ∷ IsSize (length bytes) ∷ []) is)))) g.table end
   request-shows (memory_call.HandAndHand a b) is = λ x mid new g end.
       let from = shows a (passed-NotEmpty s old a (test_2 s old (IsHandle a) (NotEmpty a) (NotLent a ∷ IsHandle b ∷ NotEmpty b ∷ NotLent b ∷ []) is)) in
       let onto = shows b (passed-NotEmpty s old b (test_5 s old (IsHandle a) (NotEmpty a) (NotLent a) (IsHandle b) (NotEmpty b) (NotLent b ∷ []) is)) in
@@ -200,6 +207,9 @@ module _ (s : Shape) (old : Heap) (last : LastPut) (shows : TableShows old.table
   quiet-shows (memory_call.PtrToHand p n) outcome new none is q = absurd (cc none)
   quiet-shows (memory_call.PtrToXHand p h n) outcome new none is q = absurd (cc none)
   quiet-shows (memory_call.PtrAndHand p h n) outcome new none is q = absurd (cc none)
+  quiet-shows (memory_call.NewHandleOf bytes) outcome new none is q = absurd (cc none)
+  quiet-shows (memory_call.SetHandleTo h bytes) outcome new none is q = absurd (cc none)
+  quiet-shows (memory_call.Append h bytes) outcome new none is q = absurd (cc none)
   quiet-shows (memory_call.HandAndHand a b) outcome new none is q = absurd (cc none)
   quiet-shows call outcome new none is q = ends call outcome _ new q.1 (shows-same old.table new.table last q.0.table shows)
 

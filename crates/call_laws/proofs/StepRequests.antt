@@ -46,7 +46,7 @@ copied-block : (s : Shape) (after : Heap) (x n : ℕ) (bytes : List ℕ) → Sou
 copied-block s after x n bytes sound has long = sound-written s after x bytes sound has.0 (long ∙ sym has.1)
 
 -- the first n of more bytes
-length-taken : (n : ℕ) (bytes : List ℕ) → 0 + n ≤ length bytes → length (take n bytes) ≡ n
+pub length-taken : (n : ℕ) (bytes : List ℕ) → 0 + n ≤ length bytes → length (take n bytes) ≡ n
 length-taken n bytes h = omega (arith, length-take n bytes)
 
 module _ (s : Shape) (heap : Heap) where
@@ -64,6 +64,12 @@ module _ (s : Shape) (heap : Heap) where
       let five = first_passed s heap (NotLent h) (IsWithin p 0 n ∷ []) four.1 in
       let six = first_passed s heap (IsWithin p 0 n) [] five.1 in
       record { block = passed-NotEmpty s heap h four.0; within = passed-IsWithin s heap p 0 n six.0 }
+
+  -- a handle whose block gets bytes from outside the zone has one
+  brought_block : (h n : ℕ) → first_refusal s heap (IsHandle h ∷ NotEmpty h ∷ NotLent h ∷ IsSize n ∷ []) ≡ None → (is_full heap.table h || is_pointer heap.table h) ≡ true
+  brought_block h n is =
+      let one = first_passed s heap (IsHandle h) (NotEmpty h ∷ NotLent h ∷ IsSize n ∷ []) is in
+      passed-NotEmpty s heap h (first_passed s heap (NotEmpty h) (NotLent h ∷ IsSize n ∷ []) one.1).0
 
   -- the second of two handles has a block
   second_block : (a b : ℕ) → first_refusal s heap (IsHandle a ∷ NotEmpty a ∷ NotLent a ∷ IsHandle b ∷ NotEmpty b ∷ NotLent b ∷ []) ≡ None → (is_full heap.table b || is_pointer heap.table b) ≡ true
@@ -113,6 +119,14 @@ module _ (s : Shape) (heap : Heap) where
         copied = λ x after sound gives. copied-block s after h (length (bytes_of heap.table h) + n) (bytes_of heap.table h ++ take n (bytes_of heap.table p)) sound gives
             (length-append (bytes_of heap.table h) (take n (bytes_of heap.table p)) ∙ ap (λ k. length (bytes_of heap.table h) + k) (length-taken n (bytes_of heap.table p) known.within));
       }
+  asks-soundly (memory_call.NewHandleOf bytes) is = record { guards = tt; operand = tt; copied = λ x after sound gives. copied-block s after x (length bytes) bytes sound gives refl }
+  asks-soundly (memory_call.SetHandleTo h bytes) is =
+      record { guards = first_among h []; operand = brought_block h (length bytes) is; copied = λ x after sound gives. copied-block s after h (length bytes) bytes sound gives refl }
+  asks-soundly (memory_call.Append h bytes) is = record {
+    guards = first_among h [];
+    operand = brought_block h (length bytes) is;
+    copied = λ x after sound gives. copied-block s after h (length (bytes_of heap.table h) + length bytes) (bytes_of heap.table h ++ bytes) sound gives (length-append (bytes_of heap.table h) bytes);
+  }
   asks-soundly (memory_call.HandAndHand a b) is = record {
     guards = second_among a b;
     operand = second_block a b is;

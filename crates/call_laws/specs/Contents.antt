@@ -32,6 +32,9 @@ heap_ciphered cipher heap = with_table (table_ciphered cipher heap.table) heap
 -- the call with the bytes that it brings in the cipher
 abbrev pub call_ciphered : (ℕ → ℕ) → MemoryCall → MemoryCall
 call_ciphered cipher (memory_call.Poke x at bytes) = memory_call.Poke x at (map cipher bytes)
+call_ciphered cipher (memory_call.NewHandleOf bytes) = memory_call.NewHandleOf (map cipher bytes)
+call_ciphered cipher (memory_call.SetHandleTo h bytes) = memory_call.SetHandleTo h (map cipher bytes)
+call_ciphered cipher (memory_call.Append h bytes) = memory_call.Append h (map cipher bytes)
 call_ciphered cipher call = call
 
 -- the results with the bytes that they show in the cipher

@@ -24,6 +24,7 @@ abbrev pub set_with : MemoryCall → Results → LastSet → LastSet
 set_with (memory_call.NewHandle n) r last = set (number_in r) no_flags last
 set_with (memory_call.HandToHand h) r last = set (number_in r) no_flags last
 set_with (memory_call.PtrToHand p n) r last = set (number_in r) no_flags last
+set_with (memory_call.NewHandleOf bytes) r last = set (number_in r) no_flags last
 set_with (memory_call.ReallocateHandle h n) r last = set h no_flags last
 set_with (memory_call.HLock h) r last = set h (record (last h) { lock = true }) last
 set_with (memory_call.HLockHi h) r last = set h (record (last h) { lock = true }) last

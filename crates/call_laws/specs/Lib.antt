@@ -4,3 +4,4 @@ pub mod LastSet
 pub mod Course
 pub mod Headline
 pub mod Contents
+pub mod Brought

@@ -1,16 +1,18 @@
 //! What every run of acts keeps.
 
+ghost use Rattle.call_laws.specs.Brought.{CopiesAreBrought};
 ghost use Rattle.call_laws.specs.Contents.{IgnoresContents, MovesContents, RunsIgnoreContents, RunsMoveContents};
 ghost use Rattle.call_laws.specs.Headline.{AllPromised};
 
 /// What is promised of every run from a new zone on: every handle and pointer shows the bytes last put there, pointers
 /// and locked handles keep the address of their contents, and blocks are lost and memFullErr is given only where they
-/// may. And of each call: it moves contents unread, so whatever else it does is the same with other contents. It
-/// computes nothing.
+/// may. And of each call: it moves contents unread, so whatever else it does is the same with other contents; and a
+/// copy from a pointer does what the call does that brings these bytes from outside the zone. It computes nothing.
 pub fn heap_laws()
     ensures headline { AllPromised }
     ensures moves_contents { MovesContents }
     ensures runs_move_contents { RunsMoveContents }
     ensures ignores_contents { IgnoresContents }
     ensures runs_ignore_contents { RunsIgnoreContents }
+    ensures copies_are_brought { CopiesAreBrought }
 {}

@@ -26,15 +26,21 @@ request_of t (memory_call.HandToHand h) = Some (NewBlock (length (bytes_of t h))
 request_of t (memory_call.PtrToHand p n) = Some (NewBlock n)
 request_of t (memory_call.PtrToXHand p h n) = Some (Resize h n)
 request_of t (memory_call.PtrAndHand p h n) = Some (Resize h (length (bytes_of t h) + n))
+request_of t (memory_call.NewHandleOf bytes) = Some (NewBlock (length bytes))
+request_of t (memory_call.SetHandleTo h bytes) = Some (Resize h (length bytes))
+request_of t (memory_call.Append h bytes) = Some (Resize h (length (bytes_of t h) + length bytes))
 request_of t (memory_call.HandAndHand a b) = Some (Resize b (length (bytes_of t b) + length (bytes_of t a)))
 request_of t _ = None
 
--- what a served call writes into the block that its request gave as x, of the bytes that stood at its entry
+-- what a served call writes into the block that its request gave as x, of the bytes that stood at its entry or that it brings
 abbrev pub table_copied : MemoryCall → ℕ → HandleTable → HandleTable → HandleTable
 table_copied (memory_call.HandToHand h) x entry t = with_bytes x (bytes_of entry h) t
 table_copied (memory_call.PtrToHand p n) x entry t = with_bytes x (take n (bytes_of entry p)) t
 table_copied (memory_call.PtrToXHand p h n) x entry t = with_bytes h (take n (bytes_of entry p)) t
 table_copied (memory_call.PtrAndHand p h n) x entry t = with_bytes h (bytes_of entry h ++ take n (bytes_of entry p)) t
+table_copied (memory_call.NewHandleOf bytes) x entry t = with_bytes x bytes t
+table_copied (memory_call.SetHandleTo h bytes) x entry t = with_bytes h bytes t
+table_copied (memory_call.Append h bytes) x entry t = with_bytes h (bytes_of entry h ++ bytes) t
 table_copied (memory_call.HandAndHand a b) x entry t = with_bytes b (bytes_of entry b ++ bytes_of entry a) t
 table_copied _ x entry t = t
 

@@ -44,6 +44,7 @@ given_results memory_call.NewEmptyHandle x = Handle x
 given_results (memory_call.NewPtr n) x = Pointer x
 given_results (memory_call.HandToHand h) x = Handle x
 given_results (memory_call.PtrToHand p n) x = Handle x
+given_results (memory_call.NewHandleOf bytes) x = Handle x
 given_results _ x = Nothing
 
 -- the outcome of a call that gives a handle

@@ -115,6 +115,15 @@ pub enum MemoryCall<'a> {
     PtrToXHand(Ptr, Handle, u32),
     /// Adds so many bytes of a pointer's block to those of a handle's (Manipulating Blocks of Memory).
     PtrAndHand(Ptr, Handle, u32),
+    /// A new handle whose block has these bytes, which come from outside the zone: a PtrToHand of them (Manipulating
+    /// Blocks of Memory).
+    NewHandleOf(Span<'a>),
+    /// Gives a handle these bytes, which come from outside the zone, in place of its own: a PtrToXHand of them
+    /// (Manipulating Blocks of Memory).
+    SetHandleTo(Handle, Span<'a>),
+    /// Adds these bytes, which come from outside the zone, to those of a handle's block: a PtrAndHand of them
+    /// (Manipulating Blocks of Memory).
+    Append(Handle, Span<'a>),
     /// Shows bytes of a block, from an offset on.
     Peek {
         block: u32,

@@ -1,6 +1,7 @@
 use Rattle.call_laws.proofs.CipheredActs.{ignores_contents, moves_contents, runs_ignore_contents, runs_move_contents}
 use Rattle.call_laws.proofs.Headline.{headline}
+use Rattle.call_laws.proofs.SameSource.{copies-brought}
 use Rattle.call_laws.proofs.laws.heap_laws.Goals as goal
 
 pub returns : goal.returns
-returns c = record { headline = headline; moves_contents = moves_contents; runs_move_contents = runs_move_contents; ignores_contents = ignores_contents; runs_ignore_contents = runs_ignore_contents }
+returns c = record { headline = headline; moves_contents = moves_contents; runs_move_contents = runs_move_contents; ignores_contents = ignores_contents; runs_ignore_contents = runs_ignore_contents; copies_are_brought = copies-brought }
