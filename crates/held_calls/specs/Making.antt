@@ -21,6 +21,18 @@ copies (memory_call.Peek block offset count) = true
 copies memory_call.ZoneMap = true
 copies _ = false
 
+-- whether a call requests a block, or another size for one, and fills it with bytes
+abbrev pub fills : MemoryCall → Bool
+fills (memory_call.HandToHand h) = true
+fills (memory_call.PtrToHand p n) = true
+fills (memory_call.PtrToXHand p h n) = true
+fills (memory_call.PtrAndHand p h n) = true
+fills (memory_call.HandAndHand a b) = true
+fills (memory_call.NewHandleOf bytes) = true
+fills (memory_call.SetHandleTo h bytes) = true
+fills (memory_call.Append h bytes) = true
+fills _ = false
+
 -- whether a call gives no such copy and makes no request
 abbrev pub is_quiet : HandleTable → MemoryCall → Bool
 is_quiet table call = not (copies call) && not (is_some (request_of table call))

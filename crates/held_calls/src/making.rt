@@ -1,11 +1,11 @@
 //! The calls of the Memory Manager, each with what it gives.
 
-ghost use Rattle.std.specs.Prelude.{◌≡◌, not, None, Ok, IfOk, IfSome, IfNone, OnErr, IsTrue, is_some, []};
+ghost use Rattle.std.specs.Prelude.{◌≡◌, ◌||◌, not, None, Ok, IfOk, IfSome, IfNone, OnErr, IsTrue, is_some, []};
 ghost use Rattle.linked_zone.specs.Loans.{KeepsLoans};
 ghost use Rattle.mac_calls.specs.declared.reply.Results.TheVariants.{TwoNumbers};
 ghost use Rattle.mac_calls.specs.Outcomes.{handle_outcome, pointer_outcome, address_outcome, number_outcome, done_outcome};
 ghost use Rattle.mac_calls.specs.Tests.{refusal};
-ghost use Rattle.held_calls.specs.Making.{MemorySteps, copies, is_on_zone, is_quiet};
+ghost use Rattle.held_calls.specs.Making.{MemorySteps, copies, fills, is_on_zone, is_quiet};
 
 use crate::blocks::zone_map;
 use crate::bytes::{peek_copy, poke};
@@ -69,6 +69,25 @@ pub fn make_plain<G: GrowZone>(
         MemoryCall::ReallocateHandle(handle, size) => Some(done(memory.reallocate_handle(
             handle, size, procedure,
         ))),
+        _ => make_filling(memory, call, procedure),
+    }
+}
+
+/// Makes such a call that requests a block for bytes, or that makes no request.
+fn make_filling<G: GrowZone>(
+    memory: &mut MemoryManager,
+    call: &MemoryCall<'_>,
+    procedure: &mut G,
+) -> Option<Outcome>
+    requires { G.asks procedure.old ≡ [] }
+    ensures step { IfSome result (λ outcome. MemorySteps memory.old call.now (G.asks procedure.new) outcome memory.new) }
+    ensures source { G.source procedure.new ≡ G.source procedure.old }
+    ensures loans { KeepsLoans memory.old memory.new }
+    ensures fills { is_some result ≡ (fills call.now || is_quiet memory.old.heap.table call.now) }
+    ensures unchanged { IfNone result (memory.new ≡ memory.old) }
+    ensures unasked { IfNone result (G.asks procedure.new ≡ []) }
+{
+    match *call {
         MemoryCall::HandToHand(source) => Some(handle(memory.hand_to_hand(source, procedure))),
         MemoryCall::PtrToHand(pointer, count) => Some(handle(memory.ptr_to_hand(
             pointer, count, procedure,
@@ -81,6 +100,20 @@ pub fn make_plain<G: GrowZone>(
         ))),
         MemoryCall::HandAndHand(one, other) => Some(done(memory.hand_and_hand(
             one, other, procedure,
+        ))),
+        MemoryCall::NewHandleOf(ref bytes) => Some(handle(memory.new_handle_of(
+            bytes.as_slice(),
+            procedure,
+        ))),
+        MemoryCall::SetHandleTo(handle, ref bytes) => Some(done(memory.set_handle_to(
+            handle,
+            bytes.as_slice(),
+            procedure,
+        ))),
+        MemoryCall::Append(handle, ref bytes) => Some(done(memory.append(
+            handle,
+            bytes.as_slice(),
+            procedure,
         ))),
         _ => make_quiet(memory, call),
     }

@@ -53,10 +53,10 @@ first_resized : (k n : ℕ) (bytes : List ℕ) → k ≤ n → k ≤ length byte
 first_resized k n bytes few within = take-append-le k (take n bytes) (zeros (n - length bytes)) (omega (arith, length-take n bytes)) ∙ taken-twice k n bytes few
 
 -- y is full still, and has the first n bytes that it had
-record Keeps (n : ℕ) (old new : HandleTable) (y : ℕ) : Type 0 where
-  full : status_of new y ≡ Full
-  begins : (k : ℕ) → k ≤ n → k ≤ length (bytes_of old y) → take k (bytes_of new y) ≡ take k (bytes_of old y)
-  within : (k : ℕ) → k ≤ n → k ≤ length (bytes_of old y) → k ≤ length (bytes_of new y)
+pub record Keeps (n : ℕ) (old new : HandleTable) (y : ℕ) : Type 0 where
+  pub full : status_of new y ≡ Full
+  pub begins : (k : ℕ) → k ≤ n → k ≤ length (bytes_of old y) → take k (bytes_of new y) ≡ take k (bytes_of old y)
+  pub within : (k : ℕ) → k ≤ n → k ≤ length (bytes_of old y) → k ≤ length (bytes_of new y)
 
 -- where it is what it was
 keeps-same : (n : ℕ) (old new : HandleTable) (y : ℕ) → live_at new y ≡ live_at old y → new.lent ≡ old.lent → status_of old y ≡ Full → Keeps n old new y
@@ -70,7 +70,7 @@ keeps-same n old new y live lent full = record {
     status o lent = cond (live_handle o || live_pointer o) (cond (live_full o || live_pointer o) (cond (list_any (λ z. z == y) lent) Lent Full) Empty) NotLive
 
 -- and where it has n bytes now
-keeps-resized : (protected : List ℕ) (n y x : ℕ) (old new : Heap) → Served protected (Resize y n) x old new → is_among protected y ≡ true → status_of old.table y ≡ Full → Keeps n old.table new.table y
+pub keeps-resized : (protected : List ℕ) (n y x : ℕ) (old new : Heap) → Served protected (Resize y n) x old new → is_among protected y ≡ true → status_of old.table y ≡ Full → Keeps n old.table new.table y
 keeps-resized protected n y x old new served among full =
     let g = served.grants in
     let block = full-has_block old.table y full in
@@ -156,11 +156,17 @@ module _ (s : Shape) (from n : ℕ) (asks : List Ask) (old mid : Heap) (result :
       by_case {m = m} true same there other = subst (λ y. Keeps m old.table mid.table y) (sym (eqb-true from _ same)) there
       by_case false apart there other = other apart
 
+-- the request of a call, and bytes that come into its block behind it
+pub filled-run : (s : Shape) (protected : List ℕ) (r : Request) (asks : List Ask) (old : Heap) (result : Result ℕ OsErr) (x to : ℕ) (bytes : List ℕ) (mid new : Heap) → IsCallRun s protected r asks old result mid
+    → result ≡ Ok x → block_given r x ≡ to → new ≡ with_table (with_bytes to bytes mid.table) mid → IsCopyRun s protected r bytes asks old (Ok x) new
+filled-run s protected r asks old result x to bytes mid new run given place is = record {
+  mid = mid;
+  run = subst (λ (result : Result ℕ OsErr). IsCallRun s protected r asks old result mid) given run;
+  fills = is ∙ ap (λ y. with_table (with_bytes y bytes mid.table) mid) (sym place);
+}
+
 -- the request of a call and the copy behind it
 pub copied-run : (s : Shape) (protected : List ℕ) (r : Request) (asks : List Ask) (old : Heap) (result : Result ℕ OsErr) (x from to offset n : ℕ) (bytes : List ℕ) (mid new : ZoneState) → IsCallRun s protected r asks old result mid.heap
     → result ≡ Ok x → block_given r x ≡ to → Copies mid.heap.table from to offset n bytes → new ≡ copied from 0 to offset n mid → IsCopyRun s protected r bytes asks old (Ok x) new.heap
-copied-run s protected r asks old result x from to offset n bytes mid new run given place copies is = record {
-  mid = mid.heap;
-  run = subst (λ (result : Result ℕ OsErr). IsCallRun s protected r asks old result mid.heap) given run;
-  fills = ap (λ (z : ZoneState). z.heap) is ∙ ap (λ bytes. with_table (with_bytes to bytes mid.heap.table) mid.heap) copies.writes ∙ ap (λ y. with_table (with_bytes y bytes mid.heap.table) mid.heap) (sym place);
-}
+copied-run s protected r asks old result x from to offset n bytes mid new run given place copies is =
+    filled-run s protected r asks old result x to bytes mid.heap new.heap run given place (ap (λ (z : ZoneState). z.heap) is ∙ ap (λ bytes. with_table (with_bytes to bytes mid.heap.table) mid.heap) copies.writes)

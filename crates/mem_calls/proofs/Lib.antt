@@ -1,4 +1,5 @@
 pub mod Again
+pub mod Brought
 pub mod Carrying
 pub mod Keeping
 pub mod Copies

@@ -1,6 +1,8 @@
 //! The calls of the Memory Manager over one zone.
 #![tactic(auto)]
 
+mod adopting;
+mod bringing;
 mod copying;
 mod flags;
 mod loans;
@@ -14,6 +16,7 @@ mod request;
 mod room;
 mod sizes;
 mod state;
+mod structure;
 mod waking;
 
 pub use manager::MemoryManager;

@@ -1,7 +1,8 @@
 use Rattle.std.proofs.Common.{sym}
 use Rattle.std.proofs.lemmas.Result.{err_from_is_err_and}
 use Rattle.mac_calls.specs.declared.memory_call.MemoryCall.TheVariants.{Poke}
-use Rattle.held_calls.proofs.Parts.{refused_step, poke_step, KeepsLoans-written}
+use Rattle.mem_calls.proofs.Brought.{KeepsLoans-written}
+use Rattle.held_calls.proofs.Parts.{refused_step, poke_step}
 use Rattle.held_calls.proofs.bytes.poke.Goals as goal
 
 pub returns-in_err-test_part-clause-step : goal.returns-in_err-test_part-clause-step
