@@ -1,3 +1,4 @@
 pub mod Answering
+pub mod Seeking
 mod Running
 mod Worked

@@ -9,3 +9,5 @@ pub mod Loads
 pub mod Quiet
 pub mod Steps
 pub mod Answered
+pub mod Sought
+pub mod Info

@@ -13,8 +13,9 @@ use Rattle.res_table.specs.declared.row.Row.{Row}
 use Rattle.res_table.specs.declared.chain.ResourceTable.{ResourceTable}
 use Rattle.res_table.specs.declared.chain.OpenFile.{OpenFile}
 use Rattle.res_table.specs.declared.chain.RowPlace.{RowPlace}
+use Rattle.res_table.specs.Names.{is_named}
 use Rattle.res_table.specs.Rows.{has_handle, is_of_type, is_resource, indexes_from, index_of_ith}
-use Rattle.res_table.specs.OpenFiles.{OpenFiles, is_numbered, is_open, table_in, table_of, place_in, earliest_place, latest_place, searched, place_of_resource, place_of_handle, place_in_file, place_here, row_at}
+use Rattle.res_table.specs.OpenFiles.{OpenFiles, is_numbered, is_open, table_in, table_of, place_in, earliest_place, latest_place, searched, place_of_resource, place_of_handle, place_here, place_of_name, name_here, row_at}
 use Rattle.res_calls.specs.Changes.{Files, FileRow, FileTable, rows_of, rows_in, current_rows}
 use Rattle.res_update.specs.Placed.{row_on}
 use Rattle.res_files.specs.FilesOn.{FilesOn}
@@ -102,28 +103,29 @@ same_number {D} k (h ∷ files) g is = pick (is_numbered k h) refl is (same_numb
     pick true same here deeper = ap (λ (file : OpenFile D). file.number) (sym (same_Some h g here)) ∙ eqb-true h.number k same
     pick false same here deeper = deeper here
 
--- the resource of the current file stands where it is found
-pub here_there : {D : Type 0} (kind : List ℕ) (id : ℤ) (files : OpenFiles D) → IfSome (place_here kind id files) (λ place. IsSome (row_at place files))
-here_there {D} kind id files = by files.current
+-- a row of the current file that passes a test stands where it is found
+passing_there : {D : Type 0} (test : Row D → Bool) (files : OpenFiles D)
+    → IfSome (option_and_then (λ k. option_and_then (place_in test) (find (is_numbered k) files.files)) files.current) (λ place. IsSome (row_at place files))
+passing_there {D} test files = by files.current
   where
-    in_files : (k : ℕ) (all : List (OpenFile D)) → IfSome (option_and_then (place_in (is_resource kind id)) (find (is_numbered k) all)) (λ place. IsSome (row_in place all))
+    in_files : (k : ℕ) (all : List (OpenFile D)) → IfSome (option_and_then (place_in test) (find (is_numbered k) all)) (λ place. IsSome (row_in place all))
     in_files k [] = tt
     in_files k (f ∷ all) = step (is_numbered k f) refl (in_files k all)
       where
-        at_file : (found : Option ℕ) → position (is_resource kind id) f.table.rows ≡ found
+        at_file : (found : Option ℕ) → position test f.table.rows ≡ found
             → IfSome (option_map (λ i. let place : RowPlace = record { file = f.number; index = i } in place) found) (λ place. IsSome (row_in place (f ∷ all)))
         at_file None is = tt
         at_file (Some i) is =
-            let row = first_row (is_resource kind id) f.table.rows i is in
+            let row = first_row test f.table.rows i is in
             let first : (b : Bool) → b ≡ true → IsSome (option_and_then (λ (table : ResourceTable D). slice_get table.rows i) (option_map table_in (cond b (Some f) (find (is_numbered f.number) all)))) = λ b holds.
             subst (λ c. IsSome (option_and_then (λ (table : ResourceTable D). slice_get table.rows i) (option_map table_in (cond c (Some f) (find (is_numbered f.number) all))))) (sym holds)
             (subst (λ (found : Option (Row D)). IsSome found) (sym row.1) refl) in
             first (is_numbered f.number f) (eq-eqb f.number f.number refl)
 
-        other_file : (found : Option (OpenFile D)) → find (is_numbered k) all ≡ found → is_numbered k f ≡ false → IfSome (option_and_then (place_in (is_resource kind id)) found) (λ place. IsSome (row_in place all))
-            → IfSome (option_and_then (place_in (is_resource kind id)) found) (λ place. IsSome (row_in place (f ∷ all)))
+        other_file : (found : Option (OpenFile D)) → find (is_numbered k) all ≡ found → is_numbered k f ≡ false → IfSome (option_and_then (place_in test) found) (λ place. IsSome (row_in place all))
+            → IfSome (option_and_then (place_in test) found) (λ place. IsSome (row_in place (f ∷ all)))
         other_file None is other deeper = tt
-        other_file (Some g) is other deeper = at_place (position (is_resource kind id) g.table.rows) deeper
+        other_file (Some g) is other deeper = at_place (position test g.table.rows) deeper
           where
             skip : (i : ℕ) (b : Bool) → b ≡ false → IsSome (row_in (record { file = g.number; index = i }) all)
                 → IsSome (option_and_then (λ (table : ResourceTable D). slice_get table.rows i) (option_map table_in (cond b (Some f) (find (is_numbered g.number) all))))
@@ -135,14 +137,21 @@ here_there {D} kind id files = by files.current
             at_place None some = tt
             at_place (Some i) some = skip i (is_numbered g.number f) (ap (λ (n : ℕ). is_numbered n f) (same_number k all g is) ∙ other) some
 
-        step : (b : Bool) → is_numbered k f ≡ b → IfSome (option_and_then (place_in (is_resource kind id)) (find (is_numbered k) all)) (λ place. IsSome (row_in place all))
-            → IfSome (option_and_then (place_in (is_resource kind id)) (cond b (Some f) (find (is_numbered k) all))) (λ place. IsSome (row_in place (f ∷ all)))
-        step true same deeper = at_file (position (is_resource kind id) f.table.rows) refl
+        step : (b : Bool) → is_numbered k f ≡ b → IfSome (option_and_then (place_in test) (find (is_numbered k) all)) (λ place. IsSome (row_in place all))
+            → IfSome (option_and_then (place_in test) (cond b (Some f) (find (is_numbered k) all))) (λ place. IsSome (row_in place (f ∷ all)))
+        step true same deeper = at_file (position test f.table.rows) refl
         step false same deeper = other_file (find (is_numbered k) all) refl same deeper
 
-    by : (current : Option ℕ) → IfSome (option_and_then (place_in_file kind id files) current) (λ place. IsSome (row_at place files))
+    by : (current : Option ℕ) → IfSome (option_and_then (λ k. option_and_then (place_in test) (find (is_numbered k) files.files)) current) (λ place. IsSome (row_at place files))
     by None = tt
     by (Some k) = in_files k files.files
+
+-- so a resource of the current file does, and a row of a name
+pub here_there : {D : Type 0} (kind : List ℕ) (id : ℤ) (files : OpenFiles D) → IfSome (place_here kind id files) (λ place. IsSome (row_at place files))
+here_there kind id files = passing_there (is_resource kind id) files
+
+pub name_here_there : {D : Type 0} (kind name : List ℕ) (files : OpenFiles D) → IfSome (name_here kind name files) (λ place. IsSome (row_at place files))
+name_here_there kind name files = passing_there (is_named kind name) files
 
 -- so does the i-th of a type
 within_from : {D : Type 0} (at : ℕ) (test : Row D → Bool) (rows : List (Row D)) (i k : ℕ) → slice_get (indexes_from at test rows) i ≡ Some k → (at ≤ k) × (k < at + length rows)
@@ -198,6 +207,12 @@ module _ {S : Type 0} (fork : S → List ℕ) (is_ready is_honest : S → Type 0
   resource_there kind id result is =
       subst (λ (found : Option RowPlace). IfSome found (λ place. IsSome (row_at place now.files))) (sym is)
       (some_row (is_resource kind id) (place_of_resource kind id chain) (latest_passes (is_resource kind id) (searched chain) chain.files stand.apart))
+
+  -- so is the row of a name
+  pub name_there : (kind name : List ℕ) (result : Option RowPlace) → result ≡ place_of_name kind name chain → IfSome result (λ place. IsSome (row_at place now.files))
+  name_there kind name result is =
+      subst (λ (found : Option RowPlace). IfSome found (λ place. IsSome (row_at place now.files))) (sym is)
+      (some_row (is_named kind name) (place_of_name kind name chain) (latest_passes (is_named kind name) (searched chain) chain.files stand.apart))
 
   -- the row of a handle is there, and has it
   pub handle_there : (h : ℕ) (result : Option RowPlace) → result ≡ place_of_handle h chain → IfSome result (λ place. IsSomeAnd (row_at place now.files) (λ r. r.handle ≡ Some h))

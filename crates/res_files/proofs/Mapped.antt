@@ -10,9 +10,10 @@ use Rattle.res_table.specs.declared.row.Row.{Row}
 use Rattle.res_table.specs.declared.chain.ResourceTable.{ResourceTable}
 use Rattle.res_table.specs.declared.chain.OpenFile.{OpenFile}
 use Rattle.res_table.specs.declared.chain.RowPlace.{RowPlace}
+use Rattle.res_table.specs.Names.{is_named}
 use Rattle.res_table.specs.Rows.{is_of_type, is_resource, has_handle, added, forgotten, forgetting, with_handle, changed_at, removed_at, indexes_from, index_of_ith, ith, count_of_type, free_id_from, unique_id}
 use Rattle.res_table.specs.Saved.{bare, saved_row}
-use Rattle.res_table.specs.OpenFiles.{OpenFiles, is_numbered, is_open, table_in, table_of, place_in, earliest_place, latest_place, count_up_to, searched, place_of_resource, place_of_handle, file_forgotten, handle_forgotten, file_opened, last_number, without, is_current, file_closed, row_at, place_in_file, place_here, with_rows, changed_file, rows_changed}
+use Rattle.res_table.specs.OpenFiles.{OpenFiles, is_numbered, is_open, table_in, table_of, place_in, earliest_place, latest_place, count_up_to, searched, place_of_resource, place_of_handle, file_forgotten, handle_forgotten, file_opened, last_number, without, is_current, file_closed, row_at, place_here, place_of_name, name_here, with_rows, changed_file, rows_changed}
 
 -- a row with its datum given so
 abbrev pub mapped_row : {D E : Type 0} → (D → E) → Row D → Row E
@@ -127,17 +128,35 @@ resource-mapped f kind id chain =
 pub handle-mapped : {D E : Type 0} (f : ℕ → D → E) (h : ℕ) (chain : OpenFiles D) → place_of_handle h (mapped_chain f chain) ≡ place_of_handle h chain
 handle-mapped f h chain = earliest-mapped f (has_handle h) (has_handle h) (λ g r. refl) chain.files
 
--- so is a resource of the current file
-pub here-mapped : {D E : Type 0} (f : ℕ → D → E) (kind : List ℕ) (id : ℤ) (chain : OpenFiles D) → place_here kind id (mapped_chain f chain) ≡ place_here kind id chain
-here-mapped {D} {E} f kind id chain = by chain.current
+-- so is a row of the current file that passes a test
+passing-mapped : {D E : Type 0} (f : ℕ → D → E) (test : Row E → Bool) (own : Row D → Bool) → ((g : D → E) (r : Row D) → test (mapped_row g r) ≡ own r) → (chain : OpenFiles D)
+    → option_and_then (λ k. option_and_then (place_in test) (find (is_numbered k) (mapped_files f chain.files))) chain.current
+    ≡ option_and_then (λ k. option_and_then (place_in own) (find (is_numbered k) chain.files)) chain.current
+passing-mapped {D} {E} f test own same chain = by chain.current
   where
-    in_file : (found : Option (OpenFile D)) → option_and_then (place_in (is_resource kind id)) (option_map (mapped_file f) found) ≡ option_and_then (place_in (is_resource kind id)) found
+    in_file : (found : Option (OpenFile D)) → option_and_then (place_in test) (option_map (mapped_file f) found) ≡ option_and_then (place_in own) found
     in_file None = refl
-    in_file (Some file) = place_in-mapped f (is_resource kind id) (is_resource kind id) (λ g r. refl) file
+    in_file (Some file) = place_in-mapped f test own same file
 
-    by : (current : Option ℕ) → option_and_then (place_in_file kind id (mapped_chain f chain)) current ≡ option_and_then (place_in_file kind id chain) current
+    by : (current : Option ℕ) → option_and_then (λ k. option_and_then (place_in test) (find (is_numbered k) (mapped_files f chain.files))) current
+        ≡ option_and_then (λ k. option_and_then (place_in own) (find (is_numbered k) chain.files)) current
     by None = refl
-    by (Some k) = ap (option_and_then (place_in (is_resource kind id))) (find-mapped (mapped_file f) (is_numbered k) (is_numbered k) (λ file. refl) chain.files) ∙ in_file (find (is_numbered k) chain.files)
+    by (Some k) = ap (option_and_then (place_in test)) (find-mapped (mapped_file f) (is_numbered k) (is_numbered k) (λ file. refl) chain.files) ∙ in_file (find (is_numbered k) chain.files)
+
+-- as a resource is
+pub here-mapped : {D E : Type 0} (f : ℕ → D → E) (kind : List ℕ) (id : ℤ) (chain : OpenFiles D) → place_here kind id (mapped_chain f chain) ≡ place_here kind id chain
+here-mapped f kind id chain = passing-mapped f (is_resource kind id) (is_resource kind id) (λ g r. refl) chain
+
+-- so is a row of a name
+pub name-mapped : {D E : Type 0} (f : ℕ → D → E) (kind name : List ℕ) (chain : OpenFiles D) → place_of_name kind name (mapped_chain f chain) ≡ place_of_name kind name chain
+name-mapped f kind name chain =
+    ap (λ (n : ℕ). latest_place (is_named kind name) (take n (mapped_files f chain.files))) (searched-mapped f chain)
+    ∙ ap (latest_place (is_named kind name)) (take-map (mapped_file f) (searched chain) chain.files)
+    ∙ latest-mapped f (is_named kind name) (is_named kind name) (λ g r. refl) (take (searched chain) chain.files)
+
+-- and one of the current file
+pub name_here-mapped : {D E : Type 0} (f : ℕ → D → E) (kind name : List ℕ) (chain : OpenFiles D) → name_here kind name (mapped_chain f chain) ≡ name_here kind name chain
+name_here-mapped f kind name chain = passing-mapped f (is_named kind name) (is_named kind name) (λ g r. refl) chain
 
 -- the table of a number, by the data of that number
 pub table-mapped : {D E : Type 0} (f : ℕ → D → E) (k : ℕ) (files : List (OpenFile D))

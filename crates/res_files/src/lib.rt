@@ -6,6 +6,7 @@ mod current;
 mod files;
 mod fitting;
 mod handles;
+mod info;
 mod opening;
 mod placing;
 mod queries;

@@ -3,7 +3,7 @@
 ghost use Rattle.std.specs.Prelude.{◌≡◌, ◌≤◌, ◌+◌, ◌++◌, ◌∷◌, List, length, drop, All, IfSome, IfNone, IsSome, IsTrue, Some, None, option_map};
 ghost use Rattle.std.specs.Option.{option_and_then, IsSomeAnd};
 ghost use Rattle.fork_bytes.specs.Fork.{max_rows};
-ghost use Rattle.res_table.specs.OpenFiles.{is_open, place_of_resource, place_here, place_of_handle, row_at};
+ghost use Rattle.res_table.specs.OpenFiles.{is_open, place_of_resource, place_here, place_of_handle, place_of_name, name_here, row_at};
 ghost use Rattle.res_table.specs.Rows.{count_of_type, unique_id, ith, index_of_ith};
 ghost use Rattle.res_calls.specs.Changes.{FileRow, current_rows, rows_of};
 ghost use Rattle.res_calls.specs.Files.{current_types};
@@ -54,6 +54,22 @@ impl<S: ForkStore> ResourceFiles<S> {
         ensures there { IfSome result (λ place. IsSome (row_at place self.now.files)) }
     {
         self.chain.find_here(kind, id)
+    }
+
+    /// Where the first row of a type and a name stands: in the current file, or else in the latest before it that has one.
+    pub fn find_named(&self, kind: ResType, name: &[u8]) -> Option<RowPlace>
+        ensures value { result ≡ place_of_name kind name.now self.now.files }
+        ensures there { IfSome result (λ place. IsSome (row_at place self.now.files)) }
+    {
+        self.chain.find_named(kind, name)
+    }
+
+    /// Where it stands in the current file.
+    pub fn find_named_here(&self, kind: ResType, name: &[u8]) -> Option<RowPlace>
+        ensures value { result ≡ name_here kind name.now self.now.files }
+        ensures there { IfSome result (λ place. IsSome (row_at place self.now.files)) }
+    {
+        self.chain.find_named_here(kind, name)
     }
 
     /// Where the resource of a type with this index, from 1 on, stands in the current file.

@@ -16,6 +16,7 @@ pub mod ReadingBack
 pub mod Refusals
 pub mod RowUpdates
 pub mod States
+pub mod SoughtRows
 pub mod Stepping
 pub mod UpdatingCalls
 pub mod WritingFiles

@@ -8,6 +8,8 @@ use Rattle.mac_calls.specs.Outcomes.{Outcome}
 use Rattle.fork_disk.specs.declared.store.ForkStore.{Ghosts}
 use Rattle.res_calls.specs.Answered.{AnswersStep}
 use Rattle.res_calls.specs.Files.{ResState}
+use Rattle.res_calls.specs.Sought.{AnswersSought, sought}
+use Rattle.res_calls.specs.declared.seeking_call.SeekingCall.{SeekingCall}
 use Rattle.res_calls.specs.Steps.{Memory, Work, Gets, Updates, Opens, Quiet, work_of}
 use Rattle.res_files.specs.FilesOn.{FailedAt, FilesOn, HonestAt, NoneFailed}
 
@@ -20,6 +22,12 @@ abbrev pub ResourceSteps : {S : Type 0} → Ghosts S → ZoneState → FilesOn S
 ResourceSteps store old old_files call asks outcome new new_files = AnswersStep (HonestAt store.is_honest new_files.stores)
     (NoneFailed store.failures old_files.stores new_files.stores) (λ k. FailedAt store.failures k old_files.stores new_files.stores)
     Memory store.may_leave (state_of store.fork old old_files) call asks outcome (state_of store.fork new new_files)
+
+-- From the old zone and files, a call that seeks a resource otherwise than by its id may do so, by what the devices answered.
+abbrev pub SoughtSteps : {S : Type 0} → Ghosts S → ZoneState → FilesOn S → SeekingCall → List Ask → Outcome → ZoneState → FilesOn S → Type 0
+SoughtSteps store old old_files call asks outcome new new_files = AnswersSought (HonestAt store.is_honest new_files.stores)
+    (NoneFailed store.failures old_files.stores new_files.stores) (λ k. FailedAt store.failures k old_files.stores new_files.stores)
+    Memory store.may_leave (state_of store.fork old old_files) (sought call old_files.files) asks outcome (state_of store.fork new new_files)
 
 -- whether such work takes host memory: a fork, or a table
 abbrev pub work_takes_memory : Work → Bool

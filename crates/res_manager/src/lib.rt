@@ -3,13 +3,17 @@
 
 mod contents;
 mod getting;
+mod info;
 mod load;
 mod manager;
 mod opening;
 mod quiet;
 mod rows;
+mod seeking;
 mod tests;
 mod updating;
 pub mod watch;
 
+pub use info::set_info;
 pub use manager::make;
+pub use seeking::seek;

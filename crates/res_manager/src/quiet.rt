@@ -100,7 +100,7 @@ pub(crate) fn info<S: ForkStore>(
 }
 
 /// A copy of the name of a resource that has one, of at most 255 bytes, in host memory.
-fn copy_if_named(alloc: Global, name: Option<&[u8]>) -> Result<Option<Name>, HostFull>
+pub(crate) fn copy_if_named(alloc: Global, name: Option<&[u8]>) -> Result<Option<Name>, HostFull>
     requires { IsTrue (nat_le (option_map_or length (option_copied name) 0) 255) }
     ensures { IfOk result (λ copy. copy ≡ option_copied name.entry) }
 {

@@ -18,3 +18,5 @@ pub mod FreeKeys
 pub mod HandleKeys
 pub mod Expanded
 pub mod RunTypes
+mod SameNames
+pub mod InfoKept

@@ -1,8 +1,10 @@
 pub mod Attributes
 pub mod Rows
+pub mod Names
 pub mod Saved
 pub mod Behind
 pub mod OpenFiles
 pub mod Indexed
 pub mod Keyed
 pub mod Kinds
+pub mod Info

@@ -6,6 +6,7 @@ use Rattle.res_table.specs.declared.row.Row.{Row}
 use Rattle.res_table.specs.declared.chain.ResourceTable.{ResourceTable}
 use Rattle.res_table.specs.declared.chain.OpenFile.{OpenFile}
 use Rattle.res_table.specs.declared.chain.RowPlace.{RowPlace}
+use Rattle.res_table.specs.Names.{is_named}
 use Rattle.res_table.specs.Rows.{has_handle, is_resource, forgotten}
 
 -- the open files, the earliest first, and the number of the current one, if one is open
@@ -108,6 +109,18 @@ place_in_file kind id chain k = option_and_then (place_in (is_resource kind id))
 -- where it stands in the current file
 abbrev pub place_here : {D : Type 0} → List ℕ → ℤ → OpenFiles D → Option RowPlace
 place_here kind id chain = option_and_then (place_in_file kind id chain) chain.current
+
+-- where the first row of a type and a name stands: in the current file, or else in the latest before it that has one
+abbrev pub place_of_name : {D : Type 0} → List ℕ → List ℕ → OpenFiles D → Option RowPlace
+place_of_name kind name chain = latest_place (is_named kind name) (take (searched chain) chain.files)
+
+-- where it stands in the file of a number, if it is open
+abbrev pub named_in_file : {D : Type 0} → List ℕ → List ℕ → OpenFiles D → ℕ → Option RowPlace
+named_in_file kind name chain k = option_and_then (place_in (is_named kind name)) (find (is_numbered k) chain.files)
+
+-- where it stands in the current file
+abbrev pub name_here : {D : Type 0} → List ℕ → List ℕ → OpenFiles D → Option RowPlace
+name_here kind name chain = option_and_then (named_in_file kind name chain) chain.current
 
 -- a file with its rows changed so
 abbrev pub with_rows : {D : Type 0} → (List (Row D) → List (Row D)) → OpenFile D → OpenFile D

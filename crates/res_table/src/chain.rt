@@ -4,6 +4,7 @@ use crate::row::Row;
 use crate::rows::Rows;
 use mac_base::error::HostFull;
 use mac_base::handle::Handle;
+use mac_base::name::Name;
 use mac_base::resource::{ResAttrs, ResType};
 use std::alloc::Global;
 use std::marker::Model;
@@ -52,7 +53,7 @@ impl<D> Model for Chain<D> {
 impl<D> Chain<D> {
     ghost use Rattle.std.specs.Prelude.{◌≡◌, ◌<◌, length, OnOk, OnErr, IfSome, IfNone, IsSome, IsTrue, None, Some, position};
     ghost use Rattle.fork_bytes.specs.Fork.{max_rows};
-    ghost use Rattle.res_table.specs.OpenFiles.{no_files, is_numbered, is_open, searched, place_of_resource, place_of_handle, handle_forgotten, file_opened, file_used, file_closed, is_current, last_number, place_here, place_in_file, row_at, rows_changed, table_of};
+    ghost use Rattle.res_table.specs.OpenFiles.{no_files, is_numbered, is_open, searched, place_of_resource, place_of_handle, handle_forgotten, file_opened, file_used, file_closed, is_current, last_number, place_here, place_in_file, place_of_name, name_here, named_in_file, row_at, rows_changed, table_of};
     ghost use Rattle.res_table.specs.Rows.{added, changed_at, removed_at, with_attributes, with_datum, with_handle};
 
     /// No open file. This takes no memory of the host.
@@ -128,6 +129,25 @@ impl<D> Chain<D> {
             end -= 1;
             let file = &self.files[end];
             if let Some(index) = file.table.rows.find(kind, id) {
+                return Some(RowPlace {
+                    file: file.number,
+                    index,
+                });
+            }
+        }
+        None
+    }
+
+    /// Where the first row of a type and a name stands: in the current file, or else in the latest before it that has one
+    /// (GetNamedResource).
+    pub fn find_named(&self, kind: ResType, name: &[u8]) -> Option<RowPlace>
+        ensures { result ≡ place_of_name kind name.now self.now }
+    {
+        let mut end = self.searched();
+        while end > 0 {
+            end -= 1;
+            let file = &self.files[end];
+            if let Some(index) = file.table.rows.find_named(kind, name) {
                 return Some(RowPlace {
                     file: file.number,
                     index,
@@ -250,6 +270,33 @@ impl<D> Chain<D> {
         }
     }
 
+    /// Where the first row of a type and a name stands in the file of a number, if it is open and has one.
+    fn find_named_in(&self, number: u8, kind: ResType, name: &[u8]) -> Option<RowPlace>
+        ensures { result ≡ named_in_file kind name.now self.now number }
+    {
+        let Some(at) = self.position_of(number) else {
+            return None;
+        };
+        let file = &self.files[at];
+        let Some(index) = file.table.rows.find_named(kind, name) else {
+            return None;
+        };
+        Some(RowPlace {
+            file: file.number,
+            index,
+        })
+    }
+
+    /// Where the first row of a type and a name stands in the current file (Get1NamedResource).
+    pub fn find_named_here(&self, kind: ResType, name: &[u8]) -> Option<RowPlace>
+        ensures { result ≡ name_here kind name.now self.now }
+    {
+        match self.current {
+            Some(number) => self.find_named_in(number, kind, name),
+            None => None,
+        }
+    }
+
     /// Gives the row at a place this handle, or none.
     pub fn set_handle(&mut self, place: RowPlace, handle: Option<Handle>)
         requires { IsSome (row_at place self.old) }
@@ -314,6 +361,31 @@ impl<D> Chain<D> {
             return Ok(());
         };
         match self.files[at].table.rows.add(row) {
+            Ok(()) => Ok(()),
+            Err(HostFull) => Err(HostFull),
+        }
+    }
+}
+
+impl<D> Chain<D> {
+    ghost use Rattle.std.specs.Prelude.{◌≡◌, ◌≤◌, length, OnOk, OnErr, IfSome, IsSome};
+    ghost use Rattle.fork_bytes.specs.Fork.{max_rows};
+    ghost use Rattle.res_table.specs.Info.{with_info};
+    ghost use Rattle.res_table.specs.OpenFiles.{row_at, rows_changed, table_of};
+    ghost use Rattle.res_table.specs.Rows.{changed_at};
+
+    /// Gives the row at a place, in a file of at most 8,192, this id, and this name where one is given. Without host memory nothing is
+    /// changed.
+    pub fn set_info(&mut self, place: RowPlace, id: i16, name: Option<Name>) -> Result<(), HostFull>
+        requires there { IsSome (row_at place self.old) }
+        requires few { IfSome (table_of place.file self.old) (λ table. length table.rows ≤ max_rows) }
+        ensures set { OnOk result (self.new ≡ rows_changed place.file (changed_at place.index (with_info id name)) self.old) }
+        ensures same { OnErr result (self.new ≡ self.old) }
+    {
+        let Some(at) = self.position_of(place.file) else {
+            return Ok(());
+        };
+        match self.files[at].table.rows.set_info(place.index, id, name) {
             Ok(()) => Ok(()),
             Err(HostFull) => Err(HostFull),
         }

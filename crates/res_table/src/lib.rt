@@ -7,6 +7,7 @@ pub mod chain;
 mod keyed;
 mod keys;
 mod kinds;
+pub mod names;
 pub mod row;
 pub mod rows;
 mod runs;

@@ -2,8 +2,10 @@
 
 use crate::attributes::unmarked;
 use crate::keys::{key_of_handle, key_of_resource};
+use crate::names::is_same_name;
 use bitflags::Flags;
 use mac_base::handle::Handle;
+use mac_base::name::Name;
 use mac_base::resource::{ResAttrs, ResType, Resource};
 
 /// A resource of an open file, and its handle, if it has one (Inside Macintosh: More Macintosh Toolbox, chapter 1).
@@ -17,6 +19,7 @@ impl<D> Row<D> {
     ghost use Rattle.std.specs.Prelude.{◌≡◌, ◌==◌, ◌≤◌};
     ghost use Rattle.res_table.specs.Keyed.{key_of_resource};
     ghost use Rattle.res_table.specs.Indexed.{handle_key, most_name_size, IsTold};
+    ghost use Rattle.res_table.specs.Names.{is_named};
     ghost use Rattle.res_table.specs.Rows.{is_of_type, is_resource, is_changed, changed_handle, name_size, opened_row};
 
     /// The row of a resource that was read: it has no handle and is not changed.
@@ -97,6 +100,16 @@ impl<D> Row<D> {
         self.resource.kind == kind && self.resource.id == id
     }
 
+    /// Whether the row has a type, and a name that is this one but for the case of letters.
+    pub(crate) fn is_named(&self, kind: ResType, name: &[u8]) -> bool
+        ensures { result ≡ is_named kind name.now self.now }
+    {
+        match &self.resource.name {
+            Some(own) => self.resource.kind == kind && is_same_name(name, own.as_slice()),
+            None => false,
+        }
+    }
+
     /// Whether the row is changed: it is to be written (resChanged).
     pub fn is_changed(&self) -> bool
         ensures { result ≡ is_changed self.now }
@@ -109,5 +122,20 @@ impl<D> Row<D> {
         ensures { result ≡ changed_handle self.now }
     {
         if self.is_changed() { self.handle } else { None }
+    }
+}
+
+impl<D> Row<D> {
+    ghost use Rattle.std.specs.Prelude.{◌≡◌};
+    ghost use Rattle.res_table.specs.Info.{with_info};
+
+    /// Gives the row this id, and this name where one is given.
+    pub(crate) fn set_info(&mut self, id: i16, name: Option<Name>)
+        ensures { self.new ≡ with_info id name self.old }
+    {
+        self.resource.id = id;
+        if let Some(name) = name {
+            self.resource.name = Some(name);
+        }
     }
 }

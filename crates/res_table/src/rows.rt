@@ -8,6 +8,7 @@ use crate::runs::{MAX_NAME_OFFSET, MAX_OFFSET, names_fit, run_end};
 use fork_bytes::layout::MAX_ROWS;
 use mac_base::error::HostFull;
 use mac_base::handle::Handle;
+use mac_base::name::Name;
 use mac_base::resource::{ResAttrs, ResType, Resource};
 use std::alloc::Global;
 use std::marker::Model;
@@ -49,6 +50,7 @@ impl<D> Rows<D> {
     ghost use Rattle.std.specs.List.{AllByRecursion};
     ghost use Rattle.fork_bytes.specs.Fork.{max_rows};
     ghost use Rattle.res_table.specs.Saved.{row_types, kind_of, RowsFit};
+    ghost use Rattle.res_table.specs.Names.{is_named};
     ghost use Rattle.res_table.specs.Rows.{has_handle, has_changed, is_resource, is_of_type, added, forgotten, changed_at, with_handle, with_attributes, with_datum, opened_row, count_of_type, index_of_ith, ith, names_size, unique_id, changed_handle};
     ghost use Rattle.res_table.specs.Behind.{end_of_type};
 
@@ -125,6 +127,13 @@ impl<D> Rows<D> {
         let index = self.resources.find(key_of_resource(kind, id))?;
         prove!(self.rows[index].has_key_of(kind, id));
         Some(index)
+    }
+
+    /// Where the first row of a type stands whose name is this one but for the case of letters.
+    pub fn find_named(&self, kind: ResType, name: &[u8]) -> Option<usize>
+        ensures { result ≡ position (is_named kind name.now) self.now }
+    {
+        self.rows.iter().position(|row| row.is_named(kind, name))
     }
 
     /// Where the first row with a handle stands.
@@ -336,5 +345,31 @@ impl<D> Rows<D> {
             return false;
         }
         self.names <= MAX_NAME_OFFSET || names_fit(&self.rows)
+    }
+}
+
+impl<D> Rows<D> {
+    ghost use Rattle.std.specs.Prelude.{◌≡◌, ◌<◌, ◌≤◌, length, OnOk, OnErr};
+    ghost use Rattle.fork_bytes.specs.Fork.{max_rows};
+    ghost use Rattle.res_table.specs.Info.{with_info};
+    ghost use Rattle.res_table.specs.Rows.{changed_at};
+
+    /// Gives the row at an index, of at most 8,192, this id, and this name where one is given. Without host memory nothing is changed.
+    pub fn set_info(&mut self, index: usize, id: i16, name: Option<Name>) -> Result<(), HostFull>
+        requires within { index < length self.old }
+        requires few { length self.old ≤ max_rows }
+        ensures set { OnOk result (self.new ≡ changed_at index (with_info id name) self.old) }
+        ensures same { OnErr result (self.new ≡ self.old) }
+    {
+        self.resources.reserve(self.rows.len())?;
+        let old = self.rows[index].resource_key();
+        let less = self.rows[index].name_size();
+        self.rows[index].set_info(id, name);
+        let new = self.rows[index].resource_key();
+        let more = self.rows[index].name_size();
+        self.resources.remove(Some(old), index);
+        self.resources.add(Some(new), index);
+        self.names = self.names - less + more;
+        Ok(())
     }
 }

@@ -1,0 +1,15 @@
+//! The calls that seek a resource otherwise than by its id.
+
+use mac_base::resource::ResType;
+use mac_calls::Span;
+
+/// A call that seeks a resource otherwise than by its id, and gets it as GetResource does. Scripts have none of these. Letters of a
+/// name that differ only in case are the same, and those that differ in their diacritical marks aren't (Inside Macintosh: More
+/// Macintosh Toolbox, chapter 1, "Getting and Reading Resources").
+#[derive(Drop)]
+pub enum SeekingCall<'a> {
+    /// The first resource of a type with a name: from the current file on.
+    GetNamedResource { kind: ResType, name: Span<'a> },
+    /// The same, in the current file alone.
+    Get1NamedResource { kind: ResType, name: Span<'a> },
+}
