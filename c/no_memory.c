@@ -1,6 +1,6 @@
-/* Each allocation of mh_make_zone fails in turn: the answer is memFullErr, there is no zone, and nothing is kept. So
- * do those of calls on resource files: nothing has changed then, and the call succeeds once there is memory. It is
- * linked with -Wl,--wrap=malloc. */
+/* Each allocation of mh_make_zone fails in turn: the answer is memFullErr, there is no zone, and nothing is kept. So do those of
+ * mh_make_zone_of and mh_attach, which leave their bytes; and those of calls on resource files: nothing has changed then, and the call
+ * succeeds once there is memory. It is linked with -Wl,--wrap=malloc. */
 #include "macheap.h"
 #include "resman.h"
 
@@ -85,6 +85,32 @@ static void files_in_turn(void) {
     in_turn(steps, 1, opens);
 }
 
+/* Zones made of bytes. */
+static void bytes_in_turn(void) {
+    static uint8_t image[4096], bytes[4096];
+    MhZone zone = MH_NO_ZONE;
+    MhErr codes[2] = {MH_MEM_FULL_ERR, MH_MEM_FULL_ERR};
+    int count = 0;
+    MUST(mh_make_zone(&zone, 0x100000, 4096, 4096, 24) == MH_NO_ERR);
+    MUST(mh_image(&zone, image, 4096) == MH_NO_ERR && mh_end_zone(&zone) == MH_NO_ERR);
+    for (; (codes[0] || codes[1]) && count < 1000; count++) {
+        MhAsleep asleep = MH_NO_ASLEEP;
+        MhMemory memory = {bytes, 4096, true};
+        for (int at = 0; at < 4096; at++) bytes[at] = image[at];
+        left = count;
+        codes[0] = mh_make_zone_of(&zone, 0x100000, 4096, 4096, 24, image, 4096);
+        left = count;
+        codes[1] = mh_attach(&asleep, &memory, 0x100000, 4096, 4096, 24);
+        left = -1;
+        MUST(mh_end_zone(&zone) == (codes[0] ? MH_PARAM_ERR : MH_NO_ERR));
+        MUST(mh_end_asleep(&asleep) == (codes[1] ? MH_PARAM_ERR : MH_NO_ERR));
+        for (int n = 0; n < 2; n++) MUST(codes[n] == MH_NO_ERR || codes[n] == MH_MEM_FULL_ERR);
+        MUST(memory.start == bytes && memory.here);
+        for (int at = 0; at < 4096; at++) MUST(bytes[at] == image[at]);
+    }
+    MUST(count > 2 && count < 1000);
+}
+
 int main(void) {
     MhErr code = MH_MEM_FULL_ERR;
     int count = 0;
@@ -99,6 +125,7 @@ int main(void) {
         }
     }
     if (code != MH_NO_ERR || count < 2) printf("the last code is %d, behind %d trials\n", code, count);
+    bytes_in_turn();
     files_in_turn();
     return code != MH_NO_ERR || count < 2;
 }

@@ -1,8 +1,8 @@
 /* The classic Macintosh Memory Manager over one heap zone, for programs in C and C++.
  *
  * Each function is one call, and answers with an OSErr: 0 (noErr) or a negative code. A call that is refused writes
- * nothing through its pointers. What each does, to the byte, is what the project's contracts say of the call of that
- * name: crates/macheap_c/specs, and docs/THEOREM.md.
+ * nothing through its pointers (but mh_check, whose fault comes with MH_DAMAGED). What each does, to the byte, is what
+ * the project's contracts say of the call of that name: crates/macheap_c/specs, and docs/THEOREM.md.
  *
  * What the caller promises, and nothing tests:
  *  - An MhZone begins as MH_NO_ZONE, and then only these functions write it. It may be moved, but a copy of one with a
@@ -40,12 +40,12 @@ typedef int16_t MhErr;
 enum {
     MH_NO_ERR = 0,
     MH_PARAM_ERR = -50,       /* an operand is out of its range, or there is no zone */
-    MH_MEM_FULL_ERR = -108,   /* the zone has no room; of mh_make_zone: the host has no memory */
+    MH_MEM_FULL_ERR = -108,   /* the zone has no room; of a call that makes a zone: the host has no memory */
     MH_NIL_HANDLE_ERR = -109, /* the handle is 0 or empty */
     MH_MEM_WZ_ERR = -111,     /* the number names no block of the zone */
     MH_MEM_PUR_ERR = -112,    /* the block is locked, and can't be purged */
     MH_MEM_BC_ERR = -115,     /* no handle's contents begin there */
-    MH_DAMAGED = -116,        /* the bytes haven't the zone's structure (memSCErr) */
+    MH_DAMAGED = -116,        /* the bytes haven't the zone's structure, or are those of no zone (memSCErr) */
     MH_MEM_LOCKED_ERR = -117  /* the block is locked, or lent */
 };
 
@@ -62,8 +62,8 @@ typedef struct MhZone {
  * $1000000 at most. `mode` is 24 or 32: blocks with headers of 8 or of 12 bytes. Else paramErr. */
 MhErr mh_make_zone(MhZone *zone, uint32_t base, uint32_t size, uint32_t limit, uint32_t mode);
 /* The same for a large zone. Only two bounds are other ones: limit 1073741824 at most, and base + limit $1000000 at most in
- * mode 24, whose headers and master pointers have no more bits, and below 2^32 in mode 32. The host gives three and a half
- * times the limit's bytes, with the index; most of it is touched only as blocks come to lie there. */
+ * mode 24, whose headers and master pointers have no more bits, and below 2^32 in mode 32. The host gives twice the
+ * limit's bytes, with the index; most of it is touched only as blocks come to lie there. */
 MhErr mh_make_zone_large(MhZone *zone, uint32_t base, uint32_t size, uint32_t limit, uint32_t mode);
 /* Ends a zone. It is MH_NO_ZONE then, and may be made again. */
 MhErr mh_end_zone(MhZone *zone);
@@ -77,7 +77,7 @@ MhErr mh_dispose_handle(MhZone *zone, uint32_t handle);
 MhErr mh_dispose_ptr(MhZone *zone, uint32_t pointer);
 MhErr mh_empty_handle(MhZone *zone, uint32_t handle);
 
-/* Their sizes, in bytes of contents: 8388608 at most. */
+/* Their sizes, in bytes of contents. A size that a call is given is 8388608 at most. */
 MhErr mh_set_handle_size(MhZone *zone, uint32_t handle, uint32_t size);
 MhErr mh_get_handle_size(MhZone *zone, uint32_t handle, uint32_t *number);
 MhErr mh_set_ptr_size(MhZone *zone, uint32_t pointer, uint32_t size);
@@ -123,6 +123,14 @@ MhErr mh_ptr_and_hand(MhZone *zone, uint32_t pointer, uint32_t handle, uint32_t 
 MhErr mh_hand_and_hand(MhZone *zone, uint32_t one, uint32_t other);
 MhErr mh_block_move(MhZone *zone, uint32_t from, uint32_t start, uint32_t to, uint32_t offset, uint32_t count);
 
+/* Bytes from outside the zone into a block: `count` bytes of C, 8388608 at most, or paramErr once the handle has been tested. These
+ * calls do with them what PtrToHand, PtrToXHand and PtrAndHand do with those of a pointer: mh_new_handle_of makes a new handle whose
+ * block has them, mh_set_handle_to gives a handle these in place of its own, and mh_append adds them to its own. They don't lie in
+ * the zone, nor in the MhMemory that it is awake in: of a block, copy them out with mh_peek first. */
+MhErr mh_new_handle_of(MhZone *zone, const uint8_t *bytes, size_t count, uint32_t *handle);
+MhErr mh_set_handle_to(MhZone *zone, uint32_t handle, const uint8_t *bytes, size_t count);
+MhErr mh_append(MhZone *zone, uint32_t handle, const uint8_t *bytes, size_t count);
+
 /* Bytes out of a block and into it, from an offset on. The block is a handle's or a pointer's. paramErr where it has
  * fewer bytes. */
 MhErr mh_peek(MhZone *zone, uint32_t block, uint32_t offset, uint8_t *bytes, size_t count);
@@ -157,12 +165,24 @@ typedef struct MhBlock {
 } MhBlock;
 MhErr mh_first_block(MhZone *zone, uint32_t *at);
 MhErr mh_block(MhZone *zone, uint32_t at, MhBlock *block);
+/* The block that has the byte at an address, in its header or after it; memWZErr where none has. Its header is the first 8
+ * bytes of a block, and 12 in mode 32, and its contents begin after them. */
+MhErr mh_holder(MhZone *zone, uint32_t at, MhBlock *block);
 
 /* The bytes of the zone, from its start to the end of its last block: its header, and its blocks with their headers, master
  * pointers and contents. mh_image_size says how many there are, and mh_image copies just so many; paramErr where count is another
  * number. memLockedErr while a block is lent. */
 MhErr mh_image_size(MhZone *zone, size_t *size);
 MhErr mh_image(MhZone *zone, uint8_t *bytes, size_t count);
+/* Makes a zone of such bytes, whoever wrote them: mh_image and mh_make_zone_of are a save state. Keep the bytes, and the base, the limit
+ * and the mode that the zone was made with; its size is how many bytes there are. Loans are returned first; queued answers, and what
+ * was asked, aren't kept. The zone is made exactly if the bytes are those of a sound zone of these sizes, byte for byte as
+ * docs/DIFFERENCES.md has them ("The zone's bytes"): its header has its end, its free bytes, its first free master pointer, its
+ * lowest free block and 64 at 20, and else zeros; its blocks fill it, none is larger than its contents need, and no two free ones are
+ * neighbours; a handle's block and its master pointer lead to each other; free master pointers follow one another. Else the answer is
+ * MH_DAMAGED. paramErr where count isn't size, for sizes that mh_make_zone_large doesn't take, and where a zone is there;
+ * memFullErr where the host has no memory. */
+MhErr mh_make_zone_of(MhZone *zone, uint32_t base, uint32_t size, uint32_t limit, uint32_t mode, const uint8_t *bytes, size_t count);
 
 /* The grow-zone procedure. A call that finds no room asks it for bytes. It answers here what was queued before the call,
  * first in, first out; with none left there is no procedure. An answer's calls are carried out in order, those on a
@@ -212,13 +232,15 @@ MhErr mh_carried(MhZone *zone, uint32_t index, uint32_t place, MhCarried *carrie
  *
  * An MhMemory is bytes of the host: it fills one in, with `here` true. While a zone is awake in them it is {NULL, 0, false}: then
  * the bytes are the library's, and the host neither reads nor writes them, until mh_sleep gives them back. While the zone
- * sleeps the library has no pointer into them, and reads and writes none of them. At each mh_wake they may be in another place.
+ * sleeps the library has no pointer into them, and reads and writes none of them. At each mh_wake they may be in another place. No
+ * MhMemory is filled in with bytes that another zone is awake in.
  *
  * For any bytes whatever, mh_wake returns, and nothing outside them is touched. Where they have the zone's structure it is awake
  * in them just as they are: with their contents, and in mode 24 with the lock, purge and resource bits that they have in the master
  * pointers of handles with a block. The structure is all else that the zone says of itself: its header, the headers of its blocks,
- * and where master pointers lead. Where one of these bytes isn't as the library left it, the answer is MH_DAMAGED, and all
- * stays: no byte has changed, and the zone sleeps on. It wakes once the bytes are right again.
+ * and where master pointers lead. Where one of these bytes isn't as the library left it, or as it was attached, the answer is
+ * MH_DAMAGED, and all stays: no byte has changed, and the zone sleeps on. It wakes once the bytes are right again: mh_check says
+ * which byte is wrong, and mh_repair writes the structure anew.
  *
  * A zone asleep is a few words in an MhAsleep, and as much memory of the host as an MhZone has. */
 typedef struct MhAsleep {
@@ -233,13 +255,37 @@ typedef struct MhMemory {
 #define MH_NO_ASLEEP {MH_NO_ZONE}
 
 /* Makes a zone that sleeps, of the sizes that mh_make_zone_large takes, and writes its structure into the bytes, as many as its
- * limit. paramErr where they are more or fewer or gone, where a zone sleeps there, and for sizes that there aren't. */
+ * limit; no other of them changes. paramErr where they are more or fewer or gone, where a zone sleeps there, and for sizes that there aren't. */
 MhErr mh_make_zone_at(MhAsleep *asleep, MhMemory *memory, uint32_t base, uint32_t size, uint32_t limit, uint32_t mode);
+/* Makes a zone that sleeps of the bytes as they are, whoever wrote them: of memory that was saved, or of a zone that this library made
+ * in another program. No byte changes. `size` is how large the zone is now, since it may have grown: mh_image_size says it of a zone
+ * awake, and so do the first four bytes, which have its end, less base. The zone is made exactly if the bytes are, up to its size,
+ * those of a sound zone of these sizes, as for mh_make_zone_of; else the answer is MH_DAMAGED. For any bytes whatever it returns,
+ * and nothing outside them is touched. paramErr and memFullErr as for mh_make_zone_at.
+ *
+ * A state to be saved has all loans returned, isn't taken while the guest's grow-zone procedure runs, and mh_check finds no fault in
+ * it. Once memory of another moment is loaded, the zone that slept over it is ended (mh_end_asleep), and the bytes are
+ * attached: mh_repair would write the structure that this zone knows over what was loaded. */
+MhErr mh_attach(MhAsleep *asleep, MhMemory *memory, uint32_t base, uint32_t size, uint32_t limit, uint32_t mode);
 /* Wakes it. paramErr where `zone` is there, where none sleeps, and where the bytes are gone or aren't as many as its limit. */
 MhErr mh_wake(MhZone *zone, MhAsleep *asleep, MhMemory *memory);
 /* Puts it to sleep. memLockedErr while a block is lent; paramErr for a zone that isn't in bytes of the host, where another zone
  * sleeps in `asleep`, and where `memory` has bytes. Queued answers, and what was asked, stay. */
 MhErr mh_sleep(MhZone *zone, MhAsleep *asleep, MhMemory *memory);
+/* Looks for damage, and changes no byte. If the bytes have the zone's structure the answer is 0. Else it is MH_DAMAGED, and the
+ * fault is the first byte that is wrong: some bytes with the structure agree with these up to it, and none with it. `part` is what the
+ * byte is in. paramErr where none sleeps, and where the bytes are gone or aren't as many as its limit. After mh_repair and mh_wake,
+ * mh_holder of base + offset finds the block. */
+enum { MH_ZONE_HEADER = 1, MH_BLOCK_HEADER = 2, MH_MASTER_POINTER = 3 };
+typedef struct MhFault {
+    uint32_t offset; /* from the zone's start */
+    uint32_t part;   /* MH_ZONE_HEADER, MH_BLOCK_HEADER or MH_MASTER_POINTER */
+} MhFault;
+MhErr mh_check(MhAsleep *asleep, MhMemory *memory, MhFault *fault);
+/* Writes the structure again, with the flags that handles had when the zone fell asleep or was attached: in mode 24 lock bits that the
+ * guest has set since are undone. No other byte changes, so contents are as the guest left them, and the zone wakes. paramErr as
+ * for mh_check. */
+MhErr mh_repair(MhAsleep *asleep, MhMemory *memory);
 /* Ends it. The bytes are as they are. (mh_end_zone of a zone that is awake in bytes of the host ends it, too, and these are never
  * given back: put it to sleep first.) */
 MhErr mh_end_asleep(MhAsleep *asleep);

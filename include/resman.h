@@ -14,6 +14,8 @@
  * Files know handles as numbers. So that these stay those of their resources, a program does this; else a call may
  * take another block for a resource's, and harms nothing of the host:
  *  - It gives each call on files the same zone, from the first handle on.
+ *  - A zone made of saved bytes goes with files that are opened anew: these know none of its handles, and load each
+ *    resource that they get once more. What was loaded is released, or detached, before the bytes are saved.
  *  - It disposes of handles by mr_dispose_handle, and after each call of macheap.h that asked (mh_asked) it calls
  *    mr_forget. A call of this header needs none after it: it has forgotten what its answers disposed of, and may
  *    have got that number for a new handle.
@@ -78,6 +80,11 @@ MhErr mr_load_resource(MrFiles *files, MhZone *zone, uint32_t handle);
 MhErr mr_set_res_load(MrFiles *files, MhZone *zone, uint32_t load);
 MhErr mr_release_resource(MrFiles *files, MhZone *zone, uint32_t handle);
 MhErr mr_detach_resource(MrFiles *files, MhZone *zone, uint32_t handle);
+/* The first resource of a type with a name, of so many bytes of MacRoman, in the order of that search. Case is ignored, of a to z and
+ * of the letters with capitals in the first Macintosh's characters: $8A and $80 are the same. Diacritical marks count, and $87 and $E7
+ * aren't the same. No bytes are the name of a resource whose name is there and empty. */
+MhErr mr_get_named_resource(MrFiles *files, MhZone *zone, uint32_t kind, const uint8_t *name, size_t length, uint32_t *handle);
+MhErr mr_get1_named_resource(MrFiles *files, MhZone *zone, uint32_t kind, const uint8_t *name, size_t length, uint32_t *handle);
 
 /* What the files say. */
 MhErr mr_get_res_attrs(MrFiles *files, MhZone *zone, uint32_t handle, uint32_t *number);
@@ -98,11 +105,13 @@ typedef struct MrInfo {
 MhErr mr_get_res_info(MrFiles *files, MhZone *zone, uint32_t handle, MrInfo *info, uint8_t *name, size_t room);
 
 /* Changes. Attributes are one byte. mr_add_resource makes a handle's block a resource of the current file, without a
- * name where `length` is 0. */
+ * name where `length` is 0. mr_set_res_info gives a resource another id, and another name, unless `length` is 0; the next
+ * update of its file writes both. It is paramErr where `length` is above 255. */
 MhErr mr_changed_resource(MrFiles *files, MhZone *zone, uint32_t handle);
 MhErr mr_set_res_attrs(MrFiles *files, MhZone *zone, uint32_t handle, uint32_t attributes);
 MhErr mr_add_resource(MrFiles *files, MhZone *zone, uint32_t handle, uint32_t kind, int16_t id, const uint8_t *name,
                       size_t length);
+MhErr mr_set_res_info(MrFiles *files, uint32_t handle, int16_t id, const uint8_t *name, size_t length);
 MhErr mr_rmve_resource(MrFiles *files, MhZone *zone, uint32_t handle);
 MhErr mr_write_resource(MrFiles *files, MhZone *zone, uint32_t handle);
 MhErr mr_update_res_file(MrFiles *files, MhZone *zone, uint32_t file);

@@ -3,7 +3,7 @@ pub mod sys;
 
 use std::marker::PhantomData;
 use std::{error, fmt, ptr, slice};
-use sys::{MH_NO_ASLEEP, MH_NO_ZONE, MhAnswer, MhAsk, MhAsleep, MhBlock, MhCarried, MhMemory, MhWindow, MhZone};
+use sys::{MH_NO_ASLEEP, MH_NO_ZONE, MhAnswer, MhAsk, MhAsleep, MhBlock, MhCarried, MhFault, MhMemory, MhWindow, MhZone};
 
 /// The code of a call that was refused, which has changed nothing else.
 #[derive(Clone, Copy, Debug, PartialEq, Eq)]
@@ -34,6 +34,14 @@ impl Zone<'static> {
         told(unsafe { sys::mh_make_zone(&mut zone.0, base, size, limit, mode) })?;
         Ok(zone)
     }
+
+    /// Makes a zone again of the bytes that `image` copied. `MH_DAMAGED` if they are those of no zone that begins there.
+    pub fn of_image(image: &[u8], base: u32, limit: u32, mode: u32) -> Result<Zone<'static>> {
+        let mut zone = Zone(MH_NO_ZONE, None, PhantomData);
+        let size = size_of_bytes(image)?;
+        told(unsafe { sys::mh_make_zone_of(&mut zone.0, base, size, limit, mode, image.as_ptr(), image.len()) })?;
+        Ok(zone)
+    }
 }
 
 impl Zone<'_> {
@@ -43,6 +51,20 @@ impl Zone<'_> {
 
     pub fn poke(&mut self, block: u32, offset: u32, bytes: &[u8]) -> Result<()> {
         told(unsafe { sys::mh_poke(&mut self.0, block, offset, bytes.as_ptr(), bytes.len()) })
+    }
+
+    pub fn new_handle_of(&mut self, bytes: &[u8]) -> Result<u32> {
+        let mut handle = 0;
+        told(unsafe { sys::mh_new_handle_of(&mut self.0, bytes.as_ptr(), bytes.len(), &mut handle) })?;
+        Ok(handle)
+    }
+
+    pub fn set_handle_to(&mut self, handle: u32, bytes: &[u8]) -> Result<()> {
+        told(unsafe { sys::mh_set_handle_to(&mut self.0, handle, bytes.as_ptr(), bytes.len()) })
+    }
+
+    pub fn append(&mut self, handle: u32, bytes: &[u8]) -> Result<()> {
+        told(unsafe { sys::mh_append(&mut self.0, handle, bytes.as_ptr(), bytes.len()) })
     }
 
     pub fn image(&mut self, bytes: &mut [u8]) -> Result<()> {
@@ -73,6 +95,10 @@ impl Drop for Zone<'_> {
 /// A zone that sleeps, and wakes in bytes that others may write meanwhile. It ends when it is dropped.
 pub struct Asleep(MhAsleep);
 
+fn size_of_bytes(bytes: &[u8]) -> Result<u32> {
+    u32::try_from(bytes.len()).map_err(|_| OsErr(sys::MH_PARAM_ERR))
+}
+
 fn handed_over(bytes: &mut [u8]) -> MhMemory {
     MhMemory { start: bytes.as_mut_ptr(), length: bytes.len(), here: true }
 }
@@ -81,8 +107,16 @@ impl Asleep {
     /// Makes a zone in these bytes, as many as its limit.
     pub fn new(bytes: &mut [u8], base: u32, size: u32, mode: u32) -> Result<Asleep> {
         let mut asleep = Asleep(MH_NO_ASLEEP);
-        let limit = u32::try_from(bytes.len()).map_err(|_| OsErr(sys::MH_PARAM_ERR))?;
+        let limit = size_of_bytes(bytes)?;
         told(unsafe { sys::mh_make_zone_at(&mut asleep.0, &mut handed_over(bytes), base, size, limit, mode) })?;
+        Ok(asleep)
+    }
+
+    /// Makes a zone of these bytes as they are, as many as its limit. `MH_DAMAGED` if no zone of this size is in them.
+    pub fn attach(bytes: &mut [u8], base: u32, size: u32, mode: u32) -> Result<Asleep> {
+        let mut asleep = Asleep(MH_NO_ASLEEP);
+        let limit = size_of_bytes(bytes)?;
+        told(unsafe { sys::mh_attach(&mut asleep.0, &mut handed_over(bytes), base, size, limit, mode) })?;
         Ok(asleep)
     }
 
@@ -91,6 +125,20 @@ impl Asleep {
         let mut zone = MH_NO_ZONE;
         told(unsafe { sys::mh_wake(&mut zone, &mut self.0, &mut handed_over(bytes)) })?;
         Ok(Zone(zone, Some(&mut self.0), PhantomData))
+    }
+
+    /// The first of these bytes that isn't as the zone's structure calls for, if one isn't.
+    pub fn check(&mut self, bytes: &mut [u8]) -> Result<Option<MhFault>> {
+        let mut fault = MhFault::default();
+        match unsafe { sys::mh_check(&mut self.0, &mut handed_over(bytes), &mut fault) } {
+            sys::MH_DAMAGED => Ok(Some(fault)),
+            code => told(code).map(|()| None),
+        }
+    }
+
+    /// Writes the zone's structure into these bytes again. No other of them changes.
+    pub fn repair(&mut self, bytes: &mut [u8]) -> Result<()> {
+        told(unsafe { sys::mh_repair(&mut self.0, &mut handed_over(bytes)) })
     }
 }
 
@@ -160,6 +208,7 @@ calls! {
     mh_return is give_back(block: u32);
     mh_first_block is first_block() -> at: u32;
     mh_block is block(at: u32) -> block: MhBlock;
+    mh_holder is holder(at: u32) -> block: MhBlock;
     mh_image_size is image_size() -> size: usize;
     mh_queue_answer is queue_answer(answer: &MhAnswer);
     mh_asked is asked() -> count: u32;

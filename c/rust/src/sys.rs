@@ -41,6 +41,9 @@ pub const MH_FREE: u32 = 0;
 pub const MH_MASTER: u32 = 1;
 pub const MH_PTR: u32 = 2;
 pub const MH_REL: u32 = 3;
+pub const MH_ZONE_HEADER: u32 = 1;
+pub const MH_BLOCK_HEADER: u32 = 2;
+pub const MH_MASTER_POINTER: u32 = 3;
 pub const MH_NO_CALL: u32 = 0;
 pub const MH_DISPOSE_HANDLE: u32 = 1;
 pub const MH_DISPOSE_PTR: u32 = 2;
@@ -94,15 +97,29 @@ pub struct MhCarried {
     pub code: i16,
 }
 
+#[repr(C)]
+#[derive(Clone, Copy, Debug, Default, PartialEq, Eq)]
+pub struct MhFault {
+    pub offset: u32,
+    pub part: u32,
+}
+
 unsafe extern "C" {
     pub fn mh_make_zone(zone: &mut MhZone, base: u32, size: u32, limit: u32, mode: u32) -> i16;
+    pub fn mh_make_zone_of(zone: &mut MhZone, base: u32, size: u32, limit: u32, mode: u32, bytes: *const u8, count: usize) -> i16;
     pub fn mh_end_zone(zone: &mut MhZone) -> i16;
     pub fn mh_make_zone_at(asleep: &mut MhAsleep, memory: &mut MhMemory, base: u32, size: u32, limit: u32, mode: u32) -> i16;
+    pub fn mh_attach(asleep: &mut MhAsleep, memory: &mut MhMemory, base: u32, size: u32, limit: u32, mode: u32) -> i16;
     pub fn mh_wake(zone: &mut MhZone, asleep: &mut MhAsleep, memory: &mut MhMemory) -> i16;
     pub fn mh_sleep(zone: &mut MhZone, asleep: &mut MhAsleep, memory: &mut MhMemory) -> i16;
+    pub fn mh_check(asleep: &mut MhAsleep, memory: &mut MhMemory, fault: &mut MhFault) -> i16;
+    pub fn mh_repair(asleep: &mut MhAsleep, memory: &mut MhMemory) -> i16;
     pub fn mh_end_asleep(asleep: &mut MhAsleep) -> i16;
     pub fn mh_peek(zone: &mut MhZone, block: u32, offset: u32, bytes: *mut u8, count: usize) -> i16;
     pub fn mh_poke(zone: &mut MhZone, block: u32, offset: u32, bytes: *const u8, count: usize) -> i16;
+    pub fn mh_new_handle_of(zone: &mut MhZone, bytes: *const u8, count: usize, handle: &mut u32) -> i16;
+    pub fn mh_set_handle_to(zone: &mut MhZone, handle: u32, bytes: *const u8, count: usize) -> i16;
+    pub fn mh_append(zone: &mut MhZone, handle: u32, bytes: *const u8, count: usize) -> i16;
     pub fn mh_image(zone: &mut MhZone, bytes: *mut u8, count: usize) -> i16;
     pub fn mh_window(zone: &mut MhZone, block: u32, window: &mut MhWindow) -> i16;
 }

@@ -1,4 +1,5 @@
 //! A zone that wakes in bytes of the caller, which reads and writes them while it sleeps.
+use macheap::sys::MhFault;
 use macheap::{Asleep, OsErr, sys};
 
 const BASE: u32 = 0x10_0000;
@@ -33,4 +34,22 @@ fn a_zone_whose_header_changed_sleeps_on() {
     assert_eq!(asleep.wake(&mut ram).err(), Some(OsErr(sys::MH_DAMAGED)));
     ram[3] ^= 1;
     assert_eq!(asleep.wake(&mut ram).unwrap().new_handle(0).map(|_| ()), Ok(()));
+}
+
+#[test]
+fn a_header_that_was_written_over_is_found_and_mended() {
+    let mut ram = vec![0; 65536];
+    let mut asleep = Asleep::new(&mut ram, BASE, 65536, 24).unwrap();
+    let handle = asleep.wake(&mut ram).unwrap().new_handle(100).unwrap();
+    let contents = (long(&ram, handle) & 0xFF_FFFF) - BASE;
+    assert_eq!(asleep.check(&mut ram), Ok(None));
+    // a guest that begins four bytes too early
+    ram[contents as usize - 4..contents as usize + 2].copy_from_slice(b"....Hi");
+    assert_eq!(asleep.check(&mut ram), Ok(Some(MhFault { offset: contents - 4, part: sys::MH_BLOCK_HEADER })));
+    asleep.repair(&mut ram).unwrap();
+    let mut zone = asleep.wake(&mut ram).unwrap();
+    let mut seen = [0; 2];
+    zone.peek(handle, 0, &mut seen).unwrap();
+    assert_eq!(&seen, b"Hi");
+    assert_eq!(zone.holder(BASE + contents + 99).map(|block| block.owner), Ok(handle));
 }

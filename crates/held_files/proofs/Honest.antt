@@ -55,11 +55,11 @@ mem_store = record {
 }
 
 -- whether the device of a file is honest, among these stores
-abbrev honest_in : List Store → ℕ → Type 0
+abbrev pub honest_in : List Store → ℕ → Type 0
 honest_in stores = HonestAt mem_store.is_honest stores
 
 -- each is
-all_honest : (stores : List Store) (k : ℕ) → honest_in stores k
+pub all_honest : (stores : List Store) (k : ℕ) → honest_in stores k
 all_honest stores k = by (slice_get stores _)
   where
     by : (found : Option Store) → IfSome found (λ store. ⊤)
@@ -82,7 +82,7 @@ counted (store ∷ stores) zero = refl
 counted (store ∷ stores) (suc at) = counted stores at
 
 -- it rose there
-counts-rose : (k : ℕ) (old new : List Store) → Rose (failures_at failures_in (k - 1) old) (failures_at failures_in (k - 1) new) → FailsAt k (map failures_in old) (map failures_in new)
+pub counts-rose : (k : ℕ) (old new : List Store) → Rose (failures_at failures_in (k - 1) old) (failures_at failures_in (k - 1) new) → FailsAt k (map failures_in old) (map failures_in new)
 counts-rose k old new rose = subst (λ (n : ℕ). Rose n (slice_index (map failures_in new) (k - 1))) (counted old (k - 1)) (subst (λ (n : ℕ). Rose (failures_at failures_in (k - 1) old) n) (counted new (k - 1)) rose)
 
 -- a call that had its host memory

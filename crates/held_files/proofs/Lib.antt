@@ -1,2 +1,3 @@
 mod Words
 pub mod Honest
+pub mod Seeking

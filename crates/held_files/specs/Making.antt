@@ -1,6 +1,6 @@
 -- What a call of the Resource Manager does to a zone and to files whose forks are in memory.
 use Rattle.std.specs.Option.{IsSomeAnd}
-use Rattle.std.specs.Prelude.{◌≡◌, ◌⊎◌, ◌++◌, ◌-◌, ⊤, ℕ, List, None, Err, IsTrue, MatchBool, slice_index}
+use Rattle.std.specs.Prelude.{◌≡◌, ◌⊎◌, ◌++◌, ◌-◌, ⊤, ℕ, List, None, Err, IsOkAnd, IsTrue, MatchBool, slice_index}
 use Rattle.fork_disk.specs.Disk.{Rose}
 use Rattle.fork_disk.specs.Fork.{IsPartly}
 use Rattle.held_zone.specs.State.{State, with_no_asks}
@@ -12,8 +12,10 @@ use Rattle.mac_calls.specs.declared.resource_call.ResourceCall.{ResourceCall}
 use Rattle.res_calls.specs.Answered.{file_of_work}
 use Rattle.res_calls.specs.Device.{Device, device_works, read_truly}
 use Rattle.res_calls.specs.Files.{ResState}
+use Rattle.res_calls.specs.Sought.{FoundStepBy, sought}
 use Rattle.res_calls.specs.Steps.{ReadsBack, ResourceStepBy, work_of}
 use Rattle.res_calls.specs.Tests.{resource_refusal}
+use Rattle.res_calls.specs.declared.seeking_call.SeekingCall.{SeekingCall}
 use Rattle.res_manager.specs.Steps.{takes_memory}
 use Rattle.toolbox.specs.Steps.{StepsFrom}
 use Rattle.held_files.specs.Forks.{ForksState, SameForks}
@@ -38,6 +40,20 @@ pub record StepsOnForks (old : State) (old_files : ForksState) (call : ResourceC
       (IsSomeAnd (file_of_work (work_of (resource_state old old_files) call)) (λ k. FailsAt k old_files.failures new_files.failures))
   pub taken : old.left ≡ answers_in new.asks ++ new.left
   pub reads_back : ReadsBack (λ k. ⊤) (resource_state old old_files) call outcome (resource_state new new_files)
+  pub loans : new.loans ≡ old.loans
+  pub guest : new.guest ≡ old.guest
+  pub lent : StaysLent old.zone new.zone
+
+-- From a zone and files, a call that seeks a resource otherwise than by its id ends so and leaves these: where it finds one, that is got
+-- just as GetResource gets it. The answers that are left, the devices and what is lent are as for other calls; it takes no
+-- memory of the host.
+pub record SeeksOnForks (old : State) (old_files : ForksState) (call : SeekingCall) (outcome : Outcome) (new : State) (new_files : ForksState) : Type 0 where
+  pub device : Device
+  pub step : FoundStepBy (StepsFrom old.left new.left) (read_truly IsPartly) (sought call old_files.files) device (resource_state old old_files) new.asks
+      (record { outcome = outcome; state = resource_state new new_files })
+  pub cause : MatchBool (device_works device) (new_files.failures ≡ old_files.failures)
+      (IsOkAnd (sought call old_files.files) (λ p. FailsAt p.file old_files.failures new_files.failures))
+  pub taken : old.left ≡ answers_in new.asks ++ new.left
   pub loans : new.loans ≡ old.loans
   pub guest : new.guest ≡ old.guest
   pub lent : StaysLent old.zone new.zone

@@ -2,7 +2,7 @@
 use Rattle.std.specs.Int.{from_be_bytes, w32}
 use Rattle.std.specs.Prelude.{◌≡◌, ◌⊎◌, ◌==◌, ◌++◌, ℕ, ℤ, pos, nat_lt, if◌then◌else◌, List, [], ◌∷◌, drop, length, Option, Some, None, Ok, MatchBool, option_and_then, option_map, unwrap_or}
 use Rattle.held_files.specs.Forks.{ForksState, fork_of_number, free_number, HasFork, HasNoForks, without_handles}
-use Rattle.held_files.specs.Making.{MakesResource}
+use Rattle.held_files.specs.Making.{MakesResource, SeeksOnForks}
 use Rattle.held_zone.specs.State.{State}
 use Rattle.held_zone.specs.Told.{Makes, code_told, no_zone, number_told}
 use Rattle.mac_base.specs.Codes.{minus}
@@ -14,6 +14,7 @@ use Rattle.held_files.specs.declared.told.MrInfo.{MrInfo}
 use Rattle.mac_calls.specs.declared.memory_call.MemoryCall.TheVariants.{DisposeHandle}
 use Rattle.mac_calls.specs.declared.resource_call.ResourceCall.TheVariants.{GetResInfo, OpenResFile}
 use Rattle.res_calls.specs.Device.{Disk}
+use Rattle.res_calls.specs.declared.seeking_call.SeekingCall.{SeekingCall}
 use Rattle.mac_calls.specs.declared.resource_call.ResourceCall.{ResourceCall}
 
 -- The call is made, where there are a zone and files; else there is no outcome, and both stay.
@@ -31,6 +32,18 @@ ResourceTold old old_files call code new new_files = (outcome : Option Outcome) 
 abbrev pub ResourceToldNumber : Option State → Option ForksState → ResourceCall → ℤ → ℕ → ℕ → Option State → Option ForksState → Type 0
 ResourceToldNumber old old_files call code before number new new_files =
     (outcome : Option Outcome) × (code ≡ code_told outcome) × (number ≡ number_told before outcome) × ResourceCalled old old_files call outcome new new_files
+
+-- A call that seeks a resource otherwise than by its id is made, where there are a zone and files; else there is no outcome, and both stay.
+abbrev pub ResourceSought : Option State → Option ForksState → SeekingCall → Option Outcome → Option State → Option ForksState → Type 0
+ResourceSought (Some old) (Some old_files) call (Some outcome) (Some new) (Some new_files) = SeeksOnForks old old_files call outcome new new_files
+ResourceSought (Some old) None call None new new_files = (new ≡ Some old) × (new_files ≡ None)
+ResourceSought None old_files call None new new_files = (new ≡ None) × (new_files ≡ old_files)
+ResourceSought _ _ call _ _ _ = ⊥
+
+-- It is made, and C is told this code and this handle, where another number was.
+abbrev pub SoughtTold : Option State → Option ForksState → SeekingCall → ℤ → ℕ → ℕ → Option State → Option ForksState → Type 0
+SoughtTold old old_files call code before handle new new_files =
+    (outcome : Option Outcome) × (code ≡ code_told outcome) × (handle ≡ number_told before outcome) × ResourceSought old old_files call outcome new new_files
 
 -- the resource type that an outcome gives, as a number, written over the one that was there, which stays where it
 -- gives none

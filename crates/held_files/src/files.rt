@@ -14,6 +14,7 @@ use mac_base::error::{HostFull, OsErr};
 use mac_base::handle::Handle;
 use mac_base::releasing::ReleasingCall;
 use mac_calls::{MemoryCall, Outcome, ResourceCall};
+use res_calls::SeekingCall;
 use res_files::ResourceFiles;
 use std::alloc::Global;
 use std::marker::Model;
@@ -93,7 +94,7 @@ impl ForkFiles {
     ghost use Rattle.std.specs.Prelude.{IsSome, OnErr, filter_map};
     ghost use Rattle.held_files.specs.Told.{Disposes, OpensFork};
     ghost use Rattle.held_files.specs.Forks.{HasNoForks, without_handles};
-    ghost use Rattle.held_files.specs.Making.{HasNoMemory, MakesResource, StepsOnForks};
+    ghost use Rattle.held_files.specs.Making.{HasNoMemory, MakesResource, SeeksOnForks, StepsOnForks};
 
     /// Files of which none is open.
     pub fn create(alloc: Global) -> Result<Box<ForkFiles>, HostFull>
@@ -236,5 +237,38 @@ impl ForkFiles {
         // What was asked says whether answers are left.
         prove!(session.answers.asks().len() <= MOST_ASKS);
         made
+    }
+
+    /// Makes a call that seeks a resource otherwise than by its id; one that finds no room takes the answers that are left.
+    pub fn seek(&mut self, session: &mut Session, call: &SeekingCall<'_>) -> Outcome
+        ensures { SeeksOnForks session.old self.old call.now result session.new self.new }
+    {
+        session.answers.begin();
+        let memory = &mut session.memory;
+        let answers = &mut session.answers;
+        let outcome = res_manager::seek(&mut self.files, memory, call, answers);
+        // What was asked says whether answers are left.
+        prove!(session.answers.asks().len() <= MOST_ASKS);
+        outcome
+    }
+}
+
+impl ForkFiles {
+    ghost use Rattle.held_files.specs.Info.{SetsInfo};
+
+    /// SetResInfo: a resource gets this id, and this name where one is given. Where the host has no memory for it, it is memFullErr.
+    pub fn set_info(
+        &mut self,
+        alloc: Global,
+        handle: Handle,
+        id: i16,
+        name: Option<&[u8]>,
+    ) -> Result<(), OsErr>
+        ensures { SetsInfo handle id (option_copied name.entry) self.old result self.new }
+    {
+        match res_manager::set_info(&mut self.files, alloc, handle, id, name) {
+            Ok(done) => done,
+            Err(_) => Err(OsErr::MemFullErr),
+        }
     }
 }

@@ -4,6 +4,7 @@ ghost use Rattle.std.specs.Prelude.{◌≡◌, Option, Some, None, IsTrue};
 ghost use Rattle.std.specs.Option.{option_map};
 ghost use Rattle.held_files.specs.Forks.{ForksState};
 ghost use Rattle.held_files.specs.Held.{is_there};
+ghost use Rattle.mac_calls.specs.Outcomes.{done_outcome};
 
 use crate::files::ForkFiles;
 use crate::told::{MrInfo, info, kind};
@@ -12,7 +13,8 @@ use held_zone::told::{self, NO_ZONE};
 use held_zone::zone::MhZone;
 use mac_base::error::{NO_ERR, OsErr};
 use mac_base::handle::Handle;
-use mac_calls::{Outcome, ResourceCall};
+use mac_calls::{Outcome, ResourceCall, Results};
+use res_calls::SeekingCall;
 use std::alloc::Global;
 use std::marker::Model;
 use std::{mem, ptr};
@@ -128,13 +130,20 @@ impl MrFiles {
     }
 }
 
+/// The outcome of a call that gives nothing.
+fn done(given: Result<(), OsErr>) -> Outcome
+    ensures { result ≡ done_outcome given }
+{
+    given.map(|()| Results::Nothing)
+}
+
 /// The null pointer.
 fn null() -> *mut u8 {
     ptr::null_mut()
 }
 
 impl MrFiles {
-    ghost use Rattle.held_files.specs.Told.{DisposeTold, ForgetTold, InfoTold, OpenTold, ResourceCalled, ResourceTold, ResourceToldKind, ResourceToldNumber};
+    ghost use Rattle.held_files.specs.Told.{DisposeTold, ForgetTold, InfoTold, OpenTold, ResourceCalled, ResourceTold, ResourceToldKind, ResourceToldNumber, ResourceSought, SoughtTold};
 
     /// Makes a call of the Resource Manager, where there are files and a zone.
     pub fn call(
@@ -174,6 +183,39 @@ impl MrFiles {
         ensures { ResourceToldNumber zone.old.held.session self.old.held.files call.now result number.old number.new zone.new.held.session self.new.held.files }
     {
         told::number(&self.call(alloc, zone, call), number)
+    }
+
+    /// Makes a call that seeks a resource otherwise than by its id, where there are files and a zone.
+    fn sought(
+        &mut self,
+        alloc: Global,
+        zone: &mut MhZone,
+        call: &SeekingCall<'_>,
+    ) -> Option<Outcome>
+        ensures { ResourceSought zone.old.held.session self.old.held.files call.now result zone.new.held.session self.new.held.files }
+    {
+        let mut session = zone.take(alloc)?;
+        let Some(mut files) = self.take(alloc) else {
+            zone.put(session);
+            return None;
+        };
+        let outcome = files.seek(&mut session, call);
+        self.put(files);
+        zone.put(session);
+        Some(outcome)
+    }
+
+    /// Makes such a call, tells its code, and writes the handle of the resource, where there is one.
+    pub fn seek(
+        &mut self,
+        alloc: Global,
+        zone: &mut MhZone,
+        call: &SeekingCall<'_>,
+        handle: &mut u32,
+    ) -> i16
+        ensures { SoughtTold zone.old.held.session self.old.held.files call.now result handle.old handle.new zone.new.held.session self.new.held.files }
+    {
+        told::number(&self.sought(alloc, zone, call), handle)
     }
 
     /// Makes a call, tells its code, and writes its resource type, where it gives one.
@@ -257,5 +299,22 @@ impl MrFiles {
         self.put(files);
         zone.put(session);
         told::code(&outcome)
+    }
+}
+
+impl MrFiles {
+    ghost use Rattle.std.specs.Prelude.{option_copied};
+    ghost use Rattle.held_files.specs.Info.{SetInfoTold};
+
+    /// SetResInfo: gives a resource this id, and this name where one is given, and tells the code.
+    pub fn set_info(&mut self, alloc: Global, handle: Handle, id: i16, name: Option<&[u8]>) -> i16
+        ensures { SetInfoTold handle id (option_copied name.entry) self.old.held.files result self.new.held.files }
+    {
+        let Some(mut files) = self.take(alloc) else {
+            return NO_ZONE;
+        };
+        let set = files.set_info(alloc, handle, id, name);
+        self.put(files);
+        told::code(&Some(done(set)))
     }
 }

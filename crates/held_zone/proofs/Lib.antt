@@ -1,5 +1,8 @@
+pub mod Filled
 pub mod Made
+pub mod SaveStates
 pub mod Sleeping
+mod Settled
 pub mod Shown
 pub mod Words
 mod Written

@@ -2,7 +2,8 @@
 use Rattle.std.specs.Prelude.{◌≡◌, true, false, if◌then◌else◌, not, nat_lt, [], length, Option, Some, None, option_map}
 use Rattle.mac_base.specs.declared.error.OsErr.{OsErr}
 use Rattle.mac_base.specs.declared.error.OsErr.TheVariants.{MemLockedErr, ParamErr}
-use Rattle.linked_zone.specs.Structure.{DifferInContents, HasStructure, IsIn, shown}
+use Rattle.linked_zone.specs.Parts.{ContentsStay, OthersStay}
+use Rattle.linked_zone.specs.Structure.{DifferInContents, HasStructure, IsIn, SameFlags, shown}
 use Rattle.raw_region.specs.State.{State as Region}
 use Rattle.raw_region.specs.declared.host.HostBytes.{HostBytes}
 use Rattle.held_zone.specs.State.{State}
@@ -37,9 +38,13 @@ pub record FallsAsleep (old : State) (r : Region) (new : State) : Type 0 where
   pub asks : new.asks ≡ old.asks
   pub asleep : IsAsleep new
 
--- a region has the structure of a zone, and is the one that was given
+-- a region has the structure of a zone, with the zone's flags, and is the one that was given: all other bytes are as they
+-- were, and so are the contents that they have for handles and pointers
 pub record IsSettled (s : State) (given r : Region) : Type 0 where
   pub structure : HasStructure s.zone r.bytes
+  pub flags : SameFlags s.zone r.bytes
+  pub others : OthersStay s.zone given.bytes r.bytes
+  pub contents : ContentsStay s.zone given.bytes r.bytes
   pub name : r.name ≡ given.name
   pub whole : r.lent ≡ []
 

@@ -1,4 +1,5 @@
 pub mod Asleep
+pub mod Attaching
 pub mod Held
 pub mod State
 pub mod Told

@@ -2,6 +2,7 @@
 #![tactic(auto)]
 
 pub mod asleep;
+mod attaching;
 mod lent;
 pub mod memory;
 pub mod parked;

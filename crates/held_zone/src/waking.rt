@@ -19,22 +19,18 @@ impl Session {
         self.spare.limit
     }
 
-    /// Writes the structure of the zone, which sleeps, into a region as long as its limit, and gives the region back.
-    pub fn settle(&mut self, region: Region) -> Region
-        requires asleep { IsAsleep self.old }
+    /// Writes the structure of the zone into a region as long as its limit, and gives the region back. No other byte of it
+    /// changes.
+    pub fn settle(&self, mut region: Region) -> Region
         requires whole { region.lent ≡ [] }
-        requires long { length region.bytes ≡ self.old.zone.shape.limit }
-        ensures settled { IsSettled self.new region result }
-        ensures unchanged { self.new ≡ self.old }
-        ensures asleep { IsAsleep self.new }
+        requires long { length region.bytes ≡ self.now.zone.shape.limit }
+        ensures { IsSettled self.now region result }
     {
-        let own = self.memory.sleep(region);
-        match self.memory.wake(own) {
-            Ok(region) => region,
-
-            // The zone's own region has its structure.
-            Err(own) => own,
-        }
+        let all = region.len();
+        self.memory
+            .linked()
+            .write_structure(region.bytes_mut(0, all));
+        region
     }
 
     /// Wakes the zone, which sleeps, in a region whose bytes have its structure. Else it sleeps on, and the region

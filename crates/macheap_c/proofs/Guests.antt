@@ -9,7 +9,7 @@ use Rattle.held_zone.specs.State.{State, IsNew}
 use Rattle.macheap_c.specs.Guest.{BeginsWhere, IsMadeAt, IsWoken, WakesWhere, damaged}
 
 -- numbers that are the same
-same_numbers : (m n : ℕ) → m ≡ n → (m == n) ≡ true
+pub same_numbers : (m n : ℕ) → m ≡ n → (m == n) ≡ true
 same_numbers m n same = grind (arith, nat_tests)
 
 -- a zone that is made in bytes as many as its limit

@@ -1,1 +1,2 @@
 mod Guests
+mod Checking

@@ -1,7 +1,7 @@
 //! A zone that sleeps, and wakes in bytes of the host that a guest may write meanwhile.
 
-ghost use Rattle.std.specs.Prelude.{◌≡◌, [], length, None, Some};
-ghost use Rattle.held_zone.specs.Asleep.{IsAsleep, IsSettled, region_of};
+ghost use Rattle.std.specs.Prelude.{◌≡◌, None, Some};
+ghost use Rattle.held_zone.specs.Asleep.{IsAsleep, region_of};
 ghost use Rattle.macheap_c.specs.Guest.{IsMadeAt, IsPutToSleep, IsWoken};
 ghost use Rattle.macheap_c.specs.Life.{Ends, large_sizes_of};
 
@@ -17,10 +17,10 @@ use raw_region::Region;
 use std::alloc::Global;
 
 /// The bytes haven't the zone's structure: memSCErr.
-const DAMAGED: i16 = -116;
+pub(crate) const DAMAGED: i16 = -116;
 
 /// Makes a zone that sleeps, as `mh_make_zone_large` does one that is awake, and writes its structure into bytes, as
-/// many as its limit.
+/// many as its limit. No other of these changes.
 #[unsafe(no_mangle)]
 pub extern "C" fn mh_make_zone_at(
     alloc: Global,
@@ -74,8 +74,7 @@ fn make(alloc: Global, asleep: &mut MhAsleep, memory: &mut MhMemory, spec: ZoneS
     }
     match Session::create(alloc, spec) {
         Ok(session) => {
-            let (session, kept) = settled(session, region);
-            memory.put(kept);
+            memory.put(session.settle(region));
             asleep.put(session);
             NO_ERR
         }
@@ -84,19 +83,6 @@ fn make(alloc: Global, asleep: &mut MhAsleep, memory: &mut MhMemory, spec: ZoneS
             OsErr::MemFullErr.code()
         }
     }
-}
-
-/// The zone, and the bytes in which its structure is then.
-fn settled(session: Box<Session>, region: Region) -> (Box<Session>, Region)
-    requires asleep { IsAsleep session.value }
-    requires whole { region.lent ≡ [] }
-    requires long { length region.bytes ≡ session.value.zone.shape.limit }
-    ensures same { result.0.value ≡ session.value }
-    ensures settled { IsSettled session.value region result.1 }
-{
-    let mut session = session;
-    let kept = session.settle(region);
-    (session, kept)
 }
 
 /// Wakes the zone that sleeps in bytes that have its structure: it has the contents and flags that they have, and they

@@ -1,12 +1,17 @@
 //! The Memory Manager and the Resource Manager for programs in C.
 #![tactic(auto)]
 
+mod attach;
+mod bringing;
 mod bytes;
 mod calls;
+mod diagnose;
 mod forks;
 mod growing;
 mod guest;
 mod image;
+mod info;
 mod life;
+mod named;
 mod resources;
 mod walk;

@@ -18,7 +18,7 @@ use mac_calls::{ChangingCall, GettingCall, LookingCall, ResourceCall, Span, Writ
 use std::alloc::Global;
 
 /// The resource type that a number is: its four bytes, the highest first.
-fn kind_of(kind: u32) -> ResType
+pub(crate) fn kind_of(kind: u32) -> ResType
     ensures { result ≡ to_be_bytes w32 kind }
 {
     ResType::new(kind.to_be_bytes())

@@ -56,7 +56,7 @@ pub extern "C" fn mh_block(alloc: Global, zone: &mut MhZone, at: u32, block: &mu
 }
 
 /// A block as C is shown it.
-fn shown_block(block: Block) -> MhBlock
+pub(crate) fn shown_block(block: Block) -> MhBlock
     ensures { result ≡ shown_block block }
 {
     let Block {

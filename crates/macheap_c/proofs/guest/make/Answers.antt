@@ -1,5 +1,5 @@
 use Rattle.std.proofs.Common.{rules, ◌≡◌, length, Some}
-use Rattle.held_zone.specs.Asleep.{region_of}
+use Rattle.held_zone.specs.Asleep.{IsSettled, region_of}
 use Rattle.macheap_c.proofs.Guests.{made_in}
 use Rattle.macheap_c.proofs.guest.make.Goals as goal
 
@@ -7,5 +7,6 @@ pub returns-in-Ok : goal.returns-in-Ok
 returns-in-Ok c =
     let there : region_of c.args.memory.now.host ≡ Some c.in-Some.region = search rules in
     let long : length c.in-Some.region.bytes ≡ c.args.spec.limit = search rules in
-    made_in c.args.spec (region_of c.args.memory.now.host) (region_of c.put-in-Ok.new.self.host) c.put-in-Ok-2.new.self.zone.held.session c.in-Some.region c.settled-session.result.1 c.in-Ok.session.value
-    there long c.in-Ok.ensures.new c.settled-session.ensures.settled (search rules) c.put-in-Ok.ensures
+    let settled : IsSettled c.in-Ok.session.value c.in-Some.region c.settle.result = search rules in
+    made_in c.args.spec (region_of c.args.memory.now.host) (region_of c.put-in-Ok.new.self.host) c.put-in-Ok-2.new.self.zone.held.session c.in-Some.region c.settle.result c.in-Ok.session.value
+    there long c.in-Ok.ensures.new settled (search rules) c.put-in-Ok.ensures

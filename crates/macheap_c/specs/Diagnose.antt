@@ -1,0 +1,77 @@
+-- What C is told where a guest has damaged its zone.
+use Rattle.std.specs.Prelude.{◌≡◌, ◌⊎◌, ℕ, ℤ, pos, Bool, true, false, ◌==◌, length, Option, Some, None}
+use Rattle.linked_zone.specs.Faults.{IsFirstFault}
+use Rattle.linked_zone.specs.Structure.{HasStructure}
+use Rattle.linked_zone.specs.Parts.{IsHolder, LiesOutside}
+use Rattle.mac_base.specs.Codes.{minus}
+use Rattle.mac_base.specs.declared.block.Block.{Block}
+use Rattle.mac_base.specs.ZoneState.{ZoneState}
+use Rattle.raw_region.specs.State.{State as Region}
+use Rattle.held_zone.specs.Asleep.{IsSettled}
+use Rattle.held_zone.specs.State.{State}
+use Rattle.held_zone.specs.Told.{no_zone}
+use Rattle.zone_records.specs.declared.structure.Part.{Part}
+use Rattle.zone_records.specs.declared.structure.Part.TheVariants.{ZoneHeader, BlockHeader, MasterPointer}
+use Rattle.macheap_c.specs.declared.diagnose.MhFault.{MhFault}
+use Rattle.macheap_c.specs.declared.walk.MhBlock.{MhBlock}
+use Rattle.macheap_c.specs.Guest.{damaged}
+use Rattle.macheap_c.specs.Walk.{shown_block}
+
+-- the bytes have the structure of a zone then, and all others are as they were
+abbrev pub Repaired : State → Region → ℤ → Option Region → Type 0
+Repaired s region code (Some kept) = (code ≡ pos 0) × IsSettled s region kept
+Repaired s region code None = ⊥
+
+-- bytes that aren't as many as the zone's limit are refused: paramErr
+abbrev pub RepairsWhere : Bool → State → Region → ℤ → Option Region → Type 0
+RepairsWhere true s region code memory = Repaired s region code memory
+RepairsWhere false s region code memory = (code ≡ minus 50) × (memory ≡ Some region)
+
+-- so is it where there are none
+abbrev pub RepairsIn : State → Option Region → ℤ → Option Region → Type 0
+RepairsIn s (Some region) code memory = RepairsWhere (length region.bytes == s.zone.shape.limit) s region code memory
+RepairsIn s None code memory = (code ≡ minus 50) × (memory ≡ None)
+
+-- The bytes of a zone that sleeps are repaired, and it sleeps on as it was. Where none sleeps, the answer is paramErr,
+-- and the bytes stay.
+abbrev pub IsRepaired : Option State → Option Region → ℤ → Option State → Option Region → Type 0
+IsRepaired (Some old) old_memory code asleep memory = RepairsIn old old_memory code memory × (asleep ≡ Some old)
+IsRepaired None old_memory code asleep memory = (code ≡ minus 50) × (asleep ≡ None) × (memory ≡ old_memory)
+
+-- the number of a part of a zone's structure
+abbrev pub part_number : Part → ℕ
+part_number ZoneHeader = 1
+part_number BlockHeader = 2
+part_number MasterPointer = 3
+
+-- bytes have the structure of a zone, or the first that isn't as it calls for is shown, and the part that it is in
+abbrev pub Checks : State → Region → ℤ → MhFault → MhFault → Type 0
+Checks s region code before fault =
+    (HasStructure s.zone region.bytes × (code ≡ pos 0) × (fault ≡ before))
+    ⊎ ((part : Part) × IsFirstFault s.zone region.bytes fault.offset part × (fault.part ≡ part_number part) × (code ≡ damaged))
+
+-- bytes that aren't as many as the zone's limit are refused: paramErr
+abbrev pub ChecksWhere : Bool → State → Region → ℤ → MhFault → MhFault → Type 0
+ChecksWhere true s region code before fault = Checks s region code before fault
+ChecksWhere false s region code before fault = (code ≡ minus 50) × (fault ≡ before)
+
+-- so is it where there are none. The bytes stay
+abbrev pub ChecksIn : State → Option Region → ℤ → MhFault → MhFault → Option Region → Type 0
+ChecksIn s (Some region) code before fault memory = ChecksWhere (length region.bytes == s.zone.shape.limit) s region code before fault × (memory ≡ Some region)
+ChecksIn s None code before fault memory = (code ≡ minus 50) × (fault ≡ before) × (memory ≡ None)
+
+-- The bytes of a zone that sleeps are checked, and it sleeps on as it was. Where none sleeps, the answer is paramErr.
+abbrev pub IsChecked : Option State → Option Region → ℤ → MhFault → MhFault → Option State → Option Region → Type 0
+IsChecked (Some old) old_memory code before fault asleep memory = ChecksIn old old_memory code before fault memory × (asleep ≡ Some old)
+IsChecked None old_memory code before fault asleep memory = (code ≡ minus 50) × (fault ≡ before) × (asleep ≡ None) × (memory ≡ old_memory)
+
+-- the block that has the byte at an address is shown; where no block has it, the answer is memWZErr
+abbrev pub ShowsHolder : ZoneState → ℕ → ℤ → MhBlock → MhBlock → Type 0
+ShowsHolder zone at code before block =
+    ((found : Block) × IsHolder zone at found × (code ≡ pos 0) × (block ≡ shown_block found))
+    ⊎ (LiesOutside zone at × (code ≡ minus 111) × (block ≡ before))
+
+-- C is shown the block that has the byte at an address, and the state stays.
+abbrev pub HolderTold : Option State → ℕ → ℤ → MhBlock → MhBlock → Option State → Type 0
+HolderTold None at code before block new = (code ≡ no_zone) × (block ≡ before) × (new ≡ None)
+HolderTold (Some old) at code before block new = ShowsHolder old.zone at code before block × (new ≡ Some old)

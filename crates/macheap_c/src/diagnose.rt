@@ -1,0 +1,130 @@
+//! What helps when a guest has damaged its zone.
+
+ghost use Rattle.std.specs.Prelude.{◌≡◌};
+ghost use Rattle.held_zone.specs.Asleep.{IsAsleep, region_of};
+ghost use Rattle.macheap_c.specs.Diagnose.{ChecksIn, HolderTold, IsChecked, IsRepaired, RepairsIn, part_number};
+
+use crate::guest::DAMAGED;
+use crate::walk::{MhBlock, shown_block};
+use held_zone::asleep::MhAsleep;
+use held_zone::memory::MhMemory;
+use held_zone::session::Session;
+use held_zone::told::NO_ZONE;
+use held_zone::zone::MhZone;
+use linked_zone::Part;
+use mac_base::error::{NO_ERR, OsErr};
+use std::alloc::Global;
+
+/// Writes the structure of the zone that sleeps into its bytes again: they have it then, with the flags that handles had
+/// when the zone fell asleep, and no other byte has changed. paramErr where no zone sleeps, and where the bytes aren't as
+/// many as its limit.
+#[unsafe(no_mangle)]
+pub extern "C" fn mh_repair(alloc: Global, asleep: &mut MhAsleep, memory: &mut MhMemory) -> i16
+    ensures { IsRepaired asleep.old.zone.held.session (region_of memory.old.host) result asleep.new.zone.held.session (region_of memory.new.host) }
+{
+    let Some(session) = asleep.take(alloc) else {
+        return NO_ZONE;
+    };
+    let code = repair(&session, memory);
+    asleep.put(session);
+    code
+}
+
+/// Writes the structure of a zone into bytes.
+fn repair(session: &Session, memory: &mut MhMemory) -> i16
+    ensures { RepairsIn session.now (region_of memory.old.host) result (region_of memory.new.host) }
+{
+    let Some(region) = memory.take() else {
+        return OsErr::ParamErr.code();
+    };
+    if region.len() != session.limit() {
+        memory.put(region);
+        return OsErr::ParamErr.code();
+    }
+    memory.put(session.settle(region));
+    NO_ERR
+}
+
+/// The first byte that isn't as the structure of a zone calls for: its offset from the zone's start, and the part of the
+/// structure that it is in (1 the zone's header, 2 a block's, 3 a master pointer).
+#[repr(C)]
+#[derive(Clone, Copy)]
+pub struct MhFault {
+    pub offset: u32,
+    pub part: u32,
+}
+
+/// Looks for the first byte that isn't as the structure of the zone that sleeps calls for. No byte changes. paramErr where
+/// no zone sleeps, and where the bytes aren't as many as its limit.
+#[unsafe(no_mangle)]
+pub extern "C" fn mh_check(
+    alloc: Global,
+    asleep: &mut MhAsleep,
+    memory: &mut MhMemory,
+    fault: &mut MhFault,
+) -> i16
+    ensures { IsChecked asleep.old.zone.held.session (region_of memory.old.host) result fault.old fault.new asleep.new.zone.held.session (region_of memory.new.host) }
+{
+    let Some(session) = asleep.take(alloc) else {
+        return NO_ZONE;
+    };
+    let code = check(&session, memory, fault);
+    asleep.put(session);
+    code
+}
+
+/// Looks for the first byte that isn't as the structure of a zone that sleeps calls for.
+fn check(session: &Session, memory: &mut MhMemory, fault: &mut MhFault) -> i16
+    requires asleep { IsAsleep session.now }
+    ensures { ChecksIn session.now (region_of memory.old.host) result fault.old fault.new (region_of memory.new.host) }
+{
+    let Some(region) = memory.take() else {
+        return OsErr::ParamErr.code();
+    };
+    if region.len() != session.limit() {
+        memory.put(region);
+        return OsErr::ParamErr.code();
+    }
+    let found = session.first_fault(region.bytes(0, region.len()));
+    memory.put(region);
+    match found {
+        Some((offset, part)) => {
+            *fault = MhFault {
+                offset,
+                part: number_of(part),
+            };
+            DAMAGED
+        }
+        None => NO_ERR,
+    }
+}
+
+/// The number of a part of a zone's structure.
+fn number_of(part: Part) -> u32
+    ensures { result ≡ part_number part }
+{
+    match part {
+        Part::ZoneHeader => 1,
+        Part::BlockHeader => 2,
+        Part::MasterPointer => 3,
+    }
+}
+
+/// The block that has the byte at an address, in its header or after it. memWZErr where none does.
+#[unsafe(no_mangle)]
+pub extern "C" fn mh_holder(alloc: Global, zone: &mut MhZone, at: u32, block: &mut MhBlock) -> i16
+    ensures { HolderTold zone.old.held.session at result block.old block.new zone.new.held.session }
+{
+    let Some(session) = zone.take(alloc) else {
+        return NO_ZONE;
+    };
+    let found = session.holder(at);
+    zone.put(session);
+    match found {
+        Some(found) => {
+            *block = shown_block(found);
+            NO_ERR
+        }
+        None => OsErr::MemWzErr.code(),
+    }
+}
