@@ -30,14 +30,20 @@ EXAMPLES = {
     "fork_bytes.proofs.Vectors",
     "script_lang.proofs.Replies",
     "res_calls.proofs.Worked",
+    "res_table.proofs.SameNames",
     "script_lang.proofs.Rows",
 }
 # what may stay though nothing reaches it, and why
 STAYS = {
     "crates/fork_bytes/specs/Fork.antt: HasParts": "the first of what macheap's limits say, beside the others",
     "crates/held_zone/proofs/Sleeping.antt: as_it_was": "a theorem: a zone that falls asleep and wakes in the same bytes is as it was",
+    "crates/held_zone/proofs/SaveStates.antt: restored_same": "a theorem: what is made of a zone's image is that zone again",
+    "crates/held_zone/proofs/SaveStates.antt: attached_wakes": "a theorem: a zone that was attached wakes in the same bytes as it is",
+    "crates/linked_zone/proofs/OneZone.antt: zone_again": "a theorem: what is made of a sound zone's bytes is that zone again",
     "crates/linked_zone/proofs/Structured.antt: own-structure": "beside own-shown: what the bytes that a zone is in say of it",
     "crates/linked_zone/proofs/Structured.antt: own-flags": "beside own-shown: what the bytes that a zone is in say of it",
+    "crates/zone_records/proofs/FaultFronts.antt: front-long": "beside whole-long: how long such bytes are",
+    "crates/zone_records/proofs/FreeWalk.antt: walked-none": "beside the other steps of the walk: its start",
     "crates/zone_records/proofs/OwnBytes.antt: part-of": "beside rest-of: the part before that rest",
     "crates/script_tests/src/files.rt: run_over_files": "a theorem, which nothing calls",
     "crates/script_tests/src/files.rt: run_over_journalled_files": "a theorem, which nothing calls",
@@ -151,8 +157,8 @@ class File:
                 self.declared[name].append(code)
 
 
-def unreached(files):
-    """The files and names of what is declared and isn't used."""
+def unreached(files, stays):
+    """The files and names of what is declared, isn't used, and isn't used by what stays."""
     live, waiting = set(), []
 
     def use(module, name):
@@ -180,7 +186,7 @@ def unreached(files):
     for file in files.values():
         follow(file, file.words)
         for name in file.declared:
-            if file.module in EXAMPLES or file.answers and name in file.public:
+            if file.module in EXAMPLES or file.answers and name in file.public or Unused(file, name).line in stays:
                 use(file.module, name)
     while waiting:
         follow(*waiting.pop())
@@ -208,9 +214,10 @@ def unused():
     """What nothing reaches, and may not stay; and what may stay, but is reached or isn't there."""
     paths = [path for part in ("src", "specs", "proofs") for path in TOP.glob(f"*/{part}/**/*")]
     read = [File(path) for path in sorted(paths) if path.suffix in (".rt", ".antt")]
-    found = unreached({file.module: file for file in read}) + uncalled(read)
-    lines = [Unused(*each) for each in found]
-    return [it for it in lines if it.line not in STAYS], STAYS.keys() - {it.line for it in lines}
+    files = {file.module: file for file in read}
+    lines = [Unused(*each) for each in unreached(files, ()) + uncalled(read)]
+    beside = [Unused(*each) for each in unreached(files, STAYS) + uncalled(read)]
+    return [it for it in beside if it.line not in STAYS], STAYS.keys() - {it.line for it in lines}
 
 
 def main():
