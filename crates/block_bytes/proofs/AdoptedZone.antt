@@ -1,5 +1,5 @@
 -- The zone that is in bytes, once its blocks are read: it is there exactly where its header is.
-use Rattle.std.proofs.Common.{◌≡◌, ℕ, ◌+◌, ◌-◌, ◌/◌, ◌<◌, ◌^◌, List, [], ◌∷◌, ◌++◌, length, take, drop, refl, sym, ap, subst, ◌∙◌, arith, append-nil, length-drop, take-append-drop, take_at}
+use Rattle.std.proofs.Common.{None, ◌≡◌, ℕ, ◌+◌, ◌-◌, ◌/◌, ◌<◌, ◌^◌, List, [], ◌∷◌, ◌++◌, length, take, drop, refl, sym, ap, subst, ◌∙◌, arith, append-nil, length-drop, take-append-drop, take_at}
 use Rattle.byteorder.specs.Endian.{big_number}
 use Rattle.mac_base.specs.HeadKind.{zone_header}
 use Rattle.mac_base.specs.ZoneSizes.{ZoneSizes, ArePossible}
@@ -83,8 +83,8 @@ module _ (spec : ZoneSizes) (possible : ArePossible spec) (m : State) (all : len
 
 -- the fields made of it stand for it
 pub adopted : (spec : ZoneSizes) → ArePossible spec → (m : State) → m.lent ≡ [] → (index : List ℕ) (r : ZoneRead spec m index)
-    → IsRead (record { spec = spec; memory = m; index = index; loans = 0 }) (zone_with spec m r.blocks)
+    → IsRead (record { spec = spec; memory = m; index = index; loans = 0; kept = None }) (zone_with spec m r.blocks)
 adopted spec possible m unlent index r =
     let zone = r.zone in let ends = zone.ends in let end = possible.end_low_enough in let bottom = possible.base_high_enough in let top = end-small spec.heads in
-    image-read (record { spec = spec; memory = m; index = index; loans = 0 }) m.name (big_number 4 (part m.bytes front_field 4)) r.blocks (drop spec.size m.bytes) refl r.small (omega arith) zone.possible (omega arith) (omega arith)
+    image-read (record { spec = spec; memory = m; index = index; loans = 0; kept = None }) m.name (big_number 4 (part m.bytes front_field 4)) r.blocks (drop spec.size m.bytes) refl r.small (omega arith) zone.possible (omega arith) (omega arith)
     possible.within zone.all (sym zone.image) r.marked (λ s. ap (times s) (unlent ∙ sym (spans-none spec.heads zone_header r.blocks zone.unlent))) (sym zone.unlent) (omega arith)

@@ -1,5 +1,5 @@
 -- Headers compared from an address on, up to the next master block.
-use Rattle.std.proofs.Common.{◌≡◌, ℕ, ◌+◌, ◌-◌, ◌<◌, ◌≤◌, Bool, true, false, List, [], ◌∷◌, ◌++◌, length, refl, sym, ap, subst, ◌∙◌, arith, append_assoc, append-nil, IsTrue}
+use Rattle.std.proofs.Common.{◌≡◌, ℕ, ◌+◌, ◌-◌, ◌<◌, ◌≤◌, ◌⊎◌, inl, inr, Bool, true, false, List, [], ◌∷◌, ◌++◌, length, refl, sym, ap, subst, ◌∙◌, arith, append_assoc, append-nil, IsTrue}
 use Rattle.std.specs.Prelude.{◌&&◌, not, if◌then◌else◌}
 use Rattle.std.proofs.lemmas.List.Folds.{list_all-append}
 use Rattle.mac_base.specs.declared.block.HeadKind.{HeadKind}
@@ -12,7 +12,8 @@ use Rattle.block_bytes.specs.declared.header.Role.TheVariants.{Free, Fixed, Mast
 use Rattle.block_bytes.specs.Finding.{SplitAt}
 use Rattle.block_bytes.specs.Layout.{RawBlock, Layout, address_behind, image_of, size_of, total_of}
 use Rattle.block_bytes.specs.Reading.{layout_of, IsLayout}
-use Rattle.block_bytes.specs.Structure.{AgreeUpTo, HasHeaders, is_master, none_master, up_to_master}
+use Rattle.block_bytes.specs.Structure.{AgreeUpTo, HasHeaders, begun_before, is_master, none_master, up_to_master}
+use Rattle.block_bytes.proofs.Begun.{begun-first, begun-none}
 use Rattle.block_bytes.proofs.Exchanged.{length-all}
 use Rattle.block_bytes.proofs.Parts.{total-ends}
 use Rattle.block_bytes.proofs.ReadBlocks.{and-true}
@@ -22,7 +23,7 @@ use Rattle.block_bytes.proofs.Structures.{headers-append, headers-rest}
 use Rattle.block_bytes.proofs.Walking.{size_of-pos}
 
 -- a list of blocks is split at one place where the first parts are as large
-same_rest : (heads : HeadKind) (bs cs ds es : List RawBlock) → bs ++ cs ≡ ds ++ es → total_of heads bs ≡ total_of heads ds → cs ≡ es
+pub same_rest : (heads : HeadKind) (bs cs ds es : List RawBlock) → bs ++ cs ≡ ds ++ es → total_of heads bs ≡ total_of heads ds → cs ≡ es
 same_rest heads [] cs [] es e same = e
 same_rest heads [] cs (d ∷ ds) es e same = let some = size_of-pos heads d in absurd (omega arith)
 same_rest heads (x ∷ bs) cs [] es e same = let some = size_of-pos heads x in absurd (omega arith)
@@ -48,8 +49,9 @@ master-is Fixed is = let e : false ≡ true = is in cc
 master-is Master is = refl
 master-is (Relocatable slot flags) is = let e : false ≡ true = is in cc
 
--- the headers from an address up to an offset agree, and none of them is that of a master block
-pub record ComparedUpTo (l : Layout) (bytes : List ℕ) (from at : ℕ) : Type 0 where
+-- the headers from an address up to an offset agree, and none of them is that of a master block. Their blocks begin before another
+-- address
+pub record ComparedUpTo (l : Layout) (bytes : List ℕ) (from end at : ℕ) : Type 0 where
   pub start : List RawBlock
   pub passed : List RawBlock
   pub rest : List RawBlock
@@ -58,34 +60,46 @@ pub record ComparedUpTo (l : Layout) (bytes : List ℕ) (from at : ℕ) : Type 0
   pub place : at ≡ zone_header + total_of l.heads start + total_of l.heads passed
   pub others : IsTrue (none_master passed)
   pub agree : HasHeaders l bytes (zone_header + total_of l.heads start) passed
+  pub begun : begun_before l.heads from end (passed ++ rest) ≡ passed ++ begun_before l.heads (l.base + at) end rest
 
 -- so far none was compared
-pub compared-none : (l : Layout) (bytes : List ℕ) (from at : ℕ) → SplitAt l from → at ≡ from - l.base → ComparedUpTo l bytes from at
-compared-none l bytes from at s there = let place = s.place in
-    record { start = s.before; passed = []; rest = s.behind; blocks = s.blocks; first = s.place; place = omega arith; others = refl; agree = tt }
+pub compared-none : (l : Layout) (bytes : List ℕ) (from end at : ℕ) → SplitAt l from → at ≡ from - l.base → ComparedUpTo l bytes from end at
+compared-none l bytes from end at s there = let place = s.place in
+    record {
+      start = s.before;
+      passed = [];
+      rest = s.behind;
+      blocks = s.blocks;
+      first = s.place;
+      place = omega arith;
+      others = refl;
+      agree = tt;
+      begun = ap (λ (n : ℕ). begun_before l.heads n end s.behind) (let e : from ≡ l.base + at = omega arith in e);
+    }
 
 -- then comes a block, with its header in the fields
-pub record NextAt (z : Inside) (l : Layout) (bytes : List ℕ) (from at : ℕ) : Type 0 where
-  pub compared : ComparedUpTo l bytes from at
+pub record NextAt (z : Inside) (l : Layout) (bytes : List ℕ) (from end at : ℕ) : Type 0 where
+  pub compared : ComparedUpTo l bytes from end at
   pub here : RawBlock
   pub behind : List RawBlock
   pub next : compared.rest ≡ here ∷ behind
   pub read : ReadAt z l at here
 
 -- below the end of the last block
-pub next-at : (z : Inside) → IsLayout z → ArePossible z.spec → (l : Layout) → layout_of z ≡ l → (bytes : List ℕ) (from at : ℕ) → ComparedUpTo l bytes from at → at < z.spec.size → NextAt z l bytes from at
-next-at z whole small l is bytes from at = subst (λ (m : Layout). ComparedUpTo m bytes from at → at < z.spec.size → NextAt z m bytes from at) is (λ r below. by_rest r.start r.passed r.rest r.blocks r.first r.place r.others r.agree below)
+pub next-at : (z : Inside) → IsLayout z → ArePossible z.spec → (l : Layout) → layout_of z ≡ l → (bytes : List ℕ) (from end at : ℕ) → ComparedUpTo l bytes from end at → at < z.spec.size → NextAt z l bytes from end at
+next-at z whole small l is bytes from end at = subst (λ (m : Layout). ComparedUpTo m bytes from end at → at < z.spec.size → NextAt z m bytes from end at) is (λ r below. by_rest r.start r.passed r.rest r.blocks r.first r.place r.others r.agree r.begun below)
   where
     by_rest : (start passed rest : List RawBlock) → (layout_of z).blocks ≡ start ++ (passed ++ rest) → from ≡ address_behind (layout_of z) start
         → at ≡ zone_header + total_of z.spec.heads start + total_of z.spec.heads passed → IsTrue (none_master passed)
-        → HasHeaders (layout_of z) bytes (zone_header + total_of z.spec.heads start) passed → at < z.spec.size → NextAt z (layout_of z) bytes from at
-    by_rest start passed [] blocks first place others agree below =
+        → HasHeaders (layout_of z) bytes (zone_header + total_of z.spec.heads start) passed
+        → begun_before z.spec.heads from end (passed ++ rest) ≡ passed ++ begun_before z.spec.heads ((layout_of z).base + at) end rest → at < z.spec.size → NextAt z (layout_of z) bytes from end at
+    by_rest start passed [] blocks first place others agree begun below =
         let sum = ap (total_of z.spec.heads) blocks in let a = total_of-append z.spec.heads start (passed ++ []) in let b = total_of-append z.spec.heads passed [] in let ends = total-ends z whole in absurd (omega arith)
-    by_rest start passed (b ∷ bs) blocks first place others agree below =
+    by_rest start passed (b ∷ bs) blocks first place others agree begun below =
         let before = start ++ passed in let e : (layout_of z).blocks ≡ before ++ b ∷ bs = blocks ∙ sym (append_assoc start passed (b ∷ bs)) in
         let sum = total_of-append z.spec.heads start passed in let there : at ≡ zone_header + total_of z.spec.heads before = omega arith in
         record {
-          compared = record { start = start; passed = passed; rest = b ∷ bs; blocks = blocks; first = first; place = place; others = others; agree = agree };
+          compared = record { start = start; passed = passed; rest = b ∷ bs; blocks = blocks; first = first; place = place; others = others; agree = agree; begun = begun };
           here = b;
           behind = bs;
           next = refl;
@@ -96,7 +110,7 @@ next-at z whole small l is bytes from at = subst (λ (m : Layout). ComparedUpTo 
 pub enough-bytes : (z : Inside) → IsLayout z → (l : Layout) → layout_of z ≡ l → (bytes : List ℕ) → length bytes ≡ length (image_of l) → length bytes ≡ z.spec.limit
 enough-bytes z whole l is bytes long = long ∙ ap (λ (m : Layout). length (image_of m)) (sym is) ∙ length-all z whole
 
-module _ (l : Layout) (bytes : List ℕ) (from at : ℕ) (r : ComparedUpTo l bytes from at) (s : SplitAt l from) where
+module _ (l : Layout) (bytes : List ℕ) (from end at : ℕ) (r : ComparedUpTo l bytes from end at) (s : SplitAt l from) where
   -- the blocks from the address on
   pub behind-is : s.behind ≡ r.passed ++ r.rest
   behind-is = let p = s.place in let q = r.first in same_rest l.heads s.before s.behind r.start (r.passed ++ r.rest) (sym s.blocks ∙ r.blocks) (omega arith)
@@ -105,20 +119,25 @@ module _ (l : Layout) (bytes : List ℕ) (from at : ℕ) (r : ComparedUpTo l byt
   pub offset-is : zone_header + total_of l.heads r.start ≡ from - l.base
   offset-is = let q = r.first in omega arith
 
-  -- all of them were compared where the zone ends
-  pub compared-all : address_behind l l.blocks ≤ l.base + at → IsTrue (none_master s.behind) × HasHeaders l bytes (from - l.base) s.behind
+  -- those of them that begin before the other address
+  pub begun-is : begun_before l.heads from end s.behind ≡ r.passed ++ begun_before l.heads (l.base + at) end r.rest
+  begun-is = ap (begun_before l.heads from end) behind-is ∙ r.begun
+
+  -- all of these were compared where the zone ends, or the other address is reached
+  pub compared-all : (address_behind l l.blocks ≤ l.base + at) ⊎ (end ≤ l.base + at) → IsTrue (none_master (begun_before l.heads from end s.behind)) × HasHeaders l bytes (from - l.base) (begun_before l.heads from end s.behind)
   compared-all ends =
-      subst (λ (bs : List RawBlock). IsTrue (none_master bs) × HasHeaders l bytes (from - l.base) bs) (sym (behind-is ∙ ap (λ (bs : List RawBlock). r.passed ++ bs) (none r.rest r.blocks) ∙ append-nil r.passed))
+      subst (λ (bs : List RawBlock). IsTrue (none_master bs) × HasHeaders l bytes (from - l.base) bs)
+      (sym (begun-is ∙ ap (λ (bs : List RawBlock). r.passed ++ bs) (elim ends [ inl all ↦ ap (begun_before l.heads (l.base + at) end) (none r.rest r.blocks all) | inr high ↦ begun-none l.heads end (l.base + at) r.rest high ]) ∙ append-nil r.passed))
       (r.others, subst (λ (n : ℕ). HasHeaders l bytes n r.passed) offset-is r.agree)
     where
-      none : (rest : List RawBlock) → l.blocks ≡ r.start ++ (r.passed ++ rest) → rest ≡ []
-      none [] blocks = refl
-      none (b ∷ bs) blocks =
+      none : (rest : List RawBlock) → l.blocks ≡ r.start ++ (r.passed ++ rest) → address_behind l l.blocks ≤ l.base + at → rest ≡ []
+      none [] blocks all = refl
+      none (b ∷ bs) blocks all =
           let sum = ap (total_of l.heads) blocks in let first = total_of-append l.heads r.start (r.passed ++ b ∷ bs) in let second = total_of-append l.heads r.passed (b ∷ bs) in
           let some = size_of-pos l.heads b in let place = r.place in absurd (omega arith)
 
-module _ (z : Inside) (l : Layout) (bytes : List ℕ) (from at : ℕ) (n : NextAt z l bytes from at) where
-  abbrev r : ComparedUpTo l bytes from at
+module _ (z : Inside) (l : Layout) (bytes : List ℕ) (from end at : ℕ) (n : NextAt z l bytes from end at) where
+  abbrev r : ComparedUpTo l bytes from end at
   r = n.compared
 
   -- its header, where it agrees
@@ -126,45 +145,60 @@ module _ (z : Inside) (l : Layout) (bytes : List ℕ) (from at : ℕ) (n : NextA
   agree-here same = headers-append l bytes (zone_header + total_of l.heads r.start) r.passed (n.here ∷ []) r.agree
       ((λ i. part bytes (sym r.place i) (sym n.read.same i)) ∙ sym same ∙ n.read.head, tt)
 
-  -- the header agrees, and isn't that of a master block
-  pub compared-more : part z.memory.bytes at (head_size z.spec.heads) ≡ part bytes at (head_size z.spec.heads) → is_master n.here.role ≡ false → (next : ℕ) → next ≡ at + size_of l.heads n.here
-      → ComparedUpTo l bytes from next
-  compared-more same other next there = let place = r.place in let sum = total_of-append l.heads r.passed (n.here ∷ []) in record {
-    start = r.start;
-    passed = r.passed ++ n.here ∷ [];
-    rest = n.behind;
-    blocks = r.blocks ∙ ap (λ (bs : List RawBlock). r.start ++ (r.passed ++ bs)) n.next ∙ ap (λ (bs : List RawBlock). r.start ++ bs) (sym (append_assoc r.passed (n.here ∷ []) n.behind));
-    first = r.first;
-    place = omega arith;
-    others = list_all-append (λ (b : RawBlock). not (is_master b.role)) r.passed (n.here ∷ []) ∙ ap (λ (t : Bool). t && (not (is_master n.here.role) && true)) r.others ∙ ap (λ (t : Bool). not t && true) other;
-    agree = agree-here same;
-  }
+  -- where it begins before the other address
+  module _ (low : l.base + at < end) where
+    -- those that do are the compared ones, this one, and those after it
+    begun-here : begun_before l.heads from end (r.passed ++ n.here ∷ n.behind) ≡ r.passed ++ n.here ∷ begun_before l.heads (l.base + at + size_of l.heads n.here) end n.behind
+    begun-here =
+        ap (λ (bs : List RawBlock). begun_before l.heads from end (r.passed ++ bs)) (sym n.next) ∙ r.begun ∙ ap (λ (bs : List RawBlock). r.passed ++ begun_before l.heads (l.base + at) end bs) n.next
+        ∙ ap (λ (bs : List RawBlock). r.passed ++ bs) (begun-first l.heads end (l.base + at) n.here n.behind low)
 
-  module _ (s : SplitAt l from) where
-    -- the blocks from the address on
-    here-is : s.behind ≡ r.passed ++ n.here ∷ n.behind
-    here-is = behind-is l bytes from at r s ∙ ap (λ (bs : List RawBlock). r.passed ++ bs) n.next
-
-    -- the header agrees, and is that of a master block
-    pub agree-up_to : part z.memory.bytes at (head_size z.spec.heads) ≡ part bytes at (head_size z.spec.heads) → is_master n.here.role ≡ true → (place : ℕ) → place ≡ l.base + at
-        → AgreeUpTo l bytes (from - l.base) s.behind place
-    agree-up_to same is place there = let offset = offset-is l bytes from at r s in let p = r.place in record {
-      passed = r.passed;
-      here = n.here;
-      behind = n.behind;
-      blocks = here-is;
-      others = r.others;
-      master = master-is n.here.role is;
-      agree = subst (λ (k : ℕ). HasHeaders l bytes k (r.passed ++ n.here ∷ [])) offset (agree-here same);
+    -- the header agrees, and isn't that of a master block
+    pub compared-more : part z.memory.bytes at (head_size z.spec.heads) ≡ part bytes at (head_size z.spec.heads) → is_master n.here.role ≡ false → (next : ℕ) → next ≡ at + size_of l.heads n.here
+        → ComparedUpTo l bytes from end next
+    compared-more same other next there = let place = r.place in let sum = total_of-append l.heads r.passed (n.here ∷ []) in record {
+      start = r.start;
+      passed = r.passed ++ n.here ∷ [];
+      rest = n.behind;
+      blocks = r.blocks ∙ ap (λ (bs : List RawBlock). r.start ++ (r.passed ++ bs)) n.next ∙ ap (λ (bs : List RawBlock). r.start ++ bs) (sym (append_assoc r.passed (n.here ∷ []) n.behind));
+      first = r.first;
       place = omega arith;
+      others = list_all-append (λ (b : RawBlock). not (is_master b.role)) r.passed (n.here ∷ []) ∙ ap (λ (t : Bool). t && (not (is_master n.here.role) && true)) r.others ∙ ap (λ (t : Bool). not t && true) other;
+      agree = agree-here same;
+      begun = ap (begun_before l.heads from end) (append_assoc r.passed (n.here ∷ []) n.behind) ∙ begun-here
+          ∙ ap (λ (k : ℕ). r.passed ++ n.here ∷ begun_before l.heads k end n.behind) (let e : l.base + at + size_of l.heads n.here ≡ l.base + next = omega arith in e)
+          ∙ sym (append_assoc r.passed (n.here ∷ []) (begun_before l.heads (l.base + next) end n.behind));
     }
 
-    -- it agrees where those up to the next master block do
-    pub same-here : HasHeaders l bytes (from - l.base) (up_to_master s.behind) → part z.memory.bytes at (head_size z.spec.heads) ≡ part bytes at (head_size z.spec.heads)
-    same-here headers =
-        let bs = r.passed ++ up_to_master (n.here ∷ n.behind) in let offset = offset-is l bytes from at r s in
-        let all : HasHeaders l bytes (zone_header + total_of l.heads r.start) bs =
-        subst (λ (k : ℕ). HasHeaders l bytes k bs) (sym offset)
-        (subst (HasHeaders l bytes (from - l.base)) (ap up_to_master here-is ∙ up_to-passed r.passed (n.here ∷ n.behind) r.others) headers) in
-        let here = headers-rest l bytes (zone_header + total_of l.heads r.start) r.passed (up_to_master (n.here ∷ n.behind)) all in
-        n.read.head ∙ sym here.0 ∙ (λ i. part bytes (sym r.place i) (sym n.read.same i))
+    module _ (s : SplitAt l from) where
+      -- the blocks after it that begin before the other address
+      abbrev later : List RawBlock
+      later = begun_before l.heads (l.base + at + size_of l.heads n.here) end n.behind
+
+      -- the blocks from the address on that do
+      here-is : begun_before l.heads from end s.behind ≡ r.passed ++ n.here ∷ later
+      here-is = ap (begun_before l.heads from end) (behind-is l bytes from end at r s ∙ ap (λ (bs : List RawBlock). r.passed ++ bs) n.next) ∙ begun-here
+
+      -- the header agrees, and is that of a master block
+      pub agree-up_to : part z.memory.bytes at (head_size z.spec.heads) ≡ part bytes at (head_size z.spec.heads) → is_master n.here.role ≡ true → (place : ℕ) → place ≡ l.base + at
+          → AgreeUpTo l bytes (from - l.base) (begun_before l.heads from end s.behind) place
+      agree-up_to same is place there = let offset = offset-is l bytes from end at r s in let p = r.place in record {
+        passed = r.passed;
+        here = n.here;
+        behind = later;
+        blocks = here-is;
+        others = r.others;
+        master = master-is n.here.role is;
+        agree = subst (λ (k : ℕ). HasHeaders l bytes k (r.passed ++ n.here ∷ [])) offset (agree-here same);
+        place = omega arith;
+      }
+
+      -- it agrees where those up to the next master block do
+      pub same-here : HasHeaders l bytes (from - l.base) (up_to_master (begun_before l.heads from end s.behind)) → part z.memory.bytes at (head_size z.spec.heads) ≡ part bytes at (head_size z.spec.heads)
+      same-here headers =
+          let bs = r.passed ++ up_to_master (n.here ∷ later) in let offset = offset-is l bytes from end at r s in
+          let all : HasHeaders l bytes (zone_header + total_of l.heads r.start) bs =
+          subst (λ (k : ℕ). HasHeaders l bytes k bs) (sym offset)
+          (subst (HasHeaders l bytes (from - l.base)) (ap up_to_master here-is ∙ up_to-passed r.passed (n.here ∷ later) r.others) headers) in
+          let here = headers-rest l bytes (zone_header + total_of l.heads r.start) r.passed (up_to_master (n.here ∷ later)) all in
+          n.read.head ∙ sym here.0 ∙ (λ i. part bytes (sym r.place i) (sym n.read.same i))

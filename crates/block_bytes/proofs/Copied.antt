@@ -1,5 +1,5 @@
 -- Bytes of one block over those of another.
-use Rattle.std.proofs.Common.{◌≡◌, false, ℕ, ◌+◌, ◌-◌, ◌≤◌, List, [], ◌∷◌, ◌++◌, length, take, drop, sym, ap, ◌∙◌, subst, arith, append_assoc}
+use Rattle.std.proofs.Common.{◌≡◌, Bool, Option, false, ℕ, ◌+◌, ◌-◌, ◌≤◌, List, [], ◌∷◌, ◌++◌, length, take, drop, sym, ap, ◌∙◌, subst, arith, append_assoc}
 use Rattle.std.proofs.lemmas.List.{drop-drop}
 use Rattle.mac_base.specs.HeadKind.{head_size}
 use Rattle.mac_base.specs.ZoneSizes.{ArePossible}
@@ -11,11 +11,15 @@ use Rattle.raw_region.proofs.Lists.{written_is, part_long}
 use Rattle.block_bytes.specs.declared.blocks.Blocks.TheInside.{Inside}
 use Rattle.block_bytes.specs.Layout.{Layout, BlockAt, with_blocks}
 use Rattle.block_bytes.specs.Copying.{CanCopy, copied_over}
-use Rattle.block_bytes.specs.Reading.{layout_of, IsLayout}
-use Rattle.block_bytes.proofs.Parts.{IsRead, IsIn-from}
+use Rattle.block_bytes.specs.declared.record.Record.{Record}
+use Rattle.block_bytes.specs.Reading.{layout_of, IsLayout, IsWhole}
+use Rattle.block_bytes.specs.Record.{all_noted}
+use Rattle.block_bytes.specs.Structure.{is_master}
+use Rattle.std.specs.Prelude.{◌&&◌, is_some, if◌then◌else◌}
+use Rattle.block_bytes.proofs.Parts.{IsIn-from}
 use Rattle.block_bytes.proofs.Settled.{unlent-free}
 use Rattle.block_bytes.proofs.ReadParts.{part-read}
-use Rattle.block_bytes.proofs.Changes.{contents-written}
+use Rattle.block_bytes.proofs.Recorded.{IsReadWhole, grows-if, noted-awake, written-kept}
 
 -- Where n bytes of contents of a block lie, from a place among them on, whose header stands at an address.
 pub record LiesAt (z : Inside) (at start n : ℕ) : Type 0 where
@@ -49,17 +53,19 @@ written-over : (old ws : List ℕ) (at : ℕ) → at + length ws ≤ length old 
 written-over old ws at fits = written_is old at ws fits ∙ ap (λ (l : List ℕ). take at old ++ (ws ++ l)) (drop-drop (length ws) at old) ∙ sym (append_assoc (take at old) ws (drop (at + length ws) old))
 
 -- what the blocks are then
-pub copied-read : (z : Inside) → IsLayout z → ArePossible z.spec → (from start to offset n source target : ℕ) (can : CanCopy (layout_of z) from start to offset n)
+pub copied-read : (z : Inside) → IsWhole z → ArePossible z.spec → (from start to offset n source target : ℕ) (can : CanCopy (layout_of z) from start to offset n)
     → source ≡ from - z.spec.base + head_size z.spec.heads + start → target ≡ to - z.spec.base + head_size z.spec.heads + offset
-    → IsRead (record z { memory = with_bytes z.memory target (part z.memory.bytes source n) })
+    → (own : Bool) (kept : Option Record) → own ≡ (is_some z.kept && is_master can.target.here.role) → kept ≡ (if own then all_noted z.kept else z.kept)
+    → IsReadWhole (record z { memory = with_bytes z.memory target (part z.memory.bytes source n); kept = kept })
     (with_blocks (can.target.before ++ copied_over can.target.here offset (take n (drop start can.source.here.contents)) ∷ can.target.behind) (layout_of z))
-copied-read z whole small from start to offset n source target can from_is to_is =
+copied-read z whole small from start to offset n source target can from_is to_is own kept own_is noted =
     let s = can.source in let t = can.target in let l = layout_of z in
     let s_place = s.place in let t_place = t.place in let within = can.within_source in let within' = can.within_target in
-    let bytes : part z.memory.bytes source n ≡ part s.here.contents start n = part-read z whole s.before s.here s.behind s.blocks source start n (omega arith) within in
+    let bytes : part z.memory.bytes source n ≡ part s.here.contents start n = part-read z whole.layout s.before s.here s.behind s.blocks source start n (omega arith) within in
     let long : length (part s.here.contents start n) ≡ n = part_long s.here.contents start n within in
     let long' : length (part z.memory.bytes source n) ≡ n = ap length bytes ∙ long in
-    let read = contents-written z whole small t.before t.here t.behind t.blocks offset target (part z.memory.bytes source n) can.unlent_target (omega arith) (omega arith) in
+    let read = written-kept z whole small t.before t.here t.behind t.blocks offset target (part z.memory.bytes source n) can.unlent_target (omega arith) (omega arith)
+    kept (grows-if (length z.memory.bytes) own z.kept kept noted) (λ master i low high. noted-awake own (is_master t.here.role) z.kept kept own_is noted master i) in
     let same : written t.here.contents offset (part z.memory.bytes source n) ≡ over.written offset (part s.here.contents start n) t.here.contents =
     ap (written t.here.contents offset) bytes ∙ written-over t.here.contents (part s.here.contents start n) offset (omega arith) in
     record { view = read.view ∙ ap (λ (cs : List ℕ). with_blocks (t.before ++ (record t.here { contents = cs }) ∷ t.behind) l) same; whole = read.whole }

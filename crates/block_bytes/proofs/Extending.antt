@@ -31,7 +31,7 @@ use Rattle.block_bytes.proofs.Counting.{kept-first, kept-written, can-count_more
 use Rattle.block_bytes.proofs.Walking.{is_possible-from}
 
 -- no header has more than 12 bytes, and no smallest block more than 16
-sizes-few : (heads : HeadKind) → (head_size heads ≤ 12) × (smallest_block heads ≤ 16)
+pub sizes-few : (heads : HeadKind) → (head_size heads ≤ 12) × (smallest_block heads ≤ 16)
 sizes-few Bits24 = (omega arith, omega arith)
 sizes-few Bits32 = (omega arith, omega arith)
 
@@ -188,7 +188,7 @@ module _ (z : Inside) (whole : IsLayout z) (small : ArePossible z.spec) (more : 
   pub extends : (m n : State) (spec : ZoneSizes) (index : List ℕ) → m ≡ with_bytes z.memory z.spec.size head → index ≡ set z.index (z.spec.size / 4) left
       → n ≡ with_bytes (counted m z.spec.base left 0 (first_marked z.spec.base index)) end_field (big_bytes 4 (z.spec.base + z.spec.limit))
       → spec ≡ record { heads = z.spec.heads; base = z.spec.base; size = z.spec.limit; limit = z.spec.limit }
-      → IsRead (record { spec = spec; memory = n; index = index; loans = z.loans }) (extended (layout_of z))
+      → IsRead (record { spec = spec; memory = n; index = index; loans = z.loans; kept = z.kept }) (extended (layout_of z))
   extends m n spec index is set_is settles grown =
       let l = layout_of z in let heads = z.spec.heads in let limit = small.small_enough in let end = small.end_low_enough in let top = end-small z.spec.heads in let bottom = small.base_high_enough in let low = whole.low in
       let kept = kept-written z z.memory m z.spec.size head (kept-first z whole small) is low in
@@ -213,9 +213,9 @@ module _ (z : Inside) (whole : IsLayout z) (small : ArePossible z.spec) (more : 
       let lent : n.lent ≡ z.memory.lent = ap (λ (s : State). s.lent) settles ∙ kept.lent in
       let name : n.name ≡ z.memory.name = ap (λ (s : State). s.name) settles ∙ kept.name in
       let counts = count-append l.blocks (added ∷ []) in let loans = whole.loans in
-      let read = image-read (record { spec = record { heads = heads; base = z.spec.base; size = z.spec.limit; limit = z.spec.limit }; memory = n; index = index; loans = z.loans })
+      let read = image-read (record { spec = record { heads = heads; base = z.spec.base; size = z.spec.limit; limit = z.spec.limit }; memory = n; index = index; loans = z.loans; kept = z.kept })
       z.memory.name l.front blocks [] name (front-fits z whole) total all-possible (omega arith) (omega arith) (omega arith) long image marks
       (λ s. ap (times s) lent ∙ whole.lent s ∙ ap (times s) (sym (spans-append heads zone_header l.blocks (added ∷ []) ∙ append-nil (lent_spans heads zone_header l.blocks))))
       (omega arith) whole.few in
-      subst (λ (s : ZoneSizes). IsRead (record { spec = s; memory = n; index = index; loans = z.loans }) (extended l)) (sym grown)
-      (subst (IsRead (record { spec = record { heads = heads; base = z.spec.base; size = z.spec.limit; limit = z.spec.limit }; memory = n; index = index; loans = z.loans })) after-is read)
+      subst (λ (s : ZoneSizes). IsRead (record { spec = s; memory = n; index = index; loans = z.loans; kept = z.kept }) (extended l)) (sym grown)
+      (subst (IsRead (record { spec = record { heads = heads; base = z.spec.base; size = z.spec.limit; limit = z.spec.limit }; memory = n; index = index; loans = z.loans; kept = z.kept })) after-is read)

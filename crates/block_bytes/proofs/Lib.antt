@@ -11,6 +11,9 @@ pub mod Parts
 pub mod Settled
 pub mod Changes
 pub mod Roles
+pub mod Owned
+pub mod Noted
+pub mod Recorded
 pub mod ReadParts
 pub mod Counting
 pub mod Here
@@ -33,6 +36,8 @@ pub mod Structures
 pub mod Exchanged
 pub mod AdoptedBlocks
 pub mod AdoptedZone
+pub mod Begun
 pub mod Comparing
 pub mod WrittenOwn
 pub mod Alone
+pub mod Asleep

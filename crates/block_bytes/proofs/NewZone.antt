@@ -1,5 +1,5 @@
 -- The bytes of a new zone.
-use Rattle.std.proofs.Common.{◌≡◌, ℕ, suc, ◌+◌, ◌-◌, ◌/◌, ◌≤◌, Bool, true, List, [], ◌∷◌, ◌++◌, length, replicate, refl, sym, ap, ◌∙◌, arith, append_assoc, append-nil, take_at, IsTrue}
+use Rattle.std.proofs.Common.{None, ◌≡◌, ℕ, suc, ◌+◌, ◌-◌, ◌/◌, ◌≤◌, Bool, true, List, [], ◌∷◌, ◌++◌, length, replicate, refl, sym, ap, ◌∙◌, arith, append_assoc, append-nil, take_at, IsTrue}
 use Rattle.std.specs.Prelude.{◌&&◌}
 use Rattle.std.proofs.Math.ListN.{set}
 use Rattle.std.proofs.lemmas.List.{length-replicate, replicate-append-replicate, set_at}
@@ -73,7 +73,7 @@ module _ (z : ZoneSizes) (possible : ArePossible z) where
       → h ≡ record { size = z.size - zone_header; role = Free; correction = 0 } → end ≡ z.base + z.size → free ≡ z.size - zone_header → lowest ≡ z.base + zone_header
       → start.bytes ≡ zeros z.limit → start.lent ≡ [] → first ≡ with_bytes start 0 (zone_head end 0 free lowest) → m ≡ with_bytes first zone_header (head_bytes heads base h)
       → index ≡ set (zeros (z.limit / 4)) (zone_header / 4) (z.size - zone_header)
-      → IsRead (record { spec = z; memory = m; index = index; loans = 0 }) (new_layout m.name z)
+      → IsRead (record { spec = z; memory = m; index = index; loans = 0; kept = None }) (new_layout m.name z)
   new-read start first m index heads base end free lowest h heads_is base_is h_is end_is free_is lowest_is start_is none first_is m_is marks =
       let small = sizes-small z.heads in let one = small.0 in let two = small.1 in let top = end-small z.heads in
       let b = free_raw_block (zeros room) in let long = length-zeros room in let spare_long = length-zeros (z.limit - z.size) in let head_long = length-zeros zone_header in
@@ -93,7 +93,7 @@ module _ (z : ZoneSizes) (possible : ArePossible z) where
       let all : length m.bytes ≡ z.limit = ap (λ (s : State). length s.bytes) m_is ∙ length-written first.bytes zone_header (head_bytes heads base h) ∙ ap (λ (s : State). length s.bytes) first_is
       ∙ length-written start.bytes 0 (zone_head end 0 free lowest) ∙ ap length start_is ∙ length-zeros z.limit in
       let lent : m.lent ≡ [] = ap (λ (s : State). s.lent) m_is ∙ ap (λ (s : State). s.lent) first_is ∙ none in
-      image-read (record { spec = z; memory = m; index = index; loans = 0 }) m.name 0 (b ∷ []) (zeros (z.limit - z.size)) refl (omega arith) (omega arith) (ap (λ (t : Bool). t && true) told) (omega arith) (omega arith) (omega arith) all
+      image-read (record { spec = z; memory = m; index = index; loans = 0; kept = None }) m.name 0 (b ∷ []) (zeros (z.limit - z.size)) refl (omega arith) (omega arith) (ap (λ (t : Bool). t && true) told) (omega arith) (omega arith) (omega arith) all
       (bytes ∙ regrouped zone (head_bytes z.heads z.base (header_of z.heads b)) (zeros room) (zeros (z.limit - z.size)))
       (marks ∙ ap (set (zeros (z.limit / 4)) (zone_header / 4)) size ∙ first-marked (size_of z.heads b) (size_of z.heads b) (omega arith))
       (λ s. ap (times s) lent) refl (omega arith)

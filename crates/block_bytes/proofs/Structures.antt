@@ -78,10 +78,6 @@ module _ (l : Layout) (bytes : List ℕ) where
         (subst (λ (n : ℕ). HasHeaders l bytes n ys) (let e : at + (size_of l.heads b + total_of l.heads bs) ≡ at + size_of l.heads b + total_of l.heads bs = omega arith in e) rest),
   )
 
-  pub headers-first : (at : ℕ) (xs ys : List RawBlock) → HasHeaders l bytes at (xs ++ ys) → HasHeaders l bytes at xs
-  headers-first at [] ys both = tt
-  headers-first at (b ∷ bs) ys both = (both.0, headers-first (at + size_of l.heads b) bs ys both.1)
-
   pub headers-rest : (at : ℕ) (xs ys : List RawBlock) → HasHeaders l bytes at (xs ++ ys) → HasHeaders l bytes (at + total_of l.heads xs) ys
   headers-rest at [] ys both = subst (λ (n : ℕ). HasHeaders l bytes n ys) (let e : at ≡ at + 0 = omega arith in e) both
   headers-rest at (b ∷ bs) ys both =

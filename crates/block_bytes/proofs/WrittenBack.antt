@@ -1,5 +1,5 @@
 -- What is left behind a slice of a block's contents.
-use Rattle.std.proofs.Common.{◌≡◌, ℕ, ◌+◌, ◌-◌, ◌<◌, ◌≤◌, Bool, false, List, [], ◌∷◌, ◌++◌, length, take, drop, replicate, refl, sym, ap, ◌∙◌, arith, length-take, length-drop, append-nil}
+use Rattle.std.proofs.Common.{◌≡◌, ℕ, ◌+◌, ◌-◌, ◌<◌, ◌≤◌, Bool, true, false, Option, List, [], ◌∷◌, ◌++◌, length, take, drop, replicate, refl, sym, ap, ◌∙◌, arith, length-take, length-drop, append-nil}
 use Rattle.std.specs.Prelude.{◌==◌, if◌then◌else◌}
 use Rattle.std.proofs.lemmas.List.{length-replicate, nil_from_length}
 use Rattle.std.proofs.lemmas.Bool.Decides.{nat_tests}
@@ -14,12 +14,14 @@ use Rattle.raw_region.proofs.Lists.{written_is}
 use Rattle.block_bytes.specs.declared.header.Header.{Header}
 use Rattle.block_bytes.specs.declared.blocks.Blocks.TheInside.{Inside}
 use Rattle.block_bytes.specs.Layout.{RawBlock, BlockAt, cleared, cleared_from, size_of, total_of, header_of, with_blocks, address_behind}
-use Rattle.block_bytes.specs.Reading.{layout_of, IsLayout}
+use Rattle.block_bytes.specs.declared.record.Record.{Record}
+use Rattle.block_bytes.specs.Reading.{layout_of, IsWhole}
+use Rattle.block_bytes.specs.Record.{all_noted}
+use Rattle.block_bytes.specs.Structure.{is_master}
 use Rattle.block_bytes.specs.WritingBack.{overwritten_at, with_contents_at}
 use Rattle.block_bytes.proofs.Rendered.{written-whole}
 use Rattle.block_bytes.proofs.ReadBlocks.{head_size-positive}
-use Rattle.block_bytes.proofs.Parts.{IsRead}
-use Rattle.block_bytes.proofs.Changes.{contents-written}
+use Rattle.block_bytes.proofs.Recorded.{Grows, IsReadWhole, NotedIn, grows-if, noted-if, written-kept}
 
 -- a block with other contents
 abbrev pub with_contents : RawBlock → List ℕ → RawBlock
@@ -46,20 +48,40 @@ overwritten-there heads at x bytes (b ∷ before) here behind is = let positive 
     (further at x (size_of heads b + total_of heads before) (omega arith) (omega arith))
     ∙ ap (λ (bs : List RawBlock). b ∷ bs) (overwritten-there heads (at + size_of heads b) x bytes before here behind (omega arith))
 
-module _ (z : Inside) (whole : IsLayout z) (small : ArePossible z.spec) (at : ℕ) (h : Header) (place n : ℕ) (b : BlockAt (layout_of z) at) (is : h ≡ header_of z.spec.heads b.here) (unlent : b.here.lent ≡ false)
-    (there : place ≡ at - z.spec.base + head_size z.spec.heads) (long : n ≡ h.size - head_size z.spec.heads - h.correction) where
+-- as many bytes as a list has are all of it
+drop_none : (xs : List ℕ) (k : ℕ) → length xs ≤ k → drop k xs ≡ []
+drop_none xs k all = nil_from_length (drop k xs) (length-drop k xs ∙ omega arith)
+
+-- zeros written over a list from a place on up to its end
+zeroed : (xs : List ℕ) (from k : ℕ) → from ≤ k → k ≡ length xs → written xs from (replicate (k - from) 0) ≡ take from xs ++ replicate (length xs - from) 0
+zeroed xs from k within is =
+    let zeros = replicate {A = ℕ} (k - from) 0 in let long : length zeros ≡ k - from = length-replicate {A = ℕ} (k - from) 0 in
+    let nothing : drop (length zeros) (drop from xs) ≡ [] = drop_none (drop from xs) (length zeros) (omega (arith, length-drop from xs)) in
+    written_is xs from zeros (omega arith) ∙ ap (λ (l : List ℕ). take from xs ++ (zeros ++ l)) nothing ∙ ap (λ (l : List ℕ). take from xs ++ l) (append-nil zeros)
+    ∙ ap (λ (n : ℕ). take from xs ++ replicate (n - from) 0) is
+
+module _ (z : Inside) (whole : IsWhole z) (small : ArePossible z.spec) (at : ℕ) (h : Header) (place n : ℕ) (b : BlockAt (layout_of z) at) (is : h ≡ header_of z.spec.heads b.here) (unlent : b.here.lent ≡ false)
+    (there : place ≡ at - z.spec.base + head_size z.spec.heads) (long : n ≡ h.size - head_size z.spec.heads - h.correction)
+    (kept : Option Record) (noted : kept ≡ (if is_master h.role then all_noted z.kept else z.kept)) where
   -- how long the contents are
   n-is : n ≡ length b.here.contents
   n-is = let size : h.size ≡ size_of z.spec.heads b.here = ap (λ (h : Header). h.size) is in let slack : h.correction ≡ length b.here.slack = ap (λ (h : Header). h.correction) is in omega arith
 
+  -- the record stays, and all bytes are noted where the block is a master block
+  grows : Grows (length z.memory.bytes) z.kept kept
+  grows = grows-if (length z.memory.bytes) (is_master h.role) z.kept kept noted
+
+  own_noted : is_master b.here.role ≡ true → (i : ℕ) → NotedIn kept i
+  own_noted master i = noted-if (is_master h.role) z.kept kept noted (ap (λ (h : Header). is_master h.role) is ∙ master) i
+
   -- other contents, of the same length
   other : (ws : List ℕ) → length ws ≤ n
-      → IsRead (record z { memory = with_bytes z.memory place ws }) (with_blocks (b.before ++ with_contents b.here (written b.here.contents 0 ws) ∷ b.behind) (layout_of z))
+      → IsReadWhole (record z { memory = with_bytes z.memory place ws; kept = kept }) (with_blocks (b.before ++ with_contents b.here (written b.here.contents 0 ws) ∷ b.behind) (layout_of z))
   other ws few = let e = n-is in let at_is = b.place in
-      contents-written z whole small b.before b.here b.behind b.blocks 0 place ws unlent (omega arith) (omega arith)
+      written-kept z whole small b.before b.here b.behind b.blocks 0 place ws unlent (omega arith) (omega arith) kept grows (λ master i low high. own_noted master i)
 
   -- what a slice of the contents leaves
-  pub lent-read : (ws : List ℕ) → IsRead (record z { memory = with_bytes z.memory place (take n ws) }) (with_contents_at (layout_of z) at ws)
+  pub lent-read : (ws : List ℕ) → IsReadWhole (record z { memory = with_bytes z.memory place (take n ws); kept = kept }) (with_contents_at (layout_of z) at ws)
   lent-read ws = let e = n-is in let at_is = b.place in let l = layout_of z in let cut = length-take n ws in
       let read = other (take n ws) (omega arith) in
       let same : written b.here.contents 0 (take n ws) ≡ overwritten b.here.contents ws = ap (λ (k : ℕ). written b.here.contents 0 (take k ws)) e ∙ written-overwritten b.here.contents ws in
@@ -69,22 +91,15 @@ module _ (z : Inside) (whole : IsLayout z) (small : ArePossible z.spec) (at : �
       record { view = read.view ∙ ap (λ (bs : List RawBlock). with_blocks bs l) blocks; whole = read.whole }
 
   -- contents that are zero
-  pub cleared-read : IsRead (record z { memory = with_bytes z.memory place (replicate n 0) }) (with_blocks (b.before ++ cleared b.here ∷ b.behind) (layout_of z))
+  pub cleared-read : IsReadWhole (record z { memory = with_bytes z.memory place (replicate n 0); kept = kept }) (with_blocks (b.before ++ cleared b.here ∷ b.behind) (layout_of z))
   cleared-read = let e = n-is in let l = layout_of z in let zeros : length {A = ℕ} (replicate n 0) ≡ n = length-replicate {A = ℕ} n 0 in
       let read = other (replicate n 0) (omega arith) in
       let same : written b.here.contents 0 (replicate n 0) ≡ replicate (length b.here.contents) 0 = written-whole b.here.contents (replicate n 0) (omega arith) ∙ ap (λ (k : ℕ). replicate k 0) e in
       record { view = read.view ∙ ap (λ (contents : List ℕ). with_blocks (b.before ++ with_contents b.here contents ∷ b.behind) l) same; whole = read.whole }
 
   -- contents that are zero from a place on
-  pub cleared-part : (from : ℕ) → from ≤ n → IsRead (record z { memory = with_bytes z.memory (place + from) (replicate (n - from) 0) }) (with_blocks (b.before ++ cleared_from b.here from ∷ b.behind) (layout_of z))
+  pub cleared-part : (from : ℕ) → from ≤ n → IsReadWhole (record z { memory = with_bytes z.memory (place + from) (replicate (n - from) 0); kept = kept }) (with_blocks (b.before ++ cleared_from b.here from ∷ b.behind) (layout_of z))
   cleared-part from within = let e = n-is in let at_is = b.place in let l = layout_of z in let zeros : length {A = ℕ} (replicate (n - from) 0) ≡ n - from = length-replicate {A = ℕ} (n - from) 0 in
-      let read = contents-written z whole small b.before b.here b.behind b.blocks from (place + from) (replicate (n - from) 0) unlent (omega arith) (omega arith) in
-      let nothing : drop (length (replicate (n - from) 0)) (drop from b.here.contents) ≡ [] = drop_none (drop from b.here.contents) (length {A = ℕ} (replicate (n - from) 0)) (omega (arith, length-drop from b.here.contents)) in
-      let same : written b.here.contents from (replicate (n - from) 0) ≡ take from b.here.contents ++ replicate (length b.here.contents - from) 0 =
-      written_is b.here.contents from (replicate (n - from) 0) (omega arith)
-      ∙ ap (λ (l : List ℕ). take from b.here.contents ++ (replicate (n - from) 0 ++ l)) nothing ∙ ap (λ (l : List ℕ). take from b.here.contents ++ l) (append-nil (replicate (n - from) 0))
-      ∙ ap (λ (k : ℕ). take from b.here.contents ++ replicate (k - from) 0) e in
+      let read = written-kept z whole small b.before b.here b.behind b.blocks from (place + from) (replicate (n - from) 0) unlent (omega arith) (omega arith) kept grows (λ master i low high. own_noted master i) in
+      let same = zeroed b.here.contents from n within e in
       record { view = read.view ∙ ap (λ (contents : List ℕ). with_blocks (b.before ++ with_contents b.here contents ∷ b.behind) l) same; whole = read.whole }
-    where
-      drop_none : (xs : List ℕ) (k : ℕ) → length xs ≤ k → drop k xs ≡ []
-      drop_none xs k all = nil_from_length (drop k xs) (length-drop k xs ∙ omega arith)

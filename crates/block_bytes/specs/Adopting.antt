@@ -5,6 +5,7 @@ use Rattle.byteorder.specs.Endian.{big_number}
 use Rattle.mac_base.specs.declared.block.HeadKind.{HeadKind}
 use Rattle.mac_base.specs.HeadKind.{head_size, smallest_block, zone_header}
 use Rattle.mac_base.specs.ZoneSizes.{ZoneSizes}
+use Rattle.mac_base.specs.ZoneState.{own_memory}
 use Rattle.raw_region.specs.Bytes.{part}
 use Rattle.raw_region.specs.State.{State}
 use Rattle.block_bytes.specs.declared.header.Header.{Header}
@@ -59,7 +60,7 @@ pub record BlocksUpTo (spec : ZoneSizes) (bytes index : List ℕ) (at free : ℕ
 -- the zone that a region's bytes are, with these blocks
 abbrev pub zone_with : ZoneSizes → State → List RawBlock → Layout
 zone_with spec region bs = record {
-  name = region.name;
+  memory = own_memory region.name;
   heads = spec.heads;
   base = spec.base;
   front = big_number 4 (part region.bytes front_field 4);

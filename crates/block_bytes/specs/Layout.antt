@@ -3,7 +3,8 @@ use Rattle.std.specs.Prelude.{◌≡◌, ℕ, suc, ◌+◌, ◌-◌, ◌≤◌, 
 use Rattle.std.specs.List.{list_all}
 use Rattle.byteorder.specs.Endian.{big_bytes}
 use Rattle.raw_region.specs.Bytes.{written}
-use Rattle.raw_region.specs.State.{Name, Loan}
+use Rattle.mac_base.specs.ZoneState.{Memory}
+use Rattle.raw_region.specs.State.{Loan}
 use Rattle.mac_base.specs.declared.block.Flags.{Flags}
 use Rattle.mac_base.specs.declared.block.HeadKind.{HeadKind}
 use Rattle.mac_base.specs.declared.block.HeadKind.TheVariants.{Bits24, Bits32}
@@ -103,10 +104,10 @@ abbrev pub rendered : HeadKind → ℕ → List RawBlock → List ℕ
 rendered heads base [] = []
 rendered heads base (b ∷ bs) = head_bytes heads base (header_of heads b) ++ (b.contents ++ (b.slack ++ rendered heads base bs))
 
--- a zone: the name of its memory, where it begins and how its blocks are headed, the number that its header says of the free slots,
+-- a zone: the memory that it is in, where it begins and how its blocks are headed, the number that its header says of the free slots,
 -- its blocks, and the bytes up to its limit
 pub record Layout : Type 0 where
-  pub name : Name
+  pub memory : Memory
   pub heads : HeadKind
   pub base : ℕ
   pub front : ℕ
@@ -300,7 +301,7 @@ pub record CanLend (l : Layout) (at : ℕ) : Type 0 where
 
 -- the loan of the block at an address: its contents, in their place
 abbrev pub loan_of : {at : ℕ} → (l : Layout) → BlockAt l at → Loan
-loan_of l b = record { name = l.name; at = zone_header + total_of l.heads b.before + head_size l.heads; bytes = b.here.contents }
+loan_of l b = record { name = l.memory.region; at = zone_header + total_of l.heads b.before + head_size l.heads; bytes = b.here.contents }
 
 -- a block that is lent
 abbrev pub lent_block : RawBlock → RawBlock
@@ -310,7 +311,7 @@ lent_block b = record b { lent = true }
 pub record IsLoanOf (l : Layout) (at : ℕ) (loan : Loan) : Type 0 where
   pub block : BlockAt l at
   pub lent : block.here.lent ≡ true
-  pub name : loan.name ≡ l.name
+  pub name : loan.name ≡ l.memory.region
   pub place : loan.at ≡ zone_header + total_of l.heads block.before + head_size l.heads
   pub long : length loan.bytes ≡ length block.here.contents
 

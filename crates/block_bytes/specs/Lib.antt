@@ -10,3 +10,5 @@ pub mod Copying
 pub mod Walk
 pub mod Structure
 pub mod Adopting
+pub mod Record
+pub mod Sleeping

@@ -3,12 +3,13 @@ use Rattle.std.specs.Prelude.{◌-◌, [], ◌∷◌, replicate}
 use Rattle.raw_region.specs.State.{Name}
 use Rattle.mac_base.specs.HeadKind.{zone_header, head_size}
 use Rattle.mac_base.specs.ZoneSizes.{ZoneSizes}
+use Rattle.mac_base.specs.ZoneState.{own_memory}
 use Rattle.block_bytes.specs.Layout.{Layout, free_raw_block}
 
 -- one free block of zeros, and zeros up to the limit, in the memory of this name
 abbrev pub new_layout : Name → ZoneSizes → Layout
 new_layout name z = record {
-  name = name;
+  memory = own_memory name;
   heads = z.heads;
   base = z.base;
   front = 0;

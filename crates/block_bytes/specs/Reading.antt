@@ -1,5 +1,5 @@
 -- How the blocks are read off the bytes of a zone, and off the index which of them are lent.
-use Rattle.std.specs.Prelude.{◌≡◌, ℕ, zero, suc, ◌+◌, ◌-◌, ◌/◌, ◌≤◌, ◌&&◌, ◌==◌, Bool, if◌then◌else◌, IsTrue, List, [], ◌∷◌, length, drop, slice_index}
+use Rattle.std.specs.Prelude.{◌≡◌, ℕ, zero, suc, ◌+◌, ◌-◌, ◌/◌, ◌≤◌, ◌&&◌, ◌==◌, Bool, if◌then◌else◌, IsTrue, List, [], ◌∷◌, length, drop, slice_index, is_some}
 use Rattle.std.specs.List.{list_all}
 use Rattle.byteorder.specs.Endian.{big_number}
 use Rattle.mac_base.specs.declared.block.HeadKind.{HeadKind}
@@ -14,6 +14,7 @@ use Rattle.block_bytes.specs.Head.{header_in}
 use Rattle.block_bytes.specs.ZoneHead.{front_field}
 use Rattle.block_bytes.specs.Layout.{RawBlock, Layout, raw_block, size_of, is_possible, image_of, address_behind, lent_count, most_lent}
 use Rattle.block_bytes.specs.Starts.{lent_mark, starts_of}
+use Rattle.block_bytes.specs.Record.{RecordKept}
 
 -- the block whose header, of so many bytes, stands at the front of these bytes
 abbrev pub raw_block_in : HeadKind → Header → Bool → List ℕ → RawBlock
@@ -26,10 +27,10 @@ blocks_in (suc n) heads marks [] = []
 blocks_in (suc n) heads marks (x ∷ xs) = let h = header_in heads (x ∷ xs) in
     raw_block_in heads h (slice_index marks 0 == lent_mark) (x ∷ xs) ∷ blocks_in n heads (drop (h.size / 4) marks) (drop h.size (x ∷ xs))
 
--- the zone that the memory is
-abbrev pub layout_in : ZoneSizes → State → List ℕ → Layout
-layout_in spec memory index = record {
-  name = memory.name;
+-- the zone that the memory is, which is awake or not
+abbrev pub layout_in : ZoneSizes → State → List ℕ → Bool → Layout
+layout_in spec memory index awake = record {
+  memory = record { region = memory.name; awake = awake };
   heads = spec.heads;
   base = spec.base;
   front = big_number 4 (part memory.bytes front_field 4);
@@ -39,7 +40,7 @@ layout_in spec memory index = record {
 
 -- what the fields stand for
 abbrev pub layout_of : Inside → Layout
-layout_of z = layout_in z.spec z.memory z.index
+layout_of z = layout_in z.spec z.memory z.index (is_some z.kept)
 
 -- the ranges of the contents of lent blocks, the first block at an offset
 abbrev pub lent_spans : HeadKind → ℕ → List RawBlock → List Span
@@ -68,3 +69,8 @@ pub record IsLayout (z : Inside) : Type 0 where
   pub lent : SameSpans z.memory.lent (lent_spans z.spec.heads zone_header (layout_of z).blocks)
   pub loans : z.loans ≡ lent_count (layout_of z).blocks
   pub few : z.loans ≤ most_lent
+
+-- the same, and the record has what it has to have of them
+pub record IsWhole (z : Inside) : Type 0 where
+  pub layout : IsLayout z
+  pub kept : RecordKept z.spec.heads (layout_of z).blocks z.memory.bytes z.kept

@@ -1,5 +1,5 @@
 -- The structure of a zone, its header and those of its blocks, and what bytes with this structure say of the rest.
-use Rattle.std.specs.Prelude.{◌≡◌, ℕ, ◌+◌, ◌<◌, ◌≤◌, Bool, not, true, false, IsTrue, List, [], ◌∷◌, ◌++◌, length, take, drop, ⊤, if◌then◌else◌}
+use Rattle.std.specs.Prelude.{◌≡◌, ℕ, ◌+◌, ◌<◌, ◌≤◌, nat_lt, Bool, not, true, false, IsTrue, List, [], ◌∷◌, ◌++◌, length, take, drop, ⊤, if◌then◌else◌}
 use Rattle.std.specs.List.{list_all}
 use Rattle.mac_base.specs.declared.block.HeadKind.{HeadKind}
 use Rattle.mac_base.specs.HeadKind.{head_size, zone_header}
@@ -57,6 +57,11 @@ none_master bs = list_all (λ (b : RawBlock). not (is_master b.role)) bs
 abbrev pub up_to_master : List RawBlock → List RawBlock
 up_to_master [] = []
 up_to_master (b ∷ bs) = b ∷ (if is_master b.role then [] else up_to_master bs)
+
+-- those of some blocks, the first at an address, that begin before another
+abbrev pub begun_before : HeadKind → ℕ → ℕ → List RawBlock → List RawBlock
+begun_before heads at end [] = []
+begun_before heads at end (b ∷ bs) = if nat_lt at end then b ∷ begun_before heads (at + size_of heads b) end bs else []
 
 -- the headers of blocks, the first at an offset, agree up to that of the first master block, which is at an address
 pub record AgreeUpTo (l : Layout) (bytes : List ℕ) (offset : ℕ) (bs : List RawBlock) (at : ℕ) : Type 0 where

@@ -5,6 +5,7 @@ ghost use Rattle.block_bytes.specs.Adopting.{BlocksUpTo, IsZoneIn, ZoneRead};
 ghost use Rattle.block_bytes.specs.Layout.{Layout};
 ghost use Rattle.block_bytes.specs.Starts.{first_marked};
 ghost use Rattle.block_bytes.specs.declared.adopting.WhyNot.TheVariants.{NotZone};
+ghost use Rattle.mac_base.specs.ZoneState.{own_memory};
 
 use crate::blocks::{Blocks, LENT_MARK, first_from};
 use crate::memory::Memory;
@@ -89,7 +90,7 @@ impl Blocks {
     /// The zone of these sizes whose bytes a region has, whoever wrote them.
     pub fn adopt(alloc: Global, spec: ZoneSpec, region: Region) -> Result<Blocks, NotAdopted>
         requires whole { region.lent ≡ [] }
-        ensures zone { IfOk result (λ zone. IsZoneIn spec region.bytes zone × (zone.name ≡ region.name)) }
+        ensures zone { IfOk result (λ zone. IsZoneIn spec region.bytes zone × (zone.memory ≡ own_memory region.name)) }
         ensures same { IfErr result (λ no. no.region ≡ region) }
         ensures none { IfErr result (λ no. no.why ≡ NotZone → (l : Layout) → IsZoneIn spec region.bytes l → ⊥) }
     {
@@ -109,6 +110,7 @@ impl Blocks {
                 memory,
                 index,
                 loans: 0,
+                kept: None,
             });
         }
         drop(index);

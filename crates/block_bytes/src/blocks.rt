@@ -15,6 +15,7 @@ ghost use Rattle.block_bytes.specs.ZoneHead.{free_field, lowest_field, CanCount}
 
 use crate::header::{Header, Role};
 use crate::memory::Memory;
+use crate::record::{Record, end, note, note_if};
 use mac_base::error::HostFull;
 use mac_base::size::ZONE_HEADER;
 use mac_base::zone_spec::ZoneSpec;
@@ -45,6 +46,8 @@ pub struct Blocks {
     pub(crate) index: Numbers,
     /// How many blocks are lent.
     pub(crate) loans: u32,
+    /// While the zone is awake, the record of its structure.
+    pub(crate) kept: Option<Record>,
 }
 
 impl Model for Blocks {
@@ -52,11 +55,11 @@ impl Model for Blocks {
 
     ghost Value = { Layout };
 
-    ghost use Rattle.block_bytes.specs.Reading.{layout_of, IsLayout};
+    ghost use Rattle.block_bytes.specs.Reading.{layout_of, IsWhole};
 
     ghost view = { layout_of };
 
-    ghost invariant = { IsLayout };
+    ghost invariant = { IsWhole };
 }
 
 impl Drop for Blocks {
@@ -71,9 +74,11 @@ impl Drop for Blocks {
             memory,
             index,
             loans: _,
+            kept,
         } = self;
         drop(memory);
         drop(index);
+        end(kept);
     }
 }
 
@@ -140,7 +145,7 @@ fn count_free(
 }
 
 impl Blocks {
-    ghost use Rattle.std.specs.Prelude.{◌≡◌, ◌+◌, ◌-◌, ◌<◌, ◌≤◌, ◌^◌, ◌++◌, ◌∷◌, ◌↔◌, [], length, take, drop, IfOk, IfSome, IfNone, IsTrue, IsFalse};
+    ghost use Rattle.std.specs.Prelude.{◌≡◌, ◌+◌, ◌-◌, ◌<◌, ◌≤◌, ◌^◌, ◌++◌, ◌∷◌, ◌↔◌, ◌&&◌, [], length, take, drop, IfOk, IfSome, IfNone, IsTrue, IsFalse};
     ghost use Rattle.std.specs.Borrow.{sem};
     ghost use Rattle.std.specs.List.{list_all};
     ghost use Rattle.byteorder.specs.Endian.{big_bytes, big_number};
@@ -153,10 +158,11 @@ impl Blocks {
     ghost use Rattle.block_bytes.specs.WritingBack.{WritesBackContents};
     ghost use Rattle.block_bytes.specs.NewLayout.{new_layout};
     ghost use Rattle.block_bytes.specs.Walk.{Walks};
+    ghost use Rattle.block_bytes.specs.Structure.{is_master};
 
     /// A new zone: one free block, and all its bytes and those up to the limit are zero.
     pub fn create(alloc: Global, spec: ZoneSpec) -> Result<Blocks, HostFull>
-        ensures { IfOk result (λ blocks. blocks ≡ new_layout blocks.name spec) }
+        ensures { IfOk result (λ blocks. blocks ≡ new_layout blocks.memory.region spec) }
     {
         let heads = spec.heads();
         let mut memory = Memory::create(alloc, spec.limit() as usize)?;
@@ -175,6 +181,7 @@ impl Blocks {
             memory,
             index,
             loans: 0,
+            kept: None,
         })
     }
 
@@ -330,6 +337,7 @@ impl Blocks {
             correction: old.size - heads.head_size() - length,
         };
         let offset = at - base;
+        note(&mut self.kept, offset, header.own_size(heads));
         self.memory.set_header(heads, offset as usize, base, header);
         self.index.set(offset as usize / 4, header.mark());
         count_free(
@@ -356,6 +364,7 @@ impl Blocks {
             role,
             correction: old.correction,
         };
+        note(&mut self.kept, at - base, header.own_size(heads));
         self.memory
             .set_header(heads, (at - base) as usize, base, header);
     }
@@ -401,6 +410,8 @@ impl Blocks {
         };
         let offset = (at - base) as usize;
         let second = offset + size as usize;
+        note(&mut self.kept, offset as u32, front.own_size(heads));
+        note(&mut self.kept, second as u32, heads.head_size());
         self.memory.set_header(heads, offset, base, front);
         self.memory.set_header(heads, second, base, rest);
         self.index.set(offset / 4, front.mark());
@@ -434,6 +445,7 @@ impl Blocks {
             correction: size - heads.head_size() - length,
         };
         let offset = (at - base) as usize;
+        note(&mut self.kept, offset as u32, header.own_size(heads));
         self.memory.set_header(heads, offset, base, header);
         self.index.set((next - base) as usize / 4, 0);
         self.index.set(offset / 4, header.mark());
@@ -460,6 +472,7 @@ impl Blocks {
         let size = header.size as usize;
         let start = (at - base) as usize;
         let count = (end - at) as usize - size;
+        note(&mut self.kept, at - base, end - at);
         self.memory.carry(heads, start, count, header);
         let sparse = sparse | are_few(count, size);
         self.index
@@ -481,6 +494,7 @@ impl Blocks {
         let size = header.size as usize;
         let first = (start - base) as usize;
         let count = (at - start) as usize;
+        note(&mut self.kept, start - base, at - start + header.size);
         self.memory.sink(heads, first, count, header);
         let sparse = sparse | are_few(count, size);
         self.index
@@ -540,6 +554,7 @@ impl Blocks {
             role: Role::Free,
             correction: 0,
         };
+        note(&mut self.kept, size, heads.head_size());
         self.memory.set_header(heads, size as usize, base, free);
         self.index.set(size as usize / 4, free.size);
         count_free(
@@ -595,6 +610,7 @@ impl Blocks {
         ensures { (w : WordAt self.old at) → self.new ≡ with_blocks (w.before ++ with_word w.here w.offset number ∷ w.behind) self.old }
     {
         let base = self.spec.base();
+        note(&mut self.kept, at - base, 4);
         self.memory.set_word((at - base) as usize, number);
     }
 
@@ -620,6 +636,7 @@ impl Blocks {
         let head_size = self.spec.heads().head_size();
         let start = (at - self.spec.base() + head_size) as usize;
         let length = header.size - head_size - header.correction;
+        note_if(&mut self.kept, header.role.is_master());
         self.memory.bytes_mut(start, length as usize)
     }
 
@@ -632,6 +649,7 @@ impl Blocks {
         let head_size = self.spec.heads().head_size();
         let start = (at - self.spec.base() + head_size) as usize;
         let length = header.size - head_size - header.correction;
+        note_if(&mut self.kept, header.role.is_master());
         self.memory.clear(start, length as usize);
     }
 
@@ -645,7 +663,16 @@ impl Blocks {
         let head_size = self.spec.heads().head_size();
         let start = at - self.spec.base() + head_size + from;
         let length = header.size - head_size - header.correction - from;
+        note_if(&mut self.kept, header.role.is_master());
         self.memory.clear(start as usize, length as usize);
+    }
+
+    /// Whether the zone is awake, and the block at an address a master block.
+    fn has_own_contents(&self, at: u32) -> bool
+        requires { BlockAt self.now at }
+        ensures { (b : BlockAt self.now at) → result ≡ (self.now.memory.awake && is_master b.here.role) }
+    {
+        self.kept.is_some() && self.entry_at(at).role.is_master()
     }
 
     /// Copies the `count` bytes of contents from `start` on of the block at `from` over those from `offset` on of the block at `to`.
@@ -655,10 +682,12 @@ impl Blocks {
         ensures { (can : CanCopy self.old from start to offset count)
             → self.new ≡ with_blocks (can.target.before ++ copied_over can.target.here offset (take count (drop start can.source.here.contents)) ∷ can.target.behind) self.old }
     {
+        let own = self.has_own_contents(to);
         let base = self.spec.base();
         let head_size = self.spec.heads().head_size();
         let source = from - base + head_size + start;
         let target = to - base + head_size + offset;
+        note_if(&mut self.kept, own);
         self.memory
             .slide(source as usize, target as usize, count as usize);
     }
@@ -682,7 +711,7 @@ impl Blocks {
     pub fn into_region(self) -> Region
         requires nothing_lent { NothingLent self }
         ensures bytes { result.bytes ≡ image_of self }
-        ensures name { result.name ≡ self.name }
+        ensures name { result.name ≡ self.memory.region }
         ensures whole { result.lent ≡ [] }
     {
         let Blocks {
@@ -690,8 +719,10 @@ impl Blocks {
             memory,
             index,
             loans: _,
+            kept,
         } = self;
         drop(index);
+        end(kept);
         memory.into_region()
     }
 }

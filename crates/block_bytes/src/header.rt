@@ -1,9 +1,10 @@
 //! The header of a block.
 
-ghost use Rattle.std.specs.Prelude.{◌≡◌, ◌≤◌, ◌↔◌, IsTrue, length};
+ghost use Rattle.std.specs.Prelude.{◌≡◌, ℕ, ◌≤◌, ◌↔◌, IsTrue, length};
 ghost use Rattle.byteorder.specs.Endian.{big_bytes};
 ghost use Rattle.mac_base.specs.HeadKind.{head_size};
-ghost use Rattle.block_bytes.specs.Head.{flags_byte, flags_in};
+ghost use Rattle.block_bytes.specs.Head.{flags_byte, flags_in, header_in, role_in};
+ghost use Rattle.block_bytes.specs.Structure.{is_master};
 
 use byteorder::{BigEndian, ByteOrder};
 use mac_base::block::{Flags, HeadKind};
@@ -152,6 +153,37 @@ pub(crate) fn is_same(heads: HeadKind, first: &[u8], second: &[u8]) -> bool
     }
 }
 
+/// What a walk over the blocks takes from a header: the block's size, and whether it is a master block.
+#[derive(Clone, Copy, Debug, PartialEq, Eq)]
+pub(crate) struct Step {
+    pub(crate) size: u32,
+    pub(crate) is_master: bool,
+}
+
+/// Whether a header's tag is a master block's.
+fn is_master_tag(tag: u32) -> bool
+    ensures { (flags word : ℕ) → result ≡ is_master (role_in tag flags word) }
+{
+    64 <= tag && tag < 128 && tag / 16 % 2 == 1
+}
+
+/// What a walk takes from a header.
+pub(crate) fn step_in(heads: HeadKind, bytes: &[u8]) -> Step
+    requires { length bytes.now ≡ head_size heads }
+    ensures size { result.size ≡ (header_in heads bytes.now).size }
+    ensures is_master { result.is_master ≡ is_master (header_in heads bytes.now).role }
+{
+    let first = BigEndian::read_u32(bytes);
+    let size = match heads {
+        HeadKind::Bits24 => first % 0x100_0000,
+        HeadKind::Bits32 => BigEndian::read_u32(&bytes[4..]),
+    };
+    Step {
+        size,
+        is_master: is_master_tag(first / 0x100_0000),
+    }
+}
+
 /// A block's header: the block's physical size in bytes, its header included; what the block is for; and the size
 /// correction, which is how many bytes at its end are over.
 #[derive(Clone, Copy, Debug, PartialEq, Eq)]
@@ -167,6 +199,7 @@ impl Header {
     ghost use Rattle.block_bytes.specs.Adopting.{Fits};
     ghost use Rattle.block_bytes.specs.Head.{head_bytes, most_over};
     ghost use Rattle.block_bytes.specs.Layout.{is_free};
+    ghost use Rattle.block_bytes.specs.Record.{own_most};
     ghost use Rattle.block_bytes.specs.Starts.{mark_in, free_in};
 
     /// Whether the block is free.
@@ -196,6 +229,18 @@ impl Header {
         match self.role {
             Role::Free => self.size,
             Role::Fixed | Role::Master | Role::Relocatable(_, _) => 0,
+        }
+    }
+
+    /// How many bytes from the block's front on those are among that are the zone's own: the header, and of a master block the
+    /// contents too.
+    pub(crate) fn own_size(self, heads: HeadKind) -> u32
+        ensures { result ≡ own_most heads self }
+    {
+        if self.role.is_master() {
+            self.size
+        } else {
+            heads.head_size()
         }
     }
 

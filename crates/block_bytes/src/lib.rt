@@ -5,6 +5,8 @@ mod adopting;
 mod blocks;
 mod header;
 mod memory;
+mod record;
+mod sleeping;
 mod structure;
 mod walk;
 

@@ -11,9 +11,10 @@ ghost use Rattle.block_bytes.specs.Adopting.{HasZoneHead, IsHeadAt};
 ghost use Rattle.block_bytes.specs.Head.{head_bytes, header_in, most_over};
 ghost use Rattle.block_bytes.specs.ZoneHead.{zone_head, end_field, front_field, free_field, lowest_field};
 ghost use Rattle.block_bytes.specs.Layout.{is_free};
+ghost use Rattle.block_bytes.specs.Structure.{is_master};
 ghost use Rattle.block_bytes.specs.WritingBack.{WritesBackPart};
 
-use crate::header::{Header, Role, flags_byte, is_same};
+use crate::header::{Header, Role, Step, flags_byte, is_same, step_in};
 use byteorder::{BigEndian, ByteOrder};
 use mac_base::block::HeadKind;
 use mac_base::error::HostFull;
@@ -296,16 +297,22 @@ impl Memory {
         }
     }
 
-    /// Whether the block header that stands at `at` is in the same place among other bytes.
-    pub fn has_header(&self, heads: HeadKind, at: usize, bytes: &[u8]) -> bool
+    /// What a walk takes from the block header that stands at `at`, where it is in the same place among other bytes.
+    pub fn same_step(&self, heads: HeadKind, at: usize, bytes: &[u8]) -> Option<Step>
         requires inside { at + head_size heads ≤ length self.now.bytes }
         requires within { at + head_size heads ≤ length bytes.now }
         requires free { IsFree self.now.lent at (head_size heads) }
-        ensures { IsTrue result ↔ part self.now.bytes at (head_size heads) ≡ part bytes.now at (head_size heads) }
+        ensures step { IfSome result (λ step. let h = header_in heads (drop at self.now.bytes) in (step.size ≡ h.size) × (step.is_master ≡ is_master h.role)) }
+        ensures same { IfSome result (λ step. part self.now.bytes at (head_size heads) ≡ part bytes.now at (head_size heads)) }
+        ensures none { IfNone result (part self.now.bytes at (head_size heads) ≡ part bytes.now at (head_size heads) → ⊥) }
     {
         let _len = self.len();
         let count = heads.head_size() as usize;
-        is_same(heads, self.bytes(at, count), &bytes[at..at + count])
+        let own = self.bytes(at, count);
+        if !is_same(heads, own, &bytes[at..at + count]) {
+            return None;
+        }
+        Some(step_in(heads, own))
     }
 
     /// Writes the block header that stands at `at` in the same place among other bytes.

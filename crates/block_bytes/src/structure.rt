@@ -1,18 +1,15 @@
-//! A zone's structure, its header and those of its blocks, compared with other bytes and written to them; and a zone whose
-//! bytes are exchanged for others with the same structure.
+//! A zone's structure, its header and those of its blocks, compared with other bytes and written to them.
 
-ghost use Rattle.std.specs.Prelude.{◌≡◌, ℕ, ◌+◌, ◌-◌, ◌≤◌, ◌↔◌, [], length, slice_index, IsTrue};
+ghost use Rattle.std.specs.Prelude.{◌≡◌, ℕ, ◌+◌, ◌-◌, ◌≤◌, ◌↔◌, length, slice_index, IsTrue};
 ghost use Rattle.mac_base.specs.HeadKind.{zone_header};
 ghost use Rattle.raw_region.specs.Bytes.{written};
 ghost use Rattle.block_bytes.specs.Finding.{SplitAt};
-ghost use Rattle.block_bytes.specs.Layout.{BlockAt, NothingLent, image_of, size_of};
-ghost use Rattle.block_bytes.specs.Structure.{AreWritten, Compares, EachMaster, HasHead, HasStructure, InHeader, InMaster, own_bytes, shown};
+ghost use Rattle.block_bytes.specs.Layout.{BlockAt, image_of, size_of};
+ghost use Rattle.block_bytes.specs.Structure.{AreWritten, Compares, EachMaster, HasHead, HasStructure, InHeader, InMaster, begun_before, own_bytes};
 
 use crate::blocks::Blocks;
-use crate::memory::{Memory, write_at};
+use crate::memory::write_at;
 use mac_base::size::ZONE_HEADER;
-use raw_region::Region;
-use std::mem;
 
 /// How block headers compare with those among other bytes, up to the next master block.
 #[derive(Clone, Copy, Debug, PartialEq, Eq)]
@@ -39,36 +36,30 @@ impl Blocks {
         requires split { SplitAt self.now from }
         ensures { (s : SplitAt self.now from) → Compares self.now bytes.now (from - self.now.base) s.behind result }
     {
-        let base = self.spec.base();
-        let heads = self.spec.heads();
-        let size = self.spec.size() as usize;
-        let mut at = (from - base) as usize;
-        while at < size {
-            if !self.memory.has_header(heads, at, bytes) {
-                return Compared::Differ;
-            }
-            let header = self.memory.header(heads, at);
-            if header.role.is_master() {
-                return Compared::NextMaster(base + at as u32);
-            }
-            at += header.size as usize;
-        }
-        Compared::AllAgree
+        self.compare_until(bytes, from, self.end())
     }
 
-    /// Exchanges the zone's bytes for those of a region with the same structure, and returns the region that it had.
-    pub fn exchange(&mut self, region: Region) -> Region
-        requires nothing_lent { NothingLent self.old }
-        requires whole { region.lent ≡ [] }
-        requires same { HasStructure self.old region.bytes }
-        ensures zone { self.new ≡ record (shown self.old region.bytes) { name = region.name } }
-        ensures name { result.name ≡ self.old.name }
-        ensures bytes { result.bytes ≡ image_of self.old }
-        ensures lent { result.lent ≡ [] }
+    /// Compares the headers of the blocks from an address on that begin before another with those among as many bytes as
+    /// the zone has.
+    pub fn compare_until(&self, bytes: &[u8], from: u32, end: u32) -> Compared
+        requires whole { length bytes.now ≡ length (image_of self.now) }
+        requires split { SplitAt self.now from }
+        ensures { (s : SplitAt self.now from) → Compares self.now bytes.now (from - self.now.base) (begun_before self.now.heads from end s.behind) result }
     {
-        let _base = self.spec.base();
-        let before = mem::replace(&mut self.memory, Memory::of(region));
-        before.into_region()
+        let base = self.spec.base();
+        let heads = self.spec.heads();
+        let stop = self.spec.size().min(end.saturating_sub(base)) as usize;
+        let mut at = (from - base) as usize;
+        while at < stop {
+            let Some(step) = self.memory.same_step(heads, at, bytes) else {
+                return Compared::Differ;
+            };
+            if step.is_master {
+                return Compared::NextMaster(base + at as u32);
+            }
+            at += step.size as usize;
+        }
+        Compared::AllAgree
     }
 
     /// Writes the header of the block at an offset among as many other bytes as the zone has, and if it is a master block

@@ -1,4 +1,4 @@
-use Rattle.std.proofs.Common.{◌≡◌, ◌+◌, ◌-◌, ◌/◌, ℕ, List, length, replicate, ap, sym, subst, ◌∙◌, arith}
+use Rattle.std.proofs.Common.{None, ◌≡◌, ◌+◌, ◌-◌, ◌/◌, ℕ, List, length, replicate, ap, sym, subst, ◌∙◌, arith}
 use Rattle.std.proofs.Math.ListN.{set}
 use Rattle.std.proofs.lemmas.List.{length-replicate}
 use Rattle.mac_base.specs.HeadKind.{head_size, zone_header}
@@ -26,7 +26,7 @@ pub set-requires-clause-alone : goal.set-requires-clause-alone
 set-requires-clause-alone c = λ high. subst (λ (xs : List ℕ). IsAlone xs (zone_header / 4)) (sym c.in_ok-index.ensures) (alone-zeros (c.limit-2.result / 4) (zone_header / 4))
 
 -- what the fields stand for
-made : (c : After-set) → IsRead (record { spec = c.args.spec; memory = c.set_header.new.self; index = c.set.new.self; loans = 0 }) (new_layout c.set_header.new.self.name c.args.spec)
+made : (c : After-set) → IsRead (record { spec = c.args.spec; memory = c.set_header.new.self; index = c.set.new.self; loans = 0; kept = None }) (new_layout c.set_header.new.self.name c.args.spec)
 made c = new-read c.args.spec c.size.ensures.possible c.in_ok-memory.memory c.set_zone_head.new.self c.set_header.new.self c.set.new.self c.heads-heads.result c.base-2.result
     (c.base.result + c.size-2.result) (c.size.result - zone_header) (c.base-first.result + zone_header) (record { size = c.size.result - zone_header; role = Free; correction = 0 })
     c.heads-heads.ensures c.base-2.ensures.value
@@ -36,7 +36,7 @@ made c = new-read c.args.spec c.size.ensures.possible c.in_ok-memory.memory c.se
     (c.set.ensures ∙ (λ i. set ((c.in_ok-index.ensures ∙ ap (λ (n : ℕ). replicate (n / 4) 0) c.limit-2.ensures.value) i) (zone_header / 4) (c.size.ensures.value i - zone_header)))
 
 pub invariant_of-result : goal.invariant_of-result
-invariant_of-result c = (made c).whole
+invariant_of-result c = record { layout = (made c).whole; kept = tt }
 
 pub returns : goal.returns
 returns c = (made c).view

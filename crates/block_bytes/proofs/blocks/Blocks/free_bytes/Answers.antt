@@ -7,8 +7,8 @@ use Rattle.block_bytes.proofs.Settled.{header-free, free-counted}
 use Rattle.block_bytes.proofs.blocks.Blocks.free_bytes.Goals as goal
 
 pub free_bytes-requires-clause-free : goal.free_bytes-requires-clause-free
-free_bytes-requires-clause-free c = free_within (header-free c.self.inside c.self.invariant) free_field 4 (omega arith) (omega arith)
+free_bytes-requires-clause-free c = free_within (header-free c.self.inside c.self.invariant.layout) free_field 4 (omega arith) (omega arith)
 
 pub returns : goal.returns
 returns c = let z = c.self.inside in
-    c.free_bytes.ensures ∙ free-counted z c.self.invariant c.base-base.ensures.possible z.memory (layout_of z).blocks c.self.invariant.form ∙ ap (λ (l : Layout). free_total l.heads l.blocks) c.self.view_is
+    c.free_bytes.ensures ∙ free-counted z c.self.invariant.layout c.base-base.ensures.possible z.memory (layout_of z).blocks c.self.invariant.layout.form ∙ ap (λ (l : Layout). free_total l.heads l.blocks) c.self.view_is

@@ -14,20 +14,20 @@ end_is z l is ends end that = that ∙ sym (ap (λ (m : Layout). address_behind 
 
 pub last_at_least-requires : goal.last_at_least-requires
 last_at_least-requires c =
-    let z = c.self.inside in let end = end_is z c.args.self.now c.self.view_is c.self.invariant.ends c.end.result c.end.ensures in
-    let marks = length-starts z c.self.invariant in let value = c.base.ensures.value in omega arith
+    let z = c.self.inside in let end = end_is z c.args.self.now c.self.view_is c.self.invariant.layout.ends c.end.result c.end.ensures in
+    let marks = length-starts z c.self.invariant.layout in let value = c.base.ensures.value in omega arith
 
 pub returns-in_err-place-clause-outside : goal.returns-in_err-place-clause-outside
 returns-in_err-place-clause-outside c =
-    let z = c.self.inside in let end = end_is z c.args.self.now c.self.view_is c.self.invariant.ends c.end.result c.end.ensures in
+    let z = c.self.inside in let end = end_is z c.args.self.now c.self.view_is c.self.invariant.layout.ends c.end.result c.end.ensures in
     let first = c.base-first.ensures.value in
-    absurd (some-at z c.self.invariant c.args.at (omega arith) (omega arith)
+    absurd (some-at z c.self.invariant.layout c.args.at (omega arith) (omega arith)
     (subst (λ (n : ℕ). (j : ℕ) → j < (c.args.at - n) / 4 + 1 → slice_index z.index j < 1) c.base.ensures.value c.in_err-place.ensures.none))
 
 pub returns-clause-holds : goal.returns-clause-holds
 returns-clause-holds c =
-    let z = c.self.inside in let end = end_is z c.args.self.now c.self.view_is c.self.invariant.ends c.end.result c.end.ensures in
+    let z = c.self.inside in let end = end_is z c.args.self.now c.self.view_is c.self.invariant.layout.ends c.end.result c.end.ensures in
     let first = c.base-first.ensures.value in let p = c.in_ok-place.place in
     subst (λ (l : Layout). HoldsByte l c.args.at (c.base-2.result + 4 * p)) c.self.view_is
     (subst (λ (n : ℕ). HoldsByte (layout_of z) c.args.at (n + 4 * p)) (sym c.base-2.ensures.value)
-    (holds-at z c.self.invariant c.args.at (omega arith) (omega arith) p (subst (λ (n : ℕ). LastAtLeast z.index 1 ((c.args.at - n) / 4 + 1) p) c.base.ensures.value c.in_ok-place.ensures.last)))
+    (holds-at z c.self.invariant.layout c.args.at (omega arith) (omega arith) p (subst (λ (n : ℕ). LastAtLeast z.index 1 ((c.args.at - n) / 4 + 1) p) c.base.ensures.value c.in_ok-place.ensures.last)))

@@ -14,7 +14,7 @@ use Rattle.block_bytes.proofs.blocks.Blocks.image.Goals as goal
 -- how many bytes there are
 size_is : (c : goal.After-base) → c.end.result - c.base.result ≡ c.self.inside.spec.size
 size_is c =
-    let ends = c.self.invariant.ends in
+    let ends = c.self.invariant.layout.ends in
     let base = c.base.ensures.value in
     let end : c.end.result ≡ address_behind (layout_of c.self.inside) (layout_of c.self.inside).blocks = c.end.ensures ∙ ap (λ (l : Layout). address_behind l l.blocks) (sym c.self.view_is) in
     omega arith
@@ -22,12 +22,12 @@ size_is c =
 pub bytes-requires-clause-inside : goal.bytes-requires-clause-inside
 bytes-requires-clause-inside c =
     let size = size_is c in
-    let high = c.self.invariant.high in
-    let all = c.self.invariant.all_bytes in
+    let high = c.self.invariant.layout.high in
+    let all = c.self.invariant.layout.all_bytes in
     omega arith
 
 pub bytes-requires-clause-free : goal.bytes-requires-clause-free
-bytes-requires-clause-free c = let none = nothing-lent c.self.inside c.self.invariant (ap (λ (l : Layout). lent_count l.blocks) c.self.view_is ∙ c.requires.nothing_lent) in
+bytes-requires-clause-free c = let none = nothing-lent c.self.inside c.self.invariant.layout (ap (λ (l : Layout). lent_count l.blocks) c.self.view_is ∙ c.requires.nothing_lent) in
     subst (λ (ss : List Span). IsFree ss 0 (c.end.result - c.base.result)) (sym none) (record { apart = tt })
 
 -- the bytes up to the end
@@ -35,14 +35,14 @@ bytes_are : (c : goal.After-bytes) → c.bytes.result.now ≡ zone_bytes (layout
 bytes_are c =
     let l = layout_of c.self.inside in
     let front = header_bytes l ++ rendered l.heads l.base l.blocks in
-    let ends = c.self.invariant.ends in
+    let ends = c.self.invariant.layout.ends in
     let base = c.base.ensures.value in
     let end : c.end.result ≡ address_behind l l.blocks = c.end.ensures ∙ ap (λ (l : Layout). address_behind l l.blocks) (sym c.self.view_is) in
     let long : length front ≡ c.self.inside.spec.size =
     length-append (header_bytes l) (rendered l.heads l.base l.blocks) ∙ ap (λ n. n + length (rendered l.heads l.base l.blocks)) (length-header l)
-    ∙ ap (λ n. zone_header + n) (length-rendered l.heads l.base l.blocks) ∙ total-ends c.self.inside c.self.invariant in
+    ∙ ap (λ n. zone_header + n) (length-rendered l.heads l.base l.blocks) ∙ total-ends c.self.inside c.self.invariant.layout in
     c.bytes.ensures ∙ ap (part c.self.inside.memory.bytes 0) (let e : c.end.result - c.base.result ≡ c.self.inside.spec.size = omega arith in e)
-    ∙ ap (take c.self.inside.spec.size) (c.self.invariant.form ∙ sym (append_assoc (header_bytes l) (rendered l.heads l.base l.blocks) l.spare)) ∙ take_at front l.spare c.self.inside.spec.size long
+    ∙ ap (take c.self.inside.spec.size) (c.self.invariant.layout.form ∙ sym (append_assoc (header_bytes l) (rendered l.heads l.base l.blocks) l.spare)) ∙ take_at front l.spare c.self.inside.spec.size long
 
 pub returns-clause-bytes : goal.returns-clause-bytes
 returns-clause-bytes c = bytes_are c ∙ ap zone_bytes c.self.view_is
@@ -52,12 +52,12 @@ walk : (c : goal.After-bytes) → Walks (layout_of c.self.inside).heads c.bytes.
 walk c =
     let l = layout_of c.self.inside in
     let header = length-header l in
-    let total = total-ends c.self.inside c.self.invariant in
-    let high = c.self.invariant.high in
+    let total = total-ends c.self.inside c.self.invariant.layout in
+    let high = c.self.invariant.layout.high in
     let possible = c.base.ensures.possible in
     subst (Walks l.heads) (sym (bytes_are c)) (record {
       sizes = map (size_of l.heads) l.blocks;
-      follows = follows-rendered l.heads l.base (header_bytes l) l.blocks zone_header (sym header) (omega arith) (omega arith) c.self.invariant.possible;
+      follows = follows-rendered l.heads l.base (header_bytes l) l.blocks zone_header (sym header) (omega arith) (omega arith) c.self.invariant.layout.possible;
     })
 
 pub returns-clause-walks : goal.returns-clause-walks

@@ -11,7 +11,7 @@ use Rattle.block_bytes.proofs.blocks.Blocks.last_free.Goals as goal
 found : (c : goal.In_ok-place) (split : SplitAt (layout_of c.self.inside) c.args.end)
     → LastFree c.self.inside.spec.heads split.before (c.self.inside.spec.base + zone_header) (c.self.inside.spec.base + 4 * c.in_ok-place.place) × (4 * c.in_ok-place.place < c.self.inside.spec.size)
 found c split = let base_is = c.base-base.ensures.value in
-    last-at c.self.inside c.self.invariant c.args.end split ((c.args.end - c.base-base.result) / 4) (omega arith) c.in_ok-place.place c.in_ok-place.ensures.last
+    last-at c.self.inside c.self.invariant.layout c.args.end split ((c.args.end - c.base-base.result) / 4) (omega arith) c.in_ok-place.place c.in_ok-place.ensures.last
 
 -- it lies below the end
 record IsBelow (c : goal.In_ok-place) : Type 0 where
@@ -23,7 +23,7 @@ below-end c = record { below = (found c (subst (λ (l : Layout). SplitAt l c.arg
 pub returns-in_err-place-clause-none : goal.returns-in_err-place-clause-none
 returns-in_err-place-clause-none c = let base_is = c.base-base.ensures.value in
     rw c.from_residual.ensures (subst (λ (l : Layout). (split : SplitAt l c.args.end) → IsTrue (none_free split.before)) c.self.view_is
-    (λ split. none-last c.self.inside c.self.invariant c.args.end split ((c.args.end - c.base-base.result) / 4) (omega arith) c.in_err-place.ensures.none))
+    (λ split. none-last c.self.inside c.self.invariant.layout c.args.end split ((c.args.end - c.base-base.result) / 4) (omega arith) c.in_err-place.ensures.none))
 
 pub overflow_cast-result : goal.overflow_cast-result
 overflow_cast-result c = let b = (below-end c).below in let small = c.base-base.ensures.possible.small_enough in let within = c.base-base.ensures.possible.within in omega arith
@@ -45,5 +45,5 @@ returns-clause-last c =
 pub last_at_least-requires-clause-inside : goal.last_at_least-requires-clause-inside
 last_at_least-requires-clause-inside c =
     let base_is = c.base-base.ensures.value in
-    let s = are-split c.self.inside c.self.invariant c.args.end (subst (λ (l : Layout). SplitAt l c.args.end) (sym c.self.view_is) c.requires) ((c.args.end - c.base-base.result) / 4) (omega arith) in
+    let s = are-split c.self.inside c.self.invariant.layout c.args.end (subst (λ (l : Layout). SplitAt l c.args.end) (sym c.self.view_is) c.requires) ((c.args.end - c.base-base.result) / 4) (omega arith) in
     let all = s.all in omega arith

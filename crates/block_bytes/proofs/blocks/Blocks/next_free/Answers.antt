@@ -9,7 +9,7 @@ use Rattle.block_bytes.proofs.blocks.Blocks.next_free.Goals as goal
 found : (c : goal.In_ok-place) (split : SplitAt (layout_of c.self.inside) c.args.from)
     → FirstFree c.self.inside.spec.heads split.behind c.args.from (c.self.inside.spec.base + 4 * c.in_ok-place.place) × (4 * c.in_ok-place.place < c.self.inside.spec.size)
 found c split = let base_is = c.base-base.ensures.value in
-    next-at c.self.inside c.self.invariant c.args.from split ((c.args.from - c.base-base.result) / 4) (omega arith) c.in_ok-place.place c.in_ok-place.ensures.first
+    next-at c.self.inside c.self.invariant.layout c.args.from split ((c.args.from - c.base-base.result) / 4) (omega arith) c.in_ok-place.place c.in_ok-place.ensures.first
 
 -- it lies below the end
 record IsBelow (c : goal.In_ok-place) : Type 0 where
@@ -21,7 +21,7 @@ below-end c = record { below = (found c (subst (λ (l : Layout). SplitAt l c.arg
 pub returns-in_err-place-clause-none : goal.returns-in_err-place-clause-none
 returns-in_err-place-clause-none c = let base_is = c.base-base.ensures.value in
     rw c.from_residual.ensures (subst (λ (l : Layout). (split : SplitAt l c.args.from) → IsTrue (none_free split.behind)) c.self.view_is
-    (λ split. none-next c.self.inside c.self.invariant c.args.from split ((c.args.from - c.base-base.result) / 4) (omega arith) c.in_err-place.ensures.none))
+    (λ split. none-next c.self.inside c.self.invariant.layout c.args.from split ((c.args.from - c.base-base.result) / 4) (omega arith) c.in_err-place.ensures.none))
 
 pub overflow_cast-result : goal.overflow_cast-result
 overflow_cast-result c = let b = (below-end c).below in let small = c.base-base.ensures.possible.small_enough in let within = c.base-base.ensures.possible.within in omega arith
