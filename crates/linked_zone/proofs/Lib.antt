@@ -37,6 +37,7 @@ mod EndsSaid
 mod EndsSized
 mod EndsSlots
 mod EndsStructure
+mod EndsAsleep
 mod EndsParts
 mod EndsSwapped
 mod EndsTurned

@@ -1,5 +1,5 @@
 -- A zone in other bytes with its structure, for the crates above.
-use Rattle.std.proofs.Common.{◌≡◌, ℕ, ◌+◌, ◌-◌, ◌≤◌, Bool, true, false, nat_le, cond, eqb, List, [], ◌∷◌, length, Option, Some, None, IsTrue, refl, ap, sym, ◌∙◌, subst, arith}
+use Rattle.std.proofs.Common.{◌≡◌, ℕ, ◌+◌, ◌-◌, ◌≤◌, Bool, true, false, nat_le, cond, eqb, List, [], ◌∷◌, length, Option, Some, None, IfNone, IfSome, IsTrue, refl, ap, sym, ◌∙◌, subst, arith}
 use Rattle.std.specs.List.{filter, list_any}
 use Rattle.std.specs.Ordering.{nat_cmp}
 use Rattle.std.specs.Cmp.{nat_cmp_total}
@@ -36,6 +36,7 @@ use Rattle.linked_zone.specs.Fit.{Fits, HasRooms}
 use Rattle.linked_zone.specs.Owned.{records_of}
 use Rattle.linked_zone.specs.Places.{EntryAt}
 use Rattle.linked_zone.specs.Reading.{lives_in}
+use Rattle.linked_zone.specs.Sleeping.{FallsAsleep}
 use Rattle.linked_zone.specs.Structure.{shown_live, shown, IsIn, HasStructure, SameFlags, blank_live, DifferInContents}
 use Rattle.linked_zone.proofs.ChangeEmptied.{own_block}
 use Rattle.linked_zone.proofs.EndsSaid.{part-passes}
@@ -72,7 +73,7 @@ said-same Bits32 bytes at flags old is = is
 
 -- the same bytes are those of a zone in another memory
 renamed : (r : ZoneRecords) (bytes : List ℕ) (memory : Memory) → HasBytes r bytes → HasBytes (record r { memory = memory }) bytes
-renamed r bytes memory is = record { layout = record is.layout { name = memory }; form = is.form; possible = is.possible; words = is.words; same = ap (λ (r : ZoneRecords). record r { memory = memory }) is.same }
+renamed r bytes memory is = record { layout = record is.layout { memory = memory }; form = is.form; possible = is.possible; words = is.words; same = ap (λ (r : ZoneRecords). record r { memory = memory }) is.same }
 
 -- a block that has an owner's length has room for that many bytes
 room_had : (s : Shape) (size n : ℕ) → is_block_size s size ≡ true → has_length s size n ≡ true → head_size s.heads + n ≤ size
@@ -178,6 +179,15 @@ module _ (z : ZoneState) (sound : Sound z.shape z.heap) (nothing_lent : z.heap.t
       blank x (Some (FullHandle g old)) flags long = ap (λ f. Some (FullHandle f (zeros (length old)))) (sym flags) ∙ ap (λ n. Some (FullHandle (said_flags z.shape.heads bytes (x - z.shape.base) g) (zeros n))) (sym long)
       blank x (Some (Pointer old)) flags long = ap (λ n. Some (Pointer (zeros n))) (sym long)
 
+  -- so does one that fell asleep
+  pub differ-asleep : (w : ZoneState) → FallsAsleep z w → DifferInContents z w
+  differ-asleep w falls = subst (DifferInContents z) (sym falls.zone) (differ falls.bytes w.memory falls.structure falls.flags)
+
+  -- and one that was to fall asleep
+  pub differ-slept : {R : Type 0} (result : Option R) (w : ZoneState) → IfSome result (λ region. FallsAsleep z w) → IfNone result ((z.memory.awake ≡ false) × (w ≡ z)) → DifferInContents z w
+  differ-slept None w falls stays = subst (DifferInContents z) (sym stays.1) (record { shape = refl; heap = refl })
+  differ-slept (Some region) w falls stays = differ-asleep w falls
+
   -- other bytes show the same of it as of the zone before
   shown-again : (last bytes : List ℕ) (memory : Memory) → length last ≡ z.shape.limit → shown (record (shown z last) { memory = memory }) bytes ≡ record (shown z bytes) { memory = memory }
   shown-again last bytes memory all =
@@ -203,10 +213,6 @@ module _ (z : ZoneState) (sound : Sound z.shape z.heap) (nothing_lent : z.heap.t
   -- they have its structure
   pub kept-structure : (kept bytes : List ℕ) (memory : Memory) → IsIn z kept → HasStructure z bytes → HasStructure (record (shown z bytes) { memory = memory }) kept
   kept-structure kept bytes memory is has = subst (λ z. IsIn z kept) (sym (kept-shown kept bytes memory is has)) (record { all = is.all; image = renamed (records_of z) _ memory is.image })
-
-  -- and its flags
-  pub kept-flags : (kept bytes : List ℕ) (memory : Memory) → IsIn z kept → HasStructure z bytes → SameFlags z bytes → SameFlags (record (shown z bytes) { memory = memory }) kept
-  kept-flags kept bytes memory is has same x = ap (λ (z : ZoneState). flags_of z.heap.table x) (kept-shown kept bytes memory is has) ∙ sym (same x)
 
   -- bytes show the same of a zone in which a handle has the flags that they say
   pub flagged-shown : (h : ℕ) (flags : Flags) (bytes : List ℕ) → IsTrue (is_full z.heap.table h) → flags ≡ flags_of (shown z bytes).heap.table h → shown (flagged h flags z) bytes ≡ shown z bytes

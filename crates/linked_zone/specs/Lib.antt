@@ -14,3 +14,5 @@ pub mod Structure
 pub mod Parts
 pub mod Faults
 pub mod Adopting
+pub mod Sleeping
+pub mod Written

@@ -13,4 +13,4 @@ mod structure;
 mod zone;
 
 pub use zone::LinkedZone;
-pub use zone_records::{Agreement, NotAdopted, Part, WhyNot};
+pub use zone_records::{Agreement, NotAdopted, Part, WhyNot, Written};

@@ -1,17 +1,20 @@
-//! A zone's structure compared with other bytes and written to them, and a zone whose bytes are exchanged for others with
-//! the same structure.
+//! A zone's structure compared with other bytes and written to them, and a zone that wakes in bytes with the same structure
+//! and falls asleep again.
 
 use crate::zone::LinkedZone;
 use mac_base::block::Flags;
 use mac_base::handle::Handle;
 use raw_region::Region;
-use zone_records::{Agreement, Part};
+use zone_records::{Agreement, Part, Written};
 
 impl LinkedZone {
-    ghost use Rattle.std.specs.Prelude.{◌≡◌, [], length, IfSome, IfNone};
+    ghost use Rattle.std.specs.Prelude.{◌≡◌, [], length, IfSome, IfNone, IsFalse, false};
+    ghost use Rattle.mac_base.specs.ZoneState.{woken_in};
     ghost use Rattle.linked_zone.specs.Faults.{IsFirstFault};
     ghost use Rattle.linked_zone.specs.Parts.{ContentsStay, OthersStay};
+    ghost use Rattle.linked_zone.specs.Sleeping.{FallsAsleep};
     ghost use Rattle.linked_zone.specs.Structure.{Agrees, FirstChanged, HasStructure, IsIn, NoneChanged, SameFlags, shown};
+    ghost use Rattle.linked_zone.specs.Written.{DifferIn};
 
     /// How bytes agree with the zone.
     pub fn agreement(&self, bytes: &[u8]) -> Agreement
@@ -30,17 +33,46 @@ impl LinkedZone {
         Some((Handle::new(at), flags))
     }
 
-    /// Exchanges the zone's bytes for those of a region with the same structure, and returns the region that it had.
-    pub fn exchange(&mut self, region: Region) -> Region
+    /// How bytes agree with the zone, where they differ only in these ranges from bytes with the zone's structure and flags. No
+    /// other byte is looked at.
+    pub fn agreement_in(&self, bytes: &[u8], written: &[Written]) -> Agreement
+        requires told { DifferIn self.now bytes.now written.now }
+        ensures { Agrees self.now bytes.now result }
+    {
+        self.records.agreement_in(bytes, written)
+    }
+
+    /// Whether the zone is awake: in bytes of others, with a record of its structure kept elsewhere.
+    pub fn is_awake(&self) -> bool
+        ensures { result ≡ self.now.memory.awake }
+    {
+        self.records.is_awake()
+    }
+
+    /// Wakes the zone, which sleeps, in a region with the same structure and the same flags: it is in this region's bytes
+    /// from then on. The region that it was in becomes the record of its structure.
+    pub fn wake(&mut self, region: Region)
         requires nothing_lent { self.old.heap.table.lent ≡ [] }
+        requires asleep { IsFalse self.old.memory.awake }
         requires whole { region.lent ≡ [] }
         requires same { HasStructure self.old region.bytes }
-        ensures zone { self.new ≡ record (shown self.old region.bytes) { memory = region.name } }
-        ensures name { result.name ≡ self.old.memory }
-        ensures bytes { IsIn self.old result.bytes }
-        ensures lent { result.lent ≡ [] }
+        requires flags { SameFlags self.old region.bytes }
+        ensures { self.new ≡ record (shown self.old region.bytes) { memory = woken_in region.name } }
     {
-        self.records.exchange(region)
+        self.records.wake(region);
+    }
+
+    /// Puts the zone to sleep: it is in its record from then on. Returns the region that it was in, or None where it isn't
+    /// awake, and nothing has changed.
+    pub fn sleep(&mut self) -> Option<Region>
+        requires nothing_lent { self.old.heap.table.lent ≡ [] }
+        ensures asleep { IfSome result (λ region. FallsAsleep self.old self.new) }
+        ensures name { IfSome result (λ region. region.name ≡ self.old.memory.region) }
+        ensures bytes { IfSome result (λ region. IsIn self.old region.bytes) }
+        ensures lent { IfSome result (λ region. region.lent ≡ []) }
+        ensures none { IfNone result ((self.old.memory.awake ≡ false) × (self.new ≡ self.old)) }
+    {
+        self.records.sleep()
     }
 
     /// Writes the zone's structure, its headers and master pointers, among as many other bytes as its limit. No other of

@@ -50,6 +50,7 @@ impl LinkedZone {
     ghost use Rattle.mac_base.specs.Suits.{slots, wanted_length};
     ghost use Rattle.mac_base.specs.BlockReport.{report_at, block_flags};
     ghost use Rattle.mac_base.specs.ZoneMap.{address_behind, free_bytes, has_free, contents_of};
+    ghost use Rattle.mac_base.specs.ZoneState.{own_memory};
     ghost use Rattle.linked_zone.specs.Changes.{bare_zone, taken, given_back, pointed, without_block, fixed, unfixed, held_there, enlarged, cut_in_two, joined_pair, with_master, flagged};
     ghost use Rattle.linked_zone.specs.Fit.{Fits, HasSizes};
     ghost use Rattle.linked_zone.specs.WritingBack.{WritesBackBytes};
@@ -60,7 +61,7 @@ impl LinkedZone {
 
     /// A new zone: one free block, and no slot.
     pub fn create(alloc: Global, spec: ZoneSpec) -> Result<LinkedZone, HostFull>
-        ensures { IfOk result (λ zone. zone ≡ bare_zone zone.memory spec) }
+        ensures { IfOk result (λ zone. zone ≡ bare_zone (own_memory zone.memory.region) spec) }
     {
         let starts_high_enough = spec.base() >= LOWEST_BASE;
         prove!(starts_high_enough);

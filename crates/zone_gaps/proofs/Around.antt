@@ -160,7 +160,7 @@ pub record Partly (z new : ZoneState) : Type 0 where
 
 -- at first none is
 pub none_partly : (z : ZoneState) → Settled z → Partly z z
-none_partly z s = record { map = z.heap.map; zone = refl; same = refl; loans = λ x loan is. is; settled = s }
+none_partly z s = record { map = z.heap.map; zone = refl; same = refl; loans = (refl, λ x loan is. is); settled = s }
 
 module _ (z new : ZoneState) (p : Partly z new) where
   table_is : new.heap.table ≡ z.heap.table
@@ -181,7 +181,7 @@ module _ (z new : ZoneState) (p : Partly z new) where
         map = m;
         zone = is ∙ ap (with_map m) p.zone;
         same = ap (λ t. all_down t m) (sym table_is) ∙ all_down-around new.heap.table a.before (a.lower ++ a.upper) a.behind a.moves a.below a.above ∙ ap (all_down new.heap.table) (sym a.map) ∙ same_all;
-        loans = λ x loan is. loans x loan (p.loans x loan is);
+        loans = (loans.0 ∙ p.loans.0, λ x loan is. loans.1 x loan (p.loans.1 x loan is));
         settled = settled;
       }
 

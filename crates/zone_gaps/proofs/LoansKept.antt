@@ -95,11 +95,14 @@ addresses-kept s t old new x c r (inr locked) =
 
 -- each loan of a settled zone is one once its map is rearranged
 pub keeps_loans-rearranged : (z : ZoneState) (new : ZoneMap) → Settled z → Rearranged z.shape (is_fixed z.heap.table) z.heap.map new → KeepsLoans z (with_map new z)
-keeps_loans-rearranged z new s r x loan is =
-    let t = z.heap.table in
-    let same = addresses-kept z.shape t z.heap.map new x s.coherent r (or_cases (is_pointer t x) (is_locked t x) (s.loans x is.lent)) in
-    let there : contents_of z.shape x new ≡ contents_of z.shape x z.heap.map = ap (λ at. slice_index (map (λ a. a + head_size z.shape.heads) at) 0) same in
-    record { lent = is.lent; memory = is.memory; contents = is.contents ∙ sym there; long = is.long }
+keeps_loans-rearranged z new s r = (
+  refl,
+  λ x loan is.
+      let t = z.heap.table in
+      let same = addresses-kept z.shape t z.heap.map new x s.coherent r (or_cases (is_pointer t x) (is_locked t x) (s.loans x is.lent)) in
+      let there : contents_of z.shape x new ≡ contents_of z.shape x z.heap.map = ap (λ at. slice_index (map (λ a. a + head_size z.shape.heads) at) 0) same in
+      record { lent = is.lent; memory = is.memory; contents = is.contents ∙ sym there; long = is.long },
+)
 
 -- as where a gap is arranged
 pub keeps_loans-gap : (z : ZoneState) (g : Gap) (b : ZoneMap) → IsGap z.heap.table z.heap.map g → IsArrangement g.blocks b → Settled z → KeepsLoans z (with_gap z g b)

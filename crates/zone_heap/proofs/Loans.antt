@@ -8,7 +8,7 @@ use Rattle.mac_base.specs.HandleTable.{bytes_of, is_lent}
 use Rattle.mac_base.specs.Loans.{LoansAreFixed, lent_out, returned}
 use Rattle.mac_base.specs.Sound.{Sound}
 use Rattle.mac_base.specs.ZoneMap.{contents_of}
-use Rattle.mac_base.specs.ZoneState.{ZoneState, with_heap}
+use Rattle.mac_base.specs.ZoneState.{Memory, ZoneState, with_heap}
 use Rattle.raw_region.specs.State.{Loan}
 use Rattle.zone_laws.proofs.Lent.{KeepsLent, fixed-kept}
 use Rattle.zone_laws.proofs.LentChanges.{lent_out-lent, returned-lent, returned-bytes}
@@ -19,15 +19,14 @@ pub same-loan : (old new : ZoneState) (x : ℕ) (loan : Loan) → IsLoanOf old x
     → contents_of old.shape x new.heap.map ≡ contents_of old.shape x old.heap.map → length (bytes_of new.heap.table x) ≡ length (bytes_of old.heap.table x) → IsLoanOf new x loan
 same-loan old new x loan is lent memory shape contents long = record {
   lent = lent;
-  memory = is.memory ∙ sym memory;
+  memory = is.memory ∙ ap (λ (m : Memory). m.region) (sym memory);
   contents = ap (λ (s : Shape). s.base + loan.at) shape ∙ is.contents ∙ sym contents ∙ ap (λ s. contents_of s x new.heap.map) (sym shape);
   long = is.long ∙ sym long;
 }
 
 -- a change that keeps what is lent keeps all loans
 pub keeps-loans : (old new : ZoneState) → new.memory ≡ old.memory → new.shape ≡ old.shape → KeepsLent old.shape old.heap new.heap → KeepsLoans old new
-keeps-loans old new memory shape keeps x loan is =
-    same-loan old new x loan is (ap (list_any (λ y. y == x)) keeps.lent ∙ is.lent) memory shape (keeps.contents x is.lent) (keeps.long x is.lent)
+keeps-loans old new memory shape keeps = (memory, λ x loan is. same-loan old new x loan is (ap (list_any (λ y. y == x)) keeps.lent ∙ is.lent) memory shape (keeps.contents x is.lent) (keeps.long x is.lent))
 
 -- also where the zone before and the zone after it stand in other words
 pub changed-loans : (now z w new : ZoneState) → z ≡ now → new ≡ w → w.memory ≡ z.memory → w.shape ≡ z.shape → KeepsLent z.shape z.heap w.heap → KeepsLoans now new
@@ -39,12 +38,11 @@ changed-fixed z w new is keeps fixed = subst (λ (w : ZoneState). LoansAreFixed 
 
 -- so does one change behind another
 pub keeps-both : (old between new : ZoneState) → KeepsLoans old between → KeepsLoans between new → KeepsLoans old new
-keeps-both old between new first second x loan is = second x loan (first x loan is)
+keeps-both old between new first second = (second.0 ∙ first.0, λ x loan is. second.1 x loan (first.1 x loan is))
 
 -- a loan of x keeps the others
 pub lend-keeps : (z : ZoneState) (x : ℕ) → Sound z.shape z.heap → LoansAreFixed z.heap → KeepsLoans z (with_heap (lent_out x z.heap) z)
-lend-keeps z x sound fixed y loan is =
-    same-loan z (with_heap (lent_out x z.heap) z) y loan is (lent_out-lent z.shape z.heap x y sound fixed is.lent) refl refl refl refl
+lend-keeps z x sound fixed = (refl, λ y loan is. same-loan z (with_heap (lent_out x z.heap) z) y loan is (lent_out-lent z.shape z.heap x y sound fixed is.lent) refl refl refl refl)
 
 -- and so does its end
 pub return-keeps : (z : ZoneState) (x : ℕ) (loan : Loan) → KeepsOtherLoans x z (with_heap (returned x loan.bytes z.heap) z)

@@ -144,5 +144,5 @@ taken-fixed z new (Some h) sound fixed some =
 -- and each loan can come back
 pub taken-loans : (z new : ZoneState) (o : Option ℕ) → Sound z.shape z.heap → LoansAreFixed z.heap → MatchOption o ((z.heap.free_slots ≡ []) × (new ≡ z)) (λ h. (z.heap.free_slots ≡ h ∷ drop 1 z.heap.free_slots) × (new ≡ change.taken h z))
     → KeepsLoans z new
-taken-loans z new None sound fixed none = subst (KeepsLoans z) (sym none.1) (λ x loan is. is)
+taken-loans z new None sound fixed none = subst (KeepsLoans z) (sym none.1) (refl, λ x loan is. is)
 taken-loans z new (Some h) sound fixed some = subst (KeepsLoans z) (sym some.1) (keeps-loans z (change.taken h z) refl refl (taken-keeps z h sound fixed some.0))

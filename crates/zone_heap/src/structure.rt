@@ -1,12 +1,14 @@
-//! A zone whose bytes are exchanged for others with the same structure.
+//! A zone that wakes in bytes with the same structure, and falls asleep again.
 
 use crate::zone::Zone;
 use linked_zone::LinkedZone;
 use raw_region::Region;
 
 impl Zone {
-    ghost use Rattle.std.specs.Prelude.{◌≡◌, []};
+    ghost use Rattle.std.specs.Prelude.{◌≡◌, [], IfNone, IfSome, IsFalse, false};
     ghost use Rattle.mac_base.specs.Sound.{Sound};
+    ghost use Rattle.mac_base.specs.ZoneState.{woken_in};
+    ghost use Rattle.linked_zone.specs.Sleeping.{FallsAsleep};
     ghost use Rattle.linked_zone.specs.Structure.{HasStructure, IsIn, SameFlags, shown};
 
     /// The zone without its index, to be read. What it shows is a sound heap.
@@ -17,18 +19,30 @@ impl Zone {
         self.pointers.linked()
     }
 
-    /// Exchanges the zone's bytes for those of a region with the same structure and the same flags, and returns the
-    /// region that it had.
-    pub fn exchange(&mut self, region: Region) -> Region
+    /// Wakes the zone, which sleeps, in a region with the same structure and the same flags: it is in this region's bytes
+    /// from then on. The region that it was in becomes the record of its structure.
+    pub fn wake(&mut self, region: Region)
         requires nothing_lent { self.old.heap.table.lent ≡ [] }
+        requires asleep { IsFalse self.old.memory.awake }
         requires whole { region.lent ≡ [] }
         requires same { HasStructure self.old region.bytes }
         requires flags { SameFlags self.old region.bytes }
-        ensures zone { self.new ≡ record (shown self.old region.bytes) { memory = region.name } }
-        ensures name { result.name ≡ self.old.memory }
-        ensures bytes { IsIn self.old result.bytes }
-        ensures lent { result.lent ≡ [] }
+        ensures { self.new ≡ record (shown self.old region.bytes) { memory = woken_in region.name } }
     {
-        self.pointers.exchange(region)
+        self.pointers.wake(region);
+    }
+
+    /// Puts the zone to sleep: it is in its record from then on. Returns the region that it was in, or None where it isn't
+    /// awake, and nothing has changed. What the zone showed is a sound heap.
+    pub fn sleep(&mut self) -> Option<Region>
+        requires nothing_lent { self.old.heap.table.lent ≡ [] }
+        ensures asleep { IfSome result (λ region. FallsAsleep self.old self.new) }
+        ensures name { IfSome result (λ region. region.name ≡ self.old.memory.region) }
+        ensures bytes { IfSome result (λ region. IsIn self.old region.bytes) }
+        ensures lent { IfSome result (λ region. region.lent ≡ []) }
+        ensures none { IfNone result ((self.old.memory.awake ≡ false) × (self.new ≡ self.old)) }
+        ensures sound { Sound self.old.shape self.old.heap }
+    {
+        self.pointers.sleep()
     }
 }

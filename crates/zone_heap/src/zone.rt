@@ -48,7 +48,7 @@ impl Zone {
     ghost use Rattle.mac_base.specs.BlockStatus.{status_of};
     ghost use Rattle.mac_base.specs.HandleTable.{has_block, is_full, is_handle, is_lent, is_pointer, bytes_of, flags_of, with_flags};
     ghost use Rattle.mac_base.specs.Loans.{LoansAreFixed, LoansFit, lent_out, may_be_lent, returned};
-    ghost use Rattle.mac_base.specs.ZoneState.{with_heap};
+    ghost use Rattle.mac_base.specs.ZoneState.{own_memory, with_heap};
     ghost use Rattle.linked_zone.specs.Loans.{IsLoanOf, KeepsLoans, KeepsOtherLoans};
     ghost use Rattle.mac_base.specs.Heap.{new_heap, with_table};
     ghost use Rattle.mac_base.specs.Sound.{Sound};
@@ -62,7 +62,7 @@ impl Zone {
 
     /// A new zone: a master block with 64 free slots, and one free block.
     pub fn create(alloc: Global, spec: ZoneSpec) -> Result<Zone, HostFull>
-        ensures { IfOk result (λ zone. zone ≡ record { memory = zone.memory; shape = shape_of spec; heap = new_heap (shape_of spec) spec.size }) }
+        ensures { IfOk result (λ zone. zone ≡ record { memory = own_memory zone.memory.region; shape = shape_of spec; heap = new_heap (shape_of spec) spec.size }) }
     {
         let mut pointers = IndexedZone::create(alloc, spec)?;
         let first = spec.base() + ZONE_HEADER;

@@ -5,7 +5,6 @@
 mod adopting;
 mod changes;
 mod disorder;
-mod exchange;
 mod fixed;
 mod gap;
 mod index;
@@ -17,6 +16,7 @@ mod pages;
 mod purging;
 mod search;
 mod sums;
+mod waking;
 mod weight;
 mod zone;
 

@@ -76,6 +76,7 @@ impl IndexedZone {
     ghost use Rattle.mac_base.specs.Reports.{largest_purge_space, largest_room, purge_space};
     ghost use Rattle.mac_base.specs.ZoneMap.{address_behind, total_size};
     ghost use Rattle.mac_base.specs.ZoneSizes.{ArePossible};
+    ghost use Rattle.mac_base.specs.ZoneState.{own_memory};
     ghost use Rattle.linked_zone.specs.Changes.{bare_zone};
     ghost use Rattle.linked_zone.specs.Fit.{Fits, HasSizes};
     ghost use Rattle.linked_zone.specs.Places.{EntryAt};
@@ -87,7 +88,7 @@ impl IndexedZone {
 
     /// A new zone: one free block, and no slot.
     pub fn create(alloc: Global, spec: ZoneSpec) -> Result<IndexedZone, HostFull>
-        ensures { IfOk result (λ zone. zone ≡ bare_zone zone.memory spec) }
+        ensures { IfOk result (λ zone. zone ≡ bare_zone (own_memory zone.memory.region) spec) }
     {
         let index = Index::create(alloc, spec)?;
         let zone = LinkedZone::create(alloc, spec)?;

@@ -1,6 +1,6 @@
 -- The words of a master block compared with other bytes.
 use Rattle.std.proofs.Common.{◌≡◌, ℕ, zero, suc, ◌+◌, ◌*◌, ◌/◌, ◌%◌, ◌<◌, ◌≤◌, List, [], ◌∷◌, length, take, drop, get_or, refl, ap, sym, ◌∙◌, subst, arith, below_more, length-drop, length-take-le, drop-drop, drop_at, take_at}
-use Rattle.std.proofs.lemmas.List.{get_or-drop}
+use Rattle.std.proofs.lemmas.List.{get_or-drop, get_or-take}
 use Rattle.std.proofs.lemmas.Bool.Decides.{nat_tests}
 use Rattle.byteorder.specs.Endian.{big_bytes, big_number}
 use Rattle.byteorder.specs.Numbers.{big_from-take, big_from-lt}
@@ -151,9 +151,25 @@ pub same-word : (heads : HeadKind) (ours theirs : List ℕ) (at k : ℕ) → Are
 same-word heads ours theirs at k bytes same =
     shown-word heads theirs at (slot_of heads ours k) bytes ∙ ap (λ w. shown_by heads w (slot_of heads ours k)) (sym same) ∙ shown-own heads (word_at ours (4 * k))
 
+-- the words of slots are bytes
+words-bytes : (heads : HeadKind) (ss : List Slot) → AreBytes (words_of heads ss)
+words-bytes heads [] k = omega arith
+words-bytes heads (s ∷ ss) zero = omega arith
+words-bytes heads (s ∷ ss) (suc zero) = omega arith
+words-bytes heads (s ∷ ss) (suc (suc zero)) = omega arith
+words-bytes heads (s ∷ ss) (suc (suc (suc zero))) = omega arith
+words-bytes heads (s ∷ ss) (suc (suc (suc (suc k)))) = words-bytes heads ss k
+
+-- a slot that stands in the same bytes says the same of them
+shown-same : (heads : HeadKind) (ours theirs : List ℕ) (at there : ℕ) (s : Slot) → get_or theirs there 0 ≡ get_or ours at 0 → shown_slot heads theirs there s ≡ shown_slot heads ours at s
+shown-same heads ours theirs at there (Free next) same = refl
+shown-same heads ours theirs at there Empty same = refl
+shown-same Bits24 ours theirs at there (Full flags contents) same = ap (λ n. Full (flags_from n) contents) same
+shown-same Bits32 ours theirs at there (Full flags contents) same = refl
+
 -- bytes that are the words of slots agree with them
-pub equal-agree : (heads : HeadKind) (ours theirs : List ℕ) (at : ℕ) → AreBytes theirs → part theirs at 256 ≡ ours → ours ≡ words_of heads (slots_in heads 64 ours) → SlotsAgree heads theirs 64 at ours × SlotsSame heads theirs 64 at ours
-equal-agree heads ours theirs at bytes same words = (
+pub equal-agree : (heads : HeadKind) (ours theirs : List ℕ) (at : ℕ) → part theirs at 256 ≡ ours → ours ≡ words_of heads (slots_in heads 64 ours) → SlotsAgree heads theirs 64 at ours × SlotsSame heads theirs 64 at ours
+equal-agree heads ours theirs at same words = (
   λ k few. record { said = ap (slot_in heads) (word k few) ∙ sym (own k few); right = here k few ∙ words-part heads 64 ours words k few ∙ ap (λ w. big_bytes 4 (slot_word heads (slot_in heads w))) (sym (word k few)) },
   own,
 )
@@ -164,5 +180,9 @@ equal-agree heads ours theirs at bytes same words = (
     word : (k : ℕ) → k < 64 → word_at theirs (at + 4 * k) ≡ word_at ours (4 * k)
     word k few = ap (big_number 4) (here k few)
 
+    high : (k : ℕ) → k < 64 → get_or theirs (at + 4 * k) 0 ≡ get_or ours (4 * k) 0
+    high k few = sym (get_or-drop at theirs (4 * k) 0) ∙ sym (get_or-take 256 (drop at theirs) (4 * k) 0 (omega arith)) ∙ ap (λ xs. get_or xs (4 * k) 0) same
+
     own : (k : ℕ) → k < 64 → shown_slot heads theirs (at + 4 * k) (slot_of heads ours k) ≡ slot_of heads ours k
-    own k few = same-word heads ours theirs (at + 4 * k) k bytes (sym (word k few))
+    own k few = shown-same heads ours theirs (4 * k) (at + 4 * k) (slot_of heads ours k) (high k few)
+        ∙ same-word heads ours ours (4 * k) k (subst AreBytes (sym words) (words-bytes heads (slots_in heads 64 ours))) refl

@@ -90,7 +90,7 @@ module _ (l : Layout) (z : ZoneRecords) (held : Held l z) (s : ZoneSizes) (possi
   shows =
       let sum = total in
       let kept : zone_header + raw.total_of l.heads (raw.extended l).blocks + 0 ≡ zone_header + raw.total_of l.heads l.blocks + length l.spare = omega arith in
-      (λ i. record { memory = l.name; shape = record { heads = l.heads; base = l.base; limit = kept i }; front = l.front; blocks = blocks i })
+      (λ i. record { memory = l.memory; shape = record { heads = l.heads; base = l.base; limit = kept i }; front = l.front; blocks = blocks i })
       ∙ ap (λ (z : ZoneRecords). with_blocks (z.blocks ++ free_record (length l.spare)) z) held.shows
       ∙ ap (λ n. with_blocks (z.blocks ++ free_record n) z) left
 

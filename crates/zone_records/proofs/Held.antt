@@ -121,7 +121,7 @@ module _ (l : Layout) (z : ZoneRecords) (held : Held l z) where
       let top = held.sound.high in
       record {
         shows = (λ i. record {
-          memory = l.name;
+          memory = l.memory;
           shape = record { heads = l.heads; base = l.base; limit = zone_header + kept i + length l.spare };
           front = l.front;
           blocks = blocks i;

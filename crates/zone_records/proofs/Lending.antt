@@ -76,7 +76,7 @@ module _ (l : Layout) (z : ZoneRecords) (held : Held l z) (at : ℕ) where
         let head = ap head_size (heads-is l z held) in
         let low : total_of (read l.heads l.base o.first) ≡ total_of h.before = ap total_of o.lower in
         let place : zone_header + raw.total_of l.heads o.first + head_size l.heads ≡ zone_header + total_of h.before + head_size z.shape.heads = omega arith in
-        let name = ap (λ (z : ZoneRecords). z.memory) held.shows in
+        let name = ap (λ (z : ZoneRecords). z.memory.region) held.shows in
         let bytes = held-bytes l z held at h in
         λ i. record { name = name i; at = place i; bytes = bytes i }
 
@@ -129,7 +129,7 @@ module _ (l : Layout) (z : ZoneRecords) (held : Held l z) (at : ℕ) where
     back_is = record {
       block = t.block;
       lent = ap (λ (r : BlockRecord). r.lent) t.same;
-      name = is.memory ∙ sym (ap (λ (z : ZoneRecords). z.memory) held.shows);
+      name = is.memory ∙ sym (ap (λ (z : ZoneRecords). z.memory.region) held.shows);
       place = back-place;
       long = back-long;
     }

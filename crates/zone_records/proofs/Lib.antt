@@ -13,9 +13,11 @@ mod Headers
 mod Holding
 mod Slots
 pub mod MasterBlocks
+mod Between
 mod ShownBlocks
 mod Structures
 mod Writing
+mod Sleeping
 mod Kept
 mod FaultWords
 mod WrongBytes
@@ -40,3 +42,5 @@ mod Copied
 pub mod Chaining
 pub mod Extending
 pub mod OwnBytes
+mod Touched
+mod TouchedBlocks

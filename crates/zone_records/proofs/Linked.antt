@@ -196,10 +196,10 @@ module _ (l : Layout) (sound : AreSound l) where
   pub right-made : AreLinked z → AreTight z → AreRight l
   right-made links tight at b = record { linked = linked-as links at b b.here.role refl; tight = tight-as tight at b b.here.role refl }
 
--- a zone's name has no part in it
-module _ (z : ZoneRecords) (name : Memory) where
+-- a zone's memory has no part in it
+module _ (z : ZoneRecords) (memory : Memory) where
   abbrev named : ZoneRecords
-  named = record z { memory = name }
+  named = record z { memory = memory }
 
   links-named : AreLinked named → AreLinked z
   links-named links = record {
@@ -240,17 +240,17 @@ module _ (spec : ZoneSizes) (possible : ArePossible spec) (bytes : List ℕ) (l 
   limit-is : (m : Layout) → blocks.IsZoneIn spec bytes m → zone_header + raw.total_of m.heads m.blocks + length m.spare ≡ spec.limit
   limit-is m zone = sym (image-long m) ∙ ap (λ (xs : List ℕ). length xs) zone.image ∙ zone.all
 
-  -- is the same but for its name
-  same-records : l.front ≡ k.front → records_in k ≡ record (records_in l) { memory = k.name }
+  -- is the same but for its memory
+  same-records : l.front ≡ k.front → records_in k ≡ record (records_in l) { memory = k.memory }
   same-records front =
       let heads = second.heads ∙ sym first.heads in let base = second.base ∙ sym first.base in
       let limit = limit-is k second ∙ sym (limit-is l first) in let bs = same-blocks spec possible bytes first.all k l second first in
-      λ i. record { memory = k.name; shape = record { heads = heads i; base = base i; limit = limit i }; front = sym front i; blocks = map (record_in (heads i) (base i)) (bs i) }
+      λ i. record { memory = k.memory; shape = record { heads = heads i; base = base i; limit = limit i }; front = sym front i; blocks = map (record_in (heads i) (base i)) (bs i) }
 
   pub right-same : AreSound l → AreSound k → l.front < 2 ^ 32 → AreLinked (records_in k) → AreTight (records_in k) → AreRight l × AreChained (records_in l)
   right-same sound other small links tight =
       let front : l.front ≡ k.front = sym (front-in bytes l first.image small) ∙ front-in bytes k second.image (front-small k other links.free) in
       let same = same-records front in
-      let mine : AreLinked (records_in l) = links-named (records_in l) k.name (subst AreLinked same links) in
-      let own : AreTight (records_in l) = tight-named (records_in l) k.name (subst AreTight same tight) in
+      let mine : AreLinked (records_in l) = links-named (records_in l) k.memory (subst AreLinked same links) in
+      let own : AreTight (records_in l) = tight-named (records_in l) k.memory (subst AreTight same tight) in
       (right-made l sound mine own, mine.free)

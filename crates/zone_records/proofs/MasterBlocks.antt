@@ -8,16 +8,13 @@ use Rattle.block_bytes.specs.Layout.{RawBlock, Layout, BlockAt, UnlentAt, has_ow
 use Rattle.block_bytes.specs.declared.structure.Compared.{Compared}
 use Rattle.block_bytes.specs.declared.structure.Compared.TheVariants.{Differ, NextMaster, AllAgree}
 use Rattle.block_bytes.specs.Finding.{SplitAt}
-use Rattle.block_bytes.specs.Structure.{EachMaster, HasHeaders, AgreeUpTo, Compares, is_master, none_master, up_to_master}
+use Rattle.block_bytes.specs.Structure.{EachMaster, HasHeaders, AgreeUpTo, Compares, is_master, none_master}
 use Rattle.block_bytes.proofs.Parts.{length-header}
 use Rattle.block_bytes.proofs.Rendered.{length-rendered}
 use Rattle.block_bytes.proofs.Same.{same-block}
 use Rattle.block_bytes.proofs.ReadBlocks.{head_size-positive}
-use Rattle.block_bytes.proofs.Structures.{headers-append, headers-first, headers-rest, headers-up_to}
+use Rattle.block_bytes.proofs.Structures.{headers-rest, headers-up_to}
 use Rattle.block_bytes.proofs.WrittenOwn.{each-join}
-use Rattle.zone_records.specs.declared.structure.Agreement.{Agreement}
-use Rattle.zone_records.specs.Masters.{SlotsAgree, SlotsSame, BlocksAgree, BlocksSame}
-use Rattle.zone_records.specs.Structure.{Means, worse}
 use Rattle.zone_records.specs.Reading.{AreSound, is_sound}
 use Rattle.zone_records.specs.Word.{slots_in, words_of}
 use Rattle.zone_records.proofs.Apart.{total-append}
@@ -25,7 +22,6 @@ use Rattle.zone_records.proofs.Held.{sound-one, range-one, words-at}
 use Rattle.zone_records.proofs.Ranked.{within}
 use Rattle.zone_records.proofs.Looking.{not-lent, sound-parts}
 use Rattle.zone_records.proofs.Slots.{master-long}
-use Rattle.zone_records.proofs.Meaning.{means-both, means-same}
 
 module _ (P : ℕ → List ℕ → Type 0) (heads : HeadKind) where
   -- the same of their master blocks
@@ -104,41 +100,12 @@ at-same P heads others at start contents same heads_is place is holds =
     subst (λ heads. P heads start same) heads_is (subst (λ at. P heads at same) place (subst (λ contents. P heads at contents) is holds))
 
 module _ (l : Layout) (bytes : List ℕ) where
-  abbrev agree : ℕ → List ℕ → Type 0
-  agree = SlotsAgree l.heads bytes slot_count
-
-  abbrev same : ℕ → List ℕ → Type 0
-  same = SlotsSame l.heads bytes slot_count
-
-  -- the blocks before an address are compared, and this is the agreement
-  pub record Passed (from : ℕ) (a : Agreement) : Type 0 where
-    pub split : SplitAt l from
-    pub told : Means a (BlocksAgree l bytes zone_header split.before) (BlocksSame l bytes zone_header split.before)
-
   module _ (from : ℕ) (split : SplitAt l from) where
     abbrev at_split : ℕ
     at_split = zone_header + total_of l.heads split.before
 
     pub from-is : from - l.base ≡ at_split
     from-is = let place = split.place in omega arith
-
-    -- the headers of the blocks from there on differ where one does
-    pub differ-all : (HasHeaders l bytes (from - l.base) (up_to_master split.behind) → ⊥) → BlocksAgree l bytes zone_header l.blocks → ⊥
-    differ-all differ all =
-        differ (headers-up_to l bytes (from - l.base) split.behind (subst (λ n. HasHeaders l bytes n split.behind) (sym from-is) (headers-rest l bytes zone_header split.before split.behind (subst (HasHeaders l bytes zone_header) split.blocks all.headers))))
-
-    -- no master block is left
-    pub passed-all : (a : Agreement) → Means a (BlocksAgree l bytes zone_header split.before) (BlocksSame l bytes zone_header split.before) → none_master split.behind ≡ true → HasHeaders l bytes (from - l.base) split.behind
-        → Means a (BlocksAgree l bytes zone_header l.blocks) (BlocksSame l bytes zone_header l.blocks)
-    passed-all a told none headers =
-        let rest = subst (λ n. HasHeaders l bytes n split.behind) from-is headers in
-        subst (λ bs. Means a (BlocksAgree l bytes zone_header bs) (BlocksSame l bytes zone_header bs)) (sym split.blocks)
-        (means-same _ _ _ _ a
-        (λ h. record { headers = headers-append l bytes zone_header split.before split.behind h.headers rest; masters = each-join agree l.heads zone_header split.before split.behind h.masters (each-none agree l.heads at_split split.behind none) })
-        (λ h. record { headers = headers-first l bytes zone_header split.before split.behind h.headers; masters = each-first agree l.heads zone_header split.before split.behind h.masters })
-        (λ _ h. each-join same l.heads zone_header split.before split.behind h (each-none same l.heads at_split split.behind none))
-        (λ _ h. each-first same l.heads zone_header split.before split.behind h)
-        told)
 
     module _ (at : ℕ) (next : AgreeUpTo l bytes (from - l.base) split.behind at) where
       abbrev upto : List RawBlock
@@ -169,30 +136,6 @@ module _ (l : Layout) (bytes : List ℕ) where
         blocks = all_blocks ∙ sym (append_assoc split.before upto next.behind);
         place = (let total = total-append l.heads split.before upto in let own = total-append l.heads next.passed (next.here ∷ []) in let first = from-is in let place = next.place in omega arith);
       }
-
-      -- once it is compared too
-      pub passed-more : (a b : Agreement) (end start : ℕ) (is : end ≡ at + size_of l.heads next.here) → start ≡ at - l.base + head_size l.heads → Means a (BlocksAgree l bytes zone_header split.before) (BlocksSame l bytes zone_header split.before)
-          → Means b (SlotsAgree l.heads bytes slot_count start next.here.contents) (SlotsSame l.heads bytes slot_count start next.here.contents) → Passed end (worse a b)
-      passed-more a b end start is there first second =
-          let headers = subst (λ n. HasHeaders l bytes n upto) from-is next.agree in
-          let place : start ≡ at_split + total_of l.heads next.passed + head_size l.heads = (let e = from-is in let p = next.place in omega arith) in
-          let here = next.here in
-          let last : (P : ℕ → List ℕ → Type 0) → P start here.contents → EachMaster P l.heads at_split upto =
-          (λ P h. each-join P l.heads at_split next.passed (here ∷ []) (each-none P l.heads at_split next.passed next.others) (λ _. subst (λ n. P n here.contents) place h, tt)) in
-          let own : (P : ℕ → List ℕ → Type 0) → EachMaster P l.heads at_split upto → P start here.contents =
-          (λ P h. subst (λ n. P n here.contents) (sym place) (each-one P l.heads at_split next.passed here [] h next.master)) in
-          record {
-            split = next_split end is;
-            told = means-same _ _ _ _ (worse a b)
-                (λ h. record { headers = headers-append l bytes zone_header split.before upto h.0.headers headers; masters = each-join agree l.heads zone_header split.before upto h.0.masters (last agree h.1) })
-                (λ h. (
-                  record { headers = headers-first l bytes zone_header split.before upto h.headers; masters = each-first agree l.heads zone_header split.before upto h.masters },
-                  own agree (each-rest agree l.heads zone_header split.before upto h.masters),
-                ))
-                (λ _ h. each-join same l.heads zone_header split.before upto h.0 (last same h.1))
-                (λ _ h. (each-first same l.heads zone_header split.before upto h, own same (each-rest same l.heads zone_header split.before upto h)))
-                (means-both _ _ _ _ a b first second);
-          }
 
 -- no master block comes where headers agree and the next isn't found
 pub none-next : (l : Layout) (bytes : List ℕ) (offset : ℕ) (bs : List RawBlock) (r : Compared) → Compares l bytes offset bs r → ((at : ℕ) → r ≡ NextMaster at → ⊥) → HasHeaders l bytes offset bs → none_master bs ≡ true

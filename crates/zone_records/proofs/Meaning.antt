@@ -1,4 +1,5 @@
 -- What agreements mean, one by one and together.
+use Rattle.std.proofs.Common.{◌≡◌, refl}
 use Rattle.zone_records.specs.declared.structure.Agreement.{Agreement}
 use Rattle.zone_records.specs.declared.structure.Agreement.TheVariants.{Damaged, FlagsChanged, Same}
 use Rattle.zone_records.specs.Structure.{Means, worse}
@@ -18,3 +19,26 @@ pub means-same : (P Q R S : Type 0) (a : Agreement) → (P → R) → (R → P) 
 means-same P Q R S Damaged to from to_flags from_flags told = λ h. told (from h)
 means-same P Q R S FlagsChanged to from to_flags from_flags told = (to told.0, λ h. told.1 (from_flags told.0 h))
 means-same P Q R S Same to from to_flags from_flags told = (to told.0, to_flags told.0 told.1)
+
+-- with one that says nothing more, and with one that says all
+pub worse-same : (a : Agreement) → worse a Same ≡ a
+worse-same Damaged = refl
+worse-same FlagsChanged = refl
+worse-same Same = refl
+
+pub worse-damaged : (a : Agreement) → worse a Damaged ≡ Damaged
+worse-damaged Damaged = refl
+worse-damaged FlagsChanged = refl
+worse-damaged Same = refl
+
+-- three of them together, in either order
+pub worse-worse : (a b c : Agreement) → worse a (worse b c) ≡ worse (worse a b) c
+worse-worse Damaged b c = refl
+worse-worse FlagsChanged Damaged c = refl
+worse-worse FlagsChanged FlagsChanged Damaged = refl
+worse-worse FlagsChanged FlagsChanged FlagsChanged = refl
+worse-worse FlagsChanged FlagsChanged Same = refl
+worse-worse FlagsChanged Same Damaged = refl
+worse-worse FlagsChanged Same FlagsChanged = refl
+worse-worse FlagsChanged Same Same = refl
+worse-worse Same b c = refl

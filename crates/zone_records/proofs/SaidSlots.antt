@@ -5,7 +5,7 @@ use Rattle.byteorder.specs.Endian.{big_bytes, big_number}
 use Rattle.mac_base.specs.declared.block.HeadKind.{HeadKind}
 use Rattle.raw_region.specs.Bytes.{part}
 use Rattle.raw_region.proofs.Laws.{part-add, part-part}
-use Rattle.zone_records.specs.Masters.{SlotAgrees, SlotsAgree, slot_of}
+use Rattle.zone_records.specs.Masters.{SlotAgrees, SlotsAgree, SlotsSame, slot_of}
 use Rattle.zone_records.specs.Structure.{shown_slot, shown_slots}
 use Rattle.zone_records.specs.Word.{slot_word, slot_in, slots_in, words_of}
 use Rattle.zone_records.proofs.Comparing.{words-part}
@@ -45,6 +45,17 @@ agree-words heads bytes (suc n) at contents agree =
     let behind = drop-drop 4 at bytes in
     ap (λ k. part bytes at k) four ∙ part-add bytes at 4 (4 * n) ∙ (λ i. here.right i ++ (more ∙ ap (λ xs. words_of heads (slots_in heads n xs)) (sym behind)) i)
 
+-- where bytes say the same flags of each, they are as bytes show them
+same-shown : (heads : HeadKind) (bytes : List ℕ) (n at : ℕ) (contents : List ℕ) → SlotsSame heads bytes n at contents → shown_slots heads bytes at (slots_in heads n contents) ≡ slots_in heads n contents
+unfolding slots_in
+same-shown heads bytes zero at contents same = refl
+same-shown heads bytes (suc n) at contents same =
+    let here : shown_slot heads bytes at (slot_of heads contents 0) ≡ slot_of heads contents 0 = subst (λ j. shown_slot heads bytes j (slot_of heads contents 0) ≡ slot_of heads contents 0) (let e : at + 4 * 0 ≡ at = omega arith in e) (same 0 (omega arith)) in
+    let rest : SlotsSame heads bytes n (at + 4) (drop 4 contents) = λ k few. subst (λ j. shown_slot heads bytes j (slot_of heads (drop 4 contents) k) ≡ slot_of heads (drop 4 contents) k) (let e : at + 4 * suc k ≡ at + 4 + 4 * k = omega arith in e)
+    (subst (λ s. shown_slot heads bytes (at + 4 * suc k) s ≡ s) (sym (slot_of-behind heads contents k)) (same (suc k) (omega arith))) in
+    let more = same-shown heads bytes n (at + 4) (drop 4 contents) rest in
+    λ i. here i ∷ more i
+
 -- a slot among the first bytes
 slots-part : (heads : HeadKind) (n : ℕ) (xs : List ℕ) → slots_in heads n (take (4 * n) xs) ≡ slots_in heads n xs
 unfolding slots_in
@@ -75,6 +86,10 @@ module _ (heads : HeadKind) (bytes : List ℕ) (at : ℕ) (contents : List ℕ) 
 
   pub master-words : SlotsAgree heads bytes 64 at contents → here ≡ words_of heads (slots_in heads 64 here)
   master-words agree = agree-words heads bytes 64 at contents agree ∙ ap (words_of heads) (sym (slots-part heads 64 (drop at bytes)))
+
+  -- where they say the same flags too, they are the block's contents
+  pub master-written : SlotsAgree heads bytes 64 at contents → SlotsSame heads bytes 64 at contents → contents ≡ words_of heads (slots_in heads 64 contents) → here ≡ contents
+  master-written agree same words = master-words agree ∙ ap (words_of heads) (master-said agree ∙ same-shown heads bytes 64 at contents same) ∙ sym words
 
   -- and those that do agree
   pub master-agrees : slots_in heads 64 here ≡ shown_slots heads bytes at (slots_in heads 64 contents) → here ≡ words_of heads (slots_in heads 64 here) → SlotsAgree heads bytes 64 at contents

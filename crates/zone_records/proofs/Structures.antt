@@ -64,7 +64,7 @@ module _ (l : Layout) (bytes : List ℕ) where
       ≡ zone_header + raw.total_of l.heads l.blocks + length l.spare = omega arith in
       let high = held.sound.high in
       record {
-        shows = (λ i. record { memory = l.name; shape = record { heads = l.heads; base = l.base; limit = limit i }; front = l.front; blocks = are.same i }) ∙ ap (λ z. shown z bytes) held.shows;
+        shows = (λ i. record { memory = l.memory; shape = record { heads = l.heads; base = l.base; limit = limit i }; front = l.front; blocks = are.same i }) ∙ ap (λ z. shown z bytes) held.shows;
         sound = record { blocks = are.sound; words = are.words; even = held.sound.even; high = omega arith };
       }
 
@@ -103,8 +103,8 @@ module _ (l : Layout) (bytes : List ℕ) where
       let own : HasStructure (records_in l) bytes = subst (λ z. HasStructure z bytes) (sym held.shows) has in
       let m = own.image.layout in
       let same = own.image.same in
-      let named : m ≡ record l { name = m.name; blocks = m.blocks; spare = m.spare } = (λ i. record {
-        name = m.name;
+      let named : m ≡ record l { memory = m.memory; blocks = m.blocks; spare = m.spare } = (λ i. record {
+        memory = m.memory;
         heads = ap (λ (z : ZoneRecords). z.shape.heads) same i;
         base = ap (λ (z : ZoneRecords). z.shape.base) same i;
         front = ap (λ (z : ZoneRecords). z.front) same i;
@@ -167,8 +167,8 @@ module _ (l : Layout) (bytes : List ℕ) (z : ZoneRecords) (held : Held l z) whe
   agrees a head told = means-same _ _ _ _ a (structure-made l bytes z held head) (structure-agrees l bytes z held) (λ _ same. flags-from same) (λ _ same. flags-to same) told
 
 -- the zone in other memory
-pub elsewhere : (l : Layout) (z : ZoneRecords) (name : Memory) → Held l z → Held (record l { name = name }) (record z { memory = name })
-elsewhere l z name held = record {
-  shows = ap (λ (z : ZoneRecords). record z { memory = name }) held.shows;
+pub elsewhere : (l : Layout) (z : ZoneRecords) (memory : Memory) → Held l z → Held (record l { memory = memory }) (record z { memory = memory })
+elsewhere l z memory held = record {
+  shows = ap (λ (z : ZoneRecords). record z { memory = memory }) held.shows;
   sound = record { blocks = held.sound.blocks; words = held.sound.words; even = held.sound.even; high = held.sound.high };
 }

@@ -31,14 +31,14 @@ use Rattle.zone_records.proofs.Held.{Held, heads-is, base-is}
 use Rattle.zone_records.proofs.Looking.{of-block}
 use Rattle.zone_records.proofs.MasterBlocks.{block-end, contents-long, contents-words, each-made, each-one}
 use Rattle.zone_records.proofs.OwnBytes.{own-records}
-use Rattle.zone_records.proofs.Ranked.{rank, within}
+use Rattle.zone_records.proofs.Ranked.{rank}
 use Rattle.zone_records.proofs.Slots.{slot-at}
 use Rattle.zone_records.proofs.Structures.{agree-at, in-image, structure-agrees, structure-head_is, structure-made}
 
 -- ---- in general
 
 -- the headers of blocks, one by one
-headers-made : (l : Layout) (bytes : List ℕ) (at : ℕ) (bs : List RawBlock)
+pub headers-made : (l : Layout) (bytes : List ℕ) (at : ℕ) (bs : List RawBlock)
     → ((xs : List RawBlock) (b : RawBlock) (ys : List RawBlock) → bs ≡ xs ++ b ∷ ys → part bytes (at + raw.total_of l.heads xs) (head_size l.heads) ≡ head_bytes l.heads l.base (header_of l.heads b)) → HasHeaders l bytes at bs
 headers-made l bytes at [] each = tt
 headers-made l bytes at (b ∷ bs) each = (
@@ -56,14 +56,14 @@ same-byte : (xs ys : List ℕ) (at n k : ℕ) → part xs at n ≡ part ys at n 
 same-byte xs ys at n k is low high = sym (index-part xs at n k low high) ∙ ap (λ zs. slice_index zs (k - at)) is ∙ index-part ys at n k low high
 
 -- what a slot says with the flags of the same byte
-shown-same : (heads : HeadKind) (xs ys : List ℕ) (at : ℕ) (s : Slot) → slice_index ys at ≡ slice_index xs at → shown_slot heads ys at s ≡ shown_slot heads xs at s
+pub shown-same : (heads : HeadKind) (xs ys : List ℕ) (at : ℕ) (s : Slot) → slice_index ys at ≡ slice_index xs at → shown_slot heads ys at s ≡ shown_slot heads xs at s
 shown-same heads xs ys at (Free next) is = refl
 shown-same heads xs ys at Empty is = refl
 shown-same Bits24 xs ys at (Full flags contents) is = ap (λ b. Full (flags_from b) contents) is
 shown-same Bits32 xs ys at (Full flags contents) is = refl
 
 -- what four bytes and their first say of a slot
-slot-kept : (heads : HeadKind) (xs ys : List ℕ) (at : ℕ) (s : Slot) → part ys at 4 ≡ part xs at 4 → slice_index ys at ≡ slice_index xs at → SlotAgrees heads xs at s → SlotAgrees heads ys at s
+pub slot-kept : (heads : HeadKind) (xs ys : List ℕ) (at : ℕ) (s : Slot) → part ys at 4 ≡ part xs at 4 → slice_index ys at ≡ slice_index xs at → SlotAgrees heads xs at s → SlotAgrees heads ys at s
 slot-kept heads xs ys at s four first agrees =
     record {
       said = ap (λ zs. slot_in heads (big_number 4 zs)) four ∙ agrees.said ∙ sym (shown-same heads xs ys at s first);

@@ -85,7 +85,7 @@ lent_out z held = with_blocks (held.before ++ lent_record held.content held.size
 
 -- its loan: its bytes, in their place
 abbrev pub loan_of : {at : ℕ} → (z : ZoneRecords) → HeldAt z at → Loan
-loan_of z held = record { name = z.memory; at = zone_header + total_of held.before + head_size z.shape.heads; bytes = bytes_of held.content }
+loan_of z held = record { name = z.memory.region; at = zone_header + total_of held.before + head_size z.shape.heads; bytes = bytes_of held.content }
 
 -- the lent block at an address came back, with the bytes of its loan
 abbrev pub taken_back : {at : ℕ} {loan : Loan} → (z : ZoneRecords) → IsLoanOf z at loan → ZoneRecords

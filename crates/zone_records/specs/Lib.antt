@@ -14,3 +14,5 @@ pub mod Slots
 pub mod Adopting
 pub mod Masters
 pub mod Linking
+pub mod Sleeping
+pub mod Written

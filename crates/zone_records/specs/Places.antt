@@ -65,7 +65,7 @@ pub record IsLoanOf (z : ZoneRecords) (at : ℕ) (loan : Loan) : Type 0 where
   pub blocks : z.blocks ≡ before ++ lent_record content size ∷ behind
   pub place : at ≡ address_behind z.shape before
   pub held : IsTrue (has_bytes content)
-  pub memory : loan.name ≡ z.memory
+  pub memory : loan.name ≡ z.memory.region
   pub contents : z.shape.base + loan.at ≡ at + head_size z.shape.heads
   pub long : length loan.bytes ≡ length (bytes_of content)
 

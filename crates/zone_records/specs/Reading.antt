@@ -24,7 +24,7 @@ record_in heads base b = record { size = size_of heads b; content = content_in h
 -- the zone that blocks of bytes are
 abbrev pub records_in : Layout → ZoneRecords
 records_in l = record {
-  memory = l.name;
+  memory = l.memory;
   shape = record { heads = l.heads; base = l.base; limit = zone_header + total_of l.heads l.blocks + length l.spare };
   front = l.front;
   blocks = map (record_in l.heads l.base) l.blocks;

@@ -4,6 +4,7 @@
 ghost use Rattle.std.specs.Prelude.{◌≡◌, ◌↔◌, ◌<◌, ◌^◌, [], length, IfOk, IfErr, IsTrue};
 ghost use Rattle.std.specs.List.{All};
 ghost use Rattle.mac_base.specs.HeadKind.{master_length, slot_count};
+ghost use Rattle.mac_base.specs.ZoneState.{own_memory};
 ghost use Rattle.block_bytes.specs.Layout.{BlockAt, NothingLent, UnlentAt};
 ghost use Rattle.block_bytes.specs.declared.adopting.WhyNot.TheVariants.{NotZone};
 ghost use Rattle.zone_records.specs.Adopting.{IsUsed, IsZoneIn};
@@ -108,7 +109,7 @@ impl Records {
     /// for what is kept beside it. The region then comes back as it was.
     pub fn adopt(alloc: Global, spec: ZoneSpec, region: Region) -> Result<Records, NotAdopted>
         requires whole { region.lent ≡ [] }
-        ensures zone { IfOk result (λ zone. IsZoneIn spec region.bytes zone × (zone.memory ≡ region.name)) }
+        ensures zone { IfOk result (λ zone. IsZoneIn spec region.bytes zone × (zone.memory ≡ own_memory region.name)) }
         ensures same { IfErr result (λ no. no.region ≡ region) }
         ensures none { IfErr result (λ no. no.why ≡ NotZone → (z : ZoneRecords) → IsZoneIn spec region.bytes z → ⊥) }
     {

@@ -5,7 +5,9 @@ ghost use Rattle.mac_base.specs.declared.block.HeadKind.TheVariants.{Bits24};
 ghost use Rattle.mac_base.specs.HeadKind.{head_size, master_length, slot_count, zone_header};
 ghost use Rattle.raw_region.specs.Bytes.{part};
 ghost use Rattle.block_bytes.specs.declared.header.Role.TheVariants.{Master};
+ghost use Rattle.block_bytes.specs.Finding.{SplitAt};
 ghost use Rattle.block_bytes.specs.Layout.{BlockAt, image_of};
+ghost use Rattle.block_bytes.specs.Structure.{begun_before};
 ghost use Rattle.zone_records.specs.Masters.{BlocksAgree, BlocksSame, FirstOther, IsSame, OtherFlags, SameWhere, SameWord, SlotsAgree, SlotsSame, WordAgrees};
 ghost use Rattle.zone_records.specs.Reading.{AreSound, records_in};
 ghost use Rattle.zone_records.specs.Structure.{FirstChanged, HasStructure, NoneChanged, Means};
@@ -94,24 +96,37 @@ fn compare_master(blocks: &Blocks, bytes: &[u8], at: u32) -> Agreement
     compare_slots(spec.heads(), ours, bytes, start)
 }
 
-/// How as many bytes as a zone has agree with the headers of its blocks and with its master blocks.
-pub(crate) fn compare_blocks(blocks: &Blocks, bytes: &[u8]) -> Agreement
+/// How as many bytes as a zone has agree with the headers of the blocks from an address on that begin before another, and
+/// with the master blocks among these.
+pub(crate) fn compare_blocks(blocks: &Blocks, bytes: &[u8], from: u32, end: u32) -> Agreement
+    requires sound { AreSound blocks.now }
+    requires whole { length bytes.now ≡ length (image_of blocks.now) }
+    requires split { SplitAt blocks.now from }
+    ensures { (s : SplitAt blocks.now from) → let l = blocks.now in let bs = begun_before l.heads from end s.behind in
+        Means result (BlocksAgree l bytes.now (from - l.base) bs) (BlocksSame l bytes.now (from - l.base) bs) }
+{
+    let mut agreement = Agreement::Same;
+    let mut at = from;
+    loop {
+        match blocks.compare_until(bytes, at, end) {
+            Compared::Differ => return Agreement::Damaged,
+            Compared::AllAgree => return agreement,
+            Compared::NextMaster(master) => {
+                agreement = agreement.with(compare_master(blocks, bytes, master));
+                at = master + blocks.entry_at(master).size;
+            }
+        }
+    }
+}
+
+/// How as many bytes as a zone has agree with the headers of all its blocks and with its master blocks.
+pub(crate) fn compare_all(blocks: &Blocks, bytes: &[u8]) -> Agreement
     requires sound { AreSound blocks.now }
     requires whole { length bytes.now ≡ length (image_of blocks.now) }
     ensures { Means result (BlocksAgree blocks.now bytes.now zone_header blocks.now.blocks) (BlocksSame blocks.now bytes.now zone_header blocks.now.blocks) }
 {
-    let mut agreement = Agreement::Same;
-    let mut from = blocks.spec().base() + ZONE_HEADER;
-    loop {
-        match blocks.compare_from(bytes, from) {
-            Compared::Differ => return Agreement::Damaged,
-            Compared::AllAgree => return agreement,
-            Compared::NextMaster(at) => {
-                agreement = agreement.with(compare_master(blocks, bytes, at));
-                from = at + blocks.entry_at(at).size;
-            }
-        }
-    }
+    let first = blocks.spec().base() + ZONE_HEADER;
+    compare_blocks(blocks, bytes, first, blocks.end())
 }
 
 /// The first slot of a master block, from one of them on, of which bytes say other flags.

@@ -50,6 +50,7 @@ impl Records {
     ghost use Rattle.mac_base.specs.HeadKind.{head_size, master_length, slot_count};
     ghost use Rattle.mac_base.specs.HandleTable.{zeros, no_flags};
     ghost use Rattle.mac_base.specs.ZoneMap.{block};
+    ghost use Rattle.mac_base.specs.ZoneState.{own_memory};
     ghost use Rattle.zone_records.specs.Records.{ZoneRecords, Fixed, Master, Relocatable, sizes_of, kind_of, length_of, bytes_of, lent_count, address_behind, NothingLent};
     ghost use Rattle.mac_base.specs.Loans.{most_loans};
     ghost use Rattle.zone_records.specs.Places.{RecordAt, FreeAt, HeldAt, HandleBlockAt, SlotAt, RoomFor, CanCut, FreePair, CanHold, CanGrow, ParcelAt, IsLoanOf, LowestAt, has_free, can_say, can_flag, ParcelUpTo, SplitAt, FirstFree, LastFree, none_free, free_total, FirstFrom, NoneFrom};
@@ -62,7 +63,7 @@ impl Records {
 
     /// A new zone: one free block, and no slot.
     pub fn create(alloc: Global, spec: ZoneSpec) -> Result<Records, HostFull>
-        ensures { IfOk result (λ zone. zone ≡ new_records zone.memory spec) }
+        ensures { IfOk result (λ zone. zone ≡ new_records (own_memory zone.memory.region) spec) }
     {
         Ok(Records {
             blocks: Blocks::create(alloc, spec)?,
@@ -461,7 +462,7 @@ impl Records {
     pub fn into_region(self) -> Region
         requires nothing_lent { NothingLent self }
         ensures bytes { IsIn self result.bytes }
-        ensures name { result.name ≡ self.memory }
+        ensures name { result.name ≡ self.memory.region }
         ensures whole { result.lent ≡ [] }
     {
         let Records { blocks } = self;

@@ -1,14 +1,18 @@
-//! A zone's structure, its headers and master pointers, compared with other bytes and written to them; and a zone whose
-//! bytes are exchanged for others with the same structure.
+//! A zone's structure, its headers and master pointers, compared with other bytes and written to them; and a zone that
+//! wakes in bytes with the same structure and falls asleep again.
 
-ghost use Rattle.std.specs.Prelude.{◌≡◌, [], length, IfSome, IfNone};
+ghost use Rattle.std.specs.Prelude.{◌≡◌, [], length, IfSome, IfNone, IsFalse, false};
+ghost use Rattle.mac_base.specs.ZoneState.{woken_in};
 ghost use Rattle.zone_records.specs.Faults.{IsFirstFault};
 ghost use Rattle.zone_records.specs.Parts.{ContentsStay, OthersStay};
 ghost use Rattle.zone_records.specs.Records.{NothingLent};
+ghost use Rattle.zone_records.specs.Sleeping.{FallsAsleep};
+ghost use Rattle.zone_records.specs.Written.{DifferIn};
 ghost use Rattle.zone_records.specs.Structure.{Agrees, FirstChanged, HasStructure, IsIn, NoneChanged, SameFlags, shown};
 
 use crate::faults::first_fault;
-use crate::masters::{compare_blocks, first_changed};
+use crate::masters::{compare_all, first_changed};
+use crate::ranges::compare_ranges;
 use crate::records::Records;
 use mac_base::block::Flags;
 use raw_region::Region;
@@ -22,6 +26,14 @@ pub enum Agreement {
     FlagsChanged,
     /// They have its structure, and say the same flags of each handle.
     Same,
+}
+
+/// Bytes of a zone that a host says were written: so many, from an offset from the zone's start on.
+#[repr(C)]
+#[derive(Clone, Copy, Debug, PartialEq, Eq)]
+pub struct Written {
+    pub from: u32,
+    pub count: u32,
 }
 
 /// A part of a zone's structure.
@@ -62,7 +74,7 @@ impl Records {
         if !self.blocks.has_head(bytes) {
             return Agreement::Damaged;
         }
-        compare_blocks(&self.blocks, bytes)
+        compare_all(&self.blocks, bytes)
     }
 
     /// The first slot from an address on of whose handle bytes say other flags, and these flags.
@@ -74,17 +86,46 @@ impl Records {
         first_changed(&self.blocks, bytes, from)
     }
 
-    /// Exchanges the zone's bytes for those of a region with the same structure, and returns the region that it had.
-    pub fn exchange(&mut self, region: Region) -> Region
+    /// How bytes agree with the zone, where they differ only in these ranges from bytes with the zone's structure and flags. No
+    /// other byte is looked at.
+    pub fn agreement_in(&self, bytes: &[u8], written: &[Written]) -> Agreement
+        requires told { DifferIn self.now bytes.now written.now }
+        ensures { Agrees self.now bytes.now result }
+    {
+        compare_ranges(&self.blocks, bytes, written)
+    }
+
+    /// Whether the zone is awake: in bytes of others, with a record of its structure kept elsewhere.
+    pub fn is_awake(&self) -> bool
+        ensures { result ≡ self.now.memory.awake }
+    {
+        self.blocks.is_awake()
+    }
+
+    /// Wakes the zone, which sleeps, in a region with the same structure and the same flags: it is in this region's bytes
+    /// from then on. The region that it was in becomes the record of its structure.
+    pub fn wake(&mut self, region: Region)
         requires nothing_lent { NothingLent self.old }
+        requires asleep { IsFalse self.old.memory.awake }
         requires whole { region.lent ≡ [] }
         requires same { HasStructure self.old region.bytes }
-        ensures zone { self.new ≡ record (shown self.old region.bytes) { memory = region.name } }
-        ensures name { result.name ≡ self.old.memory }
-        ensures bytes { IsIn self.old result.bytes }
-        ensures lent { result.lent ≡ [] }
+        requires flags { SameFlags self.old region.bytes }
+        ensures { self.new ≡ record (shown self.old region.bytes) { memory = woken_in region.name } }
     {
-        self.blocks.exchange(region)
+        self.blocks.wake(region);
+    }
+
+    /// Puts the zone to sleep: it is in its record from then on. Returns the region that it was in, or None where it isn't
+    /// awake, and nothing has changed.
+    pub fn sleep(&mut self) -> Option<Region>
+        requires nothing_lent { NothingLent self.old }
+        ensures asleep { IfSome result (λ region. FallsAsleep self.old self.new) }
+        ensures name { IfSome result (λ region. region.name ≡ self.old.memory.region) }
+        ensures bytes { IfSome result (λ region. IsIn self.old region.bytes) }
+        ensures lent { IfSome result (λ region. region.lent ≡ []) }
+        ensures none { IfNone result ((self.old.memory.awake ≡ false) × (self.new ≡ self.old)) }
+    {
+        self.blocks.sleep()
     }
 
     /// Writes the zone's structure, its headers and master pointers, among as many other bytes as its limit. No other of

@@ -1,4 +1,4 @@
-use Rattle.std.proofs.Common.{◌≡◌, ◌∙◌, sym, ap, subst}
+use Rattle.std.proofs.Common.{◌≡◌, ◌∙◌, refl, sym, ap, subst}
 use Rattle.mac_base.specs.HeadKind.{need}
 use Rattle.mac_base.specs.ZoneSizes.{ZoneSizes}
 use Rattle.mac_base.specs.declared.request.Request.TheVariants.{Replace}
@@ -32,7 +32,7 @@ returns-then-not-has_room-clause-attempt c =
     (replace-refused c.args.zone.now c.args.handle c.args.length c.requires.ready c.need_for-needed.result (size (goal.at.returns-then-not-has_room-clause-attempt c).After-need_for-needed) (sym c.has_room.ensures.room ∙ c.if-not-has_room.true))
 
 pub returns-then-not-has_room-clause-loans : goal.returns-then-not-has_room-clause-loans
-returns-then-not-has_room-clause-loans c = subst (KeepsLoans c.args.zone.now) (sym c.has_room.ensures.zone) (λ x loan is. is)
+returns-then-not-has_room-clause-loans c = subst (KeepsLoans c.args.zone.now) (sym c.has_room.ensures.zone) (refl, λ x loan is. is)
 
 pub returns-then-not-has_room-clause-sound : goal.returns-then-not-has_room-clause-sound
 returns-then-not-has_room-clause-sound c = subst SoundZone (sym c.has_room.ensures.zone) c.requires.sound

@@ -1,4 +1,4 @@
-use Rattle.std.proofs.Common.{◌≡◌, ◌∙◌, ap, sym, subst}
+use Rattle.std.proofs.Common.{◌≡◌, ◌∙◌, ap, refl, sym, subst}
 use Rattle.std.specs.Prelude.{is_some}
 use Rattle.mac_base.specs.HeadKind.{need}
 use Rattle.mac_base.specs.Request.{stays}
@@ -29,7 +29,7 @@ pub returns-then-not-grows_to-clause-fits : goal.returns-then-not-grows_to-claus
 returns-then-not-grows_to-clause-fits c = sym (fits (goal.at.returns-then-not-grows_to-clause-fits c).After-grows_to ∙ c.if-not-grows_to.true)
 
 pub returns-then-not-grows_to-clause-loans : goal.returns-then-not-grows_to-clause-loans
-returns-then-not-grows_to-clause-loans c = subst (KeepsLoans c.args.zone.now) (sym c.grows_to.ensures.zone) (λ x loan is. is)
+returns-then-not-grows_to-clause-loans c = subst (KeepsLoans c.args.zone.now) (sym c.grows_to.ensures.zone) (refl, λ x loan is. is)
 
 pub returns-then-not-grows_to-clause-sound : goal.returns-then-not-grows_to-clause-sound
 returns-then-not-grows_to-clause-sound c = subst SoundZone (sym c.grows_to.ensures.zone) c.requires.sound

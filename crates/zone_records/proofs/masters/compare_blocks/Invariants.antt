@@ -1,10 +1,10 @@
 use Rattle.std.proofs.Common.{◌-◌}
 use Rattle.block_bytes.specs.Layout.{address_behind}
-use Rattle.zone_records.proofs.MasterBlocks.{Passed}
+use Rattle.zone_records.proofs.Between.{Compared}
 use Rattle.zone_records.proofs.masters.compare_blocks.Given as goal
 
 abbrev pub invariant-loop-agreement : goal.invariant-loop-agreement
-invariant-loop-agreement l = Passed l.blocks l.bytes l.from l.agreement
+invariant-loop-agreement l = Compared l.blocks l.bytes l.from l.end l.at l.agreement
 
 abbrev pub decreases-loop-agreement : goal.decreases-loop-agreement
-decreases-loop-agreement l = address_behind l.blocks l.blocks.blocks - l.from
+decreases-loop-agreement l = address_behind l.blocks l.blocks.blocks - l.at

@@ -30,7 +30,7 @@ returns-then-has_at c b =
     let head : c.head_size.result ≡ head_size l.heads = c.head_size.ensures ∙ ap head_size (c.heads.ensures ∙ c.spec-spec.ensures.heads) in
     let master = c.requires.master b in
     let long = ap length (c.contents-ours.ensures b) ∙ contents-long l c.requires.sound c.args.at b master in
-    equal-agree l.heads b.here.contents bytes (c.args.at - l.base + head_size l.heads) (λ k. omega (arith, c.type_inv.bytes k))
+    equal-agree l.heads b.here.contents bytes (c.args.at - l.base + head_size l.heads)
     ((λ i. part bytes (c.args.at - sym base i + sym head i) (sym long i)) ∙ c.if-has_at.ensures.0 refl ∙ c.contents-ours.ensures b) (contents-words l c.requires.sound c.args.at b master)
 
 pub compare_slots-requires-clause-long : goal.compare_slots-requires-clause-long

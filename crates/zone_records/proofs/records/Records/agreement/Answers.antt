@@ -12,4 +12,4 @@ returns-then-not-has_head c has =
 pub returns : goal.returns
 returns c =
     let held = held-now c.self.invariant c.self.view_is in
-    agrees c.self.inside.blocks c.args.bytes.now _ held c.compare_blocks.result (c.if-not-has_head.ensures.0 refl) c.compare_blocks.ensures
+    agrees c.self.inside.blocks c.args.bytes.now _ held c.compare_all.result (c.if-not-has_head.ensures.0 refl) c.compare_all.ensures

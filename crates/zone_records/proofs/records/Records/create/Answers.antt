@@ -3,6 +3,7 @@ use Rattle.std.specs.Prelude.{◌&&◌}
 use Rattle.std.proofs.Math.ListN.{get_or}
 use Rattle.std.proofs.lemmas.List.{length-replicate}
 use Rattle.raw_region.specs.State.{Name}
+use Rattle.mac_base.specs.ZoneState.{own_memory}
 use Rattle.mac_base.specs.declared.block.HeadKind.{HeadKind}
 use Rattle.mac_base.specs.HeadKind.{head_size, zone_header}
 use Rattle.mac_base.specs.ZoneSizes.{ZoneSizes, ArePossible}
@@ -34,8 +35,8 @@ module _ (name : Name) (z : ZoneSizes) (possible : ArePossible z) where
   limit = let s = size in let large = possible.large_enough in let within = possible.within in let rest = length-replicate {A = ℕ} (z.limit - z.size) 0 in omega arith
 
   -- a new zone is one free block
-  new-zone : records_in (new_layout name z) ≡ new_records name z
-  new-zone = λ i. record { memory = name; shape = record { heads = z.heads; base = z.base; limit = limit i }; front = 0; blocks = block_record Free (size i) ∷ [] }
+  new-zone : records_in (new_layout name z) ≡ new_records (own_memory name) z
+  new-zone = λ i. record { memory = own_memory name; shape = record { heads = z.heads; base = z.base; limit = limit i }; front = 0; blocks = block_record Free (size i) ∷ [] }
 
   -- and sound
   new-sound : AreSound (new_layout name z)
@@ -47,8 +48,8 @@ module _ (name : Name) (z : ZoneSizes) (possible : ArePossible z) where
 
 pub invariant_of-result : goal.invariant_of-result
 invariant_of-result c = let possible : ArePossible c.args.spec = search (rules, c.well_formed) in
-    record { sound = subst AreSound (sym c.in_ok-create.ensures) (new-sound c.in_ok-create.field-0.name c.args.spec possible) }
+    record { sound = subst AreSound (sym c.in_ok-create.ensures) (new-sound c.in_ok-create.field-0.memory.region c.args.spec possible) }
 
 pub returns : goal.returns
 returns c = let possible : ArePossible c.args.spec = search rules in
-    ap records_in c.in_ok-create.ensures ∙ new-zone c.in_ok-create.field-0.name c.args.spec possible
+    ap records_in c.in_ok-create.ensures ∙ new-zone c.in_ok-create.field-0.memory.region c.args.spec possible

@@ -30,8 +30,8 @@ returns c =
     let stay : OthersStay z old bytes = (λ k none.
     c.write_own_bytes.ensures.others k (elim (cases_lt k zone_header) [ inl below ↦ absurd (none ZoneHeader below) | inr above ↦ above ]) (beside-headers l z held k none) (beside-masters l z held k none)) in
     record {
-      same = structure-made l bytes z held (structure-head l bytes same) (record { headers = structure-headers l bytes same; masters = written-agree l held.sound bytes (λ k. omega (arith, c.type_inv.bytes k)) masters });
-      flags = flags-from l bytes z held (written-same l held.sound bytes (λ k. omega (arith, c.type_inv.bytes k)) masters);
+      same = structure-made l bytes z held (structure-head l bytes same) (record { headers = structure-headers l bytes same; masters = written-agree l held.sound bytes masters });
+      flags = flags-from l bytes z held (written-same l held.sound bytes masters);
       others = stay;
       contents = contents-stay l z held old bytes c.requires.whole (same.all ∙ sym limit ∙ c.requires.whole) (subst (λ n. zone_header + total_of l.heads l.blocks ≤ n) c.requires.whole fits) stay;
     }

@@ -1,0 +1,40 @@
+//! A zone that wakes in bytes with the same structure, and falls asleep again: its index stays.
+
+use crate::zone::IndexedZone;
+use raw_region::Region;
+
+impl IndexedZone {
+    ghost use Rattle.std.specs.Prelude.{◌≡◌, [], IfNone, IfSome, IsFalse, false};
+    ghost use Rattle.mac_base.specs.Sound.{Sound};
+    ghost use Rattle.mac_base.specs.ZoneState.{woken_in};
+    ghost use Rattle.linked_zone.specs.Sleeping.{FallsAsleep};
+    ghost use Rattle.linked_zone.specs.Structure.{HasStructure, IsIn, SameFlags, shown};
+
+    /// Wakes the zone, which sleeps, in a region with the same structure and the same flags: it is in this region's bytes
+    /// from then on. The region that it was in becomes the record of its structure.
+    pub fn wake(&mut self, region: Region)
+        requires sound { Sound self.old.shape self.old.heap }
+        requires nothing_lent { self.old.heap.table.lent ≡ [] }
+        requires asleep { IsFalse self.old.memory.awake }
+        requires whole { region.lent ≡ [] }
+        requires same { HasStructure self.old region.bytes }
+        requires flags { SameFlags self.old region.bytes }
+        ensures { self.new ≡ record (shown self.old region.bytes) { memory = woken_in region.name } }
+    {
+        self.zone.wake(region);
+    }
+
+    /// Puts the zone to sleep: it is in its record from then on. Returns the region that it was in, or None where it isn't
+    /// awake, and nothing has changed.
+    pub fn sleep(&mut self) -> Option<Region>
+        requires sound { Sound self.old.shape self.old.heap }
+        requires nothing_lent { self.old.heap.table.lent ≡ [] }
+        ensures asleep { IfSome result (λ region. FallsAsleep self.old self.new) }
+        ensures name { IfSome result (λ region. region.name ≡ self.old.memory.region) }
+        ensures bytes { IfSome result (λ region. IsIn self.old region.bytes) }
+        ensures lent { IfSome result (λ region. region.lent ≡ []) }
+        ensures none { IfNone result ((self.old.memory.awake ≡ false) × (self.new ≡ self.old)) }
+    {
+        self.zone.sleep()
+    }
+}
