@@ -37,7 +37,7 @@ is_held-append x (h ∷ hs) b = elim (h.block == x) as (λ v. (v || is_held x (h
 -- each loan is still that of its block
 pub EachIsLoan-kept : (old new : ZoneState) (held : List Held) → KeepsLoans old new → EachIsLoan old held → EachIsLoan new held
 EachIsLoan-kept old new [] keeps each = tt
-EachIsLoan-kept old new (h ∷ hs) keeps each = (keeps h.block h.loan each.0, EachIsLoan-kept old new hs keeps each.1)
+EachIsLoan-kept old new (h ∷ hs) keeps each = (keeps.1 h.block h.loan each.0, EachIsLoan-kept old new hs keeps each.1)
 
 EachIsLoan-append : (zone : ZoneState) (a b : List Held) → EachIsLoan zone a → EachIsLoan zone b → EachIsLoan zone (a ++ b)
 EachIsLoan-append zone [] b first second = second

@@ -1,5 +1,5 @@
 -- What a call leaves of what is lent, and of the answers that wait.
-use Rattle.std.proofs.Common.{◌≡◌, ◌∙◌, Bool, List, [], Option, Some, None, sym, ap, subst}
+use Rattle.std.proofs.Common.{◌≡◌, ◌∙◌, List, [], Option, Some, None, refl, sym, ap, subst}
 use Rattle.std.specs.Prelude.{IfNone, IfSome}
 use Rattle.mac_base.specs.ZoneState.{ZoneState}
 use Rattle.linked_zone.specs.Loans.{KeepsLoans}
@@ -23,7 +23,7 @@ stays_lent keeps = record { keeps = keeps }
 
 -- where the zone is the same
 pub same_lent : {old new : ZoneState} → new ≡ old → StaysLent old new
-same_lent {old = old} is = subst (λ (z : ZoneState). StaysLent old z) (sym is) (record { keeps = λ x loan held. held })
+same_lent {old = old} is = subst (λ (z : ZoneState). StaysLent old z) (sym is) (record { keeps = (refl, λ x loan held. held) })
 
 -- what is held is what is lent, after a call that was made or not
 pub holds-made : (old new : ZoneState) (held : List Held) (call : MemoryCall) (asks : List Ask) (made : Option Outcome) → IfSome made (λ outcome. MemorySteps old call asks outcome new) → IfNone made (new ≡ old) → KeepsLoans old new → Holds old held → Holds new held
@@ -37,14 +37,14 @@ made-queued old new call (Some outcome) steps took out loans guest keeps = (exac
 made-queued old new call None steps took out loans guest keeps = tt
 
 -- the state of these parts
-abbrev pub state : ZoneState → Loans → List Answer → List Ask → Bool → State
-state zone loans left asks guest = record { zone = zone; loans = loans; left = left; asks = asks; guest = guest }
+abbrev pub state : ZoneState → Loans → List Answer → List Ask → State
+state zone loans left asks = record { zone = zone; loans = loans; left = left; asks = asks; guest = zone.memory.awake }
 
 -- a call that wasn't made changed nothing but what was asked
-pub not-made : (zone new : ZoneState) (loans : Loans) (source left : List Answer) (before asks : List Ask) (guest : Bool) (made : Option Outcome) → IfNone made (new ≡ zone) → IfNone made (asks ≡ []) → taken asks left ≡ source
-    → IfNone made (state new loans left asks guest ≡ with_no_asks (state zone loans source before guest))
-not-made zone new loans source left before asks guest (Some outcome) same unasked took = tt
-not-made zone new loans source left before asks guest None same unasked took =
-    ap (λ (z : ZoneState). state z loans left asks guest) same
-    ∙ ap (λ (made_asks : List Ask). state zone loans left made_asks guest) unasked
-    ∙ ap (λ (front : List Answer). state zone loans front [] guest) (ap (λ (made_asks : List Ask). taken made_asks left) (sym unasked) ∙ took)
+pub not-made : (zone new : ZoneState) (loans : Loans) (source left : List Answer) (before asks : List Ask) (made : Option Outcome) → IfNone made (new ≡ zone) → IfNone made (asks ≡ []) → taken asks left ≡ source
+    → IfNone made (state new loans left asks ≡ with_no_asks (state zone loans source before))
+not-made zone new loans source left before asks (Some outcome) same unasked took = tt
+not-made zone new loans source left before asks None same unasked took =
+    ap (λ (z : ZoneState). state z loans left asks) same
+    ∙ ap (λ (made_asks : List Ask). state zone loans left made_asks) unasked
+    ∙ ap (λ (front : List Answer). state zone loans front []) (ap (λ (made_asks : List Ask). taken made_asks left) (sym unasked) ∙ took)

@@ -8,7 +8,7 @@ use Rattle.linked_zone.proofs.OneZone.{one_zone}
 use Rattle.linked_zone.proofs.Structured.{own-shown, own-structure}
 use Rattle.mac_base.specs.Sound.{Sound}
 use Rattle.mac_base.specs.ZoneSizes.{ZoneSizes, ArePossible}
-use Rattle.mac_base.specs.ZoneState.{ZoneState}
+use Rattle.mac_base.specs.ZoneState.{ZoneState, woken_in}
 use Rattle.raw_region.specs.State.{State as Region}
 use Rattle.held_zone.specs.Asleep.{awake_in}
 use Rattle.held_zone.specs.Attaching.{IsZoneOf}
@@ -27,9 +27,9 @@ restored_same old image new sound none possible long is made =
 
 -- bytes have the structure of the zone that is attached in them, and it is awake in them with the contents and flags that it had
 pub attached_wakes : (sizes : ZoneSizes) (r : Region) (s : State) → IsZoneIn sizes r.bytes s.zone
-    → HasStructure s.zone r.bytes × (awake_in r s ≡ record s { zone = record s.zone { memory = r.name }; guest = true })
+    → HasStructure s.zone r.bytes × (awake_in r s ≡ record s { zone = record s.zone { memory = woken_in r.name }; guest = true })
 attached_wakes sizes r s zone =
     let same = own-shown s.zone zone.sound zone.nothing_lent r.bytes zone.inside in (
       own-structure s.zone zone.sound zone.nothing_lent r.bytes zone.inside,
-      ap (λ (z : ZoneState). record s { zone = record z { memory = r.name }; guest = true }) same,
+      ap (λ (z : ZoneState). record s { zone = record z { memory = woken_in r.name }; guest = true }) same,
     )

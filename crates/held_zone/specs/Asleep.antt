@@ -2,6 +2,7 @@
 use Rattle.std.specs.Prelude.{◌≡◌, true, false, if◌then◌else◌, not, nat_lt, [], length, Option, Some, None, option_map}
 use Rattle.mac_base.specs.declared.error.OsErr.{OsErr}
 use Rattle.mac_base.specs.declared.error.OsErr.TheVariants.{MemLockedErr, ParamErr}
+use Rattle.mac_base.specs.ZoneState.{woken_in}
 use Rattle.linked_zone.specs.Parts.{ContentsStay, OthersStay}
 use Rattle.linked_zone.specs.Structure.{DifferInContents, HasStructure, IsIn, SameFlags, shown}
 use Rattle.raw_region.specs.State.{State as Region}
@@ -19,12 +20,12 @@ pub record IsAsleep (s : State) : Type 0 where
 
 -- the zone awake in a region that has its structure: with the contents and flags that the region's bytes have
 abbrev pub awake_in : Region → State → State
-awake_in r s = record s { zone = record (shown s.zone r.bytes) { memory = r.name }; guest = true }
+awake_in r s = record s { zone = record (shown s.zone r.bytes) { memory = woken_in r.name }; guest = true }
 
 -- the zone is in a region, as it wakes or falls asleep: with nothing lent
 pub record IsInRegion (s : State) (r : Region) : Type 0 where
   pub bytes : IsIn s.zone r.bytes
-  pub name : r.name ≡ s.zone.memory
+  pub memory : s.zone.memory ≡ woken_in r.name
   pub whole : r.lent ≡ []
 
 -- the new zone is the old one asleep: it differs in the contents of blocks, which nobody reads, and in the memory that

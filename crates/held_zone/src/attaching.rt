@@ -4,7 +4,6 @@ ghost use Rattle.std.specs.Prelude.{◌≡◌, ◌+◌, ◌-◌, ◌^◌, ◌<�
 ghost use Rattle.block_bytes.specs.declared.adopting.WhyNot.TheVariants.{HostFull, NotZone};
 
 use crate::session::Session;
-use crate::spare::Spare;
 use held_calls::answers::AnswerQueue;
 use held_calls::loans::Loans;
 use linked_zone::{NotAdopted, WhyNot};
@@ -86,7 +85,6 @@ impl Session {
             memory,
             loans: Loans::new(),
             answers,
-            spare: Spare::none(spec.limit() as usize),
         };
         match Box::new(alloc, session) {
             Ok(session) => Ok(session),

@@ -7,7 +7,6 @@ mod lent;
 pub mod memory;
 pub mod parked;
 pub mod session;
-pub mod spare;
 pub mod told;
 mod waking;
 pub mod zone;

@@ -3,7 +3,6 @@
 ghost use Rattle.std.specs.Prelude.{◌≡◌, []};
 
 use crate::lent;
-use crate::spare::Spare;
 use held_calls::answers::{AnswerQueue, MOST_ASKS, MadeAsk};
 use held_calls::loans::Loans;
 use held_calls::window::Window;
@@ -25,19 +24,17 @@ pub struct Session {
     pub memory: MemoryManager,
     pub loans: Loans,
     pub answers: AnswerQueue<MOST_WAITING>,
-    pub spare: Spare,
 }
 
 impl Model for Session {
-    ghost use Rattle.std.specs.Prelude.{◌≡◌, is_some};
     ghost use Rattle.held_calls.specs.Holding.{Holds, loans_of};
     ghost use Rattle.held_zone.specs.State.{State};
 
     ghost Value = { State };
 
-    ghost view = { λ s. record { zone = s.memory; loans = loans_of s.loans; left = s.answers.left; asks = s.answers.asks; guest = is_some s.spare.region } };
+    ghost view = { λ s. record { zone = s.memory; loans = loans_of s.loans; left = s.answers.left; asks = s.answers.asks; guest = s.memory.memory.awake } };
 
-    ghost invariant = { λ s. Holds s.memory s.loans × (s.spare.limit ≡ s.memory.shape.limit) };
+    ghost invariant = { λ s. Holds s.memory s.loans };
 }
 
 impl Drop for Session {
@@ -47,11 +44,9 @@ impl Drop for Session {
             memory,
             loans,
             answers,
-            spare,
         } = self;
         drop(lending::finish(memory, loans));
         drop(answers);
-        drop(spare);
     }
 }
 
@@ -85,7 +80,6 @@ impl Session {
             memory,
             loans: Loans::new(),
             answers,
-            spare: Spare::none(spec.limit() as usize),
         };
         Ok(Box::new(alloc, session)?)
     }

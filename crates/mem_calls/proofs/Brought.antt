@@ -51,11 +51,14 @@ block_written zone x at bytes contents copied within whole all =
 
 -- the loans stay where bytes are written into a block that isn't lent
 pub KeepsLoans-written : (zone : ZoneState) (x : ℕ) (bytes : List ℕ) → status_of zone.heap.table x ≡ Full → KeepsLoans zone (with_contents zone x bytes)
-KeepsLoans-written zone x bytes full = λ y loan is.
-    let t = zone.heap.table in
-    let other = lent-apart t x y (full-here t x full) is.lent in
-    let same : live_at (with_contents zone x bytes).heap.table y ≡ live_at t y = (with_live_agrees x (refilled (overwritten (bytes_of t x) bytes) (live_at t x)) t).others y other in
-    record { lent = is.lent; memory = is.memory; contents = is.contents; long = is.long ∙ ap (λ (o : Option Live). length (live_bytes o)) (sym same) }
+KeepsLoans-written zone x bytes full = (
+  refl,
+  λ y loan is.
+      let t = zone.heap.table in
+      let other = lent-apart t x y (full-here t x full) is.lent in
+      let same : live_at (with_contents zone x bytes).heap.table y ≡ live_at t y = (with_live_agrees x (refilled (overwritten (bytes_of t x) bytes) (live_at t x)) t).others y other in
+      record { lent = is.lent; memory = is.memory; contents = is.contents; long = is.long ∙ ap (λ (o : Option Live). length (live_bytes o)) (sym same) },
+)
 
 -- ---- the block that a request gave
 

@@ -1,5 +1,5 @@
--- How a zone comes to have the flags that bytes say, handle by handle, and how it sleeps and wakes.
-use Rattle.std.proofs.Common.{◌≡◌, ℕ, ◌<◌, ◌≤◌, true, false, eqb, List, [], ◌∷◌, take, length, Option, Some, None, inl, inr, refl, ap, sym, ◌∙◌, subst, arith}
+-- How a zone comes to have the flags that bytes say, handle by handle, and how it falls asleep.
+use Rattle.std.proofs.Common.{◌≡◌, ℕ, ◌<◌, ◌≤◌, true, false, eqb, List, [], ◌∷◌, take, length, Option, Some, None, IfSome, inl, inr, refl, ap, sym, ◌∙◌, subst, arith}
 use Rattle.std.specs.Prelude.{Bool, not, ◌||◌, ◌==◌}
 use Rattle.std.specs.List.{list_any}
 use Rattle.std.proofs.lemmas.Bool.{cases_lt, false≢true, false_from_ne_true}
@@ -12,15 +12,17 @@ use Rattle.mac_base.specs.HeadKind.{head_size, slot_count}
 use Rattle.mac_base.specs.Heap.{with_table}
 use Rattle.mac_base.specs.Sound.{Sound}
 use Rattle.mac_base.specs.ZoneMap.{address_behind}
-use Rattle.mac_base.specs.ZoneState.{Memory, ZoneState}
+use Rattle.mac_base.specs.ZoneState.{ZoneState}
 use Rattle.raw_region.specs.Bytes.{part, written}
+use Rattle.raw_region.specs.State.{State as Region}
 use Rattle.zone_laws.proofs.SlotOwners.{rooms-suits}
 use Rattle.zone_laws.proofs.SlotPlaces.{slots_at-above}
 use Rattle.zone_laws.proofs.Tables.{by_number, eqb_same, live_at-with_live_same, with_live_agrees}
 use Rattle.linked_zone.specs.Changes.{flagged}
+use Rattle.linked_zone.specs.Sleeping.{FallsAsleep}
 use Rattle.linked_zone.specs.Structure.{DifferInContents, FirstChanged, HasStructure, IsIn, NoneChanged, SameFlags, shown, shown_live}
 use Rattle.linked_zone.proofs.Shown.{if_live, shown-at}
-use Rattle.linked_zone.proofs.Structured.{differ, flagged-shown, kept-flags, kept-shown, kept-structure}
+use Rattle.linked_zone.proofs.Structured.{differ-asleep, flagged-shown, kept-shown, kept-structure}
 use Rattle.mem_calls.specs.Waking.{HasFlagsTo, TakesFlags}
 
 -- ---- bytes that are read or written whole
@@ -36,13 +38,6 @@ over-all (b ∷ old) (n ∷ new) long = ap (λ bs. n ∷ bs) (over-all old new (
 
 pub written-all : (old new : List ℕ) (n : ℕ) → n ≡ length old → length new ≡ length old → written old 0 (take n new) ≡ new
 written-all old new n all long = ap (written old 0) (take_all n new (omega arith)) ∙ over-all old new long
-
--- the structure is that of the zone where it was written over all bytes
-pub written-structure : (z now : ZoneState) (old new : List ℕ) (n : ℕ) → n ≡ length old → length new ≡ length old → now ≡ z → HasStructure now new → HasStructure z (written old 0 (take n new))
-written-structure z now old new n all long is has = subst (HasStructure z) (sym (written-all old new n all long)) (subst (λ z. HasStructure z new) is has)
-
-pub written-flags : (z now : ZoneState) (old new : List ℕ) (n : ℕ) → n ≡ length old → length new ≡ length old → now ≡ z → SameFlags now new → SameFlags z (written old 0 (take n new))
-written-flags z now old new n all long is same = subst (SameFlags z) (sym (written-all old new n all long)) (subst (λ z. SameFlags z new) is same)
 
 -- ---- flags
 
@@ -130,29 +125,22 @@ module _ (old z now : ZoneState) (bytes : List ℕ) (from : ℕ) (has : HasFlags
           | inr above ↦ let one : x ≡ h = omega arith in absurd (false≢true (sym apart ∙ (ap (λ x. eqb x h) one ∙ eqb_same h)))
         ]
 
--- ---- asleep and awake
+-- ---- asleep
 
 -- a zone that sleeps differs in contents alone, and in the bytes that it was in it wakes as it was
 pub record Sleeps (z w : ZoneState) (last : List ℕ) : Type 0 where
+  pub awake : z.memory.awake ≡ true
   pub asleep : DifferInContents z w
+  pub own : w.memory.awake ≡ false
   pub wakes : HasStructure w last
   pub as_before : shown w last ≡ record z { memory = w.memory }
 
-pub sleeps : (z now w : ZoneState) (old new last : List ℕ) (n : ℕ) (memory : Memory) → Sound z.shape z.heap → z.heap.table.lent ≡ [] → n ≡ length old → length new ≡ length old → now ≡ z → HasStructure now new → SameFlags now new → IsIn z last
-    → w ≡ record (shown z (written old 0 (take n new))) { memory = memory } → Sleeps z w last
-sleeps z now w old new last n memory sound none all long is has same was becomes =
-    let bytes : List ℕ = written old 0 (take n new) in
-    let has_all = written-structure z now old new n all long is has in
-    subst (λ w. Sleeps z w last) (sym becomes) (record {
-      asleep = differ z sound none bytes memory has_all (written-flags z now old new n all long is same);
-      wakes = kept-structure z sound none last bytes memory was has_all;
-      as_before = kept-shown z sound none last bytes memory was has_all;
-    })
-
--- the record has the structure and the flags of the zone that wakes
-pub awake-kept : (z y w : ZoneState) (all bytes kept : List ℕ) (memory : Memory) → all ≡ bytes → z.heap.table.lent ≡ [] → HasStructure z all → TakesFlags z all y → IsIn y kept → w ≡ record (shown y bytes) { memory = memory } → HasStructure w kept × SameFlags w kept
-awake-kept z y w all bytes kept memory whole none has takes_all was becomes =
-    let takes = subst (λ bs. TakesFlags z bs y) whole takes_all in
-    let now : HasStructure y bytes = subst (λ w. IsIn w bytes) (sym takes.others) (subst (HasStructure z) whole has) in
-    let nothing : y.heap.table.lent ≡ [] = ap (λ (z : ZoneState). z.heap.table.lent) takes.others ∙ none in
-    (subst (λ w. HasStructure w kept) (sym becomes) (kept-structure y takes.sound nothing kept bytes memory was now), subst (λ w. SameFlags w kept) (sym becomes) (kept-flags y takes.sound nothing kept bytes memory was now takes.flags))
+pub sleeps : (result : Option Region) (z w : ZoneState) → Sound z.shape z.heap → z.heap.table.lent ≡ [] → IfSome result (λ region. FallsAsleep z w) → IfSome result (λ region. IsIn z region.bytes) → IfSome result (λ region. Sleeps z w region.bytes)
+sleeps None z w sound none falls was = tt
+sleeps (Some region) z w sound none falls was = record {
+  awake = falls.awake;
+  asleep = differ-asleep z sound none w falls;
+  own = falls.own;
+  wakes = subst (λ w. HasStructure w region.bytes) (sym falls.zone) (kept-structure z sound none region.bytes falls.bytes w.memory was falls.structure);
+  as_before = ap (λ w. shown w region.bytes) falls.zone ∙ kept-shown z sound none region.bytes falls.bytes w.memory was falls.structure;
+}

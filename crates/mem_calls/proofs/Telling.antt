@@ -48,7 +48,7 @@ pub record Carries (old : ZoneState) (protected : List ℕ) (before : List Ask) 
 
 -- at first none
 pub carries-none : (old : ZoneState) (protected : List ℕ) (before : List Ask) → Carries old protected before [] old before
-carries-none old protected before = record { heap = refl; notes = sym (carried-none before); shape = refl; loans = λ x loan lent. lent }
+carries-none old protected before = record { heap = refl; notes = sym (carried-none before); shape = refl; loans = (refl, λ x loan lent. lent) }
 
 -- then one more
 pub carries-more : (old : ZoneState) (protected : List ℕ) (before : List Ask) (done : List ReleasingCall) (call : ReleasingCall) (mid new : ZoneState) (told later : List Ask) → Carries old protected before done mid told
@@ -65,7 +65,7 @@ carries-more old protected before done call mid new told later first heap noted 
       notes = noted ∙ ap (λ (e : Carried). with_carried e.calls told) once ∙ ap (with_carried (carried_once old.shape protected call (uncarried c.heap)).calls) first.notes
           ∙ carried-more c.calls (carried_once old.shape protected call (uncarried c.heap)).calls before ∙ sym (ap (λ (e : Carried). with_carried e.calls before) last);
       shape = shape ∙ first.shape;
-      loans = λ x loan lent. loans x loan (first.loans x loan lent);
+      loans = (loans.0 ∙ first.loans.0, λ x loan lent. loans.1 x loan (first.loans.1 x loan lent));
     }
 
 -- the procedure may be told of one more

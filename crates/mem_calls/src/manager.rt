@@ -48,13 +48,14 @@ impl MemoryManager {
     ghost use Rattle.mac_base.specs.BlockReport.{report_at};
     ghost use Rattle.mac_base.specs.Sound.{Sound};
     ghost use Rattle.mac_base.specs.ZoneSizes.{shape_of};
+    ghost use Rattle.mac_base.specs.ZoneState.{own_memory};
     ghost use Rattle.mac_base.specs.ZoneMap.{address_behind};
     ghost use Rattle.mem_calls.specs.WritingBack.{WritesBackContents};
 
     /// A new zone: a master block with 64 free slots, and the rest free. It takes all the memory that the zone will
     /// ever need.
     pub fn create(alloc: Global, spec: ZoneSpec) -> Result<MemoryManager, HostFull>
-        ensures { IfOk result (λ memory. memory ≡ record { memory = memory.memory; shape = shape_of spec; heap = new_heap (shape_of spec) spec.size }) }
+        ensures { IfOk result (λ memory. memory ≡ record { memory = own_memory memory.memory.region; shape = shape_of spec; heap = new_heap (shape_of spec) spec.size }) }
     {
         prove!(spec.limit() <= LARGEST_LIMIT);
         Ok(MemoryManager {

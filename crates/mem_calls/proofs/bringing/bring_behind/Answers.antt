@@ -54,4 +54,4 @@ returns-clause-run g c =
     )
 
 pub returns-clause-loans : goal.returns-clause-loans
-returns-clause-loans g c x loan lent = c.write_behind.ensures.loans x loan (c.request.ensures.loans x loan lent)
+returns-clause-loans g c = (c.write_behind.ensures.loans.0 ∙ c.request.ensures.loans.0, λ x loan lent. c.write_behind.ensures.loans.1 x loan (c.request.ensures.loans.1 x loan lent))

@@ -1,4 +1,4 @@
-use Rattle.std.proofs.Common.{[], length, Ok, refl, ap, sym, subst, arith}
+use Rattle.std.proofs.Common.{◌∙◌, [], length, Ok, refl, ap, sym, subst, arith}
 use Rattle.mac_base.specs.ZoneState.{ZoneState}
 use Rattle.mac_base.specs.declared.request.Request.TheVariants.{NewBlock}
 use Rattle.mem_calls.specs.Requesting.{IsCopyRun}
@@ -28,4 +28,4 @@ returns-clause-run g c =
     (filled-run s [] (NewBlock (length bytes)) asks old c.request.result x x bytes c.request.new.zone.heap c.write_behind.new.zone.heap c.request.ensures.run c.in_ok-new.was refl (ap (λ (z : ZoneState). z.heap) c.write_behind.ensures.zone))
 
 pub returns-clause-loans : goal.returns-clause-loans
-returns-clause-loans g c x loan lent = c.write_behind.ensures.loans x loan (c.request.ensures.loans x loan lent)
+returns-clause-loans g c = (c.write_behind.ensures.loans.0 ∙ c.request.ensures.loans.0, λ x loan lent. c.write_behind.ensures.loans.1 x loan (c.request.ensures.loans.1 x loan lent))

@@ -1,4 +1,4 @@
-use Rattle.std.proofs.Common.{[], ◌∷◌, take, Ok, refl, sym, subst, arith}
+use Rattle.std.proofs.Common.{◌∙◌, [], ◌∷◌, take, Ok, refl, sym, subst, arith}
 use Rattle.mac_base.specs.HandleTable.{bytes_of}
 use Rattle.mac_base.specs.declared.request.Request.TheVariants.{NewBlock}
 use Rattle.call_laws.proofs.Lengths.{bytes-within}
@@ -41,4 +41,4 @@ returns-clause-run g c =
     (copied-run s (from ∷ []) (NewBlock n) asks old c.request.result x from x 0 n (take n (bytes_of old.table from)) c.request.new.zone c.copy.new.self c.request.ensures.run c.in_ok-new.was refl copies c.copy.ensures.zone)
 
 pub returns-clause-loans : goal.returns-clause-loans
-returns-clause-loans g c x loan lent = c.copy.ensures.loans x loan (c.request.ensures.loans x loan lent)
+returns-clause-loans g c = (c.copy.ensures.loans.0 ∙ c.request.ensures.loans.0, λ x loan lent. c.copy.ensures.loans.1 x loan (c.request.ensures.loans.1 x loan lent))

@@ -1,11 +1,11 @@
-use Rattle.std.proofs.Common.{◌-◌, ◌<◌, true, arith}
+use Rattle.std.proofs.Common.{◌∙◌, ◌-◌, ◌<◌, true, arith}
 use Rattle.mem_calls.proofs.Again.{keeps-again, can_ask-again}
 use Rattle.mem_calls.proofs.Running.{may_ask-again}
 use Rattle.mem_calls.proofs.Keeping.{slot-kept}
 use Rattle.mem_calls.proofs.request.+run.Goals as goal
 
 pub returns-then-not-turn-clause-loans : goal.returns-then-not-turn-clause-loans
-returns-then-not-turn-clause-loans g t c x loan lent = c.turn.ensures.loans x loan (c.trial.ensures.loans x loan lent)
+returns-then-not-turn-clause-loans g t c = (c.turn.ensures.loans.0 ∙ c.trial.ensures.loans.0, λ x loan lent. c.turn.ensures.loans.1 x loan (c.trial.ensures.loans.1 x loan lent))
 
 pub run-requires : goal.run-requires
 run-requires g t c κs within =
@@ -31,4 +31,4 @@ run-requires g t c κs within =
     )
 
 pub returns-clause-loans : goal.returns-clause-loans
-returns-clause-loans g t c x loan lent = c.run.ensures.loans x loan (c.turn.ensures.loans x loan (c.trial.ensures.loans x loan lent))
+returns-clause-loans g t c = (c.run.ensures.loans.0 ∙ c.turn.ensures.loans.0 ∙ c.trial.ensures.loans.0, λ x loan lent. c.run.ensures.loans.1 x loan (c.turn.ensures.loans.1 x loan (c.trial.ensures.loans.1 x loan lent)))

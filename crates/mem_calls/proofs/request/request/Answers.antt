@@ -1,4 +1,4 @@
-use Rattle.std.proofs.Common.{ℕ, Result, sym, subst}
+use Rattle.std.proofs.Common.{◌∙◌, ℕ, Result, sym, subst}
 use Rattle.mac_base.specs.declared.error.OsErr.{OsErr}
 use Rattle.mac_base.specs.HeadKind.{Shape}
 use Rattle.mem_calls.specs.Requesting.{IsRun, IsCallRun}
@@ -38,4 +38,4 @@ returns-clause-run g c =
     (sym c.if-not-lacks_slot.ensures) first.1 run)
 
 pub returns-clause-loans : goal.returns-clause-loans
-returns-clause-loans g c x loan lent = c.run-3.ensures.loans x loan (c.run-2.ensures.loans x loan lent)
+returns-clause-loans g c = (c.run-3.ensures.loans.0 ∙ c.run-2.ensures.loans.0, λ x loan lent. c.run-3.ensures.loans.1 x loan (c.run-2.ensures.loans.1 x loan lent))

@@ -1,3 +1,4 @@
+use Rattle.std.proofs.Common.{◌∙◌}
 use Rattle.mem_calls.proofs.Trials.{trial-grown, is_purged, ready-purged, slot-purged}
 use Rattle.mem_calls.proofs.request.trial.Goals as goal
 
@@ -6,7 +7,7 @@ returns-in-Some-attempt-clause-trial c = trial-grown c.args.protected.now c.args
     c.in_default.ensures.attempt.2 c.extend.ensures.zone c.in_default.ensures.attempt.0 c.in-Some-attempt.ensures.attempt
 
 pub returns-in-Some-attempt-clause-loans : goal.returns-in-Some-attempt-clause-loans
-returns-in-Some-attempt-clause-loans c x loan lent = c.attempt-2.ensures.loans x loan (c.extend.ensures.loans x loan (c.attempt.ensures.loans x loan lent))
+returns-in-Some-attempt-clause-loans c = (c.attempt-2.ensures.loans.0 ∙ c.extend.ensures.loans.0 ∙ c.attempt.ensures.loans.0, λ x loan lent. c.attempt-2.ensures.loans.1 x loan (c.extend.ensures.loans.1 x loan (c.attempt.ensures.loans.1 x loan lent)))
 
 pub attempt-requires-3-clause-ready : goal.attempt-requires-3-clause-ready
 attempt-requires-3-clause-ready c = ready-purged c.args.protected.now c.args.request.now c.args.zone.now c.purge_for.new.self c.requires.protects c.requires.ready
@@ -19,4 +20,4 @@ attempt-requires-3-clause-slot c = slot-purged c.args.protected.now c.args.reque
     c.in_default.ensures.attempt.2 c.extend.ensures.zone c.in_default-attempt.ensures.attempt.2 c.purge_for.ensures.zone)
 
 pub returns-clause-loans : goal.returns-clause-loans
-returns-clause-loans c x loan lent = c.attempt-3.ensures.loans x loan (c.purge_for.ensures.loans x loan (c.attempt-2.ensures.loans x loan (c.extend.ensures.loans x loan (c.attempt.ensures.loans x loan lent))))
+returns-clause-loans c = (c.attempt-3.ensures.loans.0 ∙ c.purge_for.ensures.loans.0 ∙ c.attempt-2.ensures.loans.0 ∙ c.extend.ensures.loans.0 ∙ c.attempt.ensures.loans.0, λ x loan lent. c.attempt-3.ensures.loans.1 x loan (c.purge_for.ensures.loans.1 x loan (c.attempt-2.ensures.loans.1 x loan (c.extend.ensures.loans.1 x loan (c.attempt.ensures.loans.1 x loan lent)))))

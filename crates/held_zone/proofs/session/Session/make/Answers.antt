@@ -1,34 +1,31 @@
-use Rattle.std.proofs.Common.{◌≡◌, ◌∙◌, ap, refl, subst, sym}
-use Rattle.std.specs.Prelude.{IfNone, IfSome, is_some}
-use Rattle.mac_base.specs.HeadKind.{Shape}
+use Rattle.std.proofs.Common.{◌≡◌, ◌∙◌, ap, refl, subst}
+use Rattle.std.specs.Prelude.{IfNone, IfSome}
+use Rattle.mac_base.specs.ZoneState.{Memory}
 use Rattle.held_calls.specs.Holding.{loans_of}
 use Rattle.held_calls.specs.Answers.{Queue, taken}
 use Rattle.held_zone.specs.State.{State, with_no_asks}
 use Rattle.held_zone.specs.Told.{Makes}
 use Rattle.held_zone.proofs.Made.{holds-made, made-queued, not-made, state}
-use Rattle.held_zone.proofs.Sleeping.{shape-made}
 use Rattle.held_zone.proofs.session.Session.make.Goals as goal
 
 pub invariant_of-self : goal.invariant_of-self
 invariant_of-self c =
-    let made = c.make_plain-outcome in (
-      holds-made c.self.inside.memory made.new.memory c.self.inside.loans c.args.call.now made.new.procedure.asks made.result made.ensures.step made.ensures.unchanged made.ensures.loans c.self.invariant.0,
-      c.self.invariant.1 ∙ sym (ap (λ (s : Shape). s.limit) (shape-made c.self.inside.memory made.new.memory c.args.call.now made.new.procedure.asks made.result made.ensures.step made.ensures.unchanged)),
-    )
+    let made = c.make_plain-outcome in
+    holds-made c.self.inside.memory made.new.memory c.self.inside.loans c.args.call.now made.new.procedure.asks made.result made.ensures.step made.ensures.unchanged made.ensures.loans c.self.invariant
 
 pub returns-clause-makes : goal.returns-clause-makes
 returns-clause-makes c =
-    let made = c.make_plain-outcome in let guest = is_some c.self.inside.spare.region in let loans = loans_of c.self.inside.loans in
-    let new : State = state made.new.memory loans made.new.procedure.left made.new.procedure.asks guest in
+    let made = c.make_plain-outcome in let loans = loans_of c.self.inside.loans in
+    let new : State = state made.new.memory loans made.new.procedure.left made.new.procedure.asks in
     let took = made.ensures.source ∙ ap (λ (q : Queue). taken q.asks q.left) c.begin.ensures in
-    let old : State = state c.self.inside.memory loans c.self.inside.answers.left c.self.inside.answers.asks guest in
+    let old : State = state c.self.inside.memory loans c.self.inside.answers.left c.self.inside.answers.asks in
     subst (λ (s : State). IfSome made.result (λ outcome. Makes s c.args.call.now outcome new)) c.self.view_is
-    (made-queued old new c.args.call.now made.result made.ensures.step took c.asks.ensures.out refl refl made.ensures.loans)
+    (made-queued old new c.args.call.now made.result made.ensures.step took c.asks.ensures.out refl (ap (λ (m : Memory). m.awake) made.ensures.loans.0) made.ensures.loans)
 
 pub returns-clause-unmade : goal.returns-clause-unmade
 returns-clause-unmade c =
-    let made = c.make_plain-outcome in let guest = is_some c.self.inside.spare.region in let loans = loans_of c.self.inside.loans in
-    let new : State = state made.new.memory loans made.new.procedure.left made.new.procedure.asks guest in
+    let made = c.make_plain-outcome in let loans = loans_of c.self.inside.loans in
+    let new : State = state made.new.memory loans made.new.procedure.left made.new.procedure.asks in
     let took = made.ensures.source ∙ ap (λ (q : Queue). taken q.asks q.left) c.begin.ensures in
     subst (λ (s : State). IfNone made.result (new ≡ with_no_asks s)) c.self.view_is
-    (not-made c.self.inside.memory made.new.memory loans c.self.inside.answers.left made.new.procedure.left c.self.inside.answers.asks made.new.procedure.asks guest made.result made.ensures.unchanged made.ensures.unasked took)
+    (not-made c.self.inside.memory made.new.memory loans c.self.inside.answers.left made.new.procedure.left c.self.inside.answers.asks made.new.procedure.asks made.result made.ensures.unchanged made.ensures.unasked took)

@@ -28,4 +28,4 @@ returns-clause-step c =
     [] (Ok Nothing) (returns-clause-exact c)
 
 pub returns-clause-loans : goal.returns-clause-loans
-returns-clause-loans c = kept (λ x loan lent. c.set_flags.ensures.loans x loan (c.move_high.ensures.loans x loan lent)) c.self.view_is
+returns-clause-loans c = kept (c.set_flags.ensures.loans.0 ∙ c.move_high.ensures.loans.0, λ x loan lent. c.set_flags.ensures.loans.1 x loan (c.move_high.ensures.loans.1 x loan lent)) c.self.view_is

@@ -28,4 +28,4 @@ returns-clause-step c =
     step-exact c.args.self.now c.self.inside.zone c.compact_all.new.self c.self.view_is c.first_block.ensures.sound MaxMem refl [] (Ok (TwoNumbers c.largest_free.result c.growth_left.result)) (returns-clause-exact c)
 
 pub returns-clause-loans : goal.returns-clause-loans
-returns-clause-loans c = kept (λ x loan lent. c.compact_all.ensures.loans x loan (c.purge_all.ensures.loans x loan lent)) c.self.view_is
+returns-clause-loans c = kept (c.compact_all.ensures.loans.0 ∙ c.purge_all.ensures.loans.0, λ x loan lent. c.compact_all.ensures.loans.1 x loan (c.purge_all.ensures.loans.1 x loan lent)) c.self.view_is

@@ -1,28 +1,32 @@
-use Rattle.std.proofs.Common.{◌≡◌, ◌∙◌, [], ap, sym, subst}
+use Rattle.std.proofs.Common.{◌≡◌, [], false, sym, subst}
+use Rattle.std.specs.Prelude.{IfNone, IfSome}
+use Rattle.std.proofs.lemmas.Option.{IfSome_then}
 use Rattle.mac_base.specs.ZoneState.{ZoneState}
-use Rattle.linked_zone.specs.Structure.{DifferInContents, IsIn}
-use Rattle.mem_calls.proofs.FlagsTaken.{sleeps, written-flags, written-structure}
+use Rattle.mem_calls.proofs.FlagsTaken.{Sleeps, sleeps}
 use Rattle.mem_calls.proofs.manager.MemoryManager.sleep.Goals as goal
+use Rattle.mem_calls.proofs.manager.MemoryManager.sleep.Goals.{After-sleep}
 
-pub exchange-requires-clause-same : goal.exchange-requires-clause-same
-exchange-requires-clause-same c =
-    written-structure c.self.inside.zone c.linked.result.now c.args.kept.bytes c.write_structure.new.bytes c.len-all.result c.len-all.ensures (c.write_structure.auto.bytes ∙ c.bytes_mut.ensures.len ∙ c.len-all.ensures) c.linked.ensures.zone c.write_structure.ensures.same
+-- what it leaves where it falls asleep
+slept : (c : After-sleep) → IfSome c.sleep.result (λ region. Sleeps c.args.self.now c.sleep.new.self region.bytes)
+slept c =
+    subst (λ (z : ZoneState). IfSome c.sleep.result (λ region. Sleeps z c.sleep.new.self region.bytes)) c.self.view_is
+    (sleeps c.sleep.result c.self.inside.zone c.sleep.new.self c.sleep.ensures.sound
+    (subst (λ (z : ZoneState). z.heap.table.lent ≡ []) (sym c.self.view_is) c.requires.nothing_lent) c.sleep.ensures.asleep c.sleep.ensures.bytes)
 
-pub exchange-requires-clause-flags : goal.exchange-requires-clause-flags
-exchange-requires-clause-flags c =
-    written-flags c.self.inside.zone c.linked.result.now c.args.kept.bytes c.write_structure.new.bytes c.len-all.result c.len-all.ensures (c.write_structure.auto.bytes ∙ c.bytes_mut.ensures.len ∙ c.len-all.ensures) c.linked.ensures.zone c.write_structure.ensures.flags
+pub returns-clause-awake : goal.returns-clause-awake
+returns-clause-awake c = IfSome_then c.sleep.result (slept c) (λ region sleeps. sleeps.awake)
 
-pub returns : goal.returns
-returns c =
-    let z = c.self.inside.zone in
-    let slept = sleeps z c.linked.result.now c.exchange.new.self c.args.kept.bytes c.write_structure.new.bytes c.exchange.result.bytes c.len-all.result c.args.kept.name c.linked.ensures.sound
-    (subst (λ (z : ZoneState). z.heap.table.lent ≡ []) (sym c.self.view_is) c.requires.nothing_lent) c.len-all.ensures (c.write_structure.auto.bytes ∙ c.bytes_mut.ensures.len ∙ c.len-all.ensures)
-    c.linked.ensures.zone c.write_structure.ensures.same c.write_structure.ensures.flags c.exchange.ensures.bytes c.exchange.ensures.zone in record {
-      bytes = subst (λ (z : ZoneState). IsIn z c.exchange.result.bytes) c.self.view_is c.exchange.ensures.bytes;
-      name = c.exchange.ensures.name ∙ ap (λ (z : ZoneState). z.memory) c.self.view_is;
-      lent = c.exchange.ensures.lent;
-      asleep = subst (λ (z : ZoneState). DifferInContents z c.exchange.new.self) c.self.view_is slept.asleep;
-      wakes = slept.wakes;
-      as_before = slept.as_before ∙ ap (λ (z : ZoneState). record z { memory = c.exchange.new.self.memory }) c.self.view_is;
-      record_name = ap (λ (z : ZoneState). z.memory) c.exchange.ensures.zone;
-    }
+pub returns-clause-asleep : goal.returns-clause-asleep
+returns-clause-asleep c = IfSome_then c.sleep.result (slept c) (λ region sleeps. sleeps.asleep)
+
+pub returns-clause-own : goal.returns-clause-own
+returns-clause-own c = IfSome_then c.sleep.result (slept c) (λ region sleeps. sleeps.own)
+
+pub returns-clause-wakes : goal.returns-clause-wakes
+returns-clause-wakes c = IfSome_then c.sleep.result (slept c) (λ region sleeps. sleeps.wakes)
+
+pub returns-clause-as_before : goal.returns-clause-as_before
+returns-clause-as_before c = IfSome_then c.sleep.result (slept c) (λ region sleeps. sleeps.as_before)
+
+pub returns-clause-none : goal.returns-clause-none
+returns-clause-none c = subst (λ (z : ZoneState). IfNone c.sleep.result ((z.memory.awake ≡ false) × (c.sleep.new.self ≡ z))) c.self.view_is c.sleep.ensures.none
