@@ -35,3 +35,7 @@ pub mod CipheredActs
 pub mod CipheredRuns
 pub mod SameLayout
 pub mod SameSource
+pub mod Operands
+pub mod MoreAllowed
+pub mod MadeAgain
+pub mod BetweenCalls

@@ -17,6 +17,7 @@ use Rattle.mac_base.specs.declared.releasing.ReleasingCall.TheVariants.{Disposes
 use Rattle.mac_calls.specs.declared.reply.Results.TheVariants.{Nothing, Handle, Pointer, Address, Number, TwoNumbers, Bytes, Blocks}
 use Rattle.mac_calls.specs.Outcomes.{Outcome}
 use Rattle.mac_calls.specs.ExactStep.{exact_step, heap_after, outcomes_to}
+use Rattle.call_laws.specs.MadeAgain.{made_again}
 
 -- what a call gives, or the code of its refusal
 abbrev done : Outcome
@@ -266,6 +267,38 @@ kept_by_growth = refl
 -- the master block that no room was left behind for stands in front, and all blocks above it
 master_block_first : (heap_after zone fresh (sixty_three ++ NewHandle 2752 ∷ NewHandle 0 ∷ NewEmptyHandle ∷ [])).free_slots ≡ slots_from 63 0x0010_0148
 master_block_first = refl
+
+-- an answer between two calls
+room_released_between : (made_again zone (record { calls = DisposesHandle h1 ∷ []; value = 1 } ∷ []) (heap_after zone fresh (NewHandle 2000 ∷ []))
+    (NewHandle 3000)).0 ≡ handle h1
+room_released_between = refl
+
+-- Where no slot is free and an answer frees one, the call made again takes it. With the answer in it the call still wants a master block.
+abbrev all_live : Heap
+all_live = heap_after zone fresh (sixty_three ++ NewHandle 2916 ∷ [])
+
+abbrev frees_slot : List Answer
+frees_slot = record { calls = DisposesHandle h1 ∷ []; value = 1 } ∷ []
+
+wants_master_block : (exact_step zone frees_slot all_live NewEmptyHandle).outcome ≡ refused MemFullErr
+wants_master_block = refl
+
+takes_freed_slot : (made_again zone frees_slot all_live NewEmptyHandle).0 ≡ handle h1
+takes_freed_slot = refl
+
+-- Behind 16 answers a call asks nothing more. Made again behind the last of them it asks once more, in vain.
+sixteen_asks : (exact_step zone (replicate 16 one) fresh (NewHandle 4000)).asks
+    ≡ replicate 16 (record { needed = 4008; answer = Some one; carried = [] })
+sixteen_asks = refl
+
+one_more_ask : (exact_step zone [] (exact_step zone (replicate 16 one) fresh (NewHandle 4000)).heap (NewHandle 4000)).asks
+    ≡ record { needed = 4008; answer = None; carried = [] } ∷ []
+one_more_ask = refl
+
+-- An answer can't dispose of the handle of the call that asked. Between two calls it can, and the second is refused.
+disposed_between : outcomes_to zone fresh (NewHandle 3000 ∷ SetHandleSize h1 3800 ∷ DisposeHandle h1 ∷ SetHandleSize h1 3800 ∷ [])
+    ≡ handle h1 ∷ refused MemFullErr ∷ done ∷ refused MemWzErr ∷ []
+disposed_between = refl
 
 -- ---- the same zone with 32-bit blocks
 

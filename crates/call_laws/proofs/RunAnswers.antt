@@ -24,7 +24,7 @@ with_left left e = record e { left = left }
 
 -- The trial at the end of the answers: it serves (or not), and there may be an ask.
 module _ (s : Shape) (r : Request) (mid : Heap) (c : Carried) where
-  abbrev last : Bool → Option (ℕ × ZoneMap) → Ending
+  abbrev pub last : Bool → Option (ℕ × ZoneMap) → Ending
   last none_allowed o = served_or r mid [] (unserved mid (cond none_allowed [] (asked s r None c ∷ [])) []) o
 
   last-takes : (b : Bool) (o : Option (ℕ × ZoneMap)) → [] ≡ answers_of (last b o).asks ++ (last b o).left
@@ -59,7 +59,7 @@ module _ (s : Shape) (r : Request) (mid : Heap) (c : Carried) where
 
 -- A trial before an answer: it serves, or no answer is allowed, or the answer ends the run, or the run goes on.
 module _ (s : Shape) (r : Request) (mid : Heap) (c : Carried) (a : Answer) where
-  abbrev once : Bool → Bool → Option (ℕ × ZoneMap) → List Answer → Ending → Ending
+  abbrev pub once : Bool → Bool → Option (ℕ × ZoneMap) → List Answer → Ending → Ending
   once none_allowed worthless o later rest = served_or r mid (a ∷ later) (cond none_allowed (unserved mid [] (a ∷ later)) (cond worthless (unserved c.heap (asked s r (Some a) c ∷ []) later) (after_ask (asked s r (Some a) c) rest))) o
 
   once-takes : (b w : Bool) (o : Option (ℕ × ZoneMap)) (later : List Answer) (rest : Ending) → later ≡ answers_of rest.asks ++ rest.left → a ∷ later ≡ answers_of (once b w o later rest).asks ++ (once b w o later rest).left
@@ -96,7 +96,7 @@ module _ (s : Shape) (r : Request) (mid : Heap) (c : Carried) (a : Answer) where
   once-alone run next false false None later rest none first again known = again (answers_of rest.asks) ∙ ap (after_ask (asked s r (Some a) c)) known
 
 -- the trial that a request begins with
-abbrev trial : Shape → Request → Heap → Option (ℕ × ZoneMap)
+abbrev pub trial : Shape → Request → Heap → Option (ℕ × ZoneMap)
 trial s r mid = serve s mid.table (front_slot mid) mid.map r
 
 -- a run takes the answers of its asks

@@ -32,13 +32,13 @@ pub record AsksSoundly (s : Shape) (heap : Heap) (call : MemoryCall) (r : Reques
   pub copied : (x : ℕ) (after : Heap) → Sound s after → Gives r x after → Sound s (with_table (table_copied call x heap.table after.table) after)
 
 -- a number is among those that begin with it, and with it in the second place
-first_among : (x : ℕ) (xs : List ℕ) → is_among (x ∷ xs) x ≡ true
+pub first_among : (x : ℕ) (xs : List ℕ) → is_among (x ∷ xs) x ≡ true
 first_among x xs = or_left (x == x) (is_among xs x) (same x)
   where
     same : (x : ℕ) → (x == x) ≡ true
     same x = grind (arith, nat_tests)
 
-second_among : (y x : ℕ) → is_among (y ∷ x ∷ []) x ≡ true
+pub second_among : (y x : ℕ) → is_among (y ∷ x ∷ []) x ≡ true
 second_among y x = or_right (y == x) (is_among (x ∷ []) x) (first_among x [])
 
 -- as many bytes are written as the new block has

@@ -5,3 +5,4 @@ pub mod Course
 pub mod Headline
 pub mod Contents
 pub mod Brought
+pub mod MadeAgain
