@@ -1,3 +1,4 @@
 mod Words
 pub mod Honest
+pub mod Numbers
 pub mod Seeking

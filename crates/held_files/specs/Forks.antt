@@ -1,10 +1,12 @@
 -- Resource files whose forks are in memory.
-use Rattle.std.specs.Prelude.{◌≡◌, ℕ, ◌-◌, not, Bool, List, [], ◌∷◌, find, map, replicate, set, slice_get, true, Option, None, if◌then◌else◌, nat_le, ◌&&◌}
+use Rattle.std.specs.List.{range_with_len}
+use Rattle.std.specs.Prelude.{◌≡◌, ℕ, ◌-◌, not, Bool, List, [], find, map, replicate, set, slice_get, true, Option, None, if◌then◌else◌, nat_le, ◌&&◌}
 use Rattle.fork_disk.specs.declared.mem_disk.MemDisk.{MemDisk}
 use Rattle.fork_disk.specs.declared.store.PlainStore.{PlainStore}
 use Rattle.res_calls.specs.Changes.{Files, handles_forgotten}
 use Rattle.res_calls.specs.Device.{Disk}
 use Rattle.res_files.specs.FilesOn.{FilesOn}
+use Rattle.res_files.specs.Standing.{most_files}
 use Rattle.res_table.specs.OpenFiles.{is_open, no_files}
 
 -- the open files with the bytes that their rows have in the forks, whether calls load what they get, the forks in the
@@ -31,13 +33,17 @@ seen_on on = record { files = on.files; loads = on.loads; disks = map fork_in on
 abbrev pub SameForks : ForksState → ForksState → Type 0
 SameForks old new = (new.files ≡ old.files) × (new.loads ≡ old.loads) × (new.disks ≡ old.disks)
 
--- the numbers of files
-abbrev pub numbers : List ℕ
-numbers = 1 ∷ 2 ∷ 3 ∷ 4 ∷ 5 ∷ 6 ∷ 7 ∷ 8 ∷ []
+-- the numbers of files, from 1 on
+unfoldable pub numbers : List ℕ
+numbers = range_with_len 1 most_files
+
+-- forks without bytes, one for each number
+unfoldable pub empty_forks : List Disk
+empty_forks = replicate most_files []
 
 -- no file is open, calls load what they get, and no fork has bytes
 abbrev pub HasNoForks : ForksState → Type 0
-HasNoForks new = (new.files ≡ no_files) × (new.loads ≡ true) × (new.disks ≡ replicate 8 [])
+HasNoForks new = (new.files ≡ no_files) × (new.loads ≡ true) × (new.disks ≡ empty_forks)
 
 -- the first number of which no file is open
 abbrev pub free_number : Files → Option ℕ
@@ -49,7 +55,7 @@ HasFork k fork old new = (new.files ≡ old.files) × (new.loads ≡ old.loads) 
 
 -- the fork of the file of a number, open or not, if there is such a number
 abbrev pub fork_of_number : ℕ → ForksState → Option Disk
-fork_of_number k state = if nat_le 1 k && nat_le k 8 then slice_get state.disks (k - 1) else None
+fork_of_number k state = if nat_le 1 k && nat_le k most_files then slice_get state.disks (k - 1) else None
 
 -- no row has any of these handles
 abbrev pub without_handles : List ℕ → ForksState → ForksState

@@ -3,3 +3,4 @@ pub mod Held
 pub mod Info
 pub mod Making
 pub mod Told
+pub mod Counting

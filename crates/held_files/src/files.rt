@@ -1,8 +1,9 @@
 //! Resource files whose forks are in memory.
 
-ghost use Rattle.std.specs.Prelude.{◌≡◌, ◌≤◌, [], ◌∷◌, length, map, replicate, option_copied, IfOk, IfSome, IsFalse};
-ghost use Rattle.held_files.specs.Forks.{fork_in, fork_of_number, free_number, numbers, HasFork};
+ghost use Rattle.std.specs.Prelude.{◌≡◌, ◌≤◌, [], ◌∷◌, length, map, option_copied, IfOk, IfSome, IsFalse};
+ghost use Rattle.held_files.specs.Forks.{empty_forks, fork_in, fork_of_number, free_number, HasFork};
 ghost use Rattle.mac_calls.specs.Released.{disposed_by, disposed_in};
+ghost use Rattle.res_files.specs.Standing.{most_files};
 ghost use Rattle.res_table.specs.OpenFiles.{is_open};
 
 use fork_disk::MemDisk;
@@ -14,15 +15,12 @@ use mac_base::error::{HostFull, OsErr};
 use mac_base::handle::Handle;
 use mac_base::releasing::ReleasingCall;
 use mac_calls::{MemoryCall, Outcome, ResourceCall};
-use res_calls::SeekingCall;
-use res_files::ResourceFiles;
+use res_calls::{CountingCall, SeekingCall};
+use res_files::{MOST_FILES, ResourceFiles};
 use std::alloc::Global;
 use std::marker::Model;
 
-/// The numbers of files.
-const NUMBERS: [u8; 8] = [1, 2, 3, 4, 5, 6, 7, 8];
-
-/// Resource files, eight at most, with their forks in memory. A contract sees the open files, whether calls load what
+/// Resource files, `MOST_FILES` at most, with their forks in memory. A contract sees the open files, whether calls load what
 /// they get, and the forks.
 pub struct ForkFiles {
     files: ResourceFiles<PlainStore<MemDisk>>,
@@ -31,12 +29,13 @@ pub struct ForkFiles {
 impl Model for ForkFiles {
     ghost use Rattle.std.specs.Prelude.{◌≡◌, length};
     ghost use Rattle.held_files.specs.Forks.{ForksState, seen_on};
+    ghost use Rattle.res_files.specs.Standing.{most_files};
 
     ghost Value = { ForksState };
 
     ghost view = { λ f. seen_on f.files };
 
-    ghost invariant = { λ f. length f.files.stores ≡ 8 };
+    ghost invariant = { λ f. length f.files.stores ≡ most_files };
 }
 
 impl Drop for ForkFiles {
@@ -47,7 +46,7 @@ impl Drop for ForkFiles {
     }
 }
 
-/// tmfoErr: eight files are open.
+/// tmfoErr: as many files are open as can be.
 const TOO_MANY_FILES: i16 = -42;
 
 /// The handle of which a call of an answer disposed, where it was carried out.
@@ -69,25 +68,16 @@ fn store_of(fork: Vec<u8>) -> PlainStore<MemDisk>
     }
 }
 
-/// Eight forks without bytes.
+/// Forks without bytes, one for each number.
 fn no_stores(alloc: Global) -> Result<Vec<PlainStore<MemDisk>>, HostFull>
-    ensures forks { IfOk result (λ stores. map fork_in stores.items ≡ replicate 8 []) }
-    ensures eight { IfOk result (λ stores. length stores.items ≡ 8) }
+    ensures forks { IfOk result (λ stores. map fork_in stores.items ≡ empty_forks) }
+    ensures count { IfOk result (λ stores. length stores.items ≡ most_files) }
 {
-    let stores = [
-        store_of(Vec::new(alloc)),
-        store_of(Vec::new(alloc)),
-        store_of(Vec::new(alloc)),
-        store_of(Vec::new(alloc)),
-        store_of(Vec::new(alloc)),
-        store_of(Vec::new(alloc)),
-        store_of(Vec::new(alloc)),
-        store_of(Vec::new(alloc)),
-    ];
-    match Vec::from_array(alloc, stores) {
-        Ok(stores) => Ok(stores),
-        Err(_) => Err(HostFull),
+    let mut stores = Vec::with_capacity(alloc, MOST_FILES)?;
+    for _ in 0..MOST_FILES {
+        stores.push(store_of(Vec::new(alloc)))?;
     }
+    Ok(stores)
 }
 
 impl ForkFiles {
@@ -110,17 +100,20 @@ impl ForkFiles {
     /// The first number of which no file is open.
     pub fn free_number(&self) -> Option<u8>
         ensures first { result ≡ free_number self.now.files }
-        ensures free { IfSome result (λ k. (1 ≤ k) × (k ≤ 8) × IsFalse (is_open k self.now.files)) }
+        ensures free { IfSome result (λ k. (1 ≤ k) × (k ≤ most_files) × IsFalse (is_open k self.now.files)) }
     {
-        NUMBERS
-            .iter()
-            .copied()
-            .find(|number| !self.files.is_open(*number))
+        for number in 1..=MOST_FILES {
+            let number = number as u8;
+            if !self.files.is_open(number) {
+                return Some(number);
+            }
+        }
+        None
     }
 
     /// Gives the file of a number, of which none is open, this fork.
     pub fn put_fork(&mut self, number: u8, fork: Vec<u8>)
-        requires there { (1 ≤ number) × (number ≤ 8) }
+        requires there { (1 ≤ number) × (number ≤ most_files) }
         requires closed { IsFalse (is_open number self.old.files) }
         ensures { HasFork number fork.items self.old self.new }
     {
@@ -131,7 +124,7 @@ impl ForkFiles {
     pub fn fork(&self, number: u32) -> Option<&[u8]>
         ensures { option_copied result ≡ fork_of_number number self.now }
     {
-        if 1 <= number && number <= 8 {
+        if 1 <= number && number <= MOST_FILES as u32 {
             Some(self.files.store(number as u8).disk.bytes())
         } else {
             None
@@ -270,5 +263,16 @@ impl ForkFiles {
             Ok(done) => done,
             Err(_) => Err(OsErr::MemFullErr),
         }
+    }
+}
+
+impl ForkFiles {
+    ghost use Rattle.res_calls.specs.Counted.{counted};
+
+    /// Makes a call that tells what all open files have together.
+    pub fn count(&self, call: CountingCall) -> Outcome
+        ensures { result ≡ counted call self.now.files }
+    {
+        res_manager::count(&self.files, call)
     }
 }

@@ -1,6 +1,7 @@
 //! The resource files that a program in C holds: their forks in memory, the calls on them, and what C is told of these.
 #![tactic(auto)]
 
+mod counting;
 pub mod files;
 pub mod held;
 pub mod told;

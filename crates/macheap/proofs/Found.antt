@@ -14,12 +14,11 @@ use Rattle.clap.specs.declared.parser.matches.ArgMatches.{ArgMatches}
 use Rattle.clap.specs.Words.{App, Text, HasKind, HasMatchesOf, IsAmong, all_of, app_of, fault_of, first_of, first_value, found_of, matched_of, raw_values, is_simple, is_simple_and_free, kind_of, matches_of}
 use Rattle.clap.proofs.OnLiterals.{clap_on_literals}
 use Rattle.clap.proofs.WalkLemmas.{first_value-rows, raw_values-rows}
-use Rattle.res_files.specs.Standing.{most_files}
 use Rattle.macheap.specs.declared.asked.Asked.{Asked}
 use Rattle.macheap.specs.declared.asked.Asked.TheVariants.{Run, Help}
 use Rattle.macheap.specs.declared.asked.NotAsked.{NotAsked}
 use Rattle.macheap.specs.declared.asked.NotAsked.TheVariants.{Words, TooManyForks, OtherJournals, NoNumber, Mode, Spec, HostFull}
-use Rattle.macheap.specs.Files.{FitForks, NotNamed}
+use Rattle.macheap.specs.Files.{most_files, FitForks, NotNamed}
 use Rattle.macheap.specs.Options.{options, faults, forks_of, journals_of, value_of, values_of, IsDecimal, IsNumberOf, IsNoNumber}
 use Rattle.macheap.specs.Asking.{Asks, Match, GivesNoNumber, MeansNoRun, IsNoNumberFault}
 

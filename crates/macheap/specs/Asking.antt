@@ -6,12 +6,11 @@ use Rattle.clap.specs.declared.error.kind.ErrorKind.TheVariants.{DisplayHelp, Ou
 use Rattle.mac_base.specs.declared.block.HeadKind.{HeadKind}
 use Rattle.mac_base.specs.declared.zone_spec.BadSpec.{BadSpec}
 use Rattle.mac_base.specs.ZoneSizes.{ZoneSizes, ArePossible, AreUsual, first_fault, first_large_fault}
-use Rattle.res_files.specs.Standing.{most_files}
 use Rattle.macheap.specs.declared.asked.Asked.{Asked}
 use Rattle.macheap.specs.declared.asked.Asked.TheVariants.{Run, Help}
 use Rattle.macheap.specs.declared.asked.NotAsked.{NotAsked}
 use Rattle.macheap.specs.declared.asked.NotAsked.TheVariants.{Words, TooManyForks, OtherJournals, NoNumber, Mode, Spec, HostFull}
-use Rattle.macheap.specs.Files.{FitForks}
+use Rattle.macheap.specs.Files.{most_files, FitForks}
 use Rattle.macheap.specs.Options.{faults, allows_large, forks_of, heads_of, journals_of, value_of, IsNumberOf, IsNoNumber}
 
 -- the words match the options, and name no more files than a run may have, with a journal for each or none

@@ -1,12 +1,13 @@
 //! The files that a run is over.
 
 ghost use Rattle.std.specs.Prelude.{◌≡◌, ◌≤◌, length, IfOk, IfErr};
-ghost use Rattle.res_files.specs.Standing.{most_files};
-ghost use Rattle.macheap.specs.Files.{FitForks, NotNamed};
+ghost use Rattle.macheap.specs.Files.{most_files, FitForks, NotNamed};
 
 use crate::asked::NotAsked;
-use res_files::MOST_FILES;
 use std::alloc::Global;
+
+/// A run is over this many files at most.
+const MOST_FILES: usize = 8;
 
 /// The names of the files that a run is over.
 #[derive(Drop)]

@@ -1,7 +1,7 @@
 //! What the program does with its words, its input and its output.
 
 ghost use Rattle.std.specs.Prelude.{◌≡◌, ◌≢◌, ◌≤◌, ◌++◌, [], ℕ, List, IfOk, length, map};
-ghost use Rattle.res_files.specs.Standing.{most_files};
+ghost use Rattle.macheap.specs.Files.{most_files};
 ghost use Rattle.script_run.specs.Counting.{RoseByOne, Took};
 ghost use Rattle.macheap.specs.Program.{Answers, Did, HelpEnds, NoStoresEnd, ProgramEnds, Refuses, RunEnds, RunsOn, SaysWhy, Tells, Wrote, cannot_open_text, lacks_memory};
 ghost use Rattle.macheap.specs.Stores.{Opening};

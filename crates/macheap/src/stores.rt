@@ -2,7 +2,7 @@
 
 ghost use Rattle.std.specs.Prelude.{◌≡◌, ◌≤◌, ◌++◌, ◌∷◌, [], List, ℕ, Result, Ok, length, map, IfOk, IfErr};
 ghost use Rattle.macheap.specs.declared.opened.NotOpened.{NotOpened};
-ghost use Rattle.res_files.specs.Standing.{most_files};
+ghost use Rattle.macheap.specs.Files.{most_files};
 ghost use Rattle.macheap.specs.Stores.{AreJournalled, AreOn, ArePlain, Asked, IsOpened, Opening};
 
 use crate::disk::Disk;

@@ -11,3 +11,4 @@ pub mod Steps
 pub mod Answered
 pub mod Sought
 pub mod Info
+pub mod Counted

@@ -8,9 +8,10 @@ use Rattle.mac_calls.specs.declared.resource_call.GettingCall.TheVariants.{GetRe
 use Rattle.mac_calls.specs.GrowZone.{Ask}
 use Rattle.mac_calls.specs.Outcomes.{Outcome}
 use Rattle.res_table.specs.declared.chain.RowPlace.{RowPlace}
+use Rattle.res_table.specs.AllFiles.{ith_place}
 use Rattle.res_table.specs.OpenFiles.{name_here, place_of_name, row_at}
 use Rattle.res_calls.specs.declared.seeking_call.SeekingCall.{SeekingCall}
-use Rattle.res_calls.specs.declared.seeking_call.SeekingCall.TheVariants.{GetNamedResource, Get1NamedResource}
+use Rattle.res_calls.specs.declared.seeking_call.SeekingCall.TheVariants.{GetNamedResource, Get1NamedResource, GetIndResource}
 use Rattle.res_calls.specs.Answered.{IsAnswered, answered_disks}
 use Rattle.res_calls.specs.Changes.{Files, FileRow}
 use Rattle.res_calls.specs.Device.{Device, DiskRelations, LeaveRelation, device_works}
@@ -22,6 +23,7 @@ use Rattle.res_calls.specs.Steps.{GetsRow, MemoryRelation}
 abbrev pub place_sought : SeekingCall → Files → Option RowPlace
 place_sought (GetNamedResource kind name) files = place_of_name kind name files
 place_sought (Get1NamedResource kind name) files = name_here kind name files
+place_sought (GetIndResource kind i) files = ith_place kind i files.files
 
 -- the same, or why the call is refused: no file is open, or none that it seeks in has such a resource
 abbrev pub sought : SeekingCall → Files → Result RowPlace OsErr

@@ -12,4 +12,7 @@ pub enum SeekingCall<'a> {
     GetNamedResource { kind: ResType, name: Span<'a> },
     /// The same, in the current file alone.
     Get1NamedResource { kind: ResType, name: Span<'a> },
+    /// The resource of a type with this index, from 1 on, in all open files, whichever is the current one: those of the
+    /// file that was opened last come first.
+    GetIndResource { kind: ResType, index: u32 },
 }

@@ -1,6 +1,6 @@
 -- The row that is found stands where it was found.
-use Rattle.std.proofs.Common.{◌≡◌, refl, sym, ap, ◌∙◌, subst, arith, ℕ, zero, suc, ℤ, ◌+◌, ◌<◌, ◌≤◌, List, [], ◌∷◌, length, map, take, slice_get, get_or, position, find, Bool, true, false, cond, Option, None, Some, IfSome, IsSome, IsTrue}
-use Rattle.std.specs.Prelude.{◌||◌, ◌==◌, if◌then◌else◌}
+use Rattle.std.proofs.Common.{◌≡◌, refl, sym, ap, ◌∙◌, subst, arith, ℕ, zero, suc, ℤ, ◌+◌, ◌-◌, ◌<◌, ◌≤◌, List, [], ◌∷◌, length, map, take, slice_get, get_or, position, find, Bool, true, false, cond, Option, None, Some, IfSome, IsSome, IsTrue}
+use Rattle.std.specs.Prelude.{◌||◌, ◌==◌, nat_le, if◌then◌else◌}
 use Rattle.std.specs.List.{list_any, AllByRecursion}
 use Rattle.std.specs.Option.{option_map, option_or, option_map_or, option_and_then, IsSomeAnd}
 use Rattle.std.proofs.lemmas.Bool.{eqb-true, eq-eqb}
@@ -14,7 +14,8 @@ use Rattle.res_table.specs.declared.chain.ResourceTable.{ResourceTable}
 use Rattle.res_table.specs.declared.chain.OpenFile.{OpenFile}
 use Rattle.res_table.specs.declared.chain.RowPlace.{RowPlace}
 use Rattle.res_table.specs.Names.{is_named}
-use Rattle.res_table.specs.Rows.{has_handle, is_of_type, is_resource, indexes_from, index_of_ith}
+use Rattle.res_table.specs.AllFiles.{all_rows, ith_place}
+use Rattle.res_table.specs.Rows.{has_handle, is_of_type, is_resource, indexes_from, index_of_ith, count_of_type}
 use Rattle.res_table.specs.OpenFiles.{OpenFiles, is_numbered, is_open, table_in, table_of, place_in, earliest_place, latest_place, searched, place_of_resource, place_of_handle, place_here, place_of_name, name_here, row_at}
 use Rattle.res_calls.specs.Changes.{Files, FileRow, FileTable, rows_of, rows_in, current_rows}
 use Rattle.res_update.specs.Placed.{row_on}
@@ -41,18 +42,23 @@ record Passes {D : Type 0} (test : Row D → Bool) (files : List (OpenFile D)) (
   there : row_in place files ≡ Some row
   passes : test row ≡ true
 
+-- a row of the first of some files
+at_first : {D : Type 0} (test : Row D → Bool) (f : OpenFile D) (files : List (OpenFile D)) (i : ℕ) → (r : Row D) × (slice_get f.table.rows i ≡ Some r) × (test r ≡ true) → Passes test (f ∷ files) (record { file = f.number; index = i })
+at_first {D} test f files i found =
+    let row = by (is_numbered f.number f) refl (eq-eqb f.number f.number refl) in record { row = row.0; there = row.1; passes = row.2 }
+  where
+    by : (b : Bool) → is_numbered f.number f ≡ b → b ≡ true
+        → (r : Row D) × (option_and_then (λ (table : ResourceTable D). slice_get table.rows i) (option_map table_in (cond b (Some f) (find (is_numbered f.number) files))) ≡ Some r) × (test r ≡ true)
+    by true same holds = found
+    by false same holds = absurd (cc holds)
+
 -- where a row is found in the first of some files
 here_passes : {D : Type 0} (test : Row D → Bool) (f : OpenFile D) (files : List (OpenFile D)) → IfSome (place_in test f) (Passes test (f ∷ files))
 here_passes {D} test f files = by (position test f.table.rows) refl
   where
-    with : (i : ℕ) (b : Bool) → is_numbered f.number f ≡ b → b ≡ true → (r : Row D) × (slice_get f.table.rows i ≡ Some r) × (test r ≡ true)
-        → (r : Row D) × (option_and_then (λ (table : ResourceTable D). slice_get table.rows i) (option_map table_in (cond b (Some f) (find (is_numbered f.number) files))) ≡ Some r) × (test r ≡ true)
-    with i true same holds found = found
-    with i false same holds found = absurd (cc holds)
-
     by : (found : Option ℕ) → position test f.table.rows ≡ found → IfSome (option_map (λ i. let place : RowPlace = record { file = f.number; index = i } in place) found) (Passes test (f ∷ files))
     by None is = tt
-    by (Some i) is = let row = with i (is_numbered f.number f) refl (eq-eqb f.number f.number refl) (first_row test f.table.rows i is) in record { row = row.0; there = row.1; passes = row.2 }
+    by (Some i) is = at_first test f files i (first_row test f.table.rows i is)
 
 -- a row of a file is one of a file that is numbered so
 numbered : {D : Type 0} (place : RowPlace) (files : List (OpenFile D)) (r : Row D) → row_in place files ≡ Some r → list_any (is_numbered place.file) files ≡ true
@@ -164,6 +170,11 @@ within_from {D} at test (r ∷ rows) i k is = by (test r) i is (λ n there. with
     by true (suc i) here later = let deeper = later i here in (omega (arith, deeper.0), omega (arith, deeper.1))
     by false i here later = let deeper = later i here in (omega (arith, deeper.0), omega (arith, deeper.1))
 
+-- it is within its file
+at_ith : {D : Type 0} (kind : List ℕ) (rows : List (Row D)) (i at : ℕ) → index_of_ith kind i rows ≡ Some at → at < length rows
+at_ith kind rows zero at is = absurd (cc is)
+at_ith kind rows (suc i) at is = let within = within_from 0 (is_of_type kind) rows i at is in omega (arith, within.1)
+
 pub ith_there : (kind : List ℕ) (i : ℕ) (files : Files)
     → IfSome (option_and_then (λ k. option_map (λ at. let place : RowPlace = record { file = k; index = at } in place) (index_of_ith kind i (current_rows files))) files.current) (λ place. IsSome (row_at place files))
 ith_there kind i files = by files.current
@@ -173,20 +184,38 @@ ith_there kind i files = by files.current
     some_at (r ∷ rows) zero within = refl
     some_at (r ∷ rows) (suc at) within = some_at rows at (omega (arith, within))
 
-    at_ith : (rows : List FileRow) (i at : ℕ) → index_of_ith kind i rows ≡ Some at → at < length rows
-    at_ith rows zero at is = absurd (cc is)
-    at_ith rows (suc i) at is = let within = within_from 0 (is_of_type kind) rows i at is in omega (arith, within.1)
-
     in_table : (k : ℕ) (table : Option FileTable) → table_of k files ≡ table → (found : Option ℕ) → index_of_ith kind i (option_map_or rows_in table []) ≡ found
         → IfSome (option_map (λ at. let place : RowPlace = record { file = k; index = at } in place) found) (λ place. IsSome (row_at place files))
     in_table k table there None is = tt
-    in_table k None there (Some at) is = absurd (omega (arith, at_ith [] i at is))
+    in_table k None there (Some at) is = absurd (omega (arith, at_ith {D = List ℕ} kind [] i at is))
     in_table k (Some table) there (Some at) is =
-        subst (λ (t : Option FileTable). IsSome (option_and_then (λ (table : FileTable). slice_get table.rows at) t)) (sym there) (some_at table.rows at (at_ith table.rows i at is))
+        subst (λ (t : Option FileTable). IsSome (option_and_then (λ (table : FileTable). slice_get table.rows at) t)) (sym there) (some_at table.rows at (at_ith kind table.rows i at is))
 
     by : (current : Option ℕ) → IfSome (option_and_then (λ k. option_map (λ at. let place : RowPlace = record { file = k; index = at } in place) (index_of_ith kind i (option_map_or (λ k. rows_of k files) current []))) current) (λ place. IsSome (row_at place files))
     by None = tt
     by (Some k) = in_table k (table_of k files) refl (index_of_ith kind i (rows_of k files)) refl
+
+-- so does the i-th of a type in all files
+some_row_at : {D : Type 0} (rows : List (Row D)) (at : ℕ) → at < length rows → (r : Row D) × (slice_get rows at ≡ Some r) × (true ≡ true)
+some_row_at [] at within = absurd (omega (arith, within))
+some_row_at (r ∷ rows) zero within = (r, refl, refl)
+some_row_at (r ∷ rows) (suc at) within = some_row_at rows at (omega (arith, within))
+
+ith_passes : (kind : List ℕ) (i : ℕ) (files : List (OpenFile Place)) → AreApart files → IfSome (ith_place kind i files) (Passes (λ r. true) files)
+ith_passes kind i [] apart = tt
+ith_passes kind i (f ∷ files) apart = by (nat_le i (count_of_type kind (all_rows files))) (ith_passes kind i files apart.1)
+  where
+    left : ℕ
+    left = i - count_of_type kind (all_rows files)
+
+    here : (found : Option ℕ) → index_of_ith kind left f.table.rows ≡ found → IfSome (option_map (λ at. let place : RowPlace = record { file = f.number; index = at } in place) found) (Passes (λ r. true) (f ∷ files))
+    here None is = tt
+    here (Some at) is = at_first (λ r. true) f files at (some_row_at f.table.rows at (at_ith kind f.table.rows left at is))
+
+    by : (b : Bool) → IfSome (ith_place kind i files) (Passes (λ r. true) files)
+        → IfSome (if b then ith_place kind i files else option_map (λ at. let place : RowPlace = record { file = f.number; index = at } in place) (index_of_ith kind left f.table.rows)) (Passes (λ r. true) (f ∷ files))
+    by true later = later_passes (λ r. true) f files apart.0 (ith_place kind i files) later
+    by false later = here (index_of_ith kind left f.table.rows) refl
 
 module _ {S : Type 0} (fork : S → List ℕ) (is_ready is_honest : S → Type 0) (chain : OpenFiles Place) (loads : Bool) (stores : List S) (now : FilesOn S) (view_is : seen fork chain loads stores ≡ now)
     (stand : StandOn fork is_ready is_honest stores chain) where
@@ -213,6 +242,12 @@ module _ {S : Type 0} (fork : S → List ℕ) (is_ready is_honest : S → Type 0
   name_there kind name result is =
       subst (λ (found : Option RowPlace). IfSome found (λ place. IsSome (row_at place now.files))) (sym is)
       (some_row (is_named kind name) (place_of_name kind name chain) (latest_passes (is_named kind name) (searched chain) chain.files stand.apart))
+
+  -- so is the i-th of a type
+  pub ith_place_there : (kind : List ℕ) (i : ℕ) (result : Option RowPlace) → result ≡ ith_place kind i chain.files → IfSome result (λ place. IsSome (row_at place now.files))
+  ith_place_there kind i result is =
+      subst (λ (found : Option RowPlace). IfSome found (λ place. IsSome (row_at place now.files))) (sym is)
+      (some_row (λ r. true) (ith_place kind i chain.files) (ith_passes kind i chain.files stand.apart))
 
   -- the row of a handle is there, and has it
   pub handle_there : (h : ℕ) (result : Option RowPlace) → result ≡ place_of_handle h chain → IfSome result (λ place. IsSomeAnd (row_at place now.files) (λ r. r.handle ≡ Some h))

@@ -18,3 +18,4 @@ pub mod Rewritten
 pub mod Crash
 pub mod AmongHandles
 pub mod Replaced
+pub mod AllMapped

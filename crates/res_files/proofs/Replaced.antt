@@ -10,7 +10,7 @@ use Rattle.res_table.specs.OpenFiles.{OpenFiles, is_numbered, is_open}
 use Rattle.res_calls.specs.Changes.{Files}
 use Rattle.res_update.specs.Placed.{Holds}
 use Rattle.res_files.specs.FilesOn.{FilesOn}
-use Rattle.res_files.specs.Standing.{files_on, StandsOn, StandOn}
+use Rattle.res_files.specs.Standing.{files_on, StandsOn, StandOn, most_files}
 use Rattle.res_files.proofs.Mapped.{open-mapped, set-mapped}
 use Rattle.res_files.proofs.On.{seen, bytes_in, asked}
 use Rattle.res_files.proofs.Stores.{get_other}
@@ -43,7 +43,7 @@ module _ {S : Type 0} (fork : S → List ℕ) (is_ready is_honest : S → Type 0
   -- the files stand still
   pub stand_replaced : (chain : OpenFiles Place) → is_open k chain ≡ false → StandOn fork is_ready is_honest stores chain → StandOn fork is_ready is_honest (set stores (k - 1) new) chain
   stand_replaced chain closed stand = record {
-    few = subst (λ (n : ℕ). n ≤ 8) (sym (length-set stores (k - 1) new)) stand.few;
+    few = subst (λ (n : ℕ). n ≤ most_files) (sym (length-set stores (k - 1) new)) stand.few;
     each = others_stand chain.files closed stand.each;
     apart = stand.apart;
     current = stand.current;

@@ -35,7 +35,7 @@ use Rattle.res_update.specs.Selected.{updated, reads_lent, CountsUpdate}
 use Rattle.res_update.specs.Writing.{Writes}
 use Rattle.res_files.specs.Crash.{history_of}
 use Rattle.res_files.specs.FilesOn.{FilesOn, HonestAt, fork_of}
-use Rattle.res_files.specs.Standing.{fork_at, files_on, AreSmall, StandsOn, StandOn}
+use Rattle.res_files.specs.Standing.{fork_at, files_on, AreSmall, StandsOn, StandOn, most_files}
 use Rattle.res_files.specs.Stores.{UpdatesStore}
 use Rattle.res_files.specs.Updating.{row_placed, rows_placed}
 use Rattle.res_files.proofs.Known.{same_known}
@@ -288,7 +288,7 @@ module _ {S : Type 0} (store : Ghosts S) (chain : OpenFiles Place) (loads : Bool
 
           whole : StandOn store.fork store.is_ready store.is_honest (set stores (k - 1) new) (rows_changed k own chain)
           whole = record {
-            few = subst (λ (n : ℕ). n ≤ 8) (sym (length-set stores (k - 1) new)) stand.few;
+            few = subst (λ (n : ℕ). n ≤ most_files) (sym (length-set stores (k - 1) new)) stand.few;
             each = one_stands k low store.fork store.is_ready store.is_honest stores new own chain.files stand.apart
                 (subst (λ (found : Option (ResourceTable Place)). IfSome found (λ (table : ResourceTable Place). AreSmall (own table.rows) × Holds store.fork store.is_ready store.is_honest (own table.rows) new)) (sym here) (small_now, holds_now)) stand.each;
             apart = apart_changed k own chain.files stand.apart;
@@ -311,7 +311,7 @@ module _ {S : Type 0} (store : Ghosts S) (chain : OpenFiles Place) (loads : Bool
 
           whole : StandOn store.fork store.is_ready store.is_honest (set stores (k - 1) new) (file_closed k chain)
           whole = record {
-            few = subst (λ (n : ℕ). n ≤ 8) (sym (length-set stores (k - 1) new)) stand.few;
+            few = subst (λ (n : ℕ). n ≤ most_files) (sym (length-set stores (k - 1) new)) stand.few;
             each = by (is_open k chain) refl;
             apart = before.apart;
             current = before.current;

@@ -10,7 +10,7 @@ use Rattle.res_table.specs.declared.chain.OpenFile.{OpenFile}
 use Rattle.res_table.specs.OpenFiles.{OpenFiles}
 use Rattle.res_update.specs.Placed.{AreInside, Holds}
 use Rattle.res_files.specs.FilesOn.{failures_at}
-use Rattle.res_files.specs.Standing.{StandsOn, StandOn}
+use Rattle.res_files.specs.Standing.{StandsOn, StandOn, most_files}
 
 -- the fork of a store, by the forks of all
 pub fork_or : {S : Type 0} (fork : S → List ℕ) (stores : List S) (at : ℕ) → unwrap_or (slice_get (map fork stores) at) [] ≡ option_map_or fork (slice_get stores at) []
@@ -80,7 +80,7 @@ module _ {S : Type 0} (fork : S → List ℕ) (is_ready is_honest : S → Type 0
 
   pub stand_set : (chain : OpenFiles Place) → StandOn fork is_ready is_honest stores chain → StandOn fork is_ready is_honest (set stores i y) chain
   stand_set chain stand = record {
-    few = subst (λ (n : ℕ). n ≤ 8) (sym (length-set stores i y)) stand.few;
+    few = subst (λ (n : ℕ). n ≤ most_files) (sym (length-set stores i y)) stand.few;
     each = each_set chain.files stand.each;
     apart = stand.apart;
     current = stand.current;

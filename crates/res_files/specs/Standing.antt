@@ -43,9 +43,9 @@ abbrev pub AreApart : List (OpenFile Place) → Type 0
 AreApart [] = Unit {0}
 AreApart (file ∷ files) = (list_any (is_numbered file.number) files ≡ false) × AreApart files
 
--- a run has at most this many files, open or not
+-- there are at most this many files, open or not
 abbrev pub most_files : ℕ
-most_files = 8
+most_files = 255
 
 -- the open files stand on at most so many stores, each on its own, and the current file is one of them
 pub record StandOn {S : Type 0} (fork : S → List ℕ) (is_ready is_honest : S → Type 0) (stores : List S) (chain : OpenFiles Place) : Type 0 where

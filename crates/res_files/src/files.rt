@@ -10,8 +10,8 @@ use res_table::chain::Chain;
 use std::alloc::Global;
 use std::marker::Model;
 
-/// A run has at most this many resource files, open or not.
-pub const MOST_FILES: usize = 8;
+/// There are at most this many resource files, open or not: their numbers are a `u8`, from 1 on.
+pub const MOST_FILES: usize = 255;
 
 /// The resource files of a run: a store for each, and the open ones. Contracts see the open files with the bytes that their
 /// resources have on the disk, whether calls load what they get, and the stores.

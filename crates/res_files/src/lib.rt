@@ -1,6 +1,7 @@
 //! Resource files on their disks: the open ones, with the bytes that their resources have there.
 #![tactic(auto)]
 
+mod all_files;
 mod changes;
 mod current;
 mod files;

@@ -96,12 +96,15 @@ filled-contents heap h n x bytes placed is long =
 
 -- the loans stay where bytes are written into a placed block
 pub loans-filled : (zone : ZoneState) (h n x : ℕ) (bytes : List ℕ) → IsPlaced zone.heap h n → x ≡ h → KeepsLoans zone (with_contents zone x bytes)
-loans-filled zone h n x bytes placed is = λ y loan held.
-    let t = zone.heap.table in
-    let none : is_lent t x ≡ false = subst (λ k. is_lent t k ≡ false) (sym is) placed.here in
-    let other : eqb y x ≡ false = ne_eqb y x (λ same. let both : true ≡ false = sym held.lent ∙ ap (λ (z : ℕ). is_lent t z) same ∙ none in absurd (cc both)) in
-    let same : live_at (with_contents zone x bytes).heap.table y ≡ live_at t y = (with_live_agrees x (refilled (overwritten (bytes_of t x) bytes) (live_at t x)) t).others y other in
-    record { lent = held.lent; memory = held.memory; contents = held.contents; long = held.long ∙ ap (λ (o : Option Live). length (live_bytes o)) (sym same) }
+loans-filled zone h n x bytes placed is = (
+  refl,
+  λ y loan held.
+      let t = zone.heap.table in
+      let none : is_lent t x ≡ false = subst (λ k. is_lent t k ≡ false) (sym is) placed.here in
+      let other : eqb y x ≡ false = ne_eqb y x (λ same. let both : true ≡ false = sym held.lent ∙ ap (λ (z : ℕ). is_lent t z) same ∙ none in absurd (cc both)) in
+      let same : live_at (with_contents zone x bytes).heap.table y ≡ live_at t y = (with_live_agrees x (refilled (overwritten (bytes_of t x) bytes) (live_at t x)) t).others y other in
+      record { lent = held.lent; memory = held.memory; contents = held.contents; long = held.long ∙ ap (λ (o : Option Live). length (live_bytes o)) (sym same) },
+)
 
 -- what is filled is as it is
 pub filled-itself : (h : ℕ) (bytes : List ℕ) (old new : Heap) → IsFilled h bytes old new → IsFilled h bytes new new

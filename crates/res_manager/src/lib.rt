@@ -2,6 +2,7 @@
 #![tactic(auto)]
 
 mod contents;
+mod counting;
 mod getting;
 mod info;
 mod load;
@@ -14,6 +15,7 @@ mod tests;
 mod updating;
 pub mod watch;
 
+pub use counting::count;
 pub use info::set_info;
 pub use manager::make;
 pub use seeking::seek;

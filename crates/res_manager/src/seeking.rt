@@ -67,5 +67,6 @@ fn find_place<S: ForkStore>(files: &ResourceFiles<S>, call: &SeekingCall<'_>) ->
         SeekingCall::Get1NamedResource { kind, ref name } => {
             files.find_named_here(kind, name.as_slice())
         }
+        SeekingCall::GetIndResource { kind, index } => files.find_ith_in_all(kind, index),
     }
 }

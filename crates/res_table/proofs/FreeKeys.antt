@@ -63,7 +63,7 @@ pub free_last : (key free i : ℕ) (ps rest : List Pair) → length rest ≤ i �
 free_last key free i ps rest past before = before.1 free (omega arith) ∙ ap (has_pair free) (drop_all i rest past)
 
 -- a part up to the end
-pub part_is : (start : ℕ) (ps all : List Pair) → all ≡ ps → take (length all - start) (drop start all) ≡ drop start ps
+pub part_is : {X : Type 0} (start : ℕ) (ps all : List X) → all ≡ ps → take (length all - start) (drop start all) ≡ drop start ps
 part_is start ps all is = let long = length-drop start all in take_all (length all - start) (drop start all) (omega arith) ∙ ap (drop start) is
 
 pub part_few : (start : ℕ) (ps part : List Pair) → part ≡ drop start ps → length part ≤ length ps

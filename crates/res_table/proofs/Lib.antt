@@ -20,3 +20,5 @@ pub mod Expanded
 pub mod RunTypes
 mod SameNames
 pub mod InfoKept
+pub mod AllFiles
+pub mod TypeKeys

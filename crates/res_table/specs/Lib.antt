@@ -8,3 +8,4 @@ pub mod Indexed
 pub mod Keyed
 pub mod Kinds
 pub mod Info
+pub mod AllFiles

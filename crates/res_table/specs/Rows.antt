@@ -1,5 +1,5 @@
 -- Lists of rows: look-ups, which give the first match, and changes.
-use Rattle.std.specs.Prelude.{ℕ, zero, suc, ◌+◌, ◌==◌, ℤ, pos, Bool, false, not, ◌&&◌, if◌then◌else◌, List, [], ◌∷◌, length, map, filter, remove, set, slice_get, Option, None, bytes_eq}
+use Rattle.std.specs.Prelude.{ℕ, zero, suc, ◌+◌, ◌<◌, ◌≤◌, ◌==◌, ◌≡◌, ℤ, pos, Bool, true, false, not, ◌&&◌, if◌then◌else◌, List, [], ◌∷◌, length, map, filter, remove, set, slice_get, Option, None, bytes_eq}
 use Rattle.std.specs.List.{list_any, sum_by}
 use Rattle.std.specs.Option.{option_map_or}
 use Rattle.std.specs.Ordering.{int_eq}
@@ -105,3 +105,15 @@ free_id_from (suc n) id kind rows = if list_any (is_resource kind (pos id)) rows
 -- the least id from 128 on that no row of the type has
 abbrev pub unique_id : {D : Type 0} → List ℕ → List (Row D) → ℕ
 unique_id kind rows = free_id_from (length rows) 128 kind rows
+
+-- the largest id
+abbrev pub largest_id : ℕ
+largest_id = 32767
+
+-- each id of a type from one on, up to another, is that of a row
+abbrev pub AreTaken : {D : Type 0} → List ℕ → ℕ → ℕ → List (Row D) → Type 0
+AreTaken kind from to rows = (id : ℕ) → from ≤ id → id < to → list_any (is_resource kind (pos id)) rows ≡ true
+
+-- no row has the type and the id
+abbrev pub IsFree : {D : Type 0} → List ℕ → ℕ → List (Row D) → Type 0
+IsFree kind id rows = list_any (is_resource kind (pos id)) rows ≡ false

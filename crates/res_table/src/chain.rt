@@ -73,6 +73,13 @@ impl<D> Chain<D> {
         self.current
     }
 
+    /// The open files, in the order of opening.
+    pub fn files(&self) -> &[OpenFile<D>]
+        ensures { result.now ≡ self.now.files }
+    {
+        &self.files
+    }
+
     /// Where in the order of opening the file of a number stands.
     fn position_of(&self, number: u8) -> Option<usize>
         ensures { result ≡ position (is_numbered number) self.now.files }

@@ -2,6 +2,7 @@
 //! many rows of one type stand together.
 #![tactic(auto)]
 
+pub mod all_files;
 pub mod attributes;
 pub mod chain;
 mod keyed;

@@ -14,7 +14,13 @@ use std::alloc::Global;
 use std::marker::Model;
 
 /// The first id that is looked at for a new row.
-const FIRST_ID: i16 = 128;
+pub(crate) const FIRST_ID: u16 = 128;
+
+/// The largest id.
+const MAX_ID: u64 = 32_767;
+
+/// How many ids a type may have.
+const IDS: u64 = 65_536;
 
 /// The rows of an open file, in order. A contract sees the list. A row is found by its handle, or by its type and id, without going
 /// through the rows, what is asked of a type goes through the runs of rows of one type alone, and the size of the names is kept. So are
@@ -46,12 +52,12 @@ impl<D> Model for Rows<D> {
 }
 
 impl<D> Rows<D> {
-    ghost use Rattle.std.specs.Prelude.{◌≡◌, ◌<◌, [], length, position, remove, slice_get, get_or, count_by, ◌≤◌, OnOk, OnErr, IfOk, Some, map, ◌↔◌, pos, IsTrue};
-    ghost use Rattle.std.specs.List.{AllByRecursion};
+    ghost use Rattle.std.specs.Prelude.{◌≡◌, ◌<◌, ◌+◌, [], length, position, remove, slice_get, get_or, count_by, ◌≤◌, OnOk, OnErr, IfOk, IfSome, IfNone, Some, map, ◌↔◌, pos, IsTrue};
+    ghost use Rattle.std.specs.List.{AllByRecursion, list_any};
     ghost use Rattle.fork_bytes.specs.Fork.{max_rows};
     ghost use Rattle.res_table.specs.Saved.{row_types, kind_of, RowsFit};
     ghost use Rattle.res_table.specs.Names.{is_named};
-    ghost use Rattle.res_table.specs.Rows.{has_handle, has_changed, is_resource, is_of_type, added, forgotten, changed_at, with_handle, with_attributes, with_datum, opened_row, count_of_type, index_of_ith, ith, names_size, unique_id, changed_handle};
+    ghost use Rattle.res_table.specs.Rows.{has_handle, has_changed, is_resource, is_of_type, added, forgotten, changed_at, with_handle, with_attributes, with_datum, opened_row, count_of_type, index_of_ith, ith, names_size, unique_id, largest_id, AreTaken, IsFree, changed_handle};
     ghost use Rattle.res_table.specs.Behind.{end_of_type};
 
     /// No rows. This takes no memory of the host.
@@ -327,9 +333,34 @@ impl<D> Rows<D> {
         requires { length self.now ≤ max_rows }
         ensures { result ≡ pos (unique_id kind self.now) }
     {
-        let first = key_of_resource(kind, FIRST_ID);
-        let free = self.resources.first_free_key(first);
-        FIRST_ID + (free - first) as i16
+        // At most 8,192 of the 32,640 ids from 128 on are taken, so one is free.
+        let id = self.free_id(kind, FIRST_ID).unwrap();
+        id as i16
+    }
+
+    /// The least id from this one on that no row of a type has, or None where all up to the largest are taken.
+    pub fn free_id(&self, kind: ResType, id: u16) -> Option<u16>
+        requires { id ≤ largest_id }
+        ensures some { IfSome result (λ free. (id ≤ free) × (free ≤ largest_id) × AreTaken kind id free self.now × IsFree kind free self.now) }
+        ensures none { IfNone result (AreTaken kind id (largest_id + 1) self.now) }
+    {
+        let zero = key_of_resource(kind, 0);
+        let free = self.resources.first_free_key(zero + u64::from(id)) - zero;
+        if free > MAX_ID {
+            return None;
+        }
+        Some(free as u16)
+    }
+
+    /// Whether a row is of a type. The keys of a type and any id follow one another.
+    pub fn has_type(&self, kind: ResType) -> bool
+        ensures { result ≡ list_any (is_of_type kind) self.now }
+    {
+        let first = key_of_resource(kind, 0);
+        match self.resources.from_key(first).first() {
+            Some(pair) => pair.key < first + IDS,
+            None => false,
+        }
     }
 
     /// Whether the table of these rows fits a fork: there are at most 8,192, and two bytes hold each offset in the map. The rows are

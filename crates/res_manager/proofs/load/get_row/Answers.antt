@@ -61,7 +61,7 @@ returns-in_err-load_bytes-clause-step g c =
     (load.undone ∙ ap (λ b. if b then with_emptied c.make_place.new.memory.heap c.in_ok-handle.handle else heap_released (DisposesHandle c.in_ok-handle.handle) c.make_place.new.memory.heap) c.is_some.ensures) load.cause)
 
 pub returns-in_err-load_bytes-clause-loans : goal.returns-in_err-load_bytes-clause-loans
-returns-in_err-load_bytes-clause-loans g c = λ x loan held. c.load_bytes.ensures.loans x loan (c.make_place.ensures.loans x loan held)
+returns-in_err-load_bytes-clause-loans g c = (c.load_bytes.ensures.loans.0 ∙ c.make_place.ensures.loans.0, λ x loan held. c.load_bytes.ensures.loans.1 x loan (c.make_place.ensures.loans.1 x loan held))
 
 pub returns-clause-step : goal.returns-clause-step
 returns-clause-step g c =
@@ -88,7 +88,7 @@ returns-clause-step g c =
 
 pub returns-clause-loans : goal.returns-clause-loans
 returns-clause-loans g c = elim c.if-loads.branch [
-  | then-loads+in_ok-load_bytes w ↦ rw w.memory-is (λ x loan held. w.load_bytes.ensures.loans x loan (c.make_place.ensures.loans x loan held))
+  | then-loads+in_ok-load_bytes w ↦ rw w.memory-is (w.load_bytes.ensures.loans.0 ∙ c.make_place.ensures.loans.0, λ x loan held. w.load_bytes.ensures.loans.1 x loan (c.make_place.ensures.loans.1 x loan held))
   | else-loads w ↦ rw w.memory-is c.make_place.ensures.loans
 ]
 

@@ -36,7 +36,7 @@ loop-found-preserved g c =
       heap = sym (disposed_more s c.loop-found.memory.shape c.loop-found.memory.heap c.dispose_handle.new.self.heap c.in-Some.found.1 (handles_of (drop (c.in-Some.found.0 + 1) (rows_of c.args.number c.args.files.now.files))) (done_outcome c.dispose_handle.result) c.loop-found.invariant.shape c.dispose_handle.ensures.exact)
           ∙ sym (ap (λ hs. disposed s hs c.loop-found.memory.heap) next.handles) ∙ c.loop-found.invariant.heap;
       shape = c.dispose_handle.ensures.shape ∙ c.loop-found.invariant.shape;
-      loans = λ x loan is. c.dispose_handle.ensures.loans x loan (c.loop-found.invariant.loans x loan is);
+      loans = (c.dispose_handle.ensures.loans.0 ∙ c.loop-found.invariant.loans.0, λ x loan held. c.dispose_handle.ensures.loans.1 x loan (c.loop-found.invariant.loans.1 x loan held));
     }
 
 pub returns-clause-heap : goal.returns-clause-heap

@@ -1,40 +1,23 @@
-use Rattle.std.proofs.Common.{rules, ◌≡◌, ◌≤◌, ◌+◌, ◌-◌, List, pos, length, sym, ap, ◌∙◌, arith}
+use Rattle.std.proofs.Common.{◌≡◌, refl, ◌+◌, ◌≤◌, ℕ, List, length, pos, to_z, ap, sym, ◌∙◌, subst, w16, arith, Option, None, Some}
+use Rattle.std.specs.Option.{IsSome, IfSome, IfNone}
+use Rattle.std.proofs.lemmas.Int.{ints}
 use Rattle.res_table.specs.declared.row.Row.{Row}
-use Rattle.res_table.specs.declared.keyed.Pair.{Pair}
-use Rattle.res_table.specs.Indexed.{resource_key}
-use Rattle.res_table.specs.Rows.{unique_id}
-use Rattle.res_table.proofs.RowPairs.{few_pairs, order_kept}
-use Rattle.res_table.proofs.FreeIds.{unique_is, id_of}
-use Rattle.res_table.proofs.rows.Rows.unique_id.Goals.{After-first_free_key-free}
+use Rattle.res_table.specs.Rows.{largest_id, AreTaken, IsFree}
+use Rattle.res_table.proofs.FreeIds.{unique_is, none_unique}
 use Rattle.res_table.proofs.rows.Rows.unique_id.Goals as goal
 
-pub first_free_key-free-requires-clause-order : goal.first_free_key-free-requires-clause-order
-first_free_key-free-requires-clause-order g c = order_kept resource_key c.self.inside.resources.pairs c.self.inside.rows.items c.self.invariant.3
+-- among few rows an id is free
+one_left : {D : Type 0} (kind : List ℕ) (rows : List (Row D)) (found : Option ℕ) → length rows ≤ 8192 → IfNone found (AreTaken kind 128 (largest_id + 1) rows) → IsSome found
+one_left kind rows None few taken = let many = (none_unique kind rows taken).1 in absurd (omega (arith, few, many))
+one_left kind rows (Some id) few taken = refl
 
-pub first_free_key-free-requires-clause-room : goal.first_free_key-free-requires-clause-room
-first_free_key-free-requires-clause-room g c =
-    let rows = c.self.inside.rows.items in
-    let count = ap (λ (ps : List Pair). length ps) c.self.invariant.3 in let few = few_pairs resource_key 0 rows in
-    let long = ap (λ (rs : List (Row _)). length rs) c.self.view_is in let most = c.requires in let low = c.key_of_resource-first.ensures.few in omega arith
+pub unwrap-id-requires : goal.unwrap-id-requires
+unwrap-id-requires g c = one_left c.args.kind c.args.self.now c.free_id.result c.requires c.free_id.ensures.none
 
--- the free key is near to the first one, and as far from it as the id from the first
-found : (g : _) (c : After-first_free_key-free g)
-    → (c.first_free_key-free.result ≤ c.key_of_resource-first.result + 8192) × (unique_id c.args.kind c.self.inside.rows.items ≡ 128 + (c.first_free_key-free.result - c.key_of_resource-first.result))
-found g c =
-    let rows = c.self.inside.rows.items in let key = c.key_of_resource-first.ensures in let free = c.first_free_key-free.ensures in
-    let long = ap (λ (rs : List (Row _)). length rs) c.self.view_is in let most = c.requires in
-    let few : length rows ≤ 8192 = omega arith in
-    unique_is c.args.kind rows c.self.inside.resources.pairs c.key_of_resource-first.result c.first_free_key-free.result c.self.invariant.3 c.self.invariant.5 few key.key key.kind free.from free.few free.taken free.free
-
-pub overflow_cast-result : goal.overflow_cast-result
-overflow_cast-result g c =
-    let near = (found g c).0 in let small : c.first_free_key-free.result - c.key_of_resource-first.result ≤ 8192 = omega arith in search (rules, small)
-
-pub overflow_add-result : goal.overflow_add-result
-overflow_add-result g c =
-    let near = (found g c).0 in let small : c.first_free_key-free.result - c.key_of_resource-first.result ≤ 8192 = omega arith in search (rules, small)
+as_signed : (n : ℕ) → n ≤ 32767 → to_z w16 n ≡ pos n
+as_signed n small = omega (arith, ints)
 
 pub returns : goal.returns
 returns g c =
-    let near = (found g c).0 in let small : c.first_free_key-free.result - c.key_of_resource-first.result ≤ 8192 = omega arith in
-    id_of (c.first_free_key-free.result - c.key_of_resource-first.result) small ∙ ap pos (sym (found g c).1 ∙ ap (unique_id c.args.kind) c.self.view_is)
+    let told = subst (λ (found : Option ℕ). IfSome found (λ free. (128 ≤ free) × (free ≤ largest_id) × AreTaken c.args.kind 128 free c.args.self.now × IsFree c.args.kind free c.args.self.now)) c.unwrap-id.ensures c.free_id.ensures.some in
+    as_signed c.unwrap-id.result told.1 ∙ ap pos (sym (unique_is c.args.kind c.unwrap-id.result c.args.self.now told.0 told.2 told.3))

@@ -1,0 +1,39 @@
+//! The calls that tell what all open files have together.
+
+ghost use Rattle.std.specs.Prelude.{◌≡◌};
+ghost use Rattle.res_calls.specs.Counted.{counted, told_of_all};
+
+use fork_disk::store::ForkStore;
+use mac_base::error::OsErr;
+use mac_calls::{Outcome, Results};
+use res_calls::CountingCall;
+use res_files::ResourceFiles;
+
+/// Makes a call that tells what all open files have together. resFNotFound where no file is open.
+pub fn count<S: ForkStore>(files: &ResourceFiles<S>, call: CountingCall) -> Outcome
+    ensures { result ≡ counted call files.now.files }
+{
+    if files.current().is_none() {
+        return Err(OsErr::ResFNotFound);
+    }
+    told_of_all(files, call)
+}
+
+/// What open files tell: resNotFound where there is no type with the index, and addResFailed where no id from 128 on is
+/// left.
+fn told_of_all<S: ForkStore>(files: &ResourceFiles<S>, call: CountingCall) -> Outcome
+    ensures { result ≡ told_of_all call files.now.files }
+{
+    match call {
+        CountingCall::CountTypes => Ok(Results::Number(files.count_types_in_all())),
+        CountingCall::GetIndType(index) => match files.type_of_ith_in_all(index) {
+            Some(kind) => Ok(Results::Kind(kind)),
+            None => Err(OsErr::ResNotFound),
+        },
+        CountingCall::CountResources(kind) => Ok(Results::Number(files.count_in_all(kind))),
+        CountingCall::UniqueId(kind) => match files.free_id_in_all(kind) {
+            Some(id) => Ok(Results::Number(u32::from(id))),
+            None => Err(OsErr::AddResFailed),
+        },
+    }
+}
