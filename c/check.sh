@@ -1,6 +1,6 @@
 #!/bin/sh
 # check.sh PREFIX: builds the examples over the library that `make install PREFIX=..` put there, as pkg-config finds it, and compares what
-# they print: in C from C99 on, below valgrind too, and in C++ from C++11 on; by CMake; in Rust, by cargo, or else by rustc. It says which
+# they print: in C from C99 on, below valgrind too, and in C++ from C++11 on; by CMake; in Rust, by cargo and by rustc. It says which
 # tool is missing, and so what is skipped; where CI is set, a missing compiler is a failure.
 set -e
 tree=$(realpath "$1")
@@ -74,8 +74,15 @@ if here cmake && here pkg-config; then
 fi
 if here cargo && here pkg-config; then
     (cd rust && CARGO_TARGET_DIR=$room/cargo cargo test --quiet --offline --locked)
-elif compiler rustc; then
+fi
+# over the library as it is installed, without cargo; and the guest's emulator, whose processor is the one in C
+if compiler rustc; then
     rustc --edition 2024 --crate-type lib --crate-name macheap rust/src/lib.rs -o "$room/libmacheap.rlib"
     rustc --edition 2024 --extern "macheap=$room/libmacheap.rlib" emulator.rs -L "$tree/lib" -l static=macheap -o "$room/emulator"
     prints "$room/emulator"
+    $cc -std=c99 -O2 -c "$guest/m68k.c" -o "$room/m68k.o"
+    rustc --edition 2024 --extern "macheap=$room/libmacheap.rlib" "$guest/emulator.rs" -L "$tree/lib" -l static=macheap \
+        -C "link-arg=$room/m68k.o" -o "$room/guest"
+    output=$guest/emulator.output
+    prints "$room/guest"
 fi

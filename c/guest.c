@@ -1,6 +1,7 @@
-/* A zone in memory of the host that a guest writes: makes calls on it, each between mh_wake and mh_sleep, and compares
- * what C is told, and the bytes, with what is expected. It prints a line for each that differs, and ends with status 1
- * then. With the word `time` it prints how long such a call takes, and how long zones of many megabytes take to make. */
+/* A zone in memory of the host that a guest writes: makes calls on it, each between mh_wake or mh_wake_written and
+ * mh_sleep, and compares what C is told, and the bytes, with what is expected. It prints a line for each that differs, and
+ * ends with status 1 then. With the word `time` it prints how long such a call takes, and how long zones of many
+ * megabytes take to make. */
 #include "macheap.h"
 
 #include <inttypes.h>
@@ -228,6 +229,64 @@ static void random_calls(uint32_t mode, uint32_t calls) {
     ended(&guest);
 }
 
+/* One bit of structure inside a range is changed: the zone doesn't wake, and no byte has changed. */
+static void refused(Guest *guest, const uint8_t *bits, const MhWritten *written, uint32_t count) {
+    const MhWritten *range = &written[below(count)];
+    uint8_t change = (uint8_t)(1 << below(8));
+    uint32_t at = range->from + below(range->count);
+    if (at >= guest->memory.length || !(bits[at] & change)) return;
+    ram[at] ^= change;
+    memcpy(before, ram, guest->memory.length);
+    IS(mh_wake_written(&guest->zone, &guest->asleep, &guest->memory, written, count), MH_DAMAGED);
+    IS(guest->memory.start == ram && guest->memory.here, true);
+    IS(memcmp(before, ram, guest->memory.length), 0);
+    ram[at] ^= change;
+}
+
+/* A guest that writes contents and flags at random, and tells where: the zone wakes by these ranges alone, with its bytes
+ * and flags just as they are. */
+static void told_writes(uint32_t mode, uint32_t calls) {
+    enum { RANGES = 6, SIZE = 0x4000, ODD = 3 };
+    /* no bytes, and bytes that the zone hasn't */
+    static const MhWritten odd[ODD] = {{7, 0}, {UINT32_MAX, UINT32_MAX}, {SIZE + 5, 9}};
+    static uint8_t bits[LIMIT], image[LIMIT];
+    uint32_t handles[64] = {0};
+    memset(ram, 0, LIMIT);
+    Guest guest = made(SIZE, SIZE, mode);
+    WAKE(&guest);
+    mark(&guest, bits);
+    SLEEP(&guest);
+    for (uint32_t n = 0; n < calls; n++) {
+        MhWritten written[RANGES + ODD];
+        uint32_t count = below(RANGES), one = below(64), size = below(900), kind = below(6), number = 0;
+        for (uint32_t r = 0; r < count; r++) {
+            written[r] = (MhWritten){below(SIZE), 1 + below(64)};
+            for (uint32_t at = written[r].from; at < SIZE && at < written[r].from + written[r].count; at++)
+                ram[at] ^= (uint8_t)(below(256) & ~(uint32_t)bits[at]);
+        }
+        if (count) refused(&guest, bits, written, count);
+        memcpy(before, ram, SIZE);
+        memcpy(&written[count], odd, sizeof odd);
+        IS(mh_wake_written(&guest.zone, &guest.asleep, &guest.memory, written, count + below(ODD + 1)), MH_NO_ERR);
+        size_t length = 0;
+        IS(mh_image_size(&guest.zone, &length), MH_NO_ERR);
+        IS(mh_image(&guest.zone, image, length), MH_NO_ERR);
+        IS(memcmp(image, before, length), 0);
+        for (uint32_t i = 0; i < 64; i++) {
+            if (mode != 24 || !handles[i] || mh_hget_state(&guest.zone, handles[i], &number) != MH_NO_ERR) continue;
+            IS(number, before[handles[i] - BASE] & 0xE0);
+        }
+        if (kind < 2 && !handles[one]) mh_new_handle(&guest.zone, size, &handles[one]);
+        else if (kind == 2 && mh_dispose_handle(&guest.zone, handles[one]) == MH_NO_ERR) handles[one] = 0;
+        else if (kind == 3) mh_set_handle_size(&guest.zone, handles[one], size);
+        else if (kind == 4) mh_compact_mem(&guest.zone, size, &number);
+        else mh_reallocate_handle(&guest.zone, handles[one], size);
+        mark(&guest, bits);
+        SLEEP(&guest);
+    }
+    ended(&guest);
+}
+
 /* Zones of up to 2,000 blocks: one byte of structure is changed, and right again. */
 static void damages(uint32_t zones) {
     static uint8_t bits[LIMIT];
@@ -339,6 +398,7 @@ int main(int count, char **words) {
         lives(mode);
         each_byte(mode);
         random_calls(mode, 20000);
+        told_writes(mode, 20000);
     }
     flags();
     damages(600);

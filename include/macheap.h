@@ -13,11 +13,12 @@
  *    while a call on their zone runs, by another thread, say. No pointer into a window is passed to a call on its zone.
  *  - One call at a time on one zone, on one thread, and none from a signal handler. Two zones are independent.
  *  - malloc, realloc and free of the program are those of one C library.
+ *  - The ranges of mh_wake_written have every byte that was written since the zone fell asleep.
  *
  * What is tested, and answered with a code that changes nothing: any call before mh_make_zone, after mh_end_zone or while
  * the zone sleeps, mh_make_zone on a zone that is there, mh_end_zone twice (paramErr); any number as a handle, a pointer, a
- * size, an offset or an address, live or not. A zone that is forgotten keeps its memory: end it. All memory of the host is
- * taken by the call that makes a zone.
+ * size, an offset or an address, live or not, but not as a range of mh_wake_written. A zone that is forgotten keeps its
+ * memory: end it. All memory of the host is taken by the call that makes a zone.
  *
  * MACHEAP_VERSION is the version of both headers. While it begins with 0, the next one may change what is here: a program
  * is then built anew.
@@ -269,6 +270,20 @@ MhErr mh_make_zone_at(MhAsleep *asleep, MhMemory *memory, uint32_t base, uint32_
 MhErr mh_attach(MhAsleep *asleep, MhMemory *memory, uint32_t base, uint32_t size, uint32_t limit, uint32_t mode);
 /* Wakes it. paramErr where `zone` is there, where none sleeps, and where the bytes are gone or aren't as many as its limit. */
 MhErr mh_wake(MhZone *zone, MhAsleep *asleep, MhMemory *memory);
+/* Wakes it as mh_wake does, with the same answers, and compares only what was written: the zone's header, and the headers of blocks and the
+ * master pointers of blocks that have a byte in a range. `written` has `count` ranges, each of so many bytes from an offset from the
+ * zone's start on. They may overlap and reach beyond the zone, and more bytes may be in them than were written. No ranges at all say
+ * that nothing was written. Bytes that were copied to another place as they were count as not written.
+ *
+ * WHO CALLS IT PROMISES THAT SINCE THE ZONE FELL ASLEEP, OR WAS MADE, ATTACHED OR REPAIRED IN ITS SLEEP, NO BYTE WAS WRITTEN BUT IN
+ * THESE RANGES: by the guest, by the host, or by a device. WHERE A BYTE WAS WRITTEN ELSEWHERE THE LIBRARY'S BEHAVIOUR IS UNDEFINED:
+ * it may write outside the zone. A host that can't be sure calls mh_wake. After a refusal the zone has slept on: the next ranges
+ * have what was written before it, too. */
+typedef struct MhWritten {
+    uint32_t from; /* an offset from the zone's start */
+    uint32_t count;
+} MhWritten;
+MhErr mh_wake_written(MhZone *zone, MhAsleep *asleep, MhMemory *memory, const MhWritten *written, size_t count);
 /* Puts it to sleep. memLockedErr while a block is lent; paramErr for a zone that isn't in bytes of the host, where another zone
  * sleeps in `asleep`, and where `memory` has bytes. Queued answers, and what was asked, stay. */
 MhErr mh_sleep(MhZone *zone, MhAsleep *asleep, MhMemory *memory);

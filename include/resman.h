@@ -38,7 +38,7 @@ enum {
     MR_DSK_FUL_ERR = -34,      /* no fork can hold what is to be written */
     MR_IO_ERR = -36,           /* the host has no memory for a longer fork. The file is closed */
     MR_EOF_ERR = -39,          /* the fork ends too early */
-    MR_TMFO_ERR = -42,         /* eight files are open */
+    MR_TMFO_ERR = -42,         /* 255 files are open */
     MR_RES_NOT_FOUND = -192,   /* no such resource */
     MR_RES_F_NOT_FOUND = -193, /* no such resource file is open */
     MR_ADD_RES_FAILED = -194,
@@ -61,8 +61,8 @@ MhErr mr_begin(MrFiles *files);
 MhErr mr_end(MrFiles *files);
 
 /* Opens a file on a copy of this fork, and makes it the current one: OpenResFile. No bytes are a file without
- * resources; others that are no fork are eofErr or mapReadErr. Its number is `file`, from 1 to 8: eight files at most
- * are open at a time, or it is tmfoErr, and the number of one that was closed is used again. */
+ * resources; others that are no fork are eofErr or mapReadErr. Its number is `file`, the first from 1 to 255 of which
+ * no file is open: 255 files at most are open at a time, or it is tmfoErr. */
 MhErr mr_open(MrFiles *files, MhZone *zone, const uint8_t *fork, size_t length, uint32_t *file);
 /* How many bytes the fork of a file has now, and a copy of them, for the host to write: after an update they are the
  * new fork's. After mr_close_res_file they are there until the number is used again. paramErr where `length` is
@@ -72,10 +72,12 @@ MhErr mr_fork(MrFiles *files, uint32_t file, uint8_t *fork, size_t length);
 
 /* Resources. `kind` is a resource type as a number, its first letter in the highest byte: 0x54455854 for 'TEXT'.
  * mr_get_resource looks in the current file and then in those opened before it; those whose names have a 1 look in
- * the current file alone. */
+ * the current file alone. mr_get_ind_resource looks in all open files, whichever is the current one: an index from 1 on counts those of
+ * the file that was opened last, then those of the one opened before it, and so on. */
 MhErr mr_get_resource(MrFiles *files, MhZone *zone, uint32_t kind, int16_t id, uint32_t *handle);
 MhErr mr_get1_resource(MrFiles *files, MhZone *zone, uint32_t kind, int16_t id, uint32_t *handle);
 MhErr mr_get1_ind_resource(MrFiles *files, MhZone *zone, uint32_t kind, uint32_t index, uint32_t *handle);
+MhErr mr_get_ind_resource(MrFiles *files, MhZone *zone, uint32_t kind, uint32_t index, uint32_t *handle);
 MhErr mr_load_resource(MrFiles *files, MhZone *zone, uint32_t handle);
 MhErr mr_set_res_load(MrFiles *files, MhZone *zone, uint32_t load);
 MhErr mr_release_resource(MrFiles *files, MhZone *zone, uint32_t handle);
@@ -96,6 +98,13 @@ MhErr mr_count1_resources(MrFiles *files, MhZone *zone, uint32_t kind, uint32_t 
 MhErr mr_cur_res_file(MrFiles *files, MhZone *zone, uint32_t *number);
 MhErr mr_use_res_file(MrFiles *files, MhZone *zone, uint32_t file);
 MhErr mr_get1_ind_type(MrFiles *files, MhZone *zone, uint32_t index, uint32_t *kind);
+/* As mr_unique1_id, mr_count1_types, mr_count1_resources and mr_get1_ind_type, of all open files together, whichever is the current one: a
+ * type that several have counts once, and types of the file that was opened last come first, then those that only earlier files have. The
+ * id is the least from 128 on that no resource of the type has in any of them. It is addResFailed where none up to 32,767 is left. */
+MhErr mr_unique_id(MrFiles *files, MhZone *zone, uint32_t kind, uint32_t *number);
+MhErr mr_count_types(MrFiles *files, MhZone *zone, uint32_t *number);
+MhErr mr_count_resources(MrFiles *files, MhZone *zone, uint32_t kind, uint32_t *number);
+MhErr mr_get_ind_type(MrFiles *files, MhZone *zone, uint32_t index, uint32_t *kind);
 /* What a resource is called. The bytes of its name are written to `name`, which has 255 at least, or it is paramErr. */
 typedef struct MrInfo {
     uint32_t kind;

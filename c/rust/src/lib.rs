@@ -1,9 +1,11 @@
-//! The classic Macintosh's Memory Manager over one heap zone. macheap(3) says what each call does.
+//! The classic Macintosh's Memory Manager over one heap zone, and its Resource Manager over resource forks in memory. macheap(3) says
+//! what each call does, and resman(3) for `resources`.
+pub mod resources;
 pub mod sys;
 
 use std::marker::PhantomData;
 use std::{error, fmt, ptr, slice};
-use sys::{MH_NO_ASLEEP, MH_NO_ZONE, MhAnswer, MhAsk, MhAsleep, MhBlock, MhCarried, MhFault, MhMemory, MhWindow, MhZone};
+use sys::{MH_NO_ASLEEP, MH_NO_ZONE, MhAnswer, MhAsk, MhAsleep, MhBlock, MhCarried, MhFault, MhMemory, MhWindow, MhWritten, MhZone};
 
 /// The code of a call that was refused, which has changed nothing else.
 #[derive(Clone, Copy, Debug, PartialEq, Eq)]
@@ -124,6 +126,17 @@ impl Asleep {
     pub fn wake<'a>(&'a mut self, bytes: &'a mut [u8]) -> Result<Zone<'a>> {
         let mut zone = MH_NO_ZONE;
         told(unsafe { sys::mh_wake(&mut zone, &mut self.0, &mut handed_over(bytes)) })?;
+        Ok(Zone(zone, Some(&mut self.0), PhantomData))
+    }
+
+    /// Wakes the zone as `wake` does, and looks only at the bytes that were written.
+    ///
+    /// # Safety
+    /// Since the zone fell asleep, or was made, attached or repaired, no byte was written but in these ranges.
+    pub unsafe fn wake_written<'a>(&'a mut self, bytes: &'a mut [u8], written: &[MhWritten]) -> Result<Zone<'a>> {
+        let mut zone = MH_NO_ZONE;
+        let (at, count) = (written.as_ptr(), written.len());
+        told(unsafe { sys::mh_wake_written(&mut zone, &mut self.0, &mut handed_over(bytes), at, count) })?;
         Ok(Zone(zone, Some(&mut self.0), PhantomData))
     }
 

@@ -1,4 +1,6 @@
-//! What macheap.h declares beside its functions, and those functions that make, end, wake or put to sleep a zone, or are given an array.
+//! What macheap.h and resman.h declare beside their functions, and those functions that make, end, wake or put to sleep something, or are
+//! given an array.
+use crate::resources::ResType;
 use std::ptr;
 
 /// A zone, or none. It may be moved, but no copy of one with a zone is used.
@@ -26,6 +28,25 @@ pub struct MhMemory {
     pub here: bool,
 }
 
+/// Resource files, or none. They may be moved, but no copy of some is used.
+#[repr(C)]
+pub struct MrFiles {
+    live: bool,
+    held: *mut u8,
+}
+
+pub const MR_NO_FILES: MrFiles = MrFiles { live: false, held: ptr::null_mut() };
+
+pub const MR_DSK_FUL_ERR: i16 = -34;
+pub const MR_IO_ERR: i16 = -36;
+pub const MR_EOF_ERR: i16 = -39;
+pub const MR_TMFO_ERR: i16 = -42;
+pub const MR_RES_NOT_FOUND: i16 = -192;
+pub const MR_RES_F_NOT_FOUND: i16 = -193;
+pub const MR_ADD_RES_FAILED: i16 = -194;
+pub const MR_RMV_RES_FAILED: i16 = -196;
+pub const MR_RES_ATTR_ERR: i16 = -198;
+pub const MR_MAP_READ_ERR: i16 = -199;
 pub const MH_PARAM_ERR: i16 = -50;
 pub const MH_MEM_FULL_ERR: i16 = -108;
 pub const MH_NIL_HANDLE_ERR: i16 = -109;
@@ -104,6 +125,22 @@ pub struct MhFault {
     pub part: u32,
 }
 
+#[repr(C)]
+#[derive(Clone, Copy, Debug, Default)]
+pub struct MrInfo {
+    pub kind: ResType,
+    pub id: i16,
+    pub name_length: u32,
+}
+
+/// Bytes of a zone, so many from an offset from its start on.
+#[repr(C)]
+#[derive(Clone, Copy, Debug, Default)]
+pub struct MhWritten {
+    pub from: u32,
+    pub count: u32,
+}
+
 unsafe extern "C" {
     pub fn mh_make_zone(zone: &mut MhZone, base: u32, size: u32, limit: u32, mode: u32) -> i16;
     pub fn mh_make_zone_of(zone: &mut MhZone, base: u32, size: u32, limit: u32, mode: u32, bytes: *const u8, count: usize) -> i16;
@@ -111,6 +148,7 @@ unsafe extern "C" {
     pub fn mh_make_zone_at(asleep: &mut MhAsleep, memory: &mut MhMemory, base: u32, size: u32, limit: u32, mode: u32) -> i16;
     pub fn mh_attach(asleep: &mut MhAsleep, memory: &mut MhMemory, base: u32, size: u32, limit: u32, mode: u32) -> i16;
     pub fn mh_wake(zone: &mut MhZone, asleep: &mut MhAsleep, memory: &mut MhMemory) -> i16;
+    pub fn mh_wake_written(zone: &mut MhZone, asleep: &mut MhAsleep, memory: &mut MhMemory, written: *const MhWritten, count: usize) -> i16;
     pub fn mh_sleep(zone: &mut MhZone, asleep: &mut MhAsleep, memory: &mut MhMemory) -> i16;
     pub fn mh_check(asleep: &mut MhAsleep, memory: &mut MhMemory, fault: &mut MhFault) -> i16;
     pub fn mh_repair(asleep: &mut MhAsleep, memory: &mut MhMemory) -> i16;
@@ -122,4 +160,14 @@ unsafe extern "C" {
     pub fn mh_append(zone: &mut MhZone, handle: u32, bytes: *const u8, count: usize) -> i16;
     pub fn mh_image(zone: &mut MhZone, bytes: *mut u8, count: usize) -> i16;
     pub fn mh_window(zone: &mut MhZone, block: u32, window: &mut MhWindow) -> i16;
+    pub fn mr_begin(files: &mut MrFiles) -> i16;
+    pub fn mr_end(files: &mut MrFiles) -> i16;
+    pub fn mr_open(files: &mut MrFiles, zone: &mut MhZone, fork: *const u8, length: usize, file: &mut u32) -> i16;
+    pub fn mr_fork_size(files: &mut MrFiles, file: u32, length: &mut usize) -> i16;
+    pub fn mr_fork(files: &mut MrFiles, file: u32, fork: *mut u8, length: usize) -> i16;
+    pub fn mr_get_named_resource(files: &mut MrFiles, zone: &mut MhZone, kind: ResType, name: *const u8, length: usize, handle: &mut u32) -> i16;
+    pub fn mr_get1_named_resource(files: &mut MrFiles, zone: &mut MhZone, kind: ResType, name: *const u8, length: usize, handle: &mut u32) -> i16;
+    pub fn mr_get_res_info(files: &mut MrFiles, zone: &mut MhZone, handle: u32, info: &mut MrInfo, name: *mut u8, room: usize) -> i16;
+    pub fn mr_add_resource(files: &mut MrFiles, zone: &mut MhZone, handle: u32, kind: ResType, id: i16, name: *const u8, length: usize) -> i16;
+    pub fn mr_set_res_info(files: &mut MrFiles, handle: u32, id: i16, name: *const u8, length: usize) -> i16;
 }

@@ -1,5 +1,5 @@
 //! A zone that wakes in bytes of the caller, which reads and writes them while it sleeps.
-use macheap::sys::MhFault;
+use macheap::sys::{MhFault, MhWritten};
 use macheap::{Asleep, OsErr, sys};
 
 const BASE: u32 = 0x10_0000;
@@ -52,4 +52,27 @@ fn a_header_that_was_written_over_is_found_and_mended() {
     zone.peek(handle, 0, &mut seen).unwrap();
     assert_eq!(&seen, b"Hi");
     assert_eq!(zone.holder(BASE + contents + 99).map(|block| block.owner), Ok(handle));
+}
+
+#[test]
+fn only_what_was_written_is_looked_at() {
+    let mut ram = vec![0; 65536];
+    let mut asleep = Asleep::new(&mut ram, BASE, 65536, 24).unwrap();
+    let handle = asleep.wake(&mut ram).unwrap().new_handle(2).unwrap();
+    let contents = (long(&ram, handle) & 0xFF_FFFF) - BASE;
+    ram[contents as usize] = b'H';
+    ram[(handle - BASE) as usize] |= 0x80;
+    let written = [MhWritten { from: contents, count: 1 }, MhWritten { from: handle - BASE, count: 4 }];
+    // these two ranges are all that was written since the zone fell asleep
+    let mut zone = unsafe { asleep.wake_written(&mut ram, &written) }.unwrap();
+    assert_eq!(zone.hget_state(handle), Ok(sys::MH_LOCK));
+    drop(zone);
+    ram[contents as usize - 1] ^= 1;
+    let written = [MhWritten { from: contents - 1, count: 1 }];
+    assert_eq!(unsafe { asleep.wake_written(&mut ram, &written) }.err(), Some(OsErr(sys::MH_DAMAGED)));
+    ram[contents as usize - 1] ^= 1;
+    let mut zone = unsafe { asleep.wake_written(&mut ram, &written) }.unwrap();
+    let mut seen = [0];
+    zone.peek(handle, 0, &mut seen).unwrap();
+    assert_eq!(&seen, b"H");
 }

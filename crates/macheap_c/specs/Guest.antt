@@ -1,6 +1,8 @@
 -- What C is told of a zone that sleeps, and wakes in its bytes.
-use Rattle.std.specs.Prelude.{◌≡◌, ◌⊎◌, ℤ, pos, Bool, true, false, ◌==◌, length, Option, Some, None}
+use Rattle.std.specs.Prelude.{◌≡◌, ◌⊎◌, ℤ, pos, Bool, true, false, ◌==◌, length, List, Option, Some, None, ⊤}
+use Rattle.zone_records.specs.declared.structure.Written.{Written}
 use Rattle.linked_zone.specs.Structure.{HasStructure}
+use Rattle.linked_zone.specs.Written.{DifferIn}
 use Rattle.mac_base.specs.Codes.{code_of, minus}
 use Rattle.mac_base.specs.declared.error.OsErr.{OsErr}
 use Rattle.mac_base.specs.ZoneSizes.{ZoneSizes}
@@ -31,6 +33,12 @@ WakesWhere false old region code zone asleep memory = Refused None (Some old) (S
 abbrev pub IsWoken : Option State → Option State → Option Region → ℤ → Option State → Option State → Option Region → Type 0
 IsWoken None (Some old) (Some region) code zone asleep memory = WakesWhere (length region.bytes == old.zone.shape.limit) old region code zone asleep memory
 IsWoken old_zone old_asleep old_memory code zone asleep memory = Refused old_zone old_asleep old_memory code zone asleep memory
+
+-- What the host promises of a zone that sleeps, where bytes are there for it, as many as its limit: they differ only in these ranges from
+-- bytes with its structure and its flags.
+abbrev pub IsTold : Option State → Option Region → List Written → Type 0
+IsTold (Some old) (Some region) ranges = length region.bytes ≡ old.zone.shape.limit → DifferIn old.zone region.bytes ranges
+IsTold old region ranges = ⊤
 
 -- the zone sleeps, and the bytes in which it was are there again
 abbrev pub SleepsOutOf : State → Option State → Option Region → Type 0

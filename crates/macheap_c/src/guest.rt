@@ -1,8 +1,10 @@
 //! A zone that sleeps, and wakes in bytes of the host that a guest may write meanwhile.
 
-ghost use Rattle.std.specs.Prelude.{◌≡◌, None, Some};
-ghost use Rattle.held_zone.specs.Asleep.{IsAsleep, region_of};
-ghost use Rattle.macheap_c.specs.Guest.{IsMadeAt, IsPutToSleep, IsWoken};
+ghost use Rattle.std.specs.Prelude.{◌≡◌, [], None, Some, IfErr, IfOk, IfSome};
+ghost use Rattle.linked_zone.specs.Structure.{HasStructure};
+ghost use Rattle.linked_zone.specs.Written.{DifferIn};
+ghost use Rattle.held_zone.specs.Asleep.{IsAsleep, awake_in, region_of};
+ghost use Rattle.macheap_c.specs.Guest.{IsMadeAt, IsPutToSleep, IsTold, IsWoken};
 ghost use Rattle.macheap_c.specs.Life.{Ends, large_sizes_of};
 
 use crate::life::large_spec_of;
@@ -11,6 +13,7 @@ use held_zone::memory::MhMemory;
 use held_zone::session::Session;
 use held_zone::told::NO_ZONE;
 use held_zone::zone::MhZone;
+use linked_zone::Written;
 use mac_base::error::{NO_ERR, OsErr};
 use mac_base::zone_spec::ZoneSpec;
 use raw_region::Region;
@@ -96,6 +99,38 @@ pub extern "C" fn mh_wake(
 ) -> i16
     ensures { IsWoken zone.old.held.session asleep.old.zone.held.session (region_of memory.old.host) result zone.new.held.session asleep.new.zone.held.session (region_of memory.new.host) }
 {
+    wake_asleep(alloc, zone, asleep, memory, None)
+}
+
+/// Wakes the zone that sleeps as `mh_wake` does, and compares only the zone's header and the blocks that have a byte of
+/// those that the host says were written. WHO CALLS IT PROMISES THAT SINCE THE ZONE FELL ASLEEP, OR WAS MADE, ATTACHED OR
+/// REPAIRED IN ITS SLEEP, NO BYTE WAS WRITTEN BUT IN THESE RANGES. WHERE ONE WAS WRITTEN ELSEWHERE THE LIBRARY'S
+/// BEHAVIOUR IS UNDEFINED. No ranges at all say that nothing was written.
+#[unsafe(no_mangle)]
+pub extern "C" fn mh_wake_written(
+    alloc: Global,
+    zone: &mut MhZone,
+    asleep: &mut MhAsleep,
+    memory: &mut MhMemory,
+    written: &[Written],
+) -> i16
+    requires told { IsTold asleep.old.zone.held.session (region_of memory.old.host) written.now }
+    ensures { IsWoken zone.old.held.session asleep.old.zone.held.session (region_of memory.old.host) result zone.new.held.session asleep.new.zone.held.session (region_of memory.new.host) }
+{
+    wake_asleep(alloc, zone, asleep, memory, Some(written))
+}
+
+/// Wakes the zone that sleeps, if one does, where none is awake.
+fn wake_asleep(
+    alloc: Global,
+    zone: &mut MhZone,
+    asleep: &mut MhAsleep,
+    memory: &mut MhMemory,
+    written: Option<&[Written]>,
+) -> i16
+    requires told { IfSome written (λ ranges. IsTold asleep.old.zone.held.session (region_of memory.old.host) ranges.now) }
+    ensures { IsWoken zone.old.held.session asleep.old.zone.held.session (region_of memory.old.host) result zone.new.held.session asleep.new.zone.held.session (region_of memory.new.host) }
+{
     if let Some(session) = zone.take(alloc) {
         zone.put(session);
         return OsErr::ParamErr.code();
@@ -103,7 +138,7 @@ pub extern "C" fn mh_wake(
     let Some(session) = asleep.take(alloc) else {
         return NO_ZONE;
     };
-    wake(session, zone, asleep, memory)
+    wake(session, zone, asleep, memory, written)
 }
 
 /// Wakes a zone that was asleep.
@@ -112,10 +147,12 @@ fn wake(
     zone: &mut MhZone,
     asleep: &mut MhAsleep,
     memory: &mut MhMemory,
+    written: Option<&[Written]>,
 ) -> i16
     requires none { zone.old.held.session ≡ None }
     requires out { asleep.old.zone.held.session ≡ None }
     requires asleep { IsAsleep session.value }
+    requires told { IfSome written (λ ranges. IsTold (Some session.value) (region_of memory.old.host) ranges.now) }
     ensures { IsWoken None (Some session.value) (region_of memory.old.host) result zone.new.held.session asleep.new.zone.held.session (region_of memory.new.host) }
 {
     let mut session = session;
@@ -128,7 +165,7 @@ fn wake(
         memory.put(region);
         return OsErr::ParamErr.code();
     }
-    match session.wake(region) {
+    match wake_in(&mut session, region, written) {
         Ok(()) => {
             zone.put(session);
             NO_ERR
@@ -138,6 +175,20 @@ fn wake(
             memory.put(region);
             DAMAGED
         }
+    }
+}
+
+/// Wakes the zone of a session in a region, of whose bytes the host may say which were written.
+fn wake_in(session: &mut Session, region: Region, written: Option<&[Written]>) -> Result<(), Region>
+    requires asleep { IsAsleep session.old }
+    requires whole { region.lent ≡ [] }
+    requires told { IfSome written (λ ranges. DifferIn session.old.zone region.bytes ranges.now) }
+    ensures awake { IfOk result (λ u. HasStructure session.old.zone region.bytes × (session.new ≡ awake_in region session.old)) }
+    ensures damaged { IfErr result (λ given. (HasStructure session.old.zone region.bytes → ⊥) × (given ≡ region) × (session.new ≡ session.old)) }
+{
+    match written {
+        Some(written) => session.wake_written(region, written),
+        None => session.wake(region),
     }
 }
 

@@ -1,6 +1,7 @@
 //! The Memory Manager and the Resource Manager for programs in C.
 #![tactic(auto)]
 
+mod all_files;
 mod attach;
 mod bringing;
 mod bytes;
