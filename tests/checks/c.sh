@@ -1,13 +1,15 @@
 #!/bin/sh
 # Runs the C programs of c/ over the library as it is installed. These are: the calls, whose answers are compared with what is there, over
-# the shared library, and over the other with the sanitizers over the C side; the same of a zone in memory that a guest writes, with
-# 40,000 random calls and 600 zones that are damaged; of zones made of bytes that others wrote: 100,000 of random bytes, 1,200 with a byte
-# that was changed, and 40,000 random calls on zones that are made anew of their bytes; each byte of a zone that is damaged, named and
-# mended; bytes from outside the zone, with 40,000 random calls on each of two zones; 175,000 random calls, 100,000 of them on a zone that
-# a guest writes, of which macheap prints the same; and 100,000 on resource files; resources by their names, and other names for them; a zone that the host has no
-# memory for, over c/heap.c, too; a fork, of which resfork prints the same; and forks whose bytes are known, written anew. Next the
-# examples in C, C++ and Rust (c/check.sh). Then that the library is small, shows the names of its headers and no other, asks for nothing
-# but the C library's memory, and is installed below DESTDIR as in its place; and that the crate in Rust declares what the header does.
+# the shared library, and over the other with the sanitizers over the C side; the same of a zone in memory that a guest writes, with 40,000
+# random calls, as many where the host says what was written, and 600 zones that are damaged; of zones made of bytes that others wrote:
+# 100,000 of random bytes, 1,200 with a byte that was changed, and 40,000 random calls on zones that are made anew of their bytes; each
+# byte of a zone that is damaged, named and mended; bytes from outside the zone, with 40,000 random calls on each of two zones; 175,000
+# random calls, 100,000 of them on a zone that a guest writes, of which macheap prints the same; and 100,000 on resource files; resources
+# by their names, and other names for them; what all open resource files have together, after 4,000 random calls; 255 resource files at a
+# time; a zone that the host has no memory for, over c/heap.c, too; a fork, of which resfork prints the same; and forks whose bytes are
+# known, written anew. Next the examples in C, C++ and Rust (c/check.sh). Then that the library is small, shows the names of its headers
+# and no other, asks for nothing but the C library's memory, and is installed below DESTDIR as in its place; and that the crate in Rust
+# declares what the header does.
 # Words: the programs macheap and resfork, and the folder of what build_c.sh built. It needs make, a C compiler, Python, and the kit's C
 # code for the heap (RATTLE_KIT: the kit's folder).
 set -e
@@ -65,6 +67,10 @@ for seed in 1 2 3 4; do
 done
 built named -O1 -fsanitize=address,undefined
 "$room/named" "$top/crates/resfork/data/sample.rsrc" > "$room/names"
+built all_files -O1 -fsanitize=address,undefined
+"$room/all_files"
+built many_files -O1 -fsanitize=address,undefined
+"$room/many_files"
 built no_memory -O1 -fsanitize=address,undefined -Wl,--wrap=malloc
 "$room/no_memory"
 made all OUT="$room/other" HEAP="$room/other/heap.o"
