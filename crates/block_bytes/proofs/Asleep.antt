@@ -1,6 +1,6 @@
 -- A zone whose own bytes are in its record, or are copied there.
 use Rattle.std.proofs.Common.{◌≡◌, ℕ, ◌+◌, ◌-◌, ◌≤◌, ◌<◌, ◌⊎◌, inl, inr, Bool, true, false, List, [], ◌∷◌, ◌++◌, length, take, slice_index, refl, sym, ap, subst, ◌∙◌, arith, append_assoc, take_at, Option, Some, None}
-use Rattle.std.specs.Prelude.{is_some, if◌then◌else◌}
+use Rattle.std.specs.Prelude.{if◌then◌else◌}
 use Rattle.mac_base.specs.declared.block.HeadKind.{HeadKind}
 use Rattle.mac_base.specs.ZoneSizes.{ArePossible}
 use Rattle.raw_region.specs.State.{State, with_bytes}
@@ -18,16 +18,17 @@ use Rattle.block_bytes.specs.declared.header.Role.TheVariants.{Free, Fixed, Mast
 use Rattle.block_bytes.specs.declared.blocks.Blocks.TheInside.{Inside}
 use Rattle.block_bytes.specs.Layout.{RawBlock, Layout, NothingLent, header_bytes, rendered, size_of, total_of}
 use Rattle.block_bytes.specs.Reading.{IsLayout, IsWhole, layout_of}
-use Rattle.block_bytes.specs.Record.{AreWithin, IsOwn, IsUnchanged, RecordKept}
+use Rattle.block_bytes.specs.Record.{AreWithin, IsOwn, IsUnchanged, RecordKept, kept_name}
 use Rattle.block_bytes.specs.Sleeping.{FallsAsleep}
 use Rattle.block_bytes.specs.Structure.{AreWritten, EachMaster, HasHeaders, HasStructure, is_master, shown, shown_block, shown_blocks}
 use Rattle.block_bytes.proofs.Parts.{length-header, total-ends}
 use Rattle.block_bytes.proofs.ReadParts.{contents-read, head-read}
 use Rattle.block_bytes.proofs.Rendered.{total_of-append, written-whole}
 use Rattle.block_bytes.proofs.Exchanged.{exchanged}
-use Rattle.block_bytes.proofs.Recorded.{IsReadWhole, read-awake, read-whole}
+use Rattle.block_bytes.proofs.Recorded.{IsReadWhole, read-named, read-whole}
 use Rattle.block_bytes.proofs.Settled.{nothing-lent}
 use Rattle.block_bytes.proofs.Structures.{enough, shown-long, structure-from, structure-headers}
+use Rattle.mac_base.specs.ZoneState.{woken_in}
 
 -- what is a master block's role
 master-is : (r : Role) → is_master r ≡ true → r ≡ Master
@@ -139,11 +140,11 @@ own-shown heads bytes at (b ∷ bs) fits i (inr there) =
 -- a zone that wakes: its memory becomes the record, and other bytes its memory
 pub woken : (z : Inside) → IsLayout z → ArePossible z.spec → NothingLent (layout_of z) → (m : State) → m.lent ≡ [] → HasStructure (layout_of z) m.bytes
     → EachMaster (AreWritten m.bytes) z.spec.heads zone_header (layout_of z).blocks → (changed : Changed) → IsUnchanged changed
-    → IsReadWhole (record z { memory = m; kept = Some (record { region = z.memory; changed = changed }) }) (record (shown (layout_of z) m.bytes) { memory = record { region = m.name; awake = true } })
+    → IsReadWhole (record z { memory = m; kept = Some (record { region = z.memory; changed = changed }) }) (record (shown (layout_of z) m.bytes) { memory = woken_in (layout_of z).memory m.name })
 woken z whole small unlent m free same masters changed none =
     let l = layout_of z in let heads = z.spec.heads in let kept : Option Record = Some (record { region = z.memory; changed = changed }) in
-    read-whole (record z { memory = m; kept = kept }) (record (shown l m.bytes) { memory = record { region = m.name; awake = true } })
-    (read-awake (record z { memory = m }) kept (record (shown l m.bytes) { memory = record { region = m.name; awake = is_some z.kept } }) (exchanged z whole small unlent m free same))
+    read-whole (record z { memory = m; kept = kept }) (record (shown l m.bytes) { memory = woken_in (layout_of z).memory m.name })
+    (read-named (record z { memory = m }) kept (record (shown l m.bytes) { memory = record { region = m.name; kept = kept_name z.kept } }) (exchanged z whole small unlent m free same))
     (record {
       whole = nothing-lent z whole unlent;
       known = record {
@@ -174,10 +175,10 @@ module _ (z : Inside) (whole : IsWhole z) (small : ArePossible z.spec) (unlent :
   slept_so same masters =
       let a : Inside = record z { kept = None } in
       let same' : HasStructure (layout_of a) m.bytes = subst (HasStructure (layout_of a)) (sym bytes-are) same in
-      let read = exchanged a (read-awake z None (layout_of z) (record { view = refl; whole = whole.layout })).whole small unlent m (ap (λ (s : State). s.lent) writes ∙ record-whole) same' in record {
+      let read = exchanged a (read-named z None (layout_of z) (record { view = refl; whole = whole.layout })).whole small unlent m (ap (λ (s : State). s.lent) writes ∙ record-whole) same' in record {
         whole = record { layout = read.whole; kept = tt };
         asleep = record {
-          awake = ap (λ (kept : Option Record). is_some kept) is;
+          kept = ap kept_name is ∙ ap (λ (s : State). Some s.name) (sym writes);
           bytes = m.bytes;
           structure = record { all = same'.all; image = same'.image };
           masters = subst (λ (xs : List ℕ). EachMaster (AreWritten xs) z.spec.heads zone_header (layout_of z).blocks) (sym bytes-are) masters;

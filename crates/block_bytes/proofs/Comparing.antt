@@ -43,7 +43,7 @@ up_to-passed (b ∷ bs) rest others =
     ap (λ (t : Bool). b ∷ (if t then [] else up_to_master (bs ++ rest))) (not_true (is_master b.role) both.0) ∙ ap (λ (cs : List RawBlock). b ∷ cs) (up_to-passed bs rest both.1)
 
 -- a role that is a master block's
-master-is : (role : Role) → is_master role ≡ true → role ≡ Master
+pub master-is : (role : Role) → is_master role ≡ true → role ≡ Master
 master-is Free is = let e : false ≡ true = is in cc
 master-is Fixed is = let e : false ≡ true = is in cc
 master-is Master is = refl

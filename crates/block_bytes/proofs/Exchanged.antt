@@ -1,6 +1,5 @@
 -- A zone whose bytes are exchanged for others with its structure: its index stays.
 use Rattle.std.proofs.Common.{◌≡◌, ◌+◌, ◌/◌, [], ◌++◌, length, replicate, refl, sym, ap, ◌∙◌, arith, length-append, length-drop}
-use Rattle.std.specs.Prelude.{is_some}
 use Rattle.mac_base.specs.HeadKind.{zone_header}
 use Rattle.mac_base.specs.ZoneSizes.{ArePossible}
 use Rattle.mac_base.proofs.Reach.{end-small}
@@ -14,6 +13,7 @@ use Rattle.block_bytes.proofs.Rendered.{length-rendered}
 use Rattle.block_bytes.proofs.Settled.{front-fits}
 use Rattle.block_bytes.proofs.Spans.{spans-none}
 use Rattle.block_bytes.proofs.Structures.{alike-shown}
+use Rattle.block_bytes.specs.Record.{kept_name}
 
 -- how many bytes a zone has
 pub length-all : (z : Inside) → IsLayout z → length (image_of (layout_of z)) ≡ z.spec.limit
@@ -21,7 +21,7 @@ length-all z whole = ap length (sym whole.form) ∙ whole.all_bytes
 
 -- the fields stand for the zone with the contents that the bytes have
 pub exchanged : (z : Inside) → IsLayout z → ArePossible z.spec → NothingLent (layout_of z) → (m : State) → m.lent ≡ [] → HasStructure (layout_of z) m.bytes
-    → IsRead (record z { memory = m }) (record (shown (layout_of z) m.bytes) { memory = record { region = m.name; awake = is_some z.kept } })
+    → IsRead (record z { memory = m }) (record (shown (layout_of z) m.bytes) { memory = record { region = m.name; kept = kept_name z.kept } })
 exchanged z whole small unlent m free same =
     let l = layout_of z in let s = shown l m.bytes in
     let ends = total-ends z whole in let high = whole.high in let all = same.all ∙ length-all z whole in

@@ -39,5 +39,6 @@ pub mod AdoptedZone
 pub mod Begun
 pub mod Comparing
 pub mod WrittenOwn
+pub mod OwnPassed
 pub mod Alone
 pub mod Asleep

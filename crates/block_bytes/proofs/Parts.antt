@@ -1,6 +1,6 @@
 -- The bytes of a zone in parts: those before a block, its header, its body, and those behind it.
 use Rattle.std.proofs.Common.{◌≡◌, ℕ, ◌+◌, ◌-◌, ◌*◌, ◌/◌, ◌<◌, ◌≤◌, ◌^◌, Bool, List, [], ◌∷◌, ◌++◌, length, drop, sym, ap, ◌∙◌, arith, append_assoc, length-append, drop_at, IsTrue}
-use Rattle.std.specs.Prelude.{◌&&◌, is_some}
+use Rattle.std.specs.Prelude.{◌&&◌}
 use Rattle.std.specs.List.{list_all}
 use Rattle.std.proofs.lemmas.List.Folds.{list_all-append}
 use Rattle.byteorder.specs.Endian.{big_number}
@@ -20,6 +20,7 @@ use Rattle.block_bytes.proofs.Rendered.{total_of-append, length-rendered, render
 use Rattle.block_bytes.proofs.ReadBlocks.{and-true, IsPossible, IsPossible-from, rendered-more, blocks_in-rendered}
 use Rattle.block_bytes.proofs.ZoneHeads.{length-zone_head, front-read}
 use Rattle.block_bytes.proofs.Starts.{unmarked, length-unmarked, length-marks_of, marks_of-same}
+use Rattle.block_bytes.specs.Record.{kept_name}
 
 -- the fields stand for this zone, and meet the invariant
 pub record IsRead (z : Inside) (l : Layout) : Type 0 where
@@ -30,9 +31,9 @@ pub record IsRead (z : Inside) (l : Layout) : Type 0 where
 pub length-header : (l : Layout) → length (header_bytes l) ≡ zone_header
 length-header l = length-zone_head (address_behind l l.blocks) l.front (free_total l.heads l.blocks) (first_free l.heads (address_behind l []) l.blocks)
 
--- the zone with these parts, in the memory of this name, as awake as the fields
+-- the zone with these parts, in the memory of this name, with the record that the fields have
 abbrev pub zone_of : Name → Inside → ℕ → List RawBlock → List ℕ → Layout
-zone_of name z front bs spare = record { memory = record { region = name; awake = is_some z.kept }; heads = z.spec.heads; base = z.spec.base; front = front; blocks = bs; spare = spare }
+zone_of name z front bs spare = record { memory = record { region = name; kept = kept_name z.kept }; heads = z.spec.heads; base = z.spec.base; front = front; blocks = bs; spare = spare }
 
 -- the fields whose bytes and index are those of a zone stand for it
 pub image-read : (z : Inside) (name : Name) (front : ℕ) (bs : List RawBlock) (spare : List ℕ) → z.memory.name ≡ name → front < 2 ^ 32
@@ -54,7 +55,7 @@ image-read z name front bs spare named told ends possible small low high all is 
     (λ i. blocks_in (length z.memory.bytes) z.spec.heads (marked i) (inside i))
     ∙ blocks_in-rendered z.spec.heads z.spec.base (length z.memory.bytes) bs (unmarked (length spare / 4)) possible (omega arith) low (omega arith) in
     let spare-is : drop z.spec.size z.memory.bytes ≡ spare = ap (drop z.spec.size) (is ∙ sym (append_assoc (header_bytes l) bytes spare)) ∙ drop_at (header_bytes l ++ bytes) spare z.spec.size (omega arith) in
-    let read : layout_of z ≡ l = λ i. record { memory = record { region = named i; awake = is_some z.kept }; heads = z.spec.heads; base = z.spec.base; front = front-is i; blocks = blocks-is i; spare = spare-is i } in
+    let read : layout_of z ≡ l = λ i. record { memory = record { region = named i; kept = kept_name z.kept }; heads = z.spec.heads; base = z.spec.base; front = front-is i; blocks = blocks-is i; spare = spare-is i } in
     record {
       view = read;
       whole = record {

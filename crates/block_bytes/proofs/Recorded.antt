@@ -18,7 +18,7 @@ use Rattle.block_bytes.specs.ZoneHead.{free_field, lowest_field}
 use Rattle.block_bytes.specs.Layout.{RawBlock, Layout, header_of, size_of, total_of, with_blocks}
 use Rattle.block_bytes.specs.Structure.{is_master}
 use Rattle.block_bytes.specs.Reading.{IsWhole, layout_of}
-use Rattle.block_bytes.specs.Record.{AreWithin, IsNoted, IsOwn, Notes, RecordKept, all_noted, noted_ranges, own_most}
+use Rattle.block_bytes.specs.Record.{AreWithin, IsNoted, IsOwn, Notes, RecordKept, all_noted, noted_ranges, own_most, kept_name}
 use Rattle.block_bytes.proofs.Heads.{length-head_bytes}
 use Rattle.block_bytes.proofs.Owned.{IsOff, own-alike, own-contents, own-high, own-low, own-many, own-most, own-one, own-replaced, own-split}
 use Rattle.block_bytes.proofs.Parts.{IsRead, total-ends}
@@ -86,12 +86,12 @@ noted-still n None (Some y) grows i noted = absurd grows
 noted-still n (Some x) None grows i noted = absurd grows
 noted-still n (Some x) (Some y) grows i noted = grows.1 i noted
 
--- whether there is a record stays
-pub grows-awake : (n : ℕ) (a b : Option Record) → Grows n a b → is_some b ≡ is_some a
-grows-awake n None None grows = refl
-grows-awake n None (Some y) grows = absurd grows
-grows-awake n (Some x) None grows = absurd grows
-grows-awake n (Some x) (Some y) grows = refl
+-- the name of the record stays
+pub grows-named : (n : ℕ) (a b : Option Record) → Grows n a b → kept_name b ≡ kept_name a
+grows-named n None None grows = refl
+grows-named n None (Some y) grows = absurd grows
+grows-named n (Some x) None grows = absurd grows
+grows-named n (Some x) (Some y) grows = ap (λ (s : State). Some s.name) grows.0
 
 -- each own byte of blocks is noted now, or it was an own byte of others and hasn't changed
 abbrev pub OwnChange : HeadKind → List RawBlock → List RawBlock → List ℕ → List ℕ → Option Record → Type 0
@@ -130,9 +130,9 @@ own-change heads before old new behind bytes others kept place is same noted sta
 ]
 
 -- the fields with another record stand for the same zone, awake or not
-pub read-kept : (z : Inside) (kept : Option Record) (l : Layout) → IsRead z l → is_some kept ≡ is_some z.kept → IsRead (record z { kept = kept }) l
+pub read-kept : (z : Inside) (kept : Option Record) (l : Layout) → IsRead z l → kept_name kept ≡ kept_name z.kept → IsRead (record z { kept = kept }) l
 read-kept z kept l read same = record {
-  view = (λ i. record (layout_of z) { memory = record { region = z.memory.name; awake = same i } }) ∙ read.view;
+  view = (λ i. record (layout_of z) { memory = record { region = z.memory.name; kept = same i } }) ∙ read.view;
   whole = let w = read.whole in record {
     all_bytes = w.all_bytes;
     low = w.low;
@@ -162,7 +162,7 @@ read-whole z l read kept = record {
 pub changed-whole : (z m : Inside) (l : Layout) (new : Option Record) → IsWhole z → m.kept ≡ z.kept → m.spec.heads ≡ z.spec.heads → m.spec.limit ≡ z.spec.limit → IsRead m l
     → Grows (length z.memory.bytes) z.kept new → OwnChange z.spec.heads (layout_of z).blocks l.blocks z.memory.bytes m.memory.bytes new → IsReadWhole (record m { kept = new }) l
 changed-whole z m l new whole kept heads limit read grows change =
-    read-whole (record m { kept = new }) l (read-kept m new l read (grows-awake (length z.memory.bytes) z.kept new grows ∙ ap (λ (k : Option Record). is_some k) (sym kept)))
+    read-whole (record m { kept = new }) l (read-kept m new l read (grows-named (length z.memory.bytes) z.kept new grows ∙ ap kept_name (sym kept)))
     (subst (λ (h : HeadKind). RecordKept h l.blocks m.memory.bytes new) (sym heads)
     (kept-changed z.spec.heads (layout_of z).blocks l.blocks z.memory.bytes m.memory.bytes z.kept new grows (read.whole.all_bytes ∙ limit ∙ sym whole.layout.all_bytes) change whole.kept))
 
@@ -292,10 +292,10 @@ grows-if n false old new is = subst (λ (k : Option Record). Grows n old k) (sym
 pub noted-if : (own : Bool) (old new : Option Record) → new ≡ (if own then all_noted old else old) → own ≡ true → (i : ℕ) → NotedIn new i
 noted-if own old new is all = all-noted old new (is ∙ ap (λ (t : Bool). if t then all_noted old else old) all)
 
--- the fields with another record stand for the zone as awake as this says
-pub read-awake : (z : Inside) (kept : Option Record) (l : Layout) → IsRead z l → IsRead (record z { kept = kept }) (record l { memory = record { region = l.memory.region; awake = is_some kept } })
-read-awake z kept l read = record {
-  view = ap (λ (m : Layout). record m { memory = record { region = m.memory.region; awake = is_some kept } }) read.view;
+-- the fields with another record stand for the zone with this one's name
+pub read-named : (z : Inside) (kept : Option Record) (l : Layout) → IsRead z l → IsRead (record z { kept = kept }) (record l { memory = record { region = l.memory.region; kept = kept_name kept } })
+read-named z kept l read = record {
+  view = ap (λ (m : Layout). record m { memory = record { region = m.memory.region; kept = kept_name kept } }) read.view;
   whole = let w = read.whole in record {
     all_bytes = w.all_bytes;
     low = w.low;
@@ -340,6 +340,11 @@ module _ (z : Inside) (whole : IsWhole z) {memory : State} {index : List ℕ} {l
       replaced-whole z whole before old new behind is read kept (grows-noted (length z.memory.bytes) z.kept kept start count notes (omega arith)) start there
       (λ i own. let low = own-low z.spec.heads start new i own in let high = own-high z.spec.heads start new i own in range-noted z.kept kept start count notes i low (omega arith))
       (λ i above off. stay i above (subst (λ (n : ℕ). IsOff start n i) (same ∙ sym long) off))
+
+-- a record is there where its name is
+pub some-named : (k : Option Record) → is_some (kept_name k) ≡ is_some k
+some-named None = refl
+some-named (Some r) = refl
 
 -- the same, where this is looked at only if there is a record
 pub noted-awake : (own master : Bool) (old new : Option Record) → own ≡ (is_some old && master) → new ≡ (if own then all_noted old else old) → master ≡ true → (i : ℕ) → NotedIn new i

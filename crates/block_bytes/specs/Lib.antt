@@ -9,6 +9,7 @@ pub mod WritingBack
 pub mod Copying
 pub mod Walk
 pub mod Structure
+pub mod FourWalks
 pub mod Adopting
 pub mod Record
 pub mod Sleeping

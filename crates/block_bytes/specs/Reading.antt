@@ -1,5 +1,5 @@
 -- How the blocks are read off the bytes of a zone, and off the index which of them are lent.
-use Rattle.std.specs.Prelude.{◌≡◌, ℕ, zero, suc, ◌+◌, ◌-◌, ◌/◌, ◌≤◌, ◌&&◌, ◌==◌, Bool, if◌then◌else◌, IsTrue, List, [], ◌∷◌, length, drop, slice_index, is_some}
+use Rattle.std.specs.Prelude.{◌≡◌, ℕ, zero, suc, ◌+◌, ◌-◌, ◌/◌, ◌≤◌, ◌&&◌, ◌==◌, Bool, if◌then◌else◌, IsTrue, List, [], ◌∷◌, length, drop, slice_index, Option}
 use Rattle.std.specs.List.{list_all}
 use Rattle.byteorder.specs.Endian.{big_number}
 use Rattle.mac_base.specs.declared.block.HeadKind.{HeadKind}
@@ -7,14 +7,14 @@ use Rattle.mac_base.specs.HeadKind.{head_size, zone_header}
 use Rattle.mac_base.specs.ZoneSizes.{ZoneSizes}
 use Rattle.raw_region.specs.Bytes.{part}
 use Rattle.raw_region.specs.Span.{Span}
-use Rattle.raw_region.specs.State.{State}
+use Rattle.raw_region.specs.State.{Name, State}
 use Rattle.block_bytes.specs.declared.header.Header.{Header}
 use Rattle.block_bytes.specs.declared.blocks.Blocks.TheInside.{Inside}
 use Rattle.block_bytes.specs.Head.{header_in}
 use Rattle.block_bytes.specs.ZoneHead.{front_field}
 use Rattle.block_bytes.specs.Layout.{RawBlock, Layout, raw_block, size_of, is_possible, image_of, address_behind, lent_count, most_lent}
 use Rattle.block_bytes.specs.Starts.{lent_mark, starts_of}
-use Rattle.block_bytes.specs.Record.{RecordKept}
+use Rattle.block_bytes.specs.Record.{RecordKept, kept_name}
 
 -- the block whose header, of so many bytes, stands at the front of these bytes
 abbrev pub raw_block_in : HeadKind → Header → Bool → List ℕ → RawBlock
@@ -27,10 +27,10 @@ blocks_in (suc n) heads marks [] = []
 blocks_in (suc n) heads marks (x ∷ xs) = let h = header_in heads (x ∷ xs) in
     raw_block_in heads h (slice_index marks 0 == lent_mark) (x ∷ xs) ∷ blocks_in n heads (drop (h.size / 4) marks) (drop h.size (x ∷ xs))
 
--- the zone that the memory is, which is awake or not
-abbrev pub layout_in : ZoneSizes → State → List ℕ → Bool → Layout
-layout_in spec memory index awake = record {
-  memory = record { region = memory.name; awake = awake };
+-- the zone that the memory is, with the name of its record if it is awake
+abbrev pub layout_in : ZoneSizes → State → List ℕ → Option Name → Layout
+layout_in spec memory index kept = record {
+  memory = record { region = memory.name; kept = kept };
   heads = spec.heads;
   base = spec.base;
   front = big_number 4 (part memory.bytes front_field 4);
@@ -40,7 +40,7 @@ layout_in spec memory index awake = record {
 
 -- what the fields stand for
 abbrev pub layout_of : Inside → Layout
-layout_of z = layout_in z.spec z.memory z.index (is_some z.kept)
+layout_of z = layout_in z.spec z.memory z.index (kept_name z.kept)
 
 -- the ranges of the contents of lent blocks, the first block at an offset
 abbrev pub lent_spans : HeadKind → ℕ → List RawBlock → List Span

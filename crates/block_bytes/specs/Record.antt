@@ -1,7 +1,8 @@
 -- The record of a zone that is awake, and what it has of the zone's own bytes.
-use Rattle.std.specs.Prelude.{◌≡◌, ℕ, ◌+◌, ◌≤◌, ◌<◌, ◌⊎◌, true, false, IsTrue, List, [], ◌∷◌, length, take, slice_index, Option, Some, None, ⊤, if◌then◌else◌}
+use Rattle.std.specs.Prelude.{◌≡◌, ℕ, ◌+◌, ◌≤◌, ◌<◌, ◌⊎◌, true, false, IsTrue, List, [], ◌∷◌, length, take, slice_index, Option, Some, None, option_map, ⊤, if◌then◌else◌}
 use Rattle.mac_base.specs.declared.block.HeadKind.{HeadKind}
 use Rattle.mac_base.specs.HeadKind.{head_size, zone_header}
+use Rattle.raw_region.specs.State.{Name}
 use Rattle.block_bytes.specs.declared.header.Header.{Header}
 use Rattle.block_bytes.specs.declared.record.Range.{Range}
 use Rattle.block_bytes.specs.declared.record.Changed.{Changed}
@@ -44,6 +45,10 @@ Notes None None start n = ⊤
 Notes None (Some new) start n = ⊥
 Notes (Some old) None start n = ⊥
 Notes (Some old) (Some new) start n = (new.region ≡ old.region) × Adds old.changed new.changed start n
+
+-- the name of the region that a record is, if there is one
+abbrev pub kept_name : Option Record → Option Name
+kept_name = option_map (λ (r : Record). r.region.name)
 
 -- a record by which all bytes are taken to have changed
 abbrev pub all_noted : Option Record → Option Record

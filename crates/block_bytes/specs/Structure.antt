@@ -93,6 +93,21 @@ abbrev pub EachMaster : (ℕ → List ℕ → Type 0) → HeadKind → ℕ → L
 EachMaster P heads at [] = ⊤
 EachMaster P heads at (b ∷ bs) = (b.role ≡ Master → P (at + head_size heads) b.contents) × EachMaster P heads (at + size_of heads b) bs
 
+-- the own bytes of blocks are in their places among bytes, those of the first at an offset
+pub record HasOwn (l : Layout) (bytes : List ℕ) (at : ℕ) (bs : List RawBlock) : Type 0 where
+  pub headers : HasHeaders l bytes at bs
+  pub masters : EachMaster (AreWritten bytes) l.heads at bs
+
+-- so are those of the blocks from an offset up to another
+pub record OwnBetween (l : Layout) (bytes : List ℕ) (from to : ℕ) : Type 0 where
+  pub before : List RawBlock
+  pub passed : List RawBlock
+  pub behind : List RawBlock
+  pub blocks : l.blocks ≡ before ++ (passed ++ behind)
+  pub start : from ≡ zone_header + total_of l.heads before
+  pub end : to ≡ from + total_of l.heads passed
+  pub own : HasOwn l bytes from passed
+
 -- the header of a block has the byte at an offset
 pub record InHeader (l : Layout) (at : ℕ) : Type 0 where
   pub start : ℕ

@@ -145,7 +145,7 @@ fn count_free(
 }
 
 impl Blocks {
-    ghost use Rattle.std.specs.Prelude.{◌≡◌, ◌+◌, ◌-◌, ◌<◌, ◌≤◌, ◌^◌, ◌++◌, ◌∷◌, ◌↔◌, ◌&&◌, [], length, take, drop, IfOk, IfSome, IfNone, IsTrue, IsFalse};
+    ghost use Rattle.std.specs.Prelude.{◌≡◌, ◌+◌, ◌-◌, ◌<◌, ◌≤◌, ◌^◌, ◌++◌, ◌∷◌, ◌↔◌, ◌&&◌, [], length, take, drop, is_some, IfOk, IfSome, IfNone, IsTrue, IsFalse};
     ghost use Rattle.std.specs.Borrow.{sem};
     ghost use Rattle.std.specs.List.{list_all};
     ghost use Rattle.byteorder.specs.Endian.{big_bytes, big_number};
@@ -670,7 +670,7 @@ impl Blocks {
     /// Whether the zone is awake, and the block at an address a master block.
     fn has_own_contents(&self, at: u32) -> bool
         requires { BlockAt self.now at }
-        ensures { (b : BlockAt self.now at) → result ≡ (self.now.memory.awake && is_master b.here.role) }
+        ensures { (b : BlockAt self.now at) → result ≡ (is_some self.now.memory.kept && is_master b.here.role) }
     {
         self.kept.is_some() && self.entry_at(at).role.is_master()
     }

@@ -5,6 +5,7 @@ mod adopting;
 mod blocks;
 mod header;
 mod memory;
+mod own;
 mod record;
 mod sleeping;
 mod structure;

@@ -46,6 +46,14 @@ pub(crate) fn write_at(bytes: &mut [u8], start: usize, others: &[u8])
     bytes[start..start + others.len()].copy_from_slice(others);
 }
 
+/// Whether bytes have others at an offset.
+pub(crate) fn has_at(bytes: &[u8], start: usize, others: &[u8]) -> bool
+    requires { start + length others.now ≤ length bytes.now }
+    ensures { IsTrue result ↔ part bytes.now start (length others.now) ≡ others.now }
+{
+    &bytes[start..start + others.len()] == others
+}
+
 /// The bytes of a zone from its start to its limit. A contract sees what it sees of the region.
 pub(crate) struct Memory {
     region: Region,

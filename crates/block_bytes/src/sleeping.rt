@@ -1,7 +1,7 @@
 //! A zone that sleeps and wakes. It wakes in bytes of others with its structure, and the region that it was in becomes the
 //! record of this structure. It falls asleep in its record, over which the own bytes are copied that changed since.
 
-ghost use Rattle.std.specs.Prelude.{◌≡◌, [], IfNone, IfSome, IsFalse, false};
+ghost use Rattle.std.specs.Prelude.{◌≡◌, [], IfNone, IfSome, None, is_some};
 ghost use Rattle.mac_base.specs.HeadKind.{zone_header};
 ghost use Rattle.mac_base.specs.ZoneState.{woken_in};
 ghost use Rattle.block_bytes.specs.Layout.{NothingLent, image_of};
@@ -18,7 +18,7 @@ use std::mem;
 impl Blocks {
     /// Whether the zone is awake: in bytes of others, with a record of its structure kept elsewhere.
     pub fn is_awake(&self) -> bool
-        ensures { result ≡ self.now.memory.awake }
+        ensures { result ≡ is_some self.now.memory.kept }
     {
         self.kept.is_some()
     }
@@ -28,11 +28,11 @@ impl Blocks {
     /// again by copies of what changes until then, without a look at each block.
     pub fn wake(&mut self, region: Region)
         requires nothing_lent { NothingLent self.old }
-        requires asleep { IsFalse self.old.memory.awake }
+        requires asleep { self.old.memory.kept ≡ None }
         requires whole { region.lent ≡ [] }
         requires same { HasStructure self.old region.bytes }
         requires masters { EachMaster (AreWritten region.bytes) self.old.heads zone_header self.old.blocks }
-        ensures { self.new ≡ record (shown self.old region.bytes) { memory = woken_in region.name } }
+        ensures { self.new ≡ record (shown self.old region.bytes) { memory = woken_in self.old.memory region.name } }
     {
         let _base = self.spec.base();
         let before = mem::replace(&mut self.memory, Memory::of(region));
@@ -51,7 +51,7 @@ impl Blocks {
         ensures name { IfSome result (λ region. region.name ≡ self.old.memory.region) }
         ensures bytes { IfSome result (λ region. region.bytes ≡ image_of self.old) }
         ensures lent { IfSome result (λ region. region.lent ≡ []) }
-        ensures none { IfNone result ((self.old.memory.awake ≡ false) × (self.new ≡ self.old)) }
+        ensures none { IfNone result ((self.old.memory.kept ≡ None) × (self.new ≡ self.old)) }
     {
         let _base = self.spec.base();
         let Record {

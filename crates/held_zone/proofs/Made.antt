@@ -31,14 +31,14 @@ holds-made old new held call asks (Some outcome) steps same keeps holds = Holds-
 holds-made old new held call asks None steps same keeps holds = Holds-kept old new held keeps (ap (λ (z : ZoneState). z.heap.table.lent) same) holds
 
 -- a call that was made took its answers from the front of those that were left
-pub made-queued : (old new : State) (call : MemoryCall) (made : Option Outcome) → IfSome made (λ outcome. MemorySteps old.zone call new.asks outcome new.zone) → taken new.asks new.left ≡ old.left → OutOfAnswers new.asks new.left → new.loans ≡ old.loans → new.guest ≡ old.guest → KeepsLoans old.zone new.zone
+pub made-queued : (old new : State) (call : MemoryCall) (made : Option Outcome) → IfSome made (λ outcome. MemorySteps old.zone call new.asks outcome new.zone) → taken new.asks new.left ≡ old.left → OutOfAnswers new.asks new.left → new.loans ≡ old.loans → KeepsLoans old.zone new.zone
     → IfSome made (λ outcome. Makes old call outcome new)
-made-queued old new call (Some outcome) steps took out loans guest keeps = (exact-queued old.zone.shape old.zone.heap call outcome new.zone.heap new.asks new.left old.left steps.1 took out, steps.2, loans, guest, stays_lent keeps)
-made-queued old new call None steps took out loans guest keeps = tt
+made-queued old new call (Some outcome) steps took out loans keeps = (exact-queued old.zone.shape old.zone.heap call outcome new.zone.heap new.asks new.left old.left steps.1 took out, steps.2, loans, stays_lent keeps)
+made-queued old new call None steps took out loans keeps = tt
 
 -- the state of these parts
 abbrev pub state : ZoneState → Loans → List Answer → List Ask → State
-state zone loans left asks = record { zone = zone; loans = loans; left = left; asks = asks; guest = zone.memory.awake }
+state zone loans left asks = record { zone = zone; loans = loans; left = left; asks = asks }
 
 -- a call that wasn't made changed nothing but what was asked
 pub not-made : (zone new : ZoneState) (loans : Loans) (source left : List Answer) (before asks : List Ask) (made : Option Outcome) → IfNone made (new ≡ zone) → IfNone made (asks ≡ []) → taken asks left ≡ source

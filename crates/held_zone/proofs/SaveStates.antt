@@ -1,5 +1,5 @@
 -- A zone that is made of its bytes is the zone that it was, and wakes in them so.
-use Rattle.std.proofs.Common.{◌≡◌, ◌-◌, ℕ, true, List, [], ◌++◌, length, replicate, refl, ap}
+use Rattle.std.proofs.Common.{◌≡◌, ◌-◌, ℕ, List, [], ◌++◌, length, replicate, refl, ap}
 use Rattle.linked_zone.specs.Adopting.{IsZoneIn}
 use Rattle.linked_zone.specs.Image.{IsImage}
 use Rattle.linked_zone.specs.Sizes.{sizes_of}
@@ -27,9 +27,9 @@ restored_same old image new sound none possible long is made =
 
 -- bytes have the structure of the zone that is attached in them, and it is awake in them with the contents and flags that it had
 pub attached_wakes : (sizes : ZoneSizes) (r : Region) (s : State) → IsZoneIn sizes r.bytes s.zone
-    → HasStructure s.zone r.bytes × (awake_in r s ≡ record s { zone = record s.zone { memory = woken_in r.name }; guest = true })
+    → HasStructure s.zone r.bytes × (awake_in r s ≡ record s { zone = record s.zone { memory = woken_in s.zone.memory r.name } })
 attached_wakes sizes r s zone =
     let same = own-shown s.zone zone.sound zone.nothing_lent r.bytes zone.inside in (
       own-structure s.zone zone.sound zone.nothing_lent r.bytes zone.inside,
-      ap (λ (z : ZoneState). record s { zone = record z { memory = woken_in r.name }; guest = true }) same,
+      ap (λ (z : ZoneState). record s { zone = record z { memory = woken_in s.zone.memory r.name } }) same,
     )

@@ -36,7 +36,7 @@ Holds-asleep old new held none none' holds = subst (λ (hs : List Held). Holds n
 
 -- a zone that was to wake in a region is what the region's bytes show, or as it was
 abbrev Wakes : ZoneState → Region → ZoneState → Type 0
-Wakes old r new = HasStructure old r.bytes × (new ≡ record (shown old r.bytes) { memory = woken_in r.name })
+Wakes old r new = HasStructure old r.bytes × (new ≡ record (shown old r.bytes) { memory = woken_in old.memory r.name })
 
 abbrev SleepsOn : ZoneState → Region → ZoneState → Region → Type 0
 SleepsOn old r new given = (HasStructure old r.bytes → ⊥) × (given ≡ r) × (new ≡ old)
@@ -56,5 +56,5 @@ unwoken_as (Ok u) old new r loans left asks stays = tt
 unwoken_as (Err given) old new r loans left asks stays = (stays.0, stays.1, λ i. state (stays.2 i) loans left asks)
 
 -- a zone that falls asleep and wakes in the same bytes is as it was
-pub as_it_was : (old : State) (r : Region) (new : State) → FallsAsleep old r new → IsInRegion old r → old.guest ≡ true → awake_in r new ≡ old
-as_it_was old r new falls inside guest = λ i. record { zone = record (falls.as_before i) { memory = sym inside.memory i }; loans = falls.loans i; left = falls.left i; asks = falls.asks i; guest = sym guest i }
+pub as_it_was : (old : State) (r : Region) (new : State) → FallsAsleep old r new → IsInRegion old r → awake_in r new ≡ old
+as_it_was old r new falls inside = λ i. record { zone = record (falls.as_before i) { memory = record { region = sym inside.memory i; kept = sym falls.kept i } }; loans = falls.loans i; left = falls.left i; asks = falls.asks i }

@@ -1,5 +1,5 @@
 -- A zone that sleeps, and wakes in bytes of the host.
-use Rattle.std.specs.Prelude.{◌≡◌, true, false, if◌then◌else◌, not, nat_lt, [], length, Option, Some, None, option_map}
+use Rattle.std.specs.Prelude.{◌≡◌, if◌then◌else◌, not, nat_lt, [], length, Option, Some, None, is_some, option_map}
 use Rattle.mac_base.specs.declared.error.OsErr.{OsErr}
 use Rattle.mac_base.specs.declared.error.OsErr.TheVariants.{MemLockedErr, ParamErr}
 use Rattle.mac_base.specs.ZoneState.{woken_in}
@@ -16,23 +16,24 @@ region_of h = option_map (λ bytes. record { name = h.at; bytes = bytes; lent = 
 -- a zone sleeps: nothing of it is lent, and it is in memory of its own
 pub record IsAsleep (s : State) : Type 0 where
   pub nothing_lent : s.zone.heap.table.lent ≡ []
-  pub own : s.guest ≡ false
+  pub own : s.zone.memory.kept ≡ None
 
 -- the zone awake in a region that has its structure: with the contents and flags that the region's bytes have
 abbrev pub awake_in : Region → State → State
-awake_in r s = record s { zone = record (shown s.zone r.bytes) { memory = woken_in r.name }; guest = true }
+awake_in r s = record s { zone = record (shown s.zone r.bytes) { memory = woken_in s.zone.memory r.name } }
 
 -- the zone is in a region, as it wakes or falls asleep: with nothing lent
 pub record IsInRegion (s : State) (r : Region) : Type 0 where
   pub bytes : IsIn s.zone r.bytes
-  pub memory : s.zone.memory ≡ woken_in r.name
+  pub memory : s.zone.memory.region ≡ r.name
   pub whole : r.lent ≡ []
 
--- the new zone is the old one asleep: it differs in the contents of blocks, which nobody reads, and in the memory that
--- it is in. The region has its structure, and what the region's bytes show of it is the old zone
+-- the new zone is the old one asleep: it differs in the contents of blocks, which nobody reads, and is in the memory again
+-- that was kept as its record. The region has its structure, and what the region's bytes show of it is the old zone
 pub record FallsAsleep (old : State) (r : Region) (new : State) : Type 0 where
   pub zone : DifferInContents old.zone new.zone
   pub structure : HasStructure new.zone r.bytes
+  pub kept : old.zone.memory.kept ≡ Some new.zone.memory.region
   pub as_before : shown new.zone r.bytes ≡ record old.zone { memory = new.zone.memory }
   pub loans : new.loans ≡ old.loans
   pub left : new.left ≡ old.left
@@ -51,4 +52,4 @@ pub record IsSettled (s : State) (given r : Region) : Type 0 where
 
 -- a zone that isn't in bytes of the host doesn't fall asleep: paramErr; nor one of which a block is lent: memLockedErr
 abbrev pub sleep_refusal : State → Option OsErr
-sleep_refusal s = if not s.guest then Some ParamErr else if nat_lt 0 (length s.zone.heap.table.lent) then Some MemLockedErr else None
+sleep_refusal s = if not (is_some s.zone.memory.kept) then Some ParamErr else if nat_lt 0 (length s.zone.heap.table.lent) then Some MemLockedErr else None

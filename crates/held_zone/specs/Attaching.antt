@@ -1,5 +1,5 @@
 -- A zone that is made of bytes which others wrote.
-use Rattle.std.specs.Prelude.{◌≡◌, ℕ, false, List, []}
+use Rattle.std.specs.Prelude.{◌≡◌, ℕ, None, List, []}
 use Rattle.mac_base.specs.Sound.{Sound}
 use Rattle.mac_base.specs.ZoneSizes.{ZoneSizes}
 use Rattle.mac_base.specs.ZoneState.{ZoneState}
@@ -19,4 +19,4 @@ pub record IsIdle (s : State) : Type 0 where
   pub loans : s.loans ≡ []
   pub left : s.left ≡ []
   pub asks : s.asks ≡ []
-  pub own : s.guest ≡ false
+  pub own : s.zone.memory.kept ≡ None

@@ -32,7 +32,7 @@ impl Model for Session {
 
     ghost Value = { State };
 
-    ghost view = { λ s. record { zone = s.memory; loans = loans_of s.loans; left = s.answers.left; asks = s.answers.asks; guest = s.memory.memory.awake } };
+    ghost view = { λ s. record { zone = s.memory; loans = loans_of s.loans; left = s.answers.left; asks = s.answers.asks } };
 
     ghost invariant = { λ s. Holds s.memory s.loans };
 }

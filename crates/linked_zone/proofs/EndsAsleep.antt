@@ -29,7 +29,7 @@ module _ (r : ZoneRecords) (z : ZoneState) (held : Stands r z) where
 
     pub falls-from : records.FallsAsleep r n → FallsAsleep z (state_in n)
     falls-from falls = record {
-      awake = ap (λ (r : ZoneRecords). r.memory.awake) (sym held.blocks) ∙ falls.awake;
+      kept = ap (λ (r : ZoneRecords). r.memory.kept) (sym held.blocks) ∙ falls.kept;
       bytes = falls.bytes;
       structure = has-from r z held falls.bytes falls.structure;
       flags = same-from r z held falls.bytes falls.flags;
@@ -38,11 +38,11 @@ module _ (r : ZoneRecords) (z : ZoneState) (held : Stands r z) where
     }
 
     -- whether it fell asleep or not, its blocks are those of a zone
-    pub inside-asleep : {R : Type 0} (result : Option R) → IfSome result (λ region. records.FallsAsleep r n) → IfNone result ((r.memory.awake ≡ false) × (n ≡ r)) → StandsAsRead (record { records = n })
+    pub inside-asleep : {R : Type 0} (result : Option R) → IfSome result (λ region. records.FallsAsleep r n) → IfNone result ((r.memory.kept ≡ None) × (n ≡ r)) → StandsAsRead (record { records = n })
     inside-asleep None falls stays = subst (λ (r : ZoneRecords). StandsAsRead (record { records = r })) (sym stays.1) (kept r z held).inside
     inside-asleep (Some region) falls stays = (asleep-kept falls).inside
 
     -- a zone that didn't fall asleep is as it was
-    pub stays-from : {R : Type 0} (result : Option R) → IfNone result ((r.memory.awake ≡ false) × (n ≡ r)) → IfNone result ((z.memory.awake ≡ false) × (state_in n ≡ z))
-    stays-from None stays = (ap (λ (r : ZoneRecords). r.memory.awake) (sym held.blocks) ∙ stays.0, ap state_in stays.1 ∙ (kept r z held).same)
+    pub stays-from : {R : Type 0} (result : Option R) → IfNone result ((r.memory.kept ≡ None) × (n ≡ r)) → IfNone result ((z.memory.kept ≡ None) × (state_in n ≡ z))
+    stays-from None stays = (ap (λ (r : ZoneRecords). r.memory.kept) (sym held.blocks) ∙ stays.0, ap state_in stays.1 ∙ (kept r z held).same)
     stays-from (Some region) stays = tt

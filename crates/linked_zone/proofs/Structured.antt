@@ -184,7 +184,7 @@ module _ (z : ZoneState) (sound : Sound z.shape z.heap) (nothing_lent : z.heap.t
   differ-asleep w falls = subst (DifferInContents z) (sym falls.zone) (differ falls.bytes w.memory falls.structure falls.flags)
 
   -- and one that was to fall asleep
-  pub differ-slept : {R : Type 0} (result : Option R) (w : ZoneState) → IfSome result (λ region. FallsAsleep z w) → IfNone result ((z.memory.awake ≡ false) × (w ≡ z)) → DifferInContents z w
+  pub differ-slept : {R : Type 0} (result : Option R) (w : ZoneState) → IfSome result (λ region. FallsAsleep z w) → IfNone result ((z.memory.kept ≡ None) × (w ≡ z)) → DifferInContents z w
   differ-slept None w falls stays = subst (DifferInContents z) (sym stays.1) (record { shape = refl; heap = refl })
   differ-slept (Some region) w falls stays = differ-asleep w falls
 

@@ -8,7 +8,7 @@ use raw_region::Region;
 use zone_records::{Agreement, Part, Written};
 
 impl LinkedZone {
-    ghost use Rattle.std.specs.Prelude.{◌≡◌, [], length, IfSome, IfNone, IsFalse, false};
+    ghost use Rattle.std.specs.Prelude.{◌≡◌, [], length, is_some, IfSome, IfNone, None};
     ghost use Rattle.mac_base.specs.ZoneState.{woken_in};
     ghost use Rattle.linked_zone.specs.Faults.{IsFirstFault};
     ghost use Rattle.linked_zone.specs.Parts.{ContentsStay, OthersStay};
@@ -44,7 +44,7 @@ impl LinkedZone {
 
     /// Whether the zone is awake: in bytes of others, with a record of its structure kept elsewhere.
     pub fn is_awake(&self) -> bool
-        ensures { result ≡ self.now.memory.awake }
+        ensures { result ≡ is_some self.now.memory.kept }
     {
         self.records.is_awake()
     }
@@ -53,11 +53,11 @@ impl LinkedZone {
     /// from then on. The region that it was in becomes the record of its structure.
     pub fn wake(&mut self, region: Region)
         requires nothing_lent { self.old.heap.table.lent ≡ [] }
-        requires asleep { IsFalse self.old.memory.awake }
+        requires asleep { self.old.memory.kept ≡ None }
         requires whole { region.lent ≡ [] }
         requires same { HasStructure self.old region.bytes }
         requires flags { SameFlags self.old region.bytes }
-        ensures { self.new ≡ record (shown self.old region.bytes) { memory = woken_in region.name } }
+        ensures { self.new ≡ record (shown self.old region.bytes) { memory = woken_in self.old.memory region.name } }
     {
         self.records.wake(region);
     }
@@ -70,7 +70,7 @@ impl LinkedZone {
         ensures name { IfSome result (λ region. region.name ≡ self.old.memory.region) }
         ensures bytes { IfSome result (λ region. IsIn self.old region.bytes) }
         ensures lent { IfSome result (λ region. region.lent ≡ []) }
-        ensures none { IfNone result ((self.old.memory.awake ≡ false) × (self.new ≡ self.old)) }
+        ensures none { IfNone result ((self.old.memory.kept ≡ None) × (self.new ≡ self.old)) }
     {
         self.records.sleep()
     }

@@ -1,23 +1,23 @@
 -- A zone, as the layers above it see it.
-use Rattle.std.specs.Prelude.{ℕ, ◌+◌, Bool, true, false, List, ◌++◌, length, take, drop}
+use Rattle.std.specs.Prelude.{ℕ, ◌+◌, List, ◌++◌, length, take, drop, Option, Some, None}
 use Rattle.mac_base.specs.HeadKind.{Shape}
 use Rattle.mac_base.specs.HandleTable.{with_bytes, bytes_of}
 use Rattle.mac_base.specs.Heap.{Heap, with_table}
 use denote.RawPtr.{Ptr}
 
--- which memory of the host a zone is in, named as a loan of one of its blocks names it; and whether it is awake there: in bytes of others, with a
--- record of its structure kept elsewhere
+-- which memory of the host a zone is in, named as a loan of one of its blocks names it; and, while it is awake there, in bytes of others, the
+-- memory that it slept in, which is kept as the record of its structure
 pub record Memory : Type 0 where
   pub region : Ptr
-  pub awake : Bool
+  pub kept : Option Ptr
 
 -- memory of the zone's own
 abbrev pub own_memory : Ptr → Memory
-own_memory region = record { region = region; awake = false }
+own_memory region = record { region = region; kept = None }
 
--- bytes of others
-abbrev pub woken_in : Ptr → Memory
-woken_in region = record { region = region; awake = true }
+-- bytes of others, in which a zone wakes that slept in this memory
+abbrev pub woken_in : Memory → Ptr → Memory
+woken_in slept region = record { region = region; kept = Some slept.region }
 
 -- the memory that a zone stands in, where it lies and how far it may grow, and its heap
 pub record ZoneState : Type 0 where

@@ -129,16 +129,16 @@ module _ (old z now : ZoneState) (bytes : List ℕ) (from : ℕ) (has : HasFlags
 
 -- a zone that sleeps differs in contents alone, and in the bytes that it was in it wakes as it was
 pub record Sleeps (z w : ZoneState) (last : List ℕ) : Type 0 where
-  pub awake : z.memory.awake ≡ true
+  pub kept : z.memory.kept ≡ Some w.memory.region
   pub asleep : DifferInContents z w
-  pub own : w.memory.awake ≡ false
+  pub own : w.memory.kept ≡ None
   pub wakes : HasStructure w last
   pub as_before : shown w last ≡ record z { memory = w.memory }
 
 pub sleeps : (result : Option Region) (z w : ZoneState) → Sound z.shape z.heap → z.heap.table.lent ≡ [] → IfSome result (λ region. FallsAsleep z w) → IfSome result (λ region. IsIn z region.bytes) → IfSome result (λ region. Sleeps z w region.bytes)
 sleeps None z w sound none falls was = tt
 sleeps (Some region) z w sound none falls was = record {
-  awake = falls.awake;
+  kept = falls.kept;
   asleep = differ-asleep z sound none w falls;
   own = falls.own;
   wakes = subst (λ w. HasStructure w region.bytes) (sym falls.zone) (kept-structure z sound none region.bytes falls.bytes w.memory was falls.structure);

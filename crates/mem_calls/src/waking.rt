@@ -8,7 +8,7 @@ use raw_region::Region;
 use zone_heap::Zone;
 
 impl MemoryManager {
-    ghost use Rattle.std.specs.Prelude.{◌≡◌, [], IfOk, IfErr, IfSome, IfNone, false, true};
+    ghost use Rattle.std.specs.Prelude.{◌≡◌, [], IfOk, IfErr, IfSome, IfNone, Some, None};
     ghost use Rattle.mac_base.specs.Sound.{Sound};
     ghost use Rattle.mac_base.specs.ZoneState.{woken_in};
     ghost use Rattle.linked_zone.specs.Structure.{Agrees, DifferInContents, HasStructure, IsIn, shown};
@@ -19,9 +19,9 @@ impl MemoryManager {
     /// zone sleeps on as it was.
     pub fn wake(&mut self, region: Region) -> Result<(), Region>
         requires nothing_lent { self.old.heap.table.lent ≡ [] }
-        requires asleep { self.old.memory.awake ≡ false }
+        requires asleep { self.old.memory.kept ≡ None }
         requires whole { region.lent ≡ [] }
-        ensures awake { IfOk result (λ u. (HasStructure self.old region.bytes) × (self.new ≡ record (shown self.old region.bytes) { memory = woken_in region.name })) }
+        ensures awake { IfOk result (λ u. (HasStructure self.old region.bytes) × (self.new ≡ record (shown self.old region.bytes) { memory = woken_in self.old.memory region.name })) }
         ensures damaged { IfErr result (λ given. (HasStructure self.old region.bytes → ⊥) × (given ≡ region) × (self.new ≡ self.old)) }
     {
         let linked = self.zone.linked();
@@ -34,10 +34,10 @@ impl MemoryManager {
     /// differ, more master blocks are read.
     pub fn wake_written(&mut self, region: Region, written: &[Written]) -> Result<(), Region>
         requires nothing_lent { self.old.heap.table.lent ≡ [] }
-        requires asleep { self.old.memory.awake ≡ false }
+        requires asleep { self.old.memory.kept ≡ None }
         requires whole { region.lent ≡ [] }
         requires told { DifferIn self.old region.bytes written.now }
-        ensures awake { IfOk result (λ u. (HasStructure self.old region.bytes) × (self.new ≡ record (shown self.old region.bytes) { memory = woken_in region.name })) }
+        ensures awake { IfOk result (λ u. (HasStructure self.old region.bytes) × (self.new ≡ record (shown self.old region.bytes) { memory = woken_in self.old.memory region.name })) }
         ensures damaged { IfErr result (λ given. (HasStructure self.old region.bytes → ⊥) × (given ≡ region) × (self.new ≡ self.old)) }
     {
         let linked = self.zone.linked();
@@ -48,11 +48,11 @@ impl MemoryManager {
     /// Wakes the zone in a region whose bytes agree with it so.
     fn wake_as(&mut self, region: Region, agreement: Agreement) -> Result<(), Region>
         requires nothing_lent { self.old.heap.table.lent ≡ [] }
-        requires asleep { self.old.memory.awake ≡ false }
+        requires asleep { self.old.memory.kept ≡ None }
         requires sound { Sound self.old.shape self.old.heap }
         requires whole { region.lent ≡ [] }
         requires agrees { Agrees self.old region.bytes agreement }
-        ensures awake { IfOk result (λ u. (HasStructure self.old region.bytes) × (self.new ≡ record (shown self.old region.bytes) { memory = woken_in region.name })) }
+        ensures awake { IfOk result (λ u. (HasStructure self.old region.bytes) × (self.new ≡ record (shown self.old region.bytes) { memory = woken_in self.old.memory region.name })) }
         ensures damaged { IfErr result (λ given. (HasStructure self.old region.bytes → ⊥) × (given ≡ region) × (self.new ≡ self.old)) }
     {
         if !take_flags(&mut self.zone, region.bytes(0, region.len()), agreement) {
@@ -66,15 +66,15 @@ impl MemoryManager {
     /// as it was. None where the zone isn't awake, and nothing has changed.
     pub fn sleep(&mut self) -> Option<Region>
         requires nothing_lent { self.old.heap.table.lent ≡ [] }
-        ensures awake { IfSome result (λ region. self.old.memory.awake ≡ true) }
+        ensures kept { IfSome result (λ region. self.old.memory.kept ≡ Some self.new.memory.region) }
         ensures bytes { IfSome result (λ region. IsIn self.old region.bytes) }
         ensures name { IfSome result (λ region. region.name ≡ self.old.memory.region) }
         ensures lent { IfSome result (λ region. region.lent ≡ []) }
         ensures asleep { IfSome result (λ region. DifferInContents self.old self.new) }
-        ensures own { IfSome result (λ region. self.new.memory.awake ≡ false) }
+        ensures own { IfSome result (λ region. self.new.memory.kept ≡ None) }
         ensures wakes { IfSome result (λ region. HasStructure self.new region.bytes) }
         ensures as_before { IfSome result (λ region. shown self.new region.bytes ≡ record self.old { memory = self.new.memory }) }
-        ensures none { IfNone result ((self.old.memory.awake ≡ false) × (self.new ≡ self.old)) }
+        ensures none { IfNone result ((self.old.memory.kept ≡ None) × (self.new ≡ self.old)) }
     {
         self.zone.sleep()
     }

@@ -5,7 +5,7 @@ use linked_zone::LinkedZone;
 use raw_region::Region;
 
 impl Zone {
-    ghost use Rattle.std.specs.Prelude.{◌≡◌, [], IfNone, IfSome, IsFalse, false};
+    ghost use Rattle.std.specs.Prelude.{◌≡◌, [], IfNone, IfSome, None};
     ghost use Rattle.mac_base.specs.Sound.{Sound};
     ghost use Rattle.mac_base.specs.ZoneState.{woken_in};
     ghost use Rattle.linked_zone.specs.Sleeping.{FallsAsleep};
@@ -23,11 +23,11 @@ impl Zone {
     /// from then on. The region that it was in becomes the record of its structure.
     pub fn wake(&mut self, region: Region)
         requires nothing_lent { self.old.heap.table.lent ≡ [] }
-        requires asleep { IsFalse self.old.memory.awake }
+        requires asleep { self.old.memory.kept ≡ None }
         requires whole { region.lent ≡ [] }
         requires same { HasStructure self.old region.bytes }
         requires flags { SameFlags self.old region.bytes }
-        ensures { self.new ≡ record (shown self.old region.bytes) { memory = woken_in region.name } }
+        ensures { self.new ≡ record (shown self.old region.bytes) { memory = woken_in self.old.memory region.name } }
     {
         self.pointers.wake(region);
     }
@@ -40,7 +40,7 @@ impl Zone {
         ensures name { IfSome result (λ region. region.name ≡ self.old.memory.region) }
         ensures bytes { IfSome result (λ region. IsIn self.old region.bytes) }
         ensures lent { IfSome result (λ region. region.lent ≡ []) }
-        ensures none { IfNone result ((self.old.memory.awake ≡ false) × (self.new ≡ self.old)) }
+        ensures none { IfNone result ((self.old.memory.kept ≡ None) × (self.new ≡ self.old)) }
         ensures sound { Sound self.old.shape self.old.heap }
     {
         self.pointers.sleep()

@@ -43,4 +43,5 @@ pub mod Chaining
 pub mod Extending
 pub mod OwnBytes
 mod Touched
+mod OwnSame
 mod TouchedBlocks

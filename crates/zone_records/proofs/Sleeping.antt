@@ -26,7 +26,7 @@ module _ (l n : Layout) (z : ZoneRecords) (held : Held l z) (falls : raw.FallsAs
 
   pub falls-asleep : FallsAsleep z (records_in n)
   falls-asleep = record {
-    awake = ap (λ (z : ZoneRecords). z.memory.awake) (sym held.shows) ∙ falls.awake;
+    kept = ap (λ (z : ZoneRecords). z.memory.kept) (sym held.shows) ∙ falls.kept;
     bytes = falls.bytes;
     structure = structure-made l falls.bytes z held (structure-head l falls.bytes falls.structure) (record { headers = structure-headers l falls.bytes falls.structure; masters = agree });
     flags = flags-from l falls.bytes z held (written-same l held.sound falls.bytes falls.masters);
@@ -35,11 +35,11 @@ module _ (l n : Layout) (z : ZoneRecords) (held : Held l z) (falls : raw.FallsAs
   }
 
 -- whether it fell asleep or not, its blocks are sound
-pub sound-asleep : {R : Type 0} (result : Option R) (l n : Layout) (z : ZoneRecords) → Held l z → IfSome result (λ r. raw.FallsAsleep l n) → IfNone result ((l.memory.awake ≡ false) × (n ≡ l)) → AreSound n
+pub sound-asleep : {R : Type 0} (result : Option R) (l n : Layout) (z : ZoneRecords) → Held l z → IfSome result (λ r. raw.FallsAsleep l n) → IfNone result ((l.memory.kept ≡ None) × (n ≡ l)) → AreSound n
 sound-asleep None l n z held falls stays = subst AreSound (sym stays.1) held.sound
 sound-asleep (Some r) l n z held falls stays = (asleep-held l n z held falls).sound
 
 -- a zone that didn't fall asleep is as it was
-pub stays-as : {R : Type 0} (result : Option R) (l n : Layout) (z : ZoneRecords) → Held l z → IfNone result ((l.memory.awake ≡ false) × (n ≡ l)) → IfNone result ((z.memory.awake ≡ false) × (records_in n ≡ z))
-stays-as None l n z held stays = (ap (λ (z : ZoneRecords). z.memory.awake) (sym held.shows) ∙ stays.0, ap records_in stays.1 ∙ held.shows)
+pub stays-as : {R : Type 0} (result : Option R) (l n : Layout) (z : ZoneRecords) → Held l z → IfNone result ((l.memory.kept ≡ None) × (n ≡ l)) → IfNone result ((z.memory.kept ≡ None) × (records_in n ≡ z))
+stays-as None l n z held stays = (ap (λ (z : ZoneRecords). z.memory.kept) (sym held.shows) ∙ stays.0, ap records_in stays.1 ∙ held.shows)
 stays-as (Some r) l n z held stays = tt

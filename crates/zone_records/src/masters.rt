@@ -119,12 +119,15 @@ pub(crate) fn compare_blocks(blocks: &Blocks, bytes: &[u8], from: u32, end: u32)
     }
 }
 
-/// How as many bytes as a zone has agree with the headers of all its blocks and with its master blocks.
+/// How as many bytes as a zone has agree with the headers of all its blocks and with its master blocks. Mostly they are equal.
 pub(crate) fn compare_all(blocks: &Blocks, bytes: &[u8]) -> Agreement
     requires sound { AreSound blocks.now }
     requires whole { length bytes.now ≡ length (image_of blocks.now) }
     ensures { Means result (BlocksAgree blocks.now bytes.now zone_header blocks.now.blocks) (BlocksSame blocks.now bytes.now zone_header blocks.now.blocks) }
 {
+    if blocks.has_own_bytes(bytes) {
+        return Agreement::Same;
+    }
     let first = blocks.spec().base() + ZONE_HEADER;
     compare_blocks(blocks, bytes, first, blocks.end())
 }

@@ -1,7 +1,7 @@
 //! A zone's structure, its headers and master pointers, compared with other bytes and written to them; and a zone that
 //! wakes in bytes with the same structure and falls asleep again.
 
-ghost use Rattle.std.specs.Prelude.{◌≡◌, [], length, IfSome, IfNone, IsFalse, false};
+ghost use Rattle.std.specs.Prelude.{◌≡◌, [], length, is_some, IfSome, IfNone, None};
 ghost use Rattle.mac_base.specs.ZoneState.{woken_in};
 ghost use Rattle.zone_records.specs.Faults.{IsFirstFault};
 ghost use Rattle.zone_records.specs.Parts.{ContentsStay, OthersStay};
@@ -97,7 +97,7 @@ impl Records {
 
     /// Whether the zone is awake: in bytes of others, with a record of its structure kept elsewhere.
     pub fn is_awake(&self) -> bool
-        ensures { result ≡ self.now.memory.awake }
+        ensures { result ≡ is_some self.now.memory.kept }
     {
         self.blocks.is_awake()
     }
@@ -106,11 +106,11 @@ impl Records {
     /// from then on. The region that it was in becomes the record of its structure.
     pub fn wake(&mut self, region: Region)
         requires nothing_lent { NothingLent self.old }
-        requires asleep { IsFalse self.old.memory.awake }
+        requires asleep { self.old.memory.kept ≡ None }
         requires whole { region.lent ≡ [] }
         requires same { HasStructure self.old region.bytes }
         requires flags { SameFlags self.old region.bytes }
-        ensures { self.new ≡ record (shown self.old region.bytes) { memory = woken_in region.name } }
+        ensures { self.new ≡ record (shown self.old region.bytes) { memory = woken_in self.old.memory region.name } }
     {
         self.blocks.wake(region);
     }
@@ -123,7 +123,7 @@ impl Records {
         ensures name { IfSome result (λ region. region.name ≡ self.old.memory.region) }
         ensures bytes { IfSome result (λ region. IsIn self.old region.bytes) }
         ensures lent { IfSome result (λ region. region.lent ≡ []) }
-        ensures none { IfNone result ((self.old.memory.awake ≡ false) × (self.new ≡ self.old)) }
+        ensures none { IfNone result ((self.old.memory.kept ≡ None) × (self.new ≡ self.old)) }
     {
         self.blocks.sleep()
     }

@@ -5,6 +5,7 @@ use Rattle.block_bytes.specs.Layout.{Layout}
 use Rattle.block_bytes.specs.Structure.{begun_before}
 use Rattle.block_bytes.proofs.Begun.{begun-all}
 use Rattle.zone_records.proofs.Between.{Tells}
+use Rattle.zone_records.proofs.OwnSame.{own-tells}
 use Rattle.zone_records.proofs.masters.compare_all.Goals as goal
 
 -- all blocks come after the zone's header
@@ -13,6 +14,9 @@ all_blocks l first is = record { before = []; behind = l.blocks; blocks = refl; 
 
 pub compare_blocks-requires-clause-split : goal.compare_blocks-requires-clause-split
 compare_blocks-requires-clause-split c = all_blocks c.args.blocks.now _ (let base = c.spec.ensures.base in let value = c.base-first.ensures.value in omega arith)
+
+pub returns-then-has_own_bytes : goal.returns-then-has_own_bytes
+returns-then-has_own_bytes c = own-tells c.args.blocks.now c.requires.sound c.args.bytes.now (c.if-has_own_bytes.ensures.0 refl)
 
 pub returns : goal.returns
 returns c =

@@ -1,12 +1,12 @@
-use Rattle.std.proofs.Common.{◌≡◌, ◌+◌, ◌-◌, ◌∷◌, ◌++◌, take, drop, ap, sym, subst, arith}
+use Rattle.std.proofs.Common.{◌≡◌, ◌+◌, ◌-◌, ◌∷◌, ◌++◌, take, drop, ap, sym, subst, ◌∙◌, arith}
 use Rattle.mac_base.specs.HeadKind.{head_size}
 use Rattle.raw_region.specs.Bytes.{part}
 use Rattle.raw_region.specs.State.{State, with_bytes}
 use Rattle.block_bytes.specs.Layout.{BlockAt, Layout, with_blocks}
-use Rattle.std.specs.Prelude.{◌&&◌}
+use Rattle.std.specs.Prelude.{◌&&◌, Bool, is_some}
 use Rattle.block_bytes.specs.Copying.{CanCopy, copied_over}
 use Rattle.block_bytes.specs.Structure.{is_master}
-use Rattle.block_bytes.proofs.Recorded.{IsReadWhole}
+use Rattle.block_bytes.proofs.Recorded.{IsReadWhole, some-named}
 use Rattle.block_bytes.proofs.Copied.{can-slide, copied-read}
 use Rattle.block_bytes.proofs.blocks.Blocks.copy.Goals as goal
 
@@ -42,10 +42,10 @@ copied c can = let z = c.self.inside in let from = c.args.from in let start = c.
     let k = c.head_size-head_size.result in let base = c.base-base.result in let e = ap head_size c.heads.ensures in let base_is = c.base-base.ensures.value in
     subst (λ (m : State). IsReadWhole (record z { memory = m; kept = c.note_if.new.kept }) (with_blocks (can.target.before ++ copied_over can.target.here offset (take n (drop start can.source.here.contents)) ∷ can.target.behind) c.args.self.now)) (sym c.slide.ensures)
     (subst (λ (l : Layout). (can : CanCopy l from start to offset n)
-    → ((b : BlockAt l to) → c.has_own_contents-own.result ≡ (l.memory.awake && is_master b.here.role))
+    → ((b : BlockAt l to) → c.has_own_contents-own.result ≡ (is_some l.memory.kept && is_master b.here.role))
     → IsReadWhole (record z { memory = with_bytes z.memory (to - base + k + offset) (part z.memory.bytes (from - base + k + start) n); kept = c.note_if.new.kept })
     (with_blocks (can.target.before ++ copied_over can.target.here offset (take n (drop start can.source.here.contents)) ∷ can.target.behind) l)) c.self.view_is
-    (λ can own. copied-read z c.self.invariant c.base-base.ensures.possible from start to offset n (from - base + k + start) (to - base + k + offset) can (omega arith) (omega arith) c.has_own_contents-own.result c.note_if.new.kept (own can.target) c.note_if.ensures) can c.has_own_contents-own.ensures)
+    (λ can own. copied-read z c.self.invariant c.base-base.ensures.possible from start to offset n (from - base + k + start) (to - base + k + offset) can (omega arith) (omega arith) c.has_own_contents-own.result c.note_if.new.kept (own can.target ∙ ap (λ (t : Bool). t && is_master can.target.here.role) (some-named z.kept)) c.note_if.ensures) can c.has_own_contents-own.ensures)
 
 pub invariant_of-self : goal.invariant_of-self
 invariant_of-self c = (copied c c.requires).whole

@@ -17,13 +17,13 @@ kept_is : (c : goal.After-end) → c.replace.new.self ≡ Some (record { region 
 kept_is c = c.replace.ensures.after ∙ ap (λ (m : State). Some (record { region = m; changed = c.new.result })) (c.into_region.ensures ∙ c.replace-before.ensures.value)
 
 -- what the fields stand for then
-woken_then : (c : goal.After-end) → IsReadWhole (record c.self.inside { memory = c.replace-before.new.dest; kept = c.replace.new.self }) (record (shown c.args.self.now c.args.region.bytes) { memory = woken_in c.args.region.name })
+woken_then : (c : goal.After-end) → IsReadWhole (record c.self.inside { memory = c.replace-before.new.dest; kept = c.replace.new.self }) (record (shown c.args.self.now c.args.region.bytes) { memory = woken_in c.args.self.now.memory c.args.region.name })
 woken_then c =
     let z = c.self.inside in let m = c.args.region in let changed = c.new.result in
-    subst (λ (n : State). IsReadWhole (record z { memory = n; kept = c.replace.new.self }) (record (shown c.args.self.now m.bytes) { memory = woken_in m.name })) (sym (after_is c))
-    (subst (λ (kept : Option Record). IsReadWhole (record z { memory = m; kept = kept }) (record (shown c.args.self.now m.bytes) { memory = woken_in m.name })) (sym (kept_is c))
+    subst (λ (n : State). IsReadWhole (record z { memory = n; kept = c.replace.new.self }) (record (shown c.args.self.now m.bytes) { memory = woken_in c.args.self.now.memory m.name })) (sym (after_is c))
+    (subst (λ (kept : Option Record). IsReadWhole (record z { memory = m; kept = kept }) (record (shown c.args.self.now m.bytes) { memory = woken_in c.args.self.now.memory m.name })) (sym (kept_is c))
     (subst (λ (l : Layout). NothingLent l → HasStructure l m.bytes → EachMaster (AreWritten m.bytes) l.heads zone_header l.blocks
-    → IsReadWhole (record z { memory = m; kept = Some (record { region = z.memory; changed = changed }) }) (record (shown l m.bytes) { memory = woken_in m.name })) c.self.view_is
+    → IsReadWhole (record z { memory = m; kept = Some (record { region = z.memory; changed = changed }) }) (record (shown l m.bytes) { memory = woken_in l.memory m.name })) c.self.view_is
     (λ unlent same masters. woken z c.self.invariant.layout c.base-base.ensures.possible unlent m c.requires.whole same masters changed c.new.ensures) c.requires.nothing_lent c.requires.same c.requires.masters))
 
 pub invariant_of-self : goal.invariant_of-self

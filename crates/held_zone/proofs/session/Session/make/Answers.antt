@@ -1,6 +1,5 @@
 use Rattle.std.proofs.Common.{◌≡◌, ◌∙◌, ap, refl, subst}
 use Rattle.std.specs.Prelude.{IfNone, IfSome}
-use Rattle.mac_base.specs.ZoneState.{Memory}
 use Rattle.held_calls.specs.Holding.{loans_of}
 use Rattle.held_calls.specs.Answers.{Queue, taken}
 use Rattle.held_zone.specs.State.{State, with_no_asks}
@@ -20,7 +19,7 @@ returns-clause-makes c =
     let took = made.ensures.source ∙ ap (λ (q : Queue). taken q.asks q.left) c.begin.ensures in
     let old : State = state c.self.inside.memory loans c.self.inside.answers.left c.self.inside.answers.asks in
     subst (λ (s : State). IfSome made.result (λ outcome. Makes s c.args.call.now outcome new)) c.self.view_is
-    (made-queued old new c.args.call.now made.result made.ensures.step took c.asks.ensures.out refl (ap (λ (m : Memory). m.awake) made.ensures.loans.0) made.ensures.loans)
+    (made-queued old new c.args.call.now made.result made.ensures.step took c.asks.ensures.out refl made.ensures.loans)
 
 pub returns-clause-unmade : goal.returns-clause-unmade
 returns-clause-unmade c =

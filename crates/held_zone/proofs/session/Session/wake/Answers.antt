@@ -11,7 +11,7 @@ pub wake-requires-clause-nothing_lent : goal.wake-requires-clause-nothing_lent
 wake-requires-clause-nothing_lent c = ap (λ (s : State). s.zone.heap.table.lent) c.self.view_is ∙ c.requires.asleep.nothing_lent
 
 pub wake-requires-clause-asleep : goal.wake-requires-clause-asleep
-wake-requires-clause-asleep c = ap (λ (s : State). s.guest) c.self.view_is ∙ c.requires.asleep.own
+wake-requires-clause-asleep c = ap (λ (s : State). s.zone.memory.kept) c.self.view_is ∙ c.requires.asleep.own
 
 pub invariant_of-self : goal.invariant_of-self
 invariant_of-self c =

@@ -12,7 +12,7 @@ pub wake_written-requires-clause-nothing_lent : goal.wake_written-requires-claus
 wake_written-requires-clause-nothing_lent c = ap (λ (s : State). s.zone.heap.table.lent) c.self.view_is ∙ c.requires.asleep.nothing_lent
 
 pub wake_written-requires-clause-asleep : goal.wake_written-requires-clause-asleep
-wake_written-requires-clause-asleep c = ap (λ (s : State). s.guest) c.self.view_is ∙ c.requires.asleep.own
+wake_written-requires-clause-asleep c = ap (λ (s : State). s.zone.memory.kept) c.self.view_is ∙ c.requires.asleep.own
 
 pub wake_written-requires-clause-told : goal.wake_written-requires-clause-told
 wake_written-requires-clause-told c = subst (λ (s : State). DifferIn s.zone c.args.region.bytes c.args.written.now) (sym c.self.view_is) c.requires.told

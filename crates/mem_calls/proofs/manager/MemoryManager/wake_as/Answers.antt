@@ -18,7 +18,7 @@ returns-then-not-take_flags-clause-damaged c =
     )
 
 pub wake-requires-clause-asleep : goal.wake-requires-clause-asleep
-wake-requires-clause-asleep c = ap (λ (z : ZoneState). z.memory.awake) (c.if-not-take_flags.ensures.same refl).1.others ∙ ap (λ (z : ZoneState). z.memory.awake) c.self.view_is ∙ c.requires.asleep
+wake-requires-clause-asleep c = ap (λ (z : ZoneState). z.memory.kept) (c.if-not-take_flags.ensures.same refl).1.others ∙ ap (λ (z : ZoneState). z.memory.kept) c.self.view_is ∙ c.requires.asleep
 
 pub returns-clause-awake : goal.returns-clause-awake
 returns-clause-awake c =
@@ -27,6 +27,6 @@ returns-clause-awake c =
     let whole = c.bytes.ensures.value ∙ part-all bytes c.len.result c.len.ensures in
     let takes = c.if-not-take_flags.ensures.same refl in (
       subst (λ (z : ZoneState). HasStructure z bytes) c.self.view_is (subst (HasStructure z) whole takes.0),
-      c.wake.ensures ∙ ap (λ (s : ZoneState). record s { memory = woken_in c.args.region.name })
+      c.wake.ensures ∙ ap (λ (s : ZoneState). record s { memory = woken_in s.memory c.args.region.name })
           (subst (λ bs. shown c.take_flags.new.zone bs ≡ shown z bs) whole takes.1.others ∙ ap (λ (z : ZoneState). shown z bytes) c.self.view_is),
     )

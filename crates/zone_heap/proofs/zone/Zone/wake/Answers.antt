@@ -15,6 +15,6 @@ pub invariant_of-self : goal.invariant_of-self
 invariant_of-self c =
     let z = c.self.inside.pointers in
     let was = sym c.self.view_is in
-    let others = differ z c.self.invariant.sound (subst (λ (z : ZoneState). z.heap.table.lent ≡ []) was c.requires.nothing_lent) c.args.region.bytes (woken_in c.args.region.name)
+    let others = differ z c.self.invariant.sound (subst (λ (z : ZoneState). z.heap.table.lent ≡ []) was c.requires.nothing_lent) c.args.region.bytes (woken_in z.memory c.args.region.name)
     (subst (λ (z : ZoneState). HasStructure z c.args.region.bytes) was c.requires.same) (subst (λ (z : ZoneState). SameFlags z c.args.region.bytes) was c.requires.flags) in
     sound-refilled z c.wake.new.self (subst (λ (w : ZoneState). DifferInContents z w) (sym c.wake.ensures) others) c.self.invariant
