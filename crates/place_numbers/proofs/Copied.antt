@@ -6,14 +6,14 @@ use Rattle.place_numbers.specs.Shifted.{copied}
 use Rattle.place_numbers.proofs.Moved.{same-place}
 
 -- n numbers of xs from a place on stand in ys from another on, and the others where they stood
-record IsCopied (xs ys : List ℕ) (from to n : ℕ) : Type 0 where
-  len : length ys ≡ length xs
-  below : (j : ℕ) → j < to → get_or ys j 0 ≡ get_or xs j 0
-  there : (j : ℕ) → to ≤ j → j < to + n → get_or ys j 0 ≡ get_or xs (from + (j - to)) 0
-  behind : (j : ℕ) → to + n ≤ j → get_or ys j 0 ≡ get_or xs j 0
+pub record IsCopied (xs ys : List ℕ) (from to n : ℕ) : Type 0 where
+  pub len : length ys ≡ length xs
+  pub below : (j : ℕ) → j < to → get_or ys j 0 ≡ get_or xs j 0
+  pub there : (j : ℕ) → to ≤ j → j < to + n → get_or ys j 0 ≡ get_or xs (from + (j - to)) 0
+  pub behind : (j : ℕ) → to + n ≤ j → get_or ys j 0 ≡ get_or xs j 0
 
 -- so it is in the list with a copy
-is-copied : (xs : List ℕ) (from to n : ℕ) → from + n ≤ length xs → to + n ≤ length xs → IsCopied xs (copied from to n xs) from to n
+pub is-copied : (xs : List ℕ) (from to n : ℕ) → from + n ≤ length xs → to + n ≤ length xs → IsCopied xs (copied from to n xs) from to n
 is-copied xs from to n from-in to-in =
     let ks = take to xs in let ls = take n (drop from xs) in let ms = drop (to + n) xs in
     let one : length ks ≡ to = length-take-le to xs (omega arith) in
@@ -29,7 +29,7 @@ is-copied xs from to n from-in to-in =
     }
 
 -- and that is all there is to say of it
-only-copied : (xs ys zs : List ℕ) (from to n : ℕ) → IsCopied xs ys from to n → IsCopied xs zs from to n → ys ≡ zs
+pub only-copied : (xs ys zs : List ℕ) (from to n : ℕ) → IsCopied xs ys from to n → IsCopied xs zs from to n → ys ≡ zs
 only-copied xs ys zs from to n one other = ext_get_or 0 ys zs (one.len ∙ sym other.len) (λ j inside. elim (cases_lt j to) [
   | inl low ↦ one.below j low ∙ sym (other.below j low)
   | inr past ↦ elim (cases_lt j (to + n)) [

@@ -1,5 +1,5 @@
 -- What bits of words say of the marks.
-use Rattle.std.proofs.Common.{◌≡◌, ◌≢◌, ℕ, zero, Bool, true, false, not, nat_eq, List, replicate, refl, sym, ap, ◌∙◌, ◌+◌, ◌-◌, ◌*◌, ◌/◌, ◌%◌, ◌^◌, ◌<◌, ◌≤◌, suc, inl, inr, length, get_or, arith, get_or-set_same, get_or-set_other, length-set, w32}
+use Rattle.std.proofs.Common.{◌≡◌, ◌≢◌, ℕ, zero, Bool, true, false, not, nat_eq, List, replicate, refl, sym, ap, ◌∙◌, ◌+◌, ◌-◌, ◌*◌, ◌/◌, ◌%◌, ◌^◌, ◌<◌, ◌≤◌, suc, inl, inr, ◌⊎◌, length, get_or, arith, get_or-set_same, get_or-set_other, length-set, w32}
 use Rattle.std.proofs.Math.ListN.{set}
 use Rattle.std.specs.Int.{bit_at, trailing_zeros}
 use Rattle.std.specs.Int.RustNames.{bit_and}
@@ -8,7 +8,7 @@ use Rattle.std.proofs.lemmas.List.{ext_get_or, get_or_past, length-replicate}
 use Rattle.std.proofs.lemmas.List.FromFn.{length-map-range_with_len, get_or-map-range_with_len}
 use Rattle.std.proofs.lemmas.Nat.{shr-shr, shr_high}
 use Rattle.std.proofs.lemmas.Nat.Bits.{bit_at-zero, bit_at-lt, shr_and_one, bit_at_and, bit_at_ones, bit_at_ones_above, bit_at_above, bit_at-trailing_zeros, same_from_bits}
-use Rattle.place_numbers.specs.Bits.{mark_of, FirstBit, LastBit, bit_of, bits_of, AreNoted}
+use Rattle.place_numbers.specs.Bits.{mark_of, FirstBit, LastBit, bit_of, bits_of, AreNoted, AreWritten}
 use Rattle.place_numbers.specs.Numbers.{FirstAtLeast, LastAtLeast}
 use Rattle.place_numbers.proofs.Rows.{zeros-at}
 
@@ -129,6 +129,78 @@ none-noted count n few is =
       some = λ w one. let none = zeros-at n w in absurd (omega arith);
     }
 
+-- a word that is written, and noted
+module _ (words used : List ℕ) (count w n : ℕ) (noted : AreNoted words used count) (within : w < length words) where
+  within-used : w < length used
+  within-used = let each = noted.each in omega arith
+
+  pub noted-word : ((j : ℕ) → count ≤ j → bit_of (set words w n) j ≡ 0) → (b : Bool) → (b ≡ true → 1 ≤ n) → (b ≡ false → n ≡ 0)
+      → AreNoted (set words w n) (set used w (mark_of b)) count
+  noted-word past b when unless = record {
+    few = noted.few;
+    room = length-set words w n ∙ noted.room;
+    each = length-set used w (mark_of b) ∙ noted.each ∙ sym (length-set words w n);
+    past = past;
+    zero = λ v none. let inside-words = within in let inside-used = within-used in elim (cases_eq v w) [
+      | inl same ↦ rw (same, get_or-set_same) (is-zero (rw (same, get_or-set_same) at none))
+      | inr other ↦ rw get_or-set_other (noted.zero v (rw get_or-set_other at none))
+    ];
+    some = λ v one. let inside-words = within in let inside-used = within-used in elim (cases_eq v w) [
+      | inl same ↦ rw (same, get_or-set_same) (is-some (rw (same, get_or-set_same) at one))
+      | inr other ↦ rw get_or-set_other (noted.some v (rw get_or-set_other at one))
+    ];
+  }
+    where
+      is-zero : mark_of b ≡ 0 → n ≡ 0
+      is-zero = elim b as (λ v. (v ≡ false → n ≡ 0) → mark_of v ≡ 0 → n ≡ 0) [ true ↦ λ _ e. absurd (omega arith) | false ↦ λ h _. h refl ] unless
+
+      is-some : 1 ≤ mark_of b → 1 ≤ n
+      is-some = elim b as (λ v. (v ≡ true → 1 ≤ n) → 1 ≤ mark_of v → 1 ≤ n) [ true ↦ λ h _. h refl | false ↦ λ _ e. absurd (omega arith) ] when
+
+-- marks of one word that are written
+module _ (words used : List ℕ) (count place k n m : ℕ) (noted : AreNoted words used count) (some : 0 < k) (fits : place % 32 + k ≤ 32) (inside : place + k ≤ count)
+    (here : (i : ℕ) → i < k → bit_at n (place % 32 + i) ≡ bit_at m i)
+    (before : (i : ℕ) → i < place % 32 → bit_at n i ≡ bit_at (get_or words (place / 32) 0) i)
+    (behind : (i : ℕ) → place % 32 + k ≤ i → i < 32 → bit_at n i ≡ bit_at (get_or words (place / 32) 0) i) where
+  within : place / 32 < length words
+  within = let room = noted.room in omega arith
+
+  in-it : (i : ℕ) → i < k → bit_of (set words (place / 32) n) (place + i) ≡ bit_at m i
+  in-it i low =
+      let w = within in let there : (place + i) / 32 ≡ place / 32 = omega arith in let bit : (place + i) % 32 ≡ place % 32 + i = omega arith in
+      rw (there, get_or-set_same, bit) (here i low)
+
+  beside : (j : ℕ) → (j < place) ⊎ (place + k ≤ j) → bit_of (set words (place / 32) n) j ≡ bit_of words j
+  beside j apart = elim (cases_eq (j / 32) (place / 32)) [
+    | inl same ↦
+        let w = within in
+        rw (same, get_or-set_same) (elim apart [
+          | inl low ↦ before (j % 32) (omega arith)
+          | inr past ↦ behind (j % 32) (omega arith) (omega arith)
+        ])
+    | inr other ↦ rw get_or-set_other refl
+  ]
+
+  pub marks-written : AreWritten (bits_of words count) (bits_of (set words (place / 32) n) count) place k m
+  marks-written = record {
+    len = new ∙ sym old;
+    there = λ i low. at (set words (place / 32) n) count (place + i) (omega arith) ∙ in-it i low;
+    before = λ j low. at (set words (place / 32) n) count j (omega arith) ∙ beside j (inl low) ∙ sym (at words count j (omega arith));
+    behind = λ j past. elim (cases_lt j count) [
+      | inl low ↦ at (set words (place / 32) n) count j low ∙ beside j (inr past) ∙ sym (at words count j low)
+      | inr end ↦ get_or_past (bits_of (set words (place / 32) n) count) j 0 (let l = new in omega arith) ∙ sym (get_or_past (bits_of words count) j 0 (let l = old in omega arith))
+    ];
+  }
+    where
+      old : length (bits_of words count) ≡ count
+      old = length-bits words count
+
+      new : length (bits_of (set words (place / 32) n) count) ≡ count
+      new = length-bits (set words (place / 32) n) count
+
+  pub written-noted : (b : Bool) → (b ≡ true → 1 ≤ n) → (b ≡ false → n ≡ 0) → AreNoted (set words (place / 32) n) (set used (place / 32) (mark_of b)) count
+  written-noted = noted-word words used count (place / 32) n noted within (λ j past. beside j (inr (omega arith)) ∙ noted.past j past)
+
 -- a word that is written, in which one bit may be another
 module _ (words used : List ℕ) (count p n m : ℕ) (noted : AreNoted words used count) (inside : p < count) (here : bit_at n (p % 32) ≡ m)
     (others : (i : ℕ) → i < 32 → i ≢ p % 32 → bit_at n i ≡ bit_at (get_or words (p / 32) 0) i) where
@@ -156,32 +228,9 @@ module _ (words used : List ℕ) (count p n m : ℕ) (noted : AreNoted words use
       ])
 
   pub still-noted : (b : Bool) → (b ≡ true → 1 ≤ n) → (b ≡ false → n ≡ 0) → AreNoted (set words (p / 32) n) (set used (p / 32) (mark_of b)) count
-  still-noted b when unless = record {
-    few = noted.few;
-    room = length-set words (p / 32) n ∙ noted.room;
-    each = length-set used (p / 32) (mark_of b) ∙ noted.each ∙ sym (length-set words (p / 32) n);
-    past = λ j behind. bits-other j (λ same. let e = same in absurd (omega arith)) ∙ noted.past j behind;
-    zero = λ w none. let inside-words = within in let inside-used = within-used in elim (cases_eq w (p / 32)) [
-      | inl same ↦ rw (same, get_or-set_same) (is-zero (rw (same, get_or-set_same) at none))
-      | inr other ↦ rw get_or-set_other (noted.zero w (rw get_or-set_other at none))
-    ];
-    some = λ w one. let inside-words = within in let inside-used = within-used in elim (cases_eq w (p / 32)) [
-      | inl same ↦ rw (same, get_or-set_same) (is-some (rw (same, get_or-set_same) at one))
-      | inr other ↦ rw get_or-set_other (noted.some w (rw get_or-set_other at one))
-    ];
-  }
-    where
-      within : p / 32 < length words
-      within = let room = noted.room in omega arith
-
-      within-used : p / 32 < length used
-      within-used = let room = noted.room in let each = noted.each in omega arith
-
-      is-zero : mark_of b ≡ 0 → n ≡ 0
-      is-zero = elim b as (λ v. (v ≡ false → n ≡ 0) → mark_of v ≡ 0 → n ≡ 0) [ true ↦ λ _ e. absurd (omega arith) | false ↦ λ h _. h refl ] unless
-
-      is-some : 1 ≤ mark_of b → 1 ≤ n
-      is-some = elim b as (λ v. (v ≡ true → 1 ≤ n) → 1 ≤ mark_of v → 1 ≤ n) [ true ↦ λ h _. h refl | false ↦ λ _ e. absurd (omega arith) ] when
+  still-noted =
+      let room = noted.room in
+      noted-word words used count (p / 32) n noted (omega arith) (λ j past. bits-other j (λ same. let e = same in absurd (omega arith)) ∙ noted.past j past)
 
 -- what is found of the marks
 module _ (words used : List ℕ) (count : ℕ) (noted : AreNoted words used count) (now : List ℕ) (view : bits_of words count ≡ now) where
@@ -301,4 +350,13 @@ module _ (words used : List ℕ) (count : ℕ) (noted : AreNoted words used coun
         let none = in-word (end / 32) (j - end / 32 * 32) j (omega arith) (omega arith) ∙ here (j - end / 32 * 32) (omega arith) in omega (arith, none)
     | inl earlier ↦
         let none = in-word (j / 32) (j % 32) j (omega arith) (omega arith) ∙ unused (j / 32) (there (j / 32) earlier) (j % 32) in omega (arith, none)
+  ]
+
+  -- 32 marks from a place on
+  pub read-marks : (place n : ℕ) → ((i : ℕ) → place % 32 + i < 32 → bit_at n i ≡ bit_at (get_or words (place / 32) 0) (place % 32 + i))
+      → ((i : ℕ) → 32 ≤ place % 32 + i → i < 32 → bit_at n i ≡ bit_at (get_or words (place / 32 + 1) 0) (place % 32 + i - 32))
+      → (i : ℕ) → i < 32 → bit_at n i ≡ get_or now (place + i) 0
+  read-marks place n here there i low = elim (cases_lt (place % 32 + i) 32) [
+    | inl first ↦ here i first ∙ sym (in-word (place / 32) (place % 32 + i) (place + i) first (omega arith))
+    | inr next ↦ there i next low ∙ sym (in-word (place / 32 + 1) (place % 32 + i - 32) (place + i) (omega arith) (omega arith))
   ]

@@ -36,3 +36,10 @@ pub record AreNoted (words used : List ℕ) (count : ℕ) : Type 0 where
   pub past : (j : ℕ) → count ≤ j → bit_of words j ≡ 0
   pub zero : (w : ℕ) → slice_index used w ≡ 0 → slice_index words w ≡ 0
   pub some : (w : ℕ) → 1 ≤ slice_index used w → 1 ≤ slice_index words w
+
+-- n marks from a place on are the lowest bits of a word, and the others stay
+pub record AreWritten (xs ys : List ℕ) (place n word : ℕ) : Type 0 where
+  pub len : length ys ≡ length xs
+  pub there : (i : ℕ) → i < n → slice_index ys (place + i) ≡ bit_at word i
+  pub before : (j : ℕ) → j < place → slice_index ys j ≡ slice_index xs j
+  pub behind : (j : ℕ) → place + n ≤ j → slice_index ys j ≡ slice_index xs j

@@ -9,6 +9,7 @@ use std::alloc::{AllocError, Global};
 use std::marker::Model;
 use word::{first_bit, last_bit, with_bit};
 
+mod copies;
 mod word;
 
 /// A mark or none at each of so many places, from 0 on. A contract sees a list of numbers: 1 for a mark, 0 for none. After `create` no
@@ -103,6 +104,26 @@ impl Bits {
         Some(next * 32 + bit as usize)
     }
 
+    /// The first place with a mark, `from` or behind it, that comes before `end`.
+    pub fn first_between(&self, from: usize, end: usize) -> Option<usize>
+        requires { end ≤ length self.now }
+        ensures first { IfSome result (λ at. FirstAtLeast self.now 1 from at) }
+        ensures before { IfSome result (λ at. at < end) }
+        ensures none { IfNone result ((j : ℕ) → from ≤ j → j < end → slice_index self.now j < 1) }
+    {
+        let _len = self.len();
+        let mut place = from;
+        while place < end {
+            let left = end - place;
+            if let Some(bit) = first_bit(self.read(place), 0) {
+                let bit = bit as usize;
+                return if bit < left { Some(place + bit) } else { None };
+            }
+            place = self.pass(place + left.min(32), end);
+        }
+        None
+    }
+
     /// The last place with a mark before `end`.
     pub fn last_before(&self, end: usize) -> Option<usize>
         requires { end ≤ length self.now }
@@ -126,20 +147,8 @@ impl Bits {
         ensures { self.new ≡ shifted_down from to count self.old }
     {
         let _len = self.len();
-        let gap = from - to;
-        let end = from + count;
-        let mut place = to;
-        while let Some(at) = self.first_from(place) {
-            if end <= at {
-                break;
-            }
-            let mark = self.get(at);
-            self.set(at, false);
-            if from <= at {
-                self.set(at - gap, mark);
-            }
-            place = at + 1;
-        }
+        self.copy_down(from, to, count);
+        self.clear(to + count, from + count);
     }
 
     /// Moves the `count` marks from `from` on up to `to` and behind. Those that stood there are gone, and none is left before the
@@ -150,19 +159,7 @@ impl Bits {
         ensures { self.new ≡ shifted_up from to count self.old }
     {
         let _len = self.len();
-        let gap = to - from;
-        let end = from + count;
-        let mut behind = to + count;
-        while let Some(at) = self.last_before(behind) {
-            if at < from {
-                break;
-            }
-            let mark = self.get(at);
-            self.set(at, false);
-            if at < end {
-                self.set(at + gap, mark);
-            }
-            behind = at;
-        }
+        self.copy_up(from, to, count);
+        self.clear(from, to);
     }
 }

@@ -9,6 +9,7 @@ use crate::row::Row;
 use std::alloc::{AllocError, Global};
 use std::marker::Model;
 
+mod near;
 mod shifts;
 
 /// So many numbers, each at its place from 0 on. A contract sees their list. After `create` no call takes memory of the

@@ -197,10 +197,7 @@ fn shift_sizes_down(marks: &Marks, sizes: &mut Sizes, from: usize, to: usize, co
     let gap = from - to;
     let end = from + count;
     let mut place = to;
-    while let Some(at) = marks.first_at_least(LARGE as u32, place) {
-        if end <= at {
-            break;
-        }
+    while let Some(at) = marks.first_between(LARGE as u32, place, end) {
         place = at + 1;
         let size = sizes.get(at / RUN);
         sizes.set(at / RUN, 0);
@@ -223,10 +220,7 @@ fn shift_sizes_up(marks: &Marks, sizes: &mut Sizes, from: usize, to: usize, coun
     let gap = to - from;
     let end = from + count;
     let mut behind = to + count;
-    while let Some(at) = marks.last_at_least(LARGE as u32, behind) {
-        if at < from {
-            break;
-        }
+    while let Some(at) = marks.last_between(LARGE as u32, from, behind) {
         behind = at;
         let size = sizes.get(at / RUN);
         sizes.set(at / RUN, 0);

@@ -46,10 +46,7 @@ fn any_marked(marks: &Bits, first: usize, end: usize) -> bool
     requires { end ≤ length marks.now }
     ensures { IsFalse result → (j : ℕ) → first ≤ j → j < end → slice_index marks.now j ≡ 0 }
 {
-    match marks.first_from(first) {
-        Some(at) => at < end,
-        None => false,
-    }
+    marks.first_between(first, end).is_some()
 }
 
 /// The mark at a place goes behind those of `count` places that lie `step` places further on, which move down.

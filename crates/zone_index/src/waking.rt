@@ -4,7 +4,7 @@ use crate::zone::IndexedZone;
 use raw_region::Region;
 
 impl IndexedZone {
-    ghost use Rattle.std.specs.Prelude.{◌≡◌, [], IfNone, IfSome, IsFalse, false};
+    ghost use Rattle.std.specs.Prelude.{◌≡◌, [], IfNone, IfSome, None};
     ghost use Rattle.mac_base.specs.Sound.{Sound};
     ghost use Rattle.mac_base.specs.ZoneState.{woken_in};
     ghost use Rattle.linked_zone.specs.Sleeping.{FallsAsleep};
@@ -15,11 +15,11 @@ impl IndexedZone {
     pub fn wake(&mut self, region: Region)
         requires sound { Sound self.old.shape self.old.heap }
         requires nothing_lent { self.old.heap.table.lent ≡ [] }
-        requires asleep { IsFalse self.old.memory.awake }
+        requires asleep { self.old.memory.kept ≡ None }
         requires whole { region.lent ≡ [] }
         requires same { HasStructure self.old region.bytes }
         requires flags { SameFlags self.old region.bytes }
-        ensures { self.new ≡ record (shown self.old region.bytes) { memory = woken_in region.name } }
+        ensures { self.new ≡ record (shown self.old region.bytes) { memory = woken_in self.old.memory region.name } }
     {
         self.zone.wake(region);
     }
@@ -33,7 +33,7 @@ impl IndexedZone {
         ensures name { IfSome result (λ region. region.name ≡ self.old.memory.region) }
         ensures bytes { IfSome result (λ region. IsIn self.old region.bytes) }
         ensures lent { IfSome result (λ region. region.lent ≡ []) }
-        ensures none { IfNone result ((self.old.memory.awake ≡ false) × (self.new ≡ self.old)) }
+        ensures none { IfNone result ((self.old.memory.kept ≡ None) × (self.new ≡ self.old)) }
     {
         self.zone.sleep()
     }

@@ -11,9 +11,9 @@ loop-at-preserved-then-from-at c =
     let from = c.args.from in let to = c.args.to in let xs = c.args.marks.now in let ys = c.args.sizes.now in let it = c.in-Some.ensures.first in
     let reached = it.inside in let one = it.large in let most = c.requires.parts.most c.in-Some.at in
     record {
-      inside = omega arith;
+      inside = omega (arith, c.in-Some.ensures.before);
       done = rw (c.set-then-from-at.ensures, c.set.ensures, c.get-size.ensures) (down-moved xs ys c.loop-at.sizes to (from - to) c.loop-at.place (from + c.args.count) c.in-Some.at c.requires.parts
-          c.loop-at.invariant.done c.loop-at.invariant.inside.0 reached.0 c.if-end-at.false c.requires.inside (omega (arith, one, most)) it.first
+          c.loop-at.invariant.done c.loop-at.invariant.inside.0 reached.0 c.in-Some.ensures.before c.requires.inside (omega (arith, one, most)) it.first
           (down-clear xs ys c.loop-at.sizes from to c.args.count c.loop-at.place c.requires.parts c.requires.order c.requires.inside c.requires.spread) (let past = c.if-from-at.true in let order = c.requires.order in omega (arith, past, order)));
     }
 
@@ -22,28 +22,18 @@ loop-at-preserved c =
     let from = c.args.from in let to = c.args.to in let xs = c.args.marks.now in let ys = c.args.sizes.now in let it = c.in-Some.ensures.first in
     let reached = it.inside in let one = it.large in let most = c.requires.parts.most c.in-Some.at in
     record {
-      inside = omega arith;
+      inside = omega (arith, c.in-Some.ensures.before);
       done = rw c.set.ensures (down-gone xs ys c.loop-at.sizes to (from - to) c.loop-at.place (from + c.args.count) c.in-Some.at c.requires.parts
-          c.loop-at.invariant.done c.loop-at.invariant.inside.0 reached.0 c.if-end-at.false c.requires.inside (omega (arith, one, most)) it.first
+          c.loop-at.invariant.done c.loop-at.invariant.inside.0 reached.0 c.in-Some.ensures.before c.requires.inside (omega (arith, one, most)) it.first
           (down-clear xs ys c.loop-at.sizes from to c.args.count c.loop-at.place c.requires.parts c.requires.order c.requires.inside c.requires.spread) (let before = c.if-from-at.false in let order = c.requires.order in omega (arith, before, order)));
     }
 
-pub returns-then-end-at-clause-parts : goal.returns-then-end-at-clause-parts
-returns-then-end-at-clause-parts c =
+pub returns-clause-parts : goal.returns-clause-parts
+returns-clause-parts c =
     down-parts c.args.marks.now c.args.sizes.now c.loop-at.sizes c.args.from c.args.to c.args.count c.loop-at.place c.requires.parts c.requires.order c.requires.inside c.requires.spread
-    c.loop-at.invariant.done c.loop-at.invariant.inside.1 (λ j past below. c.in-Some.ensures.first.first j past (omega arith))
+    c.loop-at.invariant.done c.loop-at.invariant.inside.1 c.in_default.ensures.none
 
-pub returns-then-end-at-clause-numbers : goal.returns-then-end-at-clause-numbers
-returns-then-end-at-clause-numbers c =
+pub returns-clause-numbers : goal.returns-clause-numbers
+returns-clause-numbers c =
     down-view c.args.marks.now c.args.sizes.now c.loop-at.sizes c.args.from c.args.to c.args.count c.loop-at.place c.requires.parts c.requires.order c.requires.inside c.requires.spread
-    c.loop-at.invariant.done c.loop-at.invariant.inside.1 (λ j past below. c.in-Some.ensures.first.first j past (omega arith))
-
-pub returns-in_default-clause-parts : goal.returns-in_default-clause-parts
-returns-in_default-clause-parts c =
-    down-parts c.args.marks.now c.args.sizes.now c.loop-at.sizes c.args.from c.args.to c.args.count c.loop-at.place c.requires.parts c.requires.order c.requires.inside c.requires.spread
-    c.loop-at.invariant.done c.loop-at.invariant.inside.1 (λ j past below. c.in_default.ensures.none j past (let inside = c.requires.inside in omega (arith, below, inside)))
-
-pub returns-in_default-clause-numbers : goal.returns-in_default-clause-numbers
-returns-in_default-clause-numbers c =
-    down-view c.args.marks.now c.args.sizes.now c.loop-at.sizes c.args.from c.args.to c.args.count c.loop-at.place c.requires.parts c.requires.order c.requires.inside c.requires.spread
-    c.loop-at.invariant.done c.loop-at.invariant.inside.1 (λ j past below. c.in_default.ensures.none j past (let inside = c.requires.inside in omega (arith, below, inside)))
+    c.loop-at.invariant.done c.loop-at.invariant.inside.1 c.in_default.ensures.none

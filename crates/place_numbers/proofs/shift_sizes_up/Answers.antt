@@ -11,9 +11,9 @@ loop-at-preserved-then-at-end c =
     let from = c.args.from in let to = c.args.to in let xs = c.args.marks.now in let ys = c.args.sizes.now in let it = c.in-Some.ensures.last in
     let reached = it.inside in let one = it.large in let most = c.requires.parts.most c.in-Some.at in
     record {
-      inside = omega arith;
+      inside = omega (arith, c.in-Some.ensures.behind);
       done = rw (c.set-then-at-end.ensures, c.set.ensures, c.get-size.ensures) (up-moved xs ys c.loop-at.sizes (to + c.args.count) (to - from) c.loop-at.behind from c.in-Some.at c.requires.parts
-          c.loop-at.invariant.done c.loop-at.invariant.inside.1 reached c.if-at-from.false c.requires.inside (omega (arith, one, most)) it.last
+          c.loop-at.invariant.done c.loop-at.invariant.inside.1 reached c.in-Some.ensures.behind c.requires.inside (omega (arith, one, most)) it.last
           (up-clear xs ys c.loop-at.sizes from to c.args.count c.loop-at.behind c.requires.parts c.requires.order c.requires.inside c.requires.spread)
           (let low = c.if-at-end.true in let order = c.requires.order in omega (arith, low, order)));
     }
@@ -23,29 +23,19 @@ loop-at-preserved c =
     let from = c.args.from in let to = c.args.to in let xs = c.args.marks.now in let ys = c.args.sizes.now in let it = c.in-Some.ensures.last in
     let reached = it.inside in let one = it.large in let most = c.requires.parts.most c.in-Some.at in
     record {
-      inside = omega arith;
+      inside = omega (arith, c.in-Some.ensures.behind);
       done = rw c.set.ensures (up-gone xs ys c.loop-at.sizes (to + c.args.count) (to - from) c.loop-at.behind from c.in-Some.at c.requires.parts
-          c.loop-at.invariant.done c.loop-at.invariant.inside.1 reached c.if-at-from.false c.requires.inside (omega (arith, one, most)) it.last
+          c.loop-at.invariant.done c.loop-at.invariant.inside.1 reached c.in-Some.ensures.behind c.requires.inside (omega (arith, one, most)) it.last
           (up-clear xs ys c.loop-at.sizes from to c.args.count c.loop-at.behind c.requires.parts c.requires.order c.requires.inside c.requires.spread)
           (let high = c.if-at-end.false in let order = c.requires.order in omega (arith, high, order)));
     }
 
-pub returns-then-at-from-clause-parts : goal.returns-then-at-from-clause-parts
-returns-then-at-from-clause-parts c =
+pub returns-clause-parts : goal.returns-clause-parts
+returns-clause-parts c =
     up-parts c.args.marks.now c.args.sizes.now c.loop-at.sizes c.args.from c.args.to c.args.count c.loop-at.behind c.requires.parts c.requires.order c.requires.inside c.requires.spread
-    c.loop-at.invariant.done c.loop-at.invariant.inside.0 (λ j past below. c.in-Some.ensures.last.last j (let found = c.if-at-from.true in omega (arith, found, past)) below)
+    c.loop-at.invariant.done c.loop-at.invariant.inside.0 c.in_default.ensures.none
 
-pub returns-then-at-from-clause-numbers : goal.returns-then-at-from-clause-numbers
-returns-then-at-from-clause-numbers c =
+pub returns-clause-numbers : goal.returns-clause-numbers
+returns-clause-numbers c =
     up-view c.args.marks.now c.args.sizes.now c.loop-at.sizes c.args.from c.args.to c.args.count c.loop-at.behind c.requires.parts c.requires.order c.requires.inside c.requires.spread
-    c.loop-at.invariant.done c.loop-at.invariant.inside.0 (λ j past below. c.in-Some.ensures.last.last j (let found = c.if-at-from.true in omega (arith, found, past)) below)
-
-pub returns-in_default-clause-parts : goal.returns-in_default-clause-parts
-returns-in_default-clause-parts c =
-    up-parts c.args.marks.now c.args.sizes.now c.loop-at.sizes c.args.from c.args.to c.args.count c.loop-at.behind c.requires.parts c.requires.order c.requires.inside c.requires.spread
-    c.loop-at.invariant.done c.loop-at.invariant.inside.0 (λ j past below. c.in_default.ensures.none j below)
-
-pub returns-in_default-clause-numbers : goal.returns-in_default-clause-numbers
-returns-in_default-clause-numbers c =
-    up-view c.args.marks.now c.args.sizes.now c.loop-at.sizes c.args.from c.args.to c.args.count c.loop-at.behind c.requires.parts c.requires.order c.requires.inside c.requires.spread
-    c.loop-at.invariant.done c.loop-at.invariant.inside.0 (λ j past below. c.in_default.ensures.none j below)
+    c.loop-at.invariant.done c.loop-at.invariant.inside.0 c.in_default.ensures.none

@@ -1,6 +1,6 @@
 //! Words of 32 bits.
 
-ghost use Rattle.std.specs.Prelude.{◌≡◌, ℕ, ◌≢◌, ◌≤◌, ◌<◌, IfSome, IfNone};
+ghost use Rattle.std.specs.Prelude.{◌≡◌, ℕ, ◌≢◌, ◌+◌, ◌-◌, ◌≤◌, ◌<◌, IfSome, IfNone};
 ghost use Rattle.std.specs.Int.{bit_at};
 ghost use Rattle.place_numbers.specs.Bits.{mark_of, FirstBit, LastBit};
 
@@ -43,4 +43,29 @@ pub fn last_bit(word: u32, end: u32) -> Option<u32>
     } else {
         Some(front.ilog2())
     }
+}
+
+/// The bits of a word from a place on, and behind them those of the next word.
+pub fn bits_from(word: u32, next: u32, place: u32) -> u32
+    requires { place < 32 }
+    ensures word { (i : ℕ) → place + i < 32 → bit_at result i ≡ bit_at word (place + i) }
+    ensures next { (i : ℕ) → 32 ≤ place + i → i < 32 → bit_at result i ≡ bit_at next (place + i - 32) }
+{
+    if place == 0 {
+        word
+    } else {
+        word >> place | next << (32 - place)
+    }
+}
+
+/// The word with so many of these bits from a place on.
+pub fn with_bits(word: u32, place: u32, count: u32, bits: u32) -> u32
+    requires some { 0 < count }
+    requires inside { place + count ≤ 32 }
+    ensures here { (i : ℕ) → i < count → bit_at result (place + i) ≡ bit_at bits i }
+    ensures before { (i : ℕ) → i < place → bit_at result i ≡ bit_at word i }
+    ensures behind { (i : ℕ) → place + count ≤ i → i < 32 → bit_at result i ≡ bit_at word i }
+{
+    let mask = u32::MAX >> (32 - count) << place;
+    word & !mask | bits << place & mask
 }

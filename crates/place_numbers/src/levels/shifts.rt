@@ -1,6 +1,6 @@
 //! Shifts of numbers of a byte each.
 
-ghost use Rattle.std.specs.Prelude.{◌≡◌, ℕ, ◌+◌, ◌*◌, ◌≤◌, ◌<◌, length, slice_index};
+ghost use Rattle.std.specs.Prelude.{◌≡◌, ℕ, ◌+◌, ◌*◌, ◌≤◌, ◌<◌, IsFalse, length, set, slice_index};
 ghost use Rattle.place_numbers.specs.Bounds.{AreBounds, AreBoundsOutside};
 ghost use Rattle.place_numbers.specs.Shifted.{shifted_down, shifted_up};
 
@@ -11,8 +11,21 @@ use crate::row::Row;
 /// Where numbers move by so many times more places than they are, few of them are thought to be above 0.
 const FEW: usize = 64;
 
-/// Makes some bounds anew, those from `first` up to `end`.
-fn renew<N: Number>(bounds: &mut Row<N>, numbers: &Row<N>, first: usize, end: usize)
+/// Writes a bound, where another is there. Says whether one is.
+fn put<N: Number>(bounds: &mut Row<N>, chunk: usize, bound: N) -> bool
+    requires { chunk < length bounds.old }
+    ensures written { bounds.new ≡ set bounds.old chunk (N.value bound) }
+    ensures same { IsFalse result → bounds.new ≡ bounds.old }
+{
+    let other = bounds.get(chunk).number() != bound.number();
+    if other {
+        bounds.set(chunk, bound);
+    }
+    other
+}
+
+/// Makes some bounds anew, those from `first` up to `end`. Says whether any is another than before.
+fn renew<N: Number>(bounds: &mut Row<N>, numbers: &Row<N>, first: usize, end: usize) -> bool
     requires order { first ≤ end }
     requires inside { end * 32 < length numbers.now + 32 }
     requires others { AreBoundsOutside bounds.old numbers.now (first * 32) (end * 32) }
@@ -20,13 +33,17 @@ fn renew<N: Number>(bounds: &mut Row<N>, numbers: &Row<N>, first: usize, end: us
     ensures before { (j : ℕ) → j < first → slice_index bounds.new j ≡ slice_index bounds.old j }
     ensures behind { (j : ℕ) → end ≤ j → slice_index bounds.new j ≡ slice_index bounds.old j }
     ensures count { length bounds.new ≡ length bounds.old }
+    ensures same { IsFalse result → bounds.new ≡ bounds.old }
 {
+    let mut changed = false;
     for chunk in first..end {
-        bounds.set(chunk, numbers.largest(chunk));
+        changed |= put(bounds, chunk, numbers.largest(chunk));
     }
+    changed
 }
 
-/// Makes the bounds of all levels right again, where other numbers stood before from `first` up to `end`.
+/// Makes the bounds of all levels right again, where other numbers stood before from `first` up to `end`. Where those of a level stay
+/// what they were, those above are right already.
 fn renew_levels<N: Number>(
     numbers: &Row<N>,
     low: &mut Row<N>,
@@ -46,10 +63,14 @@ fn renew_levels<N: Number>(
 {
     let chunk = first / 32;
     let chunks = end.div_ceil(32);
-    renew(low, numbers, chunk, chunks);
+    if !renew(low, numbers, chunk, chunks) {
+        return;
+    }
     let group = chunk / 32;
     let groups = chunks.div_ceil(32);
-    renew(middle, low, group, groups);
+    if !renew(middle, low, group, groups) {
+        return;
+    }
     renew(high, middle, group / 32, groups.div_ceil(32));
 }
 

@@ -1,4 +1,4 @@
-use Rattle.std.proofs.Common.{◌≡◌, ℕ, ◌*◌, ◌≤◌, ◌<◌, length, get_or}
+use Rattle.std.proofs.Common.{◌≡◌, ℕ, false, ◌*◌, ◌≤◌, ◌<◌, length, get_or}
 use Rattle.place_numbers.specs.Bounds.{AreBoundsOutside}
 use Rattle.place_numbers.proofs.levels.shifts.renew.Given as goal
 
@@ -8,4 +8,5 @@ invariant-loop-chunk g l = record {
   before : (j : ℕ) → j < l.first → get_or l.bounds j 0 ≡ get_or l.fn.bounds j 0;
   behind : (j : ℕ) → l.end ≤ j → get_or l.bounds j 0 ≡ get_or l.fn.bounds j 0;
   count : length l.bounds ≡ length l.fn.bounds;
+  same : l.changed ≡ false → l.bounds ≡ l.fn.bounds;
 }

@@ -1,5 +1,5 @@
 use Rattle.std.proofs.Common.{◌≡◌, [], false, sym, subst}
-use Rattle.std.specs.Prelude.{IfNone, IfSome}
+use Rattle.std.specs.Prelude.{IfNone, IfSome, None}
 use Rattle.mac_base.specs.Sound.{Sound}
 use Rattle.mac_base.specs.ZoneState.{ZoneState}
 use Rattle.linked_zone.specs.Sleeping.{FallsAsleep}
@@ -24,4 +24,4 @@ pub returns-clause-asleep : goal.returns-clause-asleep
 returns-clause-asleep c = subst (λ (z : ZoneState). IfSome c.sleep.result (λ region. FallsAsleep z c.sleep.new.self)) c.self.view_is c.sleep.ensures.asleep
 
 pub returns-clause-none : goal.returns-clause-none
-returns-clause-none c = subst (λ (z : ZoneState). IfNone c.sleep.result ((z.memory.awake ≡ false) × (c.sleep.new.self ≡ z))) c.self.view_is c.sleep.ensures.none
+returns-clause-none c = subst (λ (z : ZoneState). IfNone c.sleep.result ((z.memory.kept ≡ None) × (c.sleep.new.self ≡ z))) c.self.view_is c.sleep.ensures.none

@@ -17,7 +17,7 @@ invariant_of-self c =
     let z = c.self.inside.zone in
     let w = c.wake.new.self in
     let was = sym c.self.view_is in
-    let others = differ z (subst (λ (z : ZoneState). Sound z.shape z.heap) was c.requires.sound) (subst (λ (z : ZoneState). z.heap.table.lent ≡ []) was c.requires.nothing_lent) c.args.region.bytes (woken_in c.args.region.name)
+    let others = differ z (subst (λ (z : ZoneState). Sound z.shape z.heap) was c.requires.sound) (subst (λ (z : ZoneState). z.heap.table.lent ≡ []) was c.requires.nothing_lent) c.args.region.bytes (woken_in z.memory c.args.region.name)
     (subst (λ (z : ZoneState). HasStructure z c.args.region.bytes) was c.requires.same) (subst (λ (z : ZoneState). SameFlags z c.args.region.bytes) was c.requires.flags) in
     let d = subst (λ (w : ZoneState). DifferInContents z w) (sym c.wake.ensures) others in record {
       fixed = fixed-refilled z w d c.self.inside.marks c.self.invariant.fixed;

@@ -1,0 +1,150 @@
+//! Copies of many marks at once, those of a word in one step.
+
+ghost use Rattle.std.specs.Prelude.{◌≡◌, ℕ, ◌+◌, ◌-◌, ◌%◌, ◌≤◌, ◌<◌, length, slice_index};
+ghost use Rattle.std.specs.Int.{bit_at};
+ghost use Rattle.place_numbers.specs.Bits.{AreWritten};
+ghost use Rattle.place_numbers.specs.Shifted.{copied, shifted_down};
+
+use super::word::{bits_from, with_bits};
+use super::{Bits, note};
+
+/// So many places are gone through word by word as fast as the next mark is searched.
+const NEAR: usize = 256;
+
+impl Bits {
+    /// The marks of 32 places, from one on, the lowest bit that of the first. Behind the last place there are none.
+    pub(super) fn read(&self, place: usize) -> u32
+        ensures { (i : ℕ) → i < 32 → bit_at result i ≡ slice_index self.now (place + i) }
+    {
+        let word = place / 32;
+        bits_from(
+            self.words.get(word),
+            self.words.get(word + 1),
+            (place % 32) as u32,
+        )
+    }
+
+    /// Writes the marks of `count` places of one word, the first that of the lowest bit.
+    fn write(&mut self, place: usize, count: usize, marks: u32)
+        requires some { 0 < count }
+        requires word { place % 32 + count ≤ 32 }
+        requires inside { place + count ≤ length self.old }
+        ensures { AreWritten self.old self.new place count marks }
+    {
+        let word = place / 32;
+        let before = self.words.get(word);
+        let now = with_bits(before, (place % 32) as u32, count as u32, marks);
+        self.words.set(word, now);
+        note(&mut self.used, word, now != 0);
+    }
+
+    /// The place up to which none from `from` on has a mark, as far as it is looked for: where few places are left, they are gone
+    /// through as fast.
+    pub(super) fn pass(&self, from: usize, end: usize) -> usize
+        requires order { from ≤ end }
+        requires inside { end ≤ length self.now }
+        ensures order { from ≤ result }
+        ensures most { result ≤ end }
+        ensures none { (j : ℕ) → from ≤ j → j < result → slice_index self.now j < 1 }
+    {
+        if end - from <= NEAR {
+            return from;
+        }
+        match self.first_from(from) {
+            Some(at) => end.min(at),
+            None => end,
+        }
+    }
+
+    /// Takes away the marks from one place up to another.
+    pub(super) fn clear(&mut self, from: usize, end: usize)
+        requires order { from ≤ end }
+        requires inside { end ≤ length self.old }
+        ensures { self.new ≡ shifted_down end from 0 self.old }
+    {
+        let _len = self.len();
+        let mut place = from;
+        while place < end {
+            let piece = (end - place).min(32 - place % 32);
+            self.write(place, piece, 0);
+            place = self.pass(place + piece, end);
+        }
+    }
+
+    /// Copies the first of `count` marks from `from` on down to `to`: those of one word of these places, or the places without a mark
+    /// with which they begin. Gives how many.
+    fn copy_first(&mut self, from: usize, to: usize, count: usize) -> usize
+        requires some { 0 < count }
+        requires order { to ≤ from }
+        requires inside { from + count ≤ length self.old }
+        ensures some { 0 < result }
+        ensures most { result ≤ count }
+        ensures copied { self.new ≡ copied from to result self.old }
+    {
+        let _len = self.len();
+        let marks = self.read(from);
+        if marks != 0 || count <= NEAR {
+            let piece = count.min(32 - to % 32);
+            self.write(to, piece, marks);
+            return piece;
+        }
+        let free = match self.first_from(from) {
+            Some(at) => count.min(at - from),
+            None => count,
+        };
+        self.clear(to, to + free);
+        free
+    }
+
+    /// Copies the last of `count` marks from `from` on up to those from `to` on: those of one word of these places, or the places
+    /// without a mark with which they end. Gives how many.
+    fn copy_last(&mut self, from: usize, to: usize, count: usize) -> usize
+        requires some { 0 < count }
+        requires order { from ≤ to }
+        requires inside { to + count ≤ length self.old }
+        ensures some { 0 < result }
+        ensures most { result ≤ count }
+        ensures copied { self.new ≡ copied (from + (count - result)) (to + (count - result)) result self.old }
+    {
+        let _len = self.len();
+        let piece = count.min((to + count - 1) % 32 + 1);
+        let rest = count - piece;
+        let marks = self.read(from + rest);
+        if marks != 0 || count <= NEAR {
+            self.write(to + rest, piece, marks);
+            return piece;
+        }
+        let free = match self.last_before(from + count) {
+            Some(at) => count.min(from + count - (at + 1)),
+            None => count,
+        };
+        self.clear(to + (count - free), to + count);
+        free
+    }
+
+    /// Copies so many marks from `from` on down to those from `to` on, the low ones first.
+    pub(super) fn copy_down(&mut self, from: usize, to: usize, count: usize)
+        requires order { to ≤ from }
+        requires inside { from + count ≤ length self.old }
+        ensures { self.new ≡ copied from to count self.old }
+    {
+        let _len = self.len();
+        let mut done = 0;
+        while done < count {
+            done += self.copy_first(from + done, to + done, count - done);
+        }
+    }
+
+    /// Copies so many marks from `from` on up to those from `to` on, the high ones first.
+    pub(super) fn copy_up(&mut self, from: usize, to: usize, count: usize)
+        requires order { from ≤ to }
+        requires inside { to + count ≤ length self.old }
+        ensures { self.new ≡ copied from to count self.old }
+    {
+        let _len = self.len();
+        let mut left = count;
+        while 0 < left {
+            left -= self.copy_last(from, to, left);
+        }
+    }
+}
