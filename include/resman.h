@@ -9,7 +9,7 @@
  * What the caller promises beside what macheap.h says, and nothing tests:
  *  - An MrFiles begins as MR_NO_FILES, and then only these functions write it. It may be moved, but a copy is never
  *    passed.
- *  - One call at a time on one MrFiles, on one thread.
+ *  - One call at a time on one MrFiles, which may go from thread to thread as a zone may.
  *
  * Files know handles as numbers. So that these stay those of their resources, a program does this; else a call may
  * take another block for a resource's, and harms nothing of the host:
@@ -35,12 +35,14 @@ extern "C" {
 #endif
 
 enum {
-    MR_DSK_FUL_ERR = -34,      /* no fork can hold what is to be written */
-    MR_IO_ERR = -36,           /* the host has no memory for a longer fork. The file is closed */
-    MR_EOF_ERR = -39,          /* the fork ends too early */
-    MR_TMFO_ERR = -42,         /* 255 files are open */
-    MR_RES_NOT_FOUND = -192,   /* no such resource */
-    MR_RES_F_NOT_FOUND = -193, /* no such resource file is open */
+    MR_DSK_FUL_ERR = -34,          /* no fork can hold what is to be written */
+    MR_IO_ERR = -36,               /* the host has no memory for a longer fork. The file is closed */
+    MR_EOF_ERR = -39,              /* the fork ends too early */
+    MR_TMFO_ERR = -42,             /* 255 files are open */
+    MR_RESOURCE_IN_MEMORY = -188,  /* bytes were read, and the resource is in memory: a warning */
+    MR_INPUT_OUT_OF_BOUNDS = -190, /* the resource doesn't have all these bytes in its fork */
+    MR_RES_NOT_FOUND = -192,       /* no such resource */
+    MR_RES_F_NOT_FOUND = -193,     /* no such resource file is open */
     MR_ADD_RES_FAILED = -194,
     MR_RMV_RES_FAILED = -196,
     MR_RES_ATTR_ERR = -198, /* the resource's attributes forbid the call */
@@ -87,6 +89,12 @@ MhErr mr_detach_resource(MrFiles *files, MhZone *zone, uint32_t handle);
  * aren't the same. No bytes are the name of a resource whose name is there and empty. */
 MhErr mr_get_named_resource(MrFiles *files, MhZone *zone, uint32_t kind, const uint8_t *name, size_t length, uint32_t *handle);
 MhErr mr_get1_named_resource(MrFiles *files, MhZone *zone, uint32_t kind, const uint8_t *name, size_t length, uint32_t *handle);
+
+/* ReadPartialResource: reads so many bytes that a resource has in its fork now, from an offset on, whatever the block of its handle has: one
+ * that was added and isn't written yet has none. Nothing is loaded, and the zone stays. It is resourceInMemory where the bytes were read and
+ * the handle has a block, and inputOutOfBounds where the resource doesn't have them all in its fork. Where none were read `bytes` stays;
+ * after ioErr it may have any. */
+MhErr mr_read_partial_resource(MrFiles *files, MhZone *zone, uint32_t handle, uint32_t offset, uint8_t *bytes, size_t count);
 
 /* What the files say. */
 MhErr mr_get_res_attrs(MrFiles *files, MhZone *zone, uint32_t handle, uint32_t *number);

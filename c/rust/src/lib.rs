@@ -29,6 +29,11 @@ fn told(code: i16) -> Result<()> {
 /// ends if a block is lent. Handles, pointers and addresses are numbers of its own; any number may be given.
 pub struct Zone<'a>(MhZone, Option<&'a mut MhAsleep>, PhantomData<&'a mut [u8]>);
 
+// What these point to is memory of malloc, or bytes that they borrow alone, and no call keeps anything of its thread.
+unsafe impl Send for Zone<'_> {}
+unsafe impl Send for Asleep {}
+unsafe impl Send for resources::Files {}
+
 // In each `unsafe` below the zone is this one alone, and each pointer leads to a value or to bytes of its own.
 impl Zone<'static> {
     pub fn new(base: u32, size: u32, limit: u32, mode: u32) -> Result<Zone<'static>> {

@@ -74,6 +74,15 @@ impl Files {
         Ok(handle)
     }
 
+    /// Reads the bytes of a resource from its fork, from an offset on, as many as `bytes` has, and says whether the resource is in memory.
+    pub fn read_partial_resource(&mut self, zone: &mut Zone, handle: u32, offset: u32, bytes: &mut [u8]) -> Result<bool> {
+        let (at, count) = (bytes.as_mut_ptr(), bytes.len());
+        match unsafe { sys::mr_read_partial_resource(&mut self.0, &mut zone.0, handle, offset, at, count) } {
+            sys::MR_RESOURCE_IN_MEMORY => Ok(true),
+            code => told(code).map(|()| false),
+        }
+    }
+
     pub fn get_res_info(&mut self, zone: &mut Zone, handle: u32) -> Result<ResInfo> {
         let mut info = MrInfo::default();
         let mut name = vec![0; 255];

@@ -41,6 +41,8 @@ pub const MR_DSK_FUL_ERR: i16 = -34;
 pub const MR_IO_ERR: i16 = -36;
 pub const MR_EOF_ERR: i16 = -39;
 pub const MR_TMFO_ERR: i16 = -42;
+pub const MR_RESOURCE_IN_MEMORY: i16 = -188;
+pub const MR_INPUT_OUT_OF_BOUNDS: i16 = -190;
 pub const MR_RES_NOT_FOUND: i16 = -192;
 pub const MR_RES_F_NOT_FOUND: i16 = -193;
 pub const MR_ADD_RES_FAILED: i16 = -194;
@@ -168,6 +170,7 @@ unsafe extern "C" {
     pub fn mr_get_named_resource(files: &mut MrFiles, zone: &mut MhZone, kind: ResType, name: *const u8, length: usize, handle: &mut u32) -> i16;
     pub fn mr_get1_named_resource(files: &mut MrFiles, zone: &mut MhZone, kind: ResType, name: *const u8, length: usize, handle: &mut u32) -> i16;
     pub fn mr_get_res_info(files: &mut MrFiles, zone: &mut MhZone, handle: u32, info: &mut MrInfo, name: *mut u8, room: usize) -> i16;
+    pub fn mr_read_partial_resource(files: &mut MrFiles, zone: &mut MhZone, handle: u32, offset: u32, bytes: *mut u8, count: usize) -> i16;
     pub fn mr_add_resource(files: &mut MrFiles, zone: &mut MhZone, handle: u32, kind: ResType, id: i16, name: *const u8, length: usize) -> i16;
     pub fn mr_set_res_info(files: &mut MrFiles, handle: u32, id: i16, name: *const u8, length: usize) -> i16;
 }

@@ -77,3 +77,19 @@ fn bytes_that_are_no_fork_are_refused() {
     assert_eq!(files.open(&mut zone, &[0; 10]).err(), Some(OsErr(sys::MR_EOF_ERR)));
     assert_eq!(files.cur_res_file(&mut zone), Ok(0));
 }
+
+#[test]
+fn some_bytes_are_read_from_the_fork() {
+    let fork = fork_with(&[(TEXT, 128, b"", b"0123456789")]);
+    let (mut zone, mut files) = (zone(), Files::new().unwrap());
+    files.open(&mut zone, &fork).unwrap();
+    let text = files.get_resource(&mut zone, TEXT, 128).unwrap();
+    zone.poke(text, 0, b"abc").unwrap();
+    let mut bytes = [0; 4];
+    assert_eq!(files.read_partial_resource(&mut zone, text, 1, &mut bytes), Ok(true));
+    assert_eq!(&bytes, b"1234");
+    zone.empty_handle(text).unwrap();
+    assert_eq!(files.read_partial_resource(&mut zone, text, 6, &mut bytes), Ok(false));
+    assert_eq!(&bytes, b"6789");
+    assert_eq!(files.read_partial_resource(&mut zone, text, 7, &mut bytes), Err(OsErr(sys::MR_INPUT_OUT_OF_BOUNDS)));
+}

@@ -89,9 +89,9 @@ counts-rose k old new rose = subst (λ (n : ℕ). Rose n (slice_index (map failu
 steps-on : (old new : State) (on new_on : FilesOn Store) (call : ResourceCall) (outcome : Outcome)
     → ResourceSteps mem_store old.zone on call new.asks outcome new.zone new_on
     → ReadsBack (honest_in new_on.stores) (state_of fork_in old.zone on) call outcome (state_of fork_in new.zone new_on)
-    → taken new.asks new.left ≡ old.left → OutOfAnswers new.asks new.left → new.loans ≡ old.loans → new.guest ≡ old.guest → KeepsLoans old.zone new.zone
+    → taken new.asks new.left ≡ old.left → OutOfAnswers new.asks new.left → new.loans ≡ old.loans → KeepsLoans old.zone new.zone
     → StepsOnForks old (seen_on on) call outcome new (seen_on new_on)
-steps-on old new on new_on call outcome steps reads took out loans guest keeps = record {
+steps-on old new on new_on call outcome steps reads took out loans keeps = record {
   device = steps.device;
   step = step_by MayStep (StepsFrom old.left new.left) (read_truly IsPartly) steps.device (state_of fork_in old.zone on) call new.asks (record { outcome = outcome; state = state_of fork_in new.zone new_on })
       (λ s heap inner given after may. exact-queued s heap inner given after new.asks new.left old.left may.1 took out)
@@ -101,7 +101,6 @@ steps-on old new on new_on call outcome steps reads took out loans guest keeps =
   taken = sym took;
   reads_back = reads_there (honest_in new_on.stores) (all_honest new_on.stores) (state_of fork_in old.zone on) call outcome (state_of fork_in new.zone new_on) reads;
   loans = loans;
-  guest = guest;
   lent = record { keeps = keeps };
 }
   where
@@ -130,18 +129,17 @@ steps-on old new on new_on call outcome steps reads took out loans guest keeps =
 -- one that had none
 no-memory : (old new : State) (on new_on : FilesOn Store) (call : ResourceCall)
     → IsTrue (takes_memory (state_of fork_in old.zone on) call) → resource_refusal (state_of fork_in old.zone on) call ≡ None
-    → new.zone ≡ old.zone → new.asks ≡ [] → taken new.asks new.left ≡ old.left → new.loans ≡ old.loans → new.guest ≡ old.guest
+    → new.zone ≡ old.zone → new.asks ≡ [] → taken new.asks new.left ≡ old.left → new.loans ≡ old.loans
     → IsAnswered (honest_in new_on.stores) (state_of fork_in new.zone new_on) (state_of fork_in old.zone on)
     → HasNoMemory old (seen_on on) call (Err MemFullErr) new (seen_on new_on)
-no-memory old new on new_on call takes passes zone asks took loans guest same = record {
+no-memory old new on new_on call takes passes zone asks took loans same = record {
   takes = takes;
   passes = passes;
   full = refl;
-  zone = ap (λ (z : ZoneState). let s : State = record { zone = z; loans = new.loans; left = new.left; asks = new.asks; guest = new.guest } in s) zone
-      ∙ ap (λ (l : Loans). let s : State = record { zone = old.zone; loans = l; left = new.left; asks = new.asks; guest = new.guest } in s) loans
-      ∙ ap (λ (made : List Ask). let s : State = record { zone = old.zone; loans = old.loans; left = new.left; asks = made; guest = new.guest } in s) asks
-      ∙ ap (λ (left : List Answer). let s : State = record { zone = old.zone; loans = old.loans; left = left; asks = []; guest = new.guest } in s) (ap (λ (made : List Ask). taken made new.left) (sym asks) ∙ took)
-      ∙ ap (λ (g : Bool). let s : State = record { zone = old.zone; loans = old.loans; left = old.left; asks = []; guest = g } in s) guest;
+  zone = ap (λ (z : ZoneState). let s : State = record { zone = z; loans = new.loans; left = new.left; asks = new.asks } in s) zone
+      ∙ ap (λ (l : Loans). let s : State = record { zone = old.zone; loans = l; left = new.left; asks = new.asks } in s) loans
+      ∙ ap (λ (made : List Ask). let s : State = record { zone = old.zone; loans = old.loans; left = new.left; asks = made } in s) asks
+      ∙ ap (λ (left : List Answer). let s : State = record { zone = old.zone; loans = old.loans; left = left; asks = [] } in s) (ap (λ (made : List Ask). taken made new.left) (sym asks) ∙ took);
   files = (ap (λ (s : ResState). s.files) stays, ap (λ (s : ResState). s.loads) stays, ap (λ (s : ResState). s.disks) stays);
 }
   where
@@ -156,17 +154,17 @@ module _ (zone : State) (on : FilesOn Store) (old : State) (old_files : ForksSta
   pub steps-seen : (made : Result Outcome HostFull)
       → IfOk made (λ outcome. ResourceSteps mem_store zone.zone on call new.asks outcome new.zone new_on)
       → IfOk made (λ outcome. ReadsBack (honest_in new_on.stores) (state_of fork_in zone.zone on) call outcome (state_of fork_in new.zone new_on))
-      → taken new.asks new.left ≡ zone.left → OutOfAnswers new.asks new.left → new.loans ≡ zone.loans → new.guest ≡ zone.guest → KeepsLoans zone.zone new.zone
+      → taken new.asks new.left ≡ zone.left → OutOfAnswers new.asks new.left → new.loans ≡ zone.loans → KeepsLoans zone.zone new.zone
       → IfOk made (λ outcome. StepsOnForks old old_files call outcome new (seen_on new_on))
-  steps-seen (Ok outcome) steps reads took out loans guest keeps =
-      seen_then (λ s f. StepsOnForks s f call outcome new (seen_on new_on)) (steps-on zone new on new_on call outcome steps reads took out loans guest keeps)
-  steps-seen (Err full) steps reads took out loans guest keeps = tt
+  steps-seen (Ok outcome) steps reads took out loans keeps =
+      seen_then (λ s f. StepsOnForks s f call outcome new (seen_on new_on)) (steps-on zone new on new_on call outcome steps reads took out loans keeps)
+  steps-seen (Err full) steps reads took out loans keeps = tt
 
   pub none-seen : (made : Result Outcome HostFull)
       → OnErr made (IsTrue (takes_memory (state_of fork_in zone.zone on) call)) → OnErr made (resource_refusal (state_of fork_in zone.zone on) call ≡ None)
-      → OnErr made (new.zone ≡ zone.zone) → OnErr made (new.asks ≡ []) → taken new.asks new.left ≡ zone.left → new.loans ≡ zone.loans → new.guest ≡ zone.guest
+      → OnErr made (new.zone ≡ zone.zone) → OnErr made (new.asks ≡ []) → taken new.asks new.left ≡ zone.left → new.loans ≡ zone.loans
       → OnErr made (IsAnswered (honest_in new_on.stores) (state_of fork_in new.zone new_on) (state_of fork_in zone.zone on))
       → OnErr made (HasNoMemory old old_files call (Err MemFullErr) new (seen_on new_on))
-  none-seen (Ok outcome) takes passes same asks took loans guest answered = tt
-  none-seen (Err full) takes passes same asks took loans guest answered =
-      seen_then (λ s f. HasNoMemory s f call (Err MemFullErr) new (seen_on new_on)) (no-memory zone new on new_on call takes passes same asks took loans guest answered)
+  none-seen (Ok outcome) takes passes same asks took loans answered = tt
+  none-seen (Err full) takes passes same asks took loans answered =
+      seen_then (λ s f. HasNoMemory s f call (Err MemFullErr) new (seen_on new_on)) (no-memory zone new on new_on call takes passes same asks took loans answered)

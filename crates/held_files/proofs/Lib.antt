@@ -2,3 +2,4 @@ mod Words
 pub mod Honest
 pub mod Numbers
 pub mod Seeking
+mod Reading

@@ -4,3 +4,4 @@ pub mod Info
 pub mod Making
 pub mod Told
 pub mod Counting
+pub mod Partial

@@ -41,7 +41,6 @@ pub record StepsOnForks (old : State) (old_files : ForksState) (call : ResourceC
   pub taken : old.left ≡ answers_in new.asks ++ new.left
   pub reads_back : ReadsBack (λ k. ⊤) (resource_state old old_files) call outcome (resource_state new new_files)
   pub loans : new.loans ≡ old.loans
-  pub guest : new.guest ≡ old.guest
   pub lent : StaysLent old.zone new.zone
 
 -- From a zone and files, a call that seeks a resource otherwise than by its id ends so and leaves these: where it finds one, that is got
@@ -55,7 +54,6 @@ pub record SeeksOnForks (old : State) (old_files : ForksState) (call : SeekingCa
       (IsOkAnd (sought call old_files.files) (λ p. FailsAt p.file old_files.failures new_files.failures))
   pub taken : old.left ≡ answers_in new.asks ++ new.left
   pub loans : new.loans ≡ old.loans
-  pub guest : new.guest ≡ old.guest
   pub lent : StaysLent old.zone new.zone
 
 -- The host has no memory for a call that takes some and isn't refused: the answer is memFullErr, and nothing has

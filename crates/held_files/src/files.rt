@@ -15,7 +15,7 @@ use mac_base::error::{HostFull, OsErr};
 use mac_base::handle::Handle;
 use mac_base::releasing::ReleasingCall;
 use mac_calls::{MemoryCall, Outcome, ResourceCall};
-use res_calls::{CountingCall, SeekingCall};
+use res_calls::{CountingCall, PartialRead, SeekingCall};
 use res_files::{MOST_FILES, ResourceFiles};
 use std::alloc::Global;
 use std::marker::Model;
@@ -274,5 +274,22 @@ impl ForkFiles {
         ensures { result ≡ counted call self.now.files }
     {
         res_manager::count(&self.files, call)
+    }
+}
+
+impl ForkFiles {
+    ghost use Rattle.held_files.specs.Partial.{ReadsOnForks};
+
+    /// ReadPartialResource: reads as many bytes as the buffer holds of those that a resource has in its fork, from an offset on.
+    pub fn read_partial(
+        &mut self,
+        session: &Session,
+        handle: Handle,
+        offset: u32,
+        buffer: &mut [u8],
+    ) -> PartialRead
+        ensures { ReadsOnForks session.now self.old handle offset buffer.old buffer.new result self.new }
+    {
+        res_manager::read_partial(&mut self.files, &session.memory, handle, offset, buffer)
     }
 }

@@ -4,4 +4,5 @@
 mod counting;
 pub mod files;
 pub mod held;
+mod partial;
 pub mod told;

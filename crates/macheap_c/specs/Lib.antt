@@ -5,3 +5,4 @@ pub mod Diagnose
 pub mod Image
 pub mod Life
 pub mod Walk
+pub mod Partial

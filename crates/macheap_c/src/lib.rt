@@ -14,5 +14,6 @@ mod image;
 mod info;
 mod life;
 mod named;
+mod partial;
 mod resources;
 mod walk;

@@ -12,3 +12,4 @@ pub mod Answered
 pub mod Sought
 pub mod Info
 pub mod Counted
+pub mod Partial

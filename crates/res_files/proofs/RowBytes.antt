@@ -1,7 +1,9 @@
 -- What is read of a row is what it has in its fork.
-use Rattle.std.proofs.Common.{◌≡◌, refl, sym, ap, ◌∙◌, subst, arith, ℕ, ◌-◌, List, [], ◌∷◌, length, map, get_or, unwrap_or, Bool, Option, None, Some, IfSome}
+use Rattle.std.proofs.Common.{◌≡◌, refl, sym, ap, ◌∙◌, subst, arith, ℕ, ◌+◌, ◌-◌, ◌≤◌, List, [], ◌∷◌, length, take, drop, map, get_or, unwrap_or, Bool, Option, None, Some, Result, Ok, Err, IfSome, OnOk}
 use Rattle.std.specs.Option.{option_map}
-use Rattle.std.proofs.lemmas.Option.{slice_get-map, slice_get_read}
+use Rattle.std.proofs.lemmas.List.{drop-drop, drop-take, take-take}
+use Rattle.std.proofs.Math.Seq.{take-length}
+use Rattle.std.proofs.lemmas.Option.{IfSome_then, slice_get-map, slice_get_read}
 use Rattle.fork_bytes.specs.Fork.{bytes_at}
 use Rattle.fork_reader.specs.declared.place.Place.{Place}
 use Rattle.res_table.specs.declared.row.Row.{Row}
@@ -16,34 +18,41 @@ use Rattle.res_files.proofs.Mapped.{row-mapped}
 use Rattle.res_files.proofs.Stands.{row_stands}
 use Rattle.res_files.proofs.On.{seen, bytes_in, asked, row_seen, no_row_seen}
 
--- two lists without bytes
-both_empty : (xs ys : List ℕ) → length xs ≡ 0 → length ys ≡ 0 → xs ≡ ys
-both_empty [] [] long other = refl
-both_empty [] (y ∷ ys) long other = absurd (cc other)
-both_empty (x ∷ xs) ys long other = absurd (cc long)
+-- a part of a part
+part_of_part : (n at long start : ℕ) (fork : List ℕ) → at + n ≤ long → bytes_at n (start + at) fork ≡ bytes_at n at (bytes_at long start fork)
+part_of_part n at long start fork within =
+    let rest = long - at in
+    let whole : long ≡ at + rest = omega arith in
+    sym (ap (λ (k : ℕ). take n (drop at (take k (drop start fork)))) whole ∙ ap (take n) (drop-take at rest (drop start fork))
+    ∙ take-take n rest (drop at (drop start fork)) (omega arith) ∙ ap (take n) (drop-drop at start fork))
+
+-- all of a row's bytes are a part of them
+pub whole_within : (row : Option FileRow) (bytes : List ℕ) → IfSome row (λ r. length bytes ≡ length r.resource.datum) → IfSome row (λ r. 0 + length bytes ≤ length r.resource.datum)
+whole_within None bytes long = long
+whole_within (Some r) bytes long = omega arith
+
+pub whole_read : {T E : Type 0} (result : Result T E) (row : Option FileRow) (before after : List ℕ) → IfSome row (λ r. length before ≡ length r.resource.datum)
+    → OnOk result (IfSome row (λ r. after ≡ bytes_at (length before) 0 r.resource.datum)) → OnOk result (IfSome row (λ r. after ≡ r.resource.datum))
+whole_read (Err e) row before after long read = read
+whole_read (Ok x) None before after long read = read
+whole_read (Ok x) (Some r) before after long read = read ∙ ap (λ (n : ℕ). take n r.resource.datum) long ∙ take-length r.resource.datum
 
 module _ {S : Type 0} (fork : S → List ℕ) (is_ready is_honest : S → Type 0) (chain : OpenFiles Place) (loads : Bool) (stores : List S) (now : FilesOn S) (view_is : seen fork chain loads stores ≡ now)
     (stand : StandOn fork is_ready is_honest stores chain) (place : RowPlace) where
-  -- no bytes are those of no row
-  pub none_read : (bytes : List ℕ) → row_at place chain ≡ None → IfSome (row_at place now.files) (λ shown. bytes ≡ shown.resource.datum)
-  none_read bytes is = subst (λ (found : Option FileRow). IfSome found (λ shown. bytes ≡ shown.resource.datum)) (sym (no_row_seen fork chain loads stores now view_is place is)) tt
+  -- any bytes are a part of no row's
+  pub none_read : (at : ℕ) (before after : List ℕ) → row_at place chain ≡ None → IfSome (row_at place now.files) (λ shown. after ≡ bytes_at (length before) at shown.resource.datum)
+  none_read at before after is = subst (λ (found : Option FileRow). IfSome found (λ shown. after ≡ bytes_at (length before) at shown.resource.datum)) (sym (no_row_seen fork chain loads stores now view_is place is)) tt
 
-  -- a buffer that is as long as the bytes that are seen is as long as the place says
-  pub long_read : (r : Row Place) (bytes : List ℕ) → row_at place chain ≡ Some r → IfSome (row_at place now.files) (λ shown. length bytes ≡ length shown.resource.datum) → length bytes ≡ r.resource.datum.length
-  long_read r bytes is long =
+  -- a part within the bytes that are seen is within those that the place says
+  pub within_read : (r : Row Place) (at n : ℕ) → row_at place chain ≡ Some r → IfSome (row_at place now.files) (λ shown. at + n ≤ length shown.resource.datum) → at + n ≤ r.resource.datum.length
+  within_read r at n is within =
       let seen_as = row_seen fork chain loads stores now view_is place r is in
-      subst (λ (found : Option FileRow). IfSome found (λ shown. length bytes ≡ length shown.resource.datum)) seen_as.1 long ∙ sym seen_as.2.size
-
-  -- it has them where there are none
-  pub empty_read : (r : Row Place) (bytes : List ℕ) → row_at place chain ≡ Some r → IfSome (row_at place now.files) (λ shown. length bytes ≡ length shown.resource.datum)
-      → r.resource.datum.length ≡ 0 → IfSome (row_at place now.files) (λ shown. bytes ≡ shown.resource.datum)
-  empty_read r bytes is long none =
-      let seen_as = row_seen fork chain loads stores now view_is place r is in
-      subst (λ (found : Option FileRow). IfSome found (λ shown. bytes ≡ shown.resource.datum)) (sym seen_as.1)
-      (both_empty bytes seen_as.0.resource.datum (long_read r bytes is long ∙ none) (sym seen_as.2.size ∙ none))
+      let size = seen_as.2.size in
+      let here = subst (λ (found : Option FileRow). IfSome found (λ shown. at + n ≤ length shown.resource.datum)) seen_as.1 within in
+      omega arith
 
   -- the bytes at the row's place in its store are those that are seen
-  pub all_read : (r : Row Place) (bytes : List ℕ) → row_at place chain ≡ Some r → (s : S) → s ≡ get_or stores (place.file - 1) s → IsInside (fork s) r.resource.datum → bytes ≡ bytes_at r.resource.datum.length r.resource.datum.offset (fork s)
+  all_read : (r : Row Place) (bytes : List ℕ) → row_at place chain ≡ Some r → (s : S) → s ≡ get_or stores (place.file - 1) s → IsInside (fork s) r.resource.datum → bytes ≡ bytes_at r.resource.datum.length r.resource.datum.offset (fork s)
       → IfSome (row_at place now.files) (λ shown. bytes ≡ shown.resource.datum)
   all_read r bytes is s read inside bytes_are =
       let stands = row_stands fork is_ready is_honest stores place chain r stand is in
@@ -53,3 +62,12 @@ module _ {S : Type 0} (fork : S → List ℕ) (is_ready is_honest : S → Type 0
       sym (row-mapped (bytes_in (map fork stores)) place chain ∙ ap (option_map (row_on (fork_at (map fork stores) place.file))) is) in
       subst (λ (found : Option FileRow). IfSome found (λ shown. bytes ≡ shown.resource.datum)) (asked fork chain loads stores now view_is (row_at place) (Some (row_on (fork_at (map fork stores) place.file) r)) there)
       (bytes_are ∙ sym (on-inside (fork s) r.resource.datum inside) ∙ ap (λ (all : List ℕ). bytes_on all r.resource.datum) (sym fork_is))
+
+  -- so is a part of them
+  pub part_read : (r : Row Place) (at : ℕ) (before after : List ℕ) → row_at place chain ≡ Some r → (s : S) → s ≡ get_or stores (place.file - 1) s → IsInside (fork s) r.resource.datum → at + length before ≤ r.resource.datum.length
+      → after ≡ bytes_at (length before) (r.resource.datum.offset + at) (fork s) → IfSome (row_at place now.files) (λ shown. after ≡ bytes_at (length before) at shown.resource.datum)
+  part_read r at before after is s read inside within after_is =
+      let start = r.resource.datum.offset in
+      let long = r.resource.datum.length in
+      IfSome_then (row_at place now.files) (all_read r (bytes_at long start (fork s)) is s read inside refl)
+      (λ shown same. after_is ∙ part_of_part (length before) at long start (fork s) within ∙ ap (bytes_at (length before) at) same)

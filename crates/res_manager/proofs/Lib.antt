@@ -23,3 +23,4 @@ pub mod WritingFiles
 pub mod GettingRows
 mod Keeping
 mod LeavingForks
+mod OnlyRead

@@ -4,3 +4,4 @@ pub mod Ends
 pub mod Watching
 pub mod Loading
 pub mod Crash
+pub mod Partial

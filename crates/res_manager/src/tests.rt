@@ -243,7 +243,7 @@ pub(crate) fn is_lent(memory: &MemoryManager, handle: Handle) -> bool
 }
 
 /// Whether a number is a handle that has a block.
-fn is_full(memory: &MemoryManager, handle: Handle) -> bool
+pub(crate) fn is_full(memory: &MemoryManager, handle: Handle) -> bool
     ensures { result ≡ is_full memory.now.heap.table handle }
 {
     let number = handle.number();

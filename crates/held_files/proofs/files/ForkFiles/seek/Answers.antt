@@ -1,5 +1,4 @@
 use Rattle.std.proofs.Common.{◌∙◌, ap, refl}
-use Rattle.mac_base.specs.ZoneState.{Memory}
 use Rattle.held_calls.specs.Answers.{Queue, taken}
 use Rattle.held_calls.specs.Holding.{loans_of}
 use Rattle.held_calls.proofs.Holding.{Holds-kept}
@@ -18,4 +17,4 @@ returns c =
     let new : State = state c.seek-outcome.new.memory loans c.seek-outcome.new.procedure.left c.seek-outcome.new.procedure.asks in
     let took = c.seek-outcome.ensures.source ∙ ap (λ (q : Queue). taken q.asks q.left) c.begin.ensures in
     seeks-seen old c.self.inside.files c.args.session.now c.args.self.now c.session.view_is c.self.view_is new c.seek-outcome.new.files c.args.call.now c.seek-outcome.result
-    c.seek-outcome.ensures.step took c.asks.ensures.out refl (ap (λ (m : Memory). m.awake) c.seek-outcome.ensures.loans.0) c.seek-outcome.ensures.loans
+    c.seek-outcome.ensures.step took c.asks.ensures.out refl c.seek-outcome.ensures.loans

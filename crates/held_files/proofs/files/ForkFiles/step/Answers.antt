@@ -1,5 +1,4 @@
 use Rattle.std.proofs.Common.{◌∙◌, ap, refl}
-use Rattle.mac_base.specs.ZoneState.{Memory}
 use Rattle.held_calls.specs.Answers.{Queue, taken}
 use Rattle.held_calls.specs.Holding.{loans_of}
 use Rattle.held_calls.proofs.Holding.{Holds-kept}
@@ -18,7 +17,7 @@ returns-clause-steps c =
     let new : State = state c.make-made.new.memory loans c.make-made.new.procedure.left c.make-made.new.procedure.asks in
     let took = c.make-made.ensures.source ∙ ap (λ (q : Queue). taken q.asks q.left) c.begin.ensures in
     steps-seen old c.self.inside.files c.args.session.now c.args.self.now c.session.view_is c.self.view_is new c.make-made.new.files c.args.call.now c.make-made.result
-    c.make-made.ensures.step c.make-made.ensures.leaves.reads_back took c.asks.ensures.out refl (ap (λ (m : Memory). m.awake) c.make-made.ensures.loans.0) c.make-made.ensures.loans
+    c.make-made.ensures.step c.make-made.ensures.leaves.reads_back took c.asks.ensures.out refl c.make-made.ensures.loans
 
 pub returns-clause-full : goal.returns-clause-full
 returns-clause-full c =
@@ -27,4 +26,4 @@ returns-clause-full c =
     let new : State = state c.make-made.new.memory loans c.make-made.new.procedure.left c.make-made.new.procedure.asks in
     let took = c.make-made.ensures.source ∙ ap (λ (q : Queue). taken q.asks q.left) c.begin.ensures in
     none-seen old c.self.inside.files c.args.session.now c.args.self.now c.session.view_is c.self.view_is new c.make-made.new.files c.args.call.now c.make-made.result
-    c.make-made.ensures.full c.make-made.ensures.late c.make-made.ensures.unchanged c.make-made.ensures.unasked took refl (ap (λ (m : Memory). m.awake) c.make-made.ensures.loans.0) c.make-made.ensures.same
+    c.make-made.ensures.full c.make-made.ensures.late c.make-made.ensures.unchanged c.make-made.ensures.unasked took refl c.make-made.ensures.same

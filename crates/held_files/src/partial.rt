@@ -1,0 +1,34 @@
+//! ReadPartialResource over files that C holds.
+
+ghost use Rattle.held_files.specs.Partial.{PartCalled};
+
+use crate::held::MrFiles;
+use held_zone::zone::MhZone;
+use mac_base::handle::Handle;
+use res_calls::PartialRead;
+use std::alloc::Global;
+
+impl MrFiles {
+    /// Reads as many bytes as the buffer holds of those that a resource has in its fork, from an offset on, where there are files and a
+    /// zone.
+    pub fn read_partial(
+        &mut self,
+        alloc: Global,
+        zone: &mut MhZone,
+        handle: Handle,
+        offset: u32,
+        buffer: &mut [u8],
+    ) -> Option<PartialRead>
+        ensures { PartCalled zone.old.held.session self.old.held.files handle offset buffer.old buffer.new result zone.new.held.session self.new.held.files }
+    {
+        let session = zone.take(alloc)?;
+        let Some(mut files) = self.take(alloc) else {
+            zone.put(session);
+            return None;
+        };
+        let read = files.read_partial(&session, handle, offset, buffer);
+        self.put(files);
+        zone.put(session);
+        Some(read)
+    }
+}
