@@ -4,13 +4,15 @@ ghost use Rattle.std.specs.Prelude.{◌≡◌, ◌≢◌, ◌↔◌, [], ◌∷�
 ghost use Rattle.std.specs.Path.{path_buf_bytes};
 ghost use Rattle.file_replace.specs.OnPlace.{answered};
 ghost use Rattle.file_replace.specs.declared.calls.HeldCall.TheVariants.{Put};
+ghost use Rattle.file_replace.specs.declared.held.Outcome.TheVariants.{Written};
+ghost use Rattle.file_replace.specs.declared.place.FolderSync.TheVariants.{NotOffered};
 ghost use Rattle.file_replace.specs.Held.{BacksUp, IsBusy, IsSameFile, IsUnopened, PutAt, PutsFile, PutsInPlace, PutsNew, ReplacesHeld, Saves, TellsNames};
 ghost use Rattle.file_replace.specs.InPlace.{IsSettled};
 
 use crate::calls::{At, Call, HeldCalls, JournalCall, Noted, note, note_at, note_name};
 use crate::host_place::FileReplacer;
 use crate::in_place::{change_in_place, journal_of, may_be_there, settle_in_place};
-use crate::links::followed;
+use crate::links::{followed, is_of};
 use crate::place::FolderSync;
 use crate::replacement::{Fault, Step, replace};
 use crate::told::{NotReplaced, Stop};
@@ -73,8 +75,70 @@ fn lock(file: &File) -> Result<(), NotReplaced>
 
 /// Whether a path leads to this open file.
 fn leads_to(rt: &HostRuntime, path: &PathBuf, file: &File) -> io::Result<bool> {
-    let (there, here) = (fs::metadata(rt, path)?, file.metadata()?);
-    Ok(there.dev() == here.dev() && there.ino() == here.ino())
+    let there = fs::metadata(rt, path)?;
+    is_of(file, &there)
+}
+
+/// Refuses a path that doesn't lead to this open file any more.
+fn refuse_moved(rt: &HostRuntime, path: &PathBuf, file: &File) -> Result<(), NotReplaced>
+    ensures { IfErr result IsUnopened }
+{
+    match leads_to(rt, path, file) {
+        Ok(true) => Ok(()),
+        Ok(false) => Err(NotReplaced::Moved),
+        Err(error) if error.kind() == ErrorKind::NotFound => Err(NotReplaced::Moved),
+        Err(error) => Err(unopened(error)),
+    }
+}
+
+/// The path of the file that a path leads to, over links. None where that is no regular file.
+fn regular_file(rt: &HostRuntime, path: &str) -> io::Result<Option<PathBuf>> {
+    if !fs::metadata(rt, path)?.is_file() {
+        return Ok(None);
+    }
+    Ok(Some(followed(rt, path)?))
+}
+
+/// Opens the file of a path that is no link, and locks it.
+fn open_locked(rt: &HostRuntime, path: &PathBuf) -> Result<File, NotReplaced>
+    ensures { IfErr result IsUnopened }
+{
+    let file = OpenOptions::new()
+        .read(true)
+        .write(true)
+        .open(rt, path)
+        .map_err(unopened)?;
+    lock(&file)?;
+    refuse_moved(rt, path, &file)?;
+    Ok(file)
+}
+
+/// Who may read, write and run an open file.
+fn mode_of(file: &File) -> io::Result<u32> {
+    Ok(file.metadata()?.mode() & MODE_BITS)
+}
+
+/// Puts a file of these bytes at a place, and notes the calls.
+fn put_there<W: FolderWorld>(
+    mut place: FileReplacer<'_, W>,
+    log: &mut HeldCalls,
+    at: At,
+    bytes: &[u8],
+    mode: Option<u32>,
+) -> Result<FolderSync, Stop>
+    requires { place.log.events ≡ [] }
+    ensures { PutAt at mode bytes.now result log.old.events log.new.events }
+{
+    let done = replace(&mut place, bytes, mode);
+    note_at(log, at, place.calls());
+    match done {
+        Ok(answer) => Ok(answer),
+        Err(Fault { step, error, .. }) => Err(Stop {
+            step,
+            error,
+            left: place.into_left(),
+        }),
+    }
 }
 
 /// Puts a file of these bytes at a path that is no link, and notes the calls.
@@ -88,26 +152,16 @@ fn put<W: FolderWorld>(
 ) -> Result<FolderSync, Stop>
     ensures { PutAt at mode bytes.now result log.old.events log.new.events }
 {
-    let mut place: FileReplacer<W> = match FileReplacer::new(rt, path, 0) {
-        Ok(place) => place,
+    match FileReplacer::<W>::new(rt, path, 0) {
+        Ok(place) => put_there(place, log, at, bytes, mode),
         Err(error) => {
             note_at(log, at, &Record::new());
-            return Err(Stop {
+            Err(Stop {
                 step: Step::Create,
                 error,
                 left: None,
-            });
+            })
         }
-    };
-    let done = replace(&mut place, bytes, mode);
-    note_at(log, at, place.calls());
-    match done {
-        Ok(answer) => Ok(answer),
-        Err(Fault { step, error, .. }) => Err(Stop {
-            step,
-            error,
-            left: place.into_left(),
-        }),
     }
 }
 
@@ -134,32 +188,19 @@ impl Held {
         ensures start { IfOk result (λ held. IsSettled (W.held 0) [] held.log.events) }
         ensures refuses { IfErr result IsUnopened }
     {
-        if !fs::metadata(rt, path).map_err(unopened)?.is_file() {
+        let Some(path) = regular_file(rt, path).map_err(unopened)? else {
             return Err(NotReplaced::NotAFile);
-        }
-        let path = followed(rt, path).map_err(unopened)?;
-        let file = OpenOptions::new()
-            .read(true)
-            .write(true)
-            .open(rt, &path)
-            .map_err(unopened)?;
-        lock(&file)?;
-        match leads_to(rt, &path, &file) {
-            Ok(true) => {
-                let mut log = Record::new();
-                settle_in_place::<W>(rt, &file, &path, &mut log)?;
-                let mode = file.metadata().map_err(unopened)?.mode() & MODE_BITS;
-                Ok(Held {
-                    file,
-                    path,
-                    mode,
-                    log,
-                })
-            }
-            Ok(false) => Err(NotReplaced::Moved),
-            Err(error) if error.kind() == ErrorKind::NotFound => Err(NotReplaced::Moved),
-            Err(error) => Err(unopened(error)),
-        }
+        };
+        let file = open_locked(rt, &path)?;
+        let mut log = Record::new();
+        settle_in_place::<W>(rt, &file, &path, &mut log)?;
+        let mode = mode_of(&file).map_err(unopened)?;
+        Ok(Held {
+            file,
+            path,
+            mode,
+            log,
+        })
     }
 
     /// What was done for it.
@@ -168,6 +209,20 @@ impl Held {
     {
         let Held { log, .. } = self;
         log
+    }
+
+    /// Puts a file of these bytes in the place of this one, and gives out what was done.
+    fn saved<W: PairWorld>(
+        mut self,
+        rt: &HostRuntime,
+        bytes: &[u8],
+        log: &mut HeldCalls,
+    ) -> Result<Outcome, NotReplaced>
+        ensures { PutsFile (W.held 1) self.mode bytes.now result self.log.events log.new.events }
+    {
+        let done = self.put::<W>(rt, bytes);
+        *log = self.into_log();
+        done
     }
 
     /// The open file, to read it.
@@ -255,7 +310,8 @@ fn write_through(
     log: &mut HeldCalls,
     path: &str,
     bytes: &[u8],
-) -> Result<(), NotReplaced>
+) -> Result<Outcome, NotReplaced>
+    ensures outcome { IfOk result (λ outcome. outcome ≡ Written NotOffered) }
     ensures calls { log.new.events ≡ Put At.File (answered Call.Write (is_ok result) bytes.now ∷ []) ∷ log.old.events }
     ensures refuses { IfErr result IsUnopened }
 {
@@ -267,7 +323,10 @@ fn write_through(
     };
     note(&mut calls, noted, bytes);
     note_at(log, At::File, &calls);
-    done.map_err(NotReplaced::Open)
+    match done {
+        Ok(()) => Ok(Outcome::Written(FolderSync::NotOffered)),
+        Err(error) => Err(NotReplaced::Open(error)),
+    }
 }
 
 /// Refuses a path that has no file, but a journal of one: it would be used on the new file.
@@ -298,6 +357,14 @@ fn put_new(
     }
 }
 
+/// Whether a path wasn't opened since there is no file.
+fn is_missing(refusal: &NotReplaced) -> bool {
+    match refusal {
+        NotReplaced::Open(error) => error.kind() == ErrorKind::NotFound,
+        _ => false,
+    }
+}
+
 /// Writes a file of these bytes, and notes the calls in a record that begins anew. Where there is one, it is replaced, and keeps its
 /// mode; so the path has all of the new file or what it had before. What is no regular file, as a device or a pipe, is written to as it
 /// is.
@@ -311,20 +378,24 @@ pub fn save<W: PairWorld>(
 {
     *log = Record::new();
     match Held::open::<W>(rt, path) {
-        Ok(mut held) => {
-            let done = held.put::<W>(rt, bytes);
-            *log = held.into_log();
-            done
-        }
-        Err(NotReplaced::NotAFile) => {
-            write_through(rt, log, path, bytes)?;
-            Ok(Outcome::Written(FolderSync::NotOffered))
-        }
-        Err(NotReplaced::Open(error)) if error.kind() == ErrorKind::NotFound => {
-            put_new(rt, path, bytes, log)
-        }
+        Ok(held) => held.saved::<W>(rt, bytes, log),
+        Err(NotReplaced::NotAFile) => write_through(rt, log, path, bytes),
+        Err(refusal) if is_missing(&refusal) => put_new(rt, path, bytes, log),
         Err(refusal) => Err(refusal),
     }
+}
+
+/// Why a file that has a journal isn't settled, where it can't be opened.
+fn unsettled(journal: PathBuf, refusal: NotReplaced) -> NotReplaced
+    requires { IsUnopened refusal }
+    ensures { IsUnopened result }
+{
+    let error = match refusal {
+        NotReplaced::Open(error) => error,
+        NotReplaced::InUse => io::Error::other("another program is at work on it"),
+        refusal => return refusal,
+    };
+    NotReplaced::Unsettled { journal, error }
 }
 
 /// Settles the file of a path before it is read, where a change of it was cut short, and notes the calls in a record that begins anew.
@@ -348,11 +419,6 @@ pub fn settle<W: PairWorld>(
             *log = held.into_log();
             Ok(())
         }
-        Err(NotReplaced::Open(error)) => Err(NotReplaced::Unsettled { journal, error }),
-        Err(NotReplaced::InUse) => {
-            let error = io::Error::other("another program is at work on it");
-            Err(NotReplaced::Unsettled { journal, error })
-        }
-        Err(refusal) => Err(refusal),
+        Err(refusal) => Err(unsettled(journal, refusal)),
     }
 }

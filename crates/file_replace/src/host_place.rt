@@ -9,6 +9,7 @@ use crate::links::folder_of;
 use crate::place::{FolderSync, Replaces};
 use crate::world::FolderWorld;
 use fork_disk::Record;
+use std::alloc::AllocError;
 use std::fs::{File, OpenOptions, Permissions};
 use std::io::{ErrorKind, Write};
 use std::marker::PhantomData;
@@ -72,19 +73,27 @@ pub(crate) fn open_folder(rt: &HostRuntime, path: &PathBuf) -> io::Result<Option
     }
 }
 
+/// A path beside a path, by its number among those that are tried for the new file.
+fn path_beside(rt: &HostRuntime, path: &PathBuf, number: u32) -> Result<PathBuf, AllocError> {
+    let name = format!(in rt.alloc(); ".resfork-{number}.new")?;
+    folder_of(path).join(rt.alloc(), &name)
+}
+
+/// Makes an empty file at a path that has none.
+fn make_new(rt: &HostRuntime, path: &PathBuf, mode: u32) -> io::Result<File> {
+    OpenOptions::new()
+        .write(true)
+        .create_new(true)
+        .mode(mode)
+        .open(rt, path)
+}
+
 /// Makes an empty file beside a path, at a name that no file has.
 fn make_beside(rt: &HostRuntime, path: &PathBuf, is_private: bool) -> io::Result<Beside> {
-    let alloc = rt.alloc();
     let mode = if is_private { 0o600 } else { 0o666 };
     for number in 0..MOST_NAMES {
-        let name = format!(in alloc; ".resfork-{number}.new")?;
-        let path = folder_of(path).join(alloc, &name)?;
-        let made = OpenOptions::new()
-            .write(true)
-            .create_new(true)
-            .mode(mode)
-            .open(rt, &path);
-        match made {
+        let path = path_beside(rt, path, number)?;
+        match make_new(rt, &path, mode) {
             Ok(file) => return Ok(Beside { file, path }),
             Err(error) if error.kind() == ErrorKind::AlreadyExists => {}
             Err(error) => return Err(error),

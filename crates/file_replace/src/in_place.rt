@@ -20,6 +20,7 @@ ghost use Rattle.file_replace.specs.InPlace.{
 use crate::calls::{HeldCalls, JournalCall, note_name, note_pair};
 use crate::changed::{Reached, change};
 use crate::host_place::{longest_file, open_folder, sync_offered};
+use crate::links::is_of;
 use crate::place::FolderSync;
 use crate::told::{Cut, NotReplaced};
 use crate::world::{Changed, Settled};
@@ -125,12 +126,19 @@ impl<'a> JournalName<'a> {
             .read(true)
             .write(true)
             .open(self.rt, &self.name)?;
-        let here = journal.metadata()?;
-        if found.is_file() && found.dev() == here.dev() && found.ino() == here.ino() {
+        if is_of(&journal, &found)? && found.is_file() {
             Ok(journal)
         } else {
             Err(io::Error::other("it is no file"))
         }
+    }
+
+    /// Settles a file by the journal that is there.
+    fn settle<W: PairWorld>(&self, file: &File, log: &mut HeldCalls) -> io::Result<()>
+        ensures { SettlesPair (W.held 0) result log.old.events log.new.events }
+    {
+        let journal = self.open()?;
+        settle_pair::<W>(self.rt, file, journal, log)
     }
 
     /// Syncs the folder, so that a crash leaves the journal's name as it is.
@@ -201,7 +209,21 @@ impl<'a> JournalName<'a> {
     }
 }
 
-/// A file and its journal as a store. A journal that another user made is refused: it may be none of this file.
+/// The user to whom an open file belongs.
+fn owner_of(file: &File) -> io::Result<u32> {
+    Ok(file.metadata()?.uid())
+}
+
+/// Refuses a journal that another user made: it may be none of this file.
+fn refuse_foreign(file: &File, journal: &File) -> io::Result<()> {
+    let owner = owner_of(journal)?;
+    if owner != ROOT && owner != owner_of(file)? {
+        return Err(io::Error::other("its journal belongs to another user"));
+    }
+    Ok(())
+}
+
+/// A file and its journal as a store.
 fn store_of<W: PairWorld>(
     rt: &HostRuntime,
     file: &File,
@@ -209,10 +231,7 @@ fn store_of<W: PairWorld>(
 ) -> io::Result<Journal<FilePair<W>>>
     ensures { IfOk result (λ store. store.pair.log.events ≡ []) }
 {
-    let owner = journal.metadata()?.uid();
-    if owner != ROOT && owner != file.metadata()?.uid() {
-        return Err(io::Error::other("its journal belongs to another user"));
-    }
+    refuse_foreign(file, &journal)?;
     let fork = HostFile::new(file.try_clone()?);
     let pair = FilePair::new(fork, HostFile::new(journal), 0);
     Ok(Journal::new(rt.alloc(), pair))
@@ -317,8 +336,7 @@ fn settle_found<W: PairWorld>(
     ensures { SettlesFound (W.held 0) result log.old.events log.new.events }
 {
     let name = JournalName::of(rt, path)?;
-    let journal = name.open()?;
-    settle_pair::<W>(rt, file, journal, log)?;
+    name.settle::<W>(file, log)?;
     match name.dropped(log) {
         Ok(()) => Ok(()),
         Err(NotDropped { error, .. }) => Err(error),

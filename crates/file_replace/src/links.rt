@@ -3,6 +3,8 @@
 ghost use Rattle.std.specs.Prelude.{◌≡◌, [], unwrap_or};
 ghost use Rattle.std.specs.Path.{path_buf_bytes, path_bytes, path_parent};
 
+use std::fs::{File, Metadata};
+use std::os::unix::fs::MetadataExt;
 use std::path::{Path, PathBuf};
 use std::{fs, io};
 
@@ -19,19 +21,35 @@ pub(crate) fn folder_of<'a>(path: &'a PathBuf) -> Path<'a>
     }
 }
 
+/// Whether what the system told of a path is told of an open file.
+pub(crate) fn is_of(file: &File, there: &Metadata) -> io::Result<bool> {
+    let here = file.metadata()?;
+    Ok(there.dev() == here.dev() && there.ino() == here.ino())
+}
+
+/// Whether a path is a link. There may be no file.
+fn is_link(rt: &HostRuntime, path: &PathBuf) -> io::Result<bool> {
+    match fs::symlink_metadata(rt, path) {
+        Ok(found) => Ok(found.is_symlink()),
+        Err(error) if error.kind() == io::ErrorKind::NotFound => Ok(false),
+        Err(error) => Err(error),
+    }
+}
+
+/// The path that a link names.
+fn behind_link(rt: &HostRuntime, path: &PathBuf) -> io::Result<PathBuf> {
+    let to = fs::read_link(rt, path)?;
+    Ok(folder_of(path).join(rt.alloc(), &to)?)
+}
+
 /// The path of the file that this path leads to, over links. There may be no file.
 pub(crate) fn followed(rt: &HostRuntime, path: &str) -> io::Result<PathBuf> {
-    let alloc = rt.alloc();
-    let mut path = PathBuf::from_str(alloc, path)?;
+    let mut path = PathBuf::from_str(rt.alloc(), path)?;
     for _ in 0..MOST_LINKS {
-        match fs::symlink_metadata(rt, &path) {
-            Ok(found) if found.is_symlink() => {}
-            Ok(_) => return Ok(path),
-            Err(error) if error.kind() == io::ErrorKind::NotFound => return Ok(path),
-            Err(error) => return Err(error),
+        if !is_link(rt, &path)? {
+            return Ok(path);
         }
-        let to = fs::read_link(rt, &path)?;
-        path = folder_of(&path).join(alloc, &to)?;
+        path = behind_link(rt, &path)?;
     }
     Err(io::ErrorKind::FilesystemLoop.into())
 }

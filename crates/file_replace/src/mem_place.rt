@@ -166,10 +166,8 @@ impl Replaces for MemPlace {
     }
 
     fn sync(&mut self) -> Result<(), DiskFault> {
-        if self.is_turn() {
-            return self.answer(Call::Sync, &[], None);
-        }
-        self.answer(Call::Sync, &[], Some(()))
+        let done = !self.is_turn();
+        self.answer(Call::Sync, &[], done.then_some(()))
     }
 
     fn rename(&mut self) -> Result<(), DiskFault> {

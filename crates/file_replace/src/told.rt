@@ -11,6 +11,16 @@ use std::fmt::{Display, Formatter, Write};
 use std::path::PathBuf;
 use std::{fmt, io};
 
+/// Writes what is told, with these words before and behind it.
+fn put_between<W: Write, D: Display>(
+    f: &mut Formatter<W>,
+    before: &str,
+    told: &D,
+    behind: &str,
+) -> fmt::Result {
+    write!(f, "{before}{told}{behind}")
+}
+
 /// Why a file has not been replaced, or not for good. Its text says what failed and why, what there is now, and what to do.
 #[derive(Debug, Drop)]
 pub enum NotReplaced {
@@ -47,6 +57,21 @@ pub struct Cut {
     pub left: Option<PathBuf>,
 }
 
+/// What is told before and behind the error that cut a change short.
+fn words_of_change(reached: Reached) -> (&'static str, &'static str) {
+    match reached {
+        Reached::Old => (
+            "not changed: it can't be renamed over, nor changed under a journal beside it: ",
+            "; name another file with -o",
+        ),
+        Reached::New => ("changed, but its journal can't be removed for good: ", ""),
+        Reached::Either => (
+            "its change was cut short: ",
+            "; it has the old bytes or the new ones once resfork reads it again",
+        ),
+    }
+}
+
 impl Cut {
     /// A change that didn't begin.
     pub(crate) fn before(error: io::Error) -> Cut
@@ -62,26 +87,14 @@ impl Cut {
 
     /// What failed, why, and what to do.
     fn put<W: Write>(&self, f: &mut Formatter<W>) -> fmt::Result {
-        let error = &self.error;
-        match self.reached {
-            Reached::Old => write!(
-                f,
-                "not changed: it can't be renamed over, nor changed under a journal beside it: {error}; name another file with -o"
-            ),
-            Reached::New => write!(
-                f,
-                "changed, but its journal can't be removed for good: {error}"
-            ),
-            Reached::Either => write!(
-                f,
-                "its change was cut short: {error}; it has the old bytes or the new ones once resfork reads it again"
-            ),
-        }?;
+        let (before, behind) = words_of_change(self.reached);
+        put_between(f, before, &self.error, behind)?;
         match &self.left {
-            Some(path) => write!(
+            Some(path) => put_between(
                 f,
-                "; its journal {} was left, and the next resfork command on it removes that",
-                path.as_str()
+                "; its journal ",
+                &path.as_str(),
+                " was left, and the next resfork command on it removes that",
             ),
             None => Ok(()),
         }
@@ -99,40 +112,75 @@ pub struct Stop {
     pub left: Option<PathBuf>,
 }
 
+/// What is told before and behind the error of a step.
+fn words_of_step(step: Step) -> (&'static str, &'static str) {
+    match step {
+        Step::Create => (
+            "no new file can be made beside it: ",
+            "; name another file with -o",
+        ),
+        Step::Write | Step::SetMode | Step::Sync => ("the new file can't be written: ", ""),
+        Step::Rename => (
+            "the new file can't be renamed to it: ",
+            "; name another file with -o",
+        ),
+        Step::SyncFolder => (
+            "its folder can't be synced: ",
+            "; if the machine stops now, the old file may be back",
+        ),
+    }
+}
+
 impl Stop {
     /// What failed, why, and what to do.
     fn put<W: Write>(&self, f: &mut Formatter<W>) -> fmt::Result {
-        let error = &self.error;
-        match self.step {
-            Step::Create => write!(
-                f,
-                "no new file can be made beside it: {error}; name another file with -o"
-            ),
-            Step::Write | Step::SetMode | Step::Sync => {
-                write!(f, "the new file can't be written: {error}")
-            }
-            Step::Rename => write!(
-                f,
-                "the new file can't be renamed to it: {error}; name another file with -o"
-            ),
-            Step::SyncFolder => write!(
-                f,
-                "its folder can't be synced: {error}; if the machine stops now, the old file may be back"
-            ),
-        }?;
+        let (before, behind) = words_of_step(self.step);
+        put_between(f, before, &self.error, behind)?;
         match &self.left {
-            Some(path) => write!(f, "; {} was left, and can be removed", path.as_str()),
+            Some(path) => put_between(f, "; ", &path.as_str(), " was left, and can be removed"),
             None => Ok(()),
         }
     }
+
+    /// The same of the file that was to be replaced, and whether it is changed.
+    fn put_of_file<W: Write>(&self, f: &mut Formatter<W>) -> fmt::Result {
+        f.write_str(match self.step {
+            Step::SyncFolder => "changed, but ",
+            _ => "not changed: ",
+        })?;
+        self.put(f)
+    }
+
+    /// The same of its backup, which was to have this name.
+    fn put_of_backup<W: Write>(&self, name: &PathBuf, f: &mut Formatter<W>) -> fmt::Result {
+        put_between(f, "not changed: at its backup ", &name.as_str(), ", ")?;
+        self.put(f)
+    }
+}
+
+/// Writes that a file isn't settled by this journal, and why.
+fn put_unsettled<W: Write>(
+    journal: &PathBuf,
+    error: &io::Error,
+    f: &mut Formatter<W>,
+) -> fmt::Result {
+    put_between(
+        f,
+        "a change of it was cut short; its journal ",
+        &journal.as_str(),
+        " has to be used first, by a resfork command of one who may write both: ",
+    )?;
+    error.fmt(f)
 }
 
 impl Display for NotReplaced {
     fn fmt<W: Write>(&self, f: &mut Formatter<W>) -> fmt::Result {
         match self {
-            NotReplaced::Open(error) => write!(
+            NotReplaced::Open(error) => put_between(
                 f,
-                "not changed: it can't be opened for that: {error}; name another file with -o"
+                "not changed: it can't be opened for that: ",
+                error,
+                "; name another file with -o",
             ),
             NotReplaced::NotAFile => f.write_str(
                 "not changed: it is no regular file, and only those are replaced as a whole; name another file with -o",
@@ -143,27 +191,15 @@ impl Display for NotReplaced {
             NotReplaced::Moved => {
                 f.write_str("not changed: another program has just replaced it; try again")
             }
-            NotReplaced::Stopped(stop) => {
-                f.write_str(match stop.step {
-                    Step::SyncFolder => "changed, but ",
-                    _ => "not changed: ",
-                })?;
-                stop.put(f)
-            }
-            NotReplaced::NoBackup { name, stop } => {
-                write!(f, "not changed: at its backup {}, ", name.as_str())?;
-                stop.put(f)
-            }
+            NotReplaced::Stopped(stop) => stop.put_of_file(f),
+            NotReplaced::NoBackup { name, stop } => stop.put_of_backup(name, f),
             NotReplaced::InPlace(cut) => cut.put(f),
-            NotReplaced::Unsettled { journal, error } => write!(
+            NotReplaced::Unsettled { journal, error } => put_unsettled(journal, error, f),
+            NotReplaced::Orphan(journal) => put_between(
                 f,
-                "a change of it was cut short; its journal {} has to be used first, by a resfork command of one who may write both: {error}",
-                journal.as_str()
-            ),
-            NotReplaced::Orphan(journal) => write!(
-                f,
-                "there is no such file, but a journal of it, {}: put the file back, or remove the journal",
-                journal.as_str()
+                "there is no such file, but a journal of it, ",
+                &journal.as_str(),
+                ": put the file back, or remove the journal",
             ),
             NotReplaced::HostFull => f.write_str("not changed: the host has no memory"),
         }

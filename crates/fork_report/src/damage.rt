@@ -13,21 +13,21 @@ use std::fmt;
 pub const MOST_FOUND: usize = 1_048_576;
 
 /// What has a fork in it.
-#[derive(Clone, Copy, Debug)]
+#[derive(Clone, Copy)]
 pub enum Holder {
     Container(Container),
     BinHex,
 }
 
 /// How many resources of a damaged fork can be read, and how many are found in it.
-#[derive(Clone, Copy, Debug)]
+#[derive(Clone, Copy)]
 pub struct Tally {
     pub readable: usize,
     pub found: usize,
 }
 
 /// The first fault of a fork, and how much can still be read of it.
-#[derive(Clone, Copy, Debug)]
+#[derive(Clone, Copy)]
 pub struct Damage {
     fault: Fault,
     /// What has the fork in it, unless it is the whole file.

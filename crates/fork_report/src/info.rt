@@ -4,6 +4,7 @@ ghost use Rattle.std.specs.Prelude.{◌≡◌, IfSome, length, true};
 ghost use Rattle.mac_files.specs.Parts.{lies_within};
 
 use fork_answer::{Failure, NoFork, name_of_container, read_table};
+use fork_bytes::table::Table;
 use fork_list::{KindText, types_listing};
 use mac_base::resource::ResType;
 use mac_files::bin_hex::file::BinHexFile;
@@ -25,9 +26,7 @@ fn push_name(
     let name = Quoted::double(Letters::Roman, name);
     let kind = KindText::new(Letters::Roman, ResType::new(kind));
     let creator = KindText::new(Letters::Roman, ResType::new(creator));
-    writeln!(text, "name: {name}")?;
-    writeln!(text, "type: {kind}")?;
-    writeln!(text, "creator: {creator}")
+    write!(text, "name: {name}\ntype: {kind}\ncreator: {creator}\n")
 }
 
 /// Adds what a container tells of a file, in lines.
@@ -66,16 +65,24 @@ fn push_text(text: &mut String, file: &BinHexFile) -> Result<(), AllocError> {
 /// Adds what a fork holds, in lines.
 fn push_fork(alloc: Global, text: &mut String, fork: &[u8]) -> Result<(), Failure> {
     let table = read_table(alloc, fork).map_err(Failure::Fork)?;
-    let length = fork.len();
+    Ok(push_table(alloc, text, fork.len(), &table)?)
+}
+
+/// Adds what a fork of this length holds, in lines.
+fn push_table(
+    alloc: Global,
+    text: &mut String,
+    length: usize,
+    table: &Table<'_>,
+) -> Result<(), AllocError> {
     let attributes = table.map_attributes;
     let rows = table.rows.as_slice();
     let count = rows.len();
-    writeln!(text, "resource fork: {length} bytes")?;
-    writeln!(text, "map attributes: {attributes}")?;
-    writeln!(text, "resources: {count}")?;
     let types = types_listing(alloc, Letters::Roman, &[], rows)?;
-    text.push_str(types.as_str())?;
-    Ok(())
+    write!(
+        text,
+        "resource fork: {length} bytes\nmap attributes: {attributes}\nresources: {count}\n{types}"
+    )
 }
 
 /// What a file in a container is, in lines.

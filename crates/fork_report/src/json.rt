@@ -1,6 +1,7 @@
 //! Lines of JSON, one for each file.
 
 use crate::damage::Holder;
+use crate::json_object::{Object, place_value};
 use crate::json_row::{Bytes, full_rows_value, rows_value};
 use crate::json_text::{roman_value, text_value};
 use fork_answer::{Failure, NoFork, name_of_container, read_table, resource_fork};
@@ -11,35 +12,12 @@ use mac_base::resource::{ResType, Resource};
 use mac_files::bin_hex::{is_bin_hex, read_bin_hex};
 use mac_files::container::Container;
 use mac_files::{container_of, read_contents};
-use serde_json::{Map, Value, put};
+use serde_json::Value;
 use std::alloc::{AllocError, Global};
-
-/// The members of an object.
-type Members = Map<String, Value>;
-
-/// An object that begins with the name of a file.
-fn members_of(alloc: Global, file: &str) -> Result<Members, AllocError> {
-    let mut members = Map::new(alloc);
-    put(&mut members, alloc, "file", text_value(alloc, file)?)?;
-    Ok(members)
-}
-
-/// An object as a line.
-pub(crate) fn line_of(alloc: Global, members: Members) -> Result<String, AllocError> {
-    let mut line = Value::Object(members).to_string(alloc)?;
-    line.push('\n')?;
-    Ok(line)
-}
 
 /// What a file is kept as.
 fn container_name(bytes: &[u8]) -> &'static str {
     Holder::of_file(bytes).map_or("a resource fork", Holder::name)
-}
-
-/// Adds what a file is kept as.
-fn put_container(alloc: Global, members: &mut Members, bytes: &[u8]) -> Result<(), AllocError> {
-    let name = text_value(alloc, container_name(bytes))?;
-    put(members, alloc, "container", name)
 }
 
 /// The line of a file that isn't shown, and why.
@@ -49,10 +27,10 @@ pub fn refused_line(
     status: u8,
     told: &str,
 ) -> Result<String, AllocError> {
-    let mut members = members_of(alloc, file)?;
-    put(&mut members, alloc, "status", Value::from(status))?;
-    put(&mut members, alloc, "error", text_value(alloc, told)?)?;
-    line_of(alloc, members)
+    Object::of_file(alloc, file)
+        .with("status", Ok(Value::from(status)))
+        .with("error", text_value(alloc, told))
+        .line()
 }
 
 /// The line of the resources of a file, those of these types or all where none are named.
@@ -67,8 +45,8 @@ pub fn list_line(
     let table = read_table(alloc, found.fork()).map_err(Failure::Fork)?;
     let rows = table.rows.as_slice();
     let values = match shown {
-        Bytes::Hidden => rows_value(alloc, kinds, rows)?,
-        Bytes::Base64 => full_rows_value(alloc, kinds, rows)?,
+        Bytes::Hidden => rows_value(alloc, kinds, rows),
+        Bytes::Base64 => full_rows_value(alloc, kinds, rows),
     };
     Ok(resources_line(alloc, file, container_name(bytes), values)?)
 }
@@ -80,7 +58,7 @@ pub fn fork_line<D: HasSize>(
     kinds: &[ResType],
     rows: &[Resource<D>],
 ) -> Result<String, AllocError> {
-    let values = rows_value(alloc, kinds, rows)?;
+    let values = rows_value(alloc, kinds, rows);
     resources_line(alloc, file, name_of_container(Container::Raw), values)
 }
 
@@ -89,29 +67,20 @@ fn resources_line(
     alloc: Global,
     file: &str,
     container: &str,
-    resources: Value,
+    resources: Result<Value, AllocError>,
 ) -> Result<String, AllocError> {
-    let mut members = members_of(alloc, file)?;
-    put(
-        &mut members,
-        alloc,
-        "container",
-        text_value(alloc, container)?,
-    )?;
-    put(&mut members, alloc, "resources", resources)?;
-    line_of(alloc, members)
+    Object::of_file(alloc, file)
+        .with("container", text_value(alloc, container))
+        .with("resources", resources)
+        .line()
 }
 
 /// A fault of a fork, or what is odd about it: what is told of it, and its place.
 fn told_value(alloc: Global, told: String, place: Option<usize>) -> Result<Value, AllocError> {
-    let mut members = Map::new(alloc);
-    put(&mut members, alloc, "message", Value::String(told))?;
-    let place = match place {
-        Some(place) => Value::from(place),
-        None => Value::Null,
-    };
-    put(&mut members, alloc, "place", place)?;
-    Ok(Value::Object(members))
+    Object::new(alloc)
+        .with("message", Ok(Value::String(told)))
+        .with("place", Ok(place_value(place)))
+        .value()
 }
 
 /// Where in the fork a fault is, if it is at one place.
@@ -132,6 +101,26 @@ fn place_of(fault: &Fault) -> Option<usize> {
     }
 }
 
+/// The faults of a fork.
+fn faults_value(alloc: Global, faults: &[Fault]) -> Result<Value, AllocError> {
+    let mut values = Vec::new(alloc);
+    for fault in faults {
+        let told = format!(in alloc; "{fault}")?;
+        serde_json::push(&mut values, told_value(alloc, told, place_of(fault))?)?;
+    }
+    Ok(Value::Array(values))
+}
+
+/// What is odd about a fork.
+fn warnings_value(alloc: Global, warnings: &[Warning]) -> Result<Value, AllocError> {
+    let mut values = Vec::new(alloc);
+    for warning in warnings {
+        let told = format!(in alloc; "{warning}")?;
+        serde_json::push(&mut values, told_value(alloc, told, Some(warning.place()))?)?;
+    }
+    Ok(Value::Array(values))
+}
+
 /// The line of the faults of a file's fork, and of what is odd about it.
 pub fn check_line(
     alloc: Global,
@@ -140,98 +129,88 @@ pub fn check_line(
     faults: &[Fault],
     warnings: &[Warning],
 ) -> Result<String, AllocError> {
-    let mut members = members_of(alloc, file)?;
-    put_container(alloc, &mut members, bytes)?;
-    let mut values = Vec::new(alloc);
-    for fault in faults {
-        let told = format!(in alloc; "{fault}")?;
-        serde_json::push(&mut values, told_value(alloc, told, place_of(fault))?)?;
-    }
-    put(&mut members, alloc, "faults", Value::Array(values))?;
-    let mut values = Vec::new(alloc);
-    for warning in warnings {
-        let told = format!(in alloc; "{warning}")?;
-        serde_json::push(&mut values, told_value(alloc, told, Some(warning.place()))?)?;
-    }
-    put(&mut members, alloc, "warnings", Value::Array(values))?;
-    line_of(alloc, members)
+    Object::of_file(alloc, file)
+        .with("container", text_value(alloc, container_name(bytes)))
+        .with("faults", faults_value(alloc, faults))
+        .with("warnings", warnings_value(alloc, warnings))
+        .line()
 }
 
-/// Adds the name, the type and the creator of a file.
-fn put_finder(
+/// With the name, the type and the creator of a file.
+fn with_finder(
     alloc: Global,
-    members: &mut Members,
+    object: Object,
     name: &[u8],
     kind: [u8; 4],
     creator: [u8; 4],
-) -> Result<(), AllocError> {
-    put(members, alloc, "name", roman_value(alloc, name)?)?;
-    put(members, alloc, "type", roman_value(alloc, &kind)?)?;
-    put(members, alloc, "creator", roman_value(alloc, &creator)?)
+) -> Object {
+    object
+        .with("name", roman_value(alloc, name))
+        .with("type", roman_value(alloc, &kind))
+        .with("creator", roman_value(alloc, &creator))
 }
 
-/// Adds how many bytes a fork has, its attributes, and how many resources.
-fn put_fork(alloc: Global, members: &mut Members, fork: &[u8]) -> Result<(), Failure> {
+/// With how many bytes a fork has, its attributes, and how many resources.
+fn with_fork(alloc: Global, object: Object, fork: &[u8]) -> Result<Object, Failure> {
     let table = read_table(alloc, fork).map_err(Failure::Fork)?;
-    let rows = table.rows.as_slice();
-    put(members, alloc, "resourceFork", Value::from(fork.len()))?;
-    put(
-        members,
-        alloc,
-        "mapAttributes",
-        Value::from(table.map_attributes),
-    )?;
-    put(members, alloc, "resources", Value::from(rows.len()))?;
-    Ok(())
+    let count = table.rows.as_slice().len();
+    Ok(
+        object
+            .with("resourceFork", Ok(Value::from(fork.len())))
+            .with("mapAttributes", Ok(Value::from(table.map_attributes)))
+            .with("resources", Ok(Value::from(count))),
+    )
 }
 
-/// Adds what a container tells of a file.
-fn put_contents(
+/// With what a container tells of a file.
+fn with_contents(
     alloc: Global,
-    members: &mut Members,
+    object: Object,
     container: Container,
     bytes: &[u8],
-) -> Result<(), Failure> {
+) -> Result<Object, Failure> {
     let contents = match read_contents(container, bytes) {
         Ok(contents) => contents,
         Err(fault) => return Err(Failure::NoFork(NoFork::Container(fault))),
     };
-    if let Some(finder) = contents.finder {
-        let name = match contents.name {
-            Some(part) => part.bytes(bytes),
-            None => &[],
-        };
-        put_finder(alloc, members, name, finder.kind, finder.creator)?;
-    }
+    let name = match contents.name {
+        Some(part) => part.bytes(bytes),
+        None => &[],
+    };
+    let object = match contents.finder {
+        Some(finder) => with_finder(alloc, object, name, finder.kind, finder.creator),
+        None => object,
+    };
     let data = contents.data_fork.map_or(0, |part| part.length);
-    put(members, alloc, "dataFork", Value::from(data))?;
     let fork = match contents.resource_fork {
         Some(part) => part.bytes(bytes),
         None => &[],
     };
-    put_fork(alloc, members, fork)
+    with_fork(alloc, object.with("dataFork", Ok(Value::from(data))), fork)
+}
+
+/// With what a BinHex text tells of a file.
+fn with_text(alloc: Global, object: Object, text: &[u8]) -> Result<Object, Failure> {
+    let read = read_bin_hex(alloc, text).map_err(|fault| Failure::NoFork(NoFork::Text(fault)))?;
+    let object = with_finder(alloc, object, read.name(), read.kind, read.creator);
+    let data = read.data_fork().len();
+    with_fork(
+        alloc,
+        object.with("dataFork", Ok(Value::from(data))),
+        read.resource_fork(),
+    )
 }
 
 /// The line of what a file is.
 pub fn info_line(alloc: Global, file: &str, bytes: &[u8]) -> Result<String, Failure> {
-    let mut members = members_of(alloc, file)?;
-    put_container(alloc, &mut members, bytes)?;
-    if let Some(container) = container_of(bytes) {
-        put_contents(alloc, &mut members, container, bytes)?;
-    } else if is_bin_hex(bytes) {
-        let read = read_bin_hex(alloc, bytes).map_err(|fault| Failure::NoFork(NoFork::Text(
-            fault,
-        )))?;
-        put_finder(alloc, &mut members, read.name(), read.kind, read.creator)?;
-        put(
-            &mut members,
-            alloc,
-            "dataFork",
-            Value::from(read.data_fork().len()),
-        )?;
-        put_fork(alloc, &mut members, read.resource_fork())?;
-    } else {
-        put_fork(alloc, &mut members, bytes)?;
-    }
-    Ok(line_of(alloc, members)?)
+    let object = Object::of_file(alloc, file).with(
+        "container",
+        text_value(alloc, container_name(bytes)),
+    );
+    let object = match container_of(bytes) {
+        Some(container) => with_contents(alloc, object, container, bytes),
+        None if is_bin_hex(bytes) => with_text(alloc, object, bytes),
+        None => with_fork(alloc, object, bytes),
+    };
+    Ok(object?.line()?)
 }

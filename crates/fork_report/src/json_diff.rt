@@ -1,20 +1,12 @@
 //! What differs between the resources of two files, as a line of JSON.
 
-use crate::json::line_of;
+use crate::json_object::{Object, place_value};
 use crate::json_row::row_value;
 use crate::json_text::text_value;
 use fork_bytes::table::Row;
 use fork_change::{Difference, Differences, first_difference};
-use serde_json::{Map, Value, put};
+use serde_json::Value;
 use std::alloc::{AllocError, Global};
-
-/// A place from 0 on; null where nothing differs.
-fn place_value(place: Option<usize>) -> Value {
-    match place {
-        Some(place) => Value::from(place),
-        None => Value::Null,
-    }
-}
 
 /// A resource without its bytes; null where a table has none.
 fn side_value(alloc: Global, row: Option<&Row>) -> Result<Value, AllocError> {
@@ -33,15 +25,21 @@ fn first_byte(difference: &Difference) -> Option<usize> {
 
 /// What differs of the n-th resources of a type and id.
 fn row_difference(alloc: Global, difference: &Difference) -> Result<Value, AllocError> {
-    let mut members = Map::new(alloc);
-    put(&mut members, alloc, "nth", Value::from(difference.nth))?;
-    let old = side_value(alloc, difference.old)?;
-    put(&mut members, alloc, "old", old)?;
-    let new = side_value(alloc, difference.new)?;
-    put(&mut members, alloc, "new", new)?;
-    let place = place_value(first_byte(difference));
-    put(&mut members, alloc, "firstByte", place)?;
-    Ok(Value::Object(members))
+    Object::new(alloc)
+        .with("nth", Ok(Value::from(difference.nth)))
+        .with("old", side_value(alloc, difference.old))
+        .with("new", side_value(alloc, difference.new))
+        .with("firstByte", Ok(place_value(first_byte(difference))))
+        .value()
+}
+
+/// What differs of each of these resources.
+fn rows_difference(alloc: Global, differences: &[Difference]) -> Result<Value, AllocError> {
+    let mut values = Vec::new(alloc);
+    for difference in differences {
+        serde_json::push(&mut values, row_difference(alloc, difference)?)?;
+    }
+    Ok(Value::Array(values))
 }
 
 /// The attributes of both maps; null where they are the same.
@@ -63,19 +61,18 @@ pub fn difference_line(
     second: &str,
     differences: &Differences,
 ) -> Result<String, AllocError> {
-    let mut members = Map::new(alloc);
-    put(&mut members, alloc, "old", text_value(alloc, first)?)?;
-    put(&mut members, alloc, "new", text_value(alloc, second)?)?;
-    let mut values = Vec::new(alloc);
-    for difference in &differences.rows {
-        serde_json::push(&mut values, row_difference(alloc, difference)?)?;
-    }
-    put(&mut members, alloc, "differences", Value::Array(values))?;
-    let is_reordered = Value::from(differences.is_reordered);
-    put(&mut members, alloc, "reordered", is_reordered)?;
-    let attributes = attributes_pair(alloc, differences.map_attributes)?;
-    put(&mut members, alloc, "mapAttributes", attributes)?;
-    let extra = place_value(differences.extra);
-    put(&mut members, alloc, "extraByte", extra)?;
-    line_of(alloc, members)
+    Object::new(alloc)
+        .with("old", text_value(alloc, first))
+        .with("new", text_value(alloc, second))
+        .with(
+            "differences",
+            rows_difference(alloc, differences.rows.as_slice()),
+        )
+        .with("reordered", Ok(Value::from(differences.is_reordered)))
+        .with(
+            "mapAttributes",
+            attributes_pair(alloc, differences.map_attributes),
+        )
+        .with("extraByte", Ok(place_value(differences.extra)))
+        .line()
 }

@@ -1,12 +1,13 @@
 //! Resources as JSON.
 
+use crate::json_object::Object;
 use crate::json_text::{kind_value, roman_value, text_value};
 use base64::engine::general_purpose::STANDARD;
 use fork_bytes::table::Row;
 use fork_list::{Attributes, HasSize, is_chosen};
 use mac_base::name::Name;
 use mac_base::resource::{ResAttrs, ResType, Resource};
-use serde_json::{Map, Value, put};
+use serde_json::Value;
 use std::alloc::{AllocError, Global};
 
 /// Whether the bytes of resources are shown.
@@ -39,36 +40,27 @@ fn name_value(alloc: Global, name: &Option<Name>) -> Result<Value, AllocError> {
     }
 }
 
-/// The members of a resource, but for its bytes.
-fn row_members<D: HasSize>(
-    alloc: Global,
-    row: &Resource<D>,
-) -> Result<Map<String, Value>, AllocError> {
-    let mut members = Map::new(alloc);
-    put(&mut members, alloc, "type", kind_value(alloc, row.kind)?)?;
-    put(&mut members, alloc, "id", Value::from(row.id))?;
-    put(&mut members, alloc, "size", Value::from(row.datum.size()))?;
-    put(
-        &mut members,
-        alloc,
-        "attributes",
-        attributes_value(alloc, row.attributes)?,
-    )?;
-    put(&mut members, alloc, "name", name_value(alloc, &row.name)?)?;
-    Ok(members)
+/// A resource, but for its bytes.
+fn row_object<D: HasSize>(alloc: Global, row: &Resource<D>) -> Object {
+    Object::new(alloc)
+        .with("type", kind_value(alloc, row.kind))
+        .with("id", Ok(Value::from(row.id)))
+        .with("size", Ok(Value::from(row.datum.size())))
+        .with("attributes", attributes_value(alloc, row.attributes))
+        .with("name", name_value(alloc, &row.name))
 }
 
 /// A resource without its bytes.
 pub(crate) fn row_value<D: HasSize>(alloc: Global, row: &Resource<D>) -> Result<Value, AllocError> {
-    Ok(Value::Object(row_members(alloc, row)?))
+    row_object(alloc, row).value()
 }
 
 /// A resource with its bytes, as a text in base64.
 fn full_row_value(alloc: Global, row: &Row) -> Result<Value, AllocError> {
-    let mut members = row_members(alloc, row)?;
     let text = STANDARD.encode(alloc, row.datum.as_slice())?;
-    put(&mut members, alloc, "data", Value::String(text))?;
-    Ok(Value::Object(members))
+    row_object(alloc, row)
+        .with("data", Ok(Value::String(text)))
+        .value()
 }
 
 /// A list of resources without their bytes, those of these types or all where none are named, in the order of the rows.

@@ -5,6 +5,7 @@ mod damage;
 mod info;
 mod json;
 mod json_diff;
+mod json_object;
 mod json_row;
 mod json_text;
 mod refusal;

@@ -9,8 +9,8 @@ use crate::request::{Form, Report};
 use fork_answer::{Failure, Found, mended_fork, resource_fork};
 use fork_bytes::fault::WriteFault;
 use fork_mend::salvage_listing;
-use fork_mend::warning::warnings;
-use fork_salvage::all_faults;
+use fork_mend::warning::{Warning, warnings};
+use fork_salvage::{Fault, all_faults};
 use mac_base::resource::ResType;
 use mac_text::letters::Letters;
 use std::alloc::{AllocError, Global};
@@ -102,22 +102,29 @@ fn check_fork(
         all_faults(alloc, fork)?
     };
     let warnings = warnings(alloc, fork)?;
-    let is_damaged = !faults.as_slice().is_empty();
-    if let Form::Json = form {
-        let text = check_line(alloc, name, bytes, faults.as_slice(), warnings.as_slice())?;
-        return Ok(Told { text, is_damaged });
-    }
+    let text = match form {
+        Form::Text => check_text(alloc, faults.as_slice(), warnings.as_slice())?,
+        Form::Json => check_line(alloc, name, bytes, faults.as_slice(), warnings.as_slice())?,
+    };
+    Ok(Told {
+        text,
+        is_damaged: !faults.as_slice().is_empty(),
+    })
+}
+
+/// A line for each fault of a fork, and for each thing that is odd about it.
+fn check_text(alloc: Global, faults: &[Fault], warnings: &[Warning]) -> Result<String, AllocError> {
     let mut text = String::new(alloc);
-    for fault in &faults {
+    for fault in faults {
         writeln!(text, "fault: {fault}")?;
     }
-    for warning in &warnings {
+    for warning in warnings {
         writeln!(text, "warning: {warning}")?;
     }
     if text.as_str().is_empty() {
         writeln!(text, "no fault")?;
     }
-    Ok(Told { text, is_damaged })
+    Ok(text)
 }
 
 /// A line for each resource that can be read of a file's fork, and for each that can't.

@@ -17,32 +17,48 @@ use std::alloc::{AllocError, Global};
 use std::convert::AsStr;
 use std::fmt;
 
+/// Something to be shown of each of these files, on the standard output or in a file of this name.
+#[derive(Drop)]
+pub struct Showing<'a> {
+    pub request: Request,
+    pub files: Vec<&'a str>,
+    pub output: Option<&'a str>,
+}
+
+/// A report on each of these files.
+#[derive(Drop)]
+pub struct Reporting<'a> {
+    pub report: Report,
+    pub files: Vec<&'a str>,
+}
+
+/// What can be read of a damaged file, to be listed or to be written to a file of this name.
+#[derive(Clone, Copy)]
+pub struct Salvaging<'a> {
+    pub file: &'a str,
+    pub letters: Letters,
+    pub output: Option<&'a str>,
+}
+
+/// Resources of a file to be shown to people, on the standard output or in a file of this name.
+#[derive(Drop)]
+pub struct Viewing<'a> {
+    pub view: View,
+    pub file: &'a str,
+    pub output: Option<&'a str>,
+}
+
 /// What the words ask for.
 #[derive(Drop)]
 pub enum Asked<'a> {
-    /// To show something of each of these files, on the standard output or in a file of this name.
-    Show {
-        request: Request,
-        files: Vec<&'a str>,
-        output: Option<&'a str>,
-    },
-    /// To report on each of these files.
-    Report {
-        report: Report,
-        files: Vec<&'a str>,
-    },
-    /// To list what can be read of a damaged file, or to write it to a file of this name.
-    Salvage {
-        file: &'a str,
-        letters: Letters,
-        output: Option<&'a str>,
-    },
-    /// To show resources of a file to people, on the standard output or in a file of this name.
-    View {
-        view: View,
-        file: &'a str,
-        output: Option<&'a str>,
-    },
+    /// To show something of files.
+    Show(Showing<'a>),
+    /// To report on files.
+    Report(Reporting<'a>),
+    /// To list or to write what can be read of a damaged file.
+    Salvage(Salvaging<'a>),
+    /// To show resources of a file to people.
+    View(Viewing<'a>),
     /// To write the resources of a file to a folder.
     Unpack {
         unpacking: Unpacking<'a>,
@@ -147,16 +163,16 @@ fn reported<'a>(
     matches: &ArgMatches<'a>,
 ) -> Result<Asked<'a>, NotAsked> {
     let files = files_named(alloc, matches)?;
-    Ok(Asked::Report { report, files })
+    Ok(Asked::Report(Reporting { report, files }))
 }
 
 /// What `salvage` asks for.
 fn asked_to_salvage<'a>(matches: &ArgMatches<'a>) -> Asked<'a> {
-    Asked::Salvage {
+    Asked::Salvage(Salvaging {
         file: word(matches, "file"),
         letters: letters_of(matches),
         output: matches.get_str("output"),
-    }
+    })
 }
 
 /// How `ls` shows the bytes of resources.
@@ -180,11 +196,11 @@ fn shown<'a>(
     matches: &ArgMatches<'a>,
 ) -> Result<Asked<'a>, NotAsked> {
     let files = files_named(alloc, matches)?;
-    Ok(Asked::Show {
+    Ok(Asked::Show(Showing {
         request,
         files,
         output: matches.get_str("output"),
-    })
+    }))
 }
 
 /// What `ls` asks for.
@@ -245,11 +261,11 @@ fn asked_to_view<'a>(alloc: Global, matches: &ArgMatches<'a>) -> Result<Asked<'a
         None => None,
     };
     let chosen = chosen_by(alloc, matches)?;
-    Ok(Asked::View {
+    Ok(Asked::View(Viewing {
         view: View { chosen, form },
         file: word(matches, "file"),
         output: matches.get_str("output"),
-    })
+    }))
 }
 
 /// What `unpack` asks for.

@@ -54,50 +54,73 @@ pub struct Conversion<'a> {
     pub target: Target<'a>,
 }
 
+/// Resources to be removed.
+#[derive(Drop)]
+pub struct Removing<'a> {
+    pub whats: Vec<ResourceId>,
+    pub target: Target<'a>,
+}
+
+/// A resource of which all may be changed but its bytes.
+#[derive(Drop)]
+pub struct Setting<'a> {
+    pub what: ResourceId,
+    pub change: Change,
+    pub target: Target<'a>,
+}
+
+/// Resources of a file to be copied to another.
+#[derive(Drop)]
+pub struct Copying<'a> {
+    pub from: &'a str,
+    pub chosen: Vec<Choice>,
+    pub on_collision: Collision,
+    pub target: Target<'a>,
+}
+
+/// Two files to be compared.
+#[derive(Clone, Copy)]
+pub struct Comparison<'a> {
+    pub a: &'a str,
+    pub b: &'a str,
+    pub form: Form,
+}
+
+/// Resources to be written as a text.
+#[derive(Drop)]
+pub struct Derezzing<'a> {
+    pub file: &'a str,
+    pub kinds: Vec<ResType>,
+}
+
+/// A folder of what was unpacked, of which a fork is written.
+#[derive(Clone, Copy)]
+pub struct Packing<'a> {
+    pub folder: &'a str,
+    /// The file in whose container the fork stands.
+    pub like: Option<&'a str>,
+    pub target: Target<'a>,
+}
+
 /// What is to be done.
 #[derive(Drop)]
 pub enum Work<'a> {
     /// To put bytes in the place of a resource's, or to add it.
     Put(Putting<'a>),
     /// To remove resources.
-    Remove {
-        whats: Vec<ResourceId>,
-        target: Target<'a>,
-    },
+    Remove(Removing<'a>),
     /// To change all of a resource but its bytes.
-    Set {
-        what: ResourceId,
-        change: Change,
-        target: Target<'a>,
-    },
+    Set(Setting<'a>),
     /// To copy resources of a file to another.
-    Copy {
-        from: &'a str,
-        chosen: Vec<Choice>,
-        on_collision: Collision,
-        target: Target<'a>,
-    },
+    Copy(Copying<'a>),
     /// To compare two files.
-    Compare {
-        a: &'a str,
-        b: &'a str,
-        form: Form,
-    },
+    Compare(Comparison<'a>),
     /// To write resources as a text.
-    Derez {
-        file: &'a str,
-        kinds: Vec<ResType>,
-    },
+    Derez(Derezzing<'a>),
     /// To write a fork of a text.
-    Rez {
-        target: Target<'a>,
-    },
+    Rez(Target<'a>),
     /// To write a fork of what was unpacked to a folder.
-    Pack {
-        folder: &'a str,
-        like: Option<&'a str>,
-        target: Target<'a>,
-    },
+    Pack(Packing<'a>),
     /// To write a file in another container.
     Convert(Conversion<'a>),
 }
@@ -126,23 +149,22 @@ pub(crate) fn work_of<'a>(
 fn derez<'a>(alloc: Global, matches: &ArgMatches<'a>) -> Result<Work<'a>, NotAsked> {
     let kinds = kinds_named(alloc, matches)?;
     let file = word(matches, "file");
-    Ok(Work::Derez { file, kinds })
+    Ok(Work::Derez(Derezzing { file, kinds }))
 }
 
 /// What `rez` asks for.
 fn rez<'a>(matches: &ArgMatches<'a>) -> Work<'a> {
-    let target = target_of(matches, word(matches, "file"));
-    Work::Rez { target }
+    Work::Rez(target_of(matches, word(matches, "file")))
 }
 
 /// What `pack` asks for.
 fn pack<'a>(matches: &ArgMatches<'a>) -> Work<'a> {
     let folder = word(matches, "folder");
-    Work::Pack {
+    Work::Pack(Packing {
         folder,
         like: matches.get_str("like"),
         target: target_of(matches, folder),
-    }
+    })
 }
 
 /// How many letters a type has.
@@ -316,7 +338,7 @@ fn remove<'a>(alloc: Global, matches: &ArgMatches<'a>) -> Result<Work<'a>, NotAs
     let kind = kind_named(alloc, word(matches, "type"))?;
     let whats = resources_named(alloc, kind, matches.get_strs("id").unwrap_or(&[]))?;
     let target = changed_target(matches, word(matches, "file"), "")?;
-    Ok(Work::Remove { whats, target })
+    Ok(Work::Remove(Removing { whats, target }))
 }
 
 /// What `set` asks for.
@@ -330,7 +352,7 @@ fn set<'a>(alloc: Global, matches: &ArgMatches<'a>) -> Result<Work<'a>, NotAsked
     let what = resource_named(alloc, old_kind, old_id)?;
     let attributes = attribute_change(matches)?;
     let target = changed_target(matches, word(matches, "file"), "")?;
-    Ok(Work::Set {
+    Ok(Work::Set(Setting {
         what,
         change: Change {
             to,
@@ -338,7 +360,7 @@ fn set<'a>(alloc: Global, matches: &ArgMatches<'a>) -> Result<Work<'a>, NotAsked
             attributes,
         },
         target,
-    })
+    }))
 }
 
 /// Which resources a word of `cp` names: TYPE, or TYPE:ID.
@@ -387,12 +409,12 @@ fn copy<'a>(alloc: Global, matches: &ArgMatches<'a>) -> Result<Work<'a>, NotAske
     let chosen = choices_named(alloc, words)?;
     let from = word(matches, "from");
     let target = changed_target(matches, file, from)?;
-    Ok(Work::Copy {
+    Ok(Work::Copy(Copying {
         from,
         chosen,
         on_collision: collision_of(matches),
         target,
-    })
+    }))
 }
 
 /// What `diff` asks for.
@@ -403,7 +425,7 @@ fn compare<'a>(matches: &ArgMatches<'a>) -> Result<Work<'a>, Fault> {
         return Err(Fault::TwoInputs);
     }
     let form = form_of(matches);
-    Ok(Work::Compare { a, b, form })
+    Ok(Work::Compare(Comparison { a, b, form }))
 }
 
 /// The container that a word names.

@@ -1,6 +1,6 @@
 //! A file is written in another container.
 
-use crate::asked_change::{Conversion, Target};
+use crate::asked_change::Conversion;
 use crate::change::{save_to, say};
 use crate::message::{DONE, Problem};
 use crate::{INPUT, fork_found, read, read_whole, table_found};
@@ -117,6 +117,11 @@ fn data_for(
     }
 }
 
+/// The file that is written.
+fn output_of<'a>(asked: &Conversion<'a>) -> &'a str {
+    asked.target.output.unwrap_or(asked.target.file)
+}
+
 /// Writes the new file, and the data fork where it gets a file of its own. The file that is read is replaced last.
 fn write_both(
     rt: &HostRuntime,
@@ -124,7 +129,7 @@ fn write_both(
     new: &[u8],
     data: &[u8],
 ) -> Result<(), Problem> {
-    let output = asked.target.output.unwrap_or(asked.target.file);
+    let output = output_of(asked);
     match asked.data {
         Some(path) if !holds_data(asked.kind) => {
             if path == asked.target.file {
@@ -151,27 +156,29 @@ fn in_container(alloc: Global, transfer: &Transfer<'_>) -> Result<Rewritten, Pro
 
 /// Writes a file in another container. The result is the exit status.
 pub fn convert(rt: &HostRuntime, asked: &Conversion<'_>) -> Result<u8, Problem> {
-    let alloc = rt.alloc();
-    let Target {
-        file: input,
-        output,
-        is_dry,
-        ..
-    } = asked.target;
-    let output = output.unwrap_or(input);
-    if asked.data == Some(output) {
+    if asked.data == Some(output_of(asked)) {
         return Err(Problem::OneFile);
     }
-    let bytes = read(rt, input)?;
+    let bytes = read(rt, asked.target.file)?;
     check_fork(rt, &bytes)?;
+    let alloc = rt.alloc();
     let source = file_of(alloc, &bytes).map_err(|fault| {
         Refusal::of_failure(alloc, Failure::NoFork(fault), &bytes)
     })?;
-    let file = source.file();
-    let data = data_for(rt, asked, &bytes, &file)?;
-    let name = name_for(alloc, asked, &file)?;
+    convert_file(rt, asked, &bytes, source.file())
+}
+
+/// Writes a file that was found in these bytes in another container.
+fn convert_file(
+    rt: &HostRuntime,
+    asked: &Conversion<'_>,
+    bytes: &[u8],
+    file: MacFile<'_>,
+) -> Result<u8, Problem> {
+    let data = data_for(rt, asked, bytes, &file)?;
+    let name = name_for(rt.alloc(), asked, &file)?;
     let transfer = Transfer {
-        bytes: &bytes,
+        bytes,
         file,
         name: &name,
         data_fork: &data,
@@ -179,14 +186,26 @@ pub fn convert(rt: &HostRuntime, asked: &Conversion<'_>) -> Result<u8, Problem> 
         target: asked.kind,
         is_lossy: asked.is_lossy,
     };
-    let Rewritten { file: new, lost } = in_container(alloc, &transfer)?;
-    let words = lost_words(alloc, &lost)?;
-    if !is_dry {
-        write_both(rt, asked, &new, &data)?;
+    let new = in_container(rt.alloc(), &transfer)?;
+    write_converted(rt, asked, &new, &data)
+}
+
+/// Writes a file that is in its new container, and tells what of it is lost.
+fn write_converted(
+    rt: &HostRuntime,
+    asked: &Conversion<'_>,
+    new: &Rewritten,
+    data: &[u8],
+) -> Result<u8, Problem> {
+    let words = lost_words(rt.alloc(), &new.lost)?;
+    if !asked.target.is_dry {
+        write_both(rt, asked, &new.file, data)?;
     }
-    if !lost.is_empty() {
+    let output = output_of(asked);
+    if !new.lost.is_empty() {
+        let input = asked.target.file;
         let _ = eprintln!(rt; "{input}: not in {output}: {words}");
     }
-    let said = format!(in alloc; "{output}: {length} bytes\n", length = new.len())?;
+    let said = format!(in rt.alloc(); "{output}: {length} bytes\n", length = new.file.len())?;
     say(rt, &asked.target, &said)
 }

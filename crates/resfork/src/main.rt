@@ -21,11 +21,10 @@ use fork_report::{
     Bytes, Form, Refusal, Report, Tally, Told, refused_line, report_on, salvage, salvage_list,
 };
 use fork_view::unpack::unpack;
-use fork_view::{Unpacking, View, sight_of};
-use fork_words::asked::{Asked, NotAsked, asked_by};
+use fork_view::{Sight, Unpacking, sight_of};
+use fork_words::asked::{Asked, NotAsked, Reporting, Salvaging, Showing, Viewing, asked_by};
 use fork_words::{INPUT, work as asked_change};
 use input::read_all;
-use mac_text::letters::Letters;
 use message::{BAD_WORDS, CANT_GO_ON, DONE, NO_FORK, Problem, tell_bad_words, tell_problem};
 use parts::{answer_by_parts, list_by_parts};
 use std::alloc::AllocError;
@@ -55,58 +54,56 @@ fn run(rt: &HostRuntime) -> u8 {
 /// Does what is asked for. The result is the exit status.
 fn done(rt: &HostRuntime, asked: Asked<'_>) -> u8 {
     match asked {
-        Asked::Show {
-            request,
-            files,
-            output,
-        } => show_all(rt, &request, files.as_slice(), output),
-        Asked::Report { report, files } => report_all(rt, &report, files.as_slice()),
-        Asked::Salvage {
-            file,
-            letters,
-            output,
-        } => finish(rt, file, salvage_file(rt, file, letters, output)),
-        Asked::View { view, file, output } => finish(
-            rt,
-            file,
-            use_table(rt, file, &Viewing { view, output }),
-        ),
+        Asked::Show(asked) => show_all(rt, &asked),
+        Asked::Report(asked) => report_all(rt, &asked),
+        Asked::Salvage(asked) => finish(rt, asked.file, salvage_file(rt, asked)),
+        Asked::View(asked) => finish(rt, asked.file, use_table(rt, asked.file, &asked)),
         Asked::Unpack { unpacking, file } => finish(rt, file, use_table(rt, file, &unpacking)),
         Asked::Change(work) => work::work(rt, work),
         Asked::Tell(text) => tell(rt, text),
     }
 }
 
+/// Writes the name of one of several files before what is shown of it. The result says whether that can be shown then.
+fn is_titled(rt: &HostRuntime, files: &[&str], file: &str) -> bool {
+    files.len() <= 1 || println!(rt; "{file}:").is_ok()
+}
+
 /// Shows something of each of these files, and tells why some aren't shown. The result is the highest status of them.
-fn show_all(rt: &HostRuntime, request: &Request, files: &[&str], output: Option<&str>) -> u8 {
+fn show_all(rt: &HostRuntime, asked: &Showing<'_>) -> u8 {
+    let files = asked.files.as_slice();
     let mut status = DONE;
     for file in files {
-        if files.len() > 1 && println!(rt; "{file}:").is_err() {
+        if !is_titled(rt, files, file) {
             return CANT_GO_ON;
         }
-        status = status.max(finish(rt, file, show(rt, request, file, output)));
+        status = status.max(finish(rt, file, show(rt, asked, file)));
     }
     status
 }
 
 /// Shows something of the file of this name, on the standard output or in a file.
-fn show(
+fn show(rt: &HostRuntime, asked: &Showing<'_>, file: &str) -> Result<u8, Problem> {
+    match asked.output {
+        Some(output) => save_answer(rt, &asked.request, file, output)?,
+        None if asked.request.is_for_files() && rt.stdout().is_terminal() => {
+            return Err(Problem::Terminal);
+        }
+        None => write_answer(rt, &asked.request, file, &mut rt.stdout())?,
+    }
+    Ok(DONE)
+}
+
+/// Writes what is asked for of the file of this name to another.
+fn save_answer(
     rt: &HostRuntime,
     request: &Request,
     file: &str,
-    output: Option<&str>,
-) -> Result<u8, Problem> {
-    let Some(output) = output else {
-        if request.is_for_files() && rt.stdout().is_terminal() {
-            return Err(Problem::Terminal);
-        }
-        write_answer(rt, request, file, &mut rt.stdout())?;
-        return Ok(DONE);
-    };
+    output: &str,
+) -> Result<(), Problem> {
     let mut text = Vec::new(rt.alloc());
     write_answer(rt, request, file, &mut text)?;
-    save_to(rt, output, text.as_slice())?;
-    Ok(DONE)
+    save_to(rt, output, text.as_slice())
 }
 
 /// Writes what is asked for of the file of this name.
@@ -128,14 +125,15 @@ fn write_answer<W: Write>(
 }
 
 /// Reports on each of these files, and tells why of some nothing is told. The result is the highest status of them.
-fn report_all(rt: &HostRuntime, report: &Report, files: &[&str]) -> u8 {
-    let is_text = matches!(report.form(), Form::Text);
+fn report_all(rt: &HostRuntime, asked: &Reporting<'_>) -> u8 {
+    let files = asked.files.as_slice();
+    let is_text = matches!(asked.report.form(), Form::Text);
     let mut status = DONE;
     for file in files {
-        if is_text && files.len() > 1 && println!(rt; "{file}:").is_err() {
+        if is_text && !is_titled(rt, files, file) {
             return CANT_GO_ON;
         }
-        status = status.max(finish(rt, file, report_one(rt, report, file)));
+        status = status.max(finish(rt, file, report_one(rt, &asked.report, file)));
     }
     status
 }
@@ -206,28 +204,26 @@ fn finish(rt: &HostRuntime, file: &str, done: Result<u8, Problem>) -> u8 {
     }
 }
 
-/// Lists what can be read of the file of this name, or writes it to a file.
-fn salvage_file(
-    rt: &HostRuntime,
-    file: &str,
-    letters: Letters,
-    output: Option<&str>,
-) -> Result<u8, Problem> {
-    let alloc = rt.alloc();
-    let bytes = read(rt, file)?;
-    let Some(output) = output else {
-        let text = salvage_list(alloc, letters, &bytes)?;
-        write_text(rt, &text)?;
-        return Ok(DONE);
-    };
-    let (fork, tally) = salvage(alloc, &bytes)?;
+/// Lists what can be read of a file, or writes it to another. The result is the exit status.
+fn salvage_file(rt: &HostRuntime, asked: Salvaging<'_>) -> Result<u8, Problem> {
+    let bytes = read(rt, asked.file)?;
+    match asked.output {
+        Some(output) => save_salvaged(rt, asked.file, &bytes, output)?,
+        None => write_text(rt, &salvage_list(rt.alloc(), asked.letters, &bytes)?)?,
+    }
+    Ok(DONE)
+}
+
+/// Writes what can be read of a file with these bytes to another.
+fn save_salvaged(rt: &HostRuntime, file: &str, bytes: &[u8], output: &str) -> Result<(), Problem> {
+    let (fork, tally) = salvage(rt.alloc(), bytes)?;
     save_to(rt, output, fork.as_slice())?;
     if let Some(Tally { readable, found }) = tally {
         let _ = eprintln!(rt;
             "{file}: {readable} of {found} resources can be read, and are written to {output}"
         );
     }
-    Ok(DONE)
+    Ok(())
 }
 
 /// The resource fork in a file.
@@ -273,23 +269,21 @@ fn use_table_in<U: TableUse>(rt: &HostRuntime, bytes: &[u8], table_use: &U) -> R
     table_use.done(rt, bytes, &table)
 }
 
-/// Resources are shown to people, in a file of this name or on the standard output.
-#[derive(Drop)]
-struct Viewing<'a> {
-    view: View,
-    output: Option<&'a str>,
-}
-
 impl TableUse for Viewing<'_> {
-    /// A picture isn't written to a terminal.
+    /// The resources are shown to people.
     fn done(&self, rt: &HostRuntime, _bytes: &[u8], table: &Table<'_>) -> Result<u8, Problem> {
         let sight = sight_of(rt.alloc(), &self.view, table.rows.as_slice()).map_err(Problem::View)?;
-        match self.output {
-            Some(output) => save_to(rt, output, sight.bytes.as_slice())?,
-            None if sight.is_picture && rt.stdout().is_terminal() => return Err(Problem::Terminal),
-            None => rt.stdout().write_all(&sight.bytes).map_err(Problem::Print)?,
-        }
+        write_sight(rt, &sight, self.output)?;
         Ok(DONE)
+    }
+}
+
+/// Writes what is shown, to the file of this name or to the standard output. A picture isn't written to a terminal.
+fn write_sight(rt: &HostRuntime, sight: &Sight, output: Option<&str>) -> Result<(), Problem> {
+    match output {
+        Some(output) => save_to(rt, output, sight.bytes.as_slice()),
+        None if sight.is_picture && rt.stdout().is_terminal() => Err(Problem::Terminal),
+        None => rt.stdout().write_all(&sight.bytes).map_err(Problem::Print),
     }
 }
 

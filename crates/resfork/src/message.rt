@@ -95,30 +95,15 @@ pub enum Problem {
 impl fmt::Display for Problem {
     fn fmt<W: fmt::Write>(&self, f: &mut fmt::Formatter<W>) -> fmt::Result {
         match self {
-            Problem::Read(shown) => write!(f, "can't be read: {shown}"),
             Problem::Refused(shown) => shown.fmt(f),
             Problem::Output { error, .. } => error.fmt(f),
-            Problem::Said(shown) => write!(
-                f,
-                "it is changed, but what changed can't be told: {shown}"
-            ),
-            Problem::Print(shown) => write!(f, "the output can't be written: {shown}"),
             Problem::View(shown) => shown.fmt(f),
             Problem::Unpack(shown) => shown.fmt(f),
             Problem::Replace(shown) => shown.fmt(f),
             Problem::Edit(shown) => shown.fmt(f),
-            Problem::Write(shown) => write!(f, "not written: {shown}"),
-            Problem::Unread { path, error } => write!(f, "{path} can't be read: {error}"),
             Problem::Rez(shown) => shown.fmt(f),
             Problem::Pack(shown) => shown.fmt(f),
-            Problem::Apart(shown) => write!(
-                f,
-                "{shown} stands apart from the other resources of its type: put those of one type together"
-            ),
-            Problem::NoText(shown) => write!(f, "{shown} is no UTF-8 text"),
-            Problem::Lost(shown) => write!(f, "{shown} would be lost; --lossy leaves it out"),
-            Problem::Convert(shown) => write!(f, "not written: {shown}"),
-            problem => f.write_str(problem.text()),
+            problem => problem.fmt_words(f),
         }
     }
 }
@@ -157,9 +142,13 @@ fn status_of_refusal(refusal: &Refusal) -> u8 {
 }
 
 impl Problem {
-    /// What is said of a problem of which no more is known.
+    /// What is said of a problem, or of its thing.
     fn text(&self) -> &'static str {
         match self {
+            Problem::Apart(_) =>
+                " stands apart from the other resources of its type: put those of one type together",
+            Problem::NoText(_) => " is no UTF-8 text",
+            Problem::Lost(_) => " would be lost; --lossy leaves it out",
             Problem::NoKind(_) => "there is no such resource",
             Problem::Twice =>
                 "two of these resources have one type and id: copy them one by one, by get and put",
@@ -174,6 +163,30 @@ impl Problem {
             Problem::HostFull => "the host has no memory",
             Problem::Terminal =>
                 "the bytes of a resource aren't for a terminal: name a file with -o OUT, or pipe them on",
+            _ => "",
+        }
+    }
+
+    /// Writes what is said of a problem that is no other crate's.
+    fn fmt_words<W: fmt::Write>(&self, f: &mut fmt::Formatter<W>) -> fmt::Result {
+        match self {
+            Problem::Read(error) => write!(f, "can't be read: {error}"),
+            Problem::Said(error) => write!(
+                f,
+                "it is changed, but what changed can't be told: {error}"
+            ),
+            Problem::Print(error) => write!(f, "the output can't be written: {error}"),
+            Problem::Write(fault) => write!(f, "not written: {fault}"),
+            Problem::Convert(fault) => write!(f, "not written: {fault}"),
+            Problem::Unread { path, error } => write!(f, "{path} can't be read: {error}"),
+            problem => write!(f, "{}{}", problem.thing(), problem.text()),
+        }
+    }
+
+    /// What a problem is said of, if it is no file.
+    fn thing(&self) -> &str {
+        match self {
+            Problem::Apart(thing) | Problem::NoText(thing) | Problem::Lost(thing) => thing.as_str(),
             _ => "",
         }
     }
@@ -247,14 +260,22 @@ pub fn tell_problem(rt: &HostRuntime, file: &str, problem: &Problem) {
             },
         ) => eprintln!(rt; "{file}: {told}: resfork salvage {file} -o OUT"),
         Problem::Edit(fork_change::Refusal::Missing(what)) => tell_missing(rt, file, *what),
-        Problem::NoKind(kind) => {
-            let kind = KindText::new(Letters::Roman, *kind);
-            eprintln!(rt; "{file}: there is no resource of the type {kind}")
-        }
-        Problem::Output { path, error } => eprintln!(rt; "{path}: {error}"),
-        Problem::Container(path) => eprintln!(rt; "{path}: {problem}"),
-        problem => eprintln!(rt; "{file}: {problem}"),
+        Problem::NoKind(kind) => tell_no_kind(rt, file, *kind),
+        Problem::Output { path, .. } => tell_words(rt, path.as_str(), problem),
+        Problem::Container(path) => tell_words(rt, path.as_str(), problem),
+        problem => tell_words(rt, file, problem),
     };
+}
+
+/// Tells a problem of the file of this name in its own words.
+fn tell_words(rt: &HostRuntime, file: &str, problem: &Problem) -> io::Result<()> {
+    eprintln!(rt; "{file}: {problem}")
+}
+
+/// Tells that the file of this name has no resource of this type.
+fn tell_no_kind(rt: &HostRuntime, file: &str, kind: ResType) -> io::Result<()> {
+    let kind = KindText::new(Letters::Roman, kind);
+    eprintln!(rt; "{file}: there is no resource of the type {kind}")
 }
 
 /// Tells that the file of this name has no resource of this type and id.

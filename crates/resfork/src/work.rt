@@ -1,16 +1,18 @@
 //! What the commands do that change files, and those that compare them.
 
-use crate::asked_change::{Putting, Target, Work};
+use crate::asked_change::{Comparison, Copying, Packing, Putting, Removing, Setting, Target, Work};
 use crate::change::{change, create};
 use crate::convert::convert;
 use crate::message::{DONE, NOT_FOUND, Problem};
 use crate::rez::{derez_file, pack_folder, rez_file};
 use crate::{INPUT, finish, fork_found, read, table_found, write_text};
 use fork_bytes::table::{Row, Table};
-use fork_change::{Choice, Collision, Refusal};
+use fork_change::{Choice, Differences, Refusal};
 use fork_edit::difference::text_of;
 use fork_edit::edit::{Edit, second_of, unmet};
 use fork_report::{Form, difference_line};
+use mac_base::error::HostFull;
+use std::alloc::Global;
 use std::fs;
 use std::io::ErrorKind;
 
@@ -41,73 +43,75 @@ fn of_file<'a, T>(file: &'a str, done: Result<T, Problem>) -> Result<T, Failed<'
 fn done<'a>(rt: &HostRuntime, work: Work<'a>) -> Result<u8, Failed<'a>> {
     match work {
         Work::Put(asked) => put(rt, asked),
-        Work::Remove { whats, target } => of_file(
-            target.file,
-            change(rt, &target, &[], Edit::Remove(whats.as_slice())),
+        Work::Remove(asked) => remove(rt, &asked),
+        Work::Set(asked) => set(rt, asked),
+        Work::Copy(asked) => copy_from(rt, &asked),
+        Work::Compare(asked) => compare(rt, asked),
+        Work::Derez(asked) => of_file(
+            asked.file,
+            derez_file(rt, asked.file, asked.kinds.as_slice()),
         ),
-        Work::Set {
-            what,
-            change: made,
-            target,
-        } => of_file(
-            target.file,
-            change(rt, &target, &[], Edit::Set { what, change: made }),
-        ),
-        Work::Copy {
-            from,
-            chosen,
-            on_collision,
-            target,
-        } => copy_from(rt, from, chosen.as_slice(), on_collision, target),
-        Work::Compare { a, b, form } => compare(rt, form, a, b),
-        Work::Derez { file, kinds } => of_file(file, derez_file(rt, file, kinds.as_slice())),
-        Work::Rez { target } => of_file(target.file, rez_file(rt, &target)),
-        Work::Pack {
-            folder,
-            like,
-            target,
-        } => pack(rt, folder, like, target),
+        Work::Rez(target) => of_file(target.file, rez_file(rt, &target)),
+        Work::Pack(asked) => pack(rt, asked),
         Work::Convert(asked) => of_file(asked.target.file, convert(rt, &asked)),
     }
 }
 
 /// Puts bytes in the place of a resource's, or adds it.
 fn put<'a>(rt: &HostRuntime, asked: Putting<'a>) -> Result<u8, Failed<'a>> {
-    let Putting {
-        change,
-        input,
-        is_new,
-        creates,
-        target,
-    } = asked;
-    let input = input.unwrap_or(INPUT);
+    let input = asked.input.unwrap_or(INPUT);
     let bytes = of_file(input, read(rt, input))?;
+    of_file(asked.target.file, put_bytes(rt, asked, &bytes))
+}
+
+/// Puts these bytes in the place of a resource's, or adds it.
+fn put_bytes(rt: &HostRuntime, asked: Putting<'_>, bytes: &[u8]) -> Result<u8, Problem> {
     let edit = Edit::Put {
-        change,
-        bytes: &bytes,
-        is_new,
+        change: asked.change,
+        bytes,
+        is_new: asked.is_new,
     };
-    of_file(target.file, put_into(rt, &target, creates, edit))
+    put_into(rt, &asked.target, asked.creates, edit)
+}
+
+/// Removes resources.
+fn remove<'a>(rt: &HostRuntime, asked: &Removing<'a>) -> Result<u8, Failed<'a>> {
+    let edit = Edit::Remove(asked.whats.as_slice());
+    of_file(asked.target.file, change(rt, &asked.target, &[], edit))
+}
+
+/// Changes all of a resource but its bytes.
+fn set<'a>(rt: &HostRuntime, asked: Setting<'a>) -> Result<u8, Failed<'a>> {
+    let target = asked.target;
+    let edit = Edit::Set {
+        what: asked.what,
+        change: asked.change,
+    };
+    of_file(target.file, change(rt, &target, &[], edit))
 }
 
 /// Copies resources of a file to another.
-fn copy_from<'a>(
-    rt: &HostRuntime,
-    from: &'a str,
-    chosen: &[Choice],
-    on_collision: Collision,
-    target: Target<'a>,
-) -> Result<u8, Failed<'a>> {
+fn copy_from<'a>(rt: &HostRuntime, asked: &Copying<'a>) -> Result<u8, Failed<'a>> {
+    let from = asked.from;
     let bytes = of_file(from, read(rt, from))?;
     let found = of_file(from, fork_found(rt, &bytes))?;
     let table = of_file(from, table_found(rt, &found, &bytes))?;
-    let rows = table.rows.as_slice();
-    of_file(from, can_copy(rt, chosen, rows))?;
+    copy_rows(rt, asked, table.rows.as_slice())
+}
+
+/// Copies those of these rows that are asked for to a file.
+fn copy_rows<'a>(
+    rt: &HostRuntime,
+    asked: &Copying<'a>,
+    rows: &[Row<'_>],
+) -> Result<u8, Failed<'a>> {
+    let chosen = asked.chosen.as_slice();
+    of_file(asked.from, can_copy(rt, chosen, rows))?;
     let edit = Edit::Copy {
         chosen,
-        on_collision,
+        on_collision: asked.on_collision,
     };
-    of_file(target.file, change(rt, &target, rows, edit))
+    of_file(asked.target.file, change(rt, &asked.target, rows, edit))
 }
 
 /// Whether each choice means a row, and no two rows that are meant have one type and id.
@@ -124,34 +128,31 @@ fn can_copy(rt: &HostRuntime, chosen: &[Choice], rows: &[Row<'_>]) -> Result<(),
 }
 
 /// Writes what differs between two files. The result says whether something does.
-fn compare<'a>(rt: &HostRuntime, form: Form, a: &'a str, b: &'a str) -> Result<u8, Failed<'a>> {
-    let old = of_file(a, read(rt, a))?;
-    let old_fork = of_file(a, fork_found(rt, &old))?;
-    let old_table = of_file(a, table_found(rt, &old_fork, &old))?;
-    let new = of_file(b, read(rt, b))?;
-    let new_fork = of_file(b, fork_found(rt, &new))?;
-    let new_table = of_file(b, table_found(rt, &new_fork, &new))?;
-    of_file(
-        b,
-        write_differences(rt, form, [a, b], &old_table, &new_table),
-    )
+fn compare<'a>(rt: &HostRuntime, asked: Comparison<'a>) -> Result<u8, Failed<'a>> {
+    let a = asked.a;
+    let bytes = of_file(a, read(rt, a))?;
+    let found = of_file(a, fork_found(rt, &bytes))?;
+    let table = of_file(a, table_found(rt, &found, &bytes))?;
+    of_file(asked.b, compare_with(rt, asked, &table))
 }
 
-/// Writes what differs between two tables of the files of these names. The result says whether something does.
+/// Writes what differs between the first file's table and the second file. The result says whether something does.
+fn compare_with(rt: &HostRuntime, asked: Comparison<'_>, old: &Table<'_>) -> Result<u8, Problem> {
+    let bytes = read(rt, asked.b)?;
+    let found = fork_found(rt, &bytes)?;
+    let new = table_found(rt, &found, &bytes)?;
+    write_differences(rt, asked, old, &new)
+}
+
+/// Writes what differs between two tables. The result says whether something does.
 fn write_differences(
     rt: &HostRuntime,
-    form: Form,
-    files: [&str; 2],
+    asked: Comparison<'_>,
     old: &Table<'_>,
     new: &Table<'_>,
 ) -> Result<u8, Problem> {
-    let alloc = rt.alloc();
-    let differences = fork_change::compare(alloc, old, new)?;
-    let text = match form {
-        Form::Text => text_of(alloc, &differences)?,
-        Form::Json => difference_line(alloc, files[0], files[1], &differences)?,
-    };
-    write_text(rt, &text)?;
+    let differences = fork_change::compare(rt.alloc(), old, new)?;
+    write_text(rt, &difference_text(rt.alloc(), asked, &differences)?)?;
     Ok(if differences.is_empty() {
         DONE
     } else {
@@ -159,18 +160,28 @@ fn write_differences(
     })
 }
 
+/// What differs between two files, in the form that is asked for.
+fn difference_text(
+    alloc: Global,
+    asked: Comparison<'_>,
+    differences: &Differences<'_, '_>,
+) -> Result<String, HostFull> {
+    match asked.form {
+        Form::Text => text_of(alloc, differences),
+        Form::Json => Ok(difference_line(alloc, asked.a, asked.b, differences)?),
+    }
+}
+
 /// Writes a fork of the files in a folder, alone or in a file like another one.
-fn pack<'a>(
-    rt: &HostRuntime,
-    folder: &'a str,
-    like: Option<&'a str>,
-    target: Target<'a>,
-) -> Result<u8, Failed<'a>> {
-    let bytes = match like {
+fn pack<'a>(rt: &HostRuntime, asked: Packing<'a>) -> Result<u8, Failed<'a>> {
+    let bytes = match asked.like {
         Some(like) => of_file(like, read(rt, like))?,
         None => Vec::new(rt.alloc()),
     };
-    of_file(folder, pack_folder(rt, folder, &bytes, &target))
+    of_file(
+        asked.folder,
+        pack_folder(rt, asked.folder, &bytes, &asked.target),
+    )
 }
 
 /// Changes a file, or makes it where it isn't there and may be made.

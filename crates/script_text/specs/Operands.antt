@@ -99,6 +99,14 @@ IsTypeOperand (Single inner) four = IsTypeOfBytes inner four × IsTrue (list_all
 IsTypeOperand (Hexadecimal digits) four = (bytes : List ℕ) × AreDigitsOf digits bytes × IsTypeOfBytes bytes four
 IsTypeOperand token four = ⊥
 
+-- two tokens are these numbers or variables
+abbrev pub AreTwoNumbers : List (List ℕ) → Token → Token → NumberOperand × NumberOperand → Type 0
+AreTwoNumbers names first second numbers = IsNumberOperand names first numbers.0 × IsNumberOperand names second numbers.1
+
+-- two tokens are this type, and this id or variable
+abbrev pub AreTypeAndId : List (List ℕ) → Token → Token → List ℕ × IdOperand → Type 0
+AreTypeAndId names kind id both = IsTypeOperand kind both.0 × IsIdOperand names id both.1
+
 -- an operand of a call
 pub data Operand : Type 0 where
   Number : NumberOperand → Operand

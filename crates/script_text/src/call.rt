@@ -4,17 +4,18 @@ ghost use Rattle.std.specs.Prelude.{◌≡◌, map, option_to_list, IfOk};
 ghost use Rattle.script_lang.specs.declared.table.CallName.TheVariants as name;
 ghost use Rattle.script_text.specs.Found.{Finds};
 ghost use Rattle.script_text.specs.Front.{view};
-ghost use Rattle.script_text.specs.Operands.{Bytes, AreOperands, IsNamedCall};
+ghost use Rattle.script_text.specs.Operands.{Bytes, AreOperands, AreTwoNumbers, AreTypeAndId, IsNamedCall};
 
 use crate::names::Names;
 use crate::operand::{bytes_of, id_or_variable, number_or_variable, type_of};
 use crate::token::Token;
 use bumpalo::Bump;
 use mac_base::error::HostFull;
+use mac_base::resource::ResType;
 use mac_calls::Span;
 use script_lang::{
-    BytesName, CallName, FileName, KindName, NamedCall, NumberName, PlainName, ResourceName,
-    ThreeNumbersName, TwoNumbersName,
+    BytesName, CallName, FileName, IdOperand, KindName, NamedCall, NumberName, NumberOperand,
+    PlainName, ResourceName, ThreeNumbersName, TwoNumbersName,
 };
 
 fn plain_call<'a>(call: PlainName, tokens: &[Token<'_>], names: &Names<'_>) -> Option<NamedCall<'a>>
@@ -39,6 +40,19 @@ fn number_call<'a>(
     Some(NamedCall::Number(call, number_or_variable(*one, names)?))
 }
 
+/// The numbers or variables that two tokens are.
+fn two_numbers(
+    first: Token<'_>,
+    second: Token<'_>,
+    names: &Names<'_>,
+) -> Option<(NumberOperand, NumberOperand)>
+    ensures { Finds result (AreTwoNumbers names.now (view first.entry) (view second.entry)) }
+{
+    let first = number_or_variable(first, names)?;
+    let second = number_or_variable(second, names)?;
+    Some((first, second))
+}
+
 fn two_numbers_call<'a>(
     call: TwoNumbersName,
     tokens: &[Token<'_>],
@@ -49,8 +63,7 @@ fn two_numbers_call<'a>(
     let [first, second] = tokens else {
         return None;
     };
-    let first = number_or_variable(*first, names)?;
-    let second = number_or_variable(*second, names)?;
+    let (first, second) = two_numbers(*first, *second, names)?;
     Some(NamedCall::TwoNumbers(call, first, second))
 }
 
@@ -64,8 +77,7 @@ fn three_numbers_call<'a>(
     let [first, second, third] = tokens else {
         return None;
     };
-    let first = number_or_variable(*first, names)?;
-    let second = number_or_variable(*second, names)?;
+    let (first, second) = two_numbers(*first, *second, names)?;
     let third = number_or_variable(*third, names)?;
     Some(NamedCall::ThreeNumbers(call, first, second, third))
 }
@@ -76,10 +88,8 @@ fn block_move<'a>(tokens: &[Token<'_>], names: &Names<'_>) -> Option<NamedCall<'
     let [from, start, to, offset, count] = tokens else {
         return None;
     };
-    let from = number_or_variable(*from, names)?;
-    let start = number_or_variable(*start, names)?;
-    let to = number_or_variable(*to, names)?;
-    let offset = number_or_variable(*offset, names)?;
+    let (from, start) = two_numbers(*from, *start, names)?;
+    let (to, offset) = two_numbers(*to, *offset, names)?;
     let count = number_or_variable(*count, names)?;
     Some(NamedCall::BlockMove(from, start, to, offset, count))
 }
@@ -95,16 +105,31 @@ fn bytes_call<'a>(
     let [block, offset, bytes] = tokens else {
         return Ok(None);
     };
-    let Some(block) = number_or_variable(*block, names) else {
-        return Ok(None);
-    };
-    let Some(offset) = number_or_variable(*offset, names) else {
+    let Some((block, offset)) = two_numbers(*block, *offset, names) else {
         return Ok(None);
     };
     let Some(bytes) = bytes_of(arena, *bytes)? else {
         return Ok(None);
     };
     Ok(Some(NamedCall::Bytes(call, block, offset, bytes)))
+}
+
+/// The type, and the id or variable, that two tokens are.
+fn type_and_id(
+    arena: &Bump,
+    kind: Token<'_>,
+    id: Token<'_>,
+    names: &Names<'_>,
+) -> Result<Option<(ResType, IdOperand)>, HostFull>
+    ensures { IfOk result (λ found. Finds found (AreTypeAndId names.now (view kind.entry) (view id.entry))) }
+{
+    let Some(kind) = type_of(arena, kind)? else {
+        return Ok(None);
+    };
+    match id_or_variable(id, names) {
+        Some(id) => Ok(Some((kind, id))),
+        None => Ok(None),
+    }
 }
 
 fn resource_call<'a>(
@@ -118,11 +143,8 @@ fn resource_call<'a>(
     let [kind, id] = tokens else {
         return Ok(None);
     };
-    let Some(kind) = type_of(arena, *kind)? else {
-        return Ok(None);
-    };
-    match id_or_variable(*id, names) {
-        Some(id) => Ok(Some(NamedCall::Resource(call, kind, id))),
+    match type_and_id(arena, *kind, *id, names)? {
+        Some((kind, id)) => Ok(Some(NamedCall::Resource(call, kind, id))),
         None => Ok(None),
     }
 }
@@ -194,10 +216,7 @@ fn add_resource<'a>(
     let Some(handle) = number_or_variable(*handle, names) else {
         return Ok(None);
     };
-    let Some(kind) = type_of(arena, *kind)? else {
-        return Ok(None);
-    };
-    let Some(id) = id_or_variable(*id, names) else {
+    let Some((kind, id)) = type_and_id(arena, *kind, *id, names)? else {
         return Ok(None);
     };
     let Some(name) = optional_bytes(arena, rest, names)? else {

@@ -1,7 +1,7 @@
-use Rattle.std.proofs.Common.{arith}
+use Rattle.std.proofs.Common.{arith, lit≤}
 use Rattle.std.proofs.lemmas.Bool.{ltb-true, ltb-false}
 use Rattle.script_lang.specs.declared.table.CallName.TheVariants as name
-use Rattle.script_text.proofs.CallLaws.{bytes_last, too_few, too_many}
+use Rattle.script_text.proofs.CallLaws.{bytes_last, too_few, too_many, two_first}
 use Rattle.script_text.proofs.call.bytes_call.Goals as goal
 use Rattle.script_text.proofs.call.bytes_call.Goals.{in_default-via-then-tokens-lt3, in_default-via-else-tokens-lt3+else-tokens-lt4}
 
@@ -16,3 +16,8 @@ returns-in_default-2 c = λ x is.
     let none = rw c.in_default-2.is at c.in_ok-bytes.ensures in
     let bytes = bytes_last c.args.names.now c.args.call c.args.tokens.now _ x c.in-len3.len_at_least is in
     none bytes.0 bytes.1
+
+pub returns-in_default-two_numbers : goal.returns-in_default-two_numbers
+returns-in_default-two_numbers c = λ x is.
+    let both = two_first c.args.names.now (name.Bytes c.args.call) c.args.tokens.now _ x 3 tt (lit≤ tt) c.in-len3.len_at_least is in
+    c.in_default-two_numbers.ensures both.0 both.1

@@ -1,7 +1,7 @@
 use Rattle.std.proofs.Common.{arith}
 use Rattle.std.proofs.lemmas.Bool.{ltb-true, ltb-false}
 use Rattle.script_lang.specs.declared.table.CallName.TheVariants as name
-use Rattle.script_text.proofs.CallLaws.{too_few, too_many}
+use Rattle.script_text.proofs.CallLaws.{too_few, too_many, type_first}
 use Rattle.script_text.proofs.call.resource_call.Goals as goal
 use Rattle.script_text.proofs.call.resource_call.Goals.{in_default-via-then-tokens-lt2, in_default-via-else-tokens-lt2+else-tokens-lt3}
 
@@ -10,3 +10,9 @@ returns-in_default c = λ x is. elim c.in_default.branch [
   | in_default-via-then-tokens-lt2 w ↦ too_few c.args.names.now (name.Resource c.args.call) c.args.tokens.now x (ltb-true _ _ w.if-tokens-lt2-1.true) is
   | in_default-via-else-tokens-lt2+else-tokens-lt3 w ↦ too_many c.args.names.now (name.Resource c.args.call) c.args.tokens.now x (omega (arith, ltb-false _ _ w.if-tokens-lt3-1.false)) is
 ]
+
+pub returns-in-None : goal.returns-in-None
+returns-in-None c = λ x is.
+    let none = rw c.in-None.is at c.in_ok-kind.ensures in
+    let both = type_first c.args.names.now c.args.call c.args.tokens.now _ x c.in-len2.len_at_least is in
+    none both.0 both.1
