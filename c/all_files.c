@@ -1,12 +1,10 @@
 /* What all open resource files have together, however they were opened and closed and whichever is the current one: told by plain arrays of
  * what each file has (Inside Macintosh: More Macintosh Toolbox, chapter 1, "Counting and Listing Resource Types" and "Getting a Unique
  * Resource ID"). It compares what C is told with these, prints a line for each that differs, and ends with status 1 then. */
+#include "checks.h"
 #include "macheap_fork.h"
 #include "resman.h"
 
-#include <inttypes.h>
-#include <stdio.h>
-#include <stdlib.h>
 #include <string.h>
 
 enum { BASE = 0x100000, SIZE = 0x400000, FORK = 0x80000, FILES = 8, KINDS = 5, MOST = 6000, CASES = 4000, LARGEST = 32767 };
@@ -17,15 +15,7 @@ static MhZone zone = MH_NO_ZONE;
 static MrFiles files = MR_NO_FILES;
 static uint8_t fork[FORK], data[64 * MOST];
 static MfRow rows[MOST];
-static int faults;
 static uint64_t state = 1;
-
-static void same(int line, const char *what, int64_t is, int64_t wanted) {
-    if (is == wanted) return;
-    printf("line %d: %s is %" PRId64 ", not %" PRId64 "\n", line, what, is, wanted);
-    if (++faults > 20) exit(1);
-}
-#define IS(what, wanted) same(__LINE__, #what, (int64_t)(what), (wanted))
 
 static uint32_t below(uint32_t n) {
     state = state * 6364136223846793005u + 1442695040888963407u;

@@ -2,23 +2,12 @@
  * zones with a changed byte; which of them are zones says a check here, by the form that docs/DIFFERENCES.md describes. Zones that are
  * made anew of their bytes again and again have to go on like one that isn't. It prints a line for each thing that differs, and ends
  * with status 1 then. */
+#include "checks.h"
 #include "macheap.h"
 
-#include <inttypes.h>
-#include <stdio.h>
-#include <stdlib.h>
 #include <string.h>
 
 enum { BASE = 0x100000, LIMIT = 0x40000, EDGE = 64, HEADER = 52, SLOTS = 64, HANDLES = 2048 };
-
-static int faults;
-
-static void same(int line, const char *what, int64_t is, int64_t wanted) {
-    if (is == wanted) return;
-    printf("line %d: %s is %" PRId64 ", not %" PRId64 "\n", line, what, is, wanted);
-    if (++faults > 20) exit(1);
-}
-#define IS(what, wanted) same(__LINE__, #what, (int64_t)(what), (wanted))
 
 static uint64_t seed;
 

@@ -2,23 +2,12 @@
  * random calls in each mode on two zones that begin alike: in the one bytes come from outside, in the other the same bytes from a
  * pointer's block. Both have to be told the same, and to have the same bytes throughout; and each handle those that were put there
  * last. It prints a line for each that differs, and ends with status 1 then. */
+#include "checks.h"
 #include "macheap.h"
 
-#include <inttypes.h>
-#include <stdio.h>
-#include <stdlib.h>
 #include <string.h>
 
 enum { BASE = 0x100000, MAX = 8388608 };
-
-static int faults;
-
-static void same(int line, const char *what, int64_t is, int64_t wanted) {
-    if (is == wanted) return;
-    printf("line %d: %s is %" PRId64 ", not %" PRId64 "\n", line, what, is, wanted);
-    if (++faults > 20) exit(1);
-}
-#define IS(what, wanted) same(__LINE__, #what, (int64_t)(what), (wanted))
 
 static MhZone sized(uint32_t size, uint32_t limit, uint32_t mode) {
     MhZone zone = MH_NO_ZONE;

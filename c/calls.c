@@ -1,23 +1,11 @@
 /* Makes calls of the library in C, and compares what C is told with what is expected. It prints a line for each that
  * differs, and ends with status 1 then. */
+#include "checks.h"
 #include "macheap.h"
 
-#include <inttypes.h>
-#include <stdio.h>
 #include <string.h>
 
 enum { BASE = 0x100000 };
-
-static int faults, checks;
-
-static void same(int line, const char *what, int64_t is, int64_t wanted) {
-    checks++;
-    if (is != wanted) {
-        printf("line %d: %s is %" PRId64 ", not %" PRId64 "\n", line, what, is, wanted);
-        faults++;
-    }
-}
-#define IS(what, wanted) same(__LINE__, #what, (int64_t)(what), (wanted))
 
 static MhZone sized(uint32_t size, uint32_t limit, uint32_t mode) {
     MhZone zone = MH_NO_ZONE;

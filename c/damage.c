@@ -1,23 +1,12 @@
 /* A zone whose bytes a guest damages: for each byte of its structure, that mh_check names it and what it is in, and that
  * mh_repair mends it and no other; and which block has each address. It prints a line for each answer that differs from what is
  * expected, and ends with status 1 then. */
+#include "checks.h"
 #include "macheap.h"
 
-#include <inttypes.h>
-#include <stdio.h>
-#include <stdlib.h>
 #include <string.h>
 
 enum { BASE = 0x100000, SIZE = 2048, LIMIT = 2560, NOTHING = 0 };
-
-static int faults;
-
-static void same(int line, const char *what, int64_t is, int64_t wanted) {
-    if (is == wanted) return;
-    printf("line %d: %s is %" PRId64 ", not %" PRId64 "\n", line, what, is, wanted);
-    if (++faults > 20) exit(1);
-}
-#define IS(what, wanted) same(__LINE__, #what, (int64_t)(what), (wanted))
 
 static uint8_t ram[LIMIT], right[LIMIT];
 /* what each byte is in, which of its bits may be other ones, and the block that has it */

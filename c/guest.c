@@ -2,24 +2,13 @@
  * mh_sleep, and compares what C is told, and the bytes, with what is expected. It prints a line for each that differs, and
  * ends with status 1 then. With the word `time` it prints how long such a call takes, and how long zones of many
  * megabytes take to make. */
+#include "checks.h"
 #include "macheap.h"
 
-#include <inttypes.h>
-#include <stdio.h>
-#include <stdlib.h>
 #include <string.h>
 #include <time.h>
 
 enum { BASE = 0x100000, LIMIT = 0x40000, EDGE = 64, HANDLES = 2048 };
-
-static int faults;
-
-static void same(int line, const char *what, int64_t is, int64_t wanted) {
-    if (is == wanted) return;
-    printf("line %d: %s is %" PRId64 ", not %" PRId64 "\n", line, what, is, wanted);
-    if (++faults > 20) exit(1);
-}
-#define IS(what, wanted) same(__LINE__, #what, (int64_t)(what), (wanted))
 
 static uint64_t seed;
 

@@ -1,11 +1,9 @@
 /* As many resource files as can be open, each with a resource of its own and one that all have. It compares what C is told with what is
  * expected, prints a line for each that differs, and ends with status 1 then. */
+#include "checks.h"
 #include "macheap_fork.h"
 #include "resman.h"
 
-#include <inttypes.h>
-#include <stdio.h>
-#include <stdlib.h>
 #include <string.h>
 
 enum { BASE = 0x100000, SIZE = 0x100000, FILES = 255, ROOM = 512, OWN = 0x54455854, SHARED = 0x53545220 };
@@ -13,14 +11,6 @@ enum { BASE = 0x100000, SIZE = 0x100000, FILES = 255, ROOM = 512, OWN = 0x544558
 static MhZone zone = MH_NO_ZONE;
 static MrFiles files = MR_NO_FILES;
 static uint8_t fork[ROOM], now[ROOM];
-static int faults;
-
-static void same(int line, const char *what, int64_t is, int64_t wanted) {
-    if (is == wanted) return;
-    printf("line %d: %s is %" PRId64 ", not %" PRId64 "\n", line, what, is, wanted);
-    if (++faults > 20) exit(1);
-}
-#define IS(what, wanted) same(__LINE__, #what, (int64_t)(what), (wanted))
 
 /* Writes a fork with the resources 'TEXT' n and 'STR ' 1, whose bytes say n. */
 static size_t fork_of(uint32_t n) {

@@ -1,12 +1,10 @@
 /* Resources by their names, and other names for them: in forks that are made here, and in those of the files that its words name, whose
  * maps it reads by itself. It compares what C is told with what is expected, prints a line for each that differs, and ends with status 1
  * then. */
+#include "checks.h"
 #include "macheap_fork.h"
 #include "resman.h"
 
-#include <inttypes.h>
-#include <stdio.h>
-#include <stdlib.h>
 #include <string.h>
 
 enum { BASE = 0x100000, SIZE = 0x100000, MOST = 0x80000, TEXT = 0x54455854, STR = 0x53545220 };
@@ -14,14 +12,6 @@ enum { BASE = 0x100000, SIZE = 0x100000, MOST = 0x80000, TEXT = 0x54455854, STR 
 static MhZone zone = MH_NO_ZONE;
 static MrFiles files = MR_NO_FILES;
 static uint8_t fork[MOST];
-static int faults;
-
-static void same(int line, const char *what, int64_t is, int64_t wanted) {
-    if (is == wanted) return;
-    printf("line %d: %s is %" PRId64 ", not %" PRId64 "\n", line, what, is, wanted);
-    if (++faults > 20) exit(1);
-}
-#define IS(what, wanted) same(__LINE__, #what, (int64_t)(what), (wanted))
 
 typedef MhErr Named(MrFiles *, MhZone *, uint32_t, const uint8_t *, size_t, uint32_t *);
 

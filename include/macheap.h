@@ -11,8 +11,9 @@
  *    Those of one call don't overlap. This holds where a count is 0, too.
  *  - Bytes of a window (mh_window) are read and written only while their block is lent, not beyond its length, and not
  *    while a call on their zone runs, by another thread, say. No pointer into a window is passed to a call on its zone.
- *  - One call at a time on one zone, on one thread, and none from a signal handler. Two zones are independent.
- *  - malloc, realloc and free of the program are those of one C library.
+ *  - One call at a time on one zone, and none from a signal handler. Between two calls a zone may go from one thread to
+ *    another, where the program puts the calls in order, by a lock, say. Two zones are independent.
+ *  - malloc, realloc and free of the program are those of one C library, and each thread that makes calls may call them.
  *  - The ranges of mh_wake_written have every byte that was written since the zone fell asleep.
  *
  * What is tested, and answered with a code that changes nothing: any call before mh_make_zone, after mh_end_zone or while
