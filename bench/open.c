@@ -2,12 +2,12 @@
  * of its resources, and looks at the ends of none; prints the best microseconds of each, and their ratio. Next it gets each resource of the
  * fork by its id, and prints the nanoseconds of a call. bench/border.sh builds and runs it. */
 #define _POSIX_C_SOURCE 200809L
+#include "fork.h"
 #include "resman.h"
 
 #include <stdio.h>
 #include <stdlib.h>
 #include <string.h>
-#include <time.h>
 
 enum { RUNS = 40, TEXT = 0x54455854, ZONE = 16 << 20 };
 
@@ -19,33 +19,6 @@ typedef struct Row {
 
 static MhZone zone = MH_NO_ZONE;
 static MrFiles files = MR_NO_FILES;
-
-static uint32_t number(const uint8_t *at, int count) {
-    uint32_t n = 0;
-    while (count--) n = n << 8 | *at++;
-    return n;
-}
-
-static uint8_t *put(uint8_t *at, uint32_t n, int count) {
-    for (int i = count; i--;) *at++ = (uint8_t)(n >> 8 * i);
-    return at;
-}
-
-/* a fork of so many resources of one type, of so many bytes, with names of eight bytes */
-static uint8_t *fork_of(uint32_t count, uint32_t size, size_t *length) {
-    uint32_t data = count * (size + 4), name = 8, map = 38 + 12 * count + count * name;
-    *length = 256 + data + map;
-    uint8_t *fork = calloc(*length, 1), *at = put(put(put(put(fork, 256, 4), 256 + data, 4), data, 4), map, 4);
-    for (uint32_t i = 0; i < count; i++) put(fork + 256 + i * (size + 4), size, 4);
-    at = put(put(fork + 256 + data + 24, 28, 2), 38 + 12 * count, 2);
-    at = put(put(put(put(at, 0, 2), TEXT, 4), count - 1, 2), 10, 2);
-    for (uint32_t i = 0; i < count; i++) {
-        at = put(put(put(at, i, 2), i * name, 2), 0, 1);
-        at = put(put(at, i * (size + 4), 3), 0, 4);
-    }
-    for (uint32_t i = 0; i < count; i++) at = memset(put(at, name - 1, 1), 'n', name - 1), at += name - 1;
-    return fork;
-}
 
 /* The plain parse: how many rows there are. */
 static size_t parse(const uint8_t *given, size_t length, uint8_t *fork, Row *rows) {
@@ -63,15 +36,9 @@ static size_t parse(const uint8_t *given, size_t length, uint8_t *fork, Row *row
     return found;
 }
 
-static double now(void) {
-    struct timespec time;
-    clock_gettime(CLOCK_MONOTONIC, &time);
-    return time.tv_sec * 1e6 + time.tv_nsec / 1e3;
-}
-
 static void measure(uint32_t count, uint32_t size) {
     size_t length = 0;
-    uint8_t *fork = fork_of(count, size, &length), *copy = malloc(length);
+    uint8_t *fork = fork_of(count, size, 8, &length), *copy = malloc(length);
     Row *rows = calloc(count, sizeof *rows);
     double ours = 1e9, theirs = 1e9;
     uint32_t file = 0, handle = 0;

@@ -1,41 +1,14 @@
 /* Lists all resources of a fork by `mf_rows` of the library for C, and by a plain loop that fills the same three lists and looks at the ends of
  * none, on forks of 5,458 and 1,282 resources; prints the best microseconds of a call, and their ratio. bench/rows.sh builds and runs it. */
+#include "fork.h"
 #include <macheap_fork.h>
 
 #include <malloc.h>
 #include <stdio.h>
 #include <stdlib.h>
 #include <string.h>
-#include <time.h>
 
 enum { RUNS = 60 };
-
-static uint32_t number(const uint8_t *at, int count) {
-    uint32_t n = 0;
-    while (count--) n = n << 8 | *at++;
-    return n;
-}
-
-static uint8_t *put(uint8_t *at, uint32_t n, int count) {
-    for (int i = count; i--;) *at++ = (uint8_t)(n >> 8 * i);
-    return at;
-}
-
-/* a fork of so many resources of one type, of so many bytes, and with names of eight bytes where they fit */
-static uint8_t *fork_of(uint32_t count, uint32_t size, uint32_t name, size_t *length) {
-    uint32_t data = count * (size + 4), map = 38 + 12 * count + count * name;
-    *length = 256 + data + map;
-    uint8_t *fork = calloc(*length, 1), *at = put(put(put(put(fork, 256, 4), 256 + data, 4), data, 4), map, 4);
-    for (uint32_t i = 0; i < count; i++) put(fork + 256 + i * (size + 4), size, 4);
-    at = put(put(fork + 256 + data + 24, 28, 2), 38 + 12 * count, 2);
-    at = put(put(put(put(at, 0, 2), 0x54455854, 4), count - 1, 2), 10, 2);
-    for (uint32_t i = 0; i < count; i++) {
-        at = put(put(put(at, i, 2), name ? i * name : 0xFFFF, 2), 0, 1);
-        at = put(put(at, i * (size + 4), 3), 0, 4);
-    }
-    for (uint32_t i = 0; name && i < count; i++) at = memset(put(at, name - 1, 1), 'n', name - 1), at += name - 1;
-    return fork;
-}
 
 /* the same by a plain loop */
 static void loop(const uint8_t *fork, MfRow *rows, uint8_t *names, uint8_t *bytes) {
@@ -57,12 +30,6 @@ static void loop(const uint8_t *fork, MfRow *rows, uint8_t *names, uint8_t *byte
             memcpy(bytes, datum + 4, length), bytes += length;
         }
     }
-}
-
-static double now(void) {
-    struct timespec t;
-    clock_gettime(CLOCK_MONOTONIC, &t);
-    return t.tv_sec * 1e6 + t.tv_nsec / 1e3;
 }
 
 static void measure(uint32_t count, uint32_t size, uint32_t name) {

@@ -15,13 +15,6 @@ static MhZone zone = MH_NO_ZONE;
 static MrFiles files = MR_NO_FILES;
 static uint8_t fork[FORK], data[64 * MOST];
 static MfRow rows[MOST];
-static uint64_t state = 1;
-
-static uint32_t below(uint32_t n) {
-    state = state * 6364136223846793005u + 1442695040888963407u;
-    return (uint32_t)(state >> 33) % n;
-}
-
 /* A resource, and a file: its number, and what it has, those of each type in order. */
 typedef struct Has {
     uint32_t kind, size;

@@ -9,13 +9,6 @@
 
 enum { BASE = 0x100000, LIMIT = 0x40000, EDGE = 64, HEADER = 52, SLOTS = 64, HANDLES = 2048 };
 
-static uint64_t seed;
-
-static uint32_t below(uint32_t most) {
-    seed = seed * 6364136223846793005u + 1442695040888963407u;
-    return (uint32_t)(seed >> 33) % most;
-}
-
 /* the bytes that are attached, with bytes around them that nothing may touch, and what a test compares them with */
 static uint8_t room[EDGE + LIMIT + EDGE], before[LIMIT];
 static uint8_t *const ram = room + EDGE;

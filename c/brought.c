@@ -175,19 +175,12 @@ enum { SIZE = 8192, LIMIT = 12288, KEPT = 40, MOST = 700, LONG = 4000 };
 
 static MhZone zones[2];
 static uint32_t sources[2];
-static uint64_t state;
-
 /* a handle, and the bytes last put there */
 typedef struct Kept {
     uint32_t handle, length;
     uint8_t bytes[LONG];
 } Kept;
 static Kept kept[KEPT];
-
-static uint32_t below(uint32_t most) {
-    state = state * 6364136223846793005u + 1442695040888963407u;
-    return (uint32_t)(state >> 33) % most;
-}
 
 /* Both zones are told the same by a call on one operand. */
 typedef MhErr OneOperand(MhZone *, uint32_t);

@@ -18,4 +18,13 @@ static void same(int line, const char *what, int64_t is, int64_t wanted) {
 }
 #define IS(what, wanted) same(__LINE__, #what, (int64_t)(what), (wanted))
 
+/* Where the random numbers are that a test takes. */
+static uint64_t seed = 1;
+
+/* The next random number below another. */
+static inline uint32_t below(uint32_t most) {
+    seed = seed * 6364136223846793005u + 1442695040888963407u;
+    return (uint32_t)(seed >> 33) % most;
+}
+
 #endif

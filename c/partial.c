@@ -13,13 +13,6 @@ static MhZone zone = MH_NO_ZONE;
 static MrFiles files = MR_NO_FILES;
 static uint8_t fork[FORK], data[COUNT * MOST];
 static MfRow rows[COUNT];
-static uint64_t state = 1;
-
-static uint32_t below(uint32_t n) {
-    state = state * 6364136223846793005u + 1442695040888963407u;
-    return (uint32_t)(state >> 33) % n;
-}
-
 /* A resource 'TEXT' of this id: its handle, whether that has a block, whether it is to be written, what it has in its fork, and what it
  * has in memory. */
 typedef struct Has {

@@ -12,16 +12,10 @@ typedef struct Work {
     MhZone zone;
     MrFiles files;
     uint32_t file;
-    uint64_t seed;
     uint32_t handles[KEPT];
     uint64_t told; /* a sum of all that C was told */
     int calls, made;
 } Work;
-
-static uint32_t below(Work *work, uint32_t most) {
-    work->seed = work->seed * 6364136223846793005u + 1442695040888963407u;
-    return (uint32_t)(work->seed >> 33) % most;
-}
 
 static void tell(Work *work, int64_t answer) { work->told = work->told * 31 + (uint64_t)answer; }
 
@@ -33,7 +27,8 @@ static void code(Work *work, MhErr answer) {
 
 static void begin(Work *work) {
     static const uint8_t none;
-    *work = (Work){MH_NO_ZONE, MR_NO_FILES, 0, 1, {0}, 0, 0, 0};
+    *work = (Work){MH_NO_ZONE, MR_NO_FILES, 0, {0}, 0, 0, 0};
+    seed = 1;
     IS(mh_make_zone(&work->zone, BASE, SIZE, LIMIT, 24), MH_NO_ERR);
     IS(mr_begin(&work->files), MH_NO_ERR);
     IS(mr_open(&work->files, &work->zone, &none, 0, &work->file), MH_NO_ERR);
@@ -42,15 +37,15 @@ static void begin(Work *work) {
 /* One call, as the numbers that come next say. */
 static void make_call(Work *work) {
     uint8_t bytes[LONG];
-    uint32_t *handle = &work->handles[below(work, KEPT)];
-    uint32_t size = below(work, LONG), answer = 0;
-    memset(bytes, (int)below(work, 256), sizeof bytes);
-    switch (below(work, 6)) {
+    uint32_t *handle = &work->handles[below(KEPT)];
+    uint32_t size = below(LONG), answer = 0;
+    memset(bytes, (int)below(256), sizeof bytes);
+    switch (below(6)) {
     case 0: code(work, mh_new_handle_of(&work->zone, bytes, size, handle)); break;
     case 1: code(work, mh_set_handle_size(&work->zone, *handle, size)); break;
     case 2: code(work, mr_dispose_handle(&work->files, &work->zone, *handle)); break;
-    case 3: code(work, mr_add_resource(&work->files, &work->zone, *handle, TEXT, (int16_t)below(work, 40), bytes, below(work, 30))); break;
-    case 4: code(work, mr_get_resource(&work->files, &work->zone, TEXT, (int16_t)below(work, 40), handle)); break;
+    case 3: code(work, mr_add_resource(&work->files, &work->zone, *handle, TEXT, (int16_t)below(40), bytes, below(30))); break;
+    case 4: code(work, mr_get_resource(&work->files, &work->zone, TEXT, (int16_t)below(40), handle)); break;
     default: code(work, mh_get_handle_size(&work->zone, *handle, &answer));
     }
     tell(work, answer);
