@@ -1,7 +1,7 @@
 -- What is seen of numbers of some width that are written as far as any is above 0.
-use Rattle.std.proofs.Common.{◌≡◌, ℕ, zero, suc, [], ◌∷◌, ◌++◌, replicate, refl, sym, ap, ◌∙◌, append_assoc, length-append, ◌+◌, ◌-◌, ◌<◌, ◌≤◌, List, length, map, get_or, take, drop, arith, get_or-take, get_or-drop, length-set}
+use Rattle.std.proofs.Common.{◌≡◌, ℕ, zero, suc, Bool, true, if◌then◌else◌, [], ◌∷◌, ◌++◌, replicate, refl, sym, ap, ◌∙◌, append_assoc, append-nil, length-append, ◌+◌, ◌-◌, ◌<◌, ◌≤◌, List, length, map, get_or, take, drop, arith, get_or-take, get_or-drop, length-set}
 use Rattle.std.proofs.Math.ListN.{set}
-use Rattle.std.proofs.lemmas.List.{get_or-map, get_or_past, length-map, map-append, map-set, take-map, drop-map, length-drop, length-take-le, length-replicate, replicate-append-replicate, set-append_left}
+use Rattle.std.proofs.lemmas.List.{get_or-map, get_or_past, length-map, map-append, map-set, take-map, drop-map, length-drop, length-take-le, length-replicate, replicate-append-replicate, set-append_left, take_all}
 use Rattle.place_numbers.specs.Rows.{padded}
 
 -- zeros behind a list are what is read there anyway
@@ -88,8 +88,21 @@ module _ {A : Type 0} (f : A → ℕ) (xs : List A) (count : ℕ) (now : List �
 pub item-at : {A : Type 0} (f : A → ℕ) (xs : List A) (j : ℕ) (x : A) → j < length xs → x ≡ get_or xs j x → get_or (map f xs) j 0 ≡ f x
 item-at f xs j x inside is = get_or-map f xs j x 0 inside ∙ ap f (sym is)
 
--- one more zero
-pub more-zeros : {A : Type 0} (f : A → ℕ) (xs ys : List A) (k : ℕ) (x : A) → map f ys ≡ map f xs ++ replicate k 0 → f x ≡ 0 → map f (ys ++ x ∷ []) ≡ map f xs ++ replicate (k + 1) 0
-more-zeros f xs ys k x zeros none =
-    map-append f ys (x ∷ []) ∙ (λ i. zeros i ++ none i ∷ []) ∙ append_assoc (map f xs) (replicate k 0) (0 ∷ [])
-    ∙ ap (λ (l : List ℕ). map f xs ++ l) (replicate-append-replicate k 1 0)
+-- zeros behind some
+pub as-zeros : {A : Type 0} (f : A → ℕ) (xs : List A) (k : ℕ) (x : A) → f x ≡ 0 → map f (xs ++ replicate k x) ≡ map f xs ++ replicate k 0
+as-zeros f xs k x none = map-append f xs (replicate k x) ∙ ap (λ (l : List ℕ). map f xs ++ l) (zeros_of k)
+  where
+    zeros_of : (k : ℕ) → map f (replicate k x) ≡ replicate k 0
+    zeros_of zero = refl
+    zeros_of (suc k) = λ i. none i ∷ zeros_of k i
+
+-- none behind as many as there are to be
+pub no-zeros : {A : Type 0} (f : A → ℕ) (xs : List A) (end : ℕ) → end ≤ length xs → map f xs ≡ map f xs ++ replicate (end - length xs) 0
+no-zeros f xs end whole = sym (append-nil (map f xs)) ∙ ap (λ (k : ℕ). map f xs ++ replicate k 0) (let e : 0 ≡ end - length xs = omega arith in e)
+
+-- zeros that were put behind some, where there was room
+pub resized : {A : Type 0} (f : A → ℕ) (old new : List A) (end many : ℕ) (x : A) (done : Bool) → many ≡ length old → new ≡ (if done then take end old ++ replicate (end - many) x else old) → done ≡ true → length old ≤ end → f x ≡ 0
+    → map f new ≡ map f old ++ replicate (end - length old) 0
+resized f old new end many x done all is room more none =
+    ap (map f) (is ∙ ap (λ (b : Bool). (if b then take end old ++ replicate (end - many) x else old)) room ∙ (λ i. take_all end old more i ++ replicate (end - all i) x))
+    ∙ as-zeros f old (end - length old) x none

@@ -8,11 +8,14 @@ use std::marker::Model;
 
 mod slides;
 
+/// How many numbers a row is made longer by, where one is written at its end.
+const RUN: usize = 64;
+
 /// So many numbers, each at its place from 0 on. A contract sees their list. After `create` no call takes memory of the
 /// host.
 #[derive(Drop)]
 pub struct Row<N: Number> {
-    /// Those up to the last that was written. From there on all are 0, and their memory isn't touched yet.
+    /// Those up to the last that was written, and a few zeros. From there on all are 0, and their memory isn't touched yet.
     items: Vec<N>,
     count: usize,
 }
@@ -35,10 +38,8 @@ fn extend<N: Number>(numbers: &mut Vec<N>, end: usize)
     ensures zeros { map N.value numbers.new.items ≡ map N.value numbers.old.items ++ replicate (end - length numbers.old.items) 0 }
     ensures room { vec_capacity numbers.old ≤ vec_capacity numbers.new }
 {
-    while numbers.len() < end {
-        let Ok(()) = numbers.push(N::zero()) else {
-            return;
-        };
+    if numbers.len() < end {
+        let _ = numbers.resize(end, N::zero());
     }
 }
 
@@ -113,7 +114,7 @@ impl<N: Number> Row<N> {
         self.count
     }
 
-    /// The place from which on no number was written.
+    /// A place from which on no number was written.
     pub fn written(&self) -> usize
         ensures inside { result ≤ length self.now }
         ensures zeros { (j : ℕ) → result ≤ j → slice_index self.now j ≡ 0 }
@@ -138,7 +139,9 @@ impl<N: Number> Row<N> {
         requires { place < length self.old }
         ensures { self.new ≡ set self.old place (N.value number) }
     {
-        extend(&mut self.items, place + 1);
+        let count = self.count;
+        let end = count.min((place / RUN + 1) * RUN);
+        extend(&mut self.items, end);
         self.items[place] = number;
     }
 

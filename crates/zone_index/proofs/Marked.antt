@@ -1,7 +1,6 @@
 -- A walk over a zone writes a mark for each block: those that pass a test have one.
-use Rattle.std.proofs.Common.{◌≡◌, Some, None, ℕ, ◌+◌, ◌/◌, ◌<◌, ◌≤◌, Bool, true, List, [], ◌∷◌, ◌++◌, length, set, slice_index, refl, ap, sym, ◌∙◌, subst, append_assoc, inl, inr, arith}
+use Rattle.std.proofs.Common.{◌≡◌, Some, None, ℕ, ◌+◌, ◌/◌, ◌<◌, ◌≤◌, Bool, true, false, if◌then◌else◌, List, [], ◌∷◌, ◌++◌, length, set, slice_index, refl, ap, sym, ◌∙◌, subst, append_assoc, inl, inr, arith}
 use Rattle.std.specs.Prelude.{◌⊎◌}
-use Rattle.place_numbers.specs.Bits.{mark_of}
 use Rattle.std.proofs.lemmas.List.{length-set}
 use Rattle.mac_base.specs.declared.block.Block.{Block}
 use Rattle.mac_base.specs.declared.block.Kind.{Kind}
@@ -67,6 +66,21 @@ module _ (test : HandleTable → Kind → Bool) (z : ZoneState) where
         ]);
   }
 
+  -- with its mark if it passes, and else as they were
+  pub marked-if : HasSizes z → (at : ℕ) (e : EntryAt z at) (marks : List ℕ) → place z.shape at ≤ z.shape.limit / 4 → MarkedBelow test z at marks
+      → MarkedBelow test z (at + (e.here).size) (if test z.heap.table (e.here).kind then set marks (place z.shape at) 1 else marks)
+  marked-if sizes at e marks inside below = by_test (test z.heap.table (e.here).kind) refl
+    where
+      by_test : (b : Bool) → test z.heap.table (e.here).kind ≡ b → MarkedBelow test z (at + (e.here).size) (if b then set marks (place z.shape at) 1 else marks)
+      by_test true is = marked-on sizes at e marks 1 inside (λ passes. let one : 1 ≤ 1 = omega arith in one) below
+      by_test false is = record {
+        places = below.places;
+        marked = λ other f low. elim (below-or-here sizes at e other f low) [
+          | inl lower ↦ below.marked other f lower
+          | inr here ↦ (let yes = passes-only test z sizes e (subst (PassesAt test z) here f) in absurd (cc (yes, is)))
+        ];
+      }
+
   -- where no block is left all are marked
   pub marked-all : HasSizes z → (at : ℕ) (s : SplitAt z at) (marks : List ℕ) → s.behind ≡ [] → MarkedBelow test z at marks → AreMarked test z marks
   marked-all sizes at s marks none below = record {
@@ -81,10 +95,6 @@ module _ (test : HandleTable → Kind → Bool) (z : ZoneState) where
   }
 
 -- ---- the walk
-
--- the byte of a test that is passed
-has_mark : (b : Bool) → b ≡ true → 1 ≤ mark_of b
-has_mark b is = subst (λ b. 1 ≤ mark_of b) (sym is) (omega arith)
 
 -- the blocks below an address have their marks
 pub record Marking (z : ZoneState) (at : ℕ) (marks purgeable : List ℕ) : Type 0 where
@@ -110,8 +120,8 @@ module _ (z : ZoneState) (at : ℕ) where
 
   -- its marks are written
   pub marking-on : HasSizes z → (b : Block) (is : Some b ≡ report_at z.shape z.heap at) (p : ℕ) → p ≡ place z.shape at
-      → place z.shape at ≤ z.shape.limit / 4 → (marks purgeable fixed goes : List ℕ) → fixed ≡ set marks p (mark_of (is_fixed z.heap.table (b.entry).kind))
-      → goes ≡ set purgeable p (mark_of (may_go z.heap.table (b.entry).kind)) → Marking z at marks purgeable → Marking z (at + (b.entry).size) fixed goes
+      → place z.shape at ≤ z.shape.limit / 4 → (marks purgeable fixed goes : List ℕ) → fixed ≡ (if is_fixed z.heap.table (b.entry).kind then set marks p 1 else marks)
+      → goes ≡ (if may_go z.heap.table (b.entry).kind then set purgeable p 1 else purgeable) → Marking z at marks purgeable → Marking z (at + (b.entry).size) fixed goes
   marking-on sizes b is p here inside marks purgeable fixed goes fixed_is goes_is m =
       let e = shown-entry b is in
       let s = shown-there z at b is in
@@ -119,10 +129,10 @@ module _ (z : ZoneState) (at : ℕ) where
       let place_is = s.place in
       record {
         split = record { before = s.before ++ b.entry ∷ []; behind = s.behind; map = s.map ∙ sym (append_assoc s.before (b.entry ∷ []) s.behind); place = omega arith };
-        fixed = subst (MarkedBelow is_fixed z (at + (b.entry).size)) (sym (fixed_is ∙ ap (λ p. set marks p (mark_of (is_fixed z.heap.table (b.entry).kind))) here))
-            (marked-on is_fixed z sizes at e marks (mark_of (is_fixed z.heap.table (b.entry).kind)) inside (has_mark (is_fixed z.heap.table (b.entry).kind)) m.fixed);
-        goes = subst (MarkedBelow may_go z (at + (b.entry).size)) (sym (goes_is ∙ ap (λ p. set purgeable p (mark_of (may_go z.heap.table (b.entry).kind))) here))
-            (marked-on may_go z sizes at e purgeable (mark_of (may_go z.heap.table (b.entry).kind)) inside (has_mark (may_go z.heap.table (b.entry).kind)) m.goes);
+        fixed = subst (MarkedBelow is_fixed z (at + (b.entry).size)) (sym (fixed_is ∙ ap (λ p. (if is_fixed z.heap.table (b.entry).kind then set marks p 1 else marks)) here))
+            (marked-if is_fixed z sizes at e marks inside m.fixed);
+        goes = subst (MarkedBelow may_go z (at + (b.entry).size)) (sym (goes_is ∙ ap (λ p. (if may_go z.heap.table (b.entry).kind then set purgeable p 1 else purgeable)) here))
+            (marked-if may_go z sizes at e purgeable inside m.goes);
       }
 
   -- none is left where none is reported

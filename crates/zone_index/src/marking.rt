@@ -1,10 +1,9 @@
 //! Changes of marks.
 
-ghost use Rattle.std.specs.Prelude.{◌≡◌, ℕ, ◌+◌, ◌/◌, ◌≤◌, ◌<◌, length, set, slice_index, IsFalse};
+ghost use Rattle.std.specs.Prelude.{◌≡◌, ℕ, ◌+◌, ◌/◌, ◌≤◌, ◌<◌, length, set, slice_index, IsFalse, if◌then◌else◌};
 ghost use Rattle.mac_base.specs.BlockReport.{block_flags};
 ghost use Rattle.mac_base.specs.Gap.{is_fixed};
 ghost use Rattle.mac_base.specs.HandleTable.{HandleTable};
-ghost use Rattle.place_numbers.specs.Bits.{mark_of};
 ghost use Rattle.zone_index.specs.Marks.{AreMarked};
 ghost use Rattle.zone_index.specs.Purging.{may_go};
 ghost use Rattle.zone_index.specs.Turning.{IsCarried, IsSunk};
@@ -15,13 +14,15 @@ use mac_base::block::Block;
 use mac_base::size::ZONE_HEADER;
 use place_numbers::Bits;
 
-/// Marks a place where the block there passes a test.
+/// Marks a place if the block there passes a test. Else no mark changes.
 fn mark<T: BlockTest>(marks: &mut Bits, place: usize, block: &Block)
     requires { place < length marks.old }
     ensures { (t : HandleTable) → block.now.flags ≡ block_flags t block.now.entry.kind
-        → marks.new ≡ set marks.old place (mark_of (T.test t block.now.entry.kind)) }
+        → marks.new ≡ (if T.test t block.now.entry.kind then set marks.old place 1 else marks.old) }
 {
-    marks.set(place, T::passes(*block));
+    if T::passes(*block) {
+        marks.set(place, true);
+    }
 }
 
 /// Marks each fixed block of a zone, and each that may be purged. Each header is read once.

@@ -1,5 +1,5 @@
 -- Blocks that have what they are for, in a zone that is adopted.
-use Rattle.std.proofs.Common.{◌≡◌, ℕ, zero, suc, ◌+◌, ◌*◌, ◌%◌, ◌<◌, ◌≤◌, true, List, [], ◌∷◌, ◌++◌, length, take, drop, refl, ap, sym, ◌∙◌, subst, arith, append_assoc, append-nil, length-drop, drop-drop}
+use Rattle.std.proofs.Common.{◌≡◌, ℕ, zero, suc, ◌+◌, ◌*◌, ◌%◌, ◌<◌, ◌≤◌, true, List, [], ◌∷◌, ◌++◌, length, take, drop, refl, ap, sym, ◌∙◌, subst, arith, append_assoc, append-nil, length-drop, drop-drop, ◌⊎◌, inl, inr}
 use Rattle.std.specs.List.{All, list_all}
 use Rattle.std.proofs.Math.Seq.{take-length}
 use Rattle.std.proofs.lemmas.Bool.{and_parts, and_from}
@@ -14,7 +14,8 @@ use Rattle.block_bytes.proofs.Rendered.{total_of-append}
 use Rattle.block_bytes.proofs.Walking.{size_of-pos}
 use Rattle.block_bytes.specs.Adopting as blocks
 use Rattle.block_bytes.specs.declared.header.Role.TheVariants as role
-use Rattle.std.specs.Prelude.{◌==◌}
+use Rattle.std.specs.Prelude.{◌==◌, ◌^◌, nat_lt}
+use Rattle.mac_base.specs.declared.block.Flags.{Flags}
 use Rattle.std.proofs.lemmas.Bool.Decides.{nat_tests}
 use Rattle.block_bytes.specs.Finding.{SplitAt}
 use Rattle.block_bytes.specs.Layout.{RawBlock, Layout, BlockAt, UnlentAt, NothingLent, lent_count, size_of, total_of, is_possible, address_behind}
@@ -46,6 +47,21 @@ pub words-from : (heads : HeadKind) (n : ℕ) (xs : List ℕ) → AreBytes xs �
 words-from heads n xs bytes long right = sym (ap (λ k. take k xs) (sym long) ∙ take-length xs) ∙ words_all heads n xs bytes (omega arith) right
 
 module _ (heads : HeadKind) (base : ℕ) (b : RawBlock) where
+  -- a block that may have any contents
+  pub used-plain : (b.role ≡ role.Free) ⊎ (b.role ≡ role.Fixed) → IsUsed heads base b
+  used-plain (inl free) = record { use_is = ap (λ r. has_use base r (length b.contents)) free; words = λ master. let no : role.Free ≡ role.Master = sym free ∙ master in absurd (cc no) }
+  used-plain (inr fixed) = record { use_is = ap (λ r. has_use base r (length b.contents)) fixed; words = λ master. let no : role.Fixed ≡ role.Master = sym fixed ∙ master in absurd (cc no) }
+
+  -- a handle's block by its handle
+  pub used-handle : (offset : ℕ) (flags : Flags) → b.role ≡ role.Relocatable offset flags → base + offset < 2 ^ 32 → IsUsed heads base b
+  used-handle offset flags is low = let e : nat_lt (base + offset) (2 ^ 32) ≡ true = grind (arith, nat_tests) in record {
+    use_is = ap (λ r. has_use base r (length b.contents)) is ∙ e;
+    words = λ master. let no : role.Relocatable offset flags ≡ role.Master = sym is ∙ master in absurd (cc no);
+  }
+
+  pub handle-used : (offset : ℕ) (flags : Flags) → b.role ≡ role.Relocatable offset flags → IsUsed heads base b → base + offset < 2 ^ 32
+  handle-used offset flags is u = let e : nat_lt (base + offset) (2 ^ 32) ≡ true = sym (ap (λ r. has_use base r (length b.contents)) is) ∙ u.use_is in grind (arith, nat_tests)
+
   -- a master block by its words
   pub used-master : b.role ≡ role.Master → length b.contents ≡ 256 → b.contents ≡ words_of heads (slots_in heads 64 b.contents) → IsUsed heads base b
   used-master is long words = let e : (length b.contents == 256) ≡ true = grind (arith, nat_tests) in

@@ -29,6 +29,8 @@ mod ZoneSlots
 pub mod FreeWalk
 mod Linked
 mod RightBlocks
+mod SaidPlaces
+mod Paired
 mod Placing
 mod Freeing
 mod Fitting

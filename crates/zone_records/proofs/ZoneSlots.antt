@@ -166,7 +166,7 @@ module _ (l : Layout) (sound : AreSound l) where
       (omega arith, omega arith)
 
 -- addresses rise from one on
-unfoldable Rising : ℕ → List Placed → Type 0
+unfoldable pub Rising : ℕ → List Placed → Type 0
 Rising n [] = ⊤
 Rising n (p ∷ ps) = (n ≤ p.0) × Rising (suc p.0) ps
 
@@ -247,8 +247,11 @@ free_apart n ((g, slot.Free m) ∷ ps) r = IsDistinct-more g (free_of ps) (λ c.
 free_apart n ((g, slot.Empty) ∷ ps) r = free_apart (suc g) ps r.1
 free_apart n ((g, slot.Full flags contents) ∷ ps) r = free_apart (suc g) ps r.1
 
+pub slots-rising : (l : Layout) → AreSound l → Rising (raw.address_behind l []) (slots_of_zone (records_in l))
+slots-rising l sound = rising_all (records_in l).shape l.base (raw.address_behind l []) l.blocks sound.blocks
+
 pub free-once : (l : Layout) → AreSound l → IsDistinct nat_eq (free_of (slots_of_zone (records_in l)))
-free-once l sound = free_apart (raw.address_behind l []) (slots_of_zone (records_in l)) (rising_all (records_in l).shape l.base (raw.address_behind l []) l.blocks sound.blocks)
+free-once l sound = free_apart (raw.address_behind l []) (slots_of_zone (records_in l)) (slots-rising l sound)
 
 -- they add up
 free-append : (ps qs : List Placed) → length (free_of (ps ++ qs)) ≡ length (free_of ps) + length (free_of qs)
@@ -313,7 +316,7 @@ free-none heads base at role.Fixed bytes other = refl
 free-none heads base at role.Master bytes other = absurd (other refl)
 free-none heads base at (role.Relocatable offset flags) bytes other = refl
 
-cancel : (xs ys zs : List RawBlock) → xs ++ ys ≡ xs ++ zs → ys ≡ zs
+pub cancel : (xs ys zs : List RawBlock) → xs ++ ys ≡ xs ++ zs → ys ≡ zs
 cancel [] ys zs is = is
 cancel (x ∷ xs) ys zs is = let rest : xs ++ ys ≡ xs ++ zs = cc is in cancel xs ys zs rest
 

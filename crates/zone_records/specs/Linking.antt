@@ -41,6 +41,13 @@ TightAs l at role.Fixed size n = IsTrue (has_length (records_in l).shape size n)
 TightAs l at role.Master size n = IsTrue (has_length (records_in l).shape size n)
 TightAs l at (role.Relocatable offset flags) size n = IsTrue (has_length (records_in l).shape size n)
 
+-- each slot of a master block says its handle's block, if it says an address
+abbrev pub KeptAs : Layout → ℕ → Role → List ℕ → Type 0
+KeptAs l at role.Free contents = ⊤
+KeptAs l at role.Fixed contents = ⊤
+KeptAs l at role.Master contents = SlotsKeep l slot_count (at + head_size l.heads) contents
+KeptAs l at (role.Relocatable offset flags) contents = ⊤
+
 -- both of the block at an address
 pub record IsRight (l : Layout) (at : ℕ) (b : RawBlock) : Type 0 where
   pub linked : LinkedAs l at b.role b.contents
@@ -73,3 +80,28 @@ one_free (slot.Full flags contents) = 0
 abbrev pub free_count : List Slot → ℕ
 free_count [] = 0
 free_count (s ∷ ss) = one_free s + free_count ss
+
+-- the addresses that slots say
+unfoldable pub said_of : List (ℕ × Slot) → List ℕ
+said_of [] = []
+said_of ((h, slot.Free next) ∷ slots) = said_of slots
+said_of ((h, slot.Empty) ∷ slots) = said_of slots
+said_of ((h, slot.Full flags contents) ∷ slots) = contents ∷ said_of slots
+
+-- one where a slot says an address, and else none
+abbrev pub one_full : Slot → ℕ
+one_full (slot.Free next) = 0
+one_full slot.Empty = 0
+one_full (slot.Full flags contents) = 1
+
+-- how many slots say one
+abbrev pub full_count : List Slot → ℕ
+full_count [] = 0
+full_count (s ∷ ss) = one_full s + full_count ss
+
+-- one for a handle's block, and none for any other
+abbrev pub one_handle : Role → ℕ
+one_handle role.Free = 0
+one_handle role.Fixed = 0
+one_handle role.Master = 0
+one_handle (role.Relocatable offset flags) = 1

@@ -14,7 +14,7 @@ ghost use Rattle.zone_records.specs.Records.{ZoneRecords};
 ghost use Rattle.zone_records.specs.Word.{slot_in, slot_word, slots_in, words_of};
 
 use crate::chained::is_chained;
-use crate::linking::are_right;
+use crate::linking::free_if_right;
 use crate::records::Records;
 use block_bytes::{Blocks, NotAdopted, Role, WhyNot};
 use byteorder::{BigEndian, ByteOrder};
@@ -52,13 +52,14 @@ fn are_words(heads: HeadKind, words: &[u8]) -> bool
     true
 }
 
-/// Whether the block at an address has what it is for.
-fn is_used(blocks: &Blocks, at: u32) -> bool
-    requires { UnlentAt blocks.now at }
+/// Whether the block at an address, which is for this, has what it is for.
+fn is_used(blocks: &Blocks, at: u32, role: Role) -> bool
+    requires unlent { UnlentAt blocks.now at }
+    requires role { (b : BlockAt blocks.now at) → role ≡ b.here.role }
     ensures { (b : BlockAt blocks.now at) → IsTrue result ↔ IsUsed blocks.now.heads blocks.now.base b.here }
 {
     let spec = blocks.spec();
-    match blocks.entry_at(at).role {
+    match role {
         Role::Free | Role::Fixed => true,
         Role::Master => {
             let words = blocks.contents(at);
@@ -76,10 +77,11 @@ fn are_used(blocks: &Blocks) -> bool
     let end = blocks.end();
     let mut at = blocks.spec().base() + ZONE_HEADER;
     while at < end {
-        if !is_used(blocks, at) {
+        let header = blocks.entry_at(at);
+        if !is_used(blocks, at, header.role) {
             return false;
         }
-        at += blocks.entry_at(at).size;
+        at += header.size;
     }
     true
 }
@@ -96,10 +98,10 @@ fn is_whole(blocks: &Blocks) -> bool
     if !are_used(blocks) {
         return false;
     }
-    if !are_right(blocks) {
-        return false;
+    match free_if_right(blocks) {
+        Some(free) => is_chained(blocks, free),
+        None => false,
     }
-    is_chained(blocks)
 }
 
 impl Records {

@@ -15,7 +15,7 @@ use crate::slot::Slot;
 use block_bytes::{Blocks, Role};
 use byteorder::{BigEndian, ByteOrder};
 use mac_base::block::HeadKind;
-use mac_base::size::{SLOT_COUNT, ZONE_HEADER};
+use mac_base::size::SLOT_COUNT;
 
 /// One for a free slot, and 0 for any other.
 fn one_free(slot: Slot) -> u32
@@ -40,31 +40,17 @@ fn count_free(heads: HeadKind, words: &[u8]) -> u32
     count
 }
 
-/// How many slots of the block at an address are free.
-fn free_at(blocks: &Blocks, at: u32) -> u32
+/// How many slots of the block at an address, which is for this, are free.
+pub(crate) fn free_at(blocks: &Blocks, at: u32, role: Role) -> u32
     requires sound { AreSound blocks.now }
     requires block { BlockAt blocks.now at }
+    requires role { (b : BlockAt blocks.now at) → role ≡ b.here.role }
     ensures { (b : BlockAt blocks.now at) (x : ℕ) → result ≡ length (free_of (slots_of x (content_in blocks.now.heads blocks.now.base b.here.role b.here.contents))) }
 {
-    match blocks.entry_at(at).role {
+    match role {
         Role::Master => count_free(blocks.spec().heads(), blocks.contents(at)),
         Role::Free | Role::Fixed | Role::Relocatable(_, _) => 0,
     }
-}
-
-/// How many slots of a zone are free.
-fn free_slots(blocks: &Blocks) -> u32
-    requires { AreSound blocks.now }
-    ensures { result ≡ length (free_of (slots_of_zone (records_in blocks.now))) }
-{
-    let end = blocks.end();
-    let mut count = 0;
-    let mut at = blocks.spec().base() + ZONE_HEADER;
-    while at < end {
-        count += free_at(blocks, at);
-        at += blocks.entry_at(at).size;
-    }
-    count
 }
 
 /// What the free slot at an address says is the next, if a free slot is there.
@@ -79,13 +65,13 @@ fn next_free(blocks: &Blocks, at: u32) -> Option<u32>
     }
 }
 
-/// Whether the free slots of a zone follow one another, each once, from the first to the last. A walk of as many steps
-/// as there are free slots shows it: none of them comes twice, since the walk would then have no end.
-pub(crate) fn is_chained(blocks: &Blocks) -> bool
-    requires { AreSound blocks.now }
+/// Whether the free slots of a zone, so many, follow one another, each once, from the first to the last. A walk of as many
+/// steps shows it: none of them comes twice, since the walk would then have no end.
+pub(crate) fn is_chained(blocks: &Blocks, count: u32) -> bool
+    requires sound { AreSound blocks.now }
+    requires count { count ≡ length (free_of (slots_of_zone (records_in blocks.now))) }
     ensures { IsTrue result ↔ AreChained (records_in blocks.now) }
 {
-    let count = free_slots(blocks);
     let mut at = blocks.front();
     for _step in 0..count {
         match next_free(blocks, at) {

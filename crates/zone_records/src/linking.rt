@@ -1,43 +1,22 @@
 //! Whether the blocks of a zone that others wrote and its slots say each other, and nothing could be joined or cut.
 
-ghost use Rattle.std.specs.Prelude.{◌≡◌, ◌↔◌, ◌+◌, ◌<◌, ◌^◌, length, IsTrue};
-ghost use Rattle.mac_base.specs.declared.block.Flags.{Flags};
+ghost use Rattle.std.specs.Prelude.{◌≡◌, ℕ, ◌↔◌, ◌+◌, ◌<◌, ◌^◌, length, IfNone, IfSome, IsTrue};
 ghost use Rattle.mac_base.specs.HeadKind.{Shape, head_size, master_length, slot_count};
 ghost use Rattle.mac_base.specs.Suits.{has_length};
 ghost use Rattle.block_bytes.specs.declared.header.Role.TheVariants.{Free};
-ghost use Rattle.block_bytes.specs.Layout.{BlockAt, size_of};
-ghost use Rattle.zone_records.specs.declared.slot.Slot.TheVariants as slot;
+ghost use Rattle.block_bytes.specs.Layout.{BlockAt, header_of, size_of};
 ghost use Rattle.zone_records.specs.Adopting.{HasBlock};
-ghost use Rattle.zone_records.specs.Linking.{AreRight, IsRight, Keeps, LinkedAs, Names, SlotsKeep, TightAs};
-ghost use Rattle.zone_records.specs.Reading.{AreSound, records_in};
+ghost use Rattle.zone_records.specs.Linking.{AreRight, Keeps, KeptAs, SlotsKeep, TightAs, free_of, full_count, one_full, one_handle, said_of};
+ghost use Rattle.zone_records.specs.Reading.{AreSound, content_in, records_in};
+ghost use Rattle.zone_records.specs.Slots.{slots_of, slots_of_zone};
+ghost use Rattle.zone_records.specs.Word.{slots_in};
 
-use crate::lookup::find_slot;
+use crate::chained::free_at;
 use crate::slot::Slot;
-use block_bytes::{Blocks, Role};
+use block_bytes::{Blocks, Header, Role};
 use byteorder::{BigEndian, ByteOrder};
 use mac_base::block::HeadKind;
 use mac_base::size::{SLOT_COUNT, ZONE_HEADER, need_for};
-
-/// Whether a slot says that its block's contents begin at an address.
-fn says(said: Slot, contents: u32) -> bool
-    ensures { IsTrue result ↔ ((flags : Flags) × (said ≡ slot.Full flags contents)) }
-{
-    match said {
-        Slot::Full(_, there) => there == contents,
-        Slot::Free(_) | Slot::Empty => false,
-    }
-}
-
-/// Whether the slot of a handle says that its block's contents begin at an address.
-fn names(blocks: &Blocks, handle: u32, contents: u32) -> bool
-    requires { AreSound blocks.now }
-    ensures { IsTrue result ↔ Names (records_in blocks.now) handle contents }
-{
-    match find_slot(blocks, handle) {
-        Some(said) => says(said, contents),
-        None => false,
-    }
-}
 
 /// Whether a handle has a block whose contents begin at an address.
 fn has_block(blocks: &Blocks, handle: u32, contents: u32) -> bool
@@ -66,37 +45,65 @@ fn keeps(blocks: &Blocks, handle: u32, said: Slot) -> bool
     }
 }
 
-/// Whether each slot of a master block with these contents, the first at an address, that says an address says its
+/// One for a slot that says an address, and 0 for any other.
+fn one_full(slot: Slot) -> u32
+    ensures { result ≡ one_full slot }
+{
+    match slot {
+        Slot::Full(_, _) => 1,
+        Slot::Free(_) | Slot::Empty => 0,
+    }
+}
+
+/// How many slots of a master block with these contents, the first at an address, say an address, if each of them says its
 /// handle's block.
-fn slots_keep(blocks: &Blocks, first: u32, words: &[u8]) -> bool
+fn kept_slots(blocks: &Blocks, first: u32, words: &[u8]) -> Option<u32>
     requires sound { AreSound blocks.now }
     requires long { length words.now ≡ master_length }
     requires low { first + master_length < 2 ^ 32 }
-    ensures { IsTrue result ↔ SlotsKeep blocks.now slot_count first words.now }
+    ensures kept { IfSome result (λ count. SlotsKeep blocks.now slot_count first words.now) }
+    ensures count { IfSome result (λ count. count ≡ full_count (slots_in blocks.now.heads slot_count words.now)) }
+    ensures none { IfNone result (SlotsKeep blocks.now slot_count first words.now → ⊥) }
 {
     let heads = blocks.spec().heads();
+    let mut count = 0;
     for index in 0..SLOT_COUNT {
         let place = 4 * index;
         let word = BigEndian::read_u32(&words[place as usize..]);
-        if !keeps(blocks, first + place, Slot::read(heads, word)) {
-            return false;
+        let said = Slot::read(heads, word);
+        if !keeps(blocks, first + place, said) {
+            return None;
         }
+        count += one_full(said);
     }
-    true
+    Some(count)
 }
 
-/// Whether the block at an address and slots say each other.
-fn is_linked(blocks: &Blocks, at: u32) -> bool
+/// How many slots of the block at an address, which is for this, say an address, if each of them says its handle's block.
+fn kept_at(blocks: &Blocks, at: u32, role: Role) -> Option<u32>
     requires sound { AreSound blocks.now }
     requires block { BlockAt blocks.now at }
-    ensures { (b : BlockAt blocks.now at) → IsTrue result ↔ LinkedAs blocks.now at b.here.role b.here.contents }
+    requires role { (b : BlockAt blocks.now at) → role ≡ b.here.role }
+    ensures kept { IfSome result (λ count. (b : BlockAt blocks.now at) → KeptAs blocks.now at b.here.role b.here.contents) }
+    ensures count { IfSome result (λ count. (b : BlockAt blocks.now at) (x : ℕ) → count ≡ length (said_of (slots_of x (content_in blocks.now.heads blocks.now.base b.here.role b.here.contents)))) }
+    ensures none { IfNone result ((b : BlockAt blocks.now at) → KeptAs blocks.now at b.here.role b.here.contents → ⊥) }
 {
-    let spec = blocks.spec();
-    let first = at + spec.heads().head_size();
-    match blocks.entry_at(at).role {
-        Role::Free | Role::Fixed => true,
-        Role::Master => slots_keep(blocks, first, blocks.contents(at)),
-        Role::Relocatable(offset, _) => names(blocks, spec.base() + offset, first),
+    match role {
+        Role::Master => {
+            let first = at + blocks.spec().heads().head_size();
+            kept_slots(blocks, first, blocks.contents(at))
+        }
+        Role::Free | Role::Fixed | Role::Relocatable(_, _) => Some(0),
+    }
+}
+
+/// One for a handle's block, and 0 for any other.
+fn one_handle(role: Role) -> u32
+    ensures { result ≡ one_handle role }
+{
+    match role {
+        Role::Relocatable(_, _) => 1,
+        Role::Free | Role::Fixed | Role::Master => 0,
     }
 }
 
@@ -120,13 +127,13 @@ fn is_free(blocks: &Blocks, at: u32) -> bool
     }
 }
 
-/// Whether the block at an address can't be joined with the next, and can't be cut.
-fn is_tight(blocks: &Blocks, at: u32) -> bool
+/// Whether the block at an address, with this header, can't be joined with the next, and can't be cut.
+fn is_tight(blocks: &Blocks, at: u32, header: Header) -> bool
     requires sound { AreSound blocks.now }
     requires block { BlockAt blocks.now at }
+    requires header { (b : BlockAt blocks.now at) → header ≡ header_of blocks.now.heads b.here }
     ensures { (b : BlockAt blocks.now at) → IsTrue result ↔ TightAs blocks.now at b.here.role (size_of blocks.now.heads b.here) (length b.here.contents) }
 {
-    let header = blocks.entry_at(at);
     match header.role {
         Role::Free => match blocks.walk(at) {
             Some(next) => !is_free(blocks, next),
@@ -140,30 +147,33 @@ fn is_tight(blocks: &Blocks, at: u32) -> bool
     }
 }
 
-/// Whether the block at an address and slots say each other, and it can't be joined or cut.
-fn is_right(blocks: &Blocks, at: u32) -> bool
-    requires sound { AreSound blocks.now }
-    requires block { BlockAt blocks.now at }
-    ensures { (b : BlockAt blocks.now at) → IsTrue result ↔ IsRight blocks.now at b.here }
-{
-    if !is_linked(blocks, at) {
-        return false;
-    }
-    is_tight(blocks, at)
-}
-
-/// Whether the blocks of a zone and its slots say each other, and no block can be joined or cut.
-pub(crate) fn are_right(blocks: &Blocks) -> bool
+/// How many slots of a zone are free, if its blocks and its slots say each other, and no block can be joined or cut. Slots
+/// that say their handles' blocks say different ones. So where these are as many as all blocks of handles, each of the
+/// blocks is said by its slot.
+pub(crate) fn free_if_right(blocks: &Blocks) -> Option<u32>
     requires { AreSound blocks.now }
-    ensures { IsTrue result ↔ AreRight blocks.now }
+    ensures right { IfSome result (λ free. AreRight blocks.now) }
+    ensures free { IfSome result (λ free. free ≡ length (free_of (slots_of_zone (records_in blocks.now)))) }
+    ensures none { IfNone result (AreRight blocks.now → ⊥) }
 {
     let end = blocks.end();
+    let mut free = 0;
+    let mut full = 0;
+    let mut handles = 0;
     let mut at = blocks.spec().base() + ZONE_HEADER;
     while at < end {
-        if !is_right(blocks, at) {
-            return false;
+        let header = blocks.entry_at(at);
+        let count = kept_at(blocks, at, header.role)?;
+        if !is_tight(blocks, at, header) {
+            return None;
         }
-        at += blocks.entry_at(at).size;
+        full += count;
+        free += free_at(blocks, at, header.role);
+        handles += one_handle(header.role);
+        at += header.size;
     }
-    true
+    if full < handles {
+        return None;
+    }
+    Some(free)
 }

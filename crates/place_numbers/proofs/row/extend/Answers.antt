@@ -1,22 +1,13 @@
-use Rattle.std.proofs.Common.{◌≡◌, ◌+◌, ◌-◌, [], ◌∷◌, ◌++◌, ℕ, length, length-append, map, replicate, ap, ◌∙◌, arith, rules}
-use Rattle.place_numbers.proofs.Rows.{more-zeros}
+use Rattle.std.proofs.Common.{◌≡◌, ◌≤◌, length, arith}
+use Rattle.std.specs.Result.{is_ok}
+use Rattle.std.specs.Vec.{vec_len}
+use Rattle.place_numbers.proofs.Rows.{resized, no-zeros}
 use Rattle.place_numbers.proofs.row.extend.Goals as goal
 
-pub returns-clause-zeros : goal.returns-clause-zeros
-returns-clause-zeros g c =
-    let within = c.loop-numbers.invariant.within in let grown = c.loop-numbers.invariant.grown in
-    let count : length c.loop-numbers.numbers.items - length c.args.numbers.now.items ≡ c.args.end - length c.args.numbers.now.items = omega arith in
-    c.loop-numbers.invariant.zeros ∙ ap (λ (k : ℕ). map g.N.Number.value c.args.numbers.now.items ++ replicate k 0) count
+pub returns-then-len-end-clause-zeros : goal.returns-then-len-end-clause-zeros
+returns-then-len-end-clause-zeros g c =
+    let long = c.len.ensures in let more = c.if-len-end.true in
+    resized g.N.Number.value c.args.numbers.now.items c.resize.new.self.items c.args.end (vec_len c.args.numbers.now) c.zero.result (is_ok c.resize.result) c.args.numbers.now.ok.0 c.resize.ensures.items (c.resize.ensures.succeeds c.requires) (omega arith) c.zero.ensures
 
-pub loop-numbers-preserved : goal.loop-numbers-preserved
-loop-numbers-preserved g c =
-    let value = g.N.Number.value in let old = c.args.numbers.now.items in let xs = c.loop-numbers.numbers.items in let new = c.push.new.self.items in
-    let long = ap length c.in-Ok.ensures.items ∙ length-append xs (c.zero.result ∷ []) in let grown = c.loop-numbers.invariant.grown in
-    let count : length xs - length old + 1 ≡ length new - length old = omega arith in
-    record {
-      zeros = ap (map value) c.in-Ok.ensures.items ∙ more-zeros value old xs (length xs - length old) c.zero.result c.loop-numbers.invariant.zeros c.zero.ensures
-          ∙ ap (λ (k : ℕ). map value old ++ replicate k 0) count;
-      grown = omega arith;
-      within = omega arith;
-      room = search rules;
-    }
+pub returns-else-len-end-clause-zeros : goal.returns-else-len-end-clause-zeros
+returns-else-len-end-clause-zeros g c = no-zeros g.N.Number.value c.args.numbers.now.items c.args.end (let more = c.if-len-end.false in let long = c.len.ensures in omega arith)

@@ -1,18 +1,17 @@
-use Rattle.std.proofs.Common.{◌≡◌, ◌∙◌, ℕ, List, length, refl, sym, ap, arith}
+use Rattle.std.proofs.Common.{◌≡◌, ◌-◌, ◌≤◌, ◌∙◌, ℕ, List, length, refl, sym, ap, arith, inl, inr}
 use Rattle.std.proofs.lemmas.Bool.Decides.{nat_tests}
 use Rattle.mac_base.specs.declared.block.HeadKind.{HeadKind}
-use Rattle.block_bytes.specs.declared.header.Header.{Header}
 use Rattle.block_bytes.specs.declared.header.Role.TheVariants as role
 use Rattle.block_bytes.specs.Layout.{BlockAt}
 use Rattle.zone_records.specs.Word.{slots_in, words_of}
-use Rattle.zone_records.proofs.Adopted.{used-master, master-length}
+use Rattle.zone_records.proofs.Adopted.{used-plain, used-handle, handle-used, used-master, master-length}
 use Rattle.zone_records.proofs.MasterBlocks.{at-same}
 use Rattle.zone_records.proofs.adopting.is_used.Goals as goal
 use Rattle.zone_records.proofs.adopting.is_used.Goals.{After-contents-words}
 
 -- it is a master block
 master : (c : After-contents-words) (b : BlockAt c.args.blocks.now c.args.at) → b.here.role ≡ role.Master
-master c b = ap (λ (h : Header). h.role) (sym (c.entry_at.ensures b)) ∙ c.in-Master.is
+master c b = sym (c.requires.role b) ∙ c.in-Master.is
 
 -- bytes are the words of their slots
 abbrev Right : HeadKind → ℕ → List ℕ → Type 0
@@ -31,4 +30,20 @@ returns-else-words c = λ b.
     let l = c.args.blocks.now in let is = master (goal.at.returns-else-words c).After-contents-words b in let bytes = c.contents-words.ensures b in (
       λ yes. absurd (c.if-words.false (grind (arith, nat_tests, yes))),
       λ u. absurd (c.if-words.false (ap length bytes ∙ master-length l.heads l.base b.here is u)),
+    )
+
+pub returns-in-Free : goal.returns-in-Free
+returns-in-Free c b = let role = c.requires.role b in (
+  λ yes. used-plain c.args.blocks.now.heads c.args.blocks.now.base b.here (elim c.in-Free.is [ inl free ↦ inl (sym role ∙ free) | inr fixed ↦ inr (sym role ∙ fixed) ]),
+  λ u. refl,
+)
+
+pub returns-in-Relocatable : goal.returns-in-Relocatable
+returns-in-Relocatable c b =
+    let l = c.args.blocks.now in
+    let base : c.base.result ≡ l.base = c.base.ensures.value ∙ c.spec-spec.ensures.base in
+    let said : b.here.role ≡ role.Relocatable c.in-Relocatable.offset c.in-Relocatable.field-1 = sym (c.requires.role b) ∙ c.in-Relocatable.is in
+    let reach = c.base.ensures.reach in (
+      λ yes. used-handle l.heads l.base b.here c.in-Relocatable.offset c.in-Relocatable.field-1 said (let low : c.in-Relocatable.offset ≤ 4294967295 - c.base.result = grind (arith, nat_tests, yes) in omega arith),
+      λ u. let low = handle-used l.heads l.base b.here c.in-Relocatable.offset c.in-Relocatable.field-1 said u in let small : c.in-Relocatable.offset ≤ 4294967295 - c.base.result = omega arith in grind (arith, nat_tests),
     )

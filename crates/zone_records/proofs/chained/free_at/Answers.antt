@@ -1,5 +1,4 @@
 use Rattle.std.proofs.Common.{◌≡◌, ◌∙◌, ℕ, List, length, ap, sym, inl, inr}
-use Rattle.block_bytes.specs.declared.header.Header.{Header}
 use Rattle.block_bytes.specs.declared.header.Role.TheVariants as role
 use Rattle.block_bytes.specs.Layout.{BlockAt}
 use Rattle.zone_records.specs.Linking.{free_count}
@@ -11,7 +10,7 @@ use Rattle.zone_records.proofs.chained.free_at.Goals.{In-Master}
 
 -- it is a master block
 master : (c : In-Master) (b : BlockAt c.args.blocks.now c.args.at) → b.here.role ≡ role.Master
-master c b = ap (λ (h : Header). h.role) (sym (c.entry_at.ensures b)) ∙ c.in-Master.is
+master c b = sym (c.requires.role b) ∙ c.in-Master.is
 
 pub contents-requires : goal.contents-requires
 contents-requires c = let b = c.requires.block in contents-unlent c.args.blocks.now c.requires.sound c.args.at b (master (goal.at.contents-requires c).In-Master b)
@@ -28,7 +27,7 @@ returns-in-Master c b x =
 pub returns-in-Free : goal.returns-in-Free
 returns-in-Free c b x =
     let l = c.args.blocks.now in
-    free-none l.heads l.base x b.here.role b.here.contents (λ is. let said : c.entry_at.result.role ≡ role.Master = ap (λ (h : Header). h.role) (c.entry_at.ensures b) ∙ is in let other = c.in-Free.is in absurd (elim other [
+    free-none l.heads l.base x b.here.role b.here.contents (λ is. let said : c.args.role ≡ role.Master = c.requires.role b ∙ is in let other = c.in-Free.is in absurd (elim other [
       | inl free ↦ cc (said, free)
       | inr (inl fixed) ↦ cc (said, fixed)
       | inr (inr handle) ↦ (let block = handle.2 in cc (said, block))

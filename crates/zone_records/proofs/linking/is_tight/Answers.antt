@@ -22,7 +22,7 @@ not-both false negative positive = absurd (cc positive)
 
 pub returns-in-Some : goal.returns-in-Some
 returns-in-Some c b =
-    let l = c.args.blocks.now in let free : b.here.role ≡ role.Free = ap (λ (h : Header). h.role) (sym (c.entry_at-header.ensures b)) ∙ c.in-Free.is in
+    let l = c.args.blocks.now in let free : b.here.role ≡ role.Free = ap (λ (h : Header). h.role) (sym (c.requires.header b)) ∙ c.in-Free.is in
     let n = c.in-Some.ensures.next.0 in let place = c.in-Some.ensures.next.1 b in
     let T : Role → Type 0 = (λ r. TightAs l c.args.at r (size_of l.heads b.here) (length b.here.contents)) in (
       λ yes. subst T (sym free) (next-free l c.requires.sound c.args.at b c.in-Some.next n place (λ is. not-both c.is_free.result yes ((c.is_free.ensures n).1 is))),
@@ -31,7 +31,7 @@ returns-in-Some c b =
 
 pub returns-in-None : goal.returns-in-None
 returns-in-None c b =
-    let l = c.args.blocks.now in let free : b.here.role ≡ role.Free = ap (λ (h : Header). h.role) (sym (c.entry_at-header.ensures b)) ∙ c.in-Free.is in (
+    let l = c.args.blocks.now in let free : b.here.role ≡ role.Free = ap (λ (h : Header). h.role) (sym (c.requires.header b)) ∙ c.in-Free.is in (
       λ yes. subst (λ (r : Role). TightAs l c.args.at r (size_of l.heads b.here) (length b.here.contents)) (sym free) (next-none l c.requires.sound c.args.at b (c.in-None.ensures.last b)),
       λ tight. refl,
     )
@@ -39,12 +39,12 @@ returns-in-None c b =
 pub returns-in-Fixed : goal.returns-in-Fixed
 returns-in-Fixed c b =
     let l = c.args.blocks.now in
-    let same = c.entry_at-header.ensures b in
+    let same = c.requires.header b in
     let head : c.head_size.result ≡ head_size l.heads = c.head_size.ensures ∙ ap head_size (c.heads-heads.ensures ∙ c.spec.ensures.heads) in
-    let size : c.entry_at-header.result.size ≡ size_of l.heads b.here = ap (λ (h : Header). h.size) same in
-    let over : c.entry_at-header.result.correction ≡ length b.here.slack = ap (λ (h : Header). h.correction) same in
-    let long : c.entry_at-header.result.size - c.head_size.result - c.entry_at-header.result.correction ≡ length b.here.contents = omega arith in
-    let other : b.here.role ≡ role.Free → ⊥ = (λ is. not-free c.entry_at-header.result.role c.in-Fixed.is (ap (λ (h : Header). h.role) same ∙ is)) in
+    let size : c.args.header.size ≡ size_of l.heads b.here = ap (λ (h : Header). h.size) same in
+    let over : c.args.header.correction ≡ length b.here.slack = ap (λ (h : Header). h.correction) same in
+    let long : c.args.header.size - c.head_size.result - c.args.header.correction ≡ length b.here.contents = omega arith in
+    let other : b.here.role ≡ role.Free → ⊥ = (λ is. not-free c.args.header.role c.in-Fixed.is (ap (λ (h : Header). h.role) same ∙ is)) in
     let is : c.has_length.result ≡ has_length (records_in l).shape (size_of l.heads b.here) (length b.here.contents) =
     c.has_length.ensures (records_in l).shape (sym (c.heads-heads.ensures ∙ c.spec.ensures.heads)) ∙ (λ i. has_length (records_in l).shape (size i) (long i)) in (
       λ yes. tight-from l c.requires.sound b.here.role c.args.at (size_of l.heads b.here) (length b.here.contents) other (sym is ∙ yes),
