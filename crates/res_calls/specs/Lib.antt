@@ -13,3 +13,4 @@ pub mod Sought
 pub mod Info
 pub mod Counted
 pub mod Partial
+pub mod Patching

@@ -10,7 +10,7 @@ use Rattle.res_table.specs.declared.chain.RowPlace.{RowPlace}
 use Rattle.res_table.specs.OpenFiles.{changed_file, is_numbered, place_of_handle, row_at, table_in, with_rows}
 use Rattle.res_table.specs.Rows.{changed_at, with_attributes}
 
-row_same : (at : ℕ) (f g : FileRow → FileRow) (rows : List FileRow) (r : FileRow) → slice_get rows at ≡ Some r → f r ≡ g r → changed_at at f rows ≡ changed_at at g rows
+pub row_same : (at : ℕ) (f g : FileRow → FileRow) (rows : List FileRow) (r : FileRow) → slice_get rows at ≡ Some r → f r ≡ g r → changed_at at f rows ≡ changed_at at g rows
 row_same at f g rows r is same =
     let P : Option FileRow → Type 0 = λ o. option_map_or (λ x. set rows at (f x)) o rows ≡ option_map_or (λ x. set rows at (g x)) o rows in
     subst P (sym is) (ap (λ x. set rows at x) same)

@@ -18,16 +18,14 @@ use Rattle.res_files.specs.Crash.{history_of, OthersStay}
 use Rattle.res_files.specs.FilesOn.{FilesOn, HonestAt}
 use Rattle.res_files.specs.Stores.{UpdatesStore}
 use Rattle.res_table.specs.OpenFiles.{is_open, table_of}
-use Rattle.res_update.specs.Selected.{updated}
 use Rattle.res_update.specs.declared.fault.UpdateFault.{UpdateFault}
-use Rattle.res_update.specs.declared.selection.Selection.{Selection}
 use Rattle.res_manager.specs.Crash.{CrashLeaves, IsSettled, MayBeFound, file_settled}
 use Rattle.res_manager.specs.Steps.{state_of}
 use Rattle.res_manager.proofs.UpdatingCalls.{Makes, open_update}
 use Rattle.res_manager.proofs.WritingFiles.{update_found}
 
 -- what is always found, where less is asked
-weaker : {Event : Type 0} (may_find : List Event → List ℕ → Type 0) (P Q : List ℕ → Type 0) (old new : List Event) → ((found : List ℕ) → P found → Q found) → AlwaysFinds may_find P old new → AlwaysFinds may_find Q old new
+pub weaker : {Event : Type 0} (may_find : List Event → List ℕ → Type 0) (P Q : List ℕ → Type 0) (old new : List Event) → ((found : List ℕ) → P found → Q found) → AlwaysFinds may_find P old new → AlwaysFinds may_find Q old new
 weaker may_find P Q old new each (at_first finds) = at_first (λ found may. each found (finds found may))
 weaker may_find P Q old new each (and_then {event} {past} before finds) = and_then (weaker may_find P Q old past each before) (λ found may. each found (finds found may))
 
@@ -63,14 +61,12 @@ module _ {S : Type 0} (store : Ghosts S) (old new : List S) where
       subst (λ (w : Update). CrashLeaves store (Some w) old new) f.is
       (one_leaves (Some v) k others (λ honest. weaker store.may_find _ _ _ _ (λ found. ⊎_elim inl (λ same. inr (refl, same))) (rw f.there at (finds honest))))
 
-  -- so with the contents of this zone
-  pub zone_leaves : {T : Type 0} (contents zone : ZoneState) (selection : Selection) (k : ℕ) (files : Files) (result : Result T UpdateFault) → contents ≡ zone → is_open k files ≡ true
-      → (HonestAt store.is_honest new k → UpdatesStore store k (updated contents.heap.table selection) files old new result) → OthersStay k old new → CrashLeaves store (update_of k (updated zone.heap.table selection) files) old new
-  zone_leaves contents zone selection k files result same there updates others =
-      let o = open_update k (updated contents.heap.table selection) files there in
-      let P : ZoneState → Type 0 = λ z. CrashLeaves store (update_of k (updated z.heap.table selection) files) old new in
-      subst P same (subst (λ (update : Option Update). CrashLeaves store update old new) (sym o.1)
-      (file_leaves k (updated contents.heap.table selection) files o.0 o.1 (λ honest. (updates honest).any_moment) others))
+  -- by what is said of its store
+  pub changed_leaves : {T : Type 0} (k : ℕ) (change : FileTable → FileTable) (files : Files) (result : Result T UpdateFault) → is_open k files ≡ true
+      → (HonestAt store.is_honest new k → UpdatesStore store k change files old new result) → OthersStay k old new → CrashLeaves store (update_of k change files) old new
+  changed_leaves k change files result there updates others =
+      let o = open_update k change files there in
+      subst (λ (update : Option Update). CrashLeaves store update old new) (sym o.1) (file_leaves k change files o.0 o.1 (λ honest. (updates honest).any_moment) others)
 
   -- by the work of a call
   pub work_leaves : {E : Type 0} (work : Work) (update : Option Update) (result : Result Outcome E) → update_in work ≡ update → CrashLeaves store update old new → IfOk result (λ outcome. CrashLeaves store (update_in work) old new)

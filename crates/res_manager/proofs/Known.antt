@@ -61,7 +61,7 @@ same-datum p bytes files r is same =
 
 module _ (known : ℕ → Bool) where
   -- a row is changed all the same, where the change looks at no bytes
-  known-changed : (p : RowPlace) (change own : FileRow → FileRow) → ((r : FileRow) → change (mapped_row (bytes known p.file) r) ≡ mapped_row (bytes known p.file) (own r)) → (files : Files)
+  pub known-changed : (p : RowPlace) (change own : FileRow → FileRow) → ((r : FileRow) → change (mapped_row (bytes known p.file) r) ≡ mapped_row (bytes known p.file) (own r)) → (files : Files)
       → row_changed p change (known_files known files) ≡ known_files known (row_changed p own files)
   known-changed p change own same files =
       ap (λ (fs : List (OpenFile (List ℕ))). let all : Files = record { files = fs; current = files.current } in all)

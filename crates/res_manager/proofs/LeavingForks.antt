@@ -2,6 +2,7 @@
 use Rattle.std.proofs.Common.{◌≡◌, refl, true, List, [], Option, Some, None, Result, Ok, Err, ℕ, ap, subst}
 use Rattle.std.specs.Prelude.{IfOk, IfSome, OnOk, OnErr, ⊤}
 use Rattle.std.specs.Option.{option_map_or}
+use Rattle.mac_base.specs.HandleTable.{HandleTable}
 use Rattle.mac_base.specs.ZoneState.{ZoneState}
 use Rattle.mac_base.specs.declared.error.HostFull.{HostFull}
 use Rattle.mac_base.specs.declared.error.OsErr.{OsErr}
@@ -21,7 +22,7 @@ use Rattle.res_files.specs.Stores.{KeepsStores, OpensStore, UpdatesStore}
 use Rattle.res_manager.specs.Crash.{CrashLeaves, IsSettled, LeavesForks, OpensFork, SavesFork}
 use Rattle.res_manager.specs.Steps.{state_of}
 use Rattle.res_manager.proofs.CalmCalls.{IsIdle, calm_reads, calm_settles}
-use Rattle.res_manager.proofs.Crash.{calm_leaves, made_file, open_leaves, work_leaves, work_settles, zone_leaves}
+use Rattle.res_manager.proofs.Crash.{calm_leaves, made_file, open_leaves, work_leaves, work_settles, changed_leaves}
 use Rattle.res_manager.proofs.Keeping.{one_kept}
 use Rattle.res_manager.proofs.ReadingBack.{made_reads}
 use Rattle.res_manager.proofs.Stepping.{if_ok}
@@ -41,19 +42,29 @@ module _ {S : Type 0} (store : Ghosts S) (k : ℕ) (old new : List S) (others : 
   }
 
 -- a file is written, or isn't
-pub saves_fork : {S T E : Type 0} (store : Ghosts S) (contents zone : ZoneState) (selection : Selection) (k : ℕ) (files : Files) (old : List S) (after : FilesOn S) (writing : Result T UpdateFault) (result : Result Outcome E)
-    → contents ≡ zone → is_open k files ≡ true → (HonestAt store.is_honest after.stores k → UpdatesStore store k (updated contents.heap.table selection) files old after.stores writing) → OthersStay k old after.stores
+pub saves_changed : {S T E : Type 0} (store : Ghosts S) (zone : ZoneState) (k : ℕ) (change : FileTable → FileTable) (files : Files) (old : List S) (after : FilesOn S) (writing : Result T UpdateFault) (result : Result Outcome E)
+    → is_open k files ≡ true → (HonestAt store.is_honest after.stores k → UpdatesStore store k change files old after.stores writing) → OthersStay k old after.stores
     → IfOk result (λ outcome. OnOk outcome (IsSettled store (Some k) after.stores))
-    → IfOk result (λ outcome. OnOk outcome (IsSaved (HonestAt store.is_honest after.stores) (update_of k (updated zone.heap.table selection) files) (state_of store.fork zone after)))
-    → SavesFork store k (update_of k (updated zone.heap.table selection) files) old zone after result
-saves_fork store contents zone selection k files old after writing result same there updates others settled saved = record {
+    → IfOk result (λ outcome. OnOk outcome (IsSaved (HonestAt store.is_honest after.stores) (update_of k change files) (state_of store.fork zone after)))
+    → SavesFork store k (update_of k change files) old zone after result
+saves_changed store zone k change files old after writing result there updates others settled saved = record {
   works = record {
     honest = were_honest store k old after.stores others (λ honest. (updates honest).honest);
-    any_moment = zone_leaves store old after.stores contents zone selection k files writing same there updates others;
+    any_moment = changed_leaves store old after.stores k change files writing there updates others;
     settled = settled;
   };
   saved = saved;
 }
+
+-- the same with the contents of a zone
+pub saves_fork : {S T E : Type 0} (store : Ghosts S) (contents : HandleTable) (zone : ZoneState) (selection : Selection) (k : ℕ) (files : Files) (old : List S) (after : FilesOn S) (writing : Result T UpdateFault) (result : Result Outcome E)
+    → contents ≡ zone.heap.table → is_open k files ≡ true → (HonestAt store.is_honest after.stores k → UpdatesStore store k (updated contents selection) files old after.stores writing) → OthersStay k old after.stores
+    → IfOk result (λ outcome. OnOk outcome (IsSettled store (Some k) after.stores))
+    → IfOk result (λ outcome. OnOk outcome (IsSaved (HonestAt store.is_honest after.stores) (update_of k (updated zone.heap.table selection) files) (state_of store.fork zone after)))
+    → SavesFork store k (update_of k (updated zone.heap.table selection) files) old zone after result
+saves_fork store contents zone selection k files old after writing result same there updates others settled saved =
+    let Q : HandleTable → Type 0 = λ table. HonestAt store.is_honest after.stores k → UpdatesStore store k (updated table selection) files old after.stores writing in
+    saves_changed store zone k (updated zone.heap.table selection) files old after writing result there (subst Q same updates) others settled saved
 
 -- so a call leaves the forks that makes this update
 pub made_leaves : {S E : Type 0} (store : Ghosts S) (zone new : ZoneState) (on after : FilesOn S) (c : ResourceCall) (k : ℕ) (change : FileTable → FileTable) (u : Update) (result : Result Outcome E) → update_of k change on.files ≡ Some u

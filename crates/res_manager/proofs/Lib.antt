@@ -24,3 +24,9 @@ pub mod GettingRows
 mod Keeping
 mod LeavingForks
 mod OnlyRead
+pub mod PatchedBytes
+pub mod PatchedRows
+pub mod PatchingCalls
+pub mod PatchedCalls
+pub mod PatchedSteps
+pub mod PatchedFiles

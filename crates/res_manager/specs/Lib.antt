@@ -5,3 +5,5 @@ pub mod Watching
 pub mod Loading
 pub mod Crash
 pub mod Partial
+pub mod Patching
+pub mod Contents

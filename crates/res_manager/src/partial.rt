@@ -3,7 +3,7 @@
 ghost use Rattle.std.specs.Prelude.{◌≡◌, ◌+◌, ◌≤◌, nat_le, length, IfOk, IfSome};
 ghost use Rattle.mac_base.specs.HandleTable.{is_full};
 ghost use Rattle.res_calls.specs.Answered.{IsAnswered};
-ghost use Rattle.res_calls.specs.Partial.{data_at, end_of_read, part_asked};
+ghost use Rattle.res_calls.specs.Partial.{data_at, end_of_part, part_asked};
 ghost use Rattle.res_files.specs.FilesOn.{HonestAt};
 ghost use Rattle.res_files.specs.Stores.{KeepsStores};
 ghost use Rattle.res_manager.specs.Partial.{ReadsPartOn};
@@ -15,7 +15,7 @@ use fork_disk::store::ForkStore;
 use mac_base::error::OsErr;
 use mac_base::handle::Handle;
 use mem_calls::MemoryManager;
-use res_calls::PartialRead;
+use res_calls::PartialEnd;
 use res_files::ResourceFiles;
 use res_table::chain::RowPlace;
 
@@ -28,7 +28,7 @@ pub fn read_partial<S: ForkStore>(
     handle: Handle,
     offset: u32,
     buffer: &mut [u8],
-) -> PartialRead
+) -> PartialEnd
     ensures reads { ReadsPartOn S.ForkStore memory.now files.old handle offset buffer.old buffer.new result files.new }
     ensures keeps { KeepsStores S.ForkStore files.old.stores files.new.stores }
     ensures same { IsAnswered (HonestAt S.is_honest files.new.stores) (state_of S.fork memory.now files.old) (state_of S.fork memory.now files.new) }
@@ -39,19 +39,19 @@ pub fn read_partial<S: ForkStore>(
         Err(end) => return end,
     };
     match files.read_part(place, offset, buffer) {
-        Ok(()) => end_of_read(is_full(memory, handle)),
-        Err(_) => PartialRead::Refused(OsErr::IoErr),
+        Ok(()) => end_of_part(is_full(memory, handle)),
+        Err(_) => PartialEnd::Refused(OsErr::IoErr),
     }
 }
 
-/// The end of a call that read its bytes, by whether the resource is in memory.
-fn end_of_read(in_memory: bool) -> PartialRead
-    ensures { result ≡ end_of_read in_memory }
+/// The end of a call that read or wrote its bytes, by whether the resource is in memory.
+pub(crate) fn end_of_part(in_memory: bool) -> PartialEnd
+    ensures { result ≡ end_of_part in_memory }
 {
     if in_memory {
-        PartialRead::InMemory
+        PartialEnd::InMemory
     } else {
-        PartialRead::Read
+        PartialEnd::Done
     }
 }
 
@@ -61,24 +61,24 @@ fn find_part<S: ForkStore>(
     handle: Handle,
     offset: u32,
     count: usize,
-) -> Result<RowPlace, PartialRead>
+) -> Result<RowPlace, PartialEnd>
     ensures found { result ≡ part_asked handle offset count files.now.files }
     ensures within { IfOk result (λ place. IfSome (row_at place files.now.files) (λ r. offset + count ≤ length r.resource.datum)) }
 {
     if files.current().is_none() {
-        return Err(PartialRead::Refused(OsErr::ResFNotFound));
+        return Err(PartialEnd::Refused(OsErr::ResFNotFound));
     }
     let Some(place) = files.row_of_handle(handle) else {
-        return Err(PartialRead::Refused(OsErr::ResNotFound));
+        return Err(PartialEnd::Refused(OsErr::ResNotFound));
     };
     if !has_part(length_at(files, place), offset as usize, count) {
-        return Err(PartialRead::OutOfBounds);
+        return Err(PartialEnd::OutOfBounds);
     }
     Ok(place)
 }
 
 /// How many bytes the resource at a place has in its file.
-fn length_at<S: ForkStore>(files: &ResourceFiles<S>, place: RowPlace) -> usize
+pub(crate) fn length_at<S: ForkStore>(files: &ResourceFiles<S>, place: RowPlace) -> usize
     ensures { result ≡ length (data_at place files.now.files) }
 {
     match files.row(place) {

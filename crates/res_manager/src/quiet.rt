@@ -228,7 +228,7 @@ fn set_attributes<S: ForkStore>(
 }
 
 /// The attributes of the row at a place.
-fn attributes_at<S: ForkStore>(files: &ResourceFiles<S>, place: RowPlace) -> ResAttrs
+pub(crate) fn attributes_at<S: ForkStore>(files: &ResourceFiles<S>, place: RowPlace) -> ResAttrs
     requires { IsSome (row_at place files.now.files) }
     ensures { (r : FileRow) × (row_at place files.now.files ≡ Some r) × (result ≡ r.resource.attributes) }
 {

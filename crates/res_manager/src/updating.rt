@@ -14,7 +14,7 @@ ghost use Rattle.res_manager.specs.Tests.{AreLent};
 ghost use Rattle.res_table.specs.OpenFiles.{is_open};
 ghost use Rattle.res_update.specs.Selected.{updated, reads_lent};
 
-use crate::contents::MemoryContents;
+use crate::contents::Behind;
 use crate::tests::{test_changed, test_closing, test_written};
 use fork_disk::store::ForkStore;
 use mac_base::error::{HostFull, OsErr};
@@ -126,7 +126,7 @@ fn write_file<S: ForkStore>(
     ensures fits { OnErr result ((u : Update)
         → update_of number (updated memory.now.heap.table selection) files.old.files ≡ Some u → IsTrue (fits_fork u.table)) }
 {
-    let contents = MemoryContents::new(memory);
+    let contents = Behind::zone(memory);
     match files.update(number, selection, &contents) {
         Ok(()) => Ok(Ok(Results::Nothing)),
         Err(UpdateFault::TooBig) => Ok(Err(OsErr::DskFulErr)),

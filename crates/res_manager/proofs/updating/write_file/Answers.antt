@@ -1,6 +1,6 @@
 use Rattle.res_manager.proofs.LeavingForks.{saves_fork}
 use Rattle.std.proofs.Common.{◌≡◌, true, subst, sym, ap, refl, Ok, Err, Some, None}
-use Rattle.mac_base.specs.ZoneState.{ZoneState}
+use Rattle.mac_base.specs.HandleTable.{HandleTable}
 use Rattle.fork_disk.specs.declared.store.ReplaceFault.{ReplaceFault}
 use Rattle.mac_base.specs.declared.error.OsErr.TheVariants.{DskFulErr, IoErr}
 use Rattle.res_files.specs.FilesOn.{HonestAt}
@@ -19,9 +19,9 @@ use Rattle.res_manager.proofs.updating.write_file.Goals as goal
 
 pub returns-in-Ok-clause-written : goal.returns-in-Ok-clause-written
 returns-in-Ok-clause-written g c = λ u is.
-    let t = c.new-contents.result.heap.table in
-    let Q : ZoneState → Type 0 = λ z. update_of c.args.number (updated z.heap.table c.args.selection) c.args.files.now.files ≡ Some u in
-    let f = update_found c.args.number (updated t c.args.selection) c.args.files.now.files u (subst Q (sym c.new-contents.ensures) is) in
+    let t = c.zone-contents.result in
+    let Q : HandleTable → Type 0 = λ table. update_of c.args.number (updated table c.args.selection) c.args.files.now.files ≡ Some u in
+    let f = update_found c.args.number (updated t c.args.selection) c.args.files.now.files u (subst Q (sym c.zone-contents.ensures) is) in
     let rows = rw f.there at c.in-Ok.ensures.rows in
     let big = rw f.there at c.in-Ok.ensures.too_big in
     let v : Update = record { file = c.args.number; table = updated t c.args.selection f.table } in
@@ -30,9 +30,9 @@ returns-in-Ok-clause-written g c = λ u is.
 
 pub returns-in-Err-Device-clause-written : goal.returns-in-Err-Device-clause-written
 returns-in-Err-Device-clause-written g c = λ u is.
-    let t = c.new-contents.result.heap.table in
-    let Q : ZoneState → Type 0 = λ z. update_of c.args.number (updated z.heap.table c.args.selection) c.args.files.now.files ≡ Some u in
-    let f = update_found c.args.number (updated t c.args.selection) c.args.files.now.files u (subst Q (sym c.new-contents.ensures) is) in
+    let t = c.zone-contents.result in
+    let Q : HandleTable → Type 0 = λ table. update_of c.args.number (updated table c.args.selection) c.args.files.now.files ≡ Some u in
+    let f = update_found c.args.number (updated t c.args.selection) c.args.files.now.files u (subst Q (sym c.zone-contents.ensures) is) in
     let all = rw c.in-Err-Device.field-0-is at c.in-Err-Device.ensures in
     let big = rw f.there at all.too_big in
     let v : Update = record { file = c.args.number; table = updated t c.args.selection f.table } in
@@ -46,9 +46,9 @@ returns-in-Err-Device-clause-written g c = λ u is.
 
 pub returns-in-Err-TooBig-clause-written : goal.returns-in-Err-TooBig-clause-written
 returns-in-Err-TooBig-clause-written g c = λ u is.
-    let t = c.new-contents.result.heap.table in
-    let Q : ZoneState → Type 0 = λ z. update_of c.args.number (updated z.heap.table c.args.selection) c.args.files.now.files ≡ Some u in
-    let f = update_found c.args.number (updated t c.args.selection) c.args.files.now.files u (subst Q (sym c.new-contents.ensures) is) in
+    let t = c.zone-contents.result in
+    let Q : HandleTable → Type 0 = λ table. update_of c.args.number (updated table c.args.selection) c.args.files.now.files ≡ Some u in
+    let f = update_found c.args.number (updated t c.args.selection) c.args.files.now.files u (subst Q (sym c.zone-contents.ensures) is) in
     let all = rw c.in-Err-TooBig.field-0-is at c.in-Err-TooBig.ensures in
     let big = rw f.there at all.too_big in
     let v : Update = record { file = c.args.number; table = updated t c.args.selection f.table } in
@@ -57,9 +57,9 @@ returns-in-Err-TooBig-clause-written g c = λ u is.
 
 pub returns-in-Err-HostFull-clause-fits : goal.returns-in-Err-HostFull-clause-fits
 returns-in-Err-HostFull-clause-fits g c = λ u is.
-    let t = c.new-contents.result.heap.table in
-    let Q : ZoneState → Type 0 = λ z. update_of c.args.number (updated z.heap.table c.args.selection) c.args.files.now.files ≡ Some u in
-    let f = update_found c.args.number (updated t c.args.selection) c.args.files.now.files u (subst Q (sym c.new-contents.ensures) is) in
+    let t = c.zone-contents.result in
+    let Q : HandleTable → Type 0 = λ table. update_of c.args.number (updated table c.args.selection) c.args.files.now.files ≡ Some u in
+    let f = update_found c.args.number (updated t c.args.selection) c.args.files.now.files u (subst Q (sym c.zone-contents.ensures) is) in
     let all = rw c.in-Err-HostFull.field-0-is at c.in-Err-HostFull.ensures in
     let big = rw f.there at all.too_big in
     subst (λ (w : Update). fits_fork w.table ≡ true) f.is (true_unless (fits_fork (updated t c.args.selection f.table)) (λ h. absurd (cc (big.1 h))))
@@ -69,15 +69,15 @@ returns-in-Ok-clause-saves g c =
     let S = g.S.ForkStore in
     let honest = HonestAt S.is_honest c.update.new.self.stores in
     let done = c.in-Ok.ensures.updates in
-    let Q : ZoneState → Type 0 = λ z. IsSaved honest (update_of c.args.number (updated z.heap.table c.args.selection) c.args.files.now.files) (state_of S.fork c.args.memory.now c.update.new.self) in
-    saves_fork S c.new-contents.result c.args.memory.now c.args.selection c.args.number c.args.files.now.files c.args.files.now.stores c.update.new.self _ _ c.new-contents.ensures c.requires.open c.update.ensures.updates c.update.ensures.others (λ journal h. (done h).settled journal)
-    (subst Q c.new-contents.ensures (saved_update honest S.fork c.args.memory.now c.update.new.self c.args.number (updated c.new-contents.result.heap.table c.args.selection) c.args.files.now.files (λ h. (done h).stands)))
+    let Q : HandleTable → Type 0 = λ table. IsSaved honest (update_of c.args.number (updated table c.args.selection) c.args.files.now.files) (state_of S.fork c.args.memory.now c.update.new.self) in
+    saves_fork S c.zone-contents.result c.args.memory.now c.args.selection c.args.number c.args.files.now.files c.args.files.now.stores c.update.new.self _ _ c.zone-contents.ensures c.requires.open c.update.ensures.updates c.update.ensures.others (λ journal h. (done h).settled journal)
+    (subst Q c.zone-contents.ensures (saved_update honest S.fork c.args.memory.now c.update.new.self c.args.number (updated c.zone-contents.result c.args.selection) c.args.files.now.files (λ h. (done h).stands)))
 
 pub returns-in-Err-TooBig-clause-saves : goal.returns-in-Err-TooBig-clause-saves
-returns-in-Err-TooBig-clause-saves g c = saves_fork g.S.ForkStore c.new-contents.result c.args.memory.now c.args.selection c.args.number c.args.files.now.files c.args.files.now.stores c.update.new.self _ _ c.new-contents.ensures c.requires.open c.update.ensures.updates c.update.ensures.others tt tt
+returns-in-Err-TooBig-clause-saves g c = saves_fork g.S.ForkStore c.zone-contents.result c.args.memory.now c.args.selection c.args.number c.args.files.now.files c.args.files.now.stores c.update.new.self _ _ c.zone-contents.ensures c.requires.open c.update.ensures.updates c.update.ensures.others tt tt
 
 pub returns-in-Err-HostFull-clause-saves : goal.returns-in-Err-HostFull-clause-saves
-returns-in-Err-HostFull-clause-saves g c = saves_fork g.S.ForkStore c.new-contents.result c.args.memory.now c.args.selection c.args.number c.args.files.now.files c.args.files.now.stores c.update.new.self _ _ c.new-contents.ensures c.requires.open c.update.ensures.updates c.update.ensures.others tt tt
+returns-in-Err-HostFull-clause-saves g c = saves_fork g.S.ForkStore c.zone-contents.result c.args.memory.now c.args.selection c.args.number c.args.files.now.files c.args.files.now.stores c.update.new.self _ _ c.zone-contents.ensures c.requires.open c.update.ensures.updates c.update.ensures.others tt tt
 
 pub returns-in-Err-Device-clause-saves : goal.returns-in-Err-Device-clause-saves
-returns-in-Err-Device-clause-saves g c = saves_fork g.S.ForkStore c.new-contents.result c.args.memory.now c.args.selection c.args.number c.args.files.now.files c.args.files.now.stores c.update.new.self _ _ c.new-contents.ensures c.requires.open c.update.ensures.updates c.update.ensures.others tt tt
+returns-in-Err-Device-clause-saves g c = saves_fork g.S.ForkStore c.zone-contents.result c.args.memory.now c.args.selection c.args.number c.args.files.now.files c.args.files.now.stores c.update.new.self _ _ c.zone-contents.ensures c.requires.open c.update.ensures.updates c.update.ensures.others tt tt
