@@ -1,4 +1,6 @@
 pub mod Filled
+pub mod Lendable
+pub mod LentAgain
 pub mod Made
 pub mod SaveStates
 pub mod Sleeping

@@ -1,26 +1,77 @@
 -- A zone that sleeps, and wakes in bytes of the host.
-use Rattle.std.specs.Prelude.{◌≡◌, if◌then◌else◌, not, nat_lt, [], length, Option, Some, None, is_some, option_map}
+use Rattle.std.specs.Prelude.{◌≡◌, ◌==◌, ◌≤◌, ℕ, Bool, true, ◌&&◌, if◌then◌else◌, not, List, [], ◌∷◌, length, map, filter, Option, Some, None, is_some, option_map, IsTrue, IsFalse}
+use Rattle.std.specs.List.{list_all, list_any}
 use Rattle.mac_base.specs.declared.error.OsErr.{OsErr}
-use Rattle.mac_base.specs.declared.error.OsErr.TheVariants.{MemLockedErr, ParamErr}
-use Rattle.mac_base.specs.ZoneState.{woken_in}
+use Rattle.mac_base.specs.declared.error.OsErr.TheVariants.{ParamErr}
+use Rattle.mac_base.specs.HandleTable.{HandleTable, bytes_of}
+use Rattle.mac_base.specs.Heap.{Heap, with_table}
+use Rattle.mac_base.specs.Loans.{most_loans, owners, with_lent}
+use Rattle.mac_base.specs.ZoneMap.{is_named, sizes}
+use Rattle.mac_base.specs.ZoneState.{ZoneState, with_heap, woken_in}
+use Rattle.mac_calls.specs.declared.loan_call.LoanCall.TheVariants.{Lend}
+use Rattle.mac_calls.specs.Loans.{Loans, all_returned, loan_refusal}
 use Rattle.linked_zone.specs.Parts.{ContentsStay, OthersStay}
 use Rattle.linked_zone.specs.Structure.{DifferInContents, HasStructure, IsIn, SameFlags, shown}
 use Rattle.raw_region.specs.State.{State as Region}
 use Rattle.raw_region.specs.declared.host.HostBytes.{HostBytes}
+use Rattle.held_zone.specs.declared.waking.WhyAsleep.{WhyAsleep}
+use Rattle.held_zone.specs.declared.waking.WhyAsleep.TheVariants.{Damaged, Unlocked}
 use Rattle.held_zone.specs.State.{State}
 
 -- the region that the host's bytes are, if they are here
 abbrev pub region_of : HostBytes → Option Region
 region_of h = option_map (λ bytes. record { name = h.at; bytes = bytes; lent = [] }) h.bytes
 
--- a zone sleeps: nothing of it is lent, and it is in memory of its own
+-- whether no number is there twice
+abbrev pub each_once : List ℕ → Bool
+each_once [] = true
+each_once (x ∷ xs) = not (list_any (λ y. y == x) xs) && each_once xs
+
+-- a zone sleeps: nothing of it is lent, it is in memory of its own, and each block that waits to be lent again waits once
 pub record IsAsleep (s : State) : Type 0 where
   pub nothing_lent : s.zone.heap.table.lent ≡ []
   pub own : s.zone.memory.kept ≡ None
+  pub once : IsTrue (each_once s.waiting)
 
--- the zone awake in a region that has its structure: with the contents and flags that the region's bytes have
+-- whether a block may be lent
+abbrev pub is_lendable : ZoneState → ℕ → Bool
+is_lendable z x = not (is_some (loan_refusal z.shape z.heap (Lend x)))
+
+-- the heap in which just these blocks are lent. They stand in the order of their blocks
+abbrev pub with_these_lent : List ℕ → Heap → Heap
+with_these_lent xs heap = with_table (with_lent (filter (λ y. list_any (λ x. x == y) xs) (owners heap.map)) heap.table) heap
+
+-- the loans of these blocks, each with the bytes of its block
+abbrev pub new_loans : HandleTable → List ℕ → Loans
+new_loans t xs = map (λ x. (x, bytes_of t x)) xs
+
+-- these blocks may all be lent where nothing is: each may, has one block, and is there once, and they are eight at most
+pub record CanBeLent (z : ZoneState) (xs : List ℕ) : Type 0 where
+  pub each : IsTrue (list_all (is_lendable z) xs)
+  pub blocks : (x : ℕ) → IsTrue (list_any (λ y. y == x) xs) → length (sizes (is_named x) z.heap.map) ≡ 1
+  pub once : IsTrue (each_once xs)
+  pub few : length xs ≤ most_loans
+
+-- whether each block that waits may be lent in the zone that these bytes show
+abbrev pub all_lendable : State → List ℕ → Bool
+all_lendable s bytes = list_all (is_lendable (shown s.zone bytes)) s.waiting
+
+-- the zone awake in a region that has its structure: with the contents and flags that the region's bytes have, and with the
+-- blocks lent that waited
 abbrev pub awake_in : Region → State → State
-awake_in r s = record s { zone = record (shown s.zone r.bytes) { memory = woken_in s.zone.memory r.name } }
+awake_in r s =
+    let z = shown s.zone r.bytes in
+    record s {
+      zone = record z { memory = woken_in s.zone.memory r.name; heap = with_these_lent s.waiting z.heap };
+      loans = new_loans z.heap.table s.waiting;
+      waiting = [];
+    }
+
+-- why a zone sleeps on: bytes haven't its structure; or they have, and a block that waits is no pointer's there and no
+-- locked handle's, so it may not be lent
+abbrev pub SleepsOn : WhyAsleep → State → List ℕ → Type 0
+SleepsOn Damaged s bytes = HasStructure s.zone bytes → ⊥
+SleepsOn Unlocked s bytes = HasStructure s.zone bytes × IsFalse (all_lendable s bytes)
 
 -- the zone is in a region, as it wakes or falls asleep: with nothing lent
 pub record IsInRegion (s : State) (r : Region) : Type 0 where
@@ -28,14 +79,20 @@ pub record IsInRegion (s : State) (r : Region) : Type 0 where
   pub memory : s.zone.memory.region ≡ r.name
   pub whole : r.lent ≡ []
 
--- the new zone is the old one asleep: it differs in the contents of blocks, which nobody reads, and is in the memory again
--- that was kept as its record. The region has its structure, and what the region's bytes show of it is the old zone
+-- the state once all that is lent came back: each block has the bytes that C left in it
+abbrev pub all_back : State → State
+all_back s = record s { zone = with_heap (all_returned s.loans s.zone.heap) s.zone; loans = [] }
+
+-- the new zone is the old one asleep, once all that was lent came back: it differs in the contents of blocks, which nobody
+-- reads, and is in the memory again that was kept as its record. The region has its structure, and what the region's bytes
+-- show of it is that zone. The blocks that were lent wait to be lent again
 pub record FallsAsleep (old : State) (r : Region) (new : State) : Type 0 where
-  pub zone : DifferInContents old.zone new.zone
+  pub zone : DifferInContents (all_back old).zone new.zone
   pub structure : HasStructure new.zone r.bytes
   pub kept : old.zone.memory.kept ≡ Some new.zone.memory.region
-  pub as_before : shown new.zone r.bytes ≡ record old.zone { memory = new.zone.memory }
-  pub loans : new.loans ≡ old.loans
+  pub as_before : shown new.zone r.bytes ≡ record (all_back old).zone { memory = new.zone.memory }
+  pub loans : new.loans ≡ []
+  pub waiting : new.waiting ≡ map (λ loan. loan.0) old.loans
   pub left : new.left ≡ old.left
   pub asks : new.asks ≡ old.asks
   pub asleep : IsAsleep new
@@ -50,6 +107,6 @@ pub record IsSettled (s : State) (given r : Region) : Type 0 where
   pub name : r.name ≡ given.name
   pub whole : r.lent ≡ []
 
--- a zone that isn't in bytes of the host doesn't fall asleep: paramErr; nor one of which a block is lent: memLockedErr
+-- a zone that isn't in bytes of the host doesn't fall asleep: paramErr
 abbrev pub sleep_refusal : State → Option OsErr
-sleep_refusal s = if not (is_some s.zone.memory.kept) then Some ParamErr else if nat_lt 0 (length s.zone.heap.table.lent) then Some MemLockedErr else None
+sleep_refusal s = if is_some s.zone.memory.kept then None else Some ParamErr

@@ -14,9 +14,10 @@ pub record IsZoneOf (sizes : ZoneSizes) (image : List ℕ) (z : ZoneState) : Typ
   pub nothing_lent : z.heap.table.lent ≡ []
   pub bytes : IsImage z image
 
--- nothing is lent, no answer waits, nothing was asked, and the zone is in memory of its own
+-- nothing is lent, no answer and no block waits, nothing was asked, and the zone is in memory of its own
 pub record IsIdle (s : State) : Type 0 where
   pub loans : s.loans ≡ []
   pub left : s.left ≡ []
   pub asks : s.asks ≡ []
+  pub waiting : s.waiting ≡ []
   pub own : s.zone.memory.kept ≡ None

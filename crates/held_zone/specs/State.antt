@@ -1,5 +1,5 @@
 -- What is behind a zone that C holds.
-use Rattle.std.specs.Prelude.{◌≡◌, if◌then◌else◌, nat_lt, List, [], length, Option, Some, None}
+use Rattle.std.specs.Prelude.{◌≡◌, if◌then◌else◌, nat_lt, ℕ, List, [], length, Option, Some, None, is_some, IsTrue}
 use Rattle.mac_base.specs.declared.error.OsErr.{OsErr}
 use Rattle.mac_base.specs.declared.error.OsErr.TheVariants.{ParamErr}
 use Rattle.mac_base.specs.Heap.{new_heap}
@@ -9,12 +9,18 @@ use Rattle.mac_calls.specs.GrowZone.{Answer, Ask}
 use Rattle.mac_calls.specs.Loans.{Loans}
 
 -- the zone, the blocks that are lent with the bytes that C has of them, the answers that the grow-zone procedure has
--- left, and what the last call asked
+-- left, what the last call asked, and the blocks that wait while the zone sleeps to be lent again, in the order in which they
+-- were lent
 pub record State : Type 0 where
   pub zone : ZoneState
   pub loans : Loans
   pub left : List Answer
   pub asks : List Ask
+  pub waiting : List ℕ
+
+-- blocks wait only while the zone sleeps: awake, it is in bytes of others
+abbrev pub WaitAsleep : ZoneState → List ℕ → Type 0
+WaitAsleep z waiting = IsTrue (is_some z.memory.kept) → waiting ≡ []
 
 -- the state in which nothing was asked
 abbrev pub with_no_asks : State → State
@@ -24,6 +30,6 @@ with_no_asks s = record s { asks = [] }
 abbrev pub queue_refusal : State → Option OsErr
 queue_refusal s = if nat_lt (length s.left) 16 then None else Some ParamErr
 
--- a new zone of these sizes: nothing is lent, no answer waits, nothing was asked, and it is in memory of its own
+-- a new zone of these sizes: nothing is lent, no answer and no block waits, nothing was asked, and it is in memory of its own
 abbrev pub IsNew : ZoneSizes → State → Type 0
-IsNew sizes new = (new.zone.shape ≡ shape_of sizes) × (new.zone.heap ≡ new_heap (shape_of sizes) sizes.size) × (new.loans ≡ []) × (new.left ≡ []) × (new.asks ≡ []) × (new.zone.memory.kept ≡ None)
+IsNew sizes new = (new.zone.shape ≡ shape_of sizes) × (new.zone.heap ≡ new_heap (shape_of sizes) sizes.size) × (new.loans ≡ []) × (new.left ≡ []) × (new.asks ≡ []) × (new.waiting ≡ []) × (new.zone.memory.kept ≡ None)

@@ -4,6 +4,7 @@ ghost use Rattle.std.specs.Prelude.{◌≡◌, ◌+◌, ◌-◌, ◌^◌, ◌<�
 ghost use Rattle.block_bytes.specs.declared.adopting.WhyNot.TheVariants.{HostFull, NotZone};
 
 use crate::session::Session;
+use arrayvec::ArrayVec;
 use held_calls::answers::AnswerQueue;
 use held_calls::loans::Loans;
 use linked_zone::{NotAdopted, WhyNot};
@@ -85,6 +86,7 @@ impl Session {
             memory,
             loans: Loans::new(),
             answers,
+            waiting: ArrayVec::new(),
         };
         match Box::new(alloc, session) {
             Ok(session) => Ok(session),

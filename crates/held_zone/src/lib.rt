@@ -3,10 +3,11 @@
 
 pub mod asleep;
 mod attaching;
+mod lending_again;
 mod lent;
 pub mod memory;
 pub mod parked;
 pub mod session;
 pub mod told;
-mod waking;
+pub mod waking;
 pub mod zone;

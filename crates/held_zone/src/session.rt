@@ -3,6 +3,7 @@
 ghost use Rattle.std.specs.Prelude.{◌≡◌, []};
 
 use crate::lent;
+use arrayvec::ArrayVec;
 use held_calls::answers::{AnswerQueue, MOST_ASKS, MadeAsk};
 use held_calls::loans::Loans;
 use held_calls::window::Window;
@@ -19,22 +20,27 @@ use std::marker::Model;
 /// How many answers may wait.
 const MOST_WAITING: usize = 16;
 
-/// The Memory Manager with its zone, the loans that C has of it, and the answers of its grow-zone procedure.
+/// How many blocks may be lent.
+pub(crate) const MOST_LOANS: usize = 8;
+
+/// The Memory Manager with its zone, the loans that C has of it, the answers of its grow-zone procedure, and the blocks
+/// that wait while the zone sleeps to be lent again.
 pub struct Session {
     pub memory: MemoryManager,
     pub loans: Loans,
     pub answers: AnswerQueue<MOST_WAITING>,
+    pub waiting: ArrayVec<u32, MOST_LOANS>,
 }
 
 impl Model for Session {
     ghost use Rattle.held_calls.specs.Holding.{Holds, loans_of};
-    ghost use Rattle.held_zone.specs.State.{State};
+    ghost use Rattle.held_zone.specs.State.{State, WaitAsleep};
 
     ghost Value = { State };
 
-    ghost view = { λ s. record { zone = s.memory; loans = loans_of s.loans; left = s.answers.left; asks = s.answers.asks } };
+    ghost view = { λ s. record { zone = s.memory; loans = loans_of s.loans; left = s.answers.left; asks = s.answers.asks; waiting = s.waiting.items } };
 
-    ghost invariant = { λ s. Holds s.memory s.loans };
+    ghost invariant = { λ s. Holds s.memory s.loans × WaitAsleep s.memory s.waiting.items };
 }
 
 impl Drop for Session {
@@ -44,9 +50,11 @@ impl Drop for Session {
             memory,
             loans,
             answers,
+            waiting,
         } = self;
         drop(lending::finish(memory, loans));
         drop(answers);
+        drop(waiting);
     }
 }
 
@@ -69,7 +77,7 @@ impl Session {
     ghost use Rattle.held_zone.specs.State.{IsNew, queue_refusal, with_no_asks};
     ghost use Rattle.held_zone.specs.Told.{Makes, MakesLoan, shown_outcome, shows};
 
-    /// A new zone. Nothing is lent, no answer waits, and nothing was asked. It is in memory of its own.
+    /// A new zone. Nothing is lent, no answer and no block waits, and nothing was asked. It is in memory of its own.
     pub fn create(alloc: Global, spec: ZoneSpec) -> Result<Box<Session>, HostFull>
         ensures new { IfOk result (λ session. IsNew spec session.value) }
         ensures asleep { IfOk result (λ session. IsAsleep session.value) }
@@ -80,6 +88,7 @@ impl Session {
             memory,
             loans: Loans::new(),
             answers,
+            waiting: ArrayVec::new(),
         };
         Ok(Box::new(alloc, session)?)
     }

@@ -1,16 +1,35 @@
 //! A session whose zone sleeps, and wakes in bytes of the host.
 
+use crate::lending_again;
 use crate::session::Session;
-use linked_zone::Written;
+use linked_zone::{Agreement, LinkedZone, Written};
 use mac_base::error::OsErr;
+use mem_calls::MemoryManager;
 use raw_region::Region;
 
+/// Why a zone sleeps on.
+#[derive(Clone, Copy, Debug, PartialEq, Eq)]
+pub enum WhyAsleep {
+    /// The bytes haven't its structure.
+    Damaged,
+    /// They have, and a block that waits to be lent again is no pointer's in them and no locked handle's.
+    Unlocked,
+}
+
+/// A region in which a zone didn't wake.
+pub struct NotAwake {
+    /// The region, as it was given.
+    pub region: Region,
+    /// Why.
+    pub why: WhyAsleep,
+}
+
 impl Session {
-    ghost use Rattle.std.specs.Prelude.{◌≡◌, [], length, IfOk, IfErr, OnErr};
+    ghost use Rattle.std.specs.Prelude.{◌≡◌, [], length, IfOk, IfErr, IfSome, IsTrue, OnErr, OnOk};
     ghost use Rattle.std.specs.Result.{result_err};
-    ghost use Rattle.linked_zone.specs.Structure.{HasStructure};
+    ghost use Rattle.linked_zone.specs.Structure.{HasStructure, SameFlags, shown};
     ghost use Rattle.linked_zone.specs.Written.{DifferIn};
-    ghost use Rattle.held_zone.specs.Asleep.{FallsAsleep, IsAsleep, IsInRegion, IsSettled, awake_in, sleep_refusal};
+    ghost use Rattle.held_zone.specs.Asleep.{CanBeLent, FallsAsleep, IsAsleep, IsInRegion, IsSettled, SleepsOn, all_back, all_lendable, awake_in, sleep_refusal};
 
     /// How many bytes the zone may have, and its memory has.
     pub fn limit(&self) -> usize
@@ -33,33 +52,80 @@ impl Session {
         region
     }
 
-    /// Wakes the zone, which sleeps, in a region whose bytes have its structure. Else it sleeps on, and the region
-    /// comes back.
-    pub fn wake(&mut self, region: Region) -> Result<(), Region>
+    /// Wakes the zone, which sleeps, in a region whose bytes have its structure, and lends the blocks again that wait for
+    /// it. Where one of them is no pointer's and no locked handle's in these bytes, or they haven't the structure, it sleeps
+    /// on, and the region comes back.
+    pub fn wake(&mut self, region: Region) -> Result<(), NotAwake>
         requires asleep { IsAsleep self.old }
         requires whole { region.lent ≡ [] }
-        ensures awake { IfOk result (λ u. HasStructure self.old.zone region.bytes × (self.new ≡ awake_in region self.old)) }
-        ensures damaged { IfErr result (λ given. (HasStructure self.old.zone region.bytes → ⊥) × (given ≡ region) × (self.new ≡ self.old)) }
+        ensures awake { IfOk result (λ u. HasStructure self.old.zone region.bytes × IsTrue (all_lendable self.old region.bytes) × (self.new ≡ awake_in region self.old)) }
+        ensures asleep { IfErr result (λ no. SleepsOn no.why self.old region.bytes × (no.region ≡ region) × (self.new ≡ self.old)) }
     {
-        self.memory.wake(region)
+        self.wake_told(region, None)
     }
 
     /// Wakes the zone as `wake` does, where the region's bytes differ only in these ranges from bytes with the zone's
     /// structure and flags. Only the zone's header and the blocks that have one of these bytes are compared; where flags
     /// differ, more master blocks are read.
-    pub fn wake_written(&mut self, region: Region, written: &[Written]) -> Result<(), Region>
+    pub fn wake_written(&mut self, region: Region, written: &[Written]) -> Result<(), NotAwake>
         requires asleep { IsAsleep self.old }
         requires whole { region.lent ≡ [] }
         requires told { DifferIn self.old.zone region.bytes written.now }
-        ensures awake { IfOk result (λ u. HasStructure self.old.zone region.bytes × (self.new ≡ awake_in region self.old)) }
-        ensures damaged { IfErr result (λ given. (HasStructure self.old.zone region.bytes → ⊥) × (given ≡ region) × (self.new ≡ self.old)) }
+        ensures awake { IfOk result (λ u. HasStructure self.old.zone region.bytes × IsTrue (all_lendable self.old region.bytes) × (self.new ≡ awake_in region self.old)) }
+        ensures asleep { IfErr result (λ no. SleepsOn no.why self.old region.bytes × (no.region ≡ region) × (self.new ≡ self.old)) }
     {
-        self.memory.wake_written(region, written)
+        self.wake_told(region, Some(written))
     }
 
-    /// Puts the zone to sleep, which is awake in bytes of the host, and gives these back.
+    /// Wakes the zone in a region, of whose bytes the host may say which were written.
+    fn wake_told(&mut self, region: Region, written: Option<&[Written]>) -> Result<(), NotAwake>
+        requires asleep { IsAsleep self.old }
+        requires whole { region.lent ≡ [] }
+        requires told { IfSome written (λ ranges. DifferIn self.old.zone region.bytes ranges.now) }
+        ensures awake { IfOk result (λ u. HasStructure self.old.zone region.bytes × IsTrue (all_lendable self.old region.bytes) × (self.new ≡ awake_in region self.old)) }
+        ensures asleep { IfErr result (λ no. SleepsOn no.why self.old region.bytes × (no.region ≡ region) × (self.new ≡ self.old)) }
+    {
+        let bytes = region.bytes(0, region.len());
+        let same = match self.test_waiting(bytes, written) {
+            Ok(same) => same,
+            Err(why) => return Err(NotAwake { region, why }),
+        };
+        if let Err(region) = wake_in(&mut self.memory, region, written, same) {
+            let why = WhyAsleep::Damaged;
+            return Err(NotAwake { region, why });
+        }
+        lending_again::lend_all(&mut self.memory, &mut self.loans, self.waiting.as_slice());
+        self.waiting.clear();
+        Ok(())
+    }
+
+    /// Tests that the blocks that wait may be lent in the zone that bytes show, if any wait. Returns whether it is known
+    /// that the bytes have the zone's structure and flags.
+    fn test_waiting(&self, bytes: &[u8], written: Option<&[Written]>) -> Result<bool, WhyAsleep>
+        requires asleep { IsAsleep self.now }
+        requires told { IfSome written (λ ranges. DifferIn self.now.zone bytes.now ranges.now) }
+        ensures same { IfOk result (λ same. IsTrue same → HasStructure self.now.zone bytes.now × SameFlags self.now.zone bytes.now) }
+        ensures lendable { OnOk result (HasStructure self.now.zone bytes.now → CanBeLent (shown self.now.zone bytes.now) self.now.waiting) }
+        ensures asleep { IfErr result (λ why. SleepsOn why self.now bytes.now) }
+    {
+        let waiting = self.waiting.as_slice();
+        if waiting.is_empty() {
+            return Ok(false);
+        }
+        let agreement = agreement(self.memory.linked(), bytes, written);
+        if agreement == Agreement::Damaged {
+            return Err(WhyAsleep::Damaged);
+        }
+        if !lending_again::all_lendable(&self.memory, bytes, agreement, waiting) {
+            return Err(WhyAsleep::Unlocked);
+        }
+        Ok(agreement == Agreement::Same)
+    }
+
+    /// Puts the zone to sleep, which is awake in bytes of the host, and gives these back. What is lent comes back first,
+    /// and waits to be lent again.
     pub fn sleep(&mut self) -> Result<Region, OsErr>
-        ensures region { IfOk result (λ region. IsInRegion self.old region) }
+        ensures region { IfOk result (λ region. IsInRegion (all_back self.old) region) }
         ensures asleep { IfOk result (λ region. FallsAsleep self.old region self.new) }
         ensures refusal { result_err result ≡ sleep_refusal self.old }
         ensures unchanged { OnErr result (self.new ≡ self.old) }
@@ -67,13 +133,54 @@ impl Session {
         if !self.memory.linked().is_awake() {
             return Err(OsErr::ParamErr);
         }
-        if self.memory.lent_count() > 0 {
-            return Err(OsErr::MemLockedErr);
-        }
+        let blocks = self.loans.blocks();
+        lending_again::take_all_back(&mut self.memory, &mut self.loans);
         let Some(region) = self.memory.sleep() else {
             // No type says that a zone that is awake has a region to give back.
             unreachable!();
         };
+        self.waiting = blocks;
         Ok(region)
+    }
+}
+
+ghost use Rattle.std.specs.Prelude.{◌≡◌, [], None, IfErr, IfOk, IfSome, IsTrue};
+ghost use Rattle.mac_base.specs.ZoneState.{woken_in};
+ghost use Rattle.linked_zone.specs.Structure.{Agrees, HasStructure, SameFlags, shown};
+ghost use Rattle.linked_zone.specs.Written.{DifferIn};
+
+/// How bytes agree with a zone, where the host may say which were written.
+fn agreement(zone: &LinkedZone, bytes: &[u8], written: Option<&[Written]>) -> Agreement
+    requires told { IfSome written (λ ranges. DifferIn zone.now bytes.now ranges.now) }
+    ensures { Agrees zone.now bytes.now result }
+{
+    match written {
+        Some(written) => zone.agreement_in(bytes, written),
+        None => zone.agreement(bytes),
+    }
+}
+
+/// Wakes a zone in a region, of whose bytes the host may say which were written. Where it is known that they have the
+/// zone's structure and flags, nothing is compared again but the zone's header.
+fn wake_in(
+    memory: &mut MemoryManager,
+    region: Region,
+    written: Option<&[Written]>,
+    same: bool,
+) -> Result<(), Region>
+    requires nothing_lent { memory.old.heap.table.lent ≡ [] }
+    requires asleep { memory.old.memory.kept ≡ None }
+    requires whole { region.lent ≡ [] }
+    requires told { IfSome written (λ ranges. DifferIn memory.old region.bytes ranges.now) }
+    requires same { IsTrue same → HasStructure memory.old region.bytes × SameFlags memory.old region.bytes }
+    ensures awake { IfOk result (λ u. HasStructure memory.old region.bytes × (memory.new ≡ record (shown memory.old region.bytes) { memory = woken_in memory.old.memory region.name })) }
+    ensures damaged { IfErr result (λ given. (HasStructure memory.old region.bytes → ⊥) × (given ≡ region) × (memory.new ≡ memory.old)) }
+{
+    if same {
+        return memory.wake_written(region, &[]);
+    }
+    match written {
+        Some(written) => memory.wake_written(region, written),
+        None => memory.wake(region),
     }
 }

@@ -7,4 +7,4 @@ use Rattle.held_zone.proofs.session.Session.adopt.Goals as goal
 pub invariant_of-session : goal.invariant_of-session
 invariant_of-session c =
     let lent : c.in-Ok-adopt.memory.heap.table.lent ≡ [] = search rules in
-    subst (λ (hs : List Held). Holds c.in-Ok-adopt.memory hs) (sym c.new.ensures) (Holds-none c.in-Ok-adopt.memory lent)
+    (subst (λ (hs : List Held). Holds c.in-Ok-adopt.memory hs) (sym c.new.ensures) (Holds-none c.in-Ok-adopt.memory lent), λ awake. c.new-2.ensures)

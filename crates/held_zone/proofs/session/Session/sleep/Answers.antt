@@ -1,11 +1,29 @@
-use Rattle.std.proofs.Common.{◌≡◌, ◌∙◌, [], ap, sym, arith}
-use Rattle.std.proofs.lemmas.List.{nil_from_length}
+use Rattle.std.proofs.Common.{◌≡◌, ◌∙◌, [], refl, sym, ap, subst}
 use Rattle.mac_base.specs.Heap.{Heap}
-use Rattle.held_zone.proofs.Sleeping.{Holds-asleep}
+use Rattle.mac_base.specs.ZoneState.{ZoneState}
+use Rattle.linked_zone.specs.Structure.{DifferInContents}
+use Rattle.held_calls.specs.Holding.{loans_of}
+use Rattle.held_zone.specs.Asleep.{FallsAsleep, each_once}
+use Rattle.held_zone.specs.State.{State}
+use Rattle.held_zone.proofs.LentAgain.{blocks-lent, blocks-once}
+use Rattle.held_zone.proofs.Made.{state}
 use Rattle.held_zone.proofs.session.Session.sleep.Goals as goal
 
-pub invariant_of-self : goal.invariant_of-self
-invariant_of-self c =
-    let few = c.if-lent_count-gt0.false in let many = c.lent_count.ensures.value in
-    let none : c.self.inside.memory.heap.table.lent ≡ [] = nil_from_length c.self.inside.memory.heap.table.lent (omega arith) in
-    Holds-asleep c.self.inside.memory c.sleep.new.self c.self.inside.loans none (sym (ap (λ (h : Heap). h.table.lent) c.in-Some.ensures.asleep.heap) ∙ none) c.self.invariant
+pub returns-clause-asleep : goal.returns-clause-asleep
+returns-clause-asleep c =
+    let back = c.take_all_back.ensures in let falls = c.in-Some.ensures in
+    let left = c.self.inside.answers.left in let asks = c.self.inside.answers.asks in
+    let new : State = state c.sleep.new.self (loans_of c.take_all_back.new.loans) left asks c.blocks-blocks.result.items in
+    let blocks = c.blocks-blocks.ensures.blocks ∙ blocks-lent c.self.inside.loans in
+    let none : c.sleep.new.self.heap.table.lent ≡ [] = sym (ap (λ (h : Heap). h.table.lent) falls.asleep.heap) ∙ back.nothing_lent in
+    subst (λ (s : State). FallsAsleep s c.in-Some.region new) c.self.view_is (record {
+      zone = subst (λ (z : ZoneState). DifferInContents z c.sleep.new.self) back.zone falls.asleep;
+      structure = falls.wakes;
+      kept = sym (ap (λ (z : ZoneState). z.memory.kept) back.zone) ∙ falls.kept;
+      as_before = falls.as_before ∙ ap (λ (z : ZoneState). record z { memory = c.sleep.new.self.memory }) back.zone;
+      loans = ap loans_of back.loans;
+      waiting = blocks;
+      left = refl;
+      asks = refl;
+      asleep = record { nothing_lent = none; own = falls.own; once = ap each_once blocks ∙ blocks-once c.self.inside.loans c.self.invariant.0.once };
+    })
