@@ -292,6 +292,132 @@ static void damages(uint32_t zones) {
     }
 }
 
+/* A lent block where a zone wakes: C has its bytes as the guest left them, and each call on it is refused. */
+static void still_lent(Guest *guest, uint32_t block, const MhWindow *window, const uint8_t *wanted, uint32_t count) {
+    static uint8_t bytes[LIMIT];
+    MhWindow now = {NULL, 0};
+    IS(mh_window(&guest->zone, block, &now), MH_NO_ERR);
+    IS(now.start == window->start && now.length == count, true);
+    IS(memcmp(now.start, wanted, count), 0);
+    IS(mh_lent_peek(&guest->zone, block, 0, bytes, count), MH_NO_ERR);
+    IS(memcmp(bytes, wanted, count), 0);
+    IS(mh_peek(&guest->zone, block, 0, bytes, 1), MH_MEM_LOCKED_ERR);
+    IS(mh_poke(&guest->zone, block, 0, bytes, 1), MH_MEM_LOCKED_ERR);
+    IS(mh_lend(&guest->zone, block), MH_MEM_LOCKED_ERR);
+}
+
+/* A guest unlocks a handle that is lent: the zone sleeps on, and no byte has changed. */
+static void unlocked(Guest *guest, uint32_t handle) {
+    static const MhWritten all = {0, LIMIT};
+    ram[handle - BASE] &= (uint8_t)~MH_LOCK;
+    memcpy(before, ram, guest->memory.length);
+    IS(mh_wake(&guest->zone, &guest->asleep, &guest->memory), MH_MEM_LOCKED_ERR);
+    IS(mh_wake_written(&guest->zone, &guest->asleep, &guest->memory, &all, 1), MH_MEM_LOCKED_ERR);
+    IS(guest->memory.start == ram && guest->memory.here, true);
+    IS(memcmp(before, ram, guest->memory.length), 0);
+    ram[0] ^= 1;
+    IS(mh_wake(&guest->zone, &guest->asleep, &guest->memory), MH_DAMAGED);
+    ram[0] ^= 1;
+    ram[handle - BASE] |= MH_LOCK;
+}
+
+/* A pointer's block and a locked handle's stay lent over many sleeps. C writes in them through its windows, awake and
+ * asleep, and the guest writes at random. */
+static void lent_asleep(uint32_t mode, uint32_t calls) {
+    enum { SIZE = 0x4000, LENT = 600 };
+    static uint8_t bits[LIMIT], wanted[2][LENT];
+    uint32_t handles[32] = {0}, lent[2] = {0, 0}, place[2] = {0, 0}, number = 0;
+    MhWindow windows[2] = {{NULL, 0}, {NULL, 0}};
+    memset(ram, 0, LIMIT);
+    Guest guest = made(SIZE, SIZE, mode);
+    WAKE(&guest);
+    for (uint32_t n = 0; n < 8; n++) IS(mh_new_handle(&guest.zone, 100, &handles[n]), MH_NO_ERR);
+    IS(mh_new_handle(&guest.zone, LENT, &lent[0]), MH_NO_ERR);
+    IS(mh_new_ptr(&guest.zone, LENT, &lent[1]), MH_NO_ERR);
+    IS(mh_hlock(&guest.zone, lent[0]), MH_NO_ERR);
+    for (int b = 0; b < 2; b++) IS(mh_lend(&guest.zone, lent[b]), MH_NO_ERR);
+    for (int b = 0; b < 2; b++) IS(mh_window(&guest.zone, lent[b], &windows[b]), MH_NO_ERR);
+    IS(mh_deref(&guest.zone, lent[0], &place[0]), MH_NO_ERR);
+    place[0] = (mode == 24 ? place[0] & 0xFFFFFF : place[0]) - BASE;
+    place[1] = lent[1] - BASE;
+    for (int b = 0; b < 2; b++) IS(windows[b].start == ram + place[b] && windows[b].length == LENT, true);
+    for (uint32_t n = 0; n < calls; n++) {
+        uint32_t *handle = &handles[below(32)], size = below(400), kind = below(5);
+        for (int b = 0; b < 2; b++) {
+            memcpy(wanted[b], windows[b].start, LENT);
+            windows[b].start[size] = wanted[b][size] = (uint8_t)below(256);
+        }
+        if (kind < 2 && !*handle) mh_new_handle(&guest.zone, size, handle);
+        else if (kind == 2 && mh_dispose_handle(&guest.zone, *handle) == MH_NO_ERR) *handle = 0;
+        else if (kind == 3) mh_set_handle_size(&guest.zone, *handle, size);
+        else IS(mh_compact_mem(&guest.zone, SIZE, &number), MH_NO_ERR);
+        IS(mh_hunlock(&guest.zone, lent[0]), MH_MEM_LOCKED_ERR);
+        IS(mh_dispose_handle(&guest.zone, lent[0]), MH_MEM_LOCKED_ERR);
+        IS(mh_set_handle_size(&guest.zone, lent[0], size), MH_MEM_LOCKED_ERR);
+        IS(mh_dispose_ptr(&guest.zone, lent[1]), MH_MEM_LOCKED_ERR);
+        mark(&guest, bits);
+        SLEEP(&guest);
+        for (int b = 0; b < 2; b++) IS(memcmp(ram + place[b], wanted[b], LENT), 0);
+        for (uint32_t w = below(64); w > 0; w--) {
+            uint32_t at = below(SIZE);
+            ram[at] ^= (uint8_t)(below(256) & ~(uint32_t)bits[at]);
+            windows[w & 1].start[below(LENT)] = (uint8_t)below(256);
+        }
+        if (mode == 24) ram[lent[0] - BASE] |= MH_LOCK;
+        for (int b = 0; b < 2; b++) memcpy(wanted[b], ram + place[b], LENT);
+        if (mode == 24 && below(4) == 0) unlocked(&guest, lent[0]);
+        WAKE(&guest);
+        for (int b = 0; b < 2; b++) still_lent(&guest, lent[b], &windows[b], wanted[b], LENT);
+    }
+    for (int b = 0; b < 2; b++) {
+        static uint8_t bytes[LENT];
+        IS(mh_return(&guest.zone, lent[b]), MH_NO_ERR);
+        IS(mh_peek(&guest.zone, lent[b], 0, bytes, LENT), MH_NO_ERR);
+        IS(memcmp(bytes, wanted[b], LENT), 0);
+    }
+    SLEEP(&guest);
+    if (mode == 24) ram[lent[0] - BASE] &= (uint8_t)~MH_LOCK;
+    WAKE(&guest);
+    IS(mh_lend(&guest.zone, lent[1]), MH_NO_ERR);
+    SLEEP(&guest);
+    ended(&guest);
+}
+
+/* Eight blocks are lent, and wake in other memory: there C has their bytes. */
+static void lent_elsewhere(void) {
+    static uint8_t elsewhere[4096];
+    uint32_t pointers[8] = {0}, ninth = 0;
+    MhWindow window = {NULL, 0};
+    Guest guest = made(4096, 4096, 24);
+    WAKE(&guest);
+    for (int n = 0; n < 8; n++) {
+        IS(mh_new_ptr(&guest.zone, 20, &pointers[n]), MH_NO_ERR);
+        IS(mh_poke(&guest.zone, pointers[n], 0, (const uint8_t *)"lent", 4), MH_NO_ERR);
+    }
+    for (int n = 8; n-- > 0;) IS(mh_lend(&guest.zone, pointers[n]), MH_NO_ERR);
+    IS(mh_new_ptr(&guest.zone, 20, &ninth), MH_NO_ERR);
+    SLEEP(&guest);
+    memcpy(elsewhere, ram, 4096);
+    MhMemory moved = {elsewhere, 4096, true};
+    IS(mh_wake(&guest.zone, &guest.asleep, &moved), MH_NO_ERR);
+    for (int n = 0; n < 8; n++) {
+        IS(mh_window(&guest.zone, pointers[n], &window), MH_NO_ERR);
+        IS(window.start == elsewhere + (pointers[n] - BASE) && window.length == 20, true);
+        IS(memcmp(window.start, "lent", 4), 0);
+    }
+    IS(mh_lend(&guest.zone, ninth), MH_PARAM_ERR);
+    IS(mh_return(&guest.zone, pointers[3]), MH_NO_ERR);
+    IS(mh_lend(&guest.zone, ninth), MH_NO_ERR);
+    IS(mh_sleep(&guest.zone, &guest.asleep, &moved), MH_NO_ERR);
+    memcpy(ram, elsewhere, 4096);
+    WAKE(&guest);
+    IS(mh_return(&guest.zone, pointers[3]), MH_PARAM_ERR);
+    for (int n = 0; n < 8; n++) if (n != 3) IS(mh_return(&guest.zone, pointers[n]), MH_NO_ERR);
+    IS(mh_return(&guest.zone, ninth), MH_NO_ERR);
+    SLEEP(&guest);
+    ended(&guest);
+}
+
 /* What can't be done, and changes nothing. */
 static void misuse(void) {
     static uint8_t elsewhere[4096];
@@ -319,9 +445,6 @@ static void misuse(void) {
     IS(mh_wake(&guest.zone, &guest.asleep, &guest.memory), MH_PARAM_ERR);
     IS(mh_sleep(&guest.zone, &guest.asleep, &none.memory), MH_PARAM_ERR);
     IS(mh_new_ptr(&guest.zone, 10, &handle), MH_NO_ERR);
-    IS(mh_lend(&guest.zone, handle), MH_NO_ERR);
-    IS(mh_sleep(&guest.zone, &guest.asleep, &guest.memory), MH_MEM_LOCKED_ERR);
-    IS(mh_return(&guest.zone, handle), MH_NO_ERR);
     SLEEP(&guest);
     IS(mh_sleep(&guest.zone, &guest.asleep, &guest.memory), MH_PARAM_ERR);
     memcpy(elsewhere, ram, 4096);
@@ -381,9 +504,11 @@ int main(int count, char **words) {
         each_byte(mode);
         random_calls(mode, 20000);
         told_writes(mode, 20000);
+        lent_asleep(mode, 20000);
     }
     flags();
     damages(600);
+    lent_elsewhere();
     misuse();
     return faults != 0;
 }

@@ -45,10 +45,12 @@ static MhErr adds(MrFiles *files, MhZone *zone) {
     return mr_add_resource(files, zone, number, TEXT, 128, name, 4);
 }
 static MhErr updates(MrFiles *files, MhZone *zone) { return mr_update_res_file(files, zone, 1); }
+static MhErr sizes(MrFiles *files, MhZone *zone) { return mr_set_resource_size(files, zone, number, 900); }
 
 /* The call with each of its allocations failing in turn, behind those before it. */
 static void in_turn(Makes *const *before, size_t some, Makes *call) {
     MhErr code = MH_MEM_FULL_ERR;
+    bool writes = call == updates || call == sizes;
     int count = 0;
     for (; code == MH_MEM_FULL_ERR && count < 1000; count++) {
         MhZone zone = MH_NO_ZONE;
@@ -60,8 +62,8 @@ static void in_turn(Makes *const *before, size_t some, Makes *call) {
         code = call(&files, &zone);
         left = -1;
         if (code == MH_MEM_FULL_ERR) MUST(call(&files, &zone) == MH_NO_ERR);
-        else MUST(code == MH_NO_ERR || (call == updates && code == MR_IO_ERR));
-        if (call == updates && code == MR_IO_ERR) code = MH_MEM_FULL_ERR;
+        else MUST(code == MH_NO_ERR || (writes && code == MR_IO_ERR));
+        if (writes && code == MR_IO_ERR) code = MH_MEM_FULL_ERR;
         if (call == updates && code == MH_NO_ERR) {
             MUST(mr_fork_size(&files, 1, &length) == MH_NO_ERR && length <= MOST);
             MUST(mr_fork(&files, 1, fork, length) == MH_NO_ERR);
@@ -81,6 +83,7 @@ static void files_in_turn(void) {
     Makes *const steps[] = {begins, opens, makes, adds};
     in_turn(steps, 0, begins);
     in_turn(steps, 2, adds);
+    in_turn(steps, 4, sizes);
     in_turn(steps, 4, updates);
     in_turn(steps, 1, opens);
 }

@@ -48,7 +48,7 @@ enum {
     MH_MEM_PUR_ERR = -112,    /* the block is locked, and can't be purged */
     MH_MEM_BC_ERR = -115,     /* no handle's contents begin there */
     MH_DAMAGED = -116,        /* the bytes haven't the zone's structure, or are those of no zone (memSCErr) */
-    MH_MEM_LOCKED_ERR = -117  /* the block is locked, or lent */
+    MH_MEM_LOCKED_ERR = -117  /* the block is locked, or lent; of mh_wake: a lent handle isn't locked any more */
 };
 
 /* A zone, or none. Its fields are the library's. */
@@ -141,9 +141,10 @@ MhErr mh_poke(MhZone *zone, uint32_t block, uint32_t offset, const uint8_t *byte
 /* Loans. mh_lend lends a pointer's block, or that of a locked handle: then its bytes are C's, until mh_return. The block
  * stays where it is, and each call that would read, write, free, resize or unlock it answers memLockedErr. C reads and
  * writes the bytes by copies, or itself through a window: mh_window gives the address of the first of them and how many there
- * are. The window is C's until mh_return of the block or mh_end_zone, whatever other calls are made; mh_lent_peek and
- * mh_lent_poke reach the same bytes. paramErr for an unlocked handle, for a ninth loan, and of the other four calls for a
- * block that isn't lent. mh_end_zone takes back what is lent. */
+ * are. The window is C's until mh_return of the block or mh_end_zone, whatever other calls are made, and while the zone sleeps,
+ * too: where it wakes in another place, ask mh_window again. mh_lent_peek and mh_lent_poke reach the same bytes. paramErr for an
+ * unlocked handle, for a ninth loan, and of the other four calls for a block that isn't lent. mh_end_zone takes back what is
+ * lent. */
 MhErr mh_lend(MhZone *zone, uint32_t block);
 MhErr mh_lent_peek(MhZone *zone, uint32_t block, uint32_t offset, uint8_t *bytes, size_t count);
 MhErr mh_lent_poke(MhZone *zone, uint32_t block, uint32_t offset, const uint8_t *bytes, size_t count);
@@ -233,7 +234,7 @@ MhErr mh_carried(MhZone *zone, uint32_t index, uint32_t place, MhCarried *carrie
  *     ..                                    the guest runs, and reads ram[handle ..]
  *
  * An MhMemory is bytes of the host: it fills one in, with `here` true. While a zone is awake in them it is {NULL, 0, false}: then
- * the bytes are the library's, and the host neither reads nor writes them, until mh_sleep gives them back. While the zone
+ * the bytes are the library's, and the host neither reads nor writes them but by windows, until mh_sleep gives them back. While the zone
  * sleeps the library has no pointer into them, and reads and writes none of them. At each mh_wake they may be in another place. No
  * MhMemory is filled in with bytes that another zone is awake in.
  *
@@ -243,6 +244,10 @@ MhErr mh_carried(MhZone *zone, uint32_t index, uint32_t place, MhCarried *carrie
  * and where master pointers lead. Where one of these bytes isn't as the library left it, or as it was attached, the answer is
  * MH_DAMAGED, and all stays: no byte has changed, and the zone sleeps on. It wakes once the bytes are right again: mh_check says
  * which byte is wrong, and mh_repair writes the structure anew.
+ *
+ * A block that is lent stays lent while the zone sleeps: its bytes are C's and the guest's then, and it is lent again when the zone
+ * wakes, with the bytes that it has. In mode 24 a guest can clear the lock bit of a lent handle. Then the answer is memLockedErr,
+ * and all stays as for MH_DAMAGED: the zone wakes once the bit is set again, by the host or by mh_repair.
  *
  * A zone asleep is a few words in an MhAsleep, and as much memory of the host as an MhZone has. */
 typedef struct MhAsleep {
@@ -269,7 +274,8 @@ MhErr mh_make_zone_at(MhAsleep *asleep, MhMemory *memory, uint32_t base, uint32_
  * it. Once memory of another moment is loaded, the zone that slept over it is ended (mh_end_asleep), and the bytes are
  * attached: mh_repair would write the structure that this zone knows over what was loaded. */
 MhErr mh_attach(MhAsleep *asleep, MhMemory *memory, uint32_t base, uint32_t size, uint32_t limit, uint32_t mode);
-/* Wakes it. paramErr where `zone` is there, where none sleeps, and where the bytes are gone or aren't as many as its limit. */
+/* Wakes it, with what is lent. paramErr where `zone` is there, where none sleeps, and where the bytes are gone or aren't as many as
+ * its limit. MH_DAMAGED where they haven't the zone's structure, memLockedErr where they have, and a handle that is lent isn't locked. */
 MhErr mh_wake(MhZone *zone, MhAsleep *asleep, MhMemory *memory);
 /* Wakes it as mh_wake does, with the same answers, and compares only what was written: the zone's header, and the headers of blocks and the
  * master pointers of blocks that have a byte in a range. `written` has `count` ranges, each of so many bytes from an offset from the
@@ -285,8 +291,8 @@ typedef struct MhWritten {
     uint32_t count;
 } MhWritten;
 MhErr mh_wake_written(MhZone *zone, MhAsleep *asleep, MhMemory *memory, const MhWritten *written, size_t count);
-/* Puts it to sleep. memLockedErr while a block is lent; paramErr for a zone that isn't in bytes of the host, where another zone
- * sleeps in `asleep`, and where `memory` has bytes. Queued answers, and what was asked, stay. */
+/* Puts it to sleep. paramErr for a zone that isn't in bytes of the host, where another zone sleeps in `asleep`, and where `memory`
+ * has bytes. What is lent stays lent, and queued answers, and what was asked, stay. */
 MhErr mh_sleep(MhZone *zone, MhAsleep *asleep, MhMemory *memory);
 /* Looks for damage, and changes no byte. If the bytes have the zone's structure the answer is 0. Else it is MH_DAMAGED, and the
  * fault is the first byte that is wrong: some bytes with the structure agree with these up to it, and none with it. `part` is what the
@@ -302,7 +308,7 @@ MhErr mh_check(MhAsleep *asleep, MhMemory *memory, MhFault *fault);
  * guest has set since are undone. No other byte changes, so contents are as the guest left them, and the zone wakes. paramErr as
  * for mh_check. */
 MhErr mh_repair(MhAsleep *asleep, MhMemory *memory);
-/* Ends it. The bytes are as they are. (mh_end_zone of a zone that is awake in bytes of the host ends it, too, and these are never
+/* Ends it, and what is lent is C's no more. The bytes are as they are. (mh_end_zone of a zone that is awake in bytes of the host ends it, too, and these are never
  * given back: put it to sleep first.) */
 MhErr mh_end_asleep(MhAsleep *asleep);
 

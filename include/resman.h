@@ -39,8 +39,8 @@ enum {
     MR_IO_ERR = -36,               /* the host has no memory for a longer fork. The file is closed */
     MR_EOF_ERR = -39,              /* the fork ends too early */
     MR_TMFO_ERR = -42,             /* 255 files are open */
-    MR_RESOURCE_IN_MEMORY = -188,  /* bytes were read, and the resource is in memory: a warning */
-    MR_INPUT_OUT_OF_BOUNDS = -190, /* the resource doesn't have all these bytes in its fork */
+    MR_RESOURCE_IN_MEMORY = -188,  /* bytes were read or written, and the resource is in memory: a warning */
+    MR_INPUT_OUT_OF_BOUNDS = -190, /* the resource doesn't have all these bytes in its fork, or ends before them there */
     MR_RES_NOT_FOUND = -192,       /* no such resource */
     MR_RES_F_NOT_FOUND = -193,     /* no such resource file is open */
     MR_ADD_RES_FAILED = -194,
@@ -95,6 +95,16 @@ MhErr mr_get1_named_resource(MrFiles *files, MhZone *zone, uint32_t kind, const 
  * the handle has a block, and inputOutOfBounds where the resource doesn't have them all in its fork. Where none were read `bytes` stays;
  * after ioErr it may have any. */
 MhErr mr_read_partial_resource(MrFiles *files, MhZone *zone, uint32_t handle, uint32_t offset, uint8_t *bytes, size_t count);
+/* SetResourceSize and WritePartialResource: other bytes that a resource has in its fork, which is written at once: mr_fork returns the new
+ * one. The first sets how many bytes it has there, of which those after its old end are zeros. The second writes `bytes` over those from an
+ * offset on, and past its end if they go there: it is inputOutOfBounds where the offset is above its size there, which mr_size_resource
+ * returns. The block of the handle stays, and so do the resource's attributes and all of the zone: a resource that is marked as changed is
+ * written from its block at the next update. resourceInMemory says, of the second only, that the bytes were written and the handle has a
+ * block. Other resources have in the new fork the bytes that they had there, and the attributes, ids and names that they have now, as after
+ * mr_write_resource. Where no fork can hold them all it is dskFulErr; where the host has no memory it is memFullErr, and nothing has
+ * changed; or ioErr, in the write, and then the file is closed. */
+MhErr mr_set_resource_size(MrFiles *files, MhZone *zone, uint32_t handle, uint32_t size);
+MhErr mr_write_partial_resource(MrFiles *files, MhZone *zone, uint32_t handle, uint32_t offset, const uint8_t *bytes, size_t count);
 
 /* What the files say. */
 MhErr mr_get_res_attrs(MrFiles *files, MhZone *zone, uint32_t handle, uint32_t *number);

@@ -36,6 +36,14 @@ pub struct ResInfo {
 /// given the same zone, and handles that may be of resources are disposed of by `dispose_handle` of this type.
 pub struct Files(MrFiles);
 
+/// Whether the resource of a call that read or wrote its bytes is in memory.
+fn told_in_memory(code: i16) -> Result<bool> {
+    match code {
+        sys::MR_RESOURCE_IN_MEMORY => Ok(true),
+        code => told(code).map(|()| false),
+    }
+}
+
 // In each `unsafe` below the files are these alone, and each pointer leads to a value or to bytes of its own.
 impl Files {
     pub fn new() -> Result<Files> {
@@ -77,10 +85,13 @@ impl Files {
     /// Reads the bytes of a resource from its fork, from an offset on, as many as `bytes` has, and says whether the resource is in memory.
     pub fn read_partial_resource(&mut self, zone: &mut Zone, handle: u32, offset: u32, bytes: &mut [u8]) -> Result<bool> {
         let (at, count) = (bytes.as_mut_ptr(), bytes.len());
-        match unsafe { sys::mr_read_partial_resource(&mut self.0, &mut zone.0, handle, offset, at, count) } {
-            sys::MR_RESOURCE_IN_MEMORY => Ok(true),
-            code => told(code).map(|()| false),
-        }
+        told_in_memory(unsafe { sys::mr_read_partial_resource(&mut self.0, &mut zone.0, handle, offset, at, count) })
+    }
+
+    /// Writes bytes over those that a resource has in its fork, from an offset on, and says whether the resource is in memory.
+    pub fn write_partial_resource(&mut self, zone: &mut Zone, handle: u32, offset: u32, bytes: &[u8]) -> Result<bool> {
+        let (at, count) = (bytes.as_ptr(), bytes.len());
+        told_in_memory(unsafe { sys::mr_write_partial_resource(&mut self.0, &mut zone.0, handle, offset, at, count) })
     }
 
     pub fn get_res_info(&mut self, zone: &mut Zone, handle: u32) -> Result<ResInfo> {
@@ -137,6 +148,7 @@ calls! {
     mr_detach_resource is detach_resource(handle: u32);
     mr_get_res_attrs is get_res_attrs(handle: u32) -> number: u32;
     mr_size_resource is size_resource(handle: u32) -> number: u32;
+    mr_set_resource_size is set_resource_size(handle: u32, size: u32);
     mr_home_res_file is home_res_file(handle: u32) -> number: u32;
     mr_unique_id is unique_id(kind: ResType) -> number: u32;
     mr_unique1_id is unique1_id(kind: ResType) -> number: u32;

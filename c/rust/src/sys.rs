@@ -171,6 +171,7 @@ unsafe extern "C" {
     pub fn mr_get1_named_resource(files: &mut MrFiles, zone: &mut MhZone, kind: ResType, name: *const u8, length: usize, handle: &mut u32) -> i16;
     pub fn mr_get_res_info(files: &mut MrFiles, zone: &mut MhZone, handle: u32, info: &mut MrInfo, name: *mut u8, room: usize) -> i16;
     pub fn mr_read_partial_resource(files: &mut MrFiles, zone: &mut MhZone, handle: u32, offset: u32, bytes: *mut u8, count: usize) -> i16;
+    pub fn mr_write_partial_resource(files: &mut MrFiles, zone: &mut MhZone, handle: u32, offset: u32, bytes: *const u8, count: usize) -> i16;
     pub fn mr_add_resource(files: &mut MrFiles, zone: &mut MhZone, handle: u32, kind: ResType, id: i16, name: *const u8, length: usize) -> i16;
     pub fn mr_set_res_info(files: &mut MrFiles, handle: u32, id: i16, name: *const u8, length: usize) -> i16;
 }

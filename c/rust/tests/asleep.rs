@@ -76,3 +76,29 @@ fn only_what_was_written_is_looked_at() {
     zone.peek(handle, 0, &mut seen).unwrap();
     assert_eq!(&seen, b"H");
 }
+
+#[test]
+fn what_is_lent_stays_lent_while_the_zone_sleeps() {
+    let mut ram = vec![0; 65536];
+    let mut asleep = Asleep::new(&mut ram, BASE, 65536, 24).unwrap();
+    let mut zone = asleep.wake(&mut ram).unwrap();
+    let handle = zone.new_handle(2).unwrap();
+    zone.hlock(handle).unwrap();
+    zone.lend(handle).unwrap();
+    zone.window(handle).unwrap().copy_from_slice(b"Hi");
+    drop(zone);
+    let contents = ((long(&ram, handle) & 0xFF_FFFF) - BASE) as usize;
+    assert_eq!(&ram[contents..contents + 2], b"Hi");
+    ram[contents + 1] = b'o';
+    let mut zone = asleep.wake(&mut ram).unwrap();
+    assert_eq!(zone.window(handle).unwrap(), b"Ho");
+    assert_eq!(zone.hunlock(handle), Err(OsErr(sys::MH_MEM_LOCKED_ERR)));
+    drop(zone);
+    // a guest that unlocks it
+    ram[(handle - BASE) as usize] &= 0x7F;
+    assert_eq!(asleep.wake(&mut ram).err(), Some(OsErr(sys::MH_MEM_LOCKED_ERR)));
+    ram[(handle - BASE) as usize] |= 0x80;
+    let mut zone = asleep.wake(&mut ram).unwrap();
+    zone.give_back(handle).unwrap();
+    assert_eq!(zone.hunlock(handle), Ok(()));
+}

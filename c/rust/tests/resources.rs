@@ -93,3 +93,23 @@ fn some_bytes_are_read_from_the_fork() {
     assert_eq!(&bytes, b"6789");
     assert_eq!(files.read_partial_resource(&mut zone, text, 7, &mut bytes), Err(OsErr(sys::MR_INPUT_OUT_OF_BOUNDS)));
 }
+
+#[test]
+fn some_bytes_are_written_to_the_fork() {
+    let fork = fork_with(&[(TEXT, 128, b"", b"0123456789")]);
+    let (mut zone, mut files) = (zone(), Files::new().unwrap());
+    let file = files.open(&mut zone, &fork).unwrap();
+    let text = files.get_resource(&mut zone, TEXT, 128).unwrap();
+    assert_eq!(files.write_partial_resource(&mut zone, text, 8, b"abc"), Ok(true));
+    assert_eq!(bytes_of(&mut zone, text), b"0123456789");
+    zone.empty_handle(text).unwrap();
+    assert_eq!(files.write_partial_resource(&mut zone, text, 12, b"d"), Err(OsErr(sys::MR_INPUT_OUT_OF_BOUNDS)));
+    assert_eq!(files.write_partial_resource(&mut zone, text, 0, b"X"), Ok(false));
+    files.set_resource_size(&mut zone, text, 12).unwrap();
+    assert_eq!(files.set_resource_size(&mut zone, text, u32::MAX), Err(OsErr(sys::MR_DSK_FUL_ERR)));
+    let fork = files.fork(file).unwrap();
+    files.close_res_file(&mut zone, file).unwrap();
+    files.open(&mut zone, &fork).unwrap();
+    let text = files.get_resource(&mut zone, TEXT, 128).unwrap();
+    assert_eq!(bytes_of(&mut zone, text), b"X1234567abc\0");
+}

@@ -67,7 +67,7 @@ all_honest stores k = by (slice_get stores _)
     by (Some store) = tt
 
 -- what is saved on honest devices is saved
-saved_there : (honest : ℕ → Type 0) → ((k : ℕ) → honest k) → (update : Option Update) (state : ResState) → IsSaved honest update state → IsSaved (λ k. ⊤) update state
+pub saved_there : (honest : ℕ → Type 0) → ((k : ℕ) → honest k) → (update : Option Update) (state : ResState) → IsSaved honest update state → IsSaved (λ k. ⊤) update state
 saved_there honest is None state saved = tt
 saved_there honest is (Some u) state saved = λ any. saved (is u.file)
 
@@ -89,9 +89,9 @@ counts-rose k old new rose = subst (λ (n : ℕ). Rose n (slice_index (map failu
 steps-on : (old new : State) (on new_on : FilesOn Store) (call : ResourceCall) (outcome : Outcome)
     → ResourceSteps mem_store old.zone on call new.asks outcome new.zone new_on
     → ReadsBack (honest_in new_on.stores) (state_of fork_in old.zone on) call outcome (state_of fork_in new.zone new_on)
-    → taken new.asks new.left ≡ old.left → OutOfAnswers new.asks new.left → new.loans ≡ old.loans → KeepsLoans old.zone new.zone
+    → taken new.asks new.left ≡ old.left → OutOfAnswers new.asks new.left → new.loans ≡ old.loans → new.waiting ≡ old.waiting → KeepsLoans old.zone new.zone
     → StepsOnForks old (seen_on on) call outcome new (seen_on new_on)
-steps-on old new on new_on call outcome steps reads took out loans keeps = record {
+steps-on old new on new_on call outcome steps reads took out loans waiting keeps = record {
   device = steps.device;
   step = step_by MayStep (StepsFrom old.left new.left) (read_truly IsPartly) steps.device (state_of fork_in old.zone on) call new.asks (record { outcome = outcome; state = state_of fork_in new.zone new_on })
       (λ s heap inner given after may. exact-queued s heap inner given after new.asks new.left old.left may.1 took out)
@@ -101,6 +101,7 @@ steps-on old new on new_on call outcome steps reads took out loans keeps = recor
   taken = sym took;
   reads_back = reads_there (honest_in new_on.stores) (all_honest new_on.stores) (state_of fork_in old.zone on) call outcome (state_of fork_in new.zone new_on) reads;
   loans = loans;
+  waiting = waiting;
   lent = record { keeps = keeps };
 }
   where
@@ -129,17 +130,18 @@ steps-on old new on new_on call outcome steps reads took out loans keeps = recor
 -- one that had none
 no-memory : (old new : State) (on new_on : FilesOn Store) (call : ResourceCall)
     → IsTrue (takes_memory (state_of fork_in old.zone on) call) → resource_refusal (state_of fork_in old.zone on) call ≡ None
-    → new.zone ≡ old.zone → new.asks ≡ [] → taken new.asks new.left ≡ old.left → new.loans ≡ old.loans
+    → new.zone ≡ old.zone → new.asks ≡ [] → taken new.asks new.left ≡ old.left → new.loans ≡ old.loans → new.waiting ≡ old.waiting
     → IsAnswered (honest_in new_on.stores) (state_of fork_in new.zone new_on) (state_of fork_in old.zone on)
     → HasNoMemory old (seen_on on) call (Err MemFullErr) new (seen_on new_on)
-no-memory old new on new_on call takes passes zone asks took loans same = record {
+no-memory old new on new_on call takes passes zone asks took loans waiting same = record {
   takes = takes;
   passes = passes;
   full = refl;
-  zone = ap (λ (z : ZoneState). let s : State = record { zone = z; loans = new.loans; left = new.left; asks = new.asks } in s) zone
-      ∙ ap (λ (l : Loans). let s : State = record { zone = old.zone; loans = l; left = new.left; asks = new.asks } in s) loans
-      ∙ ap (λ (made : List Ask). let s : State = record { zone = old.zone; loans = old.loans; left = new.left; asks = made } in s) asks
-      ∙ ap (λ (left : List Answer). let s : State = record { zone = old.zone; loans = old.loans; left = left; asks = [] } in s) (ap (λ (made : List Ask). taken made new.left) (sym asks) ∙ took);
+  zone = ap (λ (z : ZoneState). let s : State = record { zone = z; loans = new.loans; left = new.left; asks = new.asks; waiting = new.waiting } in s) zone
+      ∙ ap (λ (l : Loans). let s : State = record { zone = old.zone; loans = l; left = new.left; asks = new.asks; waiting = new.waiting } in s) loans
+      ∙ ap (λ (made : List Ask). let s : State = record { zone = old.zone; loans = old.loans; left = new.left; asks = made; waiting = new.waiting } in s) asks
+      ∙ ap (λ (left : List Answer). let s : State = record { zone = old.zone; loans = old.loans; left = left; asks = []; waiting = new.waiting } in s) (ap (λ (made : List Ask). taken made new.left) (sym asks) ∙ took)
+      ∙ ap (λ (xs : List ℕ). let s : State = record { zone = old.zone; loans = old.loans; left = old.left; asks = []; waiting = xs } in s) waiting;
   files = (ap (λ (s : ResState). s.files) stays, ap (λ (s : ResState). s.loads) stays, ap (λ (s : ResState). s.disks) stays);
 }
   where
@@ -154,17 +156,17 @@ module _ (zone : State) (on : FilesOn Store) (old : State) (old_files : ForksSta
   pub steps-seen : (made : Result Outcome HostFull)
       → IfOk made (λ outcome. ResourceSteps mem_store zone.zone on call new.asks outcome new.zone new_on)
       → IfOk made (λ outcome. ReadsBack (honest_in new_on.stores) (state_of fork_in zone.zone on) call outcome (state_of fork_in new.zone new_on))
-      → taken new.asks new.left ≡ zone.left → OutOfAnswers new.asks new.left → new.loans ≡ zone.loans → KeepsLoans zone.zone new.zone
+      → taken new.asks new.left ≡ zone.left → OutOfAnswers new.asks new.left → new.loans ≡ zone.loans → new.waiting ≡ zone.waiting → KeepsLoans zone.zone new.zone
       → IfOk made (λ outcome. StepsOnForks old old_files call outcome new (seen_on new_on))
-  steps-seen (Ok outcome) steps reads took out loans keeps =
-      seen_then (λ s f. StepsOnForks s f call outcome new (seen_on new_on)) (steps-on zone new on new_on call outcome steps reads took out loans keeps)
-  steps-seen (Err full) steps reads took out loans keeps = tt
+  steps-seen (Ok outcome) steps reads took out loans waiting keeps =
+      seen_then (λ s f. StepsOnForks s f call outcome new (seen_on new_on)) (steps-on zone new on new_on call outcome steps reads took out loans waiting keeps)
+  steps-seen (Err full) steps reads took out loans waiting keeps = tt
 
   pub none-seen : (made : Result Outcome HostFull)
       → OnErr made (IsTrue (takes_memory (state_of fork_in zone.zone on) call)) → OnErr made (resource_refusal (state_of fork_in zone.zone on) call ≡ None)
-      → OnErr made (new.zone ≡ zone.zone) → OnErr made (new.asks ≡ []) → taken new.asks new.left ≡ zone.left → new.loans ≡ zone.loans
+      → OnErr made (new.zone ≡ zone.zone) → OnErr made (new.asks ≡ []) → taken new.asks new.left ≡ zone.left → new.loans ≡ zone.loans → new.waiting ≡ zone.waiting
       → OnErr made (IsAnswered (honest_in new_on.stores) (state_of fork_in new.zone new_on) (state_of fork_in zone.zone on))
       → OnErr made (HasNoMemory old old_files call (Err MemFullErr) new (seen_on new_on))
-  none-seen (Ok outcome) takes passes same asks took loans answered = tt
-  none-seen (Err full) takes passes same asks took loans answered =
-      seen_then (λ s f. HasNoMemory s f call (Err MemFullErr) new (seen_on new_on)) (no-memory zone new on new_on call takes passes same asks took loans answered)
+  none-seen (Ok outcome) takes passes same asks took loans waiting answered = tt
+  none-seen (Err full) takes passes same asks took loans waiting answered =
+      seen_then (λ s f. HasNoMemory s f call (Err MemFullErr) new (seen_on new_on)) (no-memory zone new on new_on call takes passes same asks took loans waiting answered)

@@ -3,3 +3,4 @@ pub mod Honest
 pub mod Numbers
 pub mod Seeking
 mod Reading
+mod Patching

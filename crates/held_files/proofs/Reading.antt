@@ -7,8 +7,8 @@ use Rattle.held_files.specs.Partial.{ReadsOnForks}
 use Rattle.held_zone.specs.State.{State}
 use Rattle.mac_base.specs.HandleTable.{is_full}
 use Rattle.res_calls.proofs.Answering.{all_answered}
-use Rattle.res_calls.specs.declared.partial_read.PartialRead.{PartialRead}
-use Rattle.res_calls.specs.declared.partial_read.PartialRead.TheVariants.{Read, InMemory, OutOfBounds, Refused}
+use Rattle.res_calls.specs.declared.partial_end.PartialEnd.{PartialEnd}
+use Rattle.res_calls.specs.declared.partial_end.PartialEnd.TheVariants.{Done, InMemory, OutOfBounds, Refused}
 use Rattle.res_calls.specs.Answered.{IsAnswered}
 use Rattle.res_calls.specs.Changes.{Files}
 use Rattle.res_calls.specs.Files.{ResState}
@@ -22,18 +22,18 @@ use Rattle.held_files.proofs.Honest.{Store, all_honest, counts-rose, honest_in, 
 -- what is said of honest devices, and of those that failed, is said of others
 module _ (honest other : ℕ → Type 0) (worked going : Type 0) (Failed Fails : ℕ → Type 0) (there : (k : ℕ) → other k → honest k) (work : worked → going) (fail : (k : ℕ) → Failed k → Fails k)
     (in_memory : Bool) (at : ℕ) (before after : List ℕ) where
-  data_by : (k : ℕ) (own : List ℕ) (end : PartialRead) → ReadsData honest worked Failed in_memory at before after k own end → ReadsData other going Fails in_memory at before after k own end
+  data_by : (k : ℕ) (own : List ℕ) (end : PartialEnd) → ReadsData honest worked Failed in_memory at before after k own end → ReadsData other going Fails in_memory at before after k own end
   data_by k own (Refused code) reads = (reads.0, reads.1, fail k reads.2)
-  data_by k own Read reads = (reads.0, λ h. reads.1 (there k h), work reads.2)
+  data_by k own Done reads = (reads.0, λ h. reads.1 (there k h), work reads.2)
   data_by k own InMemory reads = (reads.0, λ h. reads.1 (there k h), work reads.2)
   data_by k own OutOfBounds reads = (reads.0, λ h. reads.1 (there k h), work reads.2)
 
-  part_by : (files : Files) (part : Result RowPlace PartialRead) (end : PartialRead) → ReadsPart honest worked Failed in_memory at before after files part end → ReadsPart other going Fails in_memory at before after files part end
+  part_by : (files : Files) (part : Result RowPlace PartialEnd) (end : PartialEnd) → ReadsPart honest worked Failed in_memory at before after files part end → ReadsPart other going Fails in_memory at before after files part end
   part_by files (Ok p) end reads = data_by p.file (data_at p files) end reads
   part_by files (Err refusal) end reads = (reads.0, reads.1, work reads.2)
 
 -- such a read
-reads-on : (zone : State) (on new_on : FilesOn Store) (h at : ℕ) (before after : List ℕ) (end : PartialRead) → ReadsPartOn mem_store zone.zone on h at before after end new_on
+reads-on : (zone : State) (on new_on : FilesOn Store) (h at : ℕ) (before after : List ℕ) (end : PartialEnd) → ReadsPartOn mem_store zone.zone on h at before after end new_on
     → IsAnswered (honest_in new_on.stores) (state_of fork_in zone.zone on) (state_of fork_in zone.zone new_on) → ReadsOnForks zone (seen_on on) h at before after end (seen_on new_on)
 reads-on zone on new_on h at before after end reads answered = (
   (ap (λ (s : ResState). s.files) same, ap (λ (s : ResState). s.loads) same, ap (λ (s : ResState). s.disks) same),
@@ -46,7 +46,7 @@ reads-on zone on new_on h at before after end reads answered = (
     same = all_answered (honest_in new_on.stores) (all_honest new_on.stores) (state_of fork_in zone.zone on) (state_of fork_in zone.zone new_on) answered
 
 -- so it is with the zone and the files as they were seen
-pub reads-seen : (zone : State) (on : FilesOn Store) (seen : State) (old : ForksState) → zone ≡ seen → seen_on on ≡ old → (new_on : FilesOn Store) (h at : ℕ) (before after : List ℕ) (end : PartialRead)
+pub reads-seen : (zone : State) (on : FilesOn Store) (seen : State) (old : ForksState) → zone ≡ seen → seen_on on ≡ old → (new_on : FilesOn Store) (h at : ℕ) (before after : List ℕ) (end : PartialEnd)
     → ReadsPartOn mem_store zone.zone on h at before after end new_on → IsAnswered (honest_in new_on.stores) (state_of fork_in zone.zone on) (state_of fork_in zone.zone new_on)
     → ReadsOnForks seen old h at before after end (seen_on new_on)
 reads-seen zone on seen old zone_is files_are new_on h at before after end reads answered =

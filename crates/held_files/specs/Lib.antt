@@ -5,3 +5,4 @@ pub mod Making
 pub mod Told
 pub mod Counting
 pub mod Partial
+pub mod Patching

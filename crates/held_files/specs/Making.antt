@@ -31,7 +31,7 @@ FailsAt k before now = Rose (slice_index before (k - 1)) (slice_index now (k - 1
 -- From a zone and files, the call ends so and leaves these: just as the Resource Manager makes it, where the
 -- grow-zone procedure gives the answers that are left, first in, first out, and takes them from the front. A device
 -- is memory, which fails only where the host has none for a longer fork. A file that was updated with success reads
--- back as the table that was saved. What is lent stays where it is.
+-- back as the table that was saved. What is lent stays where it is, and what waits to be lent waits on.
 pub record StepsOnForks (old : State) (old_files : ForksState) (call : ResourceCall) (outcome : Outcome) (new : State) (new_files : ForksState) : Type 0 where
   pub device : Device
   pub step : ResourceStepBy (StepsFrom old.left new.left) (read_truly IsPartly) device (resource_state old old_files) call new.asks
@@ -41,10 +41,11 @@ pub record StepsOnForks (old : State) (old_files : ForksState) (call : ResourceC
   pub taken : old.left ≡ answers_in new.asks ++ new.left
   pub reads_back : ReadsBack (λ k. ⊤) (resource_state old old_files) call outcome (resource_state new new_files)
   pub loans : new.loans ≡ old.loans
+  pub waiting : new.waiting ≡ old.waiting
   pub lent : StaysLent old.zone new.zone
 
 -- From a zone and files, a call that seeks a resource otherwise than by its id ends so and leaves these: where it finds one, that is got
--- just as GetResource gets it. The answers that are left, the devices and what is lent are as for other calls; it takes no
+-- just as GetResource gets it. The answers that are left, the devices, what is lent and what waits are as for other calls; it takes no
 -- memory of the host.
 pub record SeeksOnForks (old : State) (old_files : ForksState) (call : SeekingCall) (outcome : Outcome) (new : State) (new_files : ForksState) : Type 0 where
   pub device : Device
@@ -54,6 +55,7 @@ pub record SeeksOnForks (old : State) (old_files : ForksState) (call : SeekingCa
       (IsOkAnd (sought call old_files.files) (λ p. FailsAt p.file old_files.failures new_files.failures))
   pub taken : old.left ≡ answers_in new.asks ++ new.left
   pub loans : new.loans ≡ old.loans
+  pub waiting : new.waiting ≡ old.waiting
   pub lent : StaysLent old.zone new.zone
 
 -- The host has no memory for a call that takes some and isn't refused: the answer is memFullErr, and nothing has

@@ -4,17 +4,17 @@ use Rattle.held_files.specs.Forks.{ForksState, SameForks}
 use Rattle.held_files.specs.Making.{FailsAt}
 use Rattle.held_zone.specs.State.{State}
 use Rattle.mac_base.specs.HandleTable.{is_full}
-use Rattle.res_calls.specs.declared.partial_read.PartialRead.{PartialRead}
+use Rattle.res_calls.specs.declared.partial_end.PartialEnd.{PartialEnd}
 use Rattle.res_calls.specs.Partial.{ReadsPart, part_asked}
 
 -- A call for as many bytes as there were before it, from an offset on of the resource with a handle, ends so and leaves these: they are the
 -- fork's where it read them. The files and their forks stay.
-abbrev pub ReadsOnForks : State → ForksState → ℕ → ℕ → List ℕ → List ℕ → PartialRead → ForksState → Type 0
+abbrev pub ReadsOnForks : State → ForksState → ℕ → ℕ → List ℕ → List ℕ → PartialEnd → ForksState → Type 0
 ReadsOnForks zone old h at before after end new = SameForks old new × ReadsPart (λ k. ⊤) (new.failures ≡ old.failures) (λ k. FailsAt k old.failures new.failures)
     (is_full zone.zone.heap.table h) at before after old.files (part_asked h at (length before) old.files) end
 
 -- The call is made, where there are a zone and files, and the zone stays; else there is no end, and all stay.
-abbrev pub PartCalled : Option State → Option ForksState → ℕ → ℕ → List ℕ → List ℕ → Option PartialRead → Option State → Option ForksState → Type 0
+abbrev pub PartCalled : Option State → Option ForksState → ℕ → ℕ → List ℕ → List ℕ → Option PartialEnd → Option State → Option ForksState → Type 0
 PartCalled (Some zone) (Some old) h at before after (Some end) new (Some new_files) = (new ≡ Some zone) × ReadsOnForks zone old h at before after end new_files
 PartCalled (Some zone) None h at before after None new new_files = (after ≡ before) × (new ≡ Some zone) × (new_files ≡ None)
 PartCalled None old h at before after None new new_files = (after ≡ before) × (new ≡ None) × (new_files ≡ old)

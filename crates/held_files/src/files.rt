@@ -15,7 +15,7 @@ use mac_base::error::{HostFull, OsErr};
 use mac_base::handle::Handle;
 use mac_base::releasing::ReleasingCall;
 use mac_calls::{MemoryCall, Outcome, ResourceCall};
-use res_calls::{CountingCall, PartialRead, SeekingCall};
+use res_calls::{CountingCall, PartialEnd, PatchingCall, SeekingCall};
 use res_files::{MOST_FILES, ResourceFiles};
 use std::alloc::Global;
 use std::marker::Model;
@@ -287,9 +287,25 @@ impl ForkFiles {
         handle: Handle,
         offset: u32,
         buffer: &mut [u8],
-    ) -> PartialRead
+    ) -> PartialEnd
         ensures { ReadsOnForks session.now self.old handle offset buffer.old buffer.new result self.new }
     {
         res_manager::read_partial(&mut self.files, &session.memory, handle, offset, buffer)
+    }
+}
+
+impl ForkFiles {
+    ghost use Rattle.held_files.specs.Patching.{PatchesOnForks};
+    ghost use Rattle.res_calls.specs.Patching.{patch_asked};
+
+    /// Makes a call that changes the bytes that a resource has in its fork, which is written at once. Where the host has no memory for
+    /// it, it is memFullErr.
+    pub fn patch(&mut self, alloc: Global, session: &Session, call: &PatchingCall<'_>) -> PartialEnd
+        ensures { PatchesOnForks session.now self.old call.now (patch_asked call.now self.old.files) result self.new }
+    {
+        match res_manager::patch(&mut self.files, &session.memory, alloc, call) {
+            Ok(end) => end,
+            Err(_) => PartialEnd::Refused(OsErr::MemFullErr),
+        }
     }
 }

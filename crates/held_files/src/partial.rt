@@ -1,11 +1,12 @@
-//! ReadPartialResource over files that C holds.
+//! Calls on some of the bytes that a resource has in its fork, over files that C holds.
 
 ghost use Rattle.held_files.specs.Partial.{PartCalled};
+ghost use Rattle.held_files.specs.Patching.{PatchCalled};
 
 use crate::held::MrFiles;
 use held_zone::zone::MhZone;
 use mac_base::handle::Handle;
-use res_calls::PartialRead;
+use res_calls::{PartialEnd, PatchingCall};
 use std::alloc::Global;
 
 impl MrFiles {
@@ -18,7 +19,7 @@ impl MrFiles {
         handle: Handle,
         offset: u32,
         buffer: &mut [u8],
-    ) -> Option<PartialRead>
+    ) -> Option<PartialEnd>
         ensures { PartCalled zone.old.held.session self.old.held.files handle offset buffer.old buffer.new result zone.new.held.session self.new.held.files }
     {
         let session = zone.take(alloc)?;
@@ -30,5 +31,25 @@ impl MrFiles {
         self.put(files);
         zone.put(session);
         Some(read)
+    }
+
+    /// Makes a call that changes the bytes that a resource has in its fork, where there are files and a zone.
+    pub fn patch(
+        &mut self,
+        alloc: Global,
+        zone: &mut MhZone,
+        call: &PatchingCall<'_>,
+    ) -> Option<PartialEnd>
+        ensures { PatchCalled zone.old.held.session self.old.held.files call.now result zone.new.held.session self.new.held.files }
+    {
+        let session = zone.take(alloc)?;
+        let Some(mut files) = self.take(alloc) else {
+            zone.put(session);
+            return None;
+        };
+        let end = files.patch(alloc, &session, call);
+        self.put(files);
+        zone.put(session);
+        Some(end)
     }
 }

@@ -1,12 +1,15 @@
 -- What C is told of a zone that is made asleep, and of one that doesn't wake.
-use Rattle.std.proofs.Common.{◌≡◌, ◌∙◌, ℕ, ◌==◌, Bool, true, length, Option, Some, None, refl, sym, ap, subst, inr, arith, pos}
+use Rattle.std.proofs.Common.{◌≡◌, ◌∙◌, ℕ, ◌==◌, Bool, true, length, Option, Some, None, refl, sym, ap, subst, inr, arith, ℤ, pos}
+use mir.Syntax.{w16}
+use mir.Val.{of_z, to_z}
 use Rattle.std.proofs.lemmas.Bool.Decides.{nat_tests}
-use Rattle.linked_zone.specs.Structure.{HasStructure}
 use Rattle.mac_base.specs.ZoneSizes.{ZoneSizes}
 use Rattle.raw_region.specs.State.{State as Region}
-use Rattle.held_zone.specs.Asleep.{IsSettled}
+use Rattle.held_zone.specs.Asleep.{IsSettled, SleepsOn}
+use Rattle.held_zone.specs.declared.waking.WhyAsleep.{WhyAsleep}
+use Rattle.held_zone.specs.declared.waking.WhyAsleep.TheVariants.{Damaged, Unlocked}
 use Rattle.held_zone.specs.State.{State, IsNew}
-use Rattle.macheap_c.specs.Guest.{BeginsWhere, IsMadeAt, IsWoken, WakesWhere, damaged}
+use Rattle.macheap_c.specs.Guest.{BeginsWhere, IsMadeAt, IsWoken, WakesWhere, code_asleep}
 
 -- numbers that are the same
 pub same_numbers : (m n : ℕ) → m ≡ n → (m == n) ≡ true
@@ -22,11 +25,16 @@ made_in sizes memory after asleep region kept new there long made settled is giv
     (subst (λ (s : Option State). BeginsWhere true sizes region (pos 0) s after) (sym is)
     (subst (λ (m : Option Region). BeginsWhere true sizes region (pos 0) (Some new) m) (sym given) (refl, made, settled))))
 
--- a zone that doesn't wake in bytes that haven't its structure
-pub not_woken : (old : State) (memory after : Option Region) (zone asleep : Option State) (region given : Region)
-    → memory ≡ Some region → length region.bytes ≡ old.zone.shape.limit → (HasStructure old.zone region.bytes → ⊥) → given ≡ region
-    → zone ≡ None → asleep ≡ Some old → after ≡ Some given → IsWoken None (Some old) memory damaged zone asleep after
-not_woken old memory after zone asleep region given there long not same none sleeps back =
-    subst (λ (m : Option Region). IsWoken None (Some old) m damaged zone asleep after) (sym there)
-    (subst (λ (b : Bool). WakesWhere b old region damaged zone asleep after) (sym (same_numbers (length region.bytes) old.zone.shape.limit long))
-    (inr (not, refl, none, sleeps, back ∙ ap (λ (r : Region). Some r) same)))
+-- the code is one of 16 bits
+pub as_told : (why : WhyAsleep) → to_z w16 (of_z w16 (code_asleep why)) ≡ code_asleep why
+as_told Damaged = refl
+as_told Unlocked = refl
+
+-- a zone that doesn't wake
+pub not_woken : (old : State) (memory after : Option Region) (zone asleep : Option State) (region given : Region) (why : WhyAsleep) (code : ℤ)
+    → memory ≡ Some region → length region.bytes ≡ old.zone.shape.limit → SleepsOn why old region.bytes → code ≡ code_asleep why → given ≡ region
+    → zone ≡ None → asleep ≡ Some old → after ≡ Some given → IsWoken None (Some old) memory code zone asleep after
+not_woken old memory after zone asleep region given why code there long on told same none sleeps back =
+    subst (λ (m : Option Region). IsWoken None (Some old) m code zone asleep after) (sym there)
+    (subst (λ (b : Bool). WakesWhere b old region code zone asleep after) (sym (same_numbers (length region.bytes) old.zone.shape.limit long))
+    (inr (why, on, told, none, sleeps, back ∙ ap (λ (r : Region). Some r) same)))

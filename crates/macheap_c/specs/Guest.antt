@@ -1,5 +1,5 @@
 -- What C is told of a zone that sleeps, and wakes in its bytes.
-use Rattle.std.specs.Prelude.{◌≡◌, ◌⊎◌, ℤ, pos, Bool, true, false, ◌==◌, length, List, Option, Some, None, ⊤}
+use Rattle.std.specs.Prelude.{◌≡◌, ◌⊎◌, ℤ, pos, Bool, true, false, ◌==◌, length, List, Option, Some, None, IsTrue, ⊤}
 use Rattle.zone_records.specs.declared.structure.Written.{Written}
 use Rattle.linked_zone.specs.Structure.{HasStructure}
 use Rattle.linked_zone.specs.Written.{DifferIn}
@@ -7,22 +7,29 @@ use Rattle.mac_base.specs.Codes.{code_of, minus}
 use Rattle.mac_base.specs.declared.error.OsErr.{OsErr}
 use Rattle.mac_base.specs.ZoneSizes.{ZoneSizes}
 use Rattle.raw_region.specs.State.{State as Region}
-use Rattle.held_zone.specs.Asleep.{FallsAsleep, IsInRegion, IsSettled, awake_in, sleep_refusal}
+use Rattle.held_zone.specs.Asleep.{FallsAsleep, IsInRegion, IsSettled, SleepsOn, all_back, all_lendable, awake_in, sleep_refusal}
+use Rattle.held_zone.specs.declared.waking.WhyAsleep.{WhyAsleep}
+use Rattle.held_zone.specs.declared.waking.WhyAsleep.TheVariants.{Damaged, Unlocked}
 use Rattle.held_zone.specs.State.{State, IsNew}
 
--- the code by which C is told that bytes haven't the structure of a zone
+-- the code by which C is told that bytes haven't the structure of a zone: memSCErr
 abbrev pub damaged : ℤ
 damaged = minus 116
+
+-- the code by which C is told why a zone sleeps on: memLockedErr where a block that is lent isn't locked in the bytes any more
+abbrev pub code_asleep : WhyAsleep → ℤ
+code_asleep Damaged = damaged
+code_asleep Unlocked = minus 117
 
 -- paramErr, and C has the zone that was awake, the one that slept, and the bytes that were there
 abbrev pub Refused : Option State → Option State → Option Region → ℤ → Option State → Option State → Option Region → Type 0
 Refused zone asleep memory code new_zone new_asleep new_memory = (code ≡ minus 50) × (new_zone ≡ zone) × (new_asleep ≡ asleep) × (new_memory ≡ memory)
 
--- a zone wakes in bytes that have its structure, which are gone then; else it sleeps on, and the bytes are as they were
+-- a zone wakes in bytes that have its structure, with what is lent, and the bytes are gone then; or it sleeps on, and they are as they were
 abbrev pub WakesIn : State → Region → ℤ → Option State → Option State → Option Region → Type 0
 WakesIn old region code zone asleep memory =
-    (HasStructure old.zone region.bytes × (code ≡ pos 0) × (zone ≡ Some (awake_in region old)) × (asleep ≡ None) × (memory ≡ None))
-    ⊎ ((HasStructure old.zone region.bytes → ⊥) × (code ≡ damaged) × (zone ≡ None) × (asleep ≡ Some old) × (memory ≡ Some region))
+    (HasStructure old.zone region.bytes × IsTrue (all_lendable old region.bytes) × (code ≡ pos 0) × (zone ≡ Some (awake_in region old)) × (asleep ≡ None) × (memory ≡ None))
+    ⊎ ((why : WhyAsleep) × SleepsOn why old region.bytes × (code ≡ code_asleep why) × (zone ≡ None) × (asleep ≡ Some old) × (memory ≡ Some region))
 
 -- bytes that aren't as many as the zone's limit are refused
 abbrev pub WakesWhere : Bool → State → Region → ℤ → Option State → Option State → Option Region → Type 0
@@ -40,9 +47,9 @@ abbrev pub IsTold : Option State → Option Region → List Written → Type 0
 IsTold (Some old) (Some region) ranges = length region.bytes ≡ old.zone.shape.limit → DifferIn old.zone region.bytes ranges
 IsTold old region ranges = ⊤
 
--- the zone sleeps, and the bytes in which it was are there again
+-- the zone sleeps, and the bytes in which it was are there again, with what C left in the blocks that were lent
 abbrev pub SleepsOutOf : State → Option State → Option Region → Type 0
-SleepsOutOf old (Some new) (Some region) = FallsAsleep old region new × IsInRegion old region
+SleepsOutOf old (Some new) (Some region) = FallsAsleep old region new × IsInRegion (all_back old) region
 SleepsOutOf old _ _ = ⊥
 
 -- a zone falls asleep unless it is refused: then it is awake as before

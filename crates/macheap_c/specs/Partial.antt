@@ -1,21 +1,27 @@
--- What C is told of a read of some of a resource's bytes.
+-- What C is told of calls on some of a resource's bytes.
 use Rattle.std.specs.Prelude.{◌≡◌, ℕ, ℤ, pos, List, Option, Some, None}
 use Rattle.held_files.specs.Forks.{ForksState}
 use Rattle.held_files.specs.Partial.{PartCalled}
+use Rattle.held_files.specs.Patching.{PatchCalled}
 use Rattle.held_zone.specs.State.{State}
 use Rattle.held_zone.specs.Told.{no_zone}
 use Rattle.mac_base.specs.Codes.{code_of, minus}
-use Rattle.res_calls.specs.declared.partial_read.PartialRead.{PartialRead}
-use Rattle.res_calls.specs.declared.partial_read.PartialRead.TheVariants.{Read, InMemory, OutOfBounds, Refused}
+use Rattle.res_calls.specs.declared.partial_end.PartialEnd.{PartialEnd}
+use Rattle.res_calls.specs.declared.partial_end.PartialEnd.TheVariants.{Done, InMemory, OutOfBounds, Refused}
+use Rattle.res_calls.specs.declared.patching_call.PatchingCall.{PatchingCall}
 
 -- the code of its end: resourceInMemory and inputOutOfBounds have their own; and where there are no zone or no files, paramErr
-abbrev pub part_code : Option PartialRead → ℤ
+abbrev pub part_code : Option PartialEnd → ℤ
 part_code None = no_zone
-part_code (Some Read) = pos 0
+part_code (Some Done) = pos 0
 part_code (Some InMemory) = minus 188
 part_code (Some OutOfBounds) = minus 190
 part_code (Some (Refused code)) = code_of code
 
 -- The call is made, and C is told this code, and gets these bytes in the place of as many others.
 abbrev pub PartTold : Option State → Option ForksState → ℕ → ℕ → ℤ → List ℕ → List ℕ → Option State → Option ForksState → Type 0
-PartTold zone files h at code before after new new_files = (end : Option PartialRead) × (code ≡ part_code end) × PartCalled zone files h at before after end new new_files
+PartTold zone files h at code before after new new_files = (end : Option PartialEnd) × (code ≡ part_code end) × PartCalled zone files h at before after end new new_files
+
+-- A call that changes them is made, and C is told this code.
+abbrev pub PatchTold : Option State → Option ForksState → PatchingCall → ℤ → Option State → Option ForksState → Type 0
+PatchTold zone files call code new new_files = (end : Option PartialEnd) × (code ≡ part_code end) × PatchCalled zone files call end new new_files

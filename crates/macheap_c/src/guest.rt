@@ -1,10 +1,10 @@
 //! A zone that sleeps, and wakes in bytes of the host that a guest may write meanwhile.
 
-ghost use Rattle.std.specs.Prelude.{◌≡◌, [], None, Some, IfErr, IfOk, IfSome};
+ghost use Rattle.std.specs.Prelude.{◌≡◌, [], None, Some, IfErr, IfOk, IfSome, IsTrue};
 ghost use Rattle.linked_zone.specs.Structure.{HasStructure};
 ghost use Rattle.linked_zone.specs.Written.{DifferIn};
-ghost use Rattle.held_zone.specs.Asleep.{IsAsleep, awake_in, region_of};
-ghost use Rattle.macheap_c.specs.Guest.{IsMadeAt, IsPutToSleep, IsTold, IsWoken};
+ghost use Rattle.held_zone.specs.Asleep.{IsAsleep, SleepsOn, all_lendable, awake_in, region_of};
+ghost use Rattle.macheap_c.specs.Guest.{IsMadeAt, IsPutToSleep, IsTold, IsWoken, code_asleep};
 ghost use Rattle.macheap_c.specs.Life.{Ends, large_sizes_of};
 
 use crate::life::large_spec_of;
@@ -12,6 +12,7 @@ use held_zone::asleep::MhAsleep;
 use held_zone::memory::MhMemory;
 use held_zone::session::Session;
 use held_zone::told::NO_ZONE;
+use held_zone::waking::{NotAwake, WhyAsleep};
 use held_zone::zone::MhZone;
 use linked_zone::Written;
 use mac_base::error::{NO_ERR, OsErr};
@@ -88,8 +89,9 @@ fn make(alloc: Global, asleep: &mut MhAsleep, memory: &mut MhMemory, spec: ZoneS
     }
 }
 
-/// Wakes the zone that sleeps in bytes that have its structure: it has the contents and flags that they have, and they
-/// are gone. Else the zone sleeps on, and no byte has changed.
+/// Wakes the zone that sleeps in bytes that have its structure: it has the contents and flags that they have, what is lent
+/// is lent again, and the bytes are gone. Else the zone sleeps on, and no byte has changed; memLockedErr where they have
+/// the structure, and a handle that is lent isn't locked any more.
 #[unsafe(no_mangle)]
 pub extern "C" fn mh_wake(
     alloc: Global,
@@ -170,21 +172,35 @@ fn wake(
             zone.put(session);
             NO_ERR
         }
-        Err(region) => {
+        Err(NotAwake { region, why }) => {
             asleep.put(session);
             memory.put(region);
-            DAMAGED
+            code_of_sleep(why)
         }
     }
 }
 
+/// The code of why a zone sleeps on: memSCErr, or memLockedErr where a block that is lent isn't locked any more.
+fn code_of_sleep(why: WhyAsleep) -> i16
+    ensures { result ≡ code_asleep why }
+{
+    match why {
+        WhyAsleep::Damaged => DAMAGED,
+        WhyAsleep::Unlocked => OsErr::MemLockedErr.code(),
+    }
+}
+
 /// Wakes the zone of a session in a region, of whose bytes the host may say which were written.
-fn wake_in(session: &mut Session, region: Region, written: Option<&[Written]>) -> Result<(), Region>
+fn wake_in(
+    session: &mut Session,
+    region: Region,
+    written: Option<&[Written]>,
+) -> Result<(), NotAwake>
     requires asleep { IsAsleep session.old }
     requires whole { region.lent ≡ [] }
     requires told { IfSome written (λ ranges. DifferIn session.old.zone region.bytes ranges.now) }
-    ensures awake { IfOk result (λ u. HasStructure session.old.zone region.bytes × (session.new ≡ awake_in region session.old)) }
-    ensures damaged { IfErr result (λ given. (HasStructure session.old.zone region.bytes → ⊥) × (given ≡ region) × (session.new ≡ session.old)) }
+    ensures awake { IfOk result (λ u. HasStructure session.old.zone region.bytes × IsTrue (all_lendable session.old region.bytes) × (session.new ≡ awake_in region session.old)) }
+    ensures asleep { IfErr result (λ no. SleepsOn no.why session.old region.bytes × (no.region ≡ region) × (session.new ≡ session.old)) }
 {
     match written {
         Some(written) => session.wake_written(region, written),
@@ -192,7 +208,7 @@ fn wake_in(session: &mut Session, region: Region, written: Option<&[Written]>) -
     }
 }
 
-/// Puts the zone that is awake to sleep, and gives the bytes back in which it was.
+/// Puts the zone that is awake to sleep, and gives the bytes back in which it was. What is lent stays so.
 #[unsafe(no_mangle)]
 pub extern "C" fn mh_sleep(
     alloc: Global,

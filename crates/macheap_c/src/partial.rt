@@ -1,32 +1,34 @@
 //! Some of the bytes that a resource has in its fork.
 
 ghost use Rattle.std.specs.Prelude.{◌≡◌};
-ghost use Rattle.macheap_c.specs.Partial.{PartTold, part_code};
+ghost use Rattle.macheap_c.specs.Partial.{PartTold, PatchTold, part_code};
+ghost use Rattle.res_calls.specs.declared.patching_call.PatchingCall.TheVariants.{SetResourceSize, WritePartialResource};
 
 use held_files::held::MrFiles;
 use held_zone::told::NO_ZONE;
 use held_zone::zone::MhZone;
 use mac_base::error::NO_ERR;
 use mac_base::handle::Handle;
-use res_calls::PartialRead;
+use mac_calls::Span;
+use res_calls::{PartialEnd, PatchingCall};
 use std::alloc::Global;
 
-/// resourceInMemory: the bytes were read, and the resource is in memory, where it may have others.
+/// resourceInMemory: the bytes were read or written, and the resource is in memory, where it may have others.
 const RESOURCE_IN_MEMORY: i16 = -188;
 
-/// inputOutOfBounds: the resource doesn't have all these bytes in its fork.
+/// inputOutOfBounds: the resource doesn't have all these bytes in its fork, or it ends there before the first that is to be written.
 const INPUT_OUT_OF_BOUNDS: i16 = -190;
 
-/// The code of the end of a read, if it was made.
-fn part_code(end: Option<PartialRead>) -> i16
+/// The code of the end of a call, if it was made.
+fn part_code(end: Option<PartialEnd>) -> i16
     ensures { result ≡ part_code end }
 {
     match end {
         None => NO_ZONE,
-        Some(PartialRead::Read) => NO_ERR,
-        Some(PartialRead::InMemory) => RESOURCE_IN_MEMORY,
-        Some(PartialRead::OutOfBounds) => INPUT_OUT_OF_BOUNDS,
-        Some(PartialRead::Refused(code)) => code.code(),
+        Some(PartialEnd::Done) => NO_ERR,
+        Some(PartialEnd::InMemory) => RESOURCE_IN_MEMORY,
+        Some(PartialEnd::OutOfBounds) => INPUT_OUT_OF_BOUNDS,
+        Some(PartialEnd::Refused(code)) => code.code(),
     }
 }
 
@@ -44,4 +46,40 @@ pub extern "C" fn mr_read_partial_resource(
     ensures { PartTold zone.old.held.session files.old.held.files handle offset result bytes.old bytes.new zone.new.held.session files.new.held.files }
 {
     part_code(files.read_partial(alloc, zone, Handle::new(handle), offset, bytes))
+}
+
+/// SetResourceSize: how many bytes a resource has in its fork, which is written at once: the first of those that it had, and then zeros.
+#[unsafe(no_mangle)]
+pub extern "C" fn mr_set_resource_size(
+    alloc: Global,
+    files: &mut MrFiles,
+    zone: &mut MhZone,
+    handle: u32,
+    size: u32,
+) -> i16
+    ensures { PatchTold zone.old.held.session files.old.held.files (SetResourceSize handle size) result zone.new.held.session files.new.held.files }
+{
+    let call = PatchingCall::SetResourceSize(Handle::new(handle), size);
+    part_code(files.patch(alloc, zone, &call))
+}
+
+/// WritePartialResource: writes these bytes over those that a resource has in its fork, from an offset on, at once, whether or not it is
+/// in memory. resourceInMemory says that they were written and that it is.
+#[unsafe(no_mangle)]
+pub extern "C" fn mr_write_partial_resource(
+    alloc: Global,
+    files: &mut MrFiles,
+    zone: &mut MhZone,
+    handle: u32,
+    offset: u32,
+    bytes: &[u8],
+) -> i16
+    ensures { PatchTold zone.old.held.session files.old.held.files (WritePartialResource handle offset bytes.now) result zone.new.held.session files.new.held.files }
+{
+    let call = PatchingCall::WritePartialResource {
+        handle: Handle::new(handle),
+        offset,
+        bytes: Span::new(bytes),
+    };
+    part_code(files.patch(alloc, zone, &call))
 }
