@@ -5,11 +5,11 @@
 # 100,000 of random bytes, 1,200 with a byte that was changed, and 40,000 random calls on zones that are made anew of their bytes; each
 # byte of a zone that is damaged, named and mended; bytes from outside the zone, with 40,000 random calls on each of two zones; 175,000
 # random calls, 100,000 of them on a zone that a guest writes, of which macheap prints the same; and 100,000 on resource files; resources
-# by their names, and other names for them; what all open resource files have together, after 4,000 random calls; 20,000 random reads of
-# some of a resource's bytes; 255 resource files at a time; a zone and files that four threads use in turn; a zone that the host has no
-# memory for, over c/heap.c, too; a fork, of which resfork prints the same; and forks whose bytes are known, written anew. Next the examples
-# in C, C++ and Rust (c/check.sh). Then that the library is small, shows the names of its headers and no other, asks for nothing but the C
-# library's memory, and is installed below DESTDIR as in its place; and that the crate in Rust declares what the header does.
+# by their names, and other names for them; what all open resource files have together, after 4,000 random calls; 20,000 random reads and
+# writes of some of a resource's bytes; 255 resource files at a time; a zone and files that four threads use in turn; a zone that the host
+# has no memory for, over c/heap.c, too; a fork, of which resfork prints the same; and forks whose bytes are known, written anew. Next the
+# examples in C, C++ and Rust (c/check.sh). Then that the library is small, shows the names of its headers and no other, asks for nothing
+# but the C library's memory, and is installed below DESTDIR as in its place; and that the crate in Rust declares what the header does.
 # Words: the programs macheap and resfork, and the folder of what build_c.sh built. It needs make, a C compiler, Python, and the kit's C
 # code for the heap (RATTLE_KIT: the kit's folder).
 set -e
