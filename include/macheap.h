@@ -13,16 +13,17 @@
  *    while a call on their zone runs, by another thread, say. No pointer into a window is passed to a call on its zone.
  *  - One call at a time on one zone, and none from a signal handler. Between two calls a zone may go from one thread to
  *    another, where the program puts the calls in order, by a lock, say. Two zones are independent.
- *  - malloc, realloc and free of the program are those of one C library, and each thread that makes calls may call them.
+ *  - malloc, realloc and free of the program are those of one C library, and each thread that makes calls may call
+ *    them.
  *  - The ranges of mh_wake_written have every byte that was written since the zone fell asleep.
  *
- * What is tested, and answered with a code that changes nothing: any call before mh_make_zone, after mh_end_zone or while
- * the zone sleeps, mh_make_zone on a zone that is there, mh_end_zone twice (paramErr); any number as a handle, a pointer, a
- * size, an offset or an address, live or not, but not as a range of mh_wake_written. A zone that is forgotten keeps its
- * memory: end it. All memory of the host is taken by the call that makes a zone.
+ * What is tested, and answered with a code that changes nothing: any call before mh_make_zone, after mh_end_zone or
+ * while the zone sleeps, mh_make_zone on a zone that is there, mh_end_zone twice (paramErr); any number as a handle, a
+ * pointer, a size, an offset or an address, live or not, but not as a range of mh_wake_written. A zone that is
+ * forgotten keeps its memory: end it. All memory of the host is taken by the call that makes a zone.
  *
- * MACHEAP_VERSION is the version of both headers. While it begins with 0, the next one may change what is here: a program
- * is then built anew.
+ * MACHEAP_VERSION is the version of both headers. While it begins with 0, the next one may change what is here: a
+ * program is then built anew.
  */
 #ifndef MACHEAP_H
 #define MACHEAP_H
@@ -63,15 +64,15 @@ typedef struct MhZone {
  * of 4: size 1024 at least, limit 1048576 at most and size or at least 16 more, base $1000 at least, base + limit
  * $1000000 at most. `mode` is 24 or 32: blocks with headers of 8 or of 12 bytes. Else paramErr. */
 MhErr mh_make_zone(MhZone *zone, uint32_t base, uint32_t size, uint32_t limit, uint32_t mode);
-/* The same for a large zone. Only two bounds are other ones: limit 1073741824 at most, and base + limit $1000000 at most in
- * mode 24, whose headers and master pointers have no more bits, and below 2^32 in mode 32. The host gives twice the
- * limit's bytes, with the index; most of it is touched only as blocks come to lie there. */
+/* The same for a large zone. Only two bounds are other ones: limit 1073741824 at most, and base + limit $1000000 at
+ * most in mode 24, whose headers and master pointers have no more bits, and below 2^32 in mode 32. The host gives twice
+ * the limit's bytes, with the index; most of it is touched only as blocks come to lie there. */
 MhErr mh_make_zone_large(MhZone *zone, uint32_t base, uint32_t size, uint32_t limit, uint32_t mode);
 /* Ends a zone. It is MH_NO_ZONE then, and may be made again. */
 MhErr mh_end_zone(MhZone *zone);
 
-/* Blocks that come and go. A handle is the address of a master pointer, a pointer that of its block's contents; both are
- * numbers of the zone's own addresses, and no pointers of C. New bytes are zero. */
+/* Blocks that come and go. A handle is the address of a master pointer, a pointer that of its block's contents; both
+ * are numbers of the zone's own addresses, and no pointers of C. New bytes are zero. */
 MhErr mh_new_handle(MhZone *zone, uint32_t size, uint32_t *handle);
 MhErr mh_new_empty_handle(MhZone *zone, uint32_t *handle);
 MhErr mh_new_ptr(MhZone *zone, uint32_t size, uint32_t *pointer);
@@ -103,9 +104,9 @@ MhErr mh_move_hhi(MhZone *zone, uint32_t handle);
 MhErr mh_hlock_hi(MhZone *zone, uint32_t handle);
 MhErr mh_recover_handle(MhZone *zone, uint32_t address, uint32_t *handle);
 
-/* Room. mh_compact_mem gives the largest free block then, mh_max_mem that and the bytes by which the zone may still grow,
- * mh_purge_space the bytes that purging would free in all and in one block, mh_max_block those that moving would bring
- * together, mh_free_mem all free ones. */
+/* Room. mh_compact_mem gives the largest free block then, mh_max_mem that and the bytes by which the zone may still
+ * grow, mh_purge_space the bytes that purging would free in all and in one block, mh_max_block those that moving would
+ * bring together, mh_free_mem all free ones. */
 MhErr mh_reserve_mem(MhZone *zone, uint32_t size);
 MhErr mh_more_masters(MhZone *zone);
 MhErr mh_compact_mem(MhZone *zone, uint32_t size, uint32_t *number);
@@ -116,8 +117,9 @@ MhErr mh_max_block(MhZone *zone, uint32_t *number);
 MhErr mh_free_mem(MhZone *zone, uint32_t *number);
 MhErr mh_max_appl_zone(MhZone *zone);
 
-/* Bytes from block to block. mh_hand_and_hand appends the first handle's bytes to the second's. mh_block_move copies `count`
- * bytes of `from`, from `start` on, over those of `to` from `offset` on; blocks are a handle's or a pointer's. */
+/* Bytes from block to block. mh_hand_and_hand appends the first handle's bytes to the second's. mh_block_move copies
+ * `count` bytes of `from`, from `start` on, over those of `to` from `offset` on; blocks are a handle's or a
+ * pointer's. */
 MhErr mh_hand_to_hand(MhZone *zone, uint32_t handle, uint32_t *new_handle);
 MhErr mh_ptr_to_hand(MhZone *zone, uint32_t pointer, uint32_t count, uint32_t *handle);
 MhErr mh_ptr_to_xhand(MhZone *zone, uint32_t pointer, uint32_t handle, uint32_t count);
@@ -125,10 +127,11 @@ MhErr mh_ptr_and_hand(MhZone *zone, uint32_t pointer, uint32_t handle, uint32_t 
 MhErr mh_hand_and_hand(MhZone *zone, uint32_t one, uint32_t other);
 MhErr mh_block_move(MhZone *zone, uint32_t from, uint32_t start, uint32_t to, uint32_t offset, uint32_t count);
 
-/* Bytes from outside the zone into a block: `count` bytes of C, 8388608 at most, or paramErr once the handle has been tested. These
- * calls do with them what PtrToHand, PtrToXHand and PtrAndHand do with those of a pointer: mh_new_handle_of makes a new handle whose
- * block has them, mh_set_handle_to gives a handle these in place of its own, and mh_append adds them to its own. They don't lie in
- * the zone, nor in the MhMemory that it is awake in: of a block, copy them out with mh_peek first. */
+/* Bytes from outside the zone into a block: `count` bytes of C, 8388608 at most, or paramErr once the handle has been
+ * tested. These calls do with them what PtrToHand, PtrToXHand and PtrAndHand do with those of a pointer:
+ * mh_new_handle_of makes a new handle whose block has them, mh_set_handle_to gives a handle these in place of its own,
+ * and mh_append adds them to its own. They don't lie in the zone, nor in the MhMemory that it is awake in: of a block,
+ * copy them out with mh_peek first. */
 MhErr mh_new_handle_of(MhZone *zone, const uint8_t *bytes, size_t count, uint32_t *handle);
 MhErr mh_set_handle_to(MhZone *zone, uint32_t handle, const uint8_t *bytes, size_t count);
 MhErr mh_append(MhZone *zone, uint32_t handle, const uint8_t *bytes, size_t count);
@@ -138,13 +141,13 @@ MhErr mh_append(MhZone *zone, uint32_t handle, const uint8_t *bytes, size_t coun
 MhErr mh_peek(MhZone *zone, uint32_t block, uint32_t offset, uint8_t *bytes, size_t count);
 MhErr mh_poke(MhZone *zone, uint32_t block, uint32_t offset, const uint8_t *bytes, size_t count);
 
-/* Loans. mh_lend lends a pointer's block, or that of a locked handle: then its bytes are C's, until mh_return. The block
- * stays where it is, and each call that would read, write, free, resize or unlock it answers memLockedErr. C reads and
- * writes the bytes by copies, or itself through a window: mh_window gives the address of the first of them and how many there
- * are. The window is C's until mh_return of the block or mh_end_zone, whatever other calls are made, and while the zone sleeps,
- * too: where it wakes in another place, ask mh_window again. mh_lent_peek and mh_lent_poke reach the same bytes. paramErr for an
- * unlocked handle, for a ninth loan, and of the other four calls for a block that isn't lent. mh_end_zone takes back what is
- * lent. */
+/* Loans. mh_lend lends a pointer's block, or that of a locked handle: then its bytes are C's, until mh_return. The
+ * block stays where it is, and each call that would read, write, free, resize or unlock it answers memLockedErr. C
+ * reads and writes the bytes by copies, or itself through a window: mh_window gives the address of the first of them
+ * and how many there are. The window is C's until mh_return of the block or mh_end_zone, whatever other calls are made,
+ * and while the zone sleeps, too: where it wakes in another place, ask mh_window again. mh_lent_peek and mh_lent_poke
+ * reach the same bytes. paramErr for an unlocked handle, for a ninth loan, and of the other four calls for a block that
+ * isn't lent. mh_end_zone takes back what is lent. */
 MhErr mh_lend(MhZone *zone, uint32_t block);
 MhErr mh_lent_peek(MhZone *zone, uint32_t block, uint32_t offset, uint8_t *bytes, size_t count);
 MhErr mh_lent_poke(MhZone *zone, uint32_t block, uint32_t offset, const uint8_t *bytes, size_t count);
@@ -168,28 +171,30 @@ typedef struct MhBlock {
 } MhBlock;
 MhErr mh_first_block(MhZone *zone, uint32_t *at);
 MhErr mh_block(MhZone *zone, uint32_t at, MhBlock *block);
-/* The block that has the byte at an address, in its header or after it; memWZErr where none has. Its header is the first 8
- * bytes of a block, and 12 in mode 32, and its contents begin after them. */
+/* The block that has the byte at an address, in its header or after it; memWZErr where none has. Its header is the
+ * first 8 bytes of a block, and 12 in mode 32, and its contents begin after them. */
 MhErr mh_holder(MhZone *zone, uint32_t at, MhBlock *block);
 
-/* The bytes of the zone, from its start to the end of its last block: its header, and its blocks with their headers, master
- * pointers and contents. mh_image_size says how many there are, and mh_image copies just so many; paramErr where count is another
- * number. memLockedErr while a block is lent. */
+/* The bytes of the zone, from its start to the end of its last block: its header, and its blocks with their headers,
+ * master pointers and contents. mh_image_size says how many there are, and mh_image copies just so many; paramErr where
+ * count is another number. memLockedErr while a block is lent. */
 MhErr mh_image_size(MhZone *zone, size_t *size);
 MhErr mh_image(MhZone *zone, uint8_t *bytes, size_t count);
-/* Makes a zone of such bytes, whoever wrote them: mh_image and mh_make_zone_of are a save state. Keep the bytes, and the base, the limit
- * and the mode that the zone was made with; its size is how many bytes there are. Loans are returned first; queued answers, and what
- * was asked, aren't kept. The zone is made exactly if the bytes are those of a sound zone of these sizes, byte for byte as
- * docs/DIFFERENCES.md has them ("The zone's bytes"): its header has its end, its free bytes, its first free master pointer, its
- * lowest free block and 64 at 20, and else zeros; its blocks fill it, none is larger than its contents need, and no two free ones are
- * neighbours; a handle's block and its master pointer lead to each other; free master pointers follow one another. Else the answer is
- * MH_DAMAGED. paramErr where count isn't size, for sizes that mh_make_zone_large doesn't take, and where a zone is there;
- * memFullErr where the host has no memory. */
-MhErr mh_make_zone_of(MhZone *zone, uint32_t base, uint32_t size, uint32_t limit, uint32_t mode, const uint8_t *bytes, size_t count);
+/* Makes a zone of such bytes, whoever wrote them: mh_image and mh_make_zone_of are a save state. Keep the bytes, and
+ * the base, the limit and the mode that the zone was made with; its size is how many bytes there are. Loans are
+ * returned first; queued answers, and what was asked, aren't kept. The zone is made exactly if the bytes are those of a
+ * sound zone of these sizes, byte for byte as docs/DIFFERENCES.md has them ("The zone's bytes"): its header has its
+ * end, its free bytes, its first free master pointer, its lowest free block and 64 at 20, and else zeros; its blocks
+ * fill it, none is larger than its contents need, and no two free ones are neighbours; a handle's block and its master
+ * pointer lead to each other; free master pointers follow one another. Else the answer is MH_DAMAGED. paramErr where
+ * count isn't size, for sizes that mh_make_zone_large doesn't take, and where a zone is there; memFullErr where the
+ * host has no memory. */
+MhErr mh_make_zone_of(MhZone *zone, uint32_t base, uint32_t size, uint32_t limit, uint32_t mode, const uint8_t *bytes,
+                      size_t count);
 
-/* The grow-zone procedure. A call that finds no room asks it for bytes. It answers here what was queued before the call,
- * first in, first out; with none left there is no procedure. An answer's calls are carried out in order, those on a
- * block of the running call skipped; then a value that isn't 0 has the call try once more, 16 times at most. Sixteen
+/* The grow-zone procedure. A call that finds no room asks it for bytes. It answers here what was queued before the
+ * call, first in, first out; with none left there is no procedure. An answer's calls are carried out in order, those on
+ * a block of the running call skipped; then a value that isn't 0 has the call try once more, 16 times at most. Sixteen
  * answers may wait; paramErr for the next, and for a kind that there isn't. */
 enum { MH_NO_CALL = 0, MH_DISPOSE_HANDLE = 1, MH_DISPOSE_PTR = 2, MH_EMPTY_HANDLE = 3 };
 typedef struct MhRelease {
@@ -220,8 +225,8 @@ MhErr mh_asked(MhZone *zone, uint32_t *count);
 MhErr mh_ask(MhZone *zone, uint32_t index, MhAsk *ask);
 MhErr mh_carried(MhZone *zone, uint32_t index, uint32_t place, MhCarried *carried);
 
-/* A zone in memory of the host: the RAM of an emulator, whose guest writes there as it likes. The zone sleeps while the guest
- * runs, and wakes in these bytes for calls:
+/* A zone in memory of the host: the RAM of an emulator, whose guest writes there as it likes. The zone sleeps while the
+ * guest runs, and wakes in these bytes for calls:
  *
  *     MhZone zone = MH_NO_ZONE;
  *     MhAsleep asleep = MH_NO_ASLEEP;
@@ -233,21 +238,22 @@ MhErr mh_carried(MhZone *zone, uint32_t index, uint32_t place, MhCarried *carrie
  *     mh_sleep(&zone, &asleep, &memory);
  *     ..                                    the guest runs, and reads ram[handle ..]
  *
- * An MhMemory is bytes of the host: it fills one in, with `here` true. While a zone is awake in them it is {NULL, 0, false}: then
- * the bytes are the library's, and the host neither reads nor writes them but by windows, until mh_sleep gives them back. While the zone
- * sleeps the library has no pointer into them, and reads and writes none of them. At each mh_wake they may be in another place. No
- * MhMemory is filled in with bytes that another zone is awake in.
+ * An MhMemory is bytes of the host: it fills one in, with `here` true. While a zone is awake in them it is {NULL, 0,
+ * false}: then the bytes are the library's, and the host neither reads nor writes them but by windows, until mh_sleep
+ * gives them back. While the zone sleeps the library has no pointer into them, and reads and writes none of them. At
+ * each mh_wake they may be in another place. No MhMemory is filled in with bytes that another zone is awake in.
  *
- * For any bytes whatever, mh_wake returns, and nothing outside them is touched. Where they have the zone's structure it is awake
- * in them just as they are: with their contents, and in mode 24 with the lock, purge and resource bits that they have in the master
- * pointers of handles with a block. The structure is all else that the zone says of itself: its header, the headers of its blocks,
- * and where master pointers lead. Where one of these bytes isn't as the library left it, or as it was attached, the answer is
- * MH_DAMAGED, and all stays: no byte has changed, and the zone sleeps on. It wakes once the bytes are right again: mh_check says
- * which byte is wrong, and mh_repair writes the structure anew.
+ * For any bytes whatever, mh_wake returns, and nothing outside them is touched. Where they have the zone's structure it
+ * is awake in them just as they are: with their contents, and in mode 24 with the lock, purge and resource bits that
+ * they have in the master pointers of handles with a block. The structure is all else that the zone says of itself: its
+ * header, the headers of its blocks, and where master pointers lead. Where one of these bytes isn't as the library left
+ * it, or as it was attached, the answer is MH_DAMAGED, and all stays: no byte has changed, and the zone sleeps on. It
+ * wakes once the bytes are right again: mh_check says which byte is wrong, and mh_repair writes the structure anew.
  *
- * A block that is lent stays lent while the zone sleeps: its bytes are C's and the guest's then, and it is lent again when the zone
- * wakes, with the bytes that it has. In mode 24 a guest can clear the lock bit of a lent handle. Then the answer is memLockedErr,
- * and all stays as for MH_DAMAGED: the zone wakes once the bit is set again, by the host or by mh_repair.
+ * A block that is lent stays lent while the zone sleeps: its bytes are C's and the guest's then, and it is lent again
+ * when the zone wakes, with the bytes that it has. In mode 24 a guest can clear the lock bit of a lent handle. Then the
+ * answer is memLockedErr, and all stays as for MH_DAMAGED: the zone wakes once the bit is set again, by the host or by
+ * mh_repair.
  *
  * A zone asleep is a few words in an MhAsleep, and as much memory of the host as an MhZone has. */
 typedef struct MhAsleep {
@@ -261,55 +267,59 @@ typedef struct MhMemory {
 
 #define MH_NO_ASLEEP {MH_NO_ZONE}
 
-/* Makes a zone that sleeps, of the sizes that mh_make_zone_large takes, and writes its structure into the bytes, as many as its
- * limit; no other of them changes. paramErr where they are more or fewer or gone, where a zone sleeps there, and for sizes that there aren't. */
+/* Makes a zone that sleeps, of the sizes that mh_make_zone_large takes, and writes its structure into the bytes, as
+ * many as its limit; no other of them changes. paramErr where they are more or fewer or gone, where a zone sleeps
+ * there, and for sizes that there aren't. */
 MhErr mh_make_zone_at(MhAsleep *asleep, MhMemory *memory, uint32_t base, uint32_t size, uint32_t limit, uint32_t mode);
-/* Makes a zone that sleeps of the bytes as they are, whoever wrote them: of memory that was saved, or of a zone that this library made
- * in another program. No byte changes. `size` is how large the zone is now, since it may have grown: mh_image_size says it of a zone
- * awake, and so do the first four bytes, which have its end, less base. The zone is made exactly if the bytes are, up to its size,
- * those of a sound zone of these sizes, as for mh_make_zone_of; else the answer is MH_DAMAGED. For any bytes whatever it returns,
- * and nothing outside them is touched. paramErr and memFullErr as for mh_make_zone_at.
+/* Makes a zone that sleeps of the bytes as they are, whoever wrote them: of memory that was saved, or of a zone that
+ * this library made in another program. No byte changes. `size` is how large the zone is now, since it may have grown:
+ * mh_image_size says it of a zone awake, and so do the first four bytes, which have its end, less base. The zone is
+ * made exactly if the bytes are, up to its size, those of a sound zone of these sizes, as for mh_make_zone_of; else the
+ * answer is MH_DAMAGED. For any bytes whatever it returns, and nothing outside them is touched. paramErr and memFullErr
+ * as for mh_make_zone_at.
  *
- * A state to be saved has all loans returned, isn't taken while the guest's grow-zone procedure runs, and mh_check finds no fault in
- * it. Once memory of another moment is loaded, the zone that slept over it is ended (mh_end_asleep), and the bytes are
- * attached: mh_repair would write the structure that this zone knows over what was loaded. */
+ * A state to be saved has all loans returned, isn't taken while the guest's grow-zone procedure runs, and mh_check
+ * finds no fault in it. Once memory of another moment is loaded, the zone that slept over it is ended (mh_end_asleep),
+ * and the bytes are attached: mh_repair would write the structure that this zone knows over what was loaded. */
 MhErr mh_attach(MhAsleep *asleep, MhMemory *memory, uint32_t base, uint32_t size, uint32_t limit, uint32_t mode);
-/* Wakes it, with what is lent. paramErr where `zone` is there, where none sleeps, and where the bytes are gone or aren't as many as
- * its limit. MH_DAMAGED where they haven't the zone's structure, memLockedErr where they have, and a handle that is lent isn't locked. */
+/* Wakes it, with what is lent. paramErr where `zone` is there, where none sleeps, and where the bytes are gone or
+ * aren't as many as its limit. MH_DAMAGED where they haven't the zone's structure, memLockedErr where they have, and a
+ * handle that is lent isn't locked. */
 MhErr mh_wake(MhZone *zone, MhAsleep *asleep, MhMemory *memory);
-/* Wakes it as mh_wake does, with the same answers, and compares only what was written: the zone's header, and the headers of blocks and the
- * master pointers of blocks that have a byte in a range. `written` has `count` ranges, each of so many bytes from an offset from the
- * zone's start on. They may overlap and reach beyond the zone, and more bytes may be in them than were written. No ranges at all say
- * that nothing was written. Bytes that were copied to another place as they were count as not written.
+/* Wakes it as mh_wake does, with the same answers, and compares only what was written: the zone's header, and the
+ * headers of blocks and the master pointers of blocks that have a byte in a range. `written` has `count` ranges, each
+ * of so many bytes from an offset from the zone's start on. They may overlap and reach beyond the zone, and more bytes
+ * may be in them than were written. No ranges at all say that nothing was written. Bytes that were copied to another
+ * place as they were count as not written.
  *
- * WHO CALLS IT PROMISES THAT SINCE THE ZONE FELL ASLEEP, OR WAS MADE, ATTACHED OR REPAIRED IN ITS SLEEP, NO BYTE WAS WRITTEN BUT IN
- * THESE RANGES: by the guest, by the host, or by a device. WHERE A BYTE WAS WRITTEN ELSEWHERE THE LIBRARY'S BEHAVIOUR IS UNDEFINED:
- * it may write outside the zone. A host that can't be sure calls mh_wake. After a refusal the zone has slept on: the next ranges
- * have what was written before it, too. */
+ * WHO CALLS IT PROMISES THAT SINCE THE ZONE FELL ASLEEP, OR WAS MADE, ATTACHED OR REPAIRED IN ITS SLEEP, NO BYTE WAS
+ * WRITTEN BUT IN THESE RANGES: by the guest, by the host, or by a device. WHERE A BYTE WAS WRITTEN ELSEWHERE THE
+ * LIBRARY'S BEHAVIOUR IS UNDEFINED: it may write outside the zone. A host that can't be sure calls mh_wake. After a
+ * refusal the zone has slept on: the next ranges have what was written before it, too. */
 typedef struct MhWritten {
     uint32_t from; /* an offset from the zone's start */
     uint32_t count;
 } MhWritten;
 MhErr mh_wake_written(MhZone *zone, MhAsleep *asleep, MhMemory *memory, const MhWritten *written, size_t count);
-/* Puts it to sleep. paramErr for a zone that isn't in bytes of the host, where another zone sleeps in `asleep`, and where `memory`
- * has bytes. What is lent stays lent, and queued answers, and what was asked, stay. */
+/* Puts it to sleep. paramErr for a zone that isn't in bytes of the host, where another zone sleeps in `asleep`, and
+ * where `memory` has bytes. What is lent stays lent, and queued answers, and what was asked, stay. */
 MhErr mh_sleep(MhZone *zone, MhAsleep *asleep, MhMemory *memory);
-/* Looks for damage, and changes no byte. If the bytes have the zone's structure the answer is 0. Else it is MH_DAMAGED, and the
- * fault is the first byte that is wrong: some bytes with the structure agree with these up to it, and none with it. `part` is what the
- * byte is in. paramErr where none sleeps, and where the bytes are gone or aren't as many as its limit. After mh_repair and mh_wake,
- * mh_holder of base + offset finds the block. */
+/* Looks for damage, and changes no byte. If the bytes have the zone's structure the answer is 0. Else it is MH_DAMAGED,
+ * and the fault is the first byte that is wrong: some bytes with the structure agree with these up to it, and none with
+ * it. `part` is what the byte is in. paramErr where none sleeps, and where the bytes are gone or aren't as many as its
+ * limit. After mh_repair and mh_wake, mh_holder of base + offset finds the block. */
 enum { MH_ZONE_HEADER = 1, MH_BLOCK_HEADER = 2, MH_MASTER_POINTER = 3 };
 typedef struct MhFault {
     uint32_t offset; /* from the zone's start */
     uint32_t part;   /* MH_ZONE_HEADER, MH_BLOCK_HEADER or MH_MASTER_POINTER */
 } MhFault;
 MhErr mh_check(MhAsleep *asleep, MhMemory *memory, MhFault *fault);
-/* Writes the structure again, with the flags that handles had when the zone fell asleep or was attached: in mode 24 lock bits that the
- * guest has set since are undone. No other byte changes, so contents are as the guest left them, and the zone wakes. paramErr as
- * for mh_check. */
+/* Writes the structure again, with the flags that handles had when the zone fell asleep or was attached: in mode 24
+ * lock bits that the guest has set since are undone. No other byte changes, so contents are as the guest left them, and
+ * the zone wakes. paramErr as for mh_check. */
 MhErr mh_repair(MhAsleep *asleep, MhMemory *memory);
-/* Ends it, and what is lent is C's no more. The bytes are as they are. (mh_end_zone of a zone that is awake in bytes of the host ends it, too, and these are never
- * given back: put it to sleep first.) */
+/* Ends it, and what is lent is C's no more. The bytes are as they are. (mh_end_zone of a zone that is awake in bytes of
+ * the host ends it, too, and these are never given back: put it to sleep first.) */
 MhErr mh_end_asleep(MhAsleep *asleep);
 
 #ifdef __cplusplus

@@ -74,8 +74,8 @@ MhErr mr_fork(MrFiles *files, uint32_t file, uint8_t *fork, size_t length);
 
 /* Resources. `kind` is a resource type as a number, its first letter in the highest byte: 0x54455854 for 'TEXT'.
  * mr_get_resource looks in the current file and then in those opened before it; those whose names have a 1 look in
- * the current file alone. mr_get_ind_resource looks in all open files, whichever is the current one: an index from 1 on counts those of
- * the file that was opened last, then those of the one opened before it, and so on. */
+ * the current file alone. mr_get_ind_resource looks in all open files, whichever is the current one: an index from 1 on
+ * counts those of the file that was opened last, then those of the one opened before it, and so on. */
 MhErr mr_get_resource(MrFiles *files, MhZone *zone, uint32_t kind, int16_t id, uint32_t *handle);
 MhErr mr_get1_resource(MrFiles *files, MhZone *zone, uint32_t kind, int16_t id, uint32_t *handle);
 MhErr mr_get1_ind_resource(MrFiles *files, MhZone *zone, uint32_t kind, uint32_t index, uint32_t *handle);
@@ -84,27 +84,32 @@ MhErr mr_load_resource(MrFiles *files, MhZone *zone, uint32_t handle);
 MhErr mr_set_res_load(MrFiles *files, MhZone *zone, uint32_t load);
 MhErr mr_release_resource(MrFiles *files, MhZone *zone, uint32_t handle);
 MhErr mr_detach_resource(MrFiles *files, MhZone *zone, uint32_t handle);
-/* The first resource of a type with a name, of so many bytes of MacRoman, in the order of that search. Case is ignored, of a to z and
- * of the letters with capitals in the first Macintosh's characters: $8A and $80 are the same. Diacritical marks count, and $87 and $E7
- * aren't the same. No bytes are the name of a resource whose name is there and empty. */
-MhErr mr_get_named_resource(MrFiles *files, MhZone *zone, uint32_t kind, const uint8_t *name, size_t length, uint32_t *handle);
-MhErr mr_get1_named_resource(MrFiles *files, MhZone *zone, uint32_t kind, const uint8_t *name, size_t length, uint32_t *handle);
+/* The first resource of a type with a name, of so many bytes of MacRoman, in the order of that search. Case is ignored,
+ * of a to z and of the letters with capitals in the first Macintosh's characters: $8A and $80 are the same. Diacritical
+ * marks count, and $87 and $E7 aren't the same. No bytes are the name of a resource whose name is there and empty. */
+MhErr mr_get_named_resource(MrFiles *files, MhZone *zone, uint32_t kind, const uint8_t *name, size_t length,
+                            uint32_t *handle);
+MhErr mr_get1_named_resource(MrFiles *files, MhZone *zone, uint32_t kind, const uint8_t *name, size_t length,
+                             uint32_t *handle);
 
-/* ReadPartialResource: reads so many bytes that a resource has in its fork now, from an offset on, whatever the block of its handle has: one
- * that was added and isn't written yet has none. Nothing is loaded, and the zone stays. It is resourceInMemory where the bytes were read and
- * the handle has a block, and inputOutOfBounds where the resource doesn't have them all in its fork. Where none were read `bytes` stays;
- * after ioErr it may have any. */
-MhErr mr_read_partial_resource(MrFiles *files, MhZone *zone, uint32_t handle, uint32_t offset, uint8_t *bytes, size_t count);
-/* SetResourceSize and WritePartialResource: other bytes that a resource has in its fork, which is written at once: mr_fork returns the new
- * one. The first sets how many bytes it has there, of which those after its old end are zeros. The second writes `bytes` over those from an
- * offset on, and past its end if they go there: it is inputOutOfBounds where the offset is above its size there, which mr_size_resource
- * returns. The block of the handle stays, and so do the resource's attributes and all of the zone: a resource that is marked as changed is
- * written from its block at the next update. resourceInMemory says, of the second only, that the bytes were written and the handle has a
- * block. Other resources have in the new fork the bytes that they had there, and the attributes, ids and names that they have now, as after
- * mr_write_resource. Where no fork can hold them all it is dskFulErr; where the host has no memory it is memFullErr, and nothing has
- * changed; or ioErr, in the write, and then the file is closed. */
+/* ReadPartialResource: reads so many bytes that a resource has in its fork now, from an offset on, whatever the block
+ * of its handle has: one that was added and isn't written yet has none. Nothing is loaded, and the zone stays. It is
+ * resourceInMemory where the bytes were read and the handle has a block, and inputOutOfBounds where the resource
+ * doesn't have them all in its fork. Where none were read `bytes` stays; after ioErr it may have any. */
+MhErr mr_read_partial_resource(MrFiles *files, MhZone *zone, uint32_t handle, uint32_t offset, uint8_t *bytes,
+                               size_t count);
+/* SetResourceSize and WritePartialResource: other bytes that a resource has in its fork, which is written at once:
+ * mr_fork returns the new one. The first sets how many bytes it has there, of which those after its old end are zeros.
+ * The second writes `bytes` over those from an offset on, and past its end if they go there: it is inputOutOfBounds
+ * where the offset is above its size there, which mr_size_resource returns. The block of the handle stays, and so do
+ * the resource's attributes and all of the zone: a resource that is marked as changed is written from its block at the
+ * next update. resourceInMemory says, of the second only, that the bytes were written and the handle has a block. Other
+ * resources have in the new fork the bytes that they had there, and the attributes, ids and names that they have now,
+ * as after mr_write_resource. Where no fork can hold them all it is dskFulErr; where the host has no memory it is
+ * memFullErr, and nothing has changed; or ioErr, in the write, and then the file is closed. */
 MhErr mr_set_resource_size(MrFiles *files, MhZone *zone, uint32_t handle, uint32_t size);
-MhErr mr_write_partial_resource(MrFiles *files, MhZone *zone, uint32_t handle, uint32_t offset, const uint8_t *bytes, size_t count);
+MhErr mr_write_partial_resource(MrFiles *files, MhZone *zone, uint32_t handle, uint32_t offset, const uint8_t *bytes,
+                                size_t count);
 
 /* What the files say. */
 MhErr mr_get_res_attrs(MrFiles *files, MhZone *zone, uint32_t handle, uint32_t *number);
@@ -116,9 +121,10 @@ MhErr mr_count1_resources(MrFiles *files, MhZone *zone, uint32_t kind, uint32_t 
 MhErr mr_cur_res_file(MrFiles *files, MhZone *zone, uint32_t *number);
 MhErr mr_use_res_file(MrFiles *files, MhZone *zone, uint32_t file);
 MhErr mr_get1_ind_type(MrFiles *files, MhZone *zone, uint32_t index, uint32_t *kind);
-/* As mr_unique1_id, mr_count1_types, mr_count1_resources and mr_get1_ind_type, of all open files together, whichever is the current one: a
- * type that several have counts once, and types of the file that was opened last come first, then those that only earlier files have. The
- * id is the least from 128 on that no resource of the type has in any of them. It is addResFailed where none up to 32,767 is left. */
+/* As mr_unique1_id, mr_count1_types, mr_count1_resources and mr_get1_ind_type, of all open files together, whichever is
+ * the current one: a type that several have counts once, and types of the file that was opened last come first, then
+ * those that only earlier files have. The id is the least from 128 on that no resource of the type has in any of them.
+ * It is addResFailed where none up to 32,767 is left. */
 MhErr mr_unique_id(MrFiles *files, MhZone *zone, uint32_t kind, uint32_t *number);
 MhErr mr_count_types(MrFiles *files, MhZone *zone, uint32_t *number);
 MhErr mr_count_resources(MrFiles *files, MhZone *zone, uint32_t kind, uint32_t *number);
@@ -132,8 +138,8 @@ typedef struct MrInfo {
 MhErr mr_get_res_info(MrFiles *files, MhZone *zone, uint32_t handle, MrInfo *info, uint8_t *name, size_t room);
 
 /* Changes. Attributes are one byte. mr_add_resource makes a handle's block a resource of the current file, without a
- * name where `length` is 0. mr_set_res_info gives a resource another id, and another name, unless `length` is 0; the next
- * update of its file writes both. It is paramErr where `length` is above 255. */
+ * name where `length` is 0. mr_set_res_info gives a resource another id, and another name, unless `length` is 0; the
+ * next update of its file writes both. It is paramErr where `length` is above 255. */
 MhErr mr_changed_resource(MrFiles *files, MhZone *zone, uint32_t handle);
 MhErr mr_set_res_attrs(MrFiles *files, MhZone *zone, uint32_t handle, uint32_t attributes);
 MhErr mr_add_resource(MrFiles *files, MhZone *zone, uint32_t handle, uint32_t kind, int16_t id, const uint8_t *name,
