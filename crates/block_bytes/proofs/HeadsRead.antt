@@ -1,15 +1,24 @@
 -- The header of a possible block that bytes have is the one that is read there.
-use Rattle.std.proofs.Common.{◌≡◌, ℕ, ◌<◌, ◌^◌, ◌/◌, ◌%◌, List, ◌++◌, take, drop, sym, ap, ◌∙◌, arith, take-append-drop}
+use Rattle.std.proofs.Common.{◌≡◌, ℕ, ◌+◌, ◌<◌, ◌^◌, ◌/◌, ◌%◌, List, ◌++◌, take, drop, sym, ap, ◌∙◌, arith, take-append-drop, drop-drop}
 use Rattle.std.proofs.lemmas.List.{drop-take}
 use Rattle.byteorder.specs.Endian.{big_number}
 use Rattle.byteorder.specs.Numbers.{big_from-take}
 use Rattle.mac_base.specs.declared.block.HeadKind.{HeadKind}
 use Rattle.mac_base.specs.declared.block.HeadKind.TheVariants.{Bits24, Bits32}
 use Rattle.mac_base.specs.HeadKind.{head_size, address_end}
+use Rattle.raw_region.specs.Bytes.{part}
 use Rattle.block_bytes.specs.declared.header.Header.{Header}
 use Rattle.block_bytes.specs.Adopting.{IsHeadAt}
 use Rattle.block_bytes.specs.Head.{head_bytes, header_in, role_in}
 use Rattle.block_bytes.proofs.Heads.{header_in-head_bytes}
+
+-- a word at an offset behind a place
+pub word-at : (xs : List ℕ) (at k n : ℕ) → n ≡ big_number 4 (part xs (at + k) 4) → n ≡ big_number 4 (drop k (drop at xs))
+word-at xs at k n is = is ∙ big_from-take 0 4 4 (drop (at + k) xs) (omega arith) ∙ ap (big_number 4) (sym (drop-drop k at xs))
+
+-- the first
+pub first-at : (xs : List ℕ) (at n : ℕ) → n ≡ big_number 4 (part xs at 4) → n ≡ big_number 4 (drop at xs)
+first-at xs at n is = is ∙ big_from-take 0 4 4 (drop at xs) (omega arith)
 
 -- the bytes from a header on
 pub from-head : (heads : HeadKind) (base : ℕ) (bytes : List ℕ) (at left : ℕ) (h : Header) → IsHeadAt heads base bytes at left h → drop at bytes ≡ head_bytes heads base h ++ drop (head_size heads) (drop at bytes)

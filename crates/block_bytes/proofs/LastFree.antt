@@ -1,5 +1,5 @@
 -- The last free block before an address, by the index.
-use Rattle.std.proofs.Common.{◌≡◌, ℕ, zero, suc, ◌+◌, ◌-◌, ◌*◌, ◌/◌, ◌<◌, ◌≤◌, List, [], ◌∷◌, ◌++◌, length, slice_index, refl, ap, ◌∙◌, ⊎_elim, arith, length-append, IsTrue, subst}
+use Rattle.std.proofs.Common.{◌≡◌, ℕ, zero, suc, inl, inr, ◌+◌, ◌-◌, ◌*◌, ◌/◌, ◌<◌, ◌≤◌, List, [], ◌∷◌, ◌++◌, length, slice_index, refl, ap, ◌∙◌, ⊎_elim, arith, length-append, IsTrue, subst}
 use Rattle.std.specs.List.{list_all}
 use Rattle.std.proofs.lemmas.Bool.{cases_lt}
 use Rattle.std.proofs.lemmas.List.{get_or_append_left, get_or-append_right}
@@ -14,7 +14,7 @@ use Rattle.block_bytes.specs.Starts.{marks_of}
 use Rattle.block_bytes.proofs.ReadBlocks.{and-true, IsPossible, IsPossible-from, smallest-block}
 use Rattle.block_bytes.proofs.Starts.{unmarked, length-unmarked, unmarked-at, length-marks_of}
 use Rattle.block_bytes.proofs.LowestFree.{large-free}
-use Rattle.block_bytes.proofs.NextFree.{mark-behind, used-all, numbers-before, numbers-behind, index-split, are-split}
+use Rattle.block_bytes.proofs.NextFree.{mark-behind, mark-further, mark-within, used-all, numbers-before, numbers-behind, index-split, are-split}
 
 -- the last free one of the blocks behind the first is that of all
 last-more : (heads : HeadKind) (from : ℕ) (b : RawBlock) (bs : List RawBlock) (k at : ℕ) → at ≡ from + size_of heads b + 4 * k
@@ -34,21 +34,13 @@ last-behind : (heads : HeadKind) (from : ℕ) (b : RawBlock) (bs : List RawBlock
     → ((k : ℕ) → k < length (marks_of heads bs) → 3 ≤ slice_index (marks_of heads bs) k → ((i : ℕ) → k < i → i < length (marks_of heads bs) → slice_index (marks_of heads bs) i < 3) → LastFree heads bs (from + size_of heads b) (from + size_of heads b + 4 * k))
     → suc j < length (marks_of heads (b ∷ bs)) → 3 ≤ slice_index (marks_of heads (b ∷ bs)) (suc j) → ((i : ℕ) → suc j < i → i < length (marks_of heads (b ∷ bs)) → slice_index (marks_of heads (b ∷ bs)) i < 3)
     → LastFree heads (b ∷ bs) from (from + 4 * suc j)
-last-behind heads from b bs j p long others inside large low = ⊎_elim within behind (cases_lt j n)
-  where
-    n : ℕ
-    n = size_of heads b / 4 - 1
-
-    within : j < n → LastFree heads (b ∷ bs) from (from + 4 * suc j)
-    within below = let none = length-unmarked n in
-        let zero_there : slice_index (unmarked n ++ marks_of heads bs) j ≡ 0 = get_or_append_left (unmarked n) (marks_of heads bs) 0 j (omega arith) ∙ unmarked-at n j in absurd (omega arith)
-
-    behind : n ≤ j → LastFree heads (b ∷ bs) from (from + 4 * suc j)
-    behind above =
-        let even = p.even in let least = p.large in let some = smallest-block heads in
-        let at : slice_index (unmarked n ++ marks_of heads bs) j ≡ slice_index (marks_of heads bs) (j - n) = get_or-append_right (unmarked n) (marks_of heads bs) n j 0 (length-unmarked n) above in
-        last-more heads from b bs (j - n) (from + 4 * suc j) (omega arith)
-        (others (j - n) (omega arith) (omega arith) (λ i after within. let m = mark-behind heads b bs i p in let l = low (size_of heads b / 4 + i) (omega arith) (omega arith) in omega arith))
+last-behind heads from b bs j p long others inside large low = elim (cases_lt j (size_of heads b / 4 - 1)) [
+  | inl below ↦ let none = mark-within heads b bs j below in absurd (omega arith)
+  | inr above ↦
+      let even = p.even in let least = p.large in let some = smallest-block heads in let at = mark-further heads b bs j above in
+      last-more heads from b bs (j - (size_of heads b / 4 - 1)) (from + 4 * suc j) (omega arith)
+      (others (j - (size_of heads b / 4 - 1)) (omega arith) (omega arith) (λ i after within. let m = mark-behind heads b bs i p in let l = low (size_of heads b / 4 + i) (omega arith) (omega arith) in omega arith))
+]
 
 -- the last mark of 3 or more is that of the last free block
 free-last : (heads : HeadKind) (from : ℕ) (bs : List RawBlock) (j : ℕ) → IsTrue (list_all (is_possible heads) bs) → j < length (marks_of heads bs) → 3 ≤ slice_index (marks_of heads bs) j

@@ -18,6 +18,7 @@ pub mod ReadParts
 pub mod Counting
 pub mod Here
 pub mod Same
+pub mod OwnersRead
 pub mod LowestFree
 pub mod Holders
 pub mod FirstFrom

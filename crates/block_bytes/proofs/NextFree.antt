@@ -1,5 +1,5 @@
 -- The first free block behind some blocks, by the index.
-use Rattle.std.proofs.Common.{◌≡◌, ℕ, zero, suc, ◌+◌, ◌-◌, ◌*◌, ◌/◌, ◌<◌, ◌≤◌, Bool, true, false, List, [], ◌∷◌, ◌++◌, length, slice_index, not, refl, sym, ap, ◌∙◌, ⊎_elim, arith, append_assoc, length-append, IsTrue, subst}
+use Rattle.std.proofs.Common.{◌≡◌, ℕ, zero, suc, inl, inr, ◌+◌, ◌-◌, ◌*◌, ◌/◌, ◌<◌, ◌≤◌, Bool, true, false, List, [], ◌∷◌, ◌++◌, length, slice_index, not, refl, sym, ap, ◌∙◌, ⊎_elim, arith, append_assoc, length-append, IsTrue, subst}
 use Rattle.std.specs.Prelude.{◌&&◌, nat_lt}
 use Rattle.std.specs.List.{list_all}
 use Rattle.std.proofs.lemmas.Bool.{cases_lt}
@@ -57,25 +57,24 @@ free-more heads from b bs k at used there f = let place = f.place in record {
   place = omega arith;
 }
 
+-- a number behind the mark of the first block is 0 within it, and that of a block behind it further on
+pub mark-within : (heads : HeadKind) (b : RawBlock) (bs : List RawBlock) (j : ℕ) → j < size_of heads b / 4 - 1 → slice_index (marks_of heads (b ∷ bs)) (suc j) ≡ 0
+mark-within heads b bs j below = let n = size_of heads b / 4 - 1 in let long = length-unmarked n in get_or_append_left (unmarked n) (marks_of heads bs) 0 j (omega arith) ∙ unmarked-at n j
+
+pub mark-further : (heads : HeadKind) (b : RawBlock) (bs : List RawBlock) (j : ℕ) → size_of heads b / 4 - 1 ≤ j → slice_index (marks_of heads (b ∷ bs)) (suc j) ≡ slice_index (marks_of heads bs) (j - (size_of heads b / 4 - 1))
+mark-further heads b bs j above = let n = size_of heads b / 4 - 1 in get_or-append_right (unmarked n) (marks_of heads bs) n j 0 (length-unmarked n) above
+
 -- a mark behind that of the first block, which isn't free
 free-behind : (heads : HeadKind) (from : ℕ) (b : RawBlock) (bs : List RawBlock) (j : ℕ) → IsPossible heads b → length (marks_of heads (b ∷ bs)) ≡ size_of heads b / 4 + length (marks_of heads bs)
     → ((k : ℕ) → k < length (marks_of heads bs) → 3 ≤ slice_index (marks_of heads bs) k → ((i : ℕ) → i < k → slice_index (marks_of heads bs) i < 3) → FirstFree heads bs (from + size_of heads b) (from + size_of heads b + 4 * k))
     → suc j < length (marks_of heads (b ∷ bs)) → 3 ≤ slice_index (marks_of heads (b ∷ bs)) (suc j) → ((i : ℕ) → i < suc j → slice_index (marks_of heads (b ∷ bs)) i < 3) → FirstFree heads (b ∷ bs) from (from + 4 * suc j)
-free-behind heads from b bs j p long others inside large low = ⊎_elim within behind (cases_lt j n)
-  where
-    n : ℕ
-    n = size_of heads b / 4 - 1
-
-    within : j < n → FirstFree heads (b ∷ bs) from (from + 4 * suc j)
-    within below = let none = length-unmarked n in
-        let zero_there : slice_index (unmarked n ++ marks_of heads bs) j ≡ 0 = get_or_append_left (unmarked n) (marks_of heads bs) 0 j (omega arith) ∙ unmarked-at n j in absurd (omega arith)
-
-    behind : n ≤ j → FirstFree heads (b ∷ bs) from (from + 4 * suc j)
-    behind above =
-        let even = p.even in let least = p.large in let some = smallest-block heads in
-        let at : slice_index (unmarked n ++ marks_of heads bs) j ≡ slice_index (marks_of heads bs) (j - n) = get_or-append_right (unmarked n) (marks_of heads bs) n j 0 (length-unmarked n) above in
-        free-more heads from b bs (j - n) (from + 4 * suc j) (mark-used heads b p (low 0 (omega arith))) (omega arith)
-        (others (j - n) (omega arith) (omega arith) (λ i before. let m = mark-behind heads b bs i p in let l = low (size_of heads b / 4 + i) (omega arith) in omega arith))
+free-behind heads from b bs j p long others inside large low = elim (cases_lt j (size_of heads b / 4 - 1)) [
+  | inl below ↦ let none = mark-within heads b bs j below in absurd (omega arith)
+  | inr above ↦
+      let even = p.even in let least = p.large in let some = smallest-block heads in let at = mark-further heads b bs j above in
+      free-more heads from b bs (j - (size_of heads b / 4 - 1)) (from + 4 * suc j) (mark-used heads b p (low 0 (omega arith))) (omega arith)
+      (others (j - (size_of heads b / 4 - 1)) (omega arith) (omega arith) (λ i before. let m = mark-behind heads b bs i p in let l = low (size_of heads b / 4 + i) (omega arith) in omega arith))
+]
 
 -- the first mark of 3 or more is that of the first free block
 free-first : (heads : HeadKind) (from : ℕ) (bs : List RawBlock) (j : ℕ) → IsTrue (list_all (is_possible heads) bs) → j < length (marks_of heads bs) → 3 ≤ slice_index (marks_of heads bs) j

@@ -17,7 +17,7 @@ use Rattle.block_bytes.specs.Head.{head_bytes}
 use Rattle.block_bytes.specs.ZoneHead.{free_field, lowest_field}
 use Rattle.block_bytes.specs.Layout.{RawBlock, Layout, header_of, size_of, total_of, with_blocks}
 use Rattle.block_bytes.specs.Structure.{is_master}
-use Rattle.block_bytes.specs.Reading.{IsWhole, layout_of}
+use Rattle.block_bytes.specs.Reading.{IsLayout, IsWhole, layout_of}
 use Rattle.block_bytes.specs.Record.{AreWithin, IsNoted, IsOwn, Notes, RecordKept, all_noted, noted_ranges, own_most, kept_name}
 use Rattle.block_bytes.proofs.Heads.{length-head_bytes}
 use Rattle.block_bytes.proofs.Owned.{IsOff, own-alike, own-contents, own-high, own-low, own-many, own-most, own-one, own-replaced, own-split}
@@ -129,22 +129,16 @@ own-change heads before old new behind bytes others kept place is same noted sta
   | inr there ↦ inr (there.0, stay i (own-low heads zone_header (before ++ (old ++ behind)) i there.0) there.1)
 ]
 
+-- what is so of the fields is so with another record
+kept-layout : (z : Inside) (kept : Option Record) → IsLayout z → IsLayout (record z { kept = kept })
+kept-layout z kept w =
+    record { all_bytes = w.all_bytes; low = w.low; high = w.high; form = w.form; ends = w.ends; possible = w.possible; marked = w.marked; lent = w.lent; loans = w.loans; few = w.few }
+
 -- the fields with another record stand for the same zone, awake or not
 pub read-kept : (z : Inside) (kept : Option Record) (l : Layout) → IsRead z l → kept_name kept ≡ kept_name z.kept → IsRead (record z { kept = kept }) l
 read-kept z kept l read same = record {
   view = (λ i. record (layout_of z) { memory = record { region = z.memory.name; kept = same i } }) ∙ read.view;
-  whole = let w = read.whole in record {
-    all_bytes = w.all_bytes;
-    low = w.low;
-    high = w.high;
-    form = w.form;
-    ends = w.ends;
-    possible = w.possible;
-    marked = w.marked;
-    lent = w.lent;
-    loans = w.loans;
-    few = w.few;
-  };
+  whole = kept-layout z kept read.whole;
 }
 
 -- what the fields stand for, with the record of it
@@ -296,18 +290,7 @@ noted-if own old new is all = all-noted old new (is ∙ ap (λ (t : Bool). if t 
 pub read-named : (z : Inside) (kept : Option Record) (l : Layout) → IsRead z l → IsRead (record z { kept = kept }) (record l { memory = record { region = l.memory.region; kept = kept_name kept } })
 read-named z kept l read = record {
   view = ap (λ (m : Layout). record m { memory = record { region = m.memory.region; kept = kept_name kept } }) read.view;
-  whole = let w = read.whole in record {
-    all_bytes = w.all_bytes;
-    low = w.low;
-    high = w.high;
-    form = w.form;
-    ends = w.ends;
-    possible = w.possible;
-    marked = w.marked;
-    lent = w.lent;
-    loans = w.loans;
-    few = w.few;
-  };
+  whole = kept-layout z kept read.whole;
 }
 
 -- a part has no more bytes than this

@@ -1,8 +1,9 @@
 -- What a walk over the blocks finds.
 use Rattle.std.specs.Prelude.{◌≡◌, ℕ, ◌+◌, ◌<◌, ◌≤◌, ◌⊎◌, Bool, not, ◌&&◌, nat_le, IsTrue, List, [], ◌∷◌, ◌++◌}
 use Rattle.std.specs.List.{list_all}
+use Rattle.mac_base.specs.declared.block.Flags.{Flags}
 use Rattle.mac_base.specs.declared.block.HeadKind.{HeadKind}
-use Rattle.block_bytes.specs.declared.header.Role.TheVariants.{Free}
+use Rattle.block_bytes.specs.declared.header.Role.TheVariants.{Free, Relocatable}
 use Rattle.block_bytes.specs.Layout.{RawBlock, Layout, BlockAt, is_free, size_of, total_of, address_behind}
 
 -- the block at `start` has the byte at an address, in its header or behind it
@@ -19,6 +20,12 @@ LiesOutside l at = (at < address_behind l []) ⊎ (address_behind l l.blocks ≤
 pub record FreeAt (l : Layout) (at : ℕ) : Type 0 where
   pub block : BlockAt l at
   pub free : block.here.role ≡ Free
+
+-- the block of a handle stands at this address, whose master pointer is so many bytes from the zone's start
+pub record OwnedAt (l : Layout) (at offset : ℕ) : Type 0 where
+  pub block : BlockAt l at
+  pub flags : Flags
+  pub role : block.here.role ≡ Relocatable offset flags
 
 -- the blocks from an address on, which is that of a block or of the end of the last
 pub record SplitAt (l : Layout) (at : ℕ) : Type 0 where

@@ -1,5 +1,5 @@
 -- The header of a block as bytes, in both forms.
-use Rattle.std.specs.Prelude.{ℕ, ◌+◌, ◌*◌, ◌/◌, ◌%◌, ◌==◌, nat_lt, nat_le, if◌then◌else◌, List, ◌++◌, drop}
+use Rattle.std.specs.Prelude.{ℕ, Option, Some, None, ◌+◌, ◌*◌, ◌/◌, ◌%◌, ◌==◌, nat_lt, nat_le, if◌then◌else◌, List, ◌++◌, drop}
 use Rattle.byteorder.specs.Endian.{big_bytes, big_number}
 use Rattle.mac_base.specs.declared.block.Flags.{Flags}
 use Rattle.mac_base.specs.declared.block.HeadKind.{HeadKind}
@@ -38,6 +38,13 @@ word_of base Free = 0
 word_of base Fixed = base
 word_of base Master = base
 word_of base (Relocatable slot flags) = slot
+
+-- the master pointer that a role says, from the zone's start on: only a relocatable block's says one
+abbrev pub owner_of : Role → Option ℕ
+owner_of Free = None
+owner_of Fixed = None
+owner_of Master = None
+owner_of (Relocatable slot flags) = Some slot
 
 -- the first word. 24 bits: the tag with the correction in its low four bits, and the size. 32 bits: the tag, the flags, a zero
 -- byte and the correction

@@ -145,7 +145,7 @@ fn count_free(
 }
 
 impl Blocks {
-    ghost use Rattle.std.specs.Prelude.{◌≡◌, ◌+◌, ◌-◌, ◌<◌, ◌≤◌, ◌^◌, ◌++◌, ◌∷◌, ◌↔◌, ◌&&◌, [], length, take, drop, is_some, IfOk, IfSome, IfNone, IsTrue, IsFalse};
+    ghost use Rattle.std.specs.Prelude.{◌≡◌, ℕ, ◌+◌, ◌-◌, ◌<◌, ◌≤◌, ◌^◌, ◌++◌, ◌∷◌, ◌↔◌, ◌&&◌, [], length, take, drop, is_some, IfOk, IfSome, IfNone, IsTrue, IsFalse};
     ghost use Rattle.std.specs.Borrow.{sem};
     ghost use Rattle.std.specs.List.{list_all};
     ghost use Rattle.byteorder.specs.Endian.{big_bytes, big_number};
@@ -153,7 +153,7 @@ impl Blocks {
     ghost use Rattle.raw_region.specs.Bytes.{part};
     ghost use Rattle.block_bytes.specs.declared.header.Role.TheVariants.{Free};
     ghost use Rattle.block_bytes.specs.Layout.{Layout, BlockAt, UnlentAt, WordAt, CanBe, CanTurn, CanResize, CanSplit, ParcelAt, Carried, ParcelUpTo, Sunk, CanMerge, CanLend, IsLoanOf, NothingLent, in_role, front_of, rest_of, with_word, cleared, cleared_from, CanClear, body, raw_block, free_raw_block, size_of, header_of, is_possible, joint_body, zone_bytes, with_blocks, with_front, extended, address_behind, free_total, lent_count, most_lent, loan_of, lent_block, given_back};
-    ghost use Rattle.block_bytes.specs.Finding.{HoldsByte, LiesOutside, FreeAt, LowestFree, NoneFree, SplitAt, FirstFree, LastFree, none_free, FirstFrom, NoneFrom};
+    ghost use Rattle.block_bytes.specs.Finding.{HoldsByte, LiesOutside, FreeAt, OwnedAt, LowestFree, NoneFree, SplitAt, FirstFree, LastFree, none_free, FirstFrom, NoneFrom};
     ghost use Rattle.block_bytes.specs.Copying.{CanCopy, copied_over};
     ghost use Rattle.block_bytes.specs.WritingBack.{WritesBackContents};
     ghost use Rattle.block_bytes.specs.NewLayout.{new_layout};
@@ -261,6 +261,19 @@ impl Blocks {
     {
         self.memory
             .header(self.spec.heads(), (at - self.spec.base()) as usize)
+    }
+
+    /// How many bytes from the zone's start the handle is whose block stands at an address, if a handle's does. Of the
+    /// header the tag and the last word are read.
+    pub fn owner_at(&self, at: u32) -> Option<u32>
+        ensures owner { IfSome result (λ offset. OwnedAt self.now at offset) }
+        ensures none { IfNone result ((offset : ℕ) → OwnedAt self.now at offset → ⊥) }
+    {
+        if !self.is_block(at) {
+            return None;
+        }
+        self.memory
+            .owner(self.spec.heads(), (at - self.spec.base()) as usize)
     }
 
     /// The size of the free block at an address. No header is read: the index has it.

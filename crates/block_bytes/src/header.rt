@@ -52,7 +52,7 @@ impl Role {
     }
 
     /// The flags that the header says.
-    pub(crate) fn flags(self) -> Flags
+    pub fn flags(self) -> Flags
         ensures { result ≡ flags_of self }
     {
         match self {

@@ -8,7 +8,7 @@ ghost use Rattle.raw_region.specs.Bytes.{part, written};
 ghost use Rattle.raw_region.specs.Span.{IsFree, IsListed, without};
 ghost use Rattle.raw_region.specs.State.{State, with_bytes};
 ghost use Rattle.block_bytes.specs.Adopting.{HasZoneHead, IsHeadAt};
-ghost use Rattle.block_bytes.specs.Head.{head_bytes, header_in, most_over};
+ghost use Rattle.block_bytes.specs.Head.{head_bytes, header_in, most_over, owner_of};
 ghost use Rattle.block_bytes.specs.ZoneHead.{zone_head, end_field, front_field, free_field, lowest_field};
 ghost use Rattle.block_bytes.specs.Layout.{is_free};
 ghost use Rattle.block_bytes.specs.Structure.{is_master};
@@ -272,6 +272,23 @@ impl Memory {
                 role: Role::read(tag, first / 0x1_0000 % 256, self.word(at + 8)),
                 correction: first % 256,
             },
+        }
+    }
+
+    /// The master pointer that the block header at `at` says, from the zone's start on, if it says one.
+    pub fn owner(&self, heads: HeadKind, at: usize) -> Option<u32>
+        requires inside { at + head_size heads ≤ length self.now.bytes }
+        requires free { IsFree self.now.lent at (head_size heads) }
+        ensures { result ≡ owner_of (header_in heads (drop at self.now.bytes)).role }
+    {
+        let _len = self.len();
+        let tag = self.word(at) / 0x100_0000;
+        if tag < 128 {
+            return None;
+        }
+        match heads {
+            HeadKind::Bits24 => Some(self.word(at + 4)),
+            HeadKind::Bits32 => Some(self.word(at + 8)),
         }
     }
 

@@ -7,7 +7,7 @@ use Rattle.std.proofs.lemmas.List.{map-append}
 use Rattle.std.proofs.lemmas.Bool.{not-true, and_parts, and_from}
 use Rattle.mac_base.specs.declared.block.Entry.{Entry}
 use Rattle.mac_base.specs.declared.block.Kind.{Kind}
-use Rattle.mac_base.specs.declared.block.Kind.TheVariants.{Free, Master, Ptr, Rel}
+use Rattle.mac_base.specs.declared.block.Kind.TheVariants.{Free, Ptr, Rel}
 use Rattle.mac_base.specs.HeadKind.{Shape, head_size}
 use Rattle.mac_base.specs.ZoneMap.{ZoneMap, block, is_master, is_named, total_size, address_behind, addresses, addresses_from, contents_addresses, contents_of}
 use Rattle.mac_base.specs.Suits.{is_handle_block, is_pointer_block, slots}
@@ -18,31 +18,28 @@ use Rattle.zone_laws.proofs.SuitsTaken.{slots-same, contents-same}
 use Rattle.zone_laws.proofs.Maps.{addresses_from-append}
 use Rattle.linked_zone.specs.Changes.{freed}
 
--- where x names no block, none is the block of the handle x
-pub none_handle : (x : ℕ) (m : ZoneMap) → none_named x m ≡ true → IsTrue (list_all (λ (e : Entry). not (is_handle_block x e.kind)) m)
-none_handle x [] none = refl
-none_handle x (e ∷ es) none =
+-- where x names no block, none passes a test that only those pass that it names
+none_passes : (p : Kind → Bool) (x : ℕ) → ((kind : Kind) → not (is_named x kind) ≡ true → not (p kind) ≡ true) → (m : ZoneMap) → none_named x m ≡ true → IsTrue (list_all (λ (e : Entry). not (p e.kind)) m)
+none_passes p x by_kind [] none = refl
+none_passes p x by_kind (e ∷ es) none =
     let parts = and_parts (not (is_named x e.kind)) (none_named x es) none in
-    and_from (not (is_handle_block x e.kind)) _ (by_kind e.kind parts.0) (none_handle x es parts.1)
+    and_from (not (p e.kind)) _ (by_kind e.kind parts.0) (none_passes p x by_kind es parts.1)
+
+-- so none is the block of the handle x
+pub none_handle : (x : ℕ) (m : ZoneMap) → none_named x m ≡ true → IsTrue (list_all (λ (e : Entry). not (is_handle_block x e.kind)) m)
+none_handle x = none_passes (is_handle_block x) x by_kind
   where
     by_kind : (kind : Kind) → not (is_named x kind) ≡ true → not (is_handle_block x kind) ≡ true
-    by_kind Free h = refl
-    by_kind Master h = refl
-    by_kind (Ptr p) h = refl
     by_kind (Rel g) h = h
+    by_kind _ h = refl
 
--- where x names no block, none is the block of the pointer x
+-- nor of the pointer x
 pub none_pointer : (x : ℕ) (m : ZoneMap) → none_named x m ≡ true → IsTrue (list_all (λ (e : Entry). not (is_pointer_block x e.kind)) m)
-none_pointer x [] none = refl
-none_pointer x (e ∷ es) none =
-    let parts = and_parts (not (is_named x e.kind)) (none_named x es) none in
-    and_from (not (is_pointer_block x e.kind)) _ (by_kind e.kind parts.0) (none_pointer x es parts.1)
+none_pointer x = none_passes (is_pointer_block x) x by_kind
   where
     by_kind : (kind : Kind) → not (is_named x kind) ≡ true → not (is_pointer_block x kind) ≡ true
-    by_kind Free h = refl
-    by_kind Master h = refl
     by_kind (Ptr p) h = h
-    by_kind (Rel g) h = refl
+    by_kind _ h = refl
 
 -- what names no block frees none
 pub freed-none : (x : ℕ) (m : ZoneMap) → none_named x m ≡ true → freed x m ≡ m

@@ -162,6 +162,10 @@ of-handle r z stands h at b =
       says = refl;
     }
 
+-- the block at an address is that of a handle
+pub handle-block : (z : ZoneState) (h at : ℕ) (e : EntryAt z at) → e.here.kind ≡ kind.Rel h → BlockOf z h at
+handle-block z h at e is = record { before = e.before; size = e.here.size; behind = e.behind; map = e.map ∙ ap (λ k. e.before ++ block k e.here.size ∷ e.behind) is; place = e.place }
+
 -- the block of a handle whose slot says where its contents begin
 pub record FullSlot (z : ZoneState) (h : ℕ) (flags : Flags) (contents head : ℕ) : Type 0 where
   pub above : head ≤ contents

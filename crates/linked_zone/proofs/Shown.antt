@@ -5,6 +5,7 @@ use Rattle.std.specs.Ordering.{nat_cmp, eq_by_cmp, is_lt}
 use Rattle.std.specs.FinMap.{find, is_sorted}
 use Rattle.std.specs.FinMap.Entries.{below_all}
 use Rattle.std.proofs.lemmas.Bool.Decides.{nat_tests}
+use Rattle.mac_base.specs.declared.block.Flags.{Flags}
 use Rattle.mac_base.specs.declared.block.HeadKind.{HeadKind}
 use Rattle.mac_base.specs.declared.block.HeadKind.TheVariants.{Bits24, Bits32}
 use Rattle.mac_base.specs.declared.block.Kind.{Kind}
@@ -38,6 +39,14 @@ abbrev pub if_live : (Live → Live) → Option Live → Option Live
 if_live f None = None
 if_live f (Some l) = Some (f l)
 
+-- what is told of it alike in each case is told alike
+pub told-alike : {A : Type 0} (told : Option Live → A) (f : Live → Live) → told (Some (f EmptyHandle)) ≡ told (Some EmptyHandle) → ((flags : Flags) (bytes : List ℕ) → told (Some (f (FullHandle flags bytes))) ≡ told (Some (FullHandle flags bytes)))
+    → ((bytes : List ℕ) → told (Some (f (Pointer bytes))) ≡ told (Some (Pointer bytes))) → (o : Option Live) → told (if_live f o) ≡ told o
+told-alike told f empty full pointer None = refl
+told-alike told f empty full pointer (Some EmptyHandle) = empty
+told-alike told f empty full pointer (Some (FullHandle flags bytes)) = full flags bytes
+told-alike told f empty full pointer (Some (Pointer bytes)) = pointer bytes
+
 -- what a function makes of all that is live
 abbrev pub each_live : (ℕ → Live → Live) → List (ℕ × Live) → List (ℕ × Live)
 each_live f es = map (λ e. (e.0, f e.0 e.1)) es
@@ -69,31 +78,13 @@ module _ (z : ZoneState) (bytes : List ℕ) where
 
   -- what has a block is the same, and so are handles and pointers
   pub shown-full : (x : ℕ) → is_full (shown z bytes).heap.table x ≡ is_full z.heap.table x
-  shown-full x = ap live_full (shown-at x) ∙ by_case (live_at z.heap.table x)
-    where
-      by_case : (o : Option Live) → live_full (if_live (shown_live z.shape z.heap.map bytes x) o) ≡ live_full o
-      by_case None = refl
-      by_case (Some EmptyHandle) = refl
-      by_case (Some (FullHandle flags old)) = refl
-      by_case (Some (Pointer old)) = refl
+  shown-full x = ap live_full (shown-at x) ∙ told-alike live_full (shown_live z.shape z.heap.map bytes x) refl (λ flags old. refl) (λ old. refl) (live_at z.heap.table x)
 
   pub shown-pointer : (x : ℕ) → is_pointer (shown z bytes).heap.table x ≡ is_pointer z.heap.table x
-  shown-pointer x = ap live_pointer (shown-at x) ∙ by_case (live_at z.heap.table x)
-    where
-      by_case : (o : Option Live) → live_pointer (if_live (shown_live z.shape z.heap.map bytes x) o) ≡ live_pointer o
-      by_case None = refl
-      by_case (Some EmptyHandle) = refl
-      by_case (Some (FullHandle flags old)) = refl
-      by_case (Some (Pointer old)) = refl
+  shown-pointer x = ap live_pointer (shown-at x) ∙ told-alike live_pointer (shown_live z.shape z.heap.map bytes x) refl (λ flags old. refl) (λ old. refl) (live_at z.heap.table x)
 
   pub shown-handle : (x : ℕ) → is_handle (shown z bytes).heap.table x ≡ is_handle z.heap.table x
-  shown-handle x = ap live_handle (shown-at x) ∙ by_case (live_at z.heap.table x)
-    where
-      by_case : (o : Option Live) → live_handle (if_live (shown_live z.shape z.heap.map bytes x) o) ≡ live_handle o
-      by_case None = refl
-      by_case (Some EmptyHandle) = refl
-      by_case (Some (FullHandle flags old)) = refl
-      by_case (Some (Pointer old)) = refl
+  shown-handle x = ap live_handle (shown-at x) ∙ told-alike live_handle (shown_live z.shape z.heap.map bytes x) refl (λ flags old. refl) (λ old. refl) (live_at z.heap.table x)
 
   -- the zone fits as before
   pub shown-fits : Fits z → Fits (shown z bytes)

@@ -48,13 +48,13 @@ impl LinkedZone {
     ghost use Rattle.mac_base.specs.Heap.{has_none};
     ghost use Rattle.mac_base.specs.Loans.{most_loans, LoansFit};
     ghost use Rattle.mac_base.specs.Suits.{slots, wanted_length};
-    ghost use Rattle.mac_base.specs.BlockReport.{report_at, block_flags};
+    ghost use Rattle.mac_base.specs.BlockReport.{report_at};
     ghost use Rattle.mac_base.specs.ZoneMap.{address_behind, free_bytes, has_free, contents_of};
     ghost use Rattle.mac_base.specs.ZoneState.{own_memory};
     ghost use Rattle.linked_zone.specs.Changes.{bare_zone, taken, given_back, pointed, without_block, fixed, unfixed, held_there, enlarged, cut_in_two, joined_pair, with_master, flagged};
     ghost use Rattle.linked_zone.specs.Fit.{Fits, HasSizes};
     ghost use Rattle.linked_zone.specs.WritingBack.{WritesBackBytes};
-    ghost use Rattle.linked_zone.specs.Places.{EntryAt, HasOwner, FreeAt, BlockOf, NamedAt, LowestAt, RoomFor, CanCut, CanHold, CanGrow, FreePair, SplitAt, FirstFree, LastFree, none_free, FirstFrom, NoneFrom};
+    ghost use Rattle.linked_zone.specs.Places.{EntryAt, FreeAt, BlockOf, NamedAt, LowestAt, RoomFor, CanCut, CanHold, CanGrow, FreePair, SplitAt, FirstFree, LastFree, none_free, FirstFrom, NoneFrom};
     ghost use Rattle.linked_zone.specs.Sizes.{sizes_of};
     ghost use Rattle.linked_zone.specs.Image.{IsImage};
     ghost use Rattle.block_bytes.specs.Walk.{Walks};
@@ -298,12 +298,12 @@ impl LinkedZone {
         if !self.records.is_block(at) {
             return None;
         }
-        let entry = self.entry_at(at);
+        let head = self.entry_and_flags(at);
         Some(Block {
             address: at,
-            entry,
+            entry: head.0,
             length: self.length_at(at),
-            flags: self.flags_of(entry.kind),
+            flags: head.1,
         })
     }
 
@@ -313,17 +313,6 @@ impl LinkedZone {
         ensures { (e : EntryAt self.now at) → result ≡ wanted_length self.now.heap.table e.here.kind }
     {
         self.records.length_at(at)
-    }
-
-    /// The flags of the owner of a block of this kind. Only a handle has any.
-    fn flags_of(&self, kind: Kind) -> Flags
-        requires { HasOwner self.now kind }
-        ensures { result ≡ block_flags self.now.heap.table kind }
-    {
-        match kind {
-            Kind::Rel(handle) => self.flags(handle),
-            Kind::Free | Kind::Master | Kind::Ptr(_) => Flags::NONE,
-        }
     }
 
     /// Whether a handle is the address of a slot.

@@ -6,7 +6,7 @@ use Rattle.place_numbers.specs.Shifted.{shifted_down, shifted_up}
 use Rattle.place_numbers.specs.Bounds.{AreBounds, AreBoundsOutside}
 use Rattle.place_numbers.specs.Rows.{padded}
 use Rattle.place_numbers.proofs.Bounds.{outside}
-use Rattle.place_numbers.proofs.Rows.{zeros-at}
+use Rattle.place_numbers.proofs.Rows.{zeros-at, long, reached, still-seen}
 
 -- those of xs from `to + gap` up to `place` have moved down by `gap`, and 0 stands in all other places from `to` on
 pub record MovedDown (xs ys : List ℕ) (to gap place : ℕ) : Type 0 where
@@ -168,19 +168,30 @@ pub but-moved : (bs xs zs : List ℕ) (first end : ℕ) → AreBounds bs xs → 
 but-moved bs xs zs first end bounds long below behind =
     outside bs xs zs first end first end bounds (let count = bounds.count in omega arith) below behind (omega arith) (omega arith)
 
+-- numbers that are seen, and written up to a place
+pub record SeenUpTo (ys now : List ℕ) (end count : ℕ) : Type 0 where
+  pub view : padded (map (λ x. x) ys) count ≡ now
+  pub reached : end ≤ length ys
+
+-- once zeros are written up to there
+pub seen-up-to : (xs ys now : List ℕ) (end count : ℕ) → padded (map (λ x. x) xs) count ≡ now → map (λ x. x) ys ≡ map (λ x. x) xs ++ replicate (end - length xs) 0 → length xs ≤ count → end ≤ length now → SeenUpTo ys now end count
+seen-up-to xs ys now end count view zeros fits inside =
+    let whole = long (λ (x : ℕ). x) xs count now view fits in let within : end ≤ count = omega (arith, whole, inside) in
+    record { view = still-seen (λ (x : ℕ). x) xs count now view ys end zeros fits within; reached = reached (λ (x : ℕ). x) xs count now view ys end zeros fits within }
+
 -- a run that is moved among the numbers that are written
-module _ (ys zs now : List ℕ) (from to n count : ℕ) (view : padded (map (λ x. x) ys) count ≡ now) where
-  plain : ys ++ replicate (count - length ys) 0 ≡ now
-  plain = ap (λ (l : List ℕ). padded l count) (sym (map-id ys)) ∙ view
+module _ (ys zs now : List ℕ) (from to n count : ℕ) where
+  plain : (end : ℕ) → SeenUpTo ys now end count → ys ++ replicate (count - length ys) 0 ≡ now
+  plain end seen = ap (λ (l : List ℕ). padded l count) (sym (map-id ys)) ∙ seen.view
 
-  pub view-down : zs ≡ shifted_down from to n ys → to ≤ from → from + n ≤ length ys → padded (map (λ x. x) zs) count ≡ shifted_down from to n now
-  view-down moved down reach =
+  pub view-down : SeenUpTo ys now (from + n) count → zs ≡ shifted_down from to n ys → to ≤ from → padded (map (λ x. x) zs) count ≡ shifted_down from to n now
+  view-down seen moved down =
       ap (λ (l : List ℕ). padded l count) (map-id zs)
-      ∙ (λ i. moved i ++ replicate (count - (ap length moved ∙ (shifted-down ys from to n down reach).len) i) 0)
-      ∙ padded-down ys from to n (count - length ys) down reach ∙ ap (shifted_down from to n) plain
+      ∙ (λ i. moved i ++ replicate (count - (ap length moved ∙ (shifted-down ys from to n down seen.reached).len) i) 0)
+      ∙ padded-down ys from to n (count - length ys) down seen.reached ∙ ap (shifted_down from to n) (plain (from + n) seen)
 
-  pub view-up : zs ≡ shifted_up from to n ys → from ≤ to → to + n ≤ length ys → padded (map (λ x. x) zs) count ≡ shifted_up from to n now
-  view-up moved up reach =
+  pub view-up : SeenUpTo ys now (to + n) count → zs ≡ shifted_up from to n ys → from ≤ to → padded (map (λ x. x) zs) count ≡ shifted_up from to n now
+  view-up seen moved up =
       ap (λ (l : List ℕ). padded l count) (map-id zs)
-      ∙ (λ i. moved i ++ replicate (count - (ap length moved ∙ (shifted-up ys from to n up reach).len) i) 0)
-      ∙ padded-up ys from to n (count - length ys) up reach ∙ ap (shifted_up from to n) plain
+      ∙ (λ i. moved i ++ replicate (count - (ap length moved ∙ (shifted-up ys from to n up seen.reached).len) i) 0)
+      ∙ padded-up ys from to n (count - length ys) up seen.reached ∙ ap (shifted_up from to n) (plain (to + n) seen)

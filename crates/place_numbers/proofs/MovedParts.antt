@@ -48,18 +48,44 @@ module _ (xs ys ks zs now : List ℕ) (parts : AreParts xs ys) (marks-long : len
       let most = most-there k in let size = size-there k (omega (arith, most, high)) in
       let is = is-number k ∙ by-large ks zs k high in omega (arith, is, size)
 
-  pub moved-parts : AreParts ks zs
-  moved-parts = record {
-    few = subst (λ (n : ℕ). n < 2 ^ 40) (sym marks-long) parts.few;
-    runs = sizes-long ∙ parts.runs ∙ sym (ap (λ (n : ℕ). n / 64 + 1) marks-long);
-    most = most-there;
-    spread = record { apart = λ i j less one two. spread.apart i j less (large-there i one) (large-there j two) };
-    large = size-there;
-    none = has;
-  }
+  pub moved-both : AreParts ks zs × (numbers_of ks zs ≡ now)
+  moved-both = (
+    record {
+      few = subst (λ (n : ℕ). n < 2 ^ 40) (sym marks-long) parts.few;
+      runs = sizes-long ∙ parts.runs ∙ sym (ap (λ (n : ℕ). n / 64 + 1) marks-long);
+      most = most-there;
+      spread = record { apart = λ i j less one two. spread.apart i j less (large-there i one) (large-there j two) };
+      large = size-there;
+      none = has;
+    },
+    only ks zs now (now-long ∙ sym marks-long) is-number,
+  )
 
-  pub moved-view : numbers_of ks zs ≡ now
-  moved-view = only ks zs now (now-long ∙ sym marks-long) is-number
+-- two marks of 255 are far apart
+far : (xs ys : List ℕ) → AreParts xs ys → (i j : ℕ) → i < j → get_or xs i 0 ≡ 255 → get_or xs j 0 ≡ 255 → i + 64 ≤ j
+far xs ys parts i j less first second = parts.spread.apart i j less (omega (arith, first)) (omega (arith, second))
+
+-- and their numbers are as large
+is-large : (xs ys : List ℕ) → AreParts xs ys → (j : ℕ) → get_or xs j 0 ≡ 255 → 255 ≤ get_or (numbers_of xs ys) j 0
+is-large xs ys parts j one = let is = at xs ys j ∙ by-large xs ys j (omega (arith, one)) in let size = parts.large j one in omega (arith, is, size)
+
+-- the size of a run, moved to another
+abbrev carried : List ℕ → ℕ → ℕ → List ℕ
+carried zs old new = set (set zs old 0) new (get_or zs old 0)
+
+-- what stands where then
+module _ (zs : List ℕ) (old : ℕ) where
+  cleared-here : old < length zs → (run : ℕ) → run ≡ old → get_or (set zs old 0) run 0 ≡ 0
+  cleared-here inside run same = ap (λ (r : ℕ). get_or (set zs old 0) r 0) same ∙ get_or-set_same zs old 0 0 inside
+
+  carried-here : old < length zs → (new run : ℕ) → run ≢ new → run ≡ old → get_or (carried zs old new) run 0 ≡ 0
+  carried-here inside new run other same = get_or-set_other (set zs old 0) new run (get_or zs old 0) 0 other ∙ cleared-here inside run same
+
+  carried-there : (new : ℕ) → new < length zs → get_or (carried zs old new) new 0 ≡ get_or zs old 0
+  carried-there new within = let long = length-set zs old 0 in get_or-set_same (set zs old 0) new (get_or zs old 0) 0 (omega (arith, long, within))
+
+  carried-other : (new run : ℕ) → run ≢ old → run ≢ new → get_or (carried zs old new) run 0 ≡ get_or zs run 0
+  carried-other new run other apart = get_or-set_other (set zs old 0) new run (get_or zs old 0) 0 apart ∙ get_or-set_other zs old run 0 0 other
 
 -- a mark of 255 whose size a run has, while the marks from `to` up to `place` have been gone through: those from `to + gap` on move down by
 -- `gap`, and those before them are gone
@@ -83,132 +109,87 @@ down-begun xs ys to gap parts = record {
   below = λ j _ _. refl;
   moved = λ j low high _. absurd (omega (arith, low, high));
   behind = λ j _ _. refl;
-  none = λ run some. let has = parts.none run some in record {
-    mark = has.place;
-    large = has.large;
-    here = elim (cases_lt has.place to) [ inl low ↦ inl (low, has.here) | inr high ↦ inr (inl (high, has.here)) ];
-  };
+  none = λ run some. let has = parts.none run some in record { mark = has.place; large = has.large; here = elim (cases_lt has.place to) [ inl low ↦ inl (low, has.here) | inr high ↦ inr (inl (high, has.here)) ] };
 }
 
 -- the next mark of 255 stands at a place
 module _ (xs ys zs : List ℕ) (to gap place end here : ℕ) (parts : AreParts xs ys) (so-far : SizesDown xs ys zs to gap place) (first : to ≤ place) (from : place ≤ here) (below-end : here < end)
     (inside : end ≤ length xs) (one : get_or xs here 0 ≡ 255) (between : (j : ℕ) → place ≤ j → j < here → get_or xs j 0 < 255)
     (clear : (j i : ℕ) → j < to → to + gap ≤ i → i < end → get_or xs j 0 ≡ 255 → get_or xs i 0 ≡ 255 → j + 64 ≤ i - gap) where
-  far : (i j : ℕ) → i < j → get_or xs i 0 ≡ 255 → get_or xs j 0 ≡ 255 → i + 64 ≤ j
-  far i j less first second = parts.spread.apart i j less (omega (arith, first)) (omega (arith, second))
-
   run-inside : here / 64 < length zs
   run-inside = let runs = so-far.runs in let all = parts.runs in omega (arith, runs, all, inside, below-end)
 
-  cleared-other : (run : ℕ) → run ≢ here / 64 → get_or (set zs (here / 64) 0) run 0 ≡ get_or zs run 0
-  cleared-other run other = get_or-set_other zs (here / 64) run 0 0 other
-
-  cleared-here : get_or (set zs (here / 64) 0) (here / 64) 0 ≡ 0
-  cleared-here = get_or-set_same zs (here / 64) 0 0 run-inside
+  -- a run that isn't this one's has its mark as before
+  stands-on : (run : ℕ) → run ≢ here / 64 → StandsDown xs to gap place run → StandsDown xs to gap (here + 1) run
+  stands-on run other was = record {
+    mark = was.mark;
+    large = was.large;
+    here = elim was.here [
+      | inl under ↦ inl under
+      | inr later ↦ elim later [
+        | inl past ↦ inr (inl (
+          (elim (cases_lt here was.mark) [
+            | inl above ↦ (let so : here + 1 ≤ was.mark = omega (arith, above) in so)
+            | inr not ↦ elim (cases_eq was.mark here) [
+              | inl same ↦ absurd (other (sym past.1 ∙ ap (λ (k : ℕ). k / 64) same))
+              | inr differ ↦ let small = between was.mark past.0 (omega (arith, not, differ)) in let large = was.large in absurd (omega (arith, small, large))
+            ]
+          ]),
+          past.1,
+        ))
+        | inr gone ↦ let before = gone.1 in inr (inr (gone.0, (let so : was.mark < here + 1 = omega (arith, before, from) in so), gone.2))
+      ]
+    ];
+  }
 
   -- it is gone
   pub down-gone : here < to + gap → SizesDown xs ys (set zs (here / 64) 0) to gap (here + 1)
   down-gone low = record {
     runs = length-set zs (here / 64) 0 ∙ so-far.runs;
-    below = λ j less large. let apart = far j here (omega (arith, less, first, from)) large one in cleared-other (j / 64) (λ same. omega (arith, same, apart)) ∙ so-far.below j less large;
+    below = λ j less large. let apart = far xs ys parts j here (omega (arith, less, first, from)) large one in get_or-set_other zs (here / 64) (j / 64) 0 0 (λ same. omega (arith, same, apart)) ∙ so-far.below j less large;
     moved = λ j past less large. absurd (omega (arith, past, less, low));
-    behind = λ j past large. let apart = far here j (omega (arith, past)) one large in cleared-other (j / 64) (λ same. omega (arith, same, apart)) ∙ so-far.behind j (omega (arith, past, from)) large;
-    none = λ run some. gone-none run some;
+    behind = λ j past large. let apart = far xs ys parts here j (omega (arith, past)) one large in get_or-set_other zs (here / 64) (j / 64) 0 0 (λ same. omega (arith, same, apart)) ∙ so-far.behind j (omega (arith, past, from)) large;
+    none = λ run some. elim (cases_eq run (here / 64)) [
+      | inl same ↦ let none = cleared-here zs (here / 64) run-inside run same in absurd (omega (arith, none, some))
+      | inr other ↦ stands-on run other (so-far.none run (subst (λ (n : ℕ). 1 ≤ n) (get_or-set_other zs (here / 64) run 0 0 other) some))
+    ];
   }
-    where
-      gone-none : (run : ℕ) → 1 ≤ get_or (set zs (here / 64) 0) run 0 → StandsDown xs to gap (here + 1) run
-      gone-none run some = elim (cases_eq run (here / 64)) [
-        | inl same ↦ let none = ap (λ (r : ℕ). get_or (set zs (here / 64) 0) r 0) same ∙ cleared-here in absurd (omega (arith, none, some))
-        | inr other ↦
-            let was = so-far.none run (subst (λ (n : ℕ). 1 ≤ n) (cleared-other run other) some) in
-            record {
-              mark = was.mark;
-              large = was.large;
-              here = elim was.here [
-                | inl under ↦ inl under
-                | inr later ↦ elim later [
-                  | inl past ↦ inr (inl (
-                    (elim (cases_lt here was.mark) [
-                      | inl above ↦ (let so : here + 1 ≤ was.mark = omega (arith, above) in so)
-                      | inr not ↦ elim (cases_eq was.mark here) [
-                        | inl same ↦ absurd (other (sym past.1 ∙ ap (λ (k : ℕ). k / 64) same))
-                        | inr differ ↦ let small = between was.mark past.0 (omega (arith, not, differ)) in let large = was.large in absurd (omega (arith, small, large))
-                      ]
-                    ]),
-                    past.1,
-                  ))
-                  | inr gone ↦ let before = gone.1 in let after = gone.0 in absurd (omega (arith, before, after, from, low))
-                ]
-              ];
-            }
-      ]
 
   -- or it moves
   pub down-moved : to + gap ≤ here → SizesDown xs ys (set (set zs (here / 64) 0) ((here - gap) / 64) (get_or zs (here / 64) 0)) to gap (here + 1)
   down-moved high = record {
-    runs = length-set (set zs (here / 64) 0) ((here - gap) / 64) (get_or zs (here / 64) 0) ∙ length-set zs (here / 64) 0 ∙ so-far.runs;
+    runs = length-set (set zs (here / 64) 0) new (get_or zs (here / 64) 0) ∙ length-set zs (here / 64) 0 ∙ so-far.runs;
     below = λ j less large.
-        let apart = far j here (omega (arith, less, first, from)) large one in let clear-of = clear j here less high below-end large one in
+        let apart = far xs ys parts j here (omega (arith, less, first, from)) large one in let clear-of = clear j here less high below-end large one in
         both-other (j / 64) (λ same. omega (arith, same, apart)) (λ same. omega (arith, same, clear-of)) ∙ so-far.below j less large;
     moved = λ j past less large. elim (cases_eq j here) [
       | inl same ↦
-          ap (λ (k : ℕ). get_or ws ((k - gap) / 64) 0) same ∙ there ∙ so-far.behind here from one ∙ sym (ap (λ (k : ℕ). get_or ys (k / 64) 0) same)
+          let within = run-inside in
+          ap (λ (k : ℕ). get_or (carried zs (here / 64) new) ((k - gap) / 64) 0) same ∙ carried-there zs (here / 64) new (omega (arith, within)) ∙ so-far.behind here from one ∙ sym (ap (λ (k : ℕ). get_or ys (k / 64) 0) same)
       | inr differ ↦ elim (cases_lt j place) [
         | inl early ↦
-            let apart = far j here (omega (arith, less, differ)) large one in
+            let apart = far xs ys parts j here (omega (arith, less, differ)) large one in
             both-other ((j - gap) / 64) (λ same. omega (arith, same, apart)) (λ same. omega (arith, same, apart, past)) ∙ so-far.moved j past early large
         | inr late ↦ let small = between j late (omega (arith, less, differ)) in absurd (omega (arith, small, large))
       ]
     ];
     behind = λ j past large.
-        let apart = far here j (omega (arith, past)) one large in
+        let apart = far xs ys parts here j (omega (arith, past)) one large in
         both-other (j / 64) (λ same. omega (arith, same, apart)) (λ same. omega (arith, same, apart)) ∙ so-far.behind j (omega (arith, past, from)) large;
-    none = λ run some. moved-none run some;
+    none = λ run some. elim (cases_eq run new) [
+      | inl same ↦ record { mark = here; large = one; here = inr (inr (high, (let less : here < here + 1 = omega arith in less), sym same)) }
+      | inr other ↦ elim (cases_eq run (here / 64)) [
+        | inl same ↦ let none = carried-here zs (here / 64) run-inside new run other same in absurd (omega (arith, none, some))
+        | inr apart ↦ stands-on run apart (so-far.none run (subst (λ (n : ℕ). 1 ≤ n) (both-other run apart other) some))
+      ]
+    ];
   }
     where
-      ws : List ℕ
-      ws = set (set zs (here / 64) 0) ((here - gap) / 64) (get_or zs (here / 64) 0)
+      new : ℕ
+      new = (here - gap) / 64
 
-      there : get_or (set (set zs (here / 64) 0) ((here - gap) / 64) (get_or zs (here / 64) 0)) ((here - gap) / 64) 0 ≡ get_or zs (here / 64) 0
-      there =
-          let long = length-set zs (here / 64) 0 in let within = run-inside in
-          get_or-set_same (set zs (here / 64) 0) ((here - gap) / 64) (get_or zs (here / 64) 0) 0 (omega (arith, long, within))
-
-      both-other : (run : ℕ) → run ≢ here / 64 → run ≢ (here - gap) / 64
-          → get_or (set (set zs (here / 64) 0) ((here - gap) / 64) (get_or zs (here / 64) 0)) run 0 ≡ get_or zs run 0
-      both-other run other new = get_or-set_other (set zs (here / 64) 0) ((here - gap) / 64) run (get_or zs (here / 64) 0) 0 new ∙ cleared-other run other
-
-      moved-none : (run : ℕ) → 1 ≤ get_or (set (set zs (here / 64) 0) ((here - gap) / 64) (get_or zs (here / 64) 0)) run 0 → StandsDown xs to gap (here + 1) run
-      moved-none run some = elim (cases_eq run ((here - gap) / 64)) [
-        | inl same ↦ record { mark = here; large = one; here = inr (inr (high, (let less : here < here + 1 = omega arith in less), sym same)) }
-        | inr new ↦ elim (cases_eq run (here / 64)) [
-          | inl same ↦
-              let none = get_or-set_other (set zs (here / 64) 0) ((here - gap) / 64) run (get_or zs (here / 64) 0) 0 new ∙ ap (λ (r : ℕ). get_or (set zs (here / 64) 0) r 0) same ∙ cleared-here in
-              absurd (omega (arith, none, some))
-          | inr other ↦
-              let was = so-far.none run (subst (λ (n : ℕ). 1 ≤ n) (both-other run other new) some) in
-              record {
-                mark = was.mark;
-                large = was.large;
-                here = elim was.here [
-                  | inl under ↦ inl under
-                  | inr later ↦ elim later [
-                    | inl past ↦ inr (inl (
-                      (elim (cases_lt here was.mark) [
-                        | inl above ↦ (let so : here + 1 ≤ was.mark = omega (arith, above) in so)
-                        | inr not ↦ elim (cases_eq was.mark here) [
-                          | inl same ↦ absurd (other (sym past.1 ∙ ap (λ (k : ℕ). k / 64) same))
-                          | inr differ ↦ let small = between was.mark past.0 (omega (arith, not, differ)) in let large = was.large in absurd (omega (arith, small, large))
-                        ]
-                      ]),
-                      past.1,
-                    ))
-                    | inr gone ↦ let before = gone.1 in inr (inr (gone.0, (let so : was.mark < here + 1 = omega (arith, before, from) in so), gone.2))
-                  ]
-                ];
-              }
-        ]
-      ]
+      both-other : (run : ℕ) → run ≢ here / 64 → run ≢ (here - gap) / 64 → get_or (carried zs (here / 64) ((here - gap) / 64)) run 0 ≡ get_or zs run 0
+      both-other = carried-other zs (here / 64) ((here - gap) / 64)
 
 -- all have been gone through
 module _ (xs ys zs : List ℕ) (from to n place : ℕ) (parts : AreParts xs ys) (order : to ≤ from) (inside : from + n ≤ length xs)
@@ -219,15 +200,12 @@ module _ (xs ys zs : List ℕ) (from to n place : ℕ) (parts : AreParts xs ys) 
   down-numbers : MovedDown (numbers_of xs ys) (shifted_down from to n (numbers_of xs ys)) to (from - to) (from + n)
   down-numbers = let l = length-numbers xs ys in shifted-down (numbers_of xs ys) from to n order (omega (arith, l, inside))
 
-  is-large : (j : ℕ) → get_or xs j 0 ≡ 255 → 255 ≤ get_or (numbers_of xs ys) j 0
-  is-large j one = let is = at xs ys j ∙ by-large xs ys j (omega (arith, one)) in let size = parts.large j one in omega (arith, is, size)
-
   -- those that move stay apart from those before them
   pub down-clear : (j i : ℕ) → j < to → to + (from - to) ≤ i → i < from + n → get_or xs j 0 ≡ 255 → get_or xs i 0 ≡ 255 → j + 64 ≤ i - (from - to)
   down-clear j i low past below first second =
       let back : i - (from - to) + (from - to) ≡ i = omega (arith, past) in
-      let one = down-numbers.below j low in let big-one = is-large j first in
-      let two = down-numbers.moved (i - (from - to)) (omega (arith, past)) (omega (arith, back, below)) ∙ ap (λ (k : ℕ). get_or (numbers_of xs ys) k 0) back in let big-two = is-large i second in
+      let one = down-numbers.below j low in let big-one = is-large xs ys parts j first in
+      let two = down-numbers.moved (i - (from - to)) (omega (arith, past)) (omega (arith, back, below)) ∙ ap (λ (k : ℕ). get_or (numbers_of xs ys) k 0) back in let big-two = is-large xs ys parts i second in
       spread.apart j (i - (from - to)) (omega (arith, past, low)) (omega (arith, one, big-one)) (omega (arith, two, big-two))
 
   module _ (done : SizesDown xs ys zs to (from - to) place) (within : place ≤ from + n) (none-left : (j : ℕ) → place ≤ j → j < from + n → get_or xs j 0 < 255) where
@@ -274,14 +252,8 @@ module _ (xs ys zs : List ℕ) (from to n place : ℕ) (parts : AreParts xs ys) 
           ]
         ]
 
-    long-shifted : length (shifted_down from to n (numbers_of xs ys)) ≡ length xs
-    long-shifted = down-numbers.len ∙ length-numbers xs ys
-
-    pub down-parts : AreParts (shifted_down from to n xs) zs
-    down-parts = moved-parts xs ys (shifted_down from to n xs) zs (shifted_down from to n (numbers_of xs ys)) parts down-marks.len done.runs long-shifted spread down-source down-has
-
-    pub down-view : numbers_of (shifted_down from to n xs) zs ≡ shifted_down from to n (numbers_of xs ys)
-    down-view = moved-view xs ys (shifted_down from to n xs) zs (shifted_down from to n (numbers_of xs ys)) parts down-marks.len done.runs long-shifted spread down-source down-has
+    pub down-both : AreParts (shifted_down from to n xs) zs × (numbers_of (shifted_down from to n xs) zs ≡ shifted_down from to n (numbers_of xs ys))
+    down-both = moved-both xs ys (shifted_down from to n xs) zs (shifted_down from to n (numbers_of xs ys)) parts down-marks.len done.runs (down-numbers.len ∙ length-numbers xs ys) spread down-source down-has
 
 -- a mark of 255 whose size a run has, while the marks from `place` up to `end` have been gone through: those that stay below `end` move up by
 -- `gap`, and the others are gone
@@ -305,28 +277,15 @@ up-begun xs ys end gap parts = record {
   above = λ j _ _. refl;
   moved = λ j low high _. absurd (omega (arith, low, high));
   below = λ j _ _. refl;
-  none = λ run some. let has = parts.none run some in record {
-    mark = has.place;
-    large = has.large;
-    here = elim (cases_lt has.place end) [ inl low ↦ inr (inl (low, has.here)) | inr high ↦ inl (high, has.here) ];
-  };
+  none = λ run some. let has = parts.none run some in record { mark = has.place; large = has.large; here = elim (cases_lt has.place end) [ inl low ↦ inr (inl (low, has.here)) | inr high ↦ inl (high, has.here) ] };
 }
 
 -- the next mark of 255 stands at a place
 module _ (xs ys zs : List ℕ) (end gap place from here : ℕ) (parts : AreParts xs ys) (so-far : SizesUp xs ys zs end gap place) (last : place ≤ end) (before : here < place) (start : from ≤ here)
     (inside : end ≤ length xs) (one : get_or xs here 0 ≡ 255) (between : (j : ℕ) → here < j → j < place → get_or xs j 0 < 255)
     (clear : (i j : ℕ) → from ≤ i → i + gap < end → end ≤ j → get_or xs i 0 ≡ 255 → get_or xs j 0 ≡ 255 → i + gap + 64 ≤ j) where
-  far-up : (i j : ℕ) → i < j → get_or xs i 0 ≡ 255 → get_or xs j 0 ≡ 255 → i + 64 ≤ j
-  far-up i j less first second = parts.spread.apart i j less (omega (arith, first)) (omega (arith, second))
-
   run-inside-up : here / 64 < length zs
   run-inside-up = let runs = so-far.runs in let all = parts.runs in omega (arith, runs, all, inside, before, last)
-
-  cleared-other-up : (run : ℕ) → run ≢ here / 64 → get_or (set zs (here / 64) 0) run 0 ≡ get_or zs run 0
-  cleared-other-up run other = get_or-set_other zs (here / 64) run 0 0 other
-
-  cleared-here-up : get_or (set zs (here / 64) 0) (here / 64) 0 ≡ 0
-  cleared-here-up = get_or-set_same zs (here / 64) 0 0 run-inside-up
 
   -- a mark below the place that isn't this one stands below it
   still-below : (mark run : ℕ) → mark < place → mark / 64 ≡ run → run ≢ here / 64 → get_or xs mark 0 ≡ 255 → mark < here
@@ -338,90 +297,69 @@ module _ (xs ys zs : List ℕ) (end gap place from here : ℕ) (parts : AreParts
     ]
   ]
 
+  -- a run that isn't this one's has its mark as before
+  stands-on-up : (run : ℕ) → run ≢ here / 64 → StandsUp xs end gap place run → StandsUp xs end gap here run
+  stands-on-up run other was = record {
+    mark = was.mark;
+    large = was.large;
+    here = elim was.here [
+      | inl over ↦ inl over
+      | inr earlier ↦ elim earlier [
+        | inl under ↦ inr (inl (still-below was.mark run under.0 under.1 other was.large, under.1))
+        | inr gone ↦ let after = gone.0 in inr (inr ((let so : here ≤ was.mark = omega (arith, after, before) in so), gone.1, gone.2))
+      ]
+    ];
+  }
+
   -- it is gone
   pub up-gone : end ≤ here + gap → SizesUp xs ys (set zs (here / 64) 0) end gap here
   up-gone high = record {
     runs = length-set zs (here / 64) 0 ∙ so-far.runs;
-    above = λ j past large. let apart = far-up here j (omega (arith, past, before, last)) one large in cleared-other-up (j / 64) (λ same. omega (arith, same, apart)) ∙ so-far.above j past large;
+    above = λ j past large. let apart = far xs ys parts here j (omega (arith, past, before, last)) one large in get_or-set_other zs (here / 64) (j / 64) 0 0 (λ same. omega (arith, same, apart)) ∙ so-far.above j past large;
     moved = λ j past less large. absurd (omega (arith, past, less, high));
-    below = λ j less large. let apart = far-up j here less large one in cleared-other-up (j / 64) (λ same. omega (arith, same, apart)) ∙ so-far.below j (omega (arith, less, before)) large;
-    none = λ run some. gone-none run some;
+    below = λ j less large. let apart = far xs ys parts j here less large one in get_or-set_other zs (here / 64) (j / 64) 0 0 (λ same. omega (arith, same, apart)) ∙ so-far.below j (omega (arith, less, before)) large;
+    none = λ run some. elim (cases_eq run (here / 64)) [
+      | inl same ↦ let none = cleared-here zs (here / 64) run-inside-up run same in absurd (omega (arith, none, some))
+      | inr other ↦ stands-on-up run other (so-far.none run (subst (λ (n : ℕ). 1 ≤ n) (get_or-set_other zs (here / 64) run 0 0 other) some))
+    ];
   }
-    where
-      gone-none : (run : ℕ) → 1 ≤ get_or (set zs (here / 64) 0) run 0 → StandsUp xs end gap here run
-      gone-none run some = elim (cases_eq run (here / 64)) [
-        | inl same ↦ let none = ap (λ (r : ℕ). get_or (set zs (here / 64) 0) r 0) same ∙ cleared-here-up in absurd (omega (arith, none, some))
-        | inr other ↦
-            let was = so-far.none run (subst (λ (n : ℕ). 1 ≤ n) (cleared-other-up run other) some) in
-            record {
-              mark = was.mark;
-              large = was.large;
-              here = elim was.here [
-                | inl over ↦ inl over
-                | inr earlier ↦ elim earlier [
-                  | inl low ↦ inr (inl (still-below was.mark run low.0 low.1 other was.large, low.1))
-                  | inr gone ↦ let after = gone.0 in let within = gone.1 in absurd (omega (arith, after, within, before, high))
-                ]
-              ];
-            }
-      ]
 
   -- or it moves
   pub up-moved : here + gap < end → SizesUp xs ys (set (set zs (here / 64) 0) ((here + gap) / 64) (get_or zs (here / 64) 0)) end gap here
   up-moved low = record {
-    runs = length-set (set zs (here / 64) 0) ((here + gap) / 64) (get_or zs (here / 64) 0) ∙ length-set zs (here / 64) 0 ∙ so-far.runs;
+    runs = length-set (set zs (here / 64) 0) new (get_or zs (here / 64) 0) ∙ length-set zs (here / 64) 0 ∙ so-far.runs;
     above = λ j past large.
-        let apart = far-up here j (omega (arith, past, before, last)) one large in let clear-of = clear here j start low past one large in
+        let apart = far xs ys parts here j (omega (arith, past, before, last)) one large in let clear-of = clear here j start low past one large in
         both-other (j / 64) (λ same. omega (arith, same, apart)) (λ same. omega (arith, same, clear-of)) ∙ so-far.above j past large;
     moved = λ j past less large. elim (cases_eq j here) [
-      | inl same ↦ ap (λ (k : ℕ). get_or ws ((k + gap) / 64) 0) same ∙ there ∙ so-far.below here before one ∙ sym (ap (λ (k : ℕ). get_or ys (k / 64) 0) same)
+      | inl same ↦
+          let runs = so-far.runs in let all = parts.runs in
+          ap (λ (k : ℕ). get_or (carried zs (here / 64) new) ((k + gap) / 64) 0) same ∙ carried-there zs (here / 64) new (omega (arith, runs, all, low, inside)) ∙ so-far.below here before one
+          ∙ sym (ap (λ (k : ℕ). get_or ys (k / 64) 0) same)
       | inr differ ↦ elim (cases_lt j place) [
         | inl early ↦ let small = between j (omega (arith, past, differ)) early in absurd (omega (arith, small, large))
         | inr late ↦
-            let apart = far-up here j (omega (arith, past, differ)) one large in
+            let apart = far xs ys parts here j (omega (arith, past, differ)) one large in
             both-other ((j + gap) / 64) (λ same. omega (arith, same, apart)) (λ same. omega (arith, same, apart)) ∙ so-far.moved j late less large
       ]
     ];
     below = λ j less large.
-        let apart = far-up j here less large one in
+        let apart = far xs ys parts j here less large one in
         both-other (j / 64) (λ same. omega (arith, same, apart)) (λ same. omega (arith, same, apart)) ∙ so-far.below j (omega (arith, less, before)) large;
-    none = λ run some. moved-none run some;
+    none = λ run some. elim (cases_eq run new) [
+      | inl same ↦ record { mark = here; large = one; here = inr (inr ((let so : here ≤ here = omega arith in so), low, sym same)) }
+      | inr other ↦ elim (cases_eq run (here / 64)) [
+        | inl same ↦ let none = carried-here zs (here / 64) run-inside-up new run other same in absurd (omega (arith, none, some))
+        | inr apart ↦ stands-on-up run apart (so-far.none run (subst (λ (n : ℕ). 1 ≤ n) (both-other run apart other) some))
+      ]
+    ];
   }
     where
-      ws : List ℕ
-      ws = set (set zs (here / 64) 0) ((here + gap) / 64) (get_or zs (here / 64) 0)
+      new : ℕ
+      new = (here + gap) / 64
 
-      there : get_or (set (set zs (here / 64) 0) ((here + gap) / 64) (get_or zs (here / 64) 0)) ((here + gap) / 64) 0 ≡ get_or zs (here / 64) 0
-      there =
-          let long = length-set zs (here / 64) 0 in let runs = so-far.runs in let all = parts.runs in
-          get_or-set_same (set zs (here / 64) 0) ((here + gap) / 64) (get_or zs (here / 64) 0) 0 (omega (arith, long, runs, all, low, inside))
-
-      both-other : (run : ℕ) → run ≢ here / 64 → run ≢ (here + gap) / 64
-          → get_or (set (set zs (here / 64) 0) ((here + gap) / 64) (get_or zs (here / 64) 0)) run 0 ≡ get_or zs run 0
-      both-other run other new = get_or-set_other (set zs (here / 64) 0) ((here + gap) / 64) run (get_or zs (here / 64) 0) 0 new ∙ cleared-other-up run other
-
-      moved-none : (run : ℕ) → 1 ≤ get_or (set (set zs (here / 64) 0) ((here + gap) / 64) (get_or zs (here / 64) 0)) run 0 → StandsUp xs end gap here run
-      moved-none run some = elim (cases_eq run ((here + gap) / 64)) [
-        | inl same ↦ record { mark = here; large = one; here = inr (inr ((let so : here ≤ here = omega arith in so), low, sym same)) }
-        | inr new ↦ elim (cases_eq run (here / 64)) [
-          | inl same ↦
-              let none = get_or-set_other (set zs (here / 64) 0) ((here + gap) / 64) run (get_or zs (here / 64) 0) 0 new ∙ ap (λ (r : ℕ). get_or (set zs (here / 64) 0) r 0) same ∙ cleared-here-up in
-              absurd (omega (arith, none, some))
-          | inr other ↦
-              let was = so-far.none run (subst (λ (n : ℕ). 1 ≤ n) (both-other run other new) some) in
-              record {
-                mark = was.mark;
-                large = was.large;
-                here = elim was.here [
-                  | inl over ↦ inl over
-                  | inr earlier ↦ elim earlier [
-                    | inl under ↦ inr (inl (still-below was.mark run under.0 under.1 other was.large, under.1))
-                    | inr gone ↦ let after = gone.0 in inr (inr ((let so : here ≤ was.mark = omega (arith, after, before) in so), gone.1, gone.2))
-                  ]
-                ];
-              }
-        ]
-      ]
+      both-other : (run : ℕ) → run ≢ here / 64 → run ≢ (here + gap) / 64 → get_or (carried zs (here / 64) ((here + gap) / 64)) run 0 ≡ get_or zs run 0
+      both-other = carried-other zs (here / 64) ((here + gap) / 64)
 
 -- all have been gone through
 module _ (xs ys zs : List ℕ) (from to n place : ℕ) (parts : AreParts xs ys) (order : from ≤ to) (inside : to + n ≤ length xs)
@@ -432,15 +370,12 @@ module _ (xs ys zs : List ℕ) (from to n place : ℕ) (parts : AreParts xs ys) 
   up-numbers : MovedUp (numbers_of xs ys) (shifted_up from to n (numbers_of xs ys)) (to + n) (to - from) from
   up-numbers = let l = length-numbers xs ys in shifted-up (numbers_of xs ys) from to n order (omega (arith, l, inside))
 
-  is-large-up : (j : ℕ) → get_or xs j 0 ≡ 255 → 255 ≤ get_or (numbers_of xs ys) j 0
-  is-large-up j one = let is = at xs ys j ∙ by-large xs ys j (omega (arith, one)) in let size = parts.large j one in omega (arith, is, size)
-
   -- those that move stay apart from those behind them
   pub up-clear : (i j : ℕ) → from ≤ i → i + (to - from) < to + n → to + n ≤ j → get_or xs i 0 ≡ 255 → get_or xs j 0 ≡ 255 → i + (to - from) + 64 ≤ j
   up-clear i j past below behind first second =
       let back : i + (to - from) - (to - from) ≡ i = omega arith in
-      let one = up-numbers.moved (i + (to - from)) (omega (arith, past)) below ∙ ap (λ (k : ℕ). get_or (numbers_of xs ys) k 0) back in let big-one = is-large-up i first in
-      let two = up-numbers.behind j behind in let big-two = is-large-up j second in
+      let one = up-numbers.moved (i + (to - from)) (omega (arith, past)) below ∙ ap (λ (k : ℕ). get_or (numbers_of xs ys) k 0) back in let big-one = is-large xs ys parts i first in
+      let two = up-numbers.behind j behind in let big-two = is-large xs ys parts j second in
       spread.apart (i + (to - from)) j (omega (arith, below, behind)) (omega (arith, one, big-one)) (omega (arith, two, big-two))
 
   module _ (done : SizesUp xs ys zs (to + n) (to - from) place) (within : from ≤ place) (none-left : (j : ℕ) → from ≤ j → j < place → get_or xs j 0 < 255) where
@@ -487,11 +422,5 @@ module _ (xs ys zs : List ℕ) (from to n place : ℕ) (parts : AreParts xs ys) 
           ]
         ]
 
-    long-shifted-up : length (shifted_up from to n (numbers_of xs ys)) ≡ length xs
-    long-shifted-up = up-numbers.len ∙ length-numbers xs ys
-
-    pub up-parts : AreParts (shifted_up from to n xs) zs
-    up-parts = moved-parts xs ys (shifted_up from to n xs) zs (shifted_up from to n (numbers_of xs ys)) parts up-marks.len done.runs long-shifted-up spread up-source up-has
-
-    pub up-view : numbers_of (shifted_up from to n xs) zs ≡ shifted_up from to n (numbers_of xs ys)
-    up-view = moved-view xs ys (shifted_up from to n xs) zs (shifted_up from to n (numbers_of xs ys)) parts up-marks.len done.runs long-shifted-up spread up-source up-has
+    pub up-both : AreParts (shifted_up from to n xs) zs × (numbers_of (shifted_up from to n xs) zs ≡ shifted_up from to n (numbers_of xs ys))
+    up-both = moved-both xs ys (shifted_up from to n xs) zs (shifted_up from to n (numbers_of xs ys)) parts up-marks.len done.runs (up-numbers.len ∙ length-numbers xs ys) spread up-source up-has

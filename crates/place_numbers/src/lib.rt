@@ -132,8 +132,7 @@ impl Numbers {
         requires spread { AreSpread (shifted_down from to count self.old) }
         ensures { self.new ≡ shifted_down from to count self.old }
     {
-        shift_sizes_down(&self.marks, &mut self.sizes, from, to, count);
-        self.marks.shift_down(from, to, count, sparse);
+        shift_parts_down(&mut self.marks, &mut self.sizes, from, to, count, sparse);
     }
 
     /// Moves the `count` numbers from `from` on up to `to` and behind. Those that stood there are gone, and as many zeros stand
@@ -144,8 +143,7 @@ impl Numbers {
         requires spread { AreSpread (shifted_up from to count self.old) }
         ensures { self.new ≡ shifted_up from to count self.old }
     {
-        shift_sizes_up(&self.marks, &mut self.sizes, from, to, count);
-        self.marks.shift_up(from, to, count, sparse);
+        shift_parts_up(&mut self.marks, &mut self.sizes, from, to, count, sparse);
     }
 
     /// The first place, `from` or behind it, whose number is at least `least`.
@@ -184,14 +182,21 @@ impl Numbers {
     }
 }
 
-/// Moves the sizes of the numbers from `from` on down, as `shift_down` moves their marks.
-fn shift_sizes_down(marks: &Marks, sizes: &mut Sizes, from: usize, to: usize, count: usize)
+/// Moves the numbers from `from` on down: the sizes of the large ones one by one, and then the marks of all.
+fn shift_parts_down(
+    marks: &mut Marks,
+    sizes: &mut Sizes,
+    from: usize,
+    to: usize,
+    count: usize,
+    sparse: bool,
+)
     requires order { to ≤ from }
-    requires inside { from + count ≤ length marks.now }
-    requires parts { AreParts marks.now sizes.old }
-    requires spread { AreSpread (shifted_down from to count (numbers_of marks.now sizes.old)) }
-    ensures parts { AreParts (shifted_down from to count marks.now) sizes.new }
-    ensures numbers { numbers_of (shifted_down from to count marks.now) sizes.new ≡ shifted_down from to count (numbers_of marks.now sizes.old) }
+    requires inside { from + count ≤ length marks.old }
+    requires parts { AreParts marks.old sizes.old }
+    requires spread { AreSpread (shifted_down from to count (numbers_of marks.old sizes.old)) }
+    ensures parts { AreParts marks.new sizes.new }
+    ensures numbers { numbers_of marks.new sizes.new ≡ shifted_down from to count (numbers_of marks.old sizes.old) }
 {
     let _len = marks.len();
     let gap = from - to;
@@ -205,16 +210,24 @@ fn shift_sizes_down(marks: &Marks, sizes: &mut Sizes, from: usize, to: usize, co
             sizes.set((at - gap) / RUN, size);
         }
     }
+    marks.shift_down(from, to, count, sparse);
 }
 
-/// Moves the sizes of the numbers from `from` on up, as `shift_up` moves their marks.
-fn shift_sizes_up(marks: &Marks, sizes: &mut Sizes, from: usize, to: usize, count: usize)
+/// Moves the numbers from `from` on up: the sizes of the large ones one by one, and then the marks of all.
+fn shift_parts_up(
+    marks: &mut Marks,
+    sizes: &mut Sizes,
+    from: usize,
+    to: usize,
+    count: usize,
+    sparse: bool,
+)
     requires order { from ≤ to }
-    requires inside { to + count ≤ length marks.now }
-    requires parts { AreParts marks.now sizes.old }
-    requires spread { AreSpread (shifted_up from to count (numbers_of marks.now sizes.old)) }
-    ensures parts { AreParts (shifted_up from to count marks.now) sizes.new }
-    ensures numbers { numbers_of (shifted_up from to count marks.now) sizes.new ≡ shifted_up from to count (numbers_of marks.now sizes.old) }
+    requires inside { to + count ≤ length marks.old }
+    requires parts { AreParts marks.old sizes.old }
+    requires spread { AreSpread (shifted_up from to count (numbers_of marks.old sizes.old)) }
+    ensures parts { AreParts marks.new sizes.new }
+    ensures numbers { numbers_of marks.new sizes.new ≡ shifted_up from to count (numbers_of marks.old sizes.old) }
 {
     let _len = marks.len();
     let gap = to - from;
@@ -228,4 +241,5 @@ fn shift_sizes_up(marks: &Marks, sizes: &mut Sizes, from: usize, to: usize, coun
             sizes.set((at + gap) / RUN, size);
         }
     }
+    marks.shift_up(from, to, count, sparse);
 }

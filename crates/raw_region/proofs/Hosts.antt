@@ -1,5 +1,5 @@
 -- Bytes of the host as bytes that are all here, and back. Assumes `Logic`.
-use Rattle.std.proofs.Common.{◌≡◌, ℕ, suc, ◌+◌, ◌^◌, ◌<◌, List, [], ◌∷◌, ◌++◌, length, refl, sym, ap, ◌∙◌, w64}
+use Rattle.std.proofs.Common.{◌≡◌, ℕ, suc, ◌+◌, ◌^◌, ◌<◌, List, [], ◌∷◌, length, refl, sym, w64}
 use Rattle.std.specs.Prelude.{Option, Some, None, Bool, IsTrue}
 use mathlib.Core.Path.{subst}
 use lib.Dec.{T}
@@ -7,14 +7,14 @@ use seplogic.Ra.Ura.{Ura}
 use base.Fraction.{full_share}
 use base.Logic.{ent, emp, id⊢}
 use base.Fml.{feq, fsep}
-use mir.Val.{Val, vint, vptr, of_list, vstruct}
+use mir.Val.{Val, vint}
 use types.Logic.{Logic, sem}
-use types.Kit.{Goal, Step, step, Seq, Item, ‵, ◌$◌, ◌∵◌, !, qed, by, frame, drop, use1, rewrite, fsplit, fjoin, fpick, fpack, feq_l, feq_i, flt_l, flt_i}
+use types.Kit.{Goal, Step, step, Seq, Item, ‵, ◌$◌, ◌∵◌, !, qed, by, frame, use1, rewrite, fsplit, fjoin, fpack, feq_l, feq_i, flt_i}
 use denote.RattleType.{RattleType, Valss}
 use denote.Array.{Array}
 use denote.Builtin.{u8}
 use denote.Memory.{part_at}
-use denote.RawPtr.{Ptr, block_ptr, ptr_val, lies_at, in_a_block}
+use denote.RawPtr.{block_ptr, ptr_val, lies_at}
 use denote.RawPtr.Bytes.{bytes, bytes_apart, bytes_whole}
 use denote.Steps.{nothing}
 use denote.Struct.Struct.{Struct, within}
@@ -24,7 +24,7 @@ use Rattle.raw_region.specs.Ownership.{cells}
 use Rattle.raw_region.specs.Span.{is_here}
 use Rattle.raw_region.specs.declared.host.HostBytes.{HostBytes}
 use Rattle.raw_region.specs.contracts.host.HostBytes as C
-use Rattle.raw_region.proofs.Opens.{words_val, cells_val}
+use Rattle.raw_region.proofs.Opens.{words_val, cells_val, words_had, words_made}
 
 -- the type `HostBytes`, as the logic names it
 abbrev pub HostRow : RattleType
@@ -59,12 +59,10 @@ module _ {M : Type 1} {𝓤 : Ura M} {𝓛 : Logic 𝓤} {K : Type 0} {Γ : List
       → ((b o : ℕ) → d.at ≡ block_ptr b o → vs ≡ cells_val b o d.len ∷ [] → d.len < 2 ^ 64 → length xs ≡ d.len → Seq K 𝓛 (‵ (cells (is_here []) 0 xs b o) ∷ Γ) G)
       → Seq K 𝓛 (‵ (HostRow.own_val d vs) ∷ Γ) G
   host_had t d xs is vs k =
-      fsplit t $ fpick t (λ vss. fsplit t $ feq_l t (λ all. fsplit t $ feq_l t (λ e₀. fsplit t $ fsplit t $ feq_l t (λ e₁. flt_l t (λ fn. drop t $
-      rewrite t 0 (λ (z : Option (List ℕ)). ‵ (host_bytes z d.at d.len)) is refl $
-      in_a_block t d.at (λ p. lies_at (Array u8 d.len) full_share p xs) (id⊢ 𝓤 _) (λ b o e.
+      rewrite t 0 (λ (z : Option (List ℕ)). ‵ (fsep (HostWords.own_val (d.at, (d.len, tt)) vs) (host_bytes z d.at d.len))) is refl $
+      words_had t d.at d.len (λ p. lies_at (Array u8 d.len) full_share p xs) (id⊢ 𝓤 _) vs (λ b o e told fn.
       use1 𝓛 (‵ (fsep (feq ℕ (length xs) d.len) (bytes full_share xs b o))) (bytes_apart 𝓛 full_share d.len xs b o) $ fsplit t $ feq_l t (λ long.
-      use1 𝓛 (‵ (cells (is_here []) 0 xs b o)) (all_here 𝓛 xs 0 b o) $
-      k b o e (all ∙ ((λ i. vstruct (of_list (e₀ i ++ (e₁ i ++ []))) ∷ []) ∙ ap (λ (p : Ptr). words_val p d.len ∷ []) e)) fn long)))))))
+      use1 𝓛 (‵ (cells (is_here []) 0 xs b o)) (all_here 𝓛 xs 0 b o) $ k b o e told fn long))
 
   -- a `HostBytes` is made of the bytes
   pub host_made : K → (d : HostBytes) (xs : List ℕ) (b o : ℕ) → d.bytes ≡ Some xs → d.at ≡ block_ptr b o → length xs ≡ d.len → d.len < 2 ^ 64
@@ -72,11 +70,8 @@ module _ {M : Type 1} {𝓤 : Ura M} {𝓛 : Logic 𝓤} {K : Type 0} {Γ : List
   host_made t d xs b o is at long fn = step (λ s.
       use1 𝓛 (‵ (bytes full_share xs b o)) (all_there 𝓛 xs 0 b o) $ feq_i t ℕ (length xs) d.len long $ fjoin t $
       use1 𝓛 (‵ (lies_at (Array u8 d.len) full_share (block_ptr b o) xs)) (bytes_whole 𝓛 full_share d.len xs b o) $
-      nothing t $ flt_i t d.len (2 ^ 64) fn $ feq_i t (List Val) (vint w64 d.len ∷ []) (vint w64 d.len ∷ []) refl $ fjoin t $ fjoin t $
-      feq_i t (List Val) (vptr b o ∷ []) (vptr b o ∷ []) refl $ fjoin t $ feq_i t (List Val) (cells_val b o d.len ∷ []) (cells_val b o d.len ∷ []) refl $ fjoin t $
-      fpack t (Valss (shape C.the_type).fields) (within (shape C.the_type) (block_ptr b o, (d.len, tt)) (cells_val b o d.len ∷ [])) (vptr b o ∷ [], (vint w64 d.len ∷ [], tt)) $ fjoin t $
-      rewrite t 0 (λ (z : Option (List ℕ)). ‵ (fsep (HostWords.own_val (block_ptr b o, (d.len, tt)) (cells_val b o d.len ∷ [])) (host_bytes z (block_ptr b o) d.len))) (sym is) refl $
-      rewrite t 0 (λ (p : Ptr). ‵ (fsep (HostWords.own_val (p, (d.len, tt)) (cells_val b o d.len ∷ [])) (host_bytes d.bytes p d.len))) (sym at) refl $ s)
+      words_made t d.at d.len (λ p. lies_at (Array u8 d.len) full_share p xs) b o at fn $
+      rewrite t 0 (λ (z : Option (List ℕ)). ‵ (fsep (HostWords.own_val (d.at, (d.len, tt)) (cells_val b o d.len ∷ [])) (host_bytes z d.at d.len))) (sym is) refl $ s)
 
   -- one without bytes is made of nothing
   pub host_none : K → (d : HostBytes) → d.bytes ≡ None → d.len < 2 ^ 64 → Step K 𝓛 (‵ (HostRow.own_val d (words_val d.at d.len ∷ [])) ∷ Γ) G Γ G

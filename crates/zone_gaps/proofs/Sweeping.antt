@@ -19,6 +19,7 @@ use Rattle.linked_zone.specs.Fit.{HasSizes}
 use Rattle.linked_zone.specs.Places.{EntryAt, all_can_move}
 use Rattle.zone_gaps.specs.Gaps.{Settled}
 use Rattle.zone_index.specs.Runs.{RestAt, none_fixed, begins_fixed}
+use Rattle.zone_index.proofs.Entries.{FirstIn, first_in}
 use Rattle.zone_index.proofs.Sizes.{all_parts, first_bytes}
 use Rattle.zone_gaps.specs.Runs.{RunAt, has_owner, arranged}
 use Rattle.zone_gaps.proofs.Settling.{owners-settled, all_move-unfixed}
@@ -152,19 +153,9 @@ module _ (z new : ZoneState) (at : ℕ) (settled : Settled z) (s : Swept z new a
         let same = (down-IsArrangement gap_swept.blocks).same_total in
         omega arith
 
-    -- a fixed block behind it
-    pub record Stop : Type 0 where
-      pub here : Entry
-      pub more : ZoneMap
-      pub is : gap_swept.behind ≡ here ∷ more
-
-    -- stands below the zone's end
-    pub stop : end < address_behind z.shape z.heap.map → Stop
-    stop below = by_behind gap_swept.behind refl
-      where
-        by_behind : (m : ZoneMap) → gap_swept.behind ≡ m → Stop
-        by_behind [] none = let bytes = ap total_size none in let all = end_swept in absurd (omega arith)
-        by_behind (e ∷ es) some = record { here = e; more = es; is = some }
+    -- below the zone's end a fixed block stands behind it
+    pub stop : end < address_behind z.shape z.heap.map → FirstIn gap_swept.behind
+    stop below = let all = end_swept in first_in gap_swept.behind (omega arith)
 
     -- at the zone's end all gaps are pressed down
     pub swept_last : address_behind z.shape z.heap.map ≤ end → Swept z after end
@@ -185,20 +176,20 @@ module _ (z new : ZoneState) (at : ℕ) (settled : Settled z) (s : Swept z new a
           total = ap total_size (sym same) ∙ pressed_total;
         }
 
-    module _ (b : Stop) where
+    module _ (b : FirstIn gap_swept.behind) where
       -- it is read there
-      pub map_stop : after.heap.map ≡ (s.lower ++ down gap_swept.blocks) ++ b.here ∷ b.more
-      map_stop = ap (λ (w : ZoneState). w.heap.map) zone_pressed ∙ ap (λ m. s.lower ++ (down gap_swept.blocks ++ m)) b.is ∙ sym (append_assoc s.lower (down gap_swept.blocks) (b.here ∷ b.more))
+      pub map_stop : after.heap.map ≡ (s.lower ++ down gap_swept.blocks) ++ b.here ∷ b.after
+      map_stop = ap (λ (w : ZoneState). w.heap.map) zone_pressed ∙ ap (λ m. s.lower ++ (down gap_swept.blocks ++ m)) b.is ∙ sym (append_assoc s.lower (down gap_swept.blocks) (b.here ∷ b.after))
 
       pub place_stop : end ≡ address_behind after.shape (s.lower ++ down gap_swept.blocks)
       place_stop = end_pressed ∙ ap (λ (w : ZoneState). address_behind w.shape (s.lower ++ down gap_swept.blocks)) (sym zone_pressed)
 
       abbrev pub entry_stop : EntryAt after end
-      entry_stop = record { before = s.lower ++ down gap_swept.blocks; here = b.here; behind = b.more; map = map_stop; place = place_stop }
+      entry_stop = record { before = s.lower ++ down gap_swept.blocks; here = b.here; behind = b.after; map = map_stop; place = place_stop }
 
       -- it has bytes
       pub some_stop : 0 < (b.here).size
-      some_stop = first_bytes z.shape b.here b.more (ap (sizes_possible z.shape) (sym b.is) ∙ (both_swept _ s.sizes).2)
+      some_stop = first_bytes z.shape b.here b.after (ap (sizes_possible z.shape) (sym b.is) ∙ (both_swept _ s.sizes).2)
 
       -- it ends at the zone's end or below
       pub within_stop : end + (b.here).size ≤ address_behind z.shape z.heap.map
@@ -210,10 +201,10 @@ module _ (z new : ZoneState) (at : ℕ) (settled : Settled z) (s : Swept z new a
           let m : ZoneMap = s.lower ++ (down gap_swept.blocks ++ gap_swept.behind) in
           let d : ZoneMap = down gap_swept.blocks in
           let regroup : (r : ZoneMap) → s.lower ++ (d ++ (b.here ∷ r)) ≡ (s.lower ++ (d ++ b.here ∷ [])) ++ r = λ r. simp append_assoc in
-          let same : m ≡ (s.lower ++ (d ++ b.here ∷ [])) ++ b.more = ap (λ m. s.lower ++ (d ++ m)) b.is ∙ regroup b.more in
+          let same : m ≡ (s.lower ++ (d ++ b.here ∷ [])) ++ b.after = ap (λ m. s.lower ++ (d ++ m)) b.is ∙ regroup b.after in
           record {
             lower = s.lower ++ (d ++ b.here ∷ []);
-            rest = b.more;
+            rest = b.after;
             zone = zone_pressed ∙ ap (λ m. with_map m z) same;
             at_is =
                 let first = end_pressed in
@@ -222,7 +213,7 @@ module _ (z new : ZoneState) (at : ℕ) (settled : Settled z) (s : Swept z new a
                 let push = total_size-append d (b.here ∷ []) in
                 omega arith;
             same = s.same ∙ ap (λ m. s.lower ++ all_down z.heap.table m) (parts_swept ∙ ap (λ m. gap_swept.blocks ++ m) b.is)
-                ∙ ap (λ m. s.lower ++ m) (all_down-fixed z.heap.table gap_swept.blocks b.here b.more (is_gap).moves (ap (begins_fixed z.heap.table) (sym b.is) ∙ (is_gap).above)) ∙ regroup (all_down z.heap.table b.more);
+                ∙ ap (λ m. s.lower ++ m) (all_down-fixed z.heap.table gap_swept.blocks b.here b.after (is_gap).moves (ap (begins_fixed z.heap.table) (sym b.is) ∙ (is_gap).above)) ∙ regroup (all_down z.heap.table b.after);
             sizes = ap (sizes_possible z.shape) (sym same) ∙ pressed_sizes;
             owners = ap (owned z.heap.table) (sym same) ∙ pressed_owners;
             total = ap total_size (sym same) ∙ pressed_total;

@@ -1,10 +1,10 @@
 -- Two handle tables that are alike but for bytes: the same numbers are live, with the same flags and as many bytes.
-use Rattle.std.proofs.Common.{◌≡◌, ℕ, length, Option, Some, None, refl, ap, sym, ◌∙◌}
+use Rattle.std.proofs.Common.{◌≡◌, ℕ, length, Option, refl, ap, sym, ◌∙◌}
 use Rattle.std.proofs.lemmas.List.{length-replicate}
-use Rattle.mac_base.specs.HandleTable.{HandleTable, Live, EmptyHandle, FullHandle, Pointer, live_at, live_bytes, live_flags, live_full, live_handle, live_pointer}
+use Rattle.mac_base.specs.HandleTable.{HandleTable, Live, live_at, live_bytes, live_flags, live_full, live_handle, live_pointer}
 use Rattle.mac_base.specs.Heap.{Heap}
 use Rattle.linked_zone.specs.Structure.{blank_heap, blank_live}
-use Rattle.linked_zone.proofs.Shown.{find-each, if_live}
+use Rattle.linked_zone.proofs.Shown.{find-each, if_live, told-alike}
 
 -- what is live, if anything, with zeros for its bytes
 abbrev pub blank : Option Live → Option Live
@@ -23,31 +23,16 @@ pub alike-same : {A : Type 0} (f : Option Live → A) → ((o : Option Live) →
 alike-same f blanks t u alike x = sym (blanks (live_at u x)) ∙ ap f (alike x) ∙ blanks (live_at t x)
 
 pub blank-flags : (o : Option Live) → live_flags (blank o) ≡ live_flags o
-blank-flags None = refl
-blank-flags (Some EmptyHandle) = refl
-blank-flags (Some (FullHandle flags bytes)) = refl
-blank-flags (Some (Pointer bytes)) = refl
+blank-flags = told-alike live_flags blank_live refl (λ flags bytes. refl) (λ bytes. refl)
 
 pub blank-full : (o : Option Live) → live_full (blank o) ≡ live_full o
-blank-full None = refl
-blank-full (Some EmptyHandle) = refl
-blank-full (Some (FullHandle flags bytes)) = refl
-blank-full (Some (Pointer bytes)) = refl
+blank-full = told-alike live_full blank_live refl (λ flags bytes. refl) (λ bytes. refl)
 
 pub blank-handle : (o : Option Live) → live_handle (blank o) ≡ live_handle o
-blank-handle None = refl
-blank-handle (Some EmptyHandle) = refl
-blank-handle (Some (FullHandle flags bytes)) = refl
-blank-handle (Some (Pointer bytes)) = refl
+blank-handle = told-alike live_handle blank_live refl (λ flags bytes. refl) (λ bytes. refl)
 
 pub blank-pointer : (o : Option Live) → live_pointer (blank o) ≡ live_pointer o
-blank-pointer None = refl
-blank-pointer (Some EmptyHandle) = refl
-blank-pointer (Some (FullHandle flags bytes)) = refl
-blank-pointer (Some (Pointer bytes)) = refl
+blank-pointer = told-alike live_pointer blank_live refl (λ flags bytes. refl) (λ bytes. refl)
 
 pub blank-long : (o : Option Live) → length (live_bytes (blank o)) ≡ length (live_bytes o)
-blank-long None = refl
-blank-long (Some EmptyHandle) = refl
-blank-long (Some (FullHandle flags bytes)) = length-replicate (length bytes) 0
-blank-long (Some (Pointer bytes)) = length-replicate (length bytes) 0
+blank-long = told-alike (λ o. length (live_bytes o)) blank_live refl (λ flags bytes. length-replicate (length bytes) 0) (λ bytes. length-replicate (length bytes) 0)

@@ -1,6 +1,6 @@
 -- What each change makes of a zone: a part of its map is another, and the blocks elsewhere weigh what they did.
-use Rattle.std.proofs.Common.{◌≡◌, ℕ, ◌+◌, ◌-◌, true, false, cond, List, [], ◌∷◌, ◌++◌, Contains, Some, drop, inl, inr, refl, ap, sym, ◌∙◌, subst, append-nil, append_assoc, arith}
-use Rattle.std.specs.Prelude.{◌==◌, ◌⊎◌}
+use Rattle.std.proofs.Common.{◌≡◌, ℕ, ◌+◌, ◌-◌, true, false, cond, List, [], ◌∷◌, ◌++◌, Contains, Option, None, Some, drop, inl, inr, refl, ap, sym, ◌∙◌, subst, append-nil, append_assoc, arith}
+use Rattle.std.specs.Prelude.{MatchOption, ◌==◌, ◌⊎◌}
 use Rattle.mac_base.specs.declared.block.Flags.{Flags}
 use Rattle.mac_base.specs.declared.block.Kind.{Kind}
 use Rattle.mac_base.specs.declared.block.Kind.TheVariants.{Free, Master, Ptr, Rel}
@@ -311,3 +311,9 @@ module _ (z : ZoneState) where
 
   pub returned-weights : (x : ℕ) (bytes : List ℕ) → weights (returned x bytes z.heap).table z.heap.map ≡ weights z.heap.table z.heap.map
   returned-weights x bytes = weights-same (with_bytes x bytes z.heap.table) (returned x bytes z.heap).table (λ h. refl) (λ h. refl) z.heap.map ∙ weights-bytes z.heap.table x bytes z.heap.map
+
+-- what a zone keeps whose blocks weigh what they did, one keeps whose free slot is given, if it has one
+pub taken-kept : (P : ZoneState → Type 0) (z : ZoneState) → ((heap : Heap) → heap.map ≡ z.heap.map → weights heap.table z.heap.map ≡ weights z.heap.table z.heap.map → P (with_heap heap z)) → Fits z → (o : Option ℕ) (new : ZoneState) → P z
+    → MatchOption o ((z.heap.free_slots ≡ []) × (new ≡ z)) (λ h. (z.heap.free_slots ≡ h ∷ drop 1 z.heap.free_slots) × (new ≡ taken h z)) → P new
+taken-kept P z still fits None new same is = subst P (sym is.1) same
+taken-kept P z still fits (Some h) new same is = subst P (sym is.1) (still (taken h z).heap refl (taken-weights z fits h is.0))

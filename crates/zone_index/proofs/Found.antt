@@ -8,7 +8,8 @@ use Rattle.mac_base.specs.declared.block.Entry.{Entry}
 use Rattle.mac_base.specs.Gap.{Gap, gaps, is_fixed, lowest_gap, room}
 use Rattle.mac_base.specs.HandleTable.{HandleTable}
 use Rattle.mac_base.specs.Reports.{largest_room}
-use Rattle.mac_base.specs.ZoneMap.{ZoneMap, address_behind, free_bytes, free_size, total_size}
+use Rattle.mac_base.specs.declared.block.Kind.TheVariants.{Free}
+use Rattle.mac_base.specs.ZoneMap.{ZoneMap, address_behind, block, free_bytes, free_size, is_free, total_size}
 use Rattle.mac_base.specs.ZoneState.{ZoneState}
 use Rattle.zone_laws.proofs.Arranging.{free_bytes-all_used}
 use Rattle.zone_laws.proofs.GapAppend.{free_bytes-append}
@@ -211,50 +212,97 @@ module _ (z : ZoneState) (k : ℕ) (some : 0 < k) (at start : ℕ) (r : Reaches 
       let same = ap (most_free t 0) last.parts in
       ap (λ m. lowest_gap k (gaps t m)) parts ∙ lowest-begins t k last.before run first.behind last.below moves first.above has_room (omega arith)
 
+  -- the gap begins where its first blocks do
+  start_of : ((front : FrontAt z at) → start + total_size front.blocks ≡ at) → start ≡ address_behind z.shape last.before
+  start_of begins =
+      let there = begins (front_split z at (split_entry z at r.entry)) in
+      let place = (r.entry).place in
+      let all = ap total_size last.parts ∙ total_size-append last.before last.blocks in
+      omega arith
+
+  first_free : start ≡ address_behind z.shape last.before → (free : ℕ) → FirstFree (run ++ first.behind) start free → IsLowestGap z k free
+  first_free start_is free f =
+      let low : total_size f.passed < total_size run = elim (nat_lt (total_size f.passed) (total_size run)) as (λ b. nat_lt (total_size f.passed) (total_size run) ≡ b → total_size f.passed < total_size run) [
+        | true ↦ λ is. grind (arith, nat_tests)
+        | false ↦ λ is.
+            let high : total_size run ≤ total_size f.passed = grind (arith, nat_tests) in
+            let none = none-among run first.behind f.passed f.size f.behind f.splits f.used high in
+            let enough = has_room in
+            absurd (omega (arith, none, enough, some))
+      ] refl in
+      let among = free-among run first.behind f.passed f.size f.behind f.splits low in
+      record {
+        gap = record { before = last.before; blocks = run; behind = first.behind };
+        lowest = lowest_is;
+        first = record {
+          used = f.passed;
+          size = f.size;
+          rest = among.rest;
+          blocks = among.parts;
+          none = f.used;
+          place = (let there = f.place in let all = total_size-append last.before f.passed in omega arith);
+        };
+      }
+
+  none_left : none_free (run ++ first.behind) ≡ true → lowest_gap k (gaps t z.heap.map) ≡ None
+  none_left used =
+      let both = free_bytes-append run first.behind in
+      let none = free_bytes-all_used (run ++ first.behind) used in
+      let enough = has_room in
+      absurd (omega (arith, both, none, enough, some))
+
   module _ (begins : (front : FrontAt z at) → start + total_size front.blocks ≡ at) where
-    start_is : start ≡ address_behind z.shape last.before
-    start_is =
-        let there = begins (front_split z at (split_entry z at r.entry)) in
-        let place = (r.entry).place in
-        let all = ap total_size last.parts ∙ total_size-append last.before last.blocks in
-        omega arith
-
     pub split_start : SplitAt z start
-    split_start = record { before = last.before; behind = run ++ first.behind; map = parts; place = start_is }
-
-    first_free : (free : ℕ) → FirstFree (run ++ first.behind) start free → IsLowestGap z k free
-    first_free free f =
-        let low : total_size f.passed < total_size run = elim (nat_lt (total_size f.passed) (total_size run)) as (λ b. nat_lt (total_size f.passed) (total_size run) ≡ b → total_size f.passed < total_size run) [
-          | true ↦ λ is. grind (arith, nat_tests)
-          | false ↦ λ is.
-              let high : total_size run ≤ total_size f.passed = grind (arith, nat_tests) in
-              let none = none-among run first.behind f.passed f.size f.behind f.splits f.used high in
-              let enough = has_room in
-              absurd (omega (arith, none, enough, some))
-        ] refl in
-        let among = free-among run first.behind f.passed f.size f.behind f.splits low in
-        record {
-          gap = record { before = last.before; blocks = run; behind = first.behind };
-          lowest = lowest_is;
-          first = record {
-            used = f.passed;
-            size = f.size;
-            rest = among.rest;
-            blocks = among.parts;
-            none = f.used;
-            place = (let there = f.place in let here = start_is in let all = total_size-append last.before f.passed in omega arith);
-          };
-        }
-
-    none_left : none_free (run ++ first.behind) ≡ true → lowest_gap k (gaps t z.heap.map) ≡ None
-    none_left used =
-        let both = free_bytes-append run first.behind in
-        let none = free_bytes-all_used (run ++ first.behind) used in
-        let enough = has_room in
-        absurd (omega (arith, both, none, enough, some))
+    split_start = record { before = last.before; behind = run ++ first.behind; map = parts; place = start_of begins }
 
     pub lowest-found : (o : Option ℕ) → IfSome o (λ free. (split : SplitAt z start) → FirstFree split.behind start free) → IfNone o ((split : SplitAt z start) → IsTrue (none_free split.behind))
         → MatchOption o (lowest_gap k (gaps t z.heap.map) ≡ None) (λ free. IsLowestGap z k free)
     unfolding split_start
     lowest-found None next none = none_left (none split_start)
-    lowest-found (Some free) next none = first_free free (next split_start)
+    lowest-found (Some free) next none = first_free (start_of begins) free (next split_start)
+
+  -- where none of the blocks before it is free, the block is the first free one of that gap
+  pub first-found : none_free (r.entry).before ≡ true → (size : ℕ) → (r.entry).here ≡ block Free size → start ≡ address_behind z.shape last.before → IsLowestGap z k at
+  first-found used size is start_is =
+      let both = and_parts (none_free last.before) (none_free last.blocks) (sym (list_all-append (λ (e : Entry). not (is_free e.kind)) last.before last.blocks) ∙ ap none_free (sym last.parts) ∙ used) in
+      first_free start_is at (record {
+        passed = last.blocks;
+        size = size;
+        behind = (r.entry).behind;
+        splits = append_assoc last.blocks first.blocks first.behind ∙ ap (λ m. last.blocks ++ m) (sym first.parts ∙ ap (λ e. e ∷ (r.entry).behind) is);
+        used = both.1;
+        place = (let place = (r.entry).place in let all = ap total_size last.parts ∙ total_size-append last.before last.blocks in omega (arith, place, all, start_is));
+      })
+
+-- of blocks none of which is free no gap has any byte, and with one more it has that block's
+module _ (t : HandleTable) where
+  idle-most : (m : ZoneMap) → none_free m ≡ true → most_free t 0 m ≡ 0
+  idle-most [] used = refl
+  idle-most (e ∷ es) used =
+      let both = and_parts (not (is_free e.kind)) (none_free es) used in
+      let none : free_size e ≡ 0 = ap (λ b. cond b e.size 0) (not-true _ both.0) in
+      let rest = idle-most es both.1 in
+      elim (is_fixed t e.kind) as (λ b. is_fixed t e.kind ≡ b → most_free t 0 (e ∷ es) ≡ 0) [
+        | true ↦ λ is. let first = fixed_first t 0 e es is in omega arith
+        | false ↦ λ is. let first = loose_first t 0 e es is in let same : 0 + free_size e ≡ 0 = omega arith in first ∙ ap (λ n. most_free t n es) same ∙ rest
+      ] refl
+
+  here-most : (r : ℕ) (m : ZoneMap) (size : ℕ) → size ≤ most_free t r (m ++ block Free size ∷ [])
+  here-most r [] size = omega arith
+  here-most r (e ∷ es) size = elim (is_fixed t e.kind) as (λ b. is_fixed t e.kind ≡ b → size ≤ most_free t r (e ∷ (es ++ block Free size ∷ []))) [
+    | true ↦ λ is. let first = fixed_first t r e (es ++ block Free size ∷ []) is in let rest = here-most 0 es size in omega arith
+    | false ↦ λ is. let first = loose_first t r e (es ++ block Free size ∷ []) is in let rest = here-most (r + free_size e) es size in omega arith
+  ] refl
+
+-- the zone's lowest free block, where it alone has room: its gap is the lowest that has
+pub first-large : (z : ZoneState) (k : ℕ) → 0 < k → (from at : ℕ) → from ≡ address_behind z.shape [] → (f : FirstFree z.heap.map from at) → k ≤ f.size → IsLowestGap z k at
+first-large z k some from at begins f large =
+    let t = z.heap.table in
+    let few = idle-most t f.passed f.used in
+    let enough = here-most t 0 f.passed f.size in
+    let r : Reaches z k at = record {
+      entry = record { before = f.passed; here = block Free f.size; behind = f.behind; map = f.splits; place = (let place = f.place in omega arith) };
+      few = omega arith;
+      enough = omega arith;
+    } in
+    first-found z k some at (address_behind z.shape (last_run t f.passed).before) r f.used f.size refl refl

@@ -18,6 +18,7 @@ use Rattle.zone_index.specs.Weights.{weigh, weights}
 use Rattle.zone_index.specs.Pages.{begun}
 use Rattle.zone_index.specs.Walk.{AllBelow}
 use Rattle.zone_index.specs.Rooms.{room_of, room_sum}
+use Rattle.zone_index.proofs.Entries.{FirstIn, entry_after, first_in}
 use Rattle.zone_index.proofs.Begun.{begun-below, weights-append}
 use Rattle.zone_index.proofs.RoomSums.{room_sum-append, sum-fits}
 use Rattle.zone_index.proofs.Sizes.{all_parts, first_bytes}
@@ -81,12 +82,6 @@ none_gathered z sizes low high start at is f =
       sum = refl;
     }
 
--- a block comes next
-pub record Coming {low high at : ℕ} {s : Span} (z : ZoneState) (g : Gathered z low high at s) : Type 0 where
-  pub here : Entry
-  pub after : ZoneMap
-  pub is : g.behind ≡ here ∷ after
-
 module _ (z : ZoneState) (low high at : ℕ) (s : Span) (g : Gathered z low high at s) where
   gathered-end : address_behind z.shape z.heap.map ≡ at + total_size g.behind
   gathered-end =
@@ -96,24 +91,14 @@ module _ (z : ZoneState) (low high at : ℕ) (s : Span) (g : Gathered z low high
       let place = g.place in
       omega arith
 
-  -- below the zone's end
-  pub gathered-next : at < address_behind z.shape z.heap.map → Coming z g
-  gathered-next under = by_rest g.behind refl
-    where
-      by_rest : (rest : ZoneMap) → g.behind ≡ rest → Coming z g
-      by_rest [] is = let none = ap total_size is in let end = gathered-end in absurd (omega arith)
-      by_rest (e ∷ es) is = record { here = e; after = es; is = is }
+  -- below the zone's end a block comes next
+  pub gathered-next : at < address_behind z.shape z.heap.map → FirstIn g.behind
+  gathered-next under = let end = gathered-end in first_in g.behind (omega arith)
 
-  module _ (n : Coming z g) where
+  module _ (n : FirstIn g.behind) where
     -- it is read
     abbrev pub gathered-entry : EntryAt z at
-    gathered-entry = record {
-      before = g.before ++ g.done;
-      here = n.here;
-      behind = n.after;
-      map = g.map ∙ ap (λ r. g.before ++ (g.done ++ r)) n.is ∙ sym (append_assoc g.before g.done (n.here ∷ n.after));
-      place = (let all = total_size-append g.before g.done in let place = g.place in omega arith);
-    }
+    gathered-entry = entry_after z at g.before g.done g.behind g.map g.place n
 
     -- and there is room for the sum with it
     pub gathered-fits : (e : Entry) → e ≡ n.here → address_behind z.shape z.heap.map < 2 ^ 32 → SpanFits (joined s (room_of (weigh z.heap.table e)))

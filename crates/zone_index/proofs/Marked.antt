@@ -1,10 +1,9 @@
 -- A walk over a zone writes a mark for each block: those that pass a test have one.
-use Rattle.std.proofs.Common.{◌≡◌, Some, None, ℕ, ◌+◌, ◌/◌, ◌<◌, ◌≤◌, Bool, true, false, if◌then◌else◌, List, [], ◌∷◌, ◌++◌, length, set, slice_index, refl, ap, sym, ◌∙◌, subst, append_assoc, inl, inr, arith}
+use Rattle.std.proofs.Common.{◌≡◌, ℕ, ◌+◌, ◌/◌, ◌<◌, ◌≤◌, Bool, true, false, if◌then◌else◌, List, [], ◌∷◌, ◌++◌, length, set, slice_index, refl, ap, sym, ◌∙◌, subst, append_assoc, inl, inr, arith}
 use Rattle.std.specs.Prelude.{◌⊎◌}
 use Rattle.std.proofs.lemmas.List.{length-set}
-use Rattle.mac_base.specs.declared.block.Block.{Block}
+use Rattle.mac_base.specs.declared.block.Entry.{Entry}
 use Rattle.mac_base.specs.declared.block.Kind.{Kind}
-use Rattle.mac_base.specs.BlockReport.{report_at}
 use Rattle.mac_base.specs.Gap.{is_fixed}
 use Rattle.mac_base.specs.HandleTable.{HandleTable}
 use Rattle.mac_base.specs.ZoneMap.{ZoneMap, address_behind, total_size}
@@ -15,9 +14,9 @@ use Rattle.linked_zone.specs.Fit.{HasSizes}
 use Rattle.linked_zone.specs.Places.{EntryAt, SplitAt}
 use Rattle.zone_index.specs.Marks.{AreMarked, PassesAt, place}
 use Rattle.zone_index.specs.Purging.{may_go}
+use Rattle.zone_index.proofs.Entries.{split-none}
 use Rattle.zone_index.proofs.MarksKept.{places-apart, written-read}
 use Rattle.zone_index.proofs.Passing.{HasPassing, of-passing, passes-only, passing-below, passing-split}
-use Rattle.zone_index.proofs.Shown.{none_there, shown-there}
 use Rattle.zone_index.proofs.Sizes.{all_parts}
 
 -- each block below an address that passes has a mark
@@ -111,43 +110,30 @@ module _ (z : ZoneState) (at : ℕ) where
     goes = none_below may_go z at purgeable goes first;
   }
 
-  -- the block that is reported there stands there
-  abbrev pub shown-entry : (b : Block) → Some b ≡ report_at z.shape z.heap at → EntryAt z at
-  shown-entry b is =
-      let s = shown-there z at b is in
-      let place = s.place in
-      record { before = s.before; here = b.entry; behind = s.behind; map = s.map; place = omega arith }
-
-  -- its marks are written
-  pub marking-on : HasSizes z → (b : Block) (is : Some b ≡ report_at z.shape z.heap at) (p : ℕ) → p ≡ place z.shape at
-      → place z.shape at ≤ z.shape.limit / 4 → (marks purgeable fixed goes : List ℕ) → fixed ≡ (if is_fixed z.heap.table (b.entry).kind then set marks p 1 else marks)
-      → goes ≡ (if may_go z.heap.table (b.entry).kind then set purgeable p 1 else purgeable) → Marking z at marks purgeable → Marking z (at + (b.entry).size) fixed goes
-  marking-on sizes b is p here inside marks purgeable fixed goes fixed_is goes_is m =
-      let e = shown-entry b is in
-      let s = shown-there z at b is in
-      let all = total_size-append s.before (b.entry ∷ []) in
-      let place_is = s.place in
-      record {
-        split = record { before = s.before ++ b.entry ∷ []; behind = s.behind; map = s.map ∙ sym (append_assoc s.before (b.entry ∷ []) s.behind); place = omega arith };
-        fixed = subst (MarkedBelow is_fixed z (at + (b.entry).size)) (sym (fixed_is ∙ ap (λ p. (if is_fixed z.heap.table (b.entry).kind then set marks p 1 else marks)) here))
-            (marked-if is_fixed z sizes at e marks inside m.fixed);
-        goes = subst (MarkedBelow may_go z (at + (b.entry).size)) (sym (goes_is ∙ ap (λ p. (if may_go z.heap.table (b.entry).kind then set purgeable p 1 else purgeable)) here))
-            (marked-if may_go z sizes at e purgeable inside m.goes);
-      }
-
-  -- none is left where none is reported
-  none-left : (s : SplitAt z at) → None ≡ report_at z.shape z.heap at → s.behind ≡ []
-  none-left s none = by_behind s.behind refl
+  -- the marks of the block that stands there are written
+  pub marking-on : HasSizes z → (e : EntryAt z at) (here : Entry) → here ≡ e.here → (p : ℕ) → p ≡ place z.shape at → place z.shape at ≤ z.shape.limit / 4
+      → (marks purgeable fixed goes : List ℕ) → fixed ≡ (if is_fixed z.heap.table here.kind then set marks p 1 else marks)
+      → goes ≡ (if may_go z.heap.table here.kind then set purgeable p 1 else purgeable) → Marking z at marks purgeable → Marking z (at + here.size) fixed goes
+  marking-on sizes e here is p there inside marks purgeable fixed goes fixed_is goes_is m =
+      subst (λ (n : Entry). fixed ≡ (if is_fixed z.heap.table n.kind then set marks p 1 else marks) → goes ≡ (if may_go z.heap.table n.kind then set purgeable p 1 else purgeable) → Marking z (at + n.size) fixed goes)
+      (sym is) marked fixed_is goes_is
     where
-      by_behind : (m : ZoneMap) → s.behind ≡ m → m ≡ []
-      by_behind [] is = refl
-      by_behind (e ∷ es) is =
-          let entry : EntryAt z at = record { before = s.before; here = e; behind = es; map = s.map ∙ ap (λ m. s.before ++ m) is; place = s.place } in
-          absurd (none_there (λ t k. true) z at none (record { entry = entry; passes = refl }))
+      marked : fixed ≡ (if is_fixed z.heap.table (e.here).kind then set marks p 1 else marks)
+          → goes ≡ (if may_go z.heap.table (e.here).kind then set purgeable p 1 else purgeable) → Marking z (at + (e.here).size) fixed goes
+      marked fixed_is goes_is =
+          let all = total_size-append e.before (e.here ∷ []) in
+          let place_is = e.place in
+          record {
+            split = record { before = e.before ++ e.here ∷ []; behind = e.behind; map = e.map ∙ sym (append_assoc e.before (e.here ∷ []) e.behind); place = omega arith };
+            fixed = subst (MarkedBelow is_fixed z (at + (e.here).size)) (sym (fixed_is ∙ ap (λ p. (if is_fixed z.heap.table (e.here).kind then set marks p 1 else marks)) there))
+                (marked-if is_fixed z sizes at e marks inside m.fixed);
+            goes = subst (MarkedBelow may_go z (at + (e.here).size)) (sym (goes_is ∙ ap (λ p. (if may_go z.heap.table (e.here).kind then set purgeable p 1 else purgeable)) there))
+                (marked-if may_go z sizes at e purgeable inside m.goes);
+          }
 
-  -- then each block that passes has its mark
-  pub marking-fixed : (marks purgeable : List ℕ) → HasSizes z → Marking z at marks purgeable → None ≡ report_at z.shape z.heap at → AreMarked is_fixed z marks
-  marking-fixed marks purgeable sizes m none = marked-all is_fixed z sizes at m.split marks (none-left m.split none) m.fixed
+  -- at the zone's end each block that passes has its mark
+  pub marking-fixed : (marks purgeable : List ℕ) → HasSizes z → Marking z at marks purgeable → address_behind z.shape z.heap.map ≤ at → AreMarked is_fixed z marks
+  marking-fixed marks purgeable sizes m end = marked-all is_fixed z sizes at m.split marks (split-none z at m.split sizes end) m.fixed
 
-  pub marking-goes : (marks purgeable : List ℕ) → HasSizes z → Marking z at marks purgeable → None ≡ report_at z.shape z.heap at → AreMarked may_go z purgeable
-  marking-goes marks purgeable sizes m none = marked-all may_go z sizes at m.split purgeable (none-left m.split none) m.goes
+  pub marking-goes : (marks purgeable : List ℕ) → HasSizes z → Marking z at marks purgeable → address_behind z.shape z.heap.map ≤ at → AreMarked may_go z purgeable
+  marking-goes marks purgeable sizes m end = marked-all may_go z sizes at m.split purgeable (split-none z at m.split sizes end) m.goes

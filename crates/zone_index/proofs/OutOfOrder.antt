@@ -2,7 +2,7 @@
 use Rattle.std.proofs.Common.{◌≡◌, ℕ, ◌+◌, ◌<◌, ◌≤◌, Bool, true, false, not, [], ◌∷◌, ◌++◌, refl, ap, sym, ◌∙◌, subst, append_assoc, append-nil, arith}
 use Rattle.std.specs.Prelude.{◌&&◌, ◌||◌, List, nat_lt}
 use Rattle.mac_base.specs.declared.block.Entry.{Entry}
-use Rattle.mac_base.specs.ZoneMap.{ZoneMap, total_size, address_behind}
+use Rattle.mac_base.specs.ZoneMap.{total_size, address_behind}
 use Rattle.mac_base.specs.ZoneState.{ZoneState}
 use Rattle.zone_laws.proofs.GapApart.{sizes_possible}
 use Rattle.zone_laws.proofs.Maps.{total_size-append}
@@ -14,6 +14,7 @@ use Rattle.zone_index.specs.Disorder.{FirstOutOfOrder, OrderedTo}
 use Rattle.zone_index.specs.Pages.{page, page_weights}
 use Rattle.zone_index.specs.Spans.{IsSum, behind_of, both}
 use Rattle.zone_index.specs.Weights.{in_order, weigh, weights}
+use Rattle.zone_index.proofs.Entries.{FirstIn, first_in}
 use Rattle.zone_index.proofs.Begun.{weights-append}
 use Rattle.zone_index.proofs.SomeBytes.{no_bytes, total_size-push}
 use Rattle.zone_index.proofs.Spans.{nothing, order-all}
@@ -62,21 +63,11 @@ module _ (z : ZoneState) (at : ℕ) (free : Bool) (o : OrderedTo z at free) wher
       let place = o.place in
       omega arith
 
-  -- a block comes next
-  pub record Coming : Type 0 where
-    pub here : Entry
-    pub after : ZoneMap
-    pub is : o.behind ≡ here ∷ after
+  -- below the zone's end a block comes next
+  pub coming : at < address_behind z.shape z.heap.map → FirstIn o.behind
+  coming short = let end = ordered_end in first_in o.behind (omega arith)
 
-  -- below the zone's end
-  pub coming : at < address_behind z.shape z.heap.map → Coming
-  coming short = by_rest o.behind refl
-    where
-      by_rest : (rest : ZoneMap) → o.behind ≡ rest → Coming
-      by_rest [] is = let none = ap total_size is in let end = ordered_end in absurd (omega arith)
-      by_rest (e ∷ es) is = record { here = e; after = es; is = is }
-
-  module _ (n : Coming) where
+  module _ (n : FirstIn o.behind) where
     -- it is read
     abbrev pub entry_coming : EntryAt z at
     entry_coming = record { before = o.before; here = n.here; behind = n.after; map = o.map ∙ ap (λ r. o.before ++ r) n.is; place = o.place }

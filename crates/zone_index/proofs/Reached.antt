@@ -1,5 +1,5 @@
 -- The search for the block with which some gap has room.
-use Rattle.std.proofs.Common.{◌≡◌, ℕ, ◌+◌, ◌*◌, ◌-◌, ◌<◌, ◌≤◌, ◌^◌, [], ◌∷◌, ◌++◌, length, refl, ap, sym, ◌∙◌, subst, append_assoc, append-nil, inr, arith}
+use Rattle.std.proofs.Common.{◌≡◌, ℕ, ◌+◌, ◌*◌, ◌-◌, ◌<◌, ◌≤◌, ◌^◌, [], ◌∷◌, ◌++◌, length, ap, sym, ◌∙◌, subst, append_assoc, append-nil, inr, arith}
 use Rattle.std.specs.Prelude.{IsFalse, nat_le}
 use Rattle.std.proofs.lemmas.Bool.Decides.{nat_tests}
 use Rattle.mac_base.specs.declared.block.Entry.{Entry}
@@ -22,6 +22,7 @@ use Rattle.zone_index.specs.declared.weight.Weight.{Weight}
 use Rattle.zone_index.specs.Weights.{weigh, weights}
 use Rattle.zone_index.specs.Pages.{begun}
 use Rattle.zone_index.specs.Rooms.{AreFresh, Reaches, SumsBelow, room_of, room_sum}
+use Rattle.zone_index.proofs.Entries.{FirstIn, first_in}
 use Rattle.zone_index.proofs.Begun.{begun-between, below-end}
 use Rattle.zone_index.proofs.LeafWalk.{first-below, none-below, sum-push}
 use Rattle.zone_index.proofs.RoomSums.{room_sum-largest, room_sum-most, sum-fits}
@@ -69,22 +70,13 @@ module _ (z : ZoneState) (sizes : HasSizes z) (from k : ℕ) (s : Span) (b : Sum
       let few = b.few in
       omega arith
 
--- a block comes next
-pub record Follows {k at : ℕ} {s : Span} (z : ZoneState) (b : Below z k at s) : Type 0 where
-  pub here : Entry
-  pub after : ZoneMap
-  pub is : b.behind ≡ here ∷ after
-
 module _ (z : ZoneState) (k at : ℕ) (s : Span) (b : Below z k at s) where
   below_end : address_behind z.shape z.heap.map ≡ at + total_size b.behind
   below_end = let all = ap total_size b.map ∙ total_size-append b.before b.behind in let place = b.place in omega arith
 
-  pub follows : at < address_behind z.shape z.heap.map → Follows z b
-  follows under = by_rest b.behind refl
-    where
-      by_rest : (rest : ZoneMap) → b.behind ≡ rest → Follows z b
-      by_rest [] is = let none = ap total_size is in let end = below_end in absurd (omega arith)
-      by_rest (e ∷ es) is = record { here = e; after = es; is = is }
+  -- a block comes next
+  pub follows : at < address_behind z.shape z.heap.map → FirstIn b.behind
+  follows under = let end = below_end in first_in b.behind (omega arith)
 
   -- at the zone's end no gap has room
   pub below-all : HasSizes z → address_behind z.shape z.heap.map ≤ at → largest_room z.heap.table z.heap.map < k
@@ -96,7 +88,7 @@ module _ (z : ZoneState) (k at : ℕ) (s : Span) (b : Below z k at s) where
       let few = b.few in
       omega arith
 
-  module _ (n : Follows z b) where
+  module _ (n : FirstIn b.behind) where
     abbrev pub following : EntryAt z at
     following = record { before = b.before; here = n.here; behind = n.after; map = b.map ∙ ap (λ m. b.before ++ m) n.is; place = b.place }
 
@@ -137,7 +129,7 @@ module _ (z : ZoneState) (rooms : Stored Span) (fresh : AreFresh z rooms) where
   leaves-sum n inside = sum-leaves span_laws (λ (w : Weight). w.bytes) room_of zone_header (weights z.heap.table z.heap.map) rooms.sums fresh.right n inside
 
   -- below a leaf no gap has room
-  pub leaf_below : (k i from : ℕ) (s : Span) → from ≡ z.shape.base + i * 256 → IsFirst no_span joined (λ (s : Span). nat_le k (most_in s)) rooms.sums 0 i s → SumsBelow z from k s
+  pub leaf_below : (k i from : ℕ) (s : Span) → from ≡ z.shape.base + i * 256 → IsFirst no_span joined (λ (s : Span). nat_le k (most_in s)) rooms.sums i s → SumsBelow z from k s
   leaf_below k i from s is first =
       let inside = first.inside in
       let same : 256 * i ≡ from - z.shape.base = omega arith in
@@ -147,18 +139,16 @@ module _ (z : ZoneState) (rooms : Stored Span) (fresh : AreFresh z rooms) where
         few = (let none = first.before in grind (arith, nat_tests));
       }
 
-  -- nor in all
-  pub all_below : (k : ℕ) → zone_header + total_size z.heap.map ≤ z.shape.limit → IsFalse (nat_le k (most_in (sum_of no_span joined rooms.sums 0 (length rooms.sums)))) → largest_room z.heap.table z.heap.map < k
-  all_below k within none =
-      let places = fresh.places in
-      let few : most_in (sum_of no_span joined rooms.sums 0 (length rooms.sums)) < k = grind (arith, nat_tests) in
-      let all = begun-between z.heap.table 0 (256 * length rooms.sums) zone_header z.heap.map (omega arith) (below-end (256 * length rooms.sums) zone_header z.heap.map (omega arith)) in
-      let most = ap most_in (leaves-sum (length rooms.sums) (omega arith) ∙ ap room_sum all) ∙ room_sum-largest z.heap.table z.heap.map in
-      omega arith
-
   -- the most that one gap has
   pub all_most : zone_header + total_size z.heap.map ≤ z.shape.limit → most_in (total no_span joined rooms.sums) ≡ largest_room z.heap.table z.heap.map
   all_most within =
       let places = fresh.places in
       let all = begun-between z.heap.table 0 (256 * length rooms.sums) zone_header z.heap.map (omega arith) (below-end (256 * length rooms.sums) zone_header z.heap.map (omega arith)) in
       ap most_in (sym (sum-all span_laws rooms.sums (length rooms.sums) (omega arith)) ∙ leaves-sum (length rooms.sums) (omega arith) ∙ ap room_sum all) ∙ room_sum-largest z.heap.table z.heap.map
+
+  -- no gap has room
+  pub all_below : (k : ℕ) → zone_header + total_size z.heap.map ≤ z.shape.limit → IsFalse (nat_le k (most_in (total no_span joined rooms.sums))) → largest_room z.heap.table z.heap.map < k
+  all_below k within none =
+      let few : most_in (total no_span joined rooms.sums) < k = grind (arith, nat_tests) in
+      let most = all_most within in
+      omega arith

@@ -1,30 +1,26 @@
 -- What each change leaves of the sums of leaves.
-use Rattle.std.proofs.Common.{◌≡◌, ℕ, ◌+◌, ◌-◌, ◌<◌, true, false, not, cond, List, [], ◌∷◌, ◌++◌, Option, Some, None, drop, length, get_or, refl, ap, sym, ◌∙◌, subst, inl, inr, arith, append_assoc}
-use Rattle.std.specs.Prelude.{◌==◌, ◌⊎◌, IsTrue, MatchOption}
+use Rattle.std.proofs.Common.{◌≡◌, ℕ, ◌+◌, ◌-◌, ◌<◌, true, false, not, cond, List, [], ◌∷◌, ◌++◌, length, get_or, refl, ap, sym, ◌∙◌, subst, inl, inr, arith, append_assoc}
+use Rattle.std.specs.Prelude.{◌==◌, ◌⊎◌, IsTrue}
 use Rattle.std.proofs.lemmas.Bool.{and_from, and_parts, not-true}
-use Rattle.mac_base.specs.declared.block.Flags.{Flags}
 use Rattle.mac_base.specs.declared.block.Kind.TheVariants.{Free}
 use Rattle.mac_base.specs.Gap.{is_fixed}
-use Rattle.mac_base.specs.HandleTable.{EmptyHandle, HandleTable, is_pointer, live_at}
+use Rattle.mac_base.specs.HandleTable.{HandleTable}
 use Rattle.mac_base.specs.HeadKind.{zone_header}
 use Rattle.mac_base.specs.Heap.{Heap}
-use Rattle.mac_base.specs.Loans.{lent_out, returned}
 use Rattle.mac_base.specs.ZoneMap.{ZoneMap, address_behind, block, free_block, free_bytes, free_size, total_size}
-use Rattle.mac_base.specs.ZoneState.{ZoneState, with_contents, with_heap}
+use Rattle.mac_base.specs.ZoneState.{ZoneState, with_heap}
 use Rattle.zone_laws.proofs.Maps.{total_size-append}
-use Rattle.linked_zone.specs.Changes.{carried_up, cut_in_two, enlarged, extended, fixed, flagged, given_back, held_there, joined_pair, pointed, relocated, sunk, taken, unfixed, with_master, without_block}
-use Rattle.linked_zone.specs.Copying.{copied}
+use Rattle.linked_zone.specs.Changes.{carried_up, cut_in_two, enlarged, extended, held_there, joined_pair, relocated, sunk}
 use Rattle.linked_zone.specs.Fit.{Fits}
-use Rattle.linked_zone.specs.Places.{BlockOf, CanCut, CanGrow, CanHold, EntryAt, FreeAt, FreePair, NamedAt, ParcelAt, ParcelUpTo, SplitAt}
+use Rattle.linked_zone.specs.Places.{BlockOf, CanCut, CanGrow, CanHold, EntryAt, FreeAt, FreePair, ParcelAt, ParcelUpTo, SplitAt}
 use Rattle.block_sums.specs.declared.span.Span.{Span}
 use Rattle.block_sums.specs.declared.span.Span.TheVariants.{Whole}
 use Rattle.block_sums.specs.Span.{parts}
 use Rattle.sum_tree.specs.Stale.{Stored}
 use Rattle.zone_index.specs.Rooms.{AreRooms, IsPassed, Touched}
 use Rattle.zone_index.specs.Runs.{none_fixed}
-use Rattle.zone_index.proofs.Bytes.{weights-bytes}
-use Rattle.zone_index.proofs.Changed.{OneOther, carry-renews, emptied-other, emptied_first, extended-renews, fixed-other, flagged-other, grown-renews, held-renews, lent-weights, master-other, merge-renews, moved_in-other, moved_out-other, other-renews, pointed-other, released-weights, returned-weights, sink-renews, split-renews, taken-weights, unfixed-other}
-use Rattle.zone_index.proofs.RoomsRenewed.{Begins, rooms-all_stale, rooms-renewed, rooms-still}
+use Rattle.zone_index.proofs.Changed.{OneOther, carry-renews, emptied_first, extended-renews, grown-renews, held-renews, merge-renews, moved_in-other, moved_out-other, other-renews, sink-renews, split-renews}
+use Rattle.zone_index.proofs.RoomsRenewed.{Begins, rooms-all_stale, rooms-renewed}
 
 -- what is over may begin where it does
 one_begins : (t : HandleTable) (P : ℕ → Type 0) (n at : ℕ) → P at → Begins t P at (free_block n)
@@ -93,33 +89,15 @@ module _ (z : ZoneState) (old new : Stored Span) (a : AreRooms z old) where
       (λ n there. omega arith)
 
 -- the block of one leaf is another
-rooms-other : (z : ZoneState) (heap : Heap) (at : ℕ) (old new : Stored Span) → AreRooms z old → OneOther z heap at → Touched z.shape old new (λ n. n ≡ at) → AreRooms (with_heap heap z) new
+pub rooms-other : (z : ZoneState) (heap : Heap) (at : ℕ) (old new : Stored Span) → AreRooms z old → OneOther z heap at → Touched z.shape old new (λ n. n ≡ at) → AreRooms (with_heap heap z) new
 rooms-other z heap at old new a o t =
     rooms-renewed z heap at at (other-renews z heap at o) (λ n. n ≡ at) (inr refl, tt) (inr refl, tt) old new a t (λ n there. let place = o.place in omega arith)
 
-module _ (z : ZoneState) (old new : Stored Span) (a : AreRooms z old) (at : ℕ) (t : Touched z.shape old new (λ n. n ≡ at)) where
-  pub rooms-pointed : (h k : ℕ) (free : FreeAt z at) → live_at z.heap.table h ≡ Some EmptyHandle → AreRooms (pointed h k z free) new
-  rooms-pointed h k free empty = rooms-other z (pointed h k z free).heap at old new a (pointed-other z free h k empty) t
-
-  pub rooms-fixed : (k : ℕ) (free : FreeAt z at) → Fits (fixed k z free) → AreRooms (fixed k z free) new
-  rooms-fixed k free fits = rooms-other z (fixed k z free).heap at old new a (fixed-other z free k fits) t
-
-  pub rooms-master : (free : FreeAt z at) → AreRooms (with_master z free) new
-  rooms-master free = rooms-other z (with_master z free).heap at old new a (master-other z free) t
-
-  pub rooms-unfixed : (p : ℕ) → Fits z → NamedAt z p at → is_pointer z.heap.table p ≡ true → AreRooms (unfixed p z) new
-  rooms-unfixed p fits b live = rooms-other z (unfixed p z).heap at old new a (unfixed-other z p fits b live) t
-
-  pub rooms-emptied : (h : ℕ) → Fits z → BlockOf z h at → AreRooms (without_block h z) new
-  rooms-emptied h fits b = rooms-other z (without_block h z).heap at old new a (emptied-other z h fits b) t
-
-  pub rooms-flagged : (h : ℕ) (flags : Flags) → Fits z → BlockOf z h at → AreRooms (flagged h flags z) new
-  rooms-flagged h flags fits b = rooms-other z (flagged h flags z).heap at old new a (flagged-other z h fits b flags) t
-
-  -- the old block is free first, and then the free one is the handle's
-  pub rooms-relocated : (h k to : ℕ) (last : Stored Span) (free : FreeAt z to) → Fits z → BlockOf z h at → Touched z.shape new last (λ n. n ≡ to) → AreRooms (relocated h k z free) last
-  rooms-relocated h k to last free fits b =
-      rooms-other (with_heap (emptied_first z h fits b k) z) (relocated h k z free).heap to new last (rooms-other z (emptied_first z h fits b k) at old new a (moved_out-other z h fits b k) t) (moved_in-other z h fits b k free)
+-- the old block is free first, and then the free one is the handle's
+pub rooms-relocated : (z : ZoneState) (old new : Stored Span) (a : AreRooms z old) (at : ℕ) (t : Touched z.shape old new (λ n. n ≡ at)) (h k to : ℕ) (last : Stored Span) (free : FreeAt z to) → Fits z → BlockOf z h at
+    → Touched z.shape new last (λ n. n ≡ to) → AreRooms (relocated h k z free) last
+rooms-relocated z old new a at t h k to last free fits b =
+    rooms-other (with_heap (emptied_first z h fits b k) z) (relocated h k z free).heap to new last (rooms-other z (emptied_first z h fits b k) at old new a (moved_out-other z h fits b k) t) (moved_in-other z h fits b k free)
 
 -- a block passes others
 module _ (z : ZoneState) (old middle new : Stored Span) (a : AreRooms z old) where
@@ -158,25 +136,3 @@ module _ (z : ZoneState) (old middle new : Stored Span) (a : AreRooms z old) whe
         old new a (both_touched sums none.1 t) (λ n there. let place = parcel.place in let long = parcel.long in elim there [ inl same ↦ omega arith | inr same ↦ omega arith ])
     | inr all ↦ rooms-all_stale z (sunk z parcel).heap old new a (t.sums ∙ sums) (all_stale sums t all)
   ]
-
-module _ (z : ZoneState) (rooms : Stored Span) (a : AreRooms z rooms) where
-  -- a free slot is given, if there is one
-  pub rooms-taken : Fits z → (o : Option ℕ) (new : ZoneState)
-      → MatchOption o ((z.heap.free_slots ≡ []) × (new ≡ z)) (λ h. (z.heap.free_slots ≡ h ∷ drop 1 z.heap.free_slots) × (new ≡ taken h z)) → AreRooms new rooms
-  rooms-taken fits None new is = subst (λ (z : ZoneState). AreRooms z rooms) (sym is.1) a
-  rooms-taken fits (Some h) new is = subst (λ (z : ZoneState). AreRooms z rooms) (sym is.1) (rooms-still z (taken h z).heap rooms a refl (taken-weights z fits h is.0))
-
-  pub rooms-released : (h : ℕ) → live_at z.heap.table h ≡ Some EmptyHandle → AreRooms (given_back h z) rooms
-  rooms-released h empty = rooms-still z (given_back h z).heap rooms a refl (released-weights z h empty)
-
-  pub rooms-copied : (from start to offset k : ℕ) → AreRooms (copied from start to offset k z) rooms
-  rooms-copied from start to offset k = rooms-still z (copied from start to offset k z).heap rooms a refl (weights-bytes z.heap.table to _ z.heap.map)
-
-  pub rooms-written : (x : ℕ) (bytes : List ℕ) → AreRooms (with_contents z x bytes) rooms
-  rooms-written x bytes = rooms-still z (with_contents z x bytes).heap rooms a refl (weights-bytes z.heap.table x _ z.heap.map)
-
-  pub rooms-lent : (x : ℕ) → AreRooms (with_heap (lent_out x z.heap) z) rooms
-  rooms-lent x = rooms-still z (lent_out x z.heap) rooms a refl (lent-weights z x)
-
-  pub rooms-returned : (x : ℕ) (bytes : List ℕ) → AreRooms (with_heap (returned x bytes z.heap) z) rooms
-  rooms-returned x bytes = rooms-still z (returned x bytes z.heap) rooms a refl (returned-weights z x bytes)

@@ -13,7 +13,7 @@ use Rattle.sum_tree.specs.Stale.{Stored}
 use Rattle.zone_index.specs.declared.weight.Weight.{Weight}
 use Rattle.zone_index.specs.Weights.{weigh, weights}
 use Rattle.zone_index.specs.Pages.{begun}
-use Rattle.zone_index.specs.Rooms.{AreRooms, Touched, leaf, room_of, room_sum}
+use Rattle.zone_index.specs.Rooms.{AreRooms, Touched, leaf, leaf_count, room_of, room_sum}
 use Rattle.zone_index.proofs.Begun.{begun-test, within, within-low, within-out}
 use Rattle.zone_index.proofs.Changed.{Renews}
 use Rattle.zone_index.proofs.PagesRenewed.{offset, parts}
@@ -124,3 +124,7 @@ touched-next {z = z} old middle new at t same is sums here others = record {
   ];
   others = λ j was. others j (t.others j was);
 }
+
+-- a leaf of a zone stands among the sums of its rooms
+pub leaf-there : (i z : ZoneState) → i ≡ z → (k : ℕ) (sums : List Span) → k < leaf_count z → length sums ≡ leaf_count i → k < length sums
+leaf-there i z is k sums inside long = subst (λ (n : ℕ). k < n) (sym (long ∙ ap leaf_count is)) inside

@@ -3,6 +3,7 @@ use Rattle.std.proofs.Common.{◌≡◌, ℕ, Bool, true, false, List, Option, S
 use Rattle.std.specs.Prelude.{not, ◌&&◌}
 use Rattle.std.proofs.lemmas.Bool.{false≢true, eqb-true}
 use Rattle.mac_base.specs.BlockReport.{block_flags}
+use Rattle.mac_base.specs.declared.block.Flags.{Flags}
 use Rattle.mac_base.specs.declared.block.Kind.{Kind}
 use Rattle.mac_base.specs.declared.block.Kind.TheVariants.{Free, Master, Ptr, Rel}
 use Rattle.mac_base.specs.Gap.{is_fixed}
@@ -24,53 +25,27 @@ pub record Rule : Type 0 where
   pub empty : live (Some EmptyHandle) ≡ false
   pub rewritten : (bytes : List ℕ) (l : Option Live) → live (Some (refilled bytes l)) ≡ live l
 
+-- what is told of a number whatever its bytes are is told once they are others
+pub told_refilled : (told : Option Live → Bool) → told (Some EmptyHandle) ≡ told None → ((flags : Flags) (a b : List ℕ) → told (Some (FullHandle flags a)) ≡ told (Some (FullHandle flags b))) → ((a b : List ℕ) → told (Some (Pointer a)) ≡ told (Some (Pointer b)))
+    → (bytes : List ℕ) (l : Option Live) → told (Some (refilled bytes l)) ≡ told l
+told_refilled told none full pointer bytes (Some (FullHandle flags old)) = full flags bytes old
+told_refilled told none full pointer bytes (Some (Pointer old)) = pointer bytes old
+told_refilled told none full pointer bytes (Some EmptyHandle) = refl
+told_refilled told none full pointer bytes None = none
+
 -- that of locks
 abbrev pub lock_live : Option Live → Bool
 lock_live l = (live_flags l).lock
 
-pub lock_rewritten : (bytes : List ℕ) (l : Option Live) → lock_live (Some (refilled bytes l)) ≡ lock_live l
-lock_rewritten bytes (Some (FullHandle flags old)) = refl
-lock_rewritten bytes (Some (Pointer old)) = refl
-lock_rewritten bytes (Some EmptyHandle) = refl
-lock_rewritten bytes None = refl
-
 abbrev pub fixes : Rule
-fixes = record {
-  test = is_fixed;
-  live = lock_live;
-  free = λ t. refl;
-  master = λ new old. refl;
-  pointer = λ new old p. refl;
-  handle = λ t h. refl;
-  nothing = refl;
-  bare = λ bytes. refl;
-  empty = refl;
-  rewritten = lock_rewritten;
-}
+fixes = record { test = is_fixed; live = lock_live; free = λ t. refl; master = λ new old. refl; pointer = λ new old p. refl; handle = λ t h. refl; nothing = refl; bare = λ bytes. refl; empty = refl; rewritten = told_refilled lock_live refl (λ flags a b. refl) (λ a b. refl) }
 
 -- that of purging
 abbrev pub purge_live : Option Live → Bool
 purge_live l = live_full l && ((live_flags l).purge && not (live_flags l).lock)
 
-pub purge_rewritten : (bytes : List ℕ) (l : Option Live) → purge_live (Some (refilled bytes l)) ≡ purge_live l
-purge_rewritten bytes (Some (FullHandle flags old)) = refl
-purge_rewritten bytes (Some (Pointer old)) = refl
-purge_rewritten bytes (Some EmptyHandle) = refl
-purge_rewritten bytes None = refl
-
 abbrev pub goes : Rule
-goes = record {
-  test = may_go;
-  live = purge_live;
-  free = λ t. refl;
-  master = λ new old. refl;
-  pointer = λ new old p. refl;
-  handle = λ t h. refl;
-  nothing = refl;
-  bare = λ bytes. refl;
-  empty = refl;
-  rewritten = purge_rewritten;
-}
+goes = record { test = may_go; live = purge_live; free = λ t. refl; master = λ new old. refl; pointer = λ new old p. refl; handle = λ t h. refl; nothing = refl; bare = λ bytes. refl; empty = refl; rewritten = told_refilled purge_live refl (λ flags a b. refl) (λ a b. refl) }
 
 -- flags say all of it
 live-flags : (l : Option Live) → may_purge (live_flags l) ≡ purge_live l

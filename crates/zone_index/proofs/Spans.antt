@@ -9,11 +9,11 @@ use Rattle.zone_index.specs.declared.order.Order.{Order}
 use Rattle.zone_index.specs.declared.order.Passed.{Passed}
 use Rattle.block_sums.specs.declared.span.Span.{Span}
 use Rattle.block_sums.specs.declared.span.Span.TheVariants.{Whole, Parted}
+use Rattle.block_sums.specs.Span.{joined, most_in, parts}
 use Rattle.zone_index.specs.declared.sums.Sums.{Sums}
 use Rattle.zone_index.specs.declared.weight.Weight.{Weight}
 use Rattle.zone_index.specs.Weights.{is_space, space_size, weigh, weights, bytes_of, space_of, in_order, most}
 use Rattle.zone_index.specs.Spans.{span_of, passed, behind_of, ordered, order_of, passed_on, IsOrder, IsSpan, IsSum, IsWithin, both, one}
-use Rattle.block_sums.specs.Span.{joined, most_in, parts}
 use Rattle.zone_index.proofs.Begun.{bytes-weights}
 
 -- what is said of blocks and those behind them

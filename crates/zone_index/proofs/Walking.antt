@@ -16,6 +16,7 @@ use Rattle.zone_index.specs.Weights.{weigh, weights, bytes_of}
 use Rattle.zone_index.specs.Spans.{IsSum, IsWithin, both, one}
 use Rattle.zone_index.specs.Pages.{begun, page, page_start, page_weights}
 use Rattle.zone_index.specs.Walk.{AllBelow, FirstOfPage}
+use Rattle.zone_index.proofs.Entries.{FirstIn, entry_after, first_in}
 use Rattle.zone_index.proofs.SomeBytes.{no_bytes, total_size-push}
 use Rattle.zone_index.proofs.Begun.{weights-append, bytes-weights, begun-append, begun-above, begun-below, begun-between, below-append, below-higher}
 use Rattle.zone_index.proofs.Spans.{nothing, sum-join, sum-none, sum-one, sum-within}
@@ -76,12 +77,6 @@ none_measured z first f =
     let e = f.entry in
     record { before = e.before; done = []; behind = e.here ∷ e.behind; map = e.map; start = e.place; place = omega arith; below = f.below; inside = tt; sums = sum-none }
 
--- a block comes next
-pub record Next {first at : ℕ} {s : Sums} (z : ZoneState) (m : Measured z first at s) : Type 0 where
-  pub here : Entry
-  pub after : ZoneMap
-  pub is : m.behind ≡ here ∷ after
-
 module _ (z : ZoneState) (first at : ℕ) (s : Sums) (m : Measured z first at s) where
   zone_end : address_behind z.shape z.heap.map ≡ at + total_size m.behind
   zone_end =
@@ -92,24 +87,14 @@ module _ (z : ZoneState) (first at : ℕ) (s : Sums) (m : Measured z first at s)
       let place = m.place in
       omega arith
 
-  -- below the zone's end
-  pub measured-next : at < address_behind z.shape z.heap.map → Next z m
-  measured-next below = by_rest m.behind refl
-    where
-      by_rest : (rest : ZoneMap) → m.behind ≡ rest → Next z m
-      by_rest [] is = let none = ap total_size is in let end = zone_end in absurd (omega arith)
-      by_rest (e ∷ es) is = record { here = e; after = es; is = is }
+  -- below the zone's end a block comes next
+  pub measured-next : at < address_behind z.shape z.heap.map → FirstIn m.behind
+  measured-next below = let end = zone_end in first_in m.behind (omega arith)
 
-  module _ (n : Next z m) where
+  module _ (n : FirstIn m.behind) where
     -- it is read
     abbrev pub measured-entry : EntryAt z at
-    measured-entry = record {
-      before = m.before ++ m.done;
-      here = n.here;
-      behind = n.after;
-      map = m.map ∙ ap (λ r. m.before ++ (m.done ++ r)) n.is ∙ sym (append_assoc m.before m.done (n.here ∷ n.after));
-      place = (let all = total_size-append m.before m.done in let start = m.start in let place = m.place in omega arith);
-    }
+    measured-entry = entry_after z at m.before m.done m.behind m.map (m.place ∙ ap (λ start. start + total_size m.done) m.start) n
 
     -- and summed, where it begins in the page
     pub measured-on : (e : Entry) → e ≡ n.here → at < z.shape.base + page_start (page z.shape first + 1) → Measured z first (at + e.size) (both s (one (weigh z.heap.table e)))

@@ -2,8 +2,8 @@
 use Rattle.std.specs.Prelude.{◌≡◌, ℕ, ◌+◌, ◌-◌, ◌/◌, ◌<◌, ◌≤◌, ◌⊎◌, IsTrue, false, List, [], ◌∷◌, ◌++◌, map, length}
 use Rattle.std.proofs.Common.{get_or}
 use Rattle.block_sums.specs.declared.span.Span.{Span}
-use Rattle.block_sums.specs.Leaves.{begun, leaf_sum}
 use Rattle.block_sums.specs.Span.{no_span, joined, heavy, most_in}
+use Rattle.block_sums.specs.Leaves.{begun, leaf_sum}
 use Rattle.sum_tree.specs.Monoids.{total}
 use Rattle.sum_tree.specs.Stale.{Stored, AreRight, AllRight}
 use Rattle.mac_base.specs.HeadKind.{Shape, zone_header}

@@ -1,6 +1,6 @@
 //! The lowest gap with room.
 
-ghost use Rattle.std.specs.Prelude.{◌≡◌, ◌+◌, ◌<◌, ◌≤◌, MatchOption, None, nat_le};
+ghost use Rattle.std.specs.Prelude.{◌≡◌, ◌+◌, ◌<◌, ◌≤◌, IfSome, MatchOption, None, nat_le};
 ghost use Rattle.mac_base.specs.Gap.{gaps, is_fixed, lowest_gap};
 ghost use Rattle.mac_base.specs.ZoneMap.{free_bytes, total_size};
 ghost use Rattle.zone_index.specs.Runs.{RestAt};
@@ -13,12 +13,14 @@ use crate::leaves::{freshen, most_room, reached};
 use crate::zone::IndexedZone;
 use block_sums::Span;
 use linked_zone::LinkedZone;
+use mac_base::size::ZONE_HEADER;
 use place_numbers::Bits;
 use sum_tree::StaleTree;
 
 impl IndexedZone {
-    /// The address of the first free block of the lowest gap with at least `needed` free bytes, if there is one. Of the blocks only
-    /// those are read whose leaves changed since they were last asked for, and those of the leaf with which the gap has so many bytes.
+    /// The address of the first free block of the lowest gap with at least `needed` free bytes, if there is one. Where the zone's lowest
+    /// free block has so many, that is it. Else of the blocks only those are read whose leaves changed since they were last asked for,
+    /// and those of the leaf with which the gap has so many bytes.
     pub fn lowest_gap(&mut self, needed: u32) -> Option<u32>
         requires some { 0 < needed }
         ensures zone { self.new ≡ self.old }
@@ -26,6 +28,9 @@ impl IndexedZone {
     {
         if self.zone.free_bytes() < needed {
             return None;
+        }
+        if let Some(at) = large_first(&self.zone, needed) {
+            return Some(at);
         }
         freshen(&self.zone, &mut self.rooms);
         lowest_by_sums(&self.zone, &self.marks, &self.rooms, needed)
@@ -39,6 +44,19 @@ impl IndexedZone {
     {
         freshen(&self.zone, &mut self.rooms);
         has_room(&self.zone, &self.marks, &self.rooms, start, needed)
+    }
+}
+
+/// The zone's lowest free block, if it alone has so many bytes: then it is the first one of the lowest gap with room.
+fn large_first(zone: &LinkedZone, needed: u32) -> Option<u32>
+    requires some { 0 < needed }
+    ensures { IfSome result (λ at. IsLowestGap zone.now needed at) }
+{
+    let at = zone.next_free(zone.spec().base() + ZONE_HEADER)?;
+    if needed <= zone.free_size(at) {
+        Some(at)
+    } else {
+        None
     }
 }
 

@@ -15,6 +15,11 @@ use place_numbers::Bits;
 use std::alloc::Global;
 use sum_tree::StaleTree;
 
+/// A zone has so many bytes for each place in which a handle's length is remembered. A place is for four bytes, so
+/// there are places for the lowest eighth of the zone: master blocks don't move and take the lowest room, so handles
+/// have their numbers there. The length of one above is asked of the zone.
+const BYTES_PER_LENGTH: u32 = 32;
+
 /// What is kept beside a zone. Its parts are those of `IndexedZone`.
 #[derive(Drop)]
 pub(crate) struct Index {
@@ -37,7 +42,11 @@ impl Index {
         let purgeable = Bits::create(alloc, places)?;
         let rooms = StaleTree::create(alloc, (spec.limit() / LEAF_SIZE) as usize + 1)?;
         let pages = Pages::create(alloc, (spec.limit() / PAGE_SIZE) as usize + 1)?;
-        let lengths = Lengths::create(alloc, spec.base(), spec.limit() as usize / 4)?;
+        let lengths = Lengths::create(
+            alloc,
+            spec.base(),
+            (spec.limit() / BYTES_PER_LENGTH) as usize,
+        )?;
         Ok(Index {
             marks,
             purgeable,

@@ -105,7 +105,7 @@ pub fn reached(zone: &LinkedZone, rooms: &StaleTree<Span>, needed: u32) -> Optio
     let spec = zone.spec();
     let base = spec.base();
     let test = HasRoom { bytes: needed };
-    let stop = rooms.sums().first_from(0, &test)?;
+    let stop = rooms.sums().first(&test)?;
     let from = base + stop.at as u32 * LEAF_SIZE;
     reach(zone, from, stop.sum, needed)
 }

@@ -56,7 +56,8 @@ impl Remembered {
 pub(crate) struct Lengths {
     /// Where the zone begins.
     base: u32,
-    /// There is a place for each four bytes of the zone, up to the last handle of which anything was remembered.
+    /// There is a place for each four bytes of the zone, up to the last handle for which one was asked and there was
+    /// room. Nothing is remembered of a handle above.
     places: Vec<Remembered>,
 }
 

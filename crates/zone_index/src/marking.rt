@@ -10,17 +10,17 @@ ghost use Rattle.zone_index.specs.Turning.{IsCarried, IsSunk};
 
 use crate::search::{BlockTest, Fixed, Going};
 use linked_zone::LinkedZone;
-use mac_base::block::Block;
+use mac_base::block::{Flags, Kind};
 use mac_base::size::ZONE_HEADER;
 use place_numbers::Bits;
 
-/// Marks a place if the block there passes a test. Else no mark changes.
-fn mark<T: BlockTest>(marks: &mut Bits, place: usize, block: &Block)
+/// Marks a place if the block there passes a test: one of this kind, whose owner has these flags. Else no mark changes.
+fn mark<T: BlockTest>(marks: &mut Bits, place: usize, kind: Kind, flags: Flags)
     requires { place < length marks.old }
-    ensures { (t : HandleTable) → block.now.flags ≡ block_flags t block.now.entry.kind
-        → marks.new ≡ (if T.test t block.now.entry.kind then set marks.old place 1 else marks.old) }
+    ensures { (t : HandleTable) → flags ≡ block_flags t kind
+        → marks.new ≡ (if T.test t kind then set marks.old place 1 else marks.old) }
 {
-    if T::passes(*block) {
+    if T::passes(kind, flags) {
         marks.set(place, true);
     }
 }
@@ -32,13 +32,16 @@ pub(crate) fn mark_blocks(zone: &LinkedZone, marks: &mut Bits, purgeable: &mut B
     ensures fixed { AreMarked is_fixed zone.now marks.new }
     ensures purgeable { AreMarked may_go zone.now purgeable.new }
 {
-    let base = zone.spec().base();
+    let spec = zone.spec();
+    let base = spec.base();
+    let end = base + spec.size();
     let mut at = base + ZONE_HEADER;
-    while let Some(block) = zone.entry(at) {
+    while at < end {
+        let (entry, flags) = zone.entry_and_flags(at);
         let place = (at - base) as usize / 4;
-        mark::<Fixed>(marks, place, &block);
-        mark::<Going>(purgeable, place, &block);
-        at += block.entry.size;
+        mark::<Fixed>(marks, place, entry.kind, flags);
+        mark::<Going>(purgeable, place, entry.kind, flags);
+        at += entry.size;
     }
 }
 

@@ -7,7 +7,7 @@ ghost use Rattle.zone_index.specs.Search.{NextPassing, NonePassing};
 
 use crate::purging::may_purge;
 use linked_zone::LinkedZone;
-use mac_base::block::{Block, Kind};
+use mac_base::block::{Flags, Kind};
 use place_numbers::Bits;
 
 /// A test of blocks, for which marks are kept.
@@ -20,9 +20,9 @@ pub(crate) trait BlockTest {
     /// Which blocks pass.
     ghost test: { HandleTable → Kind → Bool };
 
-    /// Whether a block passes, by what is read of it.
-    fn passes(block: Block) -> bool
-        ensures { (t : HandleTable) → block.flags ≡ block_flags t block.entry.kind → result ≡ test t block.entry.kind };
+    /// Whether a block of this kind passes, whose owner has these flags.
+    fn passes(kind: Kind, flags: Flags) -> bool
+        ensures { (t : HandleTable) → flags ≡ block_flags t kind → result ≡ test t kind };
 }
 
 /// A block that may not move: a master block, a nonrelocatable one or that of a locked handle.
@@ -36,11 +36,11 @@ impl BlockTest for Fixed {
 
     ghost test = { is_fixed };
 
-    fn passes(block: Block) -> bool {
-        match block.entry.kind {
+    fn passes(kind: Kind, flags: Flags) -> bool {
+        match kind {
             Kind::Free => false,
             Kind::Master | Kind::Ptr(_) => true,
-            Kind::Rel(_) => block.flags.lock,
+            Kind::Rel(_) => flags.lock,
         }
     }
 }
@@ -50,8 +50,8 @@ impl BlockTest for Going {
 
     ghost test = { may_go };
 
-    fn passes(block: Block) -> bool {
-        may_purge(block.flags)
+    fn passes(_kind: Kind, flags: Flags) -> bool {
+        may_purge(flags)
     }
 }
 
@@ -64,7 +64,7 @@ pub(crate) fn passes_at<T: BlockTest>(zone: &LinkedZone, at: u32) -> bool
 {
     let _spec = zone.spec();
     match zone.entry(at) {
-        Some(block) => T::passes(block),
+        Some(block) => T::passes(block.entry.kind, block.flags),
         None => false,
     }
 }

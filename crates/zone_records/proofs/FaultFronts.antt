@@ -1,5 +1,5 @@
 -- Bytes that begin as others and go on as a zone's own.
-use Rattle.std.proofs.Common.{◌≡◌, ℕ, zero, suc, ◌+◌, ◌-◌, ◌<◌, ◌≤◌, true, List, [], ◌∷◌, ◌++◌, length, take, drop, inr, refl, ap, sym, ◌∙◌, subst, arith, length-append, length-drop, length-take-le, append_assoc, take_at, drop_at, get_or-take, take-append-drop}
+use Rattle.std.proofs.Common.{◌≡◌, ℕ, zero, suc, ◌+◌, ◌<◌, ◌≤◌, true, List, [], ◌∷◌, ◌++◌, length, take, drop, inr, refl, ap, sym, ◌∙◌, subst, arith, length-append, length-drop, length-take-le, append_assoc, take_at, drop_at, get_or-take, take-append-drop}
 use Rattle.std.specs.Prelude.{slice_index}
 use Rattle.std.specs.List.{list_all}
 use Rattle.std.proofs.lemmas.List.{get_or_append_left, take_more}

@@ -1,10 +1,12 @@
 -- The first free block from an address on, and how many bytes are free.
-use Rattle.std.proofs.Common.{◌≡◌, ℕ, ◌+◌, cond, not, ◌&&◌, List, [], ◌∷◌, ◌++◌, refl, ap, sym, ◌∙◌, append_assoc, IsTrue, arith}
+use Rattle.std.proofs.Common.{◌≡◌, ℕ, ◌+◌, true, cond, not, ◌&&◌, List, [], ◌∷◌, ◌++◌, refl, ap, sym, ◌∙◌, append_assoc, IsTrue, arith}
 use Rattle.mac_base.specs.declared.block.HeadKind.{HeadKind}
+use Rattle.block_bytes.specs.declared.header.Role.TheVariants as role
 use Rattle.block_bytes.specs.Layout as raw
 use Rattle.block_bytes.specs.Layout.{RawBlock, Layout, size_of}
 use Rattle.block_bytes.specs.Finding as finding
-use Rattle.zone_records.specs.Records.{BlockRecord, ZoneRecords, address_behind}
+use Rattle.zone_records.specs.Records.{Free, BlockRecord, block_record, ZoneRecords, address_behind}
+use Rattle.zone_records.specs.Reading.{is_sound}
 use Rattle.zone_records.specs.Places.{SplitAt, FirstFree, LastFree, none_free, free_total}
 use Rattle.zone_records.proofs.Apart.{read, read-append, total-read, InTwo, in-two}
 use Rattle.zone_records.proofs.Held.{Held, address-is, sound-one}
@@ -20,6 +22,12 @@ pub free_total-same : (heads : HeadKind) (base : ℕ) (bs : List RawBlock) → r
 free_total-same heads base [] = refl
 free_total-same heads base (b ∷ bs) = λ i. cond (free-same heads base b.role b.contents i) (size_of heads b) 0 + free_total-same heads base bs i
 
+-- a free one among blocks, as it is read
+free-among : (heads : HeadKind) (base : ℕ) (rs : List BlockRecord) (bs before : List RawBlock) (b : RawBlock) (behind : List RawBlock) → read heads base bs ≡ rs → bs ≡ before ++ b ∷ behind → b.role ≡ role.Free → is_sound heads base b ≡ true
+    → rs ≡ read heads base before ++ block_record Free (size_of heads b) ∷ read heads base behind
+free-among heads base rs bs before b behind is blocks free sound = sym is ∙ ap (read heads base) blocks ∙ read-append heads base before (b ∷ behind)
+    ∙ ap (λ (r : BlockRecord). read heads base before ++ r ∷ read heads base behind) (free-record heads base b free sound)
+
 module _ (l : Layout) (z : ZoneRecords) (held : Held l z) (from : ℕ) (split : SplitAt z from) where
   -- the blocks of bytes before the address, and those behind it
   abbrev parts : InTwo l.heads l.base l.blocks split.before split.behind
@@ -33,14 +41,11 @@ module _ (l : Layout) (z : ZoneRecords) (held : Held l z) (from : ℕ) (split : 
   first-free at found =
       let sound = sound-one l (parts.first ++ found.passed) found.here found.behind held.sound
       (parts.blocks ∙ ap (λ (bs : List RawBlock). parts.first ++ bs) found.blocks ∙ sym (append_assoc parts.first found.passed (found.here ∷ found.behind))) in
-      let passed = read l.heads l.base found.passed in
-      let behind = read l.heads l.base found.behind in
       record {
-        passed = passed;
+        passed = read l.heads l.base found.passed;
         size = size_of l.heads found.here;
-        behind = behind;
-        blocks = sym parts.upper ∙ ap (read l.heads l.base) found.blocks ∙ read-append l.heads l.base found.passed (found.here ∷ found.behind)
-            ∙ ap (λ (r : BlockRecord). passed ++ r ∷ behind) (free-record l.heads l.base found.here found.free sound);
+        behind = read l.heads l.base found.behind;
+        blocks = free-among l.heads l.base split.behind parts.rest found.passed found.here found.behind parts.upper found.blocks found.free sound;
         used = sym (none-same l.heads l.base found.passed) ∙ found.used;
         place = found.place ∙ ap (λ n. from + n) (sym (total-read l.heads l.base found.passed));
       }
@@ -50,14 +55,11 @@ module _ (l : Layout) (z : ZoneRecords) (held : Held l z) (from : ℕ) (split : 
   last-free at found =
       let sound = sound-one l found.front found.here (found.passed ++ parts.rest) held.sound
       (parts.blocks ∙ ap (λ (bs : List RawBlock). bs ++ parts.rest) found.blocks ∙ append_assoc found.front (found.here ∷ found.passed) parts.rest) in
-      let front = read l.heads l.base found.front in
-      let passed = read l.heads l.base found.passed in
       record {
-        front = front;
+        front = read l.heads l.base found.front;
         size = size_of l.heads found.here;
-        passed = passed;
-        blocks = sym parts.lower ∙ ap (read l.heads l.base) found.blocks ∙ read-append l.heads l.base found.front (found.here ∷ found.passed)
-            ∙ ap (λ (r : BlockRecord). front ++ r ∷ passed) (free-record l.heads l.base found.here found.free sound);
+        passed = read l.heads l.base found.passed;
+        blocks = free-among l.heads l.base split.before parts.first found.front found.here found.passed parts.lower found.blocks found.free sound;
         used = sym (none-same l.heads l.base found.passed) ∙ found.used;
         place = (let there = found.place in let total = total-read l.heads l.base found.front in let start = address-is l z held [] [] refl in omega arith);
       }

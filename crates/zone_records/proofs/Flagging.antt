@@ -17,7 +17,7 @@ use Rattle.zone_records.proofs.Held.{Held, heads-is, sound-one, words-one, chang
 use Rattle.zone_records.proofs.Looking.{OfRecord, of-record, sound-parts, size-of}
 use Rattle.zone_records.proofs.Holding.{handle_there, handle-block, handle-is}
 use Rattle.zone_records.proofs.Blocks.{sound-made, sound-possible}
-use Rattle.zone_records.proofs.Freeing.{sound-sized}
+use Rattle.zone_records.proofs.Neighbours.{sound-sized}
 
 -- a header says the flags that can be said
 flag-same : (heads : HeadKind) (flags : Flags) → can_flag heads flags ≡ can_say heads flags

@@ -4,23 +4,20 @@ use Rattle.std.proofs.lemmas.List.{take_all}
 use Rattle.std.proofs.lemmas.Bool.{and_from}
 use Rattle.mac_base.specs.HeadKind.{head_size}
 use Rattle.mac_base.specs.HandleTable.{resized}
-use Rattle.block_bytes.specs.declared.header.Header.{Header}
 use Rattle.block_bytes.specs.Head.{head_bytes}
-use Rattle.block_bytes.specs.Layout as raw
-use Rattle.block_bytes.specs.Layout.{RawBlock, Layout, BlockAt, CanMerge, body, raw_block, size_of, header_of, joint_body, with_blocks}
-use Rattle.block_bytes.proofs.Here.{size-joint}
+use Rattle.block_bytes.specs.Layout.{RawBlock, Layout, CanMerge, body, raw_block, size_of, header_of, joint_body, with_blocks}
 use Rattle.zone_records.specs.Records as records
 use Rattle.zone_records.specs.Records.{Content, Free, Fixed, Master, Relocatable, BlockRecord, block_record, ZoneRecords, with_bytes, bytes_of, length_of}
 use Rattle.zone_records.specs.Places.{RecordAt, CanHold, CanGrow, has_bytes}
 use Rattle.zone_records.specs.Changes.{enlarged, free_record}
 use Rattle.zone_records.specs.Fitting.{fitted, CanKeep}
 use Rattle.zone_records.specs.Reading.{content_in, is_sound}
-use Rattle.zone_records.proofs.Apart.{Two, total-append}
-use Rattle.zone_records.proofs.Held.{Held, heads-is, address-is, two, sound-one, sound-other, range-one, words-one, changed}
+use Rattle.zone_records.proofs.Apart.{Two}
+use Rattle.zone_records.proofs.Held.{Held, words-one, changed}
 use Rattle.zone_records.proofs.Looking.{sound-parts}
 use Rattle.zone_records.proofs.Headers.{bytes-same, words-none, with-same}
-use Rattle.zone_records.proofs.Blocks.{sized, sized-sum, raw-parts, sound-raw, sound-possible}
-use Rattle.zone_records.proofs.Freeing.{sound-sized}
+use Rattle.zone_records.proofs.Blocks.{raw-parts, sound-raw}
+use Rattle.zone_records.proofs.Neighbours.{grow_pair, t, sizes, both-sound, both-sized, joint, joint-long, joint-all, can_merge}
 use Rattle.zone_records.proofs.Fitted.{told-any, use-any, length-held}
 
 -- other bytes in a block that has some
@@ -47,130 +44,55 @@ abbrev pub grow_record : (z : ZoneRecords) (at size n : ℕ) → CanGrow z at si
 grow_record z at size n can = record { before = can.before; here = block_record can.content can.first; behind = block_record Free can.second ∷ can.behind; blocks = can.blocks; place = can.place }
 
 module _ (l : Layout) (z : ZoneRecords) (held : Held l z) (at size n : ℕ) (can : CanGrow z at size n) where
-  abbrev pub t : Two l can.before (block_record can.content can.first) (block_record Free can.second) can.behind
-  t = two l z held can.before (block_record can.content can.first) (block_record Free can.second) can.behind can.blocks
+  abbrev pub pair_two : Two l can.before (block_record can.content can.first) (block_record Free can.second) can.behind
+  pair_two = t l z held at (grow_pair can)
 
-  grow-place : at ≡ raw.address_behind l t.first
-  grow-place = can.place ∙ address-is l z held t.first can.before t.lower
-
-  grow-sizes : (size_of l.heads t.block ≡ can.first) × (size_of l.heads t.other ≡ can.second)
-  grow-sizes = (ap (λ (r : BlockRecord). r.size) t.same, ap (λ (r : BlockRecord). r.size) t.same_other)
-
-  -- the first
-  first_at : BlockAt l at
-  first_at = record { before = t.first; here = t.block; behind = t.other ∷ t.rest; blocks = t.blocks; place = grow-place }
-
-  pub grow-first : BlockAt l at
-  grow-first = first_at
-
-  pub grow-first_size : (h : Header) → ((b : BlockAt l at) → h ≡ header_of l.heads b.here) → h.size ≡ can.first
-  grow-first_size h says = ap (λ (h : Header). h.size) (says (record { before = t.first; here = t.block; behind = t.other ∷ t.rest; blocks = t.blocks; place = grow-place })) ∙ grow-sizes.0
-
-  -- the second
-  second_blocks : l.blocks ≡ (t.first ++ t.block ∷ []) ++ t.other ∷ t.rest
-  second_blocks = t.blocks ∙ sym (append_assoc t.first (t.block ∷ []) (t.other ∷ t.rest))
-
-  second_place : (next : ℕ) → next ≡ at + can.first → next ≡ raw.address_behind l (t.first ++ t.block ∷ [])
-  second_place next is =
-      let place = grow-place in
-      let size = grow-sizes.0 in
-      let sum = total-append l.heads t.first (t.block ∷ []) in
-      omega arith
-
-  abbrev second_at : (next : ℕ) → next ≡ at + can.first → BlockAt l next
-  second_at next is = record { before = t.first ++ t.block ∷ []; here = t.other; behind = t.rest; blocks = second_blocks; place = second_place next is }
-
-  pub grow-second : (next : ℕ) → next ≡ at + can.first → BlockAt l next
-  grow-second next is = second_at next is
-
-  pub grow-second_size : (next : ℕ) → next ≡ at + can.first → (h : Header) → ((b : BlockAt l next) → h ≡ header_of l.heads b.here) → h.size ≡ can.second
-  grow-second_size next is h says = ap (λ (h : Header). h.size) (says (second_at next is)) ∙ grow-sizes.1
-
-  -- both end within 32 bits
-  pub grow-range : at + can.first + can.second ≤ 0xFFFF_FFFF
-  grow-range =
-      let high = range-one l (t.first ++ t.block ∷ []) t.other t.rest held.sound second_blocks in
-      let place = second_place (at + can.first) refl in
-      let size = grow-sizes.1 in
-      omega arith
-
-  -- they are larger than a header
-  pub grow-head : head_size z.shape.heads ≤ can.first + can.second
-  grow-head = let head = ap head_size (heads-is l z held) in let size = grow-sizes.0 in omega arith
-
-  -- all bytes behind the first header
-  abbrev pub joint : List ℕ
-  joint = joint_body l t.block t.other
+  abbrev all_bytes : List ℕ
+  all_bytes = joint l z held at (grow_pair can)
 
   abbrev pub merged_zone : ZoneRecords
-  merged_zone = records.with_blocks (can.before ++ block_record (with_bytes joint can.content) (can.first + can.second) ∷ can.behind) z
+  merged_zone = records.with_blocks (can.before ++ block_record (with_bytes all_bytes can.content) (can.first + can.second) ∷ can.behind) z
 
-  grow-content : content_in l.heads l.base t.block.role t.block.contents ≡ can.content
-  grow-content = ap (λ (r : BlockRecord). r.content) t.same
+  grow-content : content_in l.heads l.base pair_two.block.role pair_two.block.contents ≡ can.content
+  grow-content = ap (λ (r : BlockRecord). r.content) pair_two.same
 
-  grow-has : has_bytes (content_in l.heads l.base t.block.role t.block.contents) ≡ true
+  grow-has : has_bytes (content_in l.heads l.base pair_two.block.role pair_two.block.contents) ≡ true
   grow-has = ap has_bytes grow-content ∙ can.held
 
-  grow-bytes : t.block.contents ≡ bytes_of can.content
-  grow-bytes = sym (bytes-same l.heads l.base t.block.role t.block.contents grow-has) ∙ ap bytes_of grow-content
-
-  joint-long : head_size l.heads + length joint ≡ can.first + can.second
-  joint-long = let all = size-joint l t.block t.other in let sizes = grow-sizes in let first = sizes.0 in let second = sizes.1 in omega arith
+  grow-bytes : pair_two.block.contents ≡ bytes_of can.content
+  grow-bytes = sym (bytes-same l.heads l.base pair_two.block.role pair_two.block.contents grow-has) ∙ ap bytes_of grow-content
 
   module _ (k : ℕ) (is : k ≡ can.first + can.second - head_size l.heads) where
     abbrev joined : RawBlock
-    joined = raw_block t.block.role k joint
-
-    joint-all : length joint ≡ k
-    joint-all = let long = joint-long in omega arith
+    joined = raw_block pair_two.block.role k all_bytes
 
     joined-sound : is_sound l.heads l.base joined ≡ true
     joined-sound =
-        let long = joint-long in
-        let count = joint-all in
-        let sizes = grow-sizes in
-        let first = sound-one l t.first t.block (t.other ∷ t.rest) held.sound t.blocks in
-        let second = sound-other l t.first t.block t.other t.rest held.sound t.blocks in
-        let s = sound-parts l.heads l.base t.block first in
-        let sum = sized-sum l.heads (size_of l.heads t.block) (size_of l.heads t.other) (sound-sized l.heads l.base t.block first) (sound-sized l.heads l.base t.other second) in
-        sound-raw l.heads l.base t.block.role k joint (can.first + can.second) (omega arith) long ((λ i. sized l.heads (sym sizes.0 i + sym sizes.1 i)) ∙ sum) (omega arith)
-        (λ n over. told-any l.heads l.base t.block.role t.block.contents (length t.block.slack) n grow-has s.told) (use-any l.heads l.base t.block.role t.block.contents (length t.block.contents) k grow-has s.use_is)
-
-    abbrev can_merge : CanMerge l at k
-    can_merge = record {
-      pair = record {
-        before = t.first;
-        here = t.block;
-        next = t.other;
-        behind = t.rest;
-        blocks = t.blocks;
-        place = grow-place;
-        unlent_here = ap (λ (r : BlockRecord). r.lent) t.same;
-        unlent_next = ap (λ (r : BlockRecord). r.lent) t.same_other;
-      };
-      within = (let count = joint-all in omega arith);
-      possible = sound-possible l.heads l.base joined joined-sound;
-    }
+        let long = joint-long l z held at (grow_pair can) in
+        let count = joint-all l z held at (grow_pair can) k is in
+        let s = sound-parts l.heads l.base pair_two.block (both-sound l z held at (grow_pair can)).0 in
+        sound-raw l.heads l.base pair_two.block.role k all_bytes (can.first + can.second) (omega arith) long (both-sized l z held at (grow_pair can)) (omega arith)
+        (λ n over. told-any l.heads l.base pair_two.block.role pair_two.block.contents (length pair_two.block.slack) n grow-has s.told) (use-any l.heads l.base pair_two.block.role pair_two.block.contents (length pair_two.block.contents) k grow-has s.use_is)
 
     pub grow-can : CanMerge l at k
-    grow-can = can_merge
+    grow-can = can_merge l z held at (grow_pair can) k is joined-sound
 
     -- they are one then
     pub grow-merged : (m : Layout) → ((can : CanMerge l at k) → m ≡ with_blocks (can.pair.before ++ raw_block can.pair.here.role k (joint_body l can.pair.here can.pair.next) ∷ can.pair.behind) l) → Held m merged_zone
     grow-merged m ends =
-        let long = joint-long in
-        let count = joint-all in
-        let sizes = grow-sizes in
+        let long = joint-long l z held at (grow_pair can) in
+        let count = joint-all l z held at (grow_pair can) k is in
+        let sizes = sizes l z held at (grow_pair can) in
         let first = sizes.0 in
         let second = sizes.1 in
-        let p = (raw-parts l.heads t.block.role k joint (omega arith)).2 in
+        let p = (raw-parts l.heads pair_two.block.role k all_bytes (omega arith)).2 in
         let size : size_of l.heads joined ≡ can.first + can.second = omega arith in
-        let content : content_in l.heads l.base t.block.role (take k joint) ≡ with_bytes joint can.content =
-        ap (content_in l.heads l.base t.block.role) (take_all k joint (omega arith)) ∙ sym (with-same l.heads l.base t.block.role t.block.contents joint grow-has) ∙ ap (with_bytes joint) grow-content in
-        subst (λ m. Held m merged_zone) (sym (ends can_merge))
-        (changed l z held t.first (t.block ∷ t.other ∷ []) (joined ∷ []) t.rest can.before (block_record (with_bytes joint can.content) (can.first + can.second) ∷ []) can.behind t.blocks t.lower t.upper
+        let content : content_in l.heads l.base pair_two.block.role (take k all_bytes) ≡ with_bytes all_bytes can.content =
+        ap (content_in l.heads l.base pair_two.block.role) (take_all k all_bytes (omega arith)) ∙ sym (with-same l.heads l.base pair_two.block.role pair_two.block.contents all_bytes grow-has) ∙ ap (with_bytes all_bytes) grow-content in
+        subst (λ m. Held m merged_zone) (sym (ends (can_merge l z held at (grow_pair can) k is joined-sound)))
+        (changed l z held pair_two.first (pair_two.block ∷ pair_two.other ∷ []) (joined ∷ []) pair_two.rest can.before (block_record (with_bytes all_bytes can.content) (can.first + can.second) ∷ []) can.behind pair_two.blocks pair_two.lower pair_two.upper
         (λ i. record { size = size i; content = content i; lent = false } ∷ []) (omega arith)
-        (and_from _ _ joined-sound refl) (words-one l.heads joined (words-none l.heads l.base joined t.block.contents grow-has)))
+        (and_from _ _ joined-sound refl) (words-one l.heads joined (words-none l.heads l.base joined pair_two.block.contents grow-has)))
 
   -- the one block can be cut
   abbrev pub grown : CanHold merged_zone at size n
@@ -178,25 +100,25 @@ module _ (l : Layout) (z : ZoneRecords) (held : Held l z) (at size n : ℕ) (can
     held = record {
       before = can.before;
       size = can.first + can.second;
-      content = with_bytes joint can.content;
+      content = with_bytes all_bytes can.content;
       behind = can.behind;
       blocks = refl;
       place = can.place;
-      held = has-with can.content joint can.held;
+      held = has-with can.content all_bytes can.held;
     };
     fits = can.fits;
   }
 
   module _ (kept : ℕ) (is : kept ≡ length_of can.content) where
-    kept-all : kept ≡ length t.block.contents
+    kept-all : kept ≡ length pair_two.block.contents
     kept-all = is ∙ length-held can.content can.held ∙ ap length (sym grow-bytes)
 
-    pub kept-few : kept ≤ length (bytes_of (with_bytes joint can.content))
+    pub kept-few : kept ≤ length (bytes_of (with_bytes all_bytes can.content))
     kept-few =
-        let same = ap length (bytes-with can.content joint can.held) in
+        let same = ap length (bytes-with can.content all_bytes can.held) in
         let all = kept-all in
-        let long = joint-long in
-        let size = grow-sizes.0 in
+        let long = joint-long l z held at (grow_pair can) in
+        let size = (sizes l z held at (grow_pair can)).0 in
         omega arith
 
     abbrev pub grow-keep : CanKeep merged_zone at size n kept
@@ -205,8 +127,8 @@ module _ (l : Layout) (z : ZoneRecords) (held : Held l z) (at size n : ℕ) (can
     -- then the block has its bytes
     pub grow-all : fitted kept merged_zone grown ≡ enlarged z can
     grow-all =
-        let bytes : take kept (bytes_of (with_bytes joint can.content)) ≡ bytes_of can.content =
-        ap (take kept) (bytes-with can.content joint can.held ∙ append_assoc t.block.contents t.block.slack (head_bytes l.heads l.base (header_of l.heads t.other) ++ body t.other))
-        ∙ take_at t.block.contents (t.block.slack ++ (head_bytes l.heads l.base (header_of l.heads t.other) ++ body t.other)) kept (sym kept-all) ∙ grow-bytes in
+        let bytes : take kept (bytes_of (with_bytes all_bytes can.content)) ≡ bytes_of can.content =
+        ap (take kept) (bytes-with can.content all_bytes can.held ∙ append_assoc pair_two.block.contents pair_two.block.slack (head_bytes l.heads l.base (header_of l.heads pair_two.other) ++ body pair_two.other))
+        ∙ take_at pair_two.block.contents (pair_two.block.slack ++ (head_bytes l.heads l.base (header_of l.heads pair_two.other) ++ body pair_two.other)) kept (sym kept-all) ∙ grow-bytes in
         ap (λ content. records.with_blocks (can.before ++ block_record content size ∷ free_record (can.first + can.second - size) ++ can.behind) z)
-        (ap (λ xs. with_bytes (resized n xs) (with_bytes joint can.content)) bytes ∙ with-with can.content joint (resized n (bytes_of can.content)))
+        (ap (λ xs. with_bytes (resized n xs) (with_bytes all_bytes can.content)) bytes ∙ with-with can.content all_bytes (resized n (bytes_of can.content)))

@@ -20,7 +20,7 @@ use Rattle.zone_records.proofs.Looking.{OfRecord, of-record, sound-parts, size-o
 use Rattle.zone_records.proofs.Headers.{bytes-same, words-none, with-same}
 use Rattle.zone_records.proofs.Holding.{held_one, held-block, held-size, held-content, held-has, held-bytes}
 use Rattle.zone_records.proofs.Blocks.{sound-made}
-use Rattle.zone_records.proofs.Freeing.{sound-sized}
+use Rattle.zone_records.proofs.Neighbours.{sound-sized}
 
 -- as many blocks of bytes are lent
 pub count-read : (heads : HeadKind) (base : ℕ) (bs : List RawBlock) → lent_count (read heads base bs) ≡ raw.lent_count bs

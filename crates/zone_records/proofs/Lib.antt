@@ -32,6 +32,7 @@ mod RightBlocks
 mod SaidPlaces
 mod Paired
 mod Placing
+mod Neighbours
 mod Freeing
 mod Fitting
 mod Fitted

@@ -99,6 +99,43 @@ pub at-same : (P : HeadKind → ℕ → List ℕ → Type 0) (heads others : Hea
 at-same P heads others at start contents same heads_is place is holds =
     subst (λ heads. P heads start same) heads_is (subst (λ at. P heads at same) place (subst (λ contents. P heads at contents) is holds))
 
+-- what is known of a master block once its header and its contents are read
+pub record IsOpen (l : Layout) (at : ℕ) (b : BlockAt l at) (heads : HeadKind) (base head : ℕ) (ours : List ℕ) : Type 0 where
+  pub heads_is : heads ≡ l.heads
+  pub base_is : base ≡ l.base
+  pub head_is : head ≡ head_size l.heads
+  pub same : ours ≡ b.here.contents
+  pub long : length ours ≡ 256
+  pub right : ours ≡ words_of heads (slots_in heads slot_count ours)
+  pub above : l.base ≤ at
+  pub low : at + head + 256 ≤ 0xFFFF_FFFF
+  pub inside : at - base + head + 256 ≤ length (image_of l)
+
+pub is-open : (l : Layout) → AreSound l → (at : ℕ) (b : BlockAt l at) → b.here.role ≡ role.Master → (heads : HeadKind) (base head : ℕ) (ours : List ℕ) → heads ≡ l.heads → base ≡ l.base → head ≡ head_size l.heads → ours ≡ b.here.contents
+    → IsOpen l at b heads base head ours
+is-open l sound at b master heads base head ours heads_is base_is head_is same =
+    let ends = block-end l sound at b in let all = contents-long l sound at b master in let place = b.place in
+    record {
+      heads_is = heads_is;
+      base_is = base_is;
+      head_is = head_is;
+      same = same;
+      long = ap length same ∙ all;
+      right = same ∙ contents-words l sound at b master ∙ (λ i. words_of (sym heads_is i) (slots_in (sym heads_is i) 64 (sym same i)));
+      above = omega arith;
+      low = omega (arith, ends.0);
+      inside = omega (arith, ends.1);
+    }
+
+-- what holds of the contents in the zone holds of what was read
+module _ {l : Layout} {at : ℕ} {b : BlockAt l at} {heads : HeadKind} {base head : ℕ} {ours : List ℕ} (o : IsOpen l at b heads base head ours) (P : HeadKind → ℕ → List ℕ → Type 0) (first : ℕ)
+    (place : first ≡ at - l.base + head_size l.heads) where
+  pub open-from : P l.heads (at - l.base + head_size l.heads) b.here.contents → P heads first ours
+  open-from = at-same P l.heads heads (at - l.base + head_size l.heads) first b.here.contents ours (sym o.heads_is) (sym place) (sym o.same)
+
+  pub open-to : P heads first ours → P l.heads (at - l.base + head_size l.heads) b.here.contents
+  open-to = at-same P heads l.heads first (at - l.base + head_size l.heads) ours b.here.contents o.heads_is place o.same
+
 module _ (l : Layout) (bytes : List ℕ) where
   module _ (from : ℕ) (split : SplitAt l from) where
     abbrev at_split : ℕ

@@ -1,9 +1,9 @@
 -- Bytes that have a zone's own bytes agree with it.
-use Rattle.std.proofs.Common.{◌≡◌, ℕ, ◌+◌, ◌-◌, List, ◌∷◌, ◌++◌, length, sym, ap, ◌∙◌, subst, arith}
+use Rattle.std.proofs.Common.{◌≡◌, ℕ, ◌+◌, List, ◌∷◌, ◌++◌, sym, ap, ◌∙◌, subst}
 use Rattle.mac_base.specs.HeadKind.{head_size, slot_count, zone_header}
 use Rattle.raw_region.specs.Bytes.{part}
 use Rattle.block_bytes.specs.declared.header.Role.TheVariants.{Master}
-use Rattle.block_bytes.specs.Layout.{RawBlock, Layout, BlockAt, address_behind, total_of}
+use Rattle.block_bytes.specs.Layout.{RawBlock, Layout, address_behind, total_of}
 use Rattle.block_bytes.specs.Structure.{AreWritten, HasOwn}
 use Rattle.zone_records.specs.Masters.{BlocksAgree, BlocksSame, SlotsAgree, SlotsSame}
 use Rattle.zone_records.specs.Reading.{AreSound}

@@ -1,5 +1,5 @@
 -- The addresses that slots say, and those where the contents of handles' blocks begin: each of the two is there once.
-use Rattle.std.proofs.Common.{◌≡◌, ℕ, suc, ◌+◌, ◌*◌, ◌<◌, ◌≤◌, true, List, [], ◌∷◌, ◌++◌, length, drop, refl, ap, sym, ◌∙◌, subst, arith, Contains, ◌⊎◌, inl, inr, append_assoc, drop-drop}
+use Rattle.std.proofs.Common.{◌≡◌, ℕ, suc, ◌+◌, ◌*◌, ◌<◌, ◌≤◌, true, List, [], ◌∷◌, ◌++◌, length, drop, refl, ap, sym, ◌∙◌, subst, arith, Contains, ◌⊎◌, inl, inr, append_assoc}
 use Rattle.std.specs.Prelude.{◌-◌, nat_eq}
 use Rattle.std.specs.List.{IsDistinct}
 use Rattle.mac_base.specs.declared.block.Flags.{Flags}
@@ -22,7 +22,7 @@ use Rattle.zone_records.specs.Word.{slots_in}
 use Rattle.zone_records.proofs.Apart.{total-append}
 use Rattle.zone_records.proofs.ReadSlots.{length-slots_in}
 use Rattle.zone_records.proofs.Slots.{master-long}
-use Rattle.zone_records.proofs.ZoneSlots.{Rising, first-or-later, at-first, at-later, not-there}
+use Rattle.zone_records.proofs.ZoneSlots.{IsCount, Rising, counts-few, counts-more, counts-none, first-or-later, at-first, at-later, not-there}
 
 -- a slot with its address
 abbrev Placed : Type 0
@@ -101,22 +101,16 @@ full-few (slot.Free next) = omega arith
 full-few slot.Empty = omega arith
 full-few (slot.Full flags contents) = omega arith
 
-count_few : (xs : List Slot) → full_count xs ≤ length xs
-count_few [] = omega arith
-count_few (x ∷ xs) = let here = full-few x in let rest = count_few xs in omega arith
+counts-full : IsCount one_full full_count
+counts-full = record { none = refl; more = λ s ss. refl; few = full-few }
 
 -- the words of a master block from one of them on
 pub words-full : (heads : HeadKind) (words : List ℕ) (k : ℕ) → k < 64
     → full_count (slots_in heads (64 - k) (drop (4 * k) words)) ≡ one_full (slot_of heads words k) + full_count (slots_in heads (64 - (k + 1)) (drop (4 * (k + 1)) words))
-unfolding slots_in
-words-full heads words k few =
-    let left : 64 - k ≡ suc (64 - (k + 1)) = omega arith in
-    ap (λ n. full_count (slots_in heads n (drop (4 * k) words))) left
-    ∙ ap (λ xs. one_full (slot_of heads words k) + full_count (slots_in heads (64 - (k + 1)) xs)) (drop-drop 4 (4 * k) words ∙ ap (λ n. drop n words) (let e : 4 * k + 4 ≡ 4 * (k + 1) = omega arith in e))
+words-full = counts-more one_full full_count counts-full
 
 pub words-all : (heads : HeadKind) (words : List ℕ) (k : ℕ) → 64 ≤ k → full_count (slots_in heads (64 - k) (drop (4 * k) words)) ≡ 0
-unfolding slots_in
-words-all heads words k all = ap (λ n. full_count (slots_in heads n (drop (4 * k) words))) (let e : 64 - k ≡ 0 = omega arith in e)
+words-all = counts-none one_full full_count counts-full
 
 -- how many a block's slots say, by its role
 pub said-master : (heads : HeadKind) (base at : ℕ) (r : Role) (bytes : List ℕ) → r ≡ role.Master → full_count (slots_in heads slot_count bytes) ≡ length (said_of (slots_of at (content_in heads base r bytes)))
@@ -134,7 +128,7 @@ unfolding said_of
 said_in_role heads base at role.Free bytes size room = omega arith
 said_in_role heads base at role.Fixed bytes size room = omega arith
 said_in_role heads base at role.Master bytes size room =
-    let some = room refl in let same = said_counted at (slots_in heads slot_count bytes) in let few = count_few (slots_in heads slot_count bytes) in let all = length-slots_in heads slot_count bytes in omega arith
+    let some = room refl in let same = said_counted at (slots_in heads slot_count bytes) in let few = counts-few one_full full_count counts-full (slots_in heads slot_count bytes) in let all = length-slots_in heads slot_count bytes in omega arith
 said_in_role heads base at (role.Relocatable offset flags) bytes size room = omega arith
 
 -- a block has room for those of its slots

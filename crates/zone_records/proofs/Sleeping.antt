@@ -1,5 +1,5 @@
 -- A zone of blocks that falls asleep.
-use Rattle.std.proofs.Common.{◌≡◌, false, Option, None, Some, IfNone, IfSome, ap, sym, ◌∙◌, subst}
+use Rattle.std.proofs.Common.{◌≡◌, Option, None, Some, IfNone, IfSome, ap, sym, ◌∙◌, subst}
 use Rattle.mac_base.specs.HeadKind.{slot_count, zone_header}
 use Rattle.block_bytes.specs.Layout.{Layout}
 use Rattle.block_bytes.specs.Sleeping as raw

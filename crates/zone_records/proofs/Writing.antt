@@ -1,5 +1,5 @@
 -- Master blocks that are written among bytes.
-use Rattle.std.proofs.Common.{◌≡◌, ℕ, ◌+◌, ◌-◌, List, ◌∷◌, ◌++◌, refl, ap, sym, ◌∙◌, subst}
+use Rattle.std.proofs.Common.{◌≡◌, ℕ, ◌+◌, List, ◌∷◌, ◌++◌, refl, ap, sym, ◌∙◌, subst}
 use Rattle.mac_base.specs.HeadKind.{head_size, slot_count, zone_header}
 use Rattle.raw_region.specs.Bytes.{part}
 use Rattle.block_bytes.specs.declared.header.Role.TheVariants as role

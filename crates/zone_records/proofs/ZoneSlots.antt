@@ -2,7 +2,7 @@
 use Rattle.std.proofs.Common.{◌≡◌, ℕ, zero, suc, ◌+◌, ◌*◌, ◌<◌, ◌≤◌, true, List, [], ◌∷◌, ◌++◌, length, drop, get_or, refl, ap, sym, ◌∙◌, subst, arith, Contains, ◌⊎◌, inl, inr, append_assoc, drop-drop}
 use Rattle.std.specs.Prelude.{◌^◌, ◌-◌, nat_eq, ⊤}
 use Rattle.std.specs.List.{list_all, IsDistinct}
-use Rattle.std.proofs.lemmas.List.Elements.{Contains-append_left, Contains-append_right, Contains-append_cases}
+use Rattle.std.proofs.lemmas.List.Elements.{Contains-append_left, Contains-append_right, Contains-append_cases, Contains-push}
 use Rattle.std.proofs.lemmas.Bool.{and_parts}
 use Rattle.mac_base.specs.declared.block.HeadKind.{HeadKind}
 use Rattle.mac_base.specs.HeadKind.{Shape, head_size, slot_count}
@@ -44,10 +44,10 @@ first-or-later p ps q c = by_place c.0 c.1 c.2
     by_place (suc k) below is = inr (k, omega arith, is)
 
 pub at-first : (p : Placed) (ps : List Placed) → Contains (p ∷ ps) p
-at-first p ps = (0, omega arith, refl)
+at-first p ps = Contains-append_left (p ∷ []) ps p (Contains-push [] p)
 
 pub at-later : (p : Placed) (ps : List Placed) (q : Placed) → Contains ps q → Contains (p ∷ ps) q
-at-later p ps q c = (suc c.0, (let below = c.1 in omega arith), c.2)
+at-later p ps q c = Contains-append_right (p ∷ []) ps q c
 
 pub not-there : (q : Placed) → Contains [] q → ⊥
 not-there q c = let below = c.1 in omega arith
@@ -269,28 +269,46 @@ free-counted at (slot.Free m ∷ xs) = let rest = free-counted (at + 4) xs in om
 free-counted at (slot.Empty ∷ xs) = let rest = free-counted (at + 4) xs in omega arith
 free-counted at (slot.Full flags contents ∷ xs) = let rest = free-counted (at + 4) xs in omega arith
 
--- how many these are
+-- a count of slots, each of which counts one at most
+pub record IsCount (one : Slot → ℕ) (count : List Slot → ℕ) : Type 0 where
+  pub none : count [] ≡ 0
+  pub more : (s : Slot) (ss : List Slot) → count (s ∷ ss) ≡ one s + count ss
+  pub few : (s : Slot) → one s ≤ 1
+
 pub one-few : (s : Slot) → one_free s ≤ 1
 one-few (slot.Free next) = omega arith
 one-few slot.Empty = omega arith
 one-few (slot.Full flags contents) = omega arith
 
-count-few : (xs : List Slot) → free_count xs ≤ length xs
-count-few [] = omega arith
-count-few (x ∷ xs) = let here = one-few x in let rest = count-few xs in omega arith
+counts-free : IsCount one_free free_count
+counts-free = record { none = refl; more = λ s ss. refl; few = one-few }
 
--- the words of a master block from one of them on
+module _ (one : Slot → ℕ) (count : List Slot → ℕ) (is : IsCount one count) where
+  -- no more than there are
+  pub counts-few : (xs : List Slot) → count xs ≤ length xs
+  counts-few [] = let none = is.none in omega arith
+  counts-few (x ∷ xs) = let more = is.more x xs in let here = is.few x in let rest = counts-few xs in omega arith
+
+  -- of the words of a master block, from one of them on
+  pub counts-more : (heads : HeadKind) (words : List ℕ) (k : ℕ) → k < 64
+      → count (slots_in heads (64 - k) (drop (4 * k) words)) ≡ one (slot_of heads words k) + count (slots_in heads (64 - (k + 1)) (drop (4 * (k + 1)) words))
+  unfolding slots_in
+  counts-more heads words k few =
+      let left : 64 - k ≡ suc (64 - (k + 1)) = omega arith in
+      ap (λ n. count (slots_in heads n (drop (4 * k) words))) left ∙ is.more (slot_of heads words k) (slots_in heads (64 - (k + 1)) (drop 4 (drop (4 * k) words)))
+      ∙ ap (λ xs. one (slot_of heads words k) + count (slots_in heads (64 - (k + 1)) xs)) (drop-drop 4 (4 * k) words ∙ ap (λ n. drop n words) (let e : 4 * k + 4 ≡ 4 * (k + 1) = omega arith in e))
+
+  pub counts-none : (heads : HeadKind) (words : List ℕ) (k : ℕ) → 64 ≤ k → count (slots_in heads (64 - k) (drop (4 * k) words)) ≡ 0
+  unfolding slots_in
+  counts-none heads words k all = ap (λ n. count (slots_in heads n (drop (4 * k) words))) (let e : 64 - k ≡ 0 = omega arith in e) ∙ is.none
+
+-- so of the free ones
 pub words-free : (heads : HeadKind) (words : List ℕ) (k : ℕ) → k < 64
     → free_count (slots_in heads (64 - k) (drop (4 * k) words)) ≡ one_free (slot_of heads words k) + free_count (slots_in heads (64 - (k + 1)) (drop (4 * (k + 1)) words))
-unfolding slots_in
-words-free heads words k few =
-    let left : 64 - k ≡ suc (64 - (k + 1)) = omega arith in
-    ap (λ n. free_count (slots_in heads n (drop (4 * k) words))) left
-    ∙ ap (λ xs. one_free (slot_of heads words k) + free_count (slots_in heads (64 - (k + 1)) xs)) (drop-drop 4 (4 * k) words ∙ ap (λ n. drop n words) (let e : 4 * k + 4 ≡ 4 * (k + 1) = omega arith in e))
+words-free = counts-more one_free free_count counts-free
 
 pub words-done : (heads : HeadKind) (words : List ℕ) (k : ℕ) → 64 ≤ k → free_count (slots_in heads (64 - k) (drop (4 * k) words)) ≡ 0
-unfolding slots_in
-words-done heads words k all = ap (λ n. free_count (slots_in heads n (drop (4 * k) words))) (let e : 64 - k ≡ 0 = omega arith in e)
+words-done = counts-none one_free free_count counts-free
 
 -- how many of a block are free, by its role
 pub free-master : (heads : HeadKind) (base at : ℕ) (r : Role) (bytes : List ℕ) → r ≡ role.Master → free_count (slots_in heads slot_count bytes) ≡ length (free_of (slots_of at (content_in heads base r bytes)))
@@ -301,7 +319,7 @@ unfolding free_of
 free_in_role heads base at role.Free bytes size room = omega arith
 free_in_role heads base at role.Fixed bytes size room = omega arith
 free_in_role heads base at role.Master bytes size room =
-    let some = room refl in let same = free-counted at (slots_in heads slot_count bytes) in let few = count-few (slots_in heads slot_count bytes) in let all = length-slots_in heads slot_count bytes in omega arith
+    let some = room refl in let same = free-counted at (slots_in heads slot_count bytes) in let few = counts-few one_free free_count counts-free (slots_in heads slot_count bytes) in let all = length-slots_in heads slot_count bytes in omega arith
 free_in_role heads base at (role.Relocatable offset flags) bytes size room = omega arith
 
 -- a block has room for those of its slots that are free

@@ -6,12 +6,11 @@ ghost use Rattle.mac_base.specs.Suits.{has_length};
 ghost use Rattle.block_bytes.specs.declared.header.Role.TheVariants.{Free};
 ghost use Rattle.block_bytes.specs.Layout.{BlockAt, header_of, size_of};
 ghost use Rattle.zone_records.specs.Adopting.{HasBlock};
-ghost use Rattle.zone_records.specs.Linking.{AreRight, Keeps, KeptAs, SlotsKeep, TightAs, free_of, full_count, one_full, one_handle, said_of};
+ghost use Rattle.zone_records.specs.Linking.{AreRight, Keeps, KeptAs, SlotsKeep, TightAs, free_count, free_of, full_count, one_free, one_full, one_handle, said_of};
 ghost use Rattle.zone_records.specs.Reading.{AreSound, content_in, records_in};
 ghost use Rattle.zone_records.specs.Slots.{slots_of, slots_of_zone};
 ghost use Rattle.zone_records.specs.Word.{slots_in};
 
-use crate::chained::free_at;
 use crate::slot::Slot;
 use block_bytes::{Blocks, Header, Role};
 use byteorder::{BigEndian, ByteOrder};
@@ -25,12 +24,12 @@ fn has_block(blocks: &Blocks, handle: u32, contents: u32) -> bool
 {
     let spec = blocks.spec();
     let head = spec.heads().head_size();
-    if contents < head || !blocks.is_block(contents - head) {
+    if contents < head {
         return false;
     }
-    match blocks.entry_at(contents - head).role {
-        Role::Relocatable(offset, _) => spec.base() + offset == handle,
-        Role::Free | Role::Fixed | Role::Master => false,
+    match blocks.owner_at(contents - head) {
+        Some(offset) => spec.base() + offset == handle,
+        None => false,
     }
 }
 
@@ -55,18 +54,37 @@ fn one_full(slot: Slot) -> u32
     }
 }
 
-/// How many slots of a master block with these contents, the first at an address, say an address, if each of them says its
-/// handle's block.
-fn kept_slots(blocks: &Blocks, first: u32, words: &[u8]) -> Option<u32>
+/// One for a free slot, and 0 for any other.
+fn one_free(slot: Slot) -> u32
+    ensures { result ≡ one_free slot }
+{
+    match slot {
+        Slot::Free(_) => 1,
+        Slot::Empty | Slot::Full(_, _) => 0,
+    }
+}
+
+/// How many slots of a block say an address, and how many are free.
+#[derive(Clone, Copy)]
+struct Counts {
+    full: u32,
+    free: u32,
+}
+
+/// The counts of the slots of a master block with these contents, the first at an address, if each that says an address
+/// says its handle's block.
+fn kept_slots(blocks: &Blocks, first: u32, words: &[u8]) -> Option<Counts>
     requires sound { AreSound blocks.now }
     requires long { length words.now ≡ master_length }
     requires low { first + master_length < 2 ^ 32 }
-    ensures kept { IfSome result (λ count. SlotsKeep blocks.now slot_count first words.now) }
-    ensures count { IfSome result (λ count. count ≡ full_count (slots_in blocks.now.heads slot_count words.now)) }
+    ensures kept { IfSome result (λ counts. SlotsKeep blocks.now slot_count first words.now) }
+    ensures full { IfSome result (λ counts. counts.full ≡ full_count (slots_in blocks.now.heads slot_count words.now)) }
+    ensures free { IfSome result (λ counts. counts.free ≡ free_count (slots_in blocks.now.heads slot_count words.now)) }
     ensures none { IfNone result (SlotsKeep blocks.now slot_count first words.now → ⊥) }
 {
     let heads = blocks.spec().heads();
-    let mut count = 0;
+    let mut full = 0;
+    let mut free = 0;
     for index in 0..SLOT_COUNT {
         let place = 4 * index;
         let word = BigEndian::read_u32(&words[place as usize..]);
@@ -74,18 +92,21 @@ fn kept_slots(blocks: &Blocks, first: u32, words: &[u8]) -> Option<u32>
         if !keeps(blocks, first + place, said) {
             return None;
         }
-        count += one_full(said);
+        full += one_full(said);
+        free += one_free(said);
     }
-    Some(count)
+    Some(Counts { full, free })
 }
 
-/// How many slots of the block at an address, which is for this, say an address, if each of them says its handle's block.
-fn kept_at(blocks: &Blocks, at: u32, role: Role) -> Option<u32>
+/// The counts of the slots of the block at an address, which is for this, if each that says an address says its
+/// handle's block.
+fn kept_at(blocks: &Blocks, at: u32, role: Role) -> Option<Counts>
     requires sound { AreSound blocks.now }
     requires block { BlockAt blocks.now at }
     requires role { (b : BlockAt blocks.now at) → role ≡ b.here.role }
-    ensures kept { IfSome result (λ count. (b : BlockAt blocks.now at) → KeptAs blocks.now at b.here.role b.here.contents) }
-    ensures count { IfSome result (λ count. (b : BlockAt blocks.now at) (x : ℕ) → count ≡ length (said_of (slots_of x (content_in blocks.now.heads blocks.now.base b.here.role b.here.contents)))) }
+    ensures kept { IfSome result (λ counts. (b : BlockAt blocks.now at) → KeptAs blocks.now at b.here.role b.here.contents) }
+    ensures full { IfSome result (λ counts. (b : BlockAt blocks.now at) (x : ℕ) → counts.full ≡ length (said_of (slots_of x (content_in blocks.now.heads blocks.now.base b.here.role b.here.contents)))) }
+    ensures free { IfSome result (λ counts. (b : BlockAt blocks.now at) (x : ℕ) → counts.free ≡ length (free_of (slots_of x (content_in blocks.now.heads blocks.now.base b.here.role b.here.contents)))) }
     ensures none { IfNone result ((b : BlockAt blocks.now at) → KeptAs blocks.now at b.here.role b.here.contents → ⊥) }
 {
     match role {
@@ -93,7 +114,7 @@ fn kept_at(blocks: &Blocks, at: u32, role: Role) -> Option<u32>
             let first = at + blocks.spec().heads().head_size();
             kept_slots(blocks, first, blocks.contents(at))
         }
-        Role::Free | Role::Fixed | Role::Relocatable(_, _) => Some(0),
+        Role::Free | Role::Fixed | Role::Relocatable(_, _) => Some(Counts { full: 0, free: 0 }),
     }
 }
 
@@ -163,12 +184,12 @@ pub(crate) fn free_if_right(blocks: &Blocks) -> Option<u32>
     let mut at = blocks.spec().base() + ZONE_HEADER;
     while at < end {
         let header = blocks.entry_at(at);
-        let count = kept_at(blocks, at, header.role)?;
+        let counts = kept_at(blocks, at, header.role)?;
         if !is_tight(blocks, at, header) {
             return None;
         }
-        full += count;
-        free += free_at(blocks, at, header.role);
+        full += counts.full;
+        free += counts.free;
         handles += one_handle(header.role);
         at += header.size;
     }

@@ -119,6 +119,16 @@ impl Records {
         requires { RecordAt self.now at }
         ensures { (r : RecordAt self.now at) → result ≡ block (kind_of (at + head_size self.now.shape.heads) r.here.content) r.here.size }
     {
+        self.head_at(at).0
+    }
+
+    /// The size of the block at an address and what it is for, with the flags that its header says: only that of a
+    /// handle's block says any, and none in a zone of 24-bit blocks.
+    pub fn head_at(&self, at: u32) -> (Entry, Flags)
+        requires { RecordAt self.now at }
+        ensures entry { (r : RecordAt self.now at) → result.0 ≡ block (kind_of (at + head_size self.now.shape.heads) r.here.content) r.here.size }
+        ensures flags { (b : HandleBlockAt self.now at) → result.1 ≡ b.flags }
+    {
         let header = self.blocks.entry_at(at);
         let kind = match header.role {
             Role::Free => Kind::Free,
@@ -126,10 +136,11 @@ impl Records {
             Role::Master => Kind::Master,
             Role::Relocatable(offset, _) => Kind::Rel(Handle::new(self.spec().base() + offset)),
         };
-        Entry {
+        let entry = Entry {
             size: header.size,
             kind,
-        }
+        };
+        (entry, header.role.flags())
     }
 
     /// How many bytes of contents the block at an address has; a free one has none.
@@ -210,10 +221,7 @@ impl Records {
         requires { HandleBlockAt self.now at }
         ensures { (b : HandleBlockAt self.now at) → result ≡ b.flags }
     {
-        match self.blocks.entry_at(at).role {
-            Role::Relocatable(_, flags) => flags,
-            Role::Free | Role::Fixed | Role::Master => Flags::NONE,
-        }
+        self.head_at(at).1
     }
 
     /// Makes the header of a handle's block say these flags. The block may be lent.

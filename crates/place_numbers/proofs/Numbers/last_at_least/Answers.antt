@@ -1,4 +1,4 @@
-use Rattle.std.proofs.Common.{◌<◌, ◌≤◌, ℕ, subst, arith}
+use Rattle.std.proofs.Common.{arith}
 use Rattle.std.proofs.lemmas.Option.{IfSome_then}
 use Rattle.place_numbers.proofs.Parts.{long, none-then, last-mark, no-last-mark, last-size, no-large-before, no-size-before, last-run, no-last-run}
 use Rattle.place_numbers.proofs.Numbers.last_at_least.Goals as goal
@@ -22,19 +22,14 @@ returns-in_err-at-clause-none c = rw c.from_residual.ensures (no-large-before c.
 
 pub returns-then-least-get-clause-last : goal.returns-then-least-get-clause-last
 returns-then-least-get-clause-last c =
-    last-size c.self.inside.marks c.self.inside.sizes c.args.self.now c.self.invariant c.self.view_is c.args.least c.args.end c.in_ok-at.at (omega arith) c.in_ok-at.ensures.last
-    (subst (λ (n : ℕ). c.args.least ≤ n) c.get.ensures c.if-least-get.true)
+    last-size c.self.inside.marks c.self.inside.sizes c.args.self.now c.self.invariant c.self.view_is c.args.least c.args.end c.in_ok-at.at (omega arith) c.in_ok-at.ensures.last (omega arith)
 
 pub returns-in_err-run-clause-none : goal.returns-in_err-run-clause-none
-returns-in_err-run-clause-none c = rw c.from_residual-in_err-run.ensures
-    (no-size-before c.self.inside.marks c.self.inside.sizes c.args.self.now c.self.invariant c.self.view_is c.args.least c.args.end c.in_ok-at.at (omega arith) c.in_ok-at.ensures.last
-    (subst (λ (n : ℕ). n < c.args.least) c.get.ensures c.if-least-get.false) c.in_err-run.ensures.none)
+returns-in_err-run-clause-none c = rw c.from_residual-in_err-run.ensures (no-size-before c.self.inside.marks c.self.inside.sizes c.args.self.now c.self.invariant c.self.view_is c.args.least c.args.end c.in_ok-at.at (omega arith) c.in_ok-at.ensures.last (omega arith) c.in_err-run.ensures.none)
 
 pub returns-clause-last : goal.returns-clause-last
 returns-clause-last c = IfSome_then c.last_at_least-4.result c.last_at_least-4.ensures.last (λ there it.
-    last-run c.self.inside.marks c.self.inside.sizes c.args.self.now c.self.invariant c.self.view_is c.args.least c.args.end c.in_ok-at.at c.in_ok-run.run' there (omega arith) c.in_ok-at.ensures.last
-    (subst (λ (n : ℕ). n < c.args.least) c.get.ensures c.if-least-get.false) c.in_ok-run.ensures.last it)
+    last-run c.self.inside.marks c.self.inside.sizes c.args.self.now c.self.invariant c.self.view_is c.args.least c.args.end c.in_ok-at.at c.in_ok-run.run' there (omega arith) c.in_ok-at.ensures.last (omega arith) c.in_ok-run.ensures.last it)
 
 pub returns-clause-none : goal.returns-clause-none
-returns-clause-none c = none-then c.last_at_least-4.result c.last_at_least-4.ensures.none (λ none.
-    absurd (no-last-run c.self.inside.marks c.self.inside.sizes c.args.self.now c.self.invariant c.self.view_is c.in_ok-run.run' (let large = c.in_ok-run.ensures.last.large in omega arith) none))
+returns-clause-none c = none-then c.last_at_least-4.result c.last_at_least-4.ensures.none (λ none. absurd (no-last-run c.self.inside.marks c.self.inside.sizes c.args.self.now c.self.invariant c.self.view_is c.in_ok-run.run' (let large = c.in_ok-run.ensures.last.large in omega arith) none))

@@ -1,22 +1,14 @@
 use Rattle.std.proofs.Common.{List, ℕ, ◌∙◌, sym, ap, subst, arith}
-use Rattle.place_numbers.specs.Parts.{AreSpread, numbers_of}
+use Rattle.place_numbers.specs.Parts.{AreSpread}
 use Rattle.place_numbers.specs.Shifted.{shifted_up}
 use Rattle.place_numbers.proofs.Parts.{long}
 use Rattle.place_numbers.proofs.Numbers.shift_up.Goals as goal
 
-pub shift_sizes_up-requires-clause-inside : goal.shift_sizes_up-requires-clause-inside
-shift_sizes_up-requires-clause-inside c = let l = long c.self.inside.marks c.self.inside.sizes c.args.self.now c.self.invariant c.self.view_is in omega (arith, l, c.requires.inside)
+pub shift_parts_up-requires-clause-inside : goal.shift_parts_up-requires-clause-inside
+shift_parts_up-requires-clause-inside c = let l = long c.self.inside.marks c.self.inside.sizes c.args.self.now c.self.invariant c.self.view_is in omega (arith, l, c.requires.inside)
 
-pub shift_sizes_up-requires-clause-spread : goal.shift_sizes_up-requires-clause-spread
-shift_sizes_up-requires-clause-spread c = subst (λ (l : List ℕ). AreSpread (shifted_up c.args.from c.args.to c.args.count l)) (sym c.self.view_is) c.requires.spread
-
-pub shift_up-requires-clause-inside : goal.shift_up-requires-clause-inside
-shift_up-requires-clause-inside c = let l = long c.self.inside.marks c.self.inside.sizes c.args.self.now c.self.invariant c.self.view_is in omega (arith, l, c.requires.inside)
-
-pub invariant_of-self : goal.invariant_of-self
-invariant_of-self c = rw c.shift_up.ensures c.shift_sizes_up.ensures.parts
+pub shift_parts_up-requires-clause-spread : goal.shift_parts_up-requires-clause-spread
+shift_parts_up-requires-clause-spread c = subst (λ (l : List ℕ). AreSpread (shifted_up c.args.from c.args.to c.args.count l)) (sym c.self.view_is) c.requires.spread
 
 pub returns : goal.returns
-returns c =
-    ap (λ (l : List ℕ). numbers_of l c.shift_sizes_up.new.sizes) c.shift_up.ensures ∙ c.shift_sizes_up.ensures.numbers
-    ∙ ap (λ (l : List ℕ). shifted_up c.args.from c.args.to c.args.count l) c.self.view_is
+returns c = c.shift_parts_up.ensures.numbers ∙ ap (λ (l : List ℕ). shifted_up c.args.from c.args.to c.args.count l) c.self.view_is

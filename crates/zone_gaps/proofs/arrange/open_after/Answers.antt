@@ -29,14 +29,10 @@ middle_is c =
     ap (λ (e : Entry). c.block_of-at.result + e.size) ((rw c.linked-2.ensures at c.entry_at.ensures) (entry_owned c.args.zone.now c.args.handle c.block_of-at.result o))
 
 pub gap_start-start-requires : goal.gap_start-start-requires
-gap_start-start-requires c =
-    let o = own (goal.at.gap_start-start-requires c).After-block_of-at in
-    record { front = (front_owned c.args.zone.now c.args.handle c.block_of-at.result o) }
+gap_start-start-requires c = record { front = front_owned c.args.zone.now c.args.handle c.block_of-at.result (own (goal.at.gap_start-start-requires c).After-block_of-at) }
 
 pub gap_end-end-requires : goal.gap_end-end-requires
-gap_end-end-requires c =
-    let o = own (goal.at.gap_end-end-requires c).After-block_of-at in
-    record { rest = (rest_owned c.args.zone.now c.args.handle c.block_of-at.result o) }
+gap_end-end-requires c = record { rest = rest_owned c.args.zone.now c.args.handle c.block_of-at.result (own (goal.at.gap_end-end-requires c).After-block_of-at) }
 
 pub entry_at-requires : goal.entry_at-requires
 entry_at-requires c = rw c.linked-2.ensures (entry_owned c.args.zone.now c.args.handle c.block_of-at.result (own (goal.at.entry_at-requires c).After-block_of-at))

@@ -4,7 +4,8 @@ use Rattle.mac_base.specs.Arrangement.{down}
 use Rattle.mac_base.specs.ZoneMap.{address_behind, total_size}
 use Rattle.mac_base.specs.ZoneSizes.{ZoneSizes}
 use Rattle.zone_gaps.specs.Runs.{arranged}
-use Rattle.zone_gaps.proofs.Sweeping.{Swept, Stop, none_swept, sizes_swept, rest_swept, run_swept, stop, swept_last, swept_on, all_swept, entry_stop, some_stop, within_stop, gap_swept}
+use Rattle.zone_index.proofs.Entries.{FirstIn}
+use Rattle.zone_gaps.proofs.Sweeping.{Swept, none_swept, sizes_swept, rest_swept, run_swept, stop, swept_last, swept_on, all_swept, entry_stop, some_stop, within_stop, gap_swept}
 use Rattle.linked_zone.specs.Loans.{KeepsLoans}
 use Rattle.zone_gaps.specs.Gaps.{Settled}
 use Rattle.zone_gaps.proofs.Laws.{settled-all_down}
@@ -45,8 +46,7 @@ entry_at-at-requires c =
     (stop _ _ _ c.requires c.loop-at.invariant c.gap_end-end.result (long g) c.press_down.new.zone (done p) (subst (λ top. c.gap_end-end.result < top) (rw c.linked.ensures at c.zone_end-top.ensures.address) c.if-end-top.true)))
 
 -- a fixed block stands behind it
-abbrev fixed : (c : After-entry_at-at) → let p = (goal.at.After-entry_at-at c).After-press_down in
-    Stop _ _ _ c.requires c.loop-at.invariant c.gap_end-end.result (long (goal.at.After-press_down p).After-gap_end-end) c.press_down.new.zone (done p)
+abbrev fixed : (c : After-entry_at-at) → FirstIn (gap_swept _ _ _ c.requires c.loop-at.invariant).behind
 fixed c =
     let p = (goal.at.After-entry_at-at c).After-press_down in
     stop _ _ _ c.requires c.loop-at.invariant c.gap_end-end.result (long (goal.at.After-press_down p).After-gap_end-end) c.press_down.new.zone (done p) (subst (λ top. c.gap_end-end.result < top) (rw c.linked.ensures at c.zone_end-top.ensures.address) c.if-end-top.true)

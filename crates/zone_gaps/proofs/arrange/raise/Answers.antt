@@ -51,14 +51,10 @@ low_is c =
     omega arith
 
 pub gap_start-start-requires : goal.gap_start-start-requires
-gap_start-start-requires c =
-    let o = own (goal.at.gap_start-start-requires c).After-block_of-at in
-    record { front = (front_owned c.args.zone.now c.args.handle c.block_of-at.result o) }
+gap_start-start-requires c = record { front = front_owned c.args.zone.now c.args.handle c.block_of-at.result (own (goal.at.gap_start-start-requires c).After-block_of-at) }
 
 pub gap_end-end-requires : goal.gap_end-end-requires
-gap_end-end-requires c =
-    let o = own (goal.at.gap_end-end-requires c).After-block_of-at in
-    record { rest = (rest_owned c.args.zone.now c.args.handle c.block_of-at.result o) }
+gap_end-end-requires c = record { rest = rest_owned c.args.zone.now c.args.handle c.block_of-at.result (own (goal.at.gap_end-end-requires c).After-block_of-at) }
 
 pub entry_at-size-requires : goal.entry_at-size-requires
 entry_at-size-requires c = rw c.linked-2.ensures (entry_owned c.args.zone.now c.args.handle c.block_of-at.result (own (goal.at.entry_at-size-requires c).After-block_of-at))

@@ -4,6 +4,7 @@ use Rattle.mac_base.specs.ZoneMap.{address_behind}
 use Rattle.mac_base.specs.ZoneSizes.{ZoneSizes}
 use Rattle.zone_index.specs.declared.order.Passed.{Passed}
 use Rattle.zone_index.specs.Spans.{behind_of}
+use Rattle.zone_index.proofs.Entries.{told}
 use Rattle.zone_index.proofs.OutOfOrder.{Passing, none_passing, ordered_to, passing_on, passing_all}
 use Rattle.zone_index.proofs.Walking.{Turn, walked-turn, walked-first, page-some, page-end}
 use Rattle.zone_index.proofs.disorder.first_by_pages.Goals as goal
@@ -13,11 +14,9 @@ use Rattle.zone_index.proofs.disorder.first_by_pages.Goals.{In-loop-at}
 coming : (c : In-loop-at) → Turn c.args.zone.now (c.loop-at.invariant.0).walked
 coming c =
     let z = c.args.zone.now in
-    let base = c.base.ensures.value ∙ ap (λ (s : ZoneSizes). s.base) c.spec-spec.ensures.sizes in
-    let size = c.size.ensures.value ∙ ap (λ (s : ZoneSizes). s.size) c.spec-spec.ensures.sizes in
-    let test = c.loop-at-test.true in
+    let t = told c.args.zone.now _ c.spec-spec.ensures.sizes _ _ c.base.ensures.value c.size.ensures.value in
     let p : Passing z c.loop-at.at c.loop-at.free = c.loop-at.invariant.0 in
-    walked-turn z c.loop-at.at p.sums p.walked (omega arith)
+    walked-turn z c.loop-at.at p.sums p.walked (omega (arith, c.loop-at-test.true))
 
 pub loop-at-init : goal.loop-at-init
 loop-at-init c =
@@ -65,7 +64,5 @@ loop-at-preserved c =
 
 pub returns-clause-first : goal.returns-clause-first
 returns-clause-first c =
-    let base = c.base.ensures.value ∙ ap (λ (s : ZoneSizes). s.base) c.spec-spec.ensures.sizes in
-    let size = c.size.ensures.value ∙ ap (λ (s : ZoneSizes). s.size) c.spec-spec.ensures.sizes in
-    let test = c.loop-at-test.false in
-    passing_all c.args.zone.now c.loop-at.at c.loop-at.free c.loop-at.invariant.0 c.spec-spec.ensures.possible (omega arith)
+    let t = told c.args.zone.now _ c.spec-spec.ensures.sizes _ _ c.base.ensures.value c.size.ensures.value in
+    passing_all c.args.zone.now c.loop-at.at c.loop-at.free c.loop-at.invariant.0 c.spec-spec.ensures.possible (omega (arith, c.loop-at-test.false))

@@ -3,25 +3,22 @@ use Rattle.std.specs.Prelude.{◌||◌, nat_lt}
 use Rattle.std.proofs.lemmas.Bool.{not-true, not-false}
 use Rattle.std.proofs.Math.Bool.{or-true}
 use Rattle.mac_base.specs.declared.block.Entry.{Entry}
-use Rattle.mac_base.specs.ZoneSizes.{ZoneSizes}
 use Rattle.linked_zone.specs.Places.{HasOwner}
 use Rattle.zone_index.specs.declared.weight.Weight.{Weight}
 use Rattle.zone_index.specs.Disorder.{OrderedTo}
 use Rattle.zone_index.specs.Weights.{weigh}
-use Rattle.zone_index.proofs.Entries.{entry_size, entry_within}
+use Rattle.zone_index.proofs.Entries.{FirstIn, read_size, read_within, told}
 use Rattle.zone_index.proofs.Owners.{entry-owner}
-use Rattle.zone_index.proofs.OutOfOrder.{Coming, coming, entry_coming, ordered_on, out_of_order, ordered_all}
+use Rattle.zone_index.proofs.OutOfOrder.{coming, entry_coming, ordered_on, out_of_order, ordered_all}
 use Rattle.zone_index.proofs.disorder.first_from.Goals as goal
 use Rattle.zone_index.proofs.disorder.first_from.Goals.{In-loop-at, else-behind_free-via-then-behind_free+else-not-weight, else-behind_free-via-else-behind_free}
 
 -- a block comes next
-next : (c : In-loop-at) → Coming c.args.zone.now c.loop-at.at c.loop-at.behind_free c.loop-at.invariant
+next : (c : In-loop-at) → FirstIn c.loop-at.invariant.behind
 next c =
     let z = c.args.zone.now in
-    let base = c.base.ensures.value ∙ ap (λ (s : ZoneSizes). s.base) c.spec-spec.ensures.sizes in
-    let size = c.size.ensures.value ∙ ap (λ (s : ZoneSizes). s.size) c.spec-spec.ensures.sizes in
-    let test = c.loop-at-test.true in
-    coming z c.loop-at.at c.loop-at.behind_free c.loop-at.invariant (omega arith)
+    let t = told c.args.zone.now _ c.spec-spec.ensures.sizes _ _ c.base.ensures.value c.size.ensures.value in
+    coming z c.loop-at.at c.loop-at.behind_free c.loop-at.invariant (omega (arith, c.loop-at-test.true))
 
 pub entry_at-here-requires : goal.entry_at-here-requires
 entry_at-here-requires c = entry_coming c.args.zone.now c.loop-at.at c.loop-at.behind_free c.loop-at.invariant (next (goal.at.entry_at-here-requires c).In-loop-at)
@@ -42,24 +39,13 @@ returns-then-not-weight c =
 
 pub overflow_add-at : goal.overflow_add-at
 overflow_add-at c =
-    let z = c.args.zone.now in
-    let here = entry_coming z c.loop-at.at c.loop-at.behind_free c.loop-at.invariant (next (goal.at.overflow_add-at c).In-loop-at) in
-    let read = ap (λ (e : Entry). e.size) (c.entry_at-here.ensures here) in
-    let within = entry_within z c.loop-at.at here in
-    let size = ap (λ (s : ZoneSizes). s.size) c.spec-spec.ensures.sizes in
-    let base = ap (λ (s : ZoneSizes). s.base) c.spec-spec.ensures.sizes in
-    let low = c.base.ensures.possible.within in
-    let end = c.base.ensures.reach in
-    omega arith
+    let here = entry_coming c.args.zone.now c.loop-at.at c.loop-at.behind_free c.loop-at.invariant (next (goal.at.overflow_add-at c).In-loop-at) in
+    omega (arith, read_within c.args.zone.now c.loop-at.at here c.entry_at-here.result c.spec-spec.result (c.entry_at-here.ensures here) c.spec-spec.ensures.sizes, c.base.ensures.possible.within, c.base.ensures.reach)
 
 pub loop-at-smaller : goal.loop-at-smaller
 loop-at-smaller c =
-    let z = c.args.zone.now in
-    let here = entry_coming z c.loop-at.at c.loop-at.behind_free c.loop-at.invariant (next (goal.at.loop-at-smaller c).In-loop-at) in
-    let read = ap (λ (e : Entry). e.size) (c.entry_at-here.ensures here) in
-    let some = entry_size z c.loop-at.at here c.spec-spec.ensures.possible in
-    let test = c.loop-at-test.true in
-    omega arith
+    let here = entry_coming c.args.zone.now c.loop-at.at c.loop-at.behind_free c.loop-at.invariant (next (goal.at.loop-at-smaller c).In-loop-at) in
+    omega (arith, read_size c.args.zone.now c.loop-at.at here c.entry_at-here.result (c.entry_at-here.ensures here) c.spec-spec.ensures.possible, c.loop-at-test.true)
 
 pub loop-at-preserved : goal.loop-at-preserved
 loop-at-preserved c =
@@ -76,7 +62,5 @@ loop-at-preserved c =
 
 pub returns : goal.returns
 returns c =
-    let base = c.base.ensures.value ∙ ap (λ (s : ZoneSizes). s.base) c.spec-spec.ensures.sizes in
-    let size = c.size.ensures.value ∙ ap (λ (s : ZoneSizes). s.size) c.spec-spec.ensures.sizes in
-    let test = c.loop-at-test.false in
-    ordered_all c.args.zone.now c.loop-at.at c.loop-at.behind_free c.loop-at.invariant c.spec-spec.ensures.possible (omega arith)
+    let t = told c.args.zone.now _ c.spec-spec.ensures.sizes _ _ c.base.ensures.value c.size.ensures.value in
+    ordered_all c.args.zone.now c.loop-at.at c.loop-at.behind_free c.loop-at.invariant c.spec-spec.ensures.possible (omega (arith, c.loop-at-test.false))

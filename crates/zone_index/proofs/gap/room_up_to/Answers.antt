@@ -1,6 +1,8 @@
-use Rattle.std.proofs.Common.{arith}
+use Rattle.std.proofs.Common.{◌+◌, ◌<◌, ◌≤◌, arith}
+use Rattle.mac_base.specs.ZoneMap.{total_size}
 use Rattle.zone_index.proofs.Rooms.{free_summed, next-some, next-summed, next-within, room-within, split_summed, summed-behind, summed-last, summed-most}
 use Rattle.zone_index.proofs.gap.room_up_to.Goals as goal
+use Rattle.zone_index.proofs.gap.room_up_to.Goals.{After-free_size-size}
 
 pub next_free-requires : goal.next_free-requires
 next_free-requires c = split_summed c.args.zone.now c.args.start c.requires.rest c.loop-room.from c.loop-room.room (c.loop-room.invariant c.requires.rest)
@@ -28,25 +30,23 @@ free_size-size-requires c =
     let s = c.loop-room.invariant rest in
     free_summed c.args.zone.now c.args.start rest c.loop-room.from c.loop-room.room s c.in-Some.at (c.in-Some.ensures.next (split_summed c.args.zone.now c.args.start rest c.loop-room.from c.loop-room.room s))
 
-pub overflow_add-room : goal.overflow_add-room
-overflow_add-room c =
+-- the next free block ends within the gap's end, and so many bytes are no more than those up to there
+within : (c : After-free_size-size) → (c.loop-room.room + c.free_size-size.result ≤ c.args.end) × (c.in-Some.at + c.free_size-size.result ≤ c.args.end)
+within c =
+    let z = c.args.zone.now in
     let rest = c.requires.rest in
     let s = c.loop-room.invariant rest in
-    let next = c.in-Some.ensures.next (split_summed c.args.zone.now c.args.start rest c.loop-room.from c.loop-room.room s) in
+    let next = c.in-Some.ensures.next (split_summed z c.args.start rest c.loop-room.from c.loop-room.room s) in
     let end = c.requires.end rest in
-    let size = c.free_size-size.ensures (free_summed c.args.zone.now c.args.start rest c.loop-room.from c.loop-room.room s c.in-Some.at next) in
-    let within = room-within c.args.zone.now c.args.start rest c.loop-room.from c.loop-room.room s c.in-Some.at next (omega (arith, end, c.if-end-at.false)) in
-    omega (arith, end, size, within, c.ranges.end.fits)
+    let size = c.free_size-size.ensures (free_summed z c.args.start rest c.loop-room.from c.loop-room.room s c.in-Some.at next) in
+    let low : c.in-Some.at < c.args.start + total_size rest.blocks = omega (arith, end, c.if-end-at.false) in
+    (omega (arith, end, size, room-within z c.args.start rest c.loop-room.from c.loop-room.room s c.in-Some.at next low), omega (arith, end, size, next-within z c.args.start rest c.loop-room.from c.loop-room.room s c.in-Some.at next low))
+
+pub overflow_add-room : goal.overflow_add-room
+overflow_add-room c = omega (arith, (within (goal.at.overflow_add-room c).After-free_size-size).0, c.ranges.end.fits)
 
 pub overflow_add-from : goal.overflow_add-from
-overflow_add-from c =
-    let rest = c.requires.rest in
-    let s = c.loop-room.invariant rest in
-    let next = c.in-Some.ensures.next (split_summed c.args.zone.now c.args.start rest c.loop-room.from c.loop-room.room s) in
-    let end = c.requires.end rest in
-    let size = c.free_size-size.ensures (free_summed c.args.zone.now c.args.start rest c.loop-room.from c.loop-room.room s c.in-Some.at next) in
-    let within = next-within c.args.zone.now c.args.start rest c.loop-room.from c.loop-room.room s c.in-Some.at next (omega (arith, end, c.if-end-at.false)) in
-    omega (arith, end, size, within, c.ranges.end.fits)
+overflow_add-from c = omega (arith, (within (goal.at.overflow_add-from c).After-free_size-size).1, c.ranges.end.fits)
 
 pub loop-room-smaller : goal.loop-room-smaller
 loop-room-smaller c =

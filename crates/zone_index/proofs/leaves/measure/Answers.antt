@@ -5,22 +5,18 @@ use Rattle.linked_zone.specs.Places.{HasOwner}
 use Rattle.block_sums.specs.declared.span.Span.{Span}
 use Rattle.block_sums.specs.Span.{SpanFits, joined}
 use Rattle.zone_index.specs.Rooms.{room_of}
-use Rattle.zone_index.proofs.Entries.{entry_size, entry_within}
-use Rattle.zone_index.proofs.LeafWalk.{Coming, Gathered, gathered-all, gathered-entry, gathered-fits, gathered-next, gathered-on, none_begun, none_gathered}
+use Rattle.zone_index.proofs.Entries.{FirstIn, read_size, read_within, told}
+use Rattle.zone_index.proofs.LeafWalk.{Gathered, gathered-all, gathered-entry, gathered-fits, gathered-next, gathered-on, none_begun, none_gathered}
 use Rattle.zone_index.proofs.Owners.{entry-owner}
 use Rattle.zone_index.proofs.leaves.measure.Goals as goal
 use Rattle.zone_index.proofs.leaves.measure.Goals.{In-loop-at}
 
 -- a block comes next
-coming : (c : In-loop-at) → Coming c.args.zone.now c.loop-at.invariant
+coming : (c : In-loop-at) → FirstIn c.loop-at.invariant.behind
 coming c =
     let z = c.args.zone.now in
-    let base = c.base-base.ensures.value ∙ ap (λ (s : ZoneSizes). s.base) c.spec-spec.ensures.sizes in
-    let size = c.size.ensures.value ∙ ap (λ (s : ZoneSizes). s.size) c.spec-spec.ensures.sizes in
-    let test = c.loop-at-test.true in
-    let end = c.min-end.ensures in
-    let behind = c.saturating_add.ensures in
-    gathered-next z (256 * c.args.leaf) (256 * c.args.leaf + 256) c.loop-at.at c.loop-at.sum c.loop-at.invariant (omega arith)
+    let t = told c.args.zone.now _ c.spec-spec.ensures.sizes _ _ c.base-base.ensures.value c.size.ensures.value in
+    gathered-next z (256 * c.args.leaf) (256 * c.args.leaf + 256) c.loop-at.at c.loop-at.sum c.loop-at.invariant (omega (arith, c.loop-at-test.true, c.min-end.ensures, c.saturating_add.ensures))
 
 pub returns-in_default : goal.returns-in_default
 returns-in_default c =
@@ -59,24 +55,13 @@ join-sum-requires c =
 
 pub overflow_add-at : goal.overflow_add-at
 overflow_add-at c =
-    let z = c.args.zone.now in
-    let here = gathered-entry z (256 * c.args.leaf) (256 * c.args.leaf + 256) c.loop-at.at c.loop-at.sum c.loop-at.invariant (coming (goal.at.overflow_add-at c).In-loop-at) in
-    let read = ap (λ (e : Entry). e.size) (c.entry_at-here.ensures here) in
-    let within = entry_within z c.loop-at.at here in
-    let size = ap (λ (s : ZoneSizes). s.size) c.spec-spec.ensures.sizes in
-    let base = ap (λ (s : ZoneSizes). s.base) c.spec-spec.ensures.sizes in
-    let low = c.base-base.ensures.possible.within in
-    let end = c.base-base.ensures.reach in
-    omega arith
+    let here = gathered-entry c.args.zone.now (256 * c.args.leaf) (256 * c.args.leaf + 256) c.loop-at.at c.loop-at.sum c.loop-at.invariant (coming (goal.at.overflow_add-at c).In-loop-at) in
+    omega (arith, read_within c.args.zone.now c.loop-at.at here c.entry_at-here.result c.spec-spec.result (c.entry_at-here.ensures here) c.spec-spec.ensures.sizes, c.base-base.ensures.possible.within, c.base-base.ensures.reach)
 
 pub loop-at-smaller : goal.loop-at-smaller
 loop-at-smaller c =
-    let z = c.args.zone.now in
-    let here = gathered-entry z (256 * c.args.leaf) (256 * c.args.leaf + 256) c.loop-at.at c.loop-at.sum c.loop-at.invariant (coming (goal.at.loop-at-smaller c).In-loop-at) in
-    let read = ap (λ (e : Entry). e.size) (c.entry_at-here.ensures here) in
-    let some = entry_size z c.loop-at.at here c.spec-spec.ensures.possible in
-    let test = c.loop-at-test.true in
-    omega arith
+    let here = gathered-entry c.args.zone.now (256 * c.args.leaf) (256 * c.args.leaf + 256) c.loop-at.at c.loop-at.sum c.loop-at.invariant (coming (goal.at.loop-at-smaller c).In-loop-at) in
+    omega (arith, read_size c.args.zone.now c.loop-at.at here c.entry_at-here.result (c.entry_at-here.ensures here) c.spec-spec.ensures.possible, c.loop-at-test.true)
 
 pub loop-at-preserved : goal.loop-at-preserved
 loop-at-preserved c =
@@ -94,9 +79,5 @@ loop-at-preserved c =
 pub returns : goal.returns
 returns c =
     let z = c.args.zone.now in
-    let base = c.base-base.ensures.value ∙ ap (λ (s : ZoneSizes). s.base) c.spec-spec.ensures.sizes in
-    let size = c.size.ensures.value ∙ ap (λ (s : ZoneSizes). s.size) c.spec-spec.ensures.sizes in
-    let test = c.loop-at-test.false in
-    let end = c.min-end.ensures in
-    let behind = c.saturating_add.ensures in
-    gathered-all z (256 * c.args.leaf) (256 * c.args.leaf + 256) c.loop-at.at c.loop-at.sum c.loop-at.invariant c.spec-spec.ensures.possible (omega arith)
+    let t = told c.args.zone.now _ c.spec-spec.ensures.sizes _ _ c.base-base.ensures.value c.size.ensures.value in
+    gathered-all z (256 * c.args.leaf) (256 * c.args.leaf + 256) c.loop-at.at c.loop-at.sum c.loop-at.invariant c.spec-spec.ensures.possible (omega (arith, c.loop-at-test.false, c.min-end.ensures, c.saturating_add.ensures))

@@ -5,19 +5,17 @@ use Rattle.linked_zone.specs.Places.{HasOwner}
 use Rattle.block_sums.specs.declared.span.Span.{Span}
 use Rattle.block_sums.specs.Span.{SpanFits, joined, most_in}
 use Rattle.zone_index.specs.Rooms.{room_of}
-use Rattle.zone_index.proofs.Entries.{entry_size, entry_within}
+use Rattle.zone_index.proofs.Entries.{FirstIn, read_size, read_within, told}
 use Rattle.zone_index.proofs.Owners.{entry-owner}
-use Rattle.zone_index.proofs.Reached.{Below, Follows, below-all, first_reached, following, following-fits, following-on, following-reaches, follows, none_reached}
+use Rattle.zone_index.proofs.Reached.{Below, below-all, first_reached, following, following-fits, following-on, following-reaches, follows, none_reached}
 use Rattle.zone_index.proofs.leaves.reach.Goals as goal
 use Rattle.zone_index.proofs.leaves.reach.Goals.{In-loop-at}
 
 -- a block comes next
-coming : (c : In-loop-at) → Follows c.args.zone.now c.loop-at.invariant
+coming : (c : In-loop-at) → FirstIn c.loop-at.invariant.behind
 coming c =
-    let base = c.base.ensures.value ∙ ap (λ (s : ZoneSizes). s.base) c.spec-spec.ensures.sizes in
-    let size = c.size.ensures.value ∙ ap (λ (s : ZoneSizes). s.size) c.spec-spec.ensures.sizes in
-    let test = c.loop-at-test.true in
-    follows c.args.zone.now c.args.needed c.loop-at.at c.loop-at.sum c.loop-at.invariant (omega arith)
+    let t = told c.args.zone.now _ c.spec-spec.ensures.sizes _ _ c.base.ensures.value c.size.ensures.value in
+    follows c.args.zone.now c.args.needed c.loop-at.at c.loop-at.sum c.loop-at.invariant (omega (arith, c.loop-at-test.true))
 
 pub loop-at-init : goal.loop-at-init
 loop-at-init c = first_reached c.args.zone.now c.spec-spec.ensures.possible c.args.from c.args.needed c.args.below c.requires c.in_ok-at.at c.in_ok-at.ensures.first
@@ -49,24 +47,13 @@ join-next-requires c =
 
 pub overflow_add-at : goal.overflow_add-at
 overflow_add-at c =
-    let z = c.args.zone.now in
-    let here = following z c.args.needed c.loop-at.at c.loop-at.sum c.loop-at.invariant (coming (goal.at.overflow_add-at c).In-loop-at) in
-    let read = ap (λ (e : Entry). e.size) (c.entry_at-here.ensures here) in
-    let within = entry_within z c.loop-at.at here in
-    let size = ap (λ (s : ZoneSizes). s.size) c.spec-spec.ensures.sizes in
-    let base = ap (λ (s : ZoneSizes). s.base) c.spec-spec.ensures.sizes in
-    let low = c.base.ensures.possible.within in
-    let end = c.base.ensures.reach in
-    omega arith
+    let here = following c.args.zone.now c.args.needed c.loop-at.at c.loop-at.sum c.loop-at.invariant (coming (goal.at.overflow_add-at c).In-loop-at) in
+    omega (arith, read_within c.args.zone.now c.loop-at.at here c.entry_at-here.result c.spec-spec.result (c.entry_at-here.ensures here) c.spec-spec.ensures.sizes, c.base.ensures.possible.within, c.base.ensures.reach)
 
 pub loop-at-smaller : goal.loop-at-smaller
 loop-at-smaller c =
-    let z = c.args.zone.now in
-    let here = following z c.args.needed c.loop-at.at c.loop-at.sum c.loop-at.invariant (coming (goal.at.loop-at-smaller c).In-loop-at) in
-    let read = ap (λ (e : Entry). e.size) (c.entry_at-here.ensures here) in
-    let some = entry_size z c.loop-at.at here c.spec-spec.ensures.possible in
-    let test = c.loop-at-test.true in
-    omega arith
+    let here = following c.args.zone.now c.args.needed c.loop-at.at c.loop-at.sum c.loop-at.invariant (coming (goal.at.loop-at-smaller c).In-loop-at) in
+    omega (arith, read_size c.args.zone.now c.loop-at.at here c.entry_at-here.result (c.entry_at-here.ensures here) c.spec-spec.ensures.possible, c.loop-at-test.true)
 
 pub returns-then-most-needed : goal.returns-then-most-needed
 returns-then-most-needed c =
@@ -92,7 +79,5 @@ loop-at-preserved c =
 
 pub returns : goal.returns
 returns c =
-    let base = c.base.ensures.value ∙ ap (λ (s : ZoneSizes). s.base) c.spec-spec.ensures.sizes in
-    let size = c.size.ensures.value ∙ ap (λ (s : ZoneSizes). s.size) c.spec-spec.ensures.sizes in
-    let test = c.loop-at-test.false in
-    below-all c.args.zone.now c.args.needed c.loop-at.at c.loop-at.sum c.loop-at.invariant c.spec-spec.ensures.possible (omega arith)
+    let t = told c.args.zone.now _ c.spec-spec.ensures.sizes _ _ c.base.ensures.value c.size.ensures.value in
+    below-all c.args.zone.now c.args.needed c.loop-at.at c.loop-at.sum c.loop-at.invariant c.spec-spec.ensures.possible (omega (arith, c.loop-at-test.false))

@@ -6,23 +6,19 @@ use Rattle.zone_index.specs.declared.sums.Sums.{Sums}
 use Rattle.zone_index.specs.declared.weight.Weight.{Weight}
 use Rattle.zone_index.specs.Spans.{IsWithin, both, one}
 use Rattle.zone_index.specs.Weights.{weigh}
-use Rattle.zone_index.proofs.Entries.{entry_size, entry_within}
+use Rattle.zone_index.proofs.Entries.{FirstIn, read_size, read_within, told}
 use Rattle.zone_index.proofs.Owners.{entry-owner}
 use Rattle.zone_index.proofs.Spans.{sum-one, sum-within}
-use Rattle.zone_index.proofs.Walking.{Measured, Next, none_measured, measured-next, measured-entry, measured-on, measured-all, sum-below}
+use Rattle.zone_index.proofs.Walking.{Measured, none_measured, measured-next, measured-entry, measured-on, measured-all, sum-below}
 use Rattle.zone_index.proofs.pages.measure.Goals as goal
-use Rattle.zone_index.proofs.pages.measure.Goals.{In-loop-at, After-entry_at-here}
+use Rattle.zone_index.proofs.pages.measure.Goals.{In-loop-at}
 
 -- a block comes next
-coming : (c : In-loop-at) → Next c.args.zone.now c.loop-at.invariant
+coming : (c : In-loop-at) → FirstIn c.loop-at.invariant.behind
 coming c =
     let z = c.args.zone.now in
-    let base = c.base-base.ensures.value ∙ ap (λ (s : ZoneSizes). s.base) c.spec-spec.ensures.sizes in
-    let size = c.size.ensures.value ∙ ap (λ (s : ZoneSizes). s.size) c.spec-spec.ensures.sizes in
-    let test = c.loop-at-test.true in
-    let end = c.min-end.ensures in
-    let behind = c.saturating_add.ensures in
-    measured-next z c.args.first c.loop-at.at c.loop-at.sums c.loop-at.invariant (omega arith)
+    let t = told c.args.zone.now _ c.spec-spec.ensures.sizes _ _ c.base-base.ensures.value c.size.ensures.value in
+    measured-next z c.args.first c.loop-at.at c.loop-at.sums c.loop-at.invariant (omega (arith, c.loop-at-test.true, c.min-end.ensures, c.saturating_add.ensures))
 
 pub loop-at-init : goal.loop-at-init
 loop-at-init c = none_measured c.args.zone.now c.args.first c.requires
@@ -50,11 +46,9 @@ pub join-sums-requires-clause-few : goal.join-sums-requires-clause-few
 join-sums-requires-clause-few c =
     let z = c.args.zone.now in
     let here = measured-entry z c.args.first c.loop-at.at c.loop-at.sums c.loop-at.invariant (coming (goal.at.join-sums-requires-clause-few c).In-loop-at) in
-    let read = ap (λ (e : Entry). e.size) (c.entry_at-here.ensures here) in
     let weight = ap (λ (w : Weight). w.bytes) c.weigh.ensures in
     let sums = ap (λ (s : Sums). s.bytes) c.of.ensures in
-    let within = entry_within z c.loop-at.at here in
-    let size = ap (λ (s : ZoneSizes). s.size) c.spec-spec.ensures.sizes in
+    let within = read_within z c.loop-at.at here c.entry_at-here.result c.spec-spec.result (c.entry_at-here.ensures here) c.spec-spec.ensures.sizes in
     let base = ap (λ (s : ZoneSizes). s.base) c.spec-spec.ensures.sizes in
     let low = c.base-base.ensures.possible.within in
     let end = c.base-base.ensures.reach in
@@ -63,24 +57,13 @@ join-sums-requires-clause-few c =
 
 pub overflow_add-at : goal.overflow_add-at
 overflow_add-at c =
-    let z = c.args.zone.now in
-    let here = measured-entry z c.args.first c.loop-at.at c.loop-at.sums c.loop-at.invariant (coming (goal.at.overflow_add-at c).In-loop-at) in
-    let read = ap (λ (e : Entry). e.size) (c.entry_at-here.ensures here) in
-    let within = entry_within z c.loop-at.at here in
-    let size = ap (λ (s : ZoneSizes). s.size) c.spec-spec.ensures.sizes in
-    let base = ap (λ (s : ZoneSizes). s.base) c.spec-spec.ensures.sizes in
-    let low = c.base-base.ensures.possible.within in
-    let end = c.base-base.ensures.reach in
-    omega arith
+    let here = measured-entry c.args.zone.now c.args.first c.loop-at.at c.loop-at.sums c.loop-at.invariant (coming (goal.at.overflow_add-at c).In-loop-at) in
+    omega (arith, read_within c.args.zone.now c.loop-at.at here c.entry_at-here.result c.spec-spec.result (c.entry_at-here.ensures here) c.spec-spec.ensures.sizes, c.base-base.ensures.possible.within, c.base-base.ensures.reach)
 
 pub loop-at-smaller : goal.loop-at-smaller
 loop-at-smaller c =
-    let z = c.args.zone.now in
-    let here = measured-entry z c.args.first c.loop-at.at c.loop-at.sums c.loop-at.invariant (coming (goal.at.loop-at-smaller c).In-loop-at) in
-    let read = ap (λ (e : Entry). e.size) (c.entry_at-here.ensures here) in
-    let some = entry_size z c.loop-at.at here c.spec-spec.ensures.possible in
-    let test = c.loop-at-test.true in
-    omega arith
+    let here = measured-entry c.args.zone.now c.args.first c.loop-at.at c.loop-at.sums c.loop-at.invariant (coming (goal.at.loop-at-smaller c).In-loop-at) in
+    omega (arith, read_size c.args.zone.now c.loop-at.at here c.entry_at-here.result (c.entry_at-here.ensures here) c.spec-spec.ensures.possible, c.loop-at-test.true)
 
 pub loop-at-preserved : goal.loop-at-preserved
 loop-at-preserved c =
@@ -98,9 +81,5 @@ loop-at-preserved c =
 pub returns : goal.returns
 returns c =
     let z = c.args.zone.now in
-    let base = c.base-base.ensures.value ∙ ap (λ (s : ZoneSizes). s.base) c.spec-spec.ensures.sizes in
-    let size = c.size.ensures.value ∙ ap (λ (s : ZoneSizes). s.size) c.spec-spec.ensures.sizes in
-    let test = c.loop-at-test.false in
-    let end = c.min-end.ensures in
-    let behind = c.saturating_add.ensures in
-    measured-all z c.args.first c.loop-at.at c.loop-at.sums c.loop-at.invariant c.spec-spec.ensures.possible (omega arith)
+    let t = told c.args.zone.now _ c.spec-spec.ensures.sizes _ _ c.base-base.ensures.value c.size.ensures.value in
+    measured-all z c.args.first c.loop-at.at c.loop-at.sums c.loop-at.invariant c.spec-spec.ensures.possible (omega (arith, c.loop-at-test.false, c.min-end.ensures, c.saturating_add.ensures))

@@ -1,6 +1,7 @@
 use Rattle.std.proofs.Common.{◌≡◌, ◌+◌, ◌∙◌, ap, sym, subst, [], arith}
 use Rattle.mac_base.specs.ZoneMap.{address_behind}
 use Rattle.mac_base.specs.ZoneSizes.{ZoneSizes}
+use Rattle.zone_index.proofs.Entries.{told}
 use Rattle.zone_index.proofs.Spans.{sum-within}
 use Rattle.zone_index.proofs.Walking.{Turn, Walked, none_walked, walked-turn, walked-first, walked-all, walked-on, walked-bytes, page-some, page-within, page-end}
 use Rattle.zone_index.proofs.zone.all_pages.Goals as goal
@@ -10,10 +11,8 @@ use Rattle.zone_index.proofs.zone.all_pages.Goals.{In-loop-at}
 coming : (c : In-loop-at) → Turn c.args.zone.now c.loop-at.invariant.0
 coming c =
     let z = c.args.zone.now in
-    let base = c.base.ensures.value ∙ ap (λ (s : ZoneSizes). s.base) c.spec-spec.ensures.sizes in
-    let size = c.size.ensures.value ∙ ap (λ (s : ZoneSizes). s.size) c.spec-spec.ensures.sizes in
-    let test = c.loop-at-test.true in
-    walked-turn z c.loop-at.at c.loop-at.all c.loop-at.invariant.0 (omega arith)
+    let t = told c.args.zone.now _ c.spec-spec.ensures.sizes _ _ c.base.ensures.value c.size.ensures.value in
+    walked-turn z c.loop-at.at c.loop-at.all c.loop-at.invariant.0 (omega (arith, c.loop-at-test.true))
 
 pub loop-at-init : goal.loop-at-init
 loop-at-init c =
@@ -71,7 +70,5 @@ loop-at-preserved c =
 
 pub returns-clause-sums : goal.returns-clause-sums
 returns-clause-sums c =
-    let base = c.base.ensures.value ∙ ap (λ (s : ZoneSizes). s.base) c.spec-spec.ensures.sizes in
-    let size = c.size.ensures.value ∙ ap (λ (s : ZoneSizes). s.size) c.spec-spec.ensures.sizes in
-    let test = c.loop-at-test.false in
-    walked-all c.args.zone.now c.loop-at.at c.loop-at.all c.loop-at.invariant.0 c.spec-spec.ensures.possible (omega arith)
+    let t = told c.args.zone.now _ c.spec-spec.ensures.sizes _ _ c.base.ensures.value c.size.ensures.value in
+    walked-all c.args.zone.now c.loop-at.at c.loop-at.all c.loop-at.invariant.0 c.spec-spec.ensures.possible (omega (arith, c.loop-at-test.false))

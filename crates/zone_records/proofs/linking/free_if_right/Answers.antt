@@ -64,11 +64,11 @@ entry_at-header-requires c = block (goal.at.entry_at-header-requires c).In-loop-
 pub kept_at-requires : goal.kept_at-requires
 kept_at-requires c = record { sound = c.requires; block = block (goal.at.kept_at-requires c).In-loop-at; role = λ b. ap (λ (h : Header). h.role) (c.entry_at-header.ensures b) }
 
-pub returns-in_err-count-clause-none : goal.returns-in_err-count-clause-none
-returns-in_err-count-clause-none c =
-    let i = (goal.at.returns-in_err-count-clause-none c).In-loop-at in
+pub returns-in_err-counts-clause-none : goal.returns-in_err-counts-clause-none
+returns-in_err-counts-clause-none c =
+    let i = (goal.at.returns-in_err-counts-clause-none c).In-loop-at in
     subst (λ r. IfNone r (AreRight c.args.blocks.now → ⊥)) (sym c.from_residual.ensures)
-    (λ all. c.in_err-count.ensures.none (block i) (kept-right c.args.blocks.now c.loop-at.at (block i).here (all c.loop-at.at (block i))).kept)
+    (λ all. c.in_err-counts.ensures.none (block i) (kept-right c.args.blocks.now c.loop-at.at (block i).here (all c.loop-at.at (block i))).kept)
 
 pub is_tight-requires : goal.is_tight-requires
 is_tight-requires c = record { sound = c.requires; block = block (goal.at.is_tight-requires c).In-loop-at; header = c.entry_at-header.ensures }
@@ -78,17 +78,14 @@ returns-then-not-is_tight-clause-none c = λ all.
     let i = (goal.at.returns-then-not-is_tight-clause-none c).In-loop-at in
     let yes : c.is_tight.result ≡ true = (c.is_tight.ensures (block i)).1 (all c.loop-at.at (block i)).tight in let no = c.if-not-is_tight.true in absurd (cc (yes, no))
 
-pub free_at-free-requires : goal.free_at-free-requires
-free_at-free-requires c = record { sound = c.requires; block = block (goal.at.free_at-free-requires c).In-loop-at; role = λ b. ap (λ (h : Header). h.role) (c.entry_at-header.ensures b) }
-
 pub overflow_add-full : goal.overflow_add-full
 overflow_add-full c =
-    let i = (goal.at.overflow_add-full c).In-loop-at in let some = room i c.in_ok-count.count c.in_ok-count.ensures.count in let within = (next i).within in let few = c.loop-at.invariant.paired.few in
+    let i = (goal.at.overflow_add-full c).In-loop-at in let some = room i c.in_ok-counts.counts.full c.in_ok-counts.ensures.full in let within = (next i).within in let few = c.loop-at.invariant.paired.few in
     let end = c.end-end.ensures in let small = c.end-end.type_inv in omega arith
 
 pub overflow_add-free : goal.overflow_add-free
 overflow_add-free c =
-    let i = (goal.at.overflow_add-free c).In-loop-at in let some = free_room i c.free_at-free.result c.free_at-free.ensures in let within = (other i).within in let few = c.loop-at.invariant.counted.few in
+    let i = (goal.at.overflow_add-free c).In-loop-at in let some = free_room i c.in_ok-counts.counts.free c.in_ok-counts.ensures.free in let within = (other i).within in let few = c.loop-at.invariant.counted.few in
     let end = c.end-end.ensures in let small = c.end-end.type_inv in omega arith
 
 pub overflow_add-handles : goal.overflow_add-handles
@@ -110,12 +107,12 @@ loop-at-preserved c =
     let l = c.args.blocks.now in let i = (goal.at.loop-at-preserved c).In-loop-at in let b = block i in
     record {
       paired = paired-more l c.loop-at.at c.loop-at.full c.loop-at.handles c.loop-at.invariant.paired (next i)
-          (record { kept = c.in_ok-count.ensures.kept b; tight = (c.is_tight.ensures b).0 c.if-not-is_tight.false })
-          c.in_ok-count.count c.one_handle-handles.result (c.loop-at.at + c.entry_at-header.result.size)
-          (c.in_ok-count.ensures.count b) (c.one_handle-handles.ensures ∙ handle i c.entry_at-header.result c.entry_at-header.ensures)
-          (ap (λ (n : ℕ). c.loop-at.at + n) (size i c.entry_at-header.result c.entry_at-header.ensures)) (room i c.in_ok-count.count c.in_ok-count.ensures.count);
-      counted = counted-more l c.loop-at.at c.loop-at.free c.loop-at.invariant.counted (other i) c.free_at-free.result (c.loop-at.at + c.entry_at-header.result.size)
-          (c.free_at-free.ensures (other_block i)) (ap (λ (n : ℕ). c.loop-at.at + n) (other_size i c.entry_at-header.result c.entry_at-header.ensures)) (free_room i c.free_at-free.result c.free_at-free.ensures);
+          (record { kept = c.in_ok-counts.ensures.kept b; tight = (c.is_tight.ensures b).0 c.if-not-is_tight.false })
+          c.in_ok-counts.counts.full c.one_handle-handles.result (c.loop-at.at + c.entry_at-header.result.size)
+          (c.in_ok-counts.ensures.full b) (c.one_handle-handles.ensures ∙ handle i c.entry_at-header.result c.entry_at-header.ensures)
+          (ap (λ (n : ℕ). c.loop-at.at + n) (size i c.entry_at-header.result c.entry_at-header.ensures)) (room i c.in_ok-counts.counts.full c.in_ok-counts.ensures.full);
+      counted = counted-more l c.loop-at.at c.loop-at.free c.loop-at.invariant.counted (other i) c.in_ok-counts.counts.free (c.loop-at.at + c.entry_at-header.result.size)
+          (c.in_ok-counts.ensures.free (other_block i)) (ap (λ (n : ℕ). c.loop-at.at + n) (other_size i c.entry_at-header.result c.entry_at-header.ensures)) (free_room i c.in_ok-counts.counts.free c.in_ok-counts.ensures.free);
     }
 
 pub returns-then-full-handles-clause-none : goal.returns-then-full-handles-clause-none

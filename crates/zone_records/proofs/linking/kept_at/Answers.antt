@@ -6,11 +6,12 @@ use Rattle.mac_base.specs.HeadKind.{head_size}
 use Rattle.block_bytes.specs.declared.header.Role.{Role}
 use Rattle.block_bytes.specs.declared.header.Role.TheVariants as role
 use Rattle.block_bytes.specs.Layout.{BlockAt}
-use Rattle.zone_records.specs.Linking.{KeptAs, SlotsKeep, full_count}
+use Rattle.zone_records.specs.Linking.{KeptAs, SlotsKeep, free_count, full_count}
 use Rattle.zone_records.specs.Word.{slots_in}
 use Rattle.zone_records.proofs.MasterBlocks.{block-end, contents-long, contents-unlent}
 use Rattle.zone_records.proofs.SaidPlaces.{said-master, said-none}
 use Rattle.zone_records.proofs.Paired.{kept-none}
+use Rattle.zone_records.proofs.ZoneSlots.{free-master, free-none}
 use Rattle.zone_records.proofs.linking.kept_at.Goals as goal
 use Rattle.zone_records.proofs.linking.kept_at.Goals.{After-kept_slots, In-Master, In-Free}
 
@@ -56,10 +57,15 @@ pub returns-in-Master-clause-kept : goal.returns-in-Master-clause-kept
 returns-in-Master-clause-kept c =
     let i = (goal.at.returns-in-Master-clause-kept c).After-kept_slots in IfSome_then c.kept_slots.result c.kept_slots.ensures.kept (λ count keep b. subst (λ (T : Type 0). T) (same i b) keep)
 
-pub returns-in-Master-clause-count : goal.returns-in-Master-clause-count
-returns-in-Master-clause-count c =
-    let l = c.args.blocks.now in let i = (goal.at.returns-in-Master-clause-count c).After-kept_slots in IfSome_then c.kept_slots.result c.kept_slots.ensures.count (λ count is b x.
+pub returns-in-Master-clause-full : goal.returns-in-Master-clause-full
+returns-in-Master-clause-full c =
+    let l = c.args.blocks.now in let i = (goal.at.returns-in-Master-clause-full c).After-kept_slots in IfSome_then c.kept_slots.result c.kept_slots.ensures.full (λ counts is b x.
     is ∙ (λ j. full_count (slots_in l.heads 64 (c.contents.ensures b j))) ∙ said-master l.heads l.base x b.here.role b.here.contents (sym (c.requires.role b) ∙ c.in-Master.is))
+
+pub returns-in-Master-clause-free : goal.returns-in-Master-clause-free
+returns-in-Master-clause-free c =
+    let l = c.args.blocks.now in let i = (goal.at.returns-in-Master-clause-free c).After-kept_slots in IfSome_then c.kept_slots.result c.kept_slots.ensures.free (λ counts is b x.
+    is ∙ (λ j. free_count (slots_in l.heads 64 (c.contents.ensures b j))) ∙ free-master l.heads l.base x b.here.role b.here.contents (sym (c.requires.role b) ∙ c.in-Master.is))
 
 -- what isn't so where there is nothing
 none_then : {X : Type 0} (r : Option X) {P Q : Type 0} → IfNone r P → (P → Q) → IfNone r Q
@@ -73,5 +79,8 @@ returns-in-Master-clause-none c =
 pub returns-in-Free-clause-kept : goal.returns-in-Free-clause-kept
 returns-in-Free-clause-kept c b = kept-none c.args.blocks.now c.args.at b.here.role b.here.contents (other (goal.at.returns-in-Free-clause-kept c).In-Free b)
 
-pub returns-in-Free-clause-count : goal.returns-in-Free-clause-count
-returns-in-Free-clause-count c b x = said-none c.args.blocks.now.heads c.args.blocks.now.base x b.here.role b.here.contents (other (goal.at.returns-in-Free-clause-count c).In-Free b)
+pub returns-in-Free-clause-full : goal.returns-in-Free-clause-full
+returns-in-Free-clause-full c b x = said-none c.args.blocks.now.heads c.args.blocks.now.base x b.here.role b.here.contents (other (goal.at.returns-in-Free-clause-full c).In-Free b)
+
+pub returns-in-Free-clause-free : goal.returns-in-Free-clause-free
+returns-in-Free-clause-free c b x = free-none c.args.blocks.now.heads c.args.blocks.now.base x b.here.role b.here.contents (other (goal.at.returns-in-Free-clause-free c).In-Free b)

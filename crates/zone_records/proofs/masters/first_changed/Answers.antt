@@ -1,6 +1,7 @@
 use Rattle.std.proofs.Common.{◌≡◌, ◌+◌, ◌-◌, ◌≤◌, ◌∙◌, IfNone, Option, None, Some, refl, sym, ap, subst, arith}
 use Rattle.block_bytes.specs.declared.header.Header.{Header}
-use Rattle.block_bytes.specs.Layout.{size_of}
+use Rattle.block_bytes.specs.Layout.{BlockAt}
+use Rattle.block_bytes.specs.Structure.{AgreeUpTo}
 use Rattle.zone_records.specs.Masters.{SameWhere}
 use Rattle.zone_records.specs.Reading.{records_in}
 use Rattle.zone_records.specs.Structure.{NoneChanged}
@@ -8,6 +9,7 @@ use Rattle.zone_records.proofs.Changed.{held, begins, none-changed, none-outside
 use Rattle.zone_records.proofs.MasterBlocks.{block-end, done-all, done-more, headers-from, master-there, next-end, next_block, none-next}
 use Rattle.zone_records.proofs.Structures.{agree-at, structure-agrees, structure-head_is}
 use Rattle.zone_records.proofs.masters.first_changed.Goals as goal
+use Rattle.zone_records.proofs.masters.first_changed.Goals.{In-NextMaster}
 
 -- what a clause says of `None` holds where it isn't `Some`
 if_none : {X P : Type 0} (r : Option X) → ((x : X) → r ≡ Some x → ⊥) → IfNone r P → P
@@ -33,92 +35,56 @@ loop-master-init c =
 pub compare_from-requires-clause-whole : goal.compare_from-requires-clause-whole
 compare_from-requires-clause-whole c = let l = c.args.blocks.now in (structure-head_is l c.args.bytes.now (records_in l) (held l c.requires.sound c.args.bytes.now) c.requires.same).all
 
-pub changed_slot-requires-clause-whole : goal.changed_slot-requires-clause-whole
-changed_slot-requires-clause-whole c = let l = c.args.blocks.now in (structure-head_is l c.args.bytes.now (records_in l) (held l c.requires.sound c.args.bytes.now) c.requires.same).all
+-- the next master block, as it was found
+abbrev next : (c : In-NextMaster) → AgreeUpTo c.args.blocks.now c.args.bytes.now (c.loop-master.at - c.args.blocks.now.base) c.loop-master.invariant.split.behind c.in-NextMaster.master
+next c = c.in-NextMaster.ensures c.loop-master.invariant.split
 
-pub changed_slot-requires-clause-block : goal.changed_slot-requires-clause-block
-changed_slot-requires-clause-block c =
+abbrev block : (c : In-NextMaster) → BlockAt c.args.blocks.now c.in-NextMaster.master
+block c = next_block c.args.blocks.now c.args.bytes.now c.loop-master.at c.loop-master.invariant.split c.in-NextMaster.master (next c)
+
+pub changed_slot-requires : goal.changed_slot-requires
+changed_slot-requires c =
     let l = c.args.blocks.now in
     let bytes = c.args.bytes.now in
-    let split = c.loop-master.invariant.split in
+    let it = (goal.at.changed_slot-requires c).In-NextMaster in
     let master = c.in-NextMaster.master in
-    let next = c.in-NextMaster.ensures split in
-    let block = next_block l bytes c.loop-master.at split master next in
-    block
-
-pub changed_slot-requires-clause-master : goal.changed_slot-requires-clause-master
-changed_slot-requires-clause-master c =
-    let l = c.args.blocks.now in
-    let bytes = c.args.bytes.now in
-    let split = c.loop-master.invariant.split in
-    let master = c.in-NextMaster.master in
-    let next = c.in-NextMaster.ensures split in
-    let block = next_block l bytes c.loop-master.at split master next in
-    master-there l master block next.master
-
-pub changed_slot-requires-clause-agree : goal.changed_slot-requires-clause-agree
-changed_slot-requires-clause-agree c b =
-    let l = c.args.blocks.now in
-    let bytes = c.args.bytes.now in
-    let split = c.loop-master.invariant.split in
-    let master = c.in-NextMaster.master in
-    let next = c.in-NextMaster.ensures split in
-    let block = next_block l bytes c.loop-master.at split master next in
-    agree-at l bytes (structure-agrees l bytes (records_in l) (held l c.requires.sound bytes) c.requires.same) master b (master-there l master block next.master b)
+    let same = held l c.requires.sound bytes in
+    record {
+      sound = c.requires.sound;
+      whole = (structure-head_is l bytes (records_in l) same c.requires.same).all;
+      block = block it;
+      master = master-there l master (block it) (next it).master;
+      agree = λ b. agree-at l bytes (structure-agrees l bytes (records_in l) same c.requires.same) master b (master-there l master (block it) (next it).master b);
+    }
 
 pub returns-in-Some-clause-first : goal.returns-in-Some-clause-first
 returns-in-Some-clause-first c =
-    let l = c.args.blocks.now in
-    let bytes = c.args.bytes.now in
-    let split = c.loop-master.invariant.split in
-    let master = c.in-NextMaster.master in
-    let next = c.in-NextMaster.ensures split in
-    let block = next_block l bytes c.loop-master.at split master next in
-    first-changed l c.requires.sound bytes c.args.from c.loop-master.at master c.in-Some.found.0 c.in-Some.found.1 c.loop-master.invariant next (c.in-Some.ensures.first block)
+    let it = (goal.at.returns-in-Some-clause-first c).In-NextMaster in
+    first-changed c.args.blocks.now c.requires.sound c.args.bytes.now c.args.from c.loop-master.at c.in-NextMaster.master c.in-Some.found.0 c.in-Some.found.1 c.loop-master.invariant (next it) (c.in-Some.ensures.first (block it))
 
 pub entry_at-requires : goal.entry_at-requires
-entry_at-requires c =
-    let l = c.args.blocks.now in
-    let bytes = c.args.bytes.now in
-    let split = c.loop-master.invariant.split in
-    let master = c.in-NextMaster.master in
-    let next = c.in-NextMaster.ensures split in
-    let block = next_block l bytes c.loop-master.at split master next in
-    block
+entry_at-requires c = block (goal.at.entry_at-requires c).In-NextMaster
 
 pub overflow_add-at : goal.overflow_add-at
 overflow_add-at c =
-    let l = c.args.blocks.now in
-    let bytes = c.args.bytes.now in
-    let split = c.loop-master.invariant.split in
-    let master = c.in-NextMaster.master in
-    let next = c.in-NextMaster.ensures split in
-    let block = next_block l bytes c.loop-master.at split master next in
-    let size : c.entry_at.result.size ≡ size_of l.heads block.here = ap (λ (h : Header). h.size) (c.entry_at.ensures block) in
-    omega (arith, (block-end l c.requires.sound master block).0)
+    let it = (goal.at.overflow_add-at c).In-NextMaster in
+    let size = ap (λ (h : Header). h.size) (c.entry_at.ensures (block it)) in
+    omega (arith, (block-end c.args.blocks.now c.requires.sound c.in-NextMaster.master (block it)).0)
 
 pub loop-master-smaller : goal.loop-master-smaller
 loop-master-smaller c =
-    let l = c.args.blocks.now in
-    let bytes = c.args.bytes.now in
-    let split = c.loop-master.invariant.split in
-    let master = c.in-NextMaster.master in
-    let next = c.in-NextMaster.ensures split in
-    let block = next_block l bytes c.loop-master.at split master next in
-    let size : c.entry_at.result.size ≡ size_of l.heads block.here = ap (λ (h : Header). h.size) (c.entry_at.ensures block) in
-    let ends = next-end l bytes c.loop-master.at split master next in
+    let it = (goal.at.loop-master-smaller c).In-NextMaster in
+    let size = ap (λ (h : Header). h.size) (c.entry_at.ensures (block it)) in
+    let ends = next-end c.args.blocks.now c.args.bytes.now c.loop-master.at c.loop-master.invariant.split c.in-NextMaster.master (next it) in
     omega (arith, ends.0, ends.1)
 
 pub loop-master-preserved : goal.loop-master-preserved
 loop-master-preserved c =
     let l = c.args.blocks.now in
-    let bytes = c.args.bytes.now in
-    let split = c.loop-master.invariant.split in
-    let master = c.in-NextMaster.master in
-    let next = c.in-NextMaster.ensures split in
-    let block = next_block l bytes c.loop-master.at split master next in
-    let size : c.entry_at.result.size ≡ size_of l.heads block.here = ap (λ (h : Header). h.size) (c.entry_at.ensures block) in
-    done-more l bytes (SameWhere (λ x. c.args.from ≤ x) l bytes) c.loop-master.at c.loop-master.invariant master _ next (ap (λ n. master + n) size) (if_none c.changed_slot.result c.in_default-changed_slot.not-Some c.changed_slot.ensures.none block)
+    let it = (goal.at.loop-master-preserved c).In-NextMaster in
+    let size = ap (λ (h : Header). c.in-NextMaster.master + h.size) (c.entry_at.ensures (block it)) in
+    done-more l c.args.bytes.now (SameWhere (λ x. c.args.from ≤ x) l c.args.bytes.now) c.loop-master.at c.loop-master.invariant c.in-NextMaster.master _ (next it) size
+    (if_none c.changed_slot.result c.in_default-changed_slot.not-Some c.changed_slot.ensures.none (block it))
 
 pub returns : goal.returns
 returns c =

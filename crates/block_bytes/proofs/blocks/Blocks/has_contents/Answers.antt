@@ -1,4 +1,4 @@
-use Rattle.std.proofs.Common.{◌≡◌, ◌+◌, ◌≤◌, ℕ, length, sym, ap, ◌∙◌, subst, arith}
+use Rattle.std.proofs.Common.{◌≡◌, ◌+◌, length, sym, ap, ◌∙◌, subst, arith}
 use Rattle.raw_region.specs.Bytes.{part}
 use Rattle.mac_base.specs.HeadKind.{head_size}
 use Rattle.block_bytes.specs.Layout.{Layout, BlockAt}

@@ -1,4 +1,4 @@
-use Rattle.std.proofs.Common.{◌≡◌, ℕ, ◌+◌, ◌<◌, ◌≤◌, true, false, refl, ap, subst, arith}
+use Rattle.std.proofs.Common.{◌≡◌, ℕ, ◌+◌, ◌≤◌, true, false, refl, ap, subst, arith}
 use Rattle.mac_base.specs.HeadKind.{zone_header}
 use Rattle.block_bytes.specs.Layout.{Layout, address_behind, total_of}
 use Rattle.block_bytes.specs.Structure.{OwnBetween}

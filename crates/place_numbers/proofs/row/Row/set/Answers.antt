@@ -1,4 +1,4 @@
-use Rattle.std.proofs.Common.{◌+◌, ◌≤◌, arith, length-set}
+use Rattle.std.proofs.Common.{◌≤◌, arith, length-set}
 use Rattle.place_numbers.proofs.Rows.{long, reached, extended, still-seen, set-seen}
 use Rattle.place_numbers.proofs.row.Row.set.Goals as goal
 

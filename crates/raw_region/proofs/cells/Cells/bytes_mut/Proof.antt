@@ -79,8 +79,7 @@ bytes_mut_spec 𝓤 𝓛 𝓜 𝓡 wired =
     (λ κs. (mut_vals, (uint_vals w64, (uint_vals w64, tt)))) (λ κs. (mut_Tells (named 0) κs.0 Row, (uint_Tells w64, (uint_Tells w64, tt)))) (λ κs qs bounds a _ are.
     let κ = κs.0 in let q = qs.0 in let rb = a.0.ref_ptr.0 in let ro = a.0.ref_ptr.1 in let γ = a.0.ghost_name in let h = a.0.now in let at = a.1.0 in let n = a.1.1.0 in
     let fa = are.1.0.1 in let fl = are.1.1.0.1 in
-    let y : W.Ghost = ((κs, qs, bounds, a, (mut_vals a.0, (uint_vals w64 at, (uint_vals w64 n, tt)))), tt) in
-    let Post : Val → SProp 𝓤 = W.post y in
+    let y : W.Ghost = ((κs, qs, bounds, a, (mut_vals a.0, (uint_vals w64 at, (uint_vals w64 n, tt)))), tt) in let Post : Val → SProp 𝓤 = W.post y in
     qed 𝓛 (((‵ (flft κ q) ⊛ ‵ ftrue) ⊛ ‵ ((MutRef (named 0) κ Row).own_val a.0 (mut_vals a.0)) ⊛ ‵ (usize.own_val at (vint w64 at ∷ [])) ⊛ ‵ (usize.own_val n (vint w64 n ∷ [])) ⊛ ‵ ftrue) ∷ (raw (fact 𝓤 (at + n ≤ length h.bytes)) ⊛ raw (fact 𝓤 (IsFree h.lent at n))) ∷ []) ∵
     move ! (1 ∷ []) $ split ! $ heard ! _ (λ inside. heard ! _ (λ free.
     split ! $ split ! $ move ! (2 ∷ []) $ split ! $ keep ! (0 ∷ 2 ∷ []) $

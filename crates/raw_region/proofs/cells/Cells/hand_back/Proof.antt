@@ -44,9 +44,7 @@ hand_back_spec 𝓤 𝓛 𝓜 𝓡 wired =
     proved 𝓛 f.ended stayed c 𝓜 𝓡 (Goes-blank 𝓛 0 (plain (λ _. Row)) yes (λ κs x f. tt), tt)
     f.Key.name code.function (code.unfolded 𝓤 𝓛.H 𝓜 𝓡 wired)
     (λ κs. (vals, tt)) (λ κs. ((λ d us is. lowers.val_is d us is), tt)) (λ κs qs bounds a _ are.
-    let d = a.0 in let n = d.len in
-    let y : W.Ghost = ((κs, qs, bounds, a, (vals d, tt)), tt) in
-    let Post : Val → SProp 𝓤 = W.post y in
+    let d = a.0 in let n = d.len in let y : W.Ghost = ((κs, qs, bounds, a, (vals d, tt)), tt) in let Post : Val → SProp 𝓤 = W.post y in
     let Asked : Type 0 = (d.lent ≡ []) × (d.from ≡ 0) in
     qed 𝓛 ((‵ ftrue ⊛ ‵ (Row.own_val d (vals d)) ⊛ ‵ ftrue) ∷ raw (fact 𝓤 Asked) ∷ []) ∵
     move ! (1 ∷ []) $ heard ! _ (λ asked. let here : d.at ≡ d.home = d.placed ∙ ap (λ (k : ℕ). d.home +ₚ k) asked.1 ∙ nearest d.home in

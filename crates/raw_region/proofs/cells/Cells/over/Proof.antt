@@ -43,9 +43,7 @@ over_spec 𝓤 𝓛 𝓜 𝓡 wired =
     proved 𝓛 f.ended stayed c 𝓜 𝓡 (Goes-blank 𝓛 0 (plain (λ _. HostRow)) yes (λ κs x f. tt), tt)
     f.Key.name code.function (code.unfolded 𝓤 𝓛.H 𝓜 𝓡 wired)
     (λ κs. (vals, tt)) (λ κs. ((λ d us is. lowers.val_is d us is), tt)) (λ κs qs bounds a _ are.
-    let d = a.0 in let n = d.len in
-    let y : W.Ghost = ((κs, qs, bounds, a, (vals d, tt)), tt) in
-    let Post : Val → SProp 𝓤 = W.post y in
+    let d = a.0 in let n = d.len in let y : W.Ghost = ((κs, qs, bounds, a, (vals d, tt)), tt) in let Post : Val → SProp 𝓤 = W.post y in
     qed 𝓛 ((‵ ftrue ⊛ ‵ (HostRow.own_val d (vals d)) ⊛ ‵ ftrue) ∷ raw (fact 𝓤 (IsTrue (are_there d.bytes))) ∷ []) ∵
     move ! (1 ∷ []) $ heard ! _ (λ there. let xs : List ℕ = the_bytes d.bytes there in let is : d.bytes ≡ Some xs = are_the_bytes d.bytes there in
     split ! $ move ! (1 ∷ []) $ split ! $ keep ! (0 ∷ []) $

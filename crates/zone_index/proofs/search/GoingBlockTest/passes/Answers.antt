@@ -4,4 +4,4 @@ use Rattle.zone_index.proofs.Rules.{flags-go}
 use Rattle.zone_index.proofs.search.GoingBlockTest.passes.Goals as goal
 
 pub returns : goal.returns
-returns c t flags = c.may_purge.ensures ∙ ap may_purge flags ∙ flags-go t c.args.block.entry.kind
+returns c t flags = c.may_purge.ensures ∙ ap may_purge flags ∙ flags-go t c.args._kind

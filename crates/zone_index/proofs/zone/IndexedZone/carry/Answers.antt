@@ -1,29 +1,31 @@
-use Rattle.std.proofs.Common.{◌≤◌, ◌≡◌, ◌+◌, ◌-◌, ◌/◌, ap, sym, subst, arith, ◌∷◌, IsTrue, ◌++◌, ◌∙◌, ◌<◌, List, length}
+use Rattle.std.proofs.Common.{◌≤◌, ◌≡◌, ◌+◌, ◌-◌, ◌/◌, ap, sym, subst, arith, ◌∷◌, IsTrue, ◌++◌, ◌∙◌, List, length}
 use Rattle.std.specs.Prelude.{IsTrue, ◌∷◌}
 use Rattle.mac_base.specs.declared.block.Entry.{Entry}
 use Rattle.mac_base.specs.Gap.{is_fixed}
 use Rattle.mac_base.specs.ZoneMap.{address_behind, total_size}
-use Rattle.mac_base.specs.ZoneSizes.{ArePossible}
 use Rattle.mac_base.specs.ZoneState.{ZoneState}
 use Rattle.linked_zone.specs.Changes.{carried_up}
-use Rattle.linked_zone.specs.Places.{ParcelAt}
-use Rattle.linked_zone.specs.Sizes.{sizes_of}
+use Rattle.linked_zone.specs.Places.{EntryAt, ParcelAt}
 use Rattle.zone_index.specs.Marks.{AreMarked}
 use Rattle.zone_index.specs.Purging.{may_go}
 use Rattle.zone_index.specs.Runs.{none_fixed}
 use Rattle.zone_index.proofs.Exchanged.{carried-marked}
 use Rattle.zone_index.proofs.Placed.{placed}
 use Rattle.zone_index.proofs.Turned.{carried-fits, carried-turned, parcel-entry}
-use Rattle.zone_index.specs.Rooms.{AreRooms, leaf, leaf_count}
+use Rattle.zone_index.specs.Rooms.{AreRooms, leaf}
 use Rattle.zone_index.proofs.PagesKept.{forgets-read, pages-kept, part-ends}
 use Rattle.zone_index.proofs.Changing.{pages-carry}
 use Rattle.zone_index.proofs.Measured.{lengths-of}
 use Rattle.zone_laws.proofs.Maps.{total_size-append}
-use Rattle.zone_index.proofs.RoomsRenewed.{touched-first, touched-next}
+use Rattle.zone_index.proofs.RoomsRenewed.{leaf-there, touched-first, touched-next}
 use Rattle.zone_index.proofs.RoomsChanged.{parcel_split, rooms-carry}
 use Rattle.block_sums.specs.declared.span.Span.{Span}
 use Rattle.zone_index.proofs.zone.IndexedZone.carry.Goals as goal
-use Rattle.zone_index.proofs.zone.IndexedZone.carry.Goals.{Start}
+use Rattle.zone_index.proofs.zone.IndexedZone.carry.Goals.{After-entry_at-size, Start}
+
+-- the size that is read is the block's
+size_is : (c : After-entry_at-size) → c.entry_at-size.result.size ≡ c.requires.parcel.here.size
+size_is c = ap (λ (e : Entry). e.size) (subst (λ (z : ZoneState). (e : EntryAt z c.args.at) → c.entry_at-size.result ≡ e.here) c.self.view_is c.entry_at-size.ensures (parcel-entry c.args.self.now c.requires.parcel))
 
 -- it ends within the zone
 high : (c : Start) → c.args.end ≤ address_behind c.args.self.now.shape c.args.self.now.heap.map
@@ -59,28 +61,13 @@ invariant_of-self c =
     }
 
 pub overflow_sub-others-2 : goal.overflow_sub-others-2
-overflow_sub-others-2 c =
-    let parcel = subst (λ (z : ZoneState). ParcelAt z c.args.at c.args.end) (sym c.self.view_is) c.requires.parcel in
-    let size = ap (λ (e : Entry). e.size) (c.entry_at-size.ensures (parcel-entry c.self.inside.zone parcel)) in
-    omega (arith, size, parcel.long)
+overflow_sub-others-2 c = omega (arith, size_is (goal.at.overflow_sub-others-2 c).After-entry_at-size, c.requires.parcel.long)
 
 pub carry-requires-clause-some : goal.carry-requires-clause-some
-carry-requires-clause-some c =
-    let z = c.self.inside.zone in
-    let parcel = subst (λ (z : ZoneState). ParcelAt z c.args.at c.args.end) (sym c.self.view_is) c.requires.parcel in
-    let p = placed z c.args.self.now c.self.view_is c.args.at c.place-first.result c.place-first.ensures.value c.place-first.ensures.inside c.place-first.ensures.sizes in
-    let size = ap (λ (e : Entry). e.size) (c.entry_at-size.ensures (parcel-entry z parcel)) in
-    let fits = carried-fits z (subst (λ (z : ZoneState). ArePossible (sizes_of z)) (sym c.self.view_is) c.place-first.ensures.possible) p.sizes parcel in
-    omega (arith, size, fits.some)
+carry-requires-clause-some c = omega (arith, size_is (goal.at.carry-requires-clause-some c).After-entry_at-size, (carried-fits c.args.self.now c.place-first.ensures.possible c.place-first.ensures.sizes c.requires.parcel).some)
 
 pub carry-requires-clause-inside : goal.carry-requires-clause-inside
-carry-requires-clause-inside c =
-    let z = c.self.inside.zone in
-    let parcel = subst (λ (z : ZoneState). ParcelAt z c.args.at c.args.end) (sym c.self.view_is) c.requires.parcel in
-    let p = placed z c.args.self.now c.self.view_is c.args.at c.place-first.result c.place-first.ensures.value c.place-first.ensures.inside c.place-first.ensures.sizes in
-    let size = ap (λ (e : Entry). e.size) (c.entry_at-size.ensures (parcel-entry z parcel)) in
-    let fits = carried-fits z (subst (λ (z : ZoneState). ArePossible (sizes_of z)) (sym c.self.view_is) c.place-first.ensures.possible) p.sizes parcel in
-    omega (arith, size, parcel.long, fits.inside, p.value, c.self.invariant.purgeable.places)
+carry-requires-clause-inside c = omega (arith, size_is (goal.at.carry-requires-clause-inside c).After-entry_at-size, c.requires.parcel.long, (carried-fits c.args.self.now c.place-first.ensures.possible c.place-first.ensures.sizes c.requires.parcel).inside, c.place-first.ensures.value, ap (λ (z : ZoneState). z.shape.limit) c.self.view_is, c.self.invariant.purgeable.places)
 
 pub returns : goal.returns
 returns c =
@@ -103,19 +90,10 @@ pass-requires c =
     parcel_split z parcel (c.args.at + c.entry_at-size.result.size) (ap (λ n. c.args.at + n) size)
 
 pub touch-requires : goal.touch-requires
-touch-requires c =
-    let inside = subst (λ (z : ZoneState). c.leaf-old.result < leaf_count z) (sym c.self.view_is) c.leaf-old.ensures.inside in
-    let long = ap (λ (xs : List Span). length xs) c.pass.ensures.sums ∙ c.self.invariant.rooms.places in
-    omega arith
+touch-requires c = leaf-there c.self.inside.zone c.args.self.now c.self.view_is _ _ c.leaf-old.ensures.inside (ap (λ (xs : List Span). length xs) c.pass.ensures.sums ∙ c.self.invariant.rooms.places)
 
 pub touch-requires-2 : goal.touch-requires-2
-touch-requires-2 c =
-    let inside = subst (λ (z : ZoneState). c.leaf_at-new.result < leaf_count z) (sym c.self.view_is) c.leaf_at-new.ensures.inside in
-    let long = ap (λ (xs : List Span). length xs) (c.touch.ensures.sums ∙ c.pass.ensures.sums) ∙ c.self.invariant.rooms.places in
-    omega arith
+touch-requires-2 c = leaf-there c.self.inside.zone c.args.self.now c.self.view_is _ _ c.leaf_at-new.ensures.inside (ap (λ (xs : List Span). length xs) (c.touch.ensures.sums ∙ c.pass.ensures.sums) ∙ c.self.invariant.rooms.places)
 
 pub overflow_add-at-2 : goal.overflow_add-at-2
-overflow_add-at-2 c =
-    let parcel = subst (λ (z : ZoneState). ParcelAt z c.args.at c.args.end) (sym c.self.view_is) c.requires.parcel in
-    let size = ap (λ (e : Entry). e.size) (c.entry_at-size.ensures (parcel-entry c.self.inside.zone parcel)) in
-    omega (arith, size, parcel.long, c.ranges.end.fits)
+overflow_add-at-2 c = omega (arith, size_is (goal.at.overflow_add-at-2 c).After-entry_at-size, c.requires.parcel.long, c.ranges.end.fits)

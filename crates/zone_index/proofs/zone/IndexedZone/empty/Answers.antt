@@ -9,19 +9,21 @@ use Rattle.zone_index.proofs.Placed.{placed}
 use Rattle.zone_index.proofs.Rules.{fixes, goes}
 use Rattle.zone_index.specs.Rooms.{AreRooms}
 use Rattle.linked_zone.specs.Fit.{Fits}
-use Rattle.zone_index.proofs.Changing.{pages-emptied}
+use Rattle.zone_index.proofs.Changed.{emptied-other}
+use Rattle.zone_index.proofs.Changing.{pages-other}
 use Rattle.zone_index.proofs.PagesKept.{forgets-read, pages-kept}
 use Rattle.mac_base.specs.HandleTable.{EmptyHandle}
 use Rattle.zone_index.proofs.Measured.{lengths-given, lengths-of}
 use Rattle.zone_index.proofs.RoomsRenewed.{touched-first}
-use Rattle.zone_index.proofs.RoomsChanged.{rooms-emptied}
+use Rattle.zone_index.proofs.RoomsChanged.{rooms-other}
 use Rattle.zone_index.proofs.zone.IndexedZone.empty.Goals as goal
 
 pub invariant_of-self : goal.invariant_of-self
 invariant_of-self c =
     let z = c.self.inside.zone in
     let p = placed z c.args.self.now c.self.view_is c.block_of-at.result c.place-place.result c.place-place.ensures.value c.place-place.ensures.inside c.place-place.ensures.sizes in
-    let fits = subst Fits (sym c.self.view_is) c.page-page.ensures.fits in record {
+    let fits = subst Fits (sym c.self.view_is) c.page-page.ensures.fits in
+    let other = emptied-other c.self.inside.zone c.args.handle fits c.block_of-at.ensures in record {
       fixed = subst (λ (z : ZoneState). AreMarked is_fixed z c.set.new.self) (sym c.empty.ensures)
           (subst (AreMarked is_fixed (without_block c.args.handle z)) (sym (c.set.ensures ∙ ap (λ p. set c.self.inside.marks p 0) p.value))
           (emptied-marked fixes z c.self.inside.marks c.self.invariant.fixed c.args.handle c.block_of-at.result p.sizes c.block_of-at.ensures p.inside));
@@ -29,10 +31,10 @@ invariant_of-self c =
           (subst (AreMarked may_go (without_block c.args.handle z)) (sym (c.set-2.ensures ∙ ap (λ p. set c.self.inside.purgeable p 0) p.value))
           (emptied-marked goes z c.self.inside.purgeable c.self.invariant.purgeable c.args.handle c.block_of-at.result p.sizes c.block_of-at.ensures p.inside));
       rooms = subst (λ (z : ZoneState). AreRooms z c.touch.new.self) (sym c.empty.ensures)
-          (rooms-emptied c.self.inside.zone c.self.inside.rooms c.touch.new.self c.self.invariant.rooms c.block_of-at.result
-          (touched-first c.self.inside.rooms c.touch.new.self c.block_of-at.result c.self.view_is c.leaf-leaf.ensures.value c.touch.ensures.sums c.touch.ensures.here c.touch.ensures.others) c.args.handle fits c.block_of-at.ensures);
+          (rooms-other c.self.inside.zone _ c.block_of-at.result c.self.inside.rooms c.touch.new.self c.self.invariant.rooms other
+          (touched-first c.self.inside.rooms c.touch.new.self c.block_of-at.result c.self.view_is c.leaf-leaf.ensures.value c.touch.ensures.sums c.touch.ensures.here c.touch.ensures.others));
       pages = pages-kept c.forget.new.self c.empty.ensures
-          (pages-emptied c.self.inside.zone c.self.inside.pages c.forget.new.self c.self.invariant.pages c.block_of-at.result
-          (forgets-read c.block_of-at.result c.block_of-at.result c.self.view_is c.page-page.ensures.value c.page-page.ensures.value c.forget.ensures) c.args.handle fits c.block_of-at.ensures);
+          (pages-other c.self.inside.zone _ c.block_of-at.result c.self.inside.pages c.forget.new.self c.self.invariant.pages other
+          (forgets-read c.block_of-at.result c.block_of-at.result c.self.view_is c.page-page.ensures.value c.page-page.ensures.value c.forget.ensures));
       lengths = lengths-of c.note.new.self c.empty.ensures (lengths-given c.self.inside.zone.heap.table c.self.inside.lengths c.note.new.self c.args.handle c.number.result 0 c.number.ensures c.self.invariant.lengths c.note.ensures EmptyHandle refl);
     }

@@ -61,24 +61,17 @@ returns c =
 pub place_of-at-requires : goal.place_of-at-requires
 place_of-at-requires c =
     let can = c.requires.room in
-    let same = c.self.view_is in
-    subst (λ (z : ZoneState). has_block z.heap.table c.args.block ≡ true) (sym same)
-    (named-owner c.args.self.now c.args.block can.before can.here (block Free can.free ∷ can.behind) (subst Fits same c.spec-spec.ensures.fits) can.map can.named)
+    subst (λ (z : ZoneState). has_block z.heap.table c.args.block ≡ true) (sym c.self.view_is)
+    (named-owner c.args.self.now c.args.block can.before can.here (block Free can.free ∷ can.behind) (subst Fits c.self.view_is c.spec-spec.ensures.fits) can.map can.named)
 
 pub overflow_add-end : goal.overflow_add-end
 overflow_add-end c = let end = high (goal.at.overflow_add-end c).After-page-first in let reach = c.page-first.ensures.reach in omega arith
 
-pub page_at-last-requires-clause-low : goal.page_at-last-requires-clause-low
-page_at-last-requires-clause-low c = let place = (named (goal.at.page_at-last-requires-clause-low c).After-page-first).place in omega arith
+pub page_at-last-requires : goal.page_at-last-requires
+page_at-last-requires c = let p = (goal.at.page_at-last-requires c).After-page-first in record { low = (let place = (named p).place in omega arith); high = high p }
 
-pub page_at-last-requires-clause-high : goal.page_at-last-requires-clause-high
-page_at-last-requires-clause-high c = high (goal.at.page_at-last-requires-clause-high c).After-page-first
-
-pub leaf_at-high-requires-clause-high : goal.leaf_at-high-requires-clause-high
-leaf_at-high-requires-clause-high c = high (goal.at.leaf_at-high-requires-clause-high c).After-page-first
-
-pub leaf_at-high-requires-clause-low : goal.leaf_at-high-requires-clause-low
-leaf_at-high-requires-clause-low c = let place = (named (goal.at.leaf_at-high-requires-clause-low c).After-page-first).place in omega arith
+pub leaf_at-high-requires : goal.leaf_at-high-requires
+leaf_at-high-requires c = let p = (goal.at.leaf_at-high-requires c).After-page-first in record { low = (let place = (named p).place in omega arith); high = high p }
 
 pub entry_at-requires : goal.entry_at-requires
 entry_at-requires c =

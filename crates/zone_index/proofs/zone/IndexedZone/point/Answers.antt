@@ -7,27 +7,29 @@ use Rattle.zone_index.proofs.Exchanged.{pointed-marked}
 use Rattle.zone_index.proofs.Rules.{Rule, fixes, goes}
 use Rattle.mac_base.specs.HandleTable.{EmptyHandle, live_at, FullHandle, no_flags, zeros}
 use Rattle.zone_index.specs.Rooms.{AreRooms}
-use Rattle.zone_index.proofs.Changing.{pages-pointed}
+use Rattle.zone_index.proofs.Changed.{pointed-other}
+use Rattle.zone_index.proofs.Changing.{pages-other}
 use Rattle.zone_index.proofs.PagesKept.{forgets-read, pages-kept}
 use Rattle.std.proofs.lemmas.List.{length-replicate}
 use Rattle.zone_index.proofs.Measured.{lengths-given, lengths-of}
 use Rattle.zone_index.proofs.RoomsRenewed.{touched-first}
-use Rattle.zone_index.proofs.RoomsChanged.{rooms-pointed}
+use Rattle.zone_index.proofs.RoomsChanged.{rooms-other}
 use Rattle.zone_index.proofs.zone.IndexedZone.point.Goals as goal
 
 pub invariant_of-self : goal.invariant_of-self
 invariant_of-self c =
     let room = subst (λ (z : ZoneState). RoomFor z c.args.at c.args.length) (sym c.self.view_is) c.requires.room in
     let keep : (r : Rule) (marks : List ℕ) → AreMarked r.test c.self.inside.zone marks → AreMarked r.test c.point.new.self marks = λ r marks are. subst (λ (z : ZoneState). AreMarked r.test z marks) (sym (c.point.ensures room)) (pointed-marked r c.self.inside.zone marks are c.args.handle c.args.length c.args.at room.free) in
-    let empty = subst (λ (z : ZoneState). live_at z.heap.table c.args.handle ≡ Some EmptyHandle) (sym c.self.view_is) c.requires.empty in record {
+    let empty = subst (λ (z : ZoneState). live_at z.heap.table c.args.handle ≡ Some EmptyHandle) (sym c.self.view_is) c.requires.empty in
+    let other = pointed-other c.self.inside.zone room.free c.args.handle c.args.length empty in record {
       fixed = keep fixes _ c.self.invariant.fixed;
       purgeable = keep goes _ c.self.invariant.purgeable;
       rooms = subst (λ (z : ZoneState). AreRooms z c.touch.new.self) (sym (c.point.ensures room))
-          (rooms-pointed c.self.inside.zone c.self.inside.rooms c.touch.new.self c.self.invariant.rooms c.args.at
-          (touched-first c.self.inside.rooms c.touch.new.self c.args.at c.self.view_is c.leaf-leaf.ensures.value c.touch.ensures.sums c.touch.ensures.here c.touch.ensures.others) c.args.handle c.args.length room.free empty);
+          (rooms-other c.self.inside.zone _ c.args.at c.self.inside.rooms c.touch.new.self c.self.invariant.rooms other
+          (touched-first c.self.inside.rooms c.touch.new.self c.args.at c.self.view_is c.leaf-leaf.ensures.value c.touch.ensures.sums c.touch.ensures.here c.touch.ensures.others));
       pages = pages-kept c.forget.new.self (c.point.ensures room)
-          (pages-pointed c.self.inside.zone c.self.inside.pages c.forget.new.self c.self.invariant.pages c.args.at
-          (forgets-read c.args.at c.args.at c.self.view_is c.page-page.ensures.value c.page-page.ensures.value c.forget.ensures) c.args.handle c.args.length room.free empty);
+          (pages-other c.self.inside.zone _ c.args.at c.self.inside.pages c.forget.new.self c.self.invariant.pages other
+          (forgets-read c.args.at c.args.at c.self.view_is c.page-page.ensures.value c.page-page.ensures.value c.forget.ensures));
       lengths = (let long = length-replicate c.args.length 0 in
           lengths-of c.note.new.self (c.point.ensures room) (lengths-given c.self.inside.zone.heap.table c.self.inside.lengths c.note.new.self c.args.handle c.number.result c.args.length c.number.ensures c.self.invariant.lengths c.note.ensures (FullHandle no_flags (zeros c.args.length)) long));
     }

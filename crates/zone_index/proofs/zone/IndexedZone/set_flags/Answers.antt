@@ -11,11 +11,12 @@ use Rattle.zone_index.proofs.Placed.{placed}
 use Rattle.zone_index.proofs.Rules.{fixes, goes}
 use Rattle.place_numbers.specs.Bits.{mark_of}
 use Rattle.zone_index.specs.Rooms.{AreRooms}
-use Rattle.zone_index.proofs.Changing.{pages-flagged}
+use Rattle.zone_index.proofs.Changed.{flagged-other}
+use Rattle.zone_index.proofs.Changing.{pages-other}
 use Rattle.zone_index.proofs.PagesKept.{forgets-read, pages-kept}
 use Rattle.zone_index.proofs.Measured.{lengths-of, lengths-kept, same-with_flags}
 use Rattle.zone_index.proofs.RoomsRenewed.{touched-first}
-use Rattle.zone_index.proofs.RoomsChanged.{rooms-flagged}
+use Rattle.zone_index.proofs.RoomsChanged.{rooms-other}
 use Rattle.zone_index.proofs.zone.IndexedZone.set_flags.Goals as goal
 
 pub invariant_of-self : goal.invariant_of-self
@@ -24,7 +25,8 @@ invariant_of-self c =
     let p = placed z c.args.self.now c.self.view_is c.block_of-at.result c.place-place.result c.place-place.ensures.value c.place-place.ensures.inside c.place-place.ensures.sizes in
     let fits = subst (λ (z : ZoneState). Fits z) (sym c.self.view_is) c.place-place.ensures.fits in
     let full = subst (λ (z : ZoneState). is_full z.heap.table c.args.handle ≡ true) (sym c.self.view_is) c.requires in
-    let goes_now = ap mark_of c.may_purge.ensures in record {
+    let goes_now = ap mark_of c.may_purge.ensures in
+    let other = flagged-other c.self.inside.zone c.args.handle fits c.block_of-at.ensures c.args.flags in record {
       fixed = subst (λ (z : ZoneState). AreMarked is_fixed z c.set.new.self) (sym c.set_flags.ensures)
           (subst (AreMarked is_fixed (flagged c.args.handle c.args.flags z)) (sym (c.set.ensures ∙ ap (λ p. set c.self.inside.marks p (mark_of c.args.flags.lock)) p.value))
           (flagged-marked fixes z c.self.inside.marks c.self.invariant.fixed c.args.handle c.block_of-at.result c.args.flags fits p.sizes full c.block_of-at.ensures p.inside (mark_of c.args.flags.lock) (ap mark_of) (ap mark_of)));
@@ -32,10 +34,10 @@ invariant_of-self c =
           (subst (AreMarked may_go (flagged c.args.handle c.args.flags z)) (sym (c.set-2.ensures ∙ ap (λ p. set c.self.inside.purgeable p (mark_of c.may_purge.result)) p.value))
           (flagged-marked goes z c.self.inside.purgeable c.self.invariant.purgeable c.args.handle c.block_of-at.result c.args.flags fits p.sizes full c.block_of-at.ensures p.inside (mark_of c.may_purge.result) (λ is. goes_now ∙ ap mark_of is) (λ is. goes_now ∙ ap mark_of is)));
       rooms = subst (λ (z : ZoneState). AreRooms z c.touch.new.self) (sym c.set_flags.ensures)
-          (rooms-flagged c.self.inside.zone c.self.inside.rooms c.touch.new.self c.self.invariant.rooms c.block_of-at.result
-          (touched-first c.self.inside.rooms c.touch.new.self c.block_of-at.result c.self.view_is c.leaf-leaf.ensures.value c.touch.ensures.sums c.touch.ensures.here c.touch.ensures.others) c.args.handle c.args.flags fits c.block_of-at.ensures);
+          (rooms-other c.self.inside.zone _ c.block_of-at.result c.self.inside.rooms c.touch.new.self c.self.invariant.rooms other
+          (touched-first c.self.inside.rooms c.touch.new.self c.block_of-at.result c.self.view_is c.leaf-leaf.ensures.value c.touch.ensures.sums c.touch.ensures.here c.touch.ensures.others));
       pages = pages-kept c.forget.new.self c.set_flags.ensures
-          (pages-flagged c.self.inside.zone c.self.inside.pages c.forget.new.self c.self.invariant.pages c.block_of-at.result
-          (forgets-read c.block_of-at.result c.block_of-at.result c.self.view_is c.page-page.ensures.value c.page-page.ensures.value c.forget.ensures) c.args.handle c.args.flags fits c.block_of-at.ensures);
+          (pages-other c.self.inside.zone _ c.block_of-at.result c.self.inside.pages c.forget.new.self c.self.invariant.pages other
+          (forgets-read c.block_of-at.result c.block_of-at.result c.self.view_is c.page-page.ensures.value c.page-page.ensures.value c.forget.ensures));
       lengths = lengths-of c.self.inside.lengths c.set_flags.ensures (lengths-kept c.self.inside.zone.heap.table (with_flags c.args.handle c.args.flags c.self.inside.zone.heap.table) c.self.inside.lengths c.self.invariant.lengths (same-with_flags c.args.handle c.args.flags c.self.inside.zone.heap.table));
     }

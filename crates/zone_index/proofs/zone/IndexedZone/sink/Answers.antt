@@ -1,31 +1,33 @@
-use Rattle.std.proofs.Common.{◌≤◌, ◌≡◌, ◌-◌, ◌/◌, ap, sym, subst, arith, [], ◌∷◌, ◌++◌, IsTrue, ◌+◌, ◌∙◌, ◌<◌, List, length}
+use Rattle.std.proofs.Common.{◌≤◌, ◌≡◌, ◌-◌, ◌/◌, ap, sym, subst, arith, [], ◌∷◌, ◌++◌, IsTrue, ◌+◌, ◌∙◌, List, length}
 use Rattle.std.specs.Prelude.{IsTrue, [], ◌∷◌, ◌++◌}
 use Rattle.mac_base.specs.declared.block.Entry.{Entry}
 use Rattle.mac_base.specs.Gap.{is_fixed}
 use Rattle.mac_base.specs.ZoneMap.{address_behind, total_size}
-use Rattle.mac_base.specs.ZoneSizes.{ArePossible}
 use Rattle.mac_base.specs.ZoneState.{ZoneState}
 use Rattle.linked_zone.specs.Changes.{sunk}
 use Rattle.linked_zone.specs.Places.{ParcelUpTo, EntryAt}
-use Rattle.linked_zone.specs.Sizes.{sizes_of}
 use Rattle.zone_index.specs.Marks.{AreMarked}
 use Rattle.zone_index.specs.Purging.{may_go}
 use Rattle.zone_index.specs.Runs.{none_fixed}
 use Rattle.zone_index.proofs.Exchanged.{sunk-marked}
 use Rattle.zone_index.proofs.Placed.{placed}
 use Rattle.zone_index.proofs.Turned.{last-entry, run-entry, sunk-fits, sunk-turned}
-use Rattle.zone_index.specs.Rooms.{AreRooms, leaf_count}
+use Rattle.zone_index.specs.Rooms.{AreRooms}
 use Rattle.zone_index.specs.Pages.{page}
 use Rattle.zone_index.proofs.PagesKept.{forgets-read, pages-kept, part-ends}
 use Rattle.zone_index.proofs.Changed.{last_entry}
 use Rattle.zone_index.proofs.Changing.{pages-sink}
 use Rattle.zone_index.proofs.Measured.{lengths-of}
 use Rattle.zone_laws.proofs.Maps.{total_size-append}
-use Rattle.zone_index.proofs.RoomsRenewed.{touched-first, touched-next}
+use Rattle.zone_index.proofs.RoomsRenewed.{leaf-there, touched-first, touched-next}
 use Rattle.zone_index.proofs.RoomsChanged.{none_fixed-first, run_split, rooms-sink}
 use Rattle.block_sums.specs.declared.span.Span.{Span}
 use Rattle.zone_index.proofs.zone.IndexedZone.sink.Goals as goal
-use Rattle.zone_index.proofs.zone.IndexedZone.sink.Goals.{After-page-from}
+use Rattle.zone_index.proofs.zone.IndexedZone.sink.Goals.{After-entry_at-size, After-page-from}
+
+-- the size that is read is the block's
+size_is : (c : After-entry_at-size) → c.entry_at-size.result.size ≡ c.requires.parcel.here.size
+size_is c = ap (λ (e : Entry). e.size) (subst (λ (z : ZoneState). (e : EntryAt z c.args.at) → c.entry_at-size.result ≡ e.here) c.self.view_is c.entry_at-size.ensures (last-entry c.args.self.now c.requires.parcel))
 
 -- it ends within the zone
 high : (c : After-page-from) → c.args.at + c.entry_at-size.result.size ≤ address_behind c.args.self.now.shape c.args.self.now.heap.map
@@ -33,7 +35,7 @@ high c =
     let parcel = c.requires.parcel in
     let place = parcel.place in
     let long = parcel.long in
-    let size = ap (λ (e : Entry). e.size) (subst (λ (z : ZoneState). (e : EntryAt z c.args.at) → c.entry_at-size.result ≡ e.here) (c.self.view_is) c.entry_at-size.ensures (last_entry c.args.self.now parcel)) in
+    let size = size_is (goal.at.After-page-from c).After-entry_at-size in
     let ends = part-ends c.args.self.now parcel.before (parcel.blocks ++ parcel.here ∷ parcel.behind) parcel.map in
     let all = total_size-append parcel.blocks (parcel.here ∷ parcel.behind) in
     omega arith
@@ -76,22 +78,10 @@ entry_at-size-requires c =
     last-entry c.self.inside.zone (subst (λ (z : ZoneState). ParcelUpTo z c.args.start c.args.at) (sym c.self.view_is) c.requires.parcel)
 
 pub sink-requires-clause-some : goal.sink-requires-clause-some
-sink-requires-clause-some c =
-    let z = c.self.inside.zone in
-    let parcel = subst (λ (z : ZoneState). ParcelUpTo z c.args.start c.args.at) (sym c.self.view_is) c.requires.parcel in
-    let p = placed z c.args.self.now c.self.view_is c.args.start c.place-first.result c.place-first.ensures.value c.place-first.ensures.inside c.place-first.ensures.sizes in
-    let size = ap (λ (e : Entry). e.size) (c.entry_at-size.ensures (last-entry z parcel)) in
-    let fits = sunk-fits z (subst (λ (z : ZoneState). ArePossible (sizes_of z)) (sym c.self.view_is) c.place-first.ensures.possible) p.sizes parcel in
-    omega (arith, size, fits.some)
+sink-requires-clause-some c = omega (arith, size_is (goal.at.sink-requires-clause-some c).After-entry_at-size, (sunk-fits c.args.self.now c.place-first.ensures.possible c.place-first.ensures.sizes c.requires.parcel).some)
 
 pub sink-requires-clause-inside : goal.sink-requires-clause-inside
-sink-requires-clause-inside c =
-    let z = c.self.inside.zone in
-    let parcel = subst (λ (z : ZoneState). ParcelUpTo z c.args.start c.args.at) (sym c.self.view_is) c.requires.parcel in
-    let p = placed z c.args.self.now c.self.view_is c.args.start c.place-first.result c.place-first.ensures.value c.place-first.ensures.inside c.place-first.ensures.sizes in
-    let size = ap (λ (e : Entry). e.size) (c.entry_at-size.ensures (last-entry z parcel)) in
-    let fits = sunk-fits z (subst (λ (z : ZoneState). ArePossible (sizes_of z)) (sym c.self.view_is) c.place-first.ensures.possible) p.sizes parcel in
-    omega (arith, size, parcel.long, fits.inside, p.value, c.self.invariant.purgeable.places)
+sink-requires-clause-inside c = omega (arith, size_is (goal.at.sink-requires-clause-inside c).After-entry_at-size, c.requires.parcel.long, (sunk-fits c.args.self.now c.place-first.ensures.possible c.place-first.ensures.sizes c.requires.parcel).inside, c.place-first.ensures.value, ap (λ (z : ZoneState). z.shape.limit) c.self.view_is, c.self.invariant.purgeable.places)
 
 pub returns : goal.returns
 returns c =
@@ -115,13 +105,7 @@ pub pass-requires : goal.pass-requires
 pass-requires c = run_split c.self.inside.zone (subst (λ (z : ZoneState). ParcelUpTo z c.args.start c.args.at) (sym c.self.view_is) c.requires.parcel)
 
 pub touch-requires : goal.touch-requires
-touch-requires c =
-    let inside = subst (λ (z : ZoneState). c.leaf-old.result < leaf_count z) (sym c.self.view_is) c.leaf-old.ensures.inside in
-    let long = ap (λ (xs : List Span). length xs) c.pass.ensures.sums ∙ c.self.invariant.rooms.places in
-    omega arith
+touch-requires c = leaf-there c.self.inside.zone c.args.self.now c.self.view_is _ _ c.leaf-old.ensures.inside (ap (λ (xs : List Span). length xs) c.pass.ensures.sums ∙ c.self.invariant.rooms.places)
 
 pub touch-requires-2 : goal.touch-requires-2
-touch-requires-2 c =
-    let inside = subst (λ (z : ZoneState). c.leaf-new.result < leaf_count z) (sym c.self.view_is) c.leaf-new.ensures.inside in
-    let long = ap (λ (xs : List Span). length xs) (c.touch.ensures.sums ∙ c.pass.ensures.sums) ∙ c.self.invariant.rooms.places in
-    omega arith
+touch-requires-2 c = leaf-there c.self.inside.zone c.args.self.now c.self.view_is _ _ c.leaf-new.ensures.inside (ap (λ (xs : List Span). length xs) (c.touch.ensures.sums ∙ c.pass.ensures.sums) ∙ c.self.invariant.rooms.places)

@@ -11,11 +11,12 @@ use Rattle.zone_index.proofs.Placed.{placed}
 use Rattle.mac_base.specs.HandleTable.{is_pointer}
 use Rattle.zone_index.specs.Rooms.{AreRooms}
 use Rattle.linked_zone.specs.Fit.{Fits}
-use Rattle.zone_index.proofs.Changing.{pages-unfixed}
+use Rattle.zone_index.proofs.Changed.{unfixed-other}
+use Rattle.zone_index.proofs.Changing.{pages-other}
 use Rattle.zone_index.proofs.PagesKept.{forgets-read, pages-kept}
 use Rattle.zone_index.proofs.Measured.{lengths-of, lengths-out}
 use Rattle.zone_index.proofs.RoomsRenewed.{touched-first}
-use Rattle.zone_index.proofs.RoomsChanged.{rooms-unfixed}
+use Rattle.zone_index.proofs.RoomsChanged.{rooms-other}
 use Rattle.zone_index.proofs.zone.IndexedZone.unfix.Goals as goal
 
 pub invariant_of-self : goal.invariant_of-self
@@ -23,16 +24,17 @@ invariant_of-self c =
     let p = placed c.self.inside.zone c.args.self.now c.self.view_is c.place_of-at.result c.place-place.result c.place-place.ensures.value c.place-place.ensures.inside c.place-place.ensures.sizes in
     let own = subst (λ p. NamedAt c.self.inside.zone p c.place_of-at.result) c.number.ensures c.place_of-at.ensures in
     let live = subst (λ (z : ZoneState). IsTrue (is_pointer z.heap.table c.args.pointer)) (sym c.self.view_is) c.requires.live in
-    let fits = subst Fits (sym c.self.view_is) c.page-page.ensures.fits in record {
+    let fits = subst Fits (sym c.self.view_is) c.page-page.ensures.fits in
+    let other = unfixed-other c.self.inside.zone c.args.pointer fits own live in record {
       fixed = subst (λ (z : ZoneState). AreMarked is_fixed z c.set.new.self) (sym c.unfix.ensures)
           (subst (AreMarked is_fixed (unfixed c.args.pointer c.self.inside.zone)) (sym (c.set.ensures ∙ ap (λ p. set c.self.inside.marks p 0) p.value))
           (unfixed-marked fixes c.self.inside.zone c.self.inside.marks c.self.invariant.fixed c.args.pointer c.place_of-at.result p.sizes (subst (λ x. NamedAt c.self.inside.zone x c.place_of-at.result) c.number.ensures c.place_of-at.ensures) p.inside));
       purgeable = subst (λ (z : ZoneState). AreMarked may_go z c.self.inside.purgeable) (sym c.unfix.ensures) (unfixed-kept goes c.self.inside.zone c.self.inside.purgeable c.self.invariant.purgeable c.args.pointer);
       rooms = subst (λ (z : ZoneState). AreRooms z c.touch.new.self) (sym c.unfix.ensures)
-          (rooms-unfixed c.self.inside.zone c.self.inside.rooms c.touch.new.self c.self.invariant.rooms c.place_of-at.result
-          (touched-first c.self.inside.rooms c.touch.new.self c.place_of-at.result c.self.view_is c.leaf-leaf.ensures.value c.touch.ensures.sums c.touch.ensures.here c.touch.ensures.others) c.args.pointer fits own live);
+          (rooms-other c.self.inside.zone _ c.place_of-at.result c.self.inside.rooms c.touch.new.self c.self.invariant.rooms other
+          (touched-first c.self.inside.rooms c.touch.new.self c.place_of-at.result c.self.view_is c.leaf-leaf.ensures.value c.touch.ensures.sums c.touch.ensures.here c.touch.ensures.others));
       pages = pages-kept c.forget.new.self c.unfix.ensures
-          (pages-unfixed c.self.inside.zone c.self.inside.pages c.forget.new.self c.self.invariant.pages c.place_of-at.result
-          (forgets-read c.place_of-at.result c.place_of-at.result c.self.view_is c.page-page.ensures.value c.page-page.ensures.value c.forget.ensures) c.args.pointer fits own live);
+          (pages-other c.self.inside.zone _ c.place_of-at.result c.self.inside.pages c.forget.new.self c.self.invariant.pages other
+          (forgets-read c.place_of-at.result c.place_of-at.result c.self.view_is c.page-page.ensures.value c.page-page.ensures.value c.forget.ensures));
       lengths = lengths-of c.note.new.self c.unfix.ensures (lengths-out c.self.inside.zone.heap.table c.self.inside.lengths c.note.new.self c.args.pointer c.number-2.result 0 c.number-2.ensures c.self.invariant.lengths c.note.ensures refl);
     }

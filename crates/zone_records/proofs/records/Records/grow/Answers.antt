@@ -4,39 +4,40 @@ use Rattle.zone_records.specs.Records.{ZoneRecords}
 use Rattle.zone_records.specs.Places.{CanGrow}
 use Rattle.zone_records.specs.Fitting.{CanKeep, fitted}
 use Rattle.zone_records.proofs.Held.{Held, held-now, fields, heads-is}
-use Rattle.zone_records.proofs.Growing.{grow_record, merged_zone, grow-first, grow-first_size, grow-second, grow-second_size, grow-range, grow-head, grow-can, grow-merged, grow-keep, grow-all}
+use Rattle.zone_records.proofs.Growing.{grow_record, merged_zone, grow-can, grow-merged, grow-keep, grow-all}
+use Rattle.zone_records.proofs.Neighbours.{grow_pair, first_at, first-size, second_at, second-size, both-range, both-head}
 use Rattle.zone_records.proofs.records.Records.grow.Goals as goal
 use Rattle.zone_records.proofs.records.Records.grow.Goals.{After-entry_at-first, After-entry_at-second, After-head_size, After-merge}
 
 pub entry_at-first-requires : goal.entry_at-first-requires
-entry_at-first-requires c = grow-first _ _ (held-now c.self.invariant c.self.view_is) c.args.at c.args.size c.args.length c.requires
+entry_at-first-requires c = first_at _ _ (held-now c.self.invariant c.self.view_is) c.args.at (grow_pair c.requires)
 
 -- the first block is as long as was read
 first : (c : After-entry_at-first) (can : CanGrow c.args.self.now c.args.at c.args.size c.args.length) → c.entry_at-first.result.size ≡ can.first
-first c can = grow-first_size _ _ (held-now c.self.invariant c.self.view_is) c.args.at c.args.size c.args.length can c.entry_at-first.result c.entry_at-first.ensures
+first c can = first-size _ _ (held-now c.self.invariant c.self.view_is) c.args.at (grow_pair can) c.entry_at-first.result c.entry_at-first.ensures
 
 pub overflow_add-at : goal.overflow_add-at
-overflow_add-at c = omega (arith, first (goal.at.overflow_add-at c).After-entry_at-first c.requires, grow-range _ _ (held-now c.self.invariant c.self.view_is) c.args.at c.args.size c.args.length c.requires)
+overflow_add-at c = omega (arith, first (goal.at.overflow_add-at c).After-entry_at-first c.requires, both-range _ _ (held-now c.self.invariant c.self.view_is) c.args.at (grow_pair c.requires))
 
 pub entry_at-second-requires : goal.entry_at-second-requires
-entry_at-second-requires c = grow-second _ _ (held-now c.self.invariant c.self.view_is) c.args.at c.args.size c.args.length c.requires _ (ap (λ n. c.args.at + n) (first (goal.at.entry_at-second-requires c).After-entry_at-first c.requires))
+entry_at-second-requires c = second_at _ _ (held-now c.self.invariant c.self.view_is) c.args.at (grow_pair c.requires) _ (ap (λ n. c.args.at + n) (first (goal.at.entry_at-second-requires c).After-entry_at-first c.requires))
 
 -- so is the second
 second : (c : After-entry_at-second) (can : CanGrow c.args.self.now c.args.at c.args.size c.args.length) → c.entry_at-second.result.size ≡ can.second
 second c can =
     let there = ap (λ n. c.args.at + n) (first (goal.at.After-entry_at-second c).After-entry_at-first can) in
-    grow-second_size _ _ (held-now c.self.invariant c.self.view_is) c.args.at c.args.size c.args.length can _ there c.entry_at-second.result c.entry_at-second.ensures
+    second-size _ _ (held-now c.self.invariant c.self.view_is) c.args.at (grow_pair can) _ there c.entry_at-second.result c.entry_at-second.ensures
 
 pub overflow_add-whole : goal.overflow_add-whole
 overflow_add-whole c =
     let first = first (goal.at.overflow_add-whole c).After-entry_at-first c.requires in
-    omega (arith, first, second (goal.at.overflow_add-whole c).After-entry_at-second c.requires, grow-range _ _ (held-now c.self.invariant c.self.view_is) c.args.at c.args.size c.args.length c.requires)
+    omega (arith, first, second (goal.at.overflow_add-whole c).After-entry_at-second c.requires, both-range _ _ (held-now c.self.invariant c.self.view_is) c.args.at (grow_pair c.requires))
 
 pub overflow_sub-whole : goal.overflow_sub-whole
 overflow_sub-whole c =
     let first = first (goal.at.overflow_sub-whole c).After-entry_at-first c.requires in
     let second = second (goal.at.overflow_sub-whole c).After-entry_at-second c.requires in
-    omega (arith, first, second, grow-head _ _ (held-now c.self.invariant c.self.view_is) c.args.at c.args.size c.args.length c.requires, c.head_size.ensures)
+    omega (arith, first, second, both-head _ _ (held-now c.self.invariant c.self.view_is) c.args.at (grow_pair c.requires), c.head_size.ensures)
 
 -- the bytes of both
 whole : (c : After-head_size) (can : CanGrow c.args.self.now c.args.at c.args.size c.args.length)

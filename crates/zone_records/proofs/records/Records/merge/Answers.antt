@@ -3,37 +3,38 @@ use Rattle.mac_base.specs.HeadKind.{head_size}
 use Rattle.zone_records.specs.Places.{FreePair}
 use Rattle.zone_records.specs.Changes.{joined_pair}
 use Rattle.zone_records.proofs.Held.{Held, held-now, fields, heads-is}
-use Rattle.zone_records.proofs.Freeing.{pair-first, pair-first_size, pair-second, pair-second_size, pair-range, pair-head, can-merge, merge-ends}
+use Rattle.zone_records.proofs.Neighbours.{free_pair, first_at, first-size, second_at, second-size, both-range, both-head}
+use Rattle.zone_records.proofs.Freeing.{can-merge, merge-ends}
 use Rattle.zone_records.proofs.records.Records.merge.Goals as goal
 use Rattle.zone_records.proofs.records.Records.merge.Goals.{After-entry_at-first, After-entry_at-second, After-head_size, After-merge}
 
 pub entry_at-first-requires : goal.entry_at-first-requires
-entry_at-first-requires c = pair-first _ _ (held-now c.self.invariant c.self.view_is) c.args.at c.requires
+entry_at-first-requires c = first_at _ _ (held-now c.self.invariant c.self.view_is) c.args.at (free_pair c.requires)
 
 -- the first block is as long as was read
 first : (c : After-entry_at-first) (pair : FreePair c.args.self.now c.args.at) → c.entry_at-first.result.size ≡ pair.first
-first c pair = pair-first_size _ _ (held-now c.self.invariant c.self.view_is) c.args.at pair c.entry_at-first.result c.entry_at-first.ensures
+first c pair = first-size _ _ (held-now c.self.invariant c.self.view_is) c.args.at (free_pair pair) c.entry_at-first.result c.entry_at-first.ensures
 
 pub overflow_add-at : goal.overflow_add-at
-overflow_add-at c = omega (arith, first (goal.at.overflow_add-at c).After-entry_at-first c.requires, pair-range _ _ (held-now c.self.invariant c.self.view_is) c.args.at c.requires)
+overflow_add-at c = omega (arith, first (goal.at.overflow_add-at c).After-entry_at-first c.requires, both-range _ _ (held-now c.self.invariant c.self.view_is) c.args.at (free_pair c.requires))
 
 pub entry_at-second-requires : goal.entry_at-second-requires
-entry_at-second-requires c = pair-second _ _ (held-now c.self.invariant c.self.view_is) c.args.at c.requires _ (ap (λ n. c.args.at + n) (first (goal.at.entry_at-second-requires c).After-entry_at-first c.requires))
+entry_at-second-requires c = second_at _ _ (held-now c.self.invariant c.self.view_is) c.args.at (free_pair c.requires) _ (ap (λ n. c.args.at + n) (first (goal.at.entry_at-second-requires c).After-entry_at-first c.requires))
 
 -- so is the second
 second : (c : After-entry_at-second) (pair : FreePair c.args.self.now c.args.at) → c.entry_at-second.result.size ≡ pair.second
 second c pair =
     let there = ap (λ n. c.args.at + n) (first (goal.at.After-entry_at-second c).After-entry_at-first pair) in
-    pair-second_size _ _ (held-now c.self.invariant c.self.view_is) c.args.at pair _ there c.entry_at-second.result c.entry_at-second.ensures
+    second-size _ _ (held-now c.self.invariant c.self.view_is) c.args.at (free_pair pair) _ there c.entry_at-second.result c.entry_at-second.ensures
 
 pub overflow_add-length : goal.overflow_add-length
-overflow_add-length c = omega (arith, first (goal.at.overflow_add-length c).After-entry_at-first c.requires, second (goal.at.overflow_add-length c).After-entry_at-second c.requires, pair-range _ _ (held-now c.self.invariant c.self.view_is) c.args.at c.requires)
+overflow_add-length c = omega (arith, first (goal.at.overflow_add-length c).After-entry_at-first c.requires, second (goal.at.overflow_add-length c).After-entry_at-second c.requires, both-range _ _ (held-now c.self.invariant c.self.view_is) c.args.at (free_pair c.requires))
 
 pub overflow_sub-length : goal.overflow_sub-length
 overflow_sub-length c =
     let first = first (goal.at.overflow_sub-length c).After-entry_at-first c.requires in
     let second = second (goal.at.overflow_sub-length c).After-entry_at-second c.requires in
-    omega (arith, first, second, pair-head _ _ (held-now c.self.invariant c.self.view_is) c.args.at c.requires, c.head_size.ensures)
+    omega (arith, first, second, both-head _ _ (held-now c.self.invariant c.self.view_is) c.args.at (free_pair c.requires), c.head_size.ensures)
 
 -- the bytes of both
 whole : (c : After-head_size) (pair : FreePair c.args.self.now c.args.at)
