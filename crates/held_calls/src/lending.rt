@@ -1,7 +1,8 @@
 //! The calls on blocks that are lent, over the Memory Manager and the loans that a program has.
 
-ghost use Rattle.std.specs.Prelude.{◌≡◌, ◌+◌, ◌≤◌, ◌∷◌, [], length, None, IfOk, OnErr, IsTrue};
+ghost use Rattle.std.specs.Prelude.{◌≡◌, ◌+◌, ◌≤◌, ◌∷◌, [], length, IfOk};
 ghost use Rattle.std.specs.Result.{result_err};
+ghost use Rattle.mac_base.specs.ZoneState.{with_heap};
 ghost use Rattle.mac_calls.specs.declared.loan_call.LoanCall.TheVariants as call;
 ghost use Rattle.mac_calls.specs.Loans.{all_returned, held_bytes, loan_refusal};
 ghost use Rattle.mac_calls.specs.Tests.{IsBlock, first_refusal};
@@ -111,6 +112,18 @@ fn test_live(memory: &MemoryManager, block: u32) -> Result<(), OsErr>
     }
 }
 
+/// Takes back all that is lent, first to last.
+pub fn take_all_back(memory: &mut MemoryManager, loans: &mut Loans)
+    requires { Holds memory.old loans.old }
+    ensures zone { memory.new ≡ with_heap (all_returned (loans_of loans.old) memory.old.heap) memory.old }
+    ensures loans { loans.new ≡ [] }
+    ensures nothing_lent { memory.new.heap.table.lent ≡ [] }
+{
+    while let Some(Held { block, loan }) = loans.take_first() {
+        memory.give_back(block, loan);
+    }
+}
+
 /// Gives back the loans that are left, first to last, and hands out the memory, of which nothing is lent then.
 pub fn finish(memory: MemoryManager, loans: Loans) -> MemoryManager
     requires { Holds memory loans }
@@ -120,8 +133,6 @@ pub fn finish(memory: MemoryManager, loans: Loans) -> MemoryManager
 {
     let mut memory = memory;
     let mut loans = loans;
-    while let Some(Held { block, loan }) = loans.take_first() {
-        memory.give_back(block, loan);
-    }
+    take_all_back(&mut memory, &mut loans);
     memory
 }

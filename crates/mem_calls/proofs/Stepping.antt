@@ -120,18 +120,23 @@ pub refused_outcome : {A : Type 0} (outcome : Result A OsErr → Outcome) → ((
 refused_outcome outcome gives (Ok x) code h = absurd h
 refused_outcome outcome gives (Err e) code h = gives e ∙ ap Err h
 
--- a refused call asks nothing and changes nothing
-pub exact-refused : (old zone : ZoneState) → zone ≡ old → (call : MemoryCall) (code : OsErr) (asks : List Ask) (outcome : Outcome) → refusal zone.shape zone.heap call ≡ Some code → asks ≡ [] → outcome ≡ Err code
-    → IsExactStep old.shape old.heap call asks outcome old.heap
-exact-refused old zone is call code asks outcome refused quiet ends = subst (λ (z : ZoneState). IsExactStep z.shape z.heap call asks outcome z.heap) is
-    (subst (λ asks. IsExactStep zone.shape zone.heap call asks outcome zone.heap) (sym quiet)
-    (subst (λ o. IsExactStep zone.shape zone.heap call [] o zone.heap) (sym ends) (ap (step_unless zone.shape [] zone.heap call) refused)))
+-- a call that is refused ends exactly so, and so it may
+pub both-refused : (old zone : ZoneState) → zone ≡ old → (call : MemoryCall) (code : OsErr) (asks : List Ask) (outcome : Outcome) → refusal zone.shape zone.heap call ≡ Some code → asks ≡ [] → outcome ≡ Err code
+    → IsExactStep old.shape old.heap call asks outcome old.heap × MemoryStep old.shape old.heap call asks outcome old.heap
+both-refused old zone is call code asks outcome refused quiet ends = (exact, step)
+  where
+    exact : IsExactStep old.shape old.heap call asks outcome old.heap
+    exact = subst (λ (z : ZoneState). IsExactStep z.shape z.heap call asks outcome z.heap) is
+        (subst (λ asks. IsExactStep zone.shape zone.heap call asks outcome zone.heap) (sym quiet)
+        (subst (λ o. IsExactStep zone.shape zone.heap call [] o zone.heap) (sym ends) (ap (step_unless zone.shape [] zone.heap call) refused)))
 
--- and so it may
-pub step-refused : (old zone : ZoneState) → zone ≡ old → (call : MemoryCall) (code : OsErr) (asks : List Ask) (outcome : Outcome) → refusal zone.shape zone.heap call ≡ Some code → asks ≡ [] → outcome ≡ Err code
-    → MemoryStep old.shape old.heap call asks outcome old.heap
-step-refused old zone is call code asks outcome refused quiet ends = subst (λ (z : ZoneState). MemoryStep z.shape z.heap call asks outcome z.heap) is
-    (subst (λ (o : Option OsErr). StepUnless RequestRun o zone.shape zone.heap call asks outcome zone.heap) (sym refused) (quiet, ends, record { table = refl; map = refl }))
+    step : MemoryStep old.shape old.heap call asks outcome old.heap
+    step = subst (λ (z : ZoneState). MemoryStep z.shape z.heap call asks outcome z.heap) is
+        (subst (λ (o : Option OsErr). StepUnless RequestRun o zone.shape zone.heap call asks outcome zone.heap) (sym refused) (quiet, ends, record { table = refl; map = refl }))
+
+-- a call that ends exactly so on a sound heap may
+pub step-exact : (old zone new : ZoneState) → zone ≡ old → Sound zone.shape zone.heap → (call : MemoryCall) (asks : List Ask) (outcome : Outcome) → IsExactStep old.shape old.heap call asks outcome new.heap → MemoryStep old.shape old.heap call asks outcome new.heap
+step-exact old zone new is sound call asks outcome exact = permitted old.shape old.heap new.heap call asks outcome (subst (λ (z : ZoneState). Sound z.shape z.heap) is sound) exact
 
 module _ (old zone new : ZoneState) (is : zone ≡ old) (sound : Sound zone.shape zone.heap) (call : MemoryCall) (passed : refusal zone.shape zone.heap call ≡ None) where
   passes : refusal old.shape old.heap call ≡ None
@@ -149,10 +154,6 @@ module _ (old zone new : ZoneState) (is : zone ≡ old) (sound : Sound zone.shap
       → IsExactStep old.shape old.heap call asks outcome new.heap
   exact-copied r bytes asks tried outcome requests copies run ends = subst (λ (z : ZoneState). IsExactStep z.shape z.heap call asks outcome new.heap) is
       (subst (λ o. IsExactStep zone.shape zone.heap call asks o new.heap) (sym ends) (exact-copy zone.shape zone.heap new.heap call r bytes asks tried passed requests copies run))
-
-  -- it may
-  pub step-exact : (asks : List Ask) (outcome : Outcome) → IsExactStep old.shape old.heap call asks outcome new.heap → MemoryStep old.shape old.heap call asks outcome new.heap
-  step-exact asks outcome exact = permitted old.shape old.heap new.heap call asks outcome (subst (λ (z : ZoneState). Sound z.shape z.heap) is sound) exact
 
   -- a call that makes none
   pub exact-done : (outcome : Outcome) → request_of old.heap.table call ≡ None → new.heap ≡ effect_of zone.shape call (rearranged call zone.heap) → outcome ≡ quiet_outcome zone.shape new.heap call

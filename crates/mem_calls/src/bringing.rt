@@ -169,7 +169,7 @@ impl MemoryManager {
     {
         test_handle_for(&self.zone, handle, bytes)?;
         let block = handle.number();
-        let length = self.zone.length(block);
+        let length = self.zone.linked().length(block);
         bring_behind(&mut self.zone, block, length, bytes, procedure)
     }
 }

@@ -101,7 +101,7 @@ impl MemoryManager {
     {
         test_full_here(&self.zone, handle)?;
         let block = handle.number();
-        let count = self.zone.length(block);
+        let count = self.zone.linked().length(block);
         copy_to_new(&mut self.zone, block, count, procedure)
     }
 
@@ -170,7 +170,7 @@ impl MemoryManager {
         test_pointer_for(&self.zone, pointer, handle, count)?;
         let from = pointer.number();
         let to = handle.number();
-        let length = self.zone.length(to);
+        let length = self.zone.linked().length(to);
         copy_behind(&mut self.zone, from, count, to, length, procedure)
     }
 
@@ -195,8 +195,8 @@ impl MemoryManager {
         test_full_here(&self.zone, other)?;
         let from = one.number();
         let to = other.number();
-        let count = self.zone.length(from);
-        let length = self.zone.length(to);
+        let count = self.zone.linked().length(from);
+        let length = self.zone.linked().length(to);
         copy_behind(&mut self.zone, from, count, to, length, procedure)
     }
 

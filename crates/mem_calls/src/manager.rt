@@ -38,12 +38,12 @@ impl Drop for MemoryManager {
 }
 
 impl MemoryManager {
-    ghost use Rattle.std.specs.Prelude.{◌≡◌, ◌+◌, ◌<◌, ◌≤◌, IfOk, IfErr, IsTrue, [], length};
+    ghost use Rattle.std.specs.Prelude.{◌≡◌, ◌+◌, ◌<◌, ◌≤◌, IfOk, IfErr, [], length};
     ghost use Rattle.mac_base.specs.declared.error.OsErr.TheVariants.{MemLockedErr};
     ghost use Rattle.linked_zone.specs.Image.{IsImage};
     ghost use Rattle.std.specs.Borrow.{sem};
     ghost use Rattle.mac_base.specs.BlockStatus.{status_of};
-    ghost use Rattle.mac_base.specs.HandleTable.{bytes_of, has_block};
+    ghost use Rattle.mac_base.specs.HandleTable.{bytes_of};
     ghost use Rattle.mac_base.specs.Heap.{new_heap};
     ghost use Rattle.mac_base.specs.BlockReport.{report_at};
     ghost use Rattle.mac_base.specs.Sound.{Sound};
@@ -61,14 +61,6 @@ impl MemoryManager {
         Ok(MemoryManager {
             zone: Zone::create(alloc, spec)?,
         })
-    }
-
-    /// How many bytes a block has that is live and not empty. It may be lent.
-    pub fn length(&self, block: u32) -> u32
-        requires { IsTrue (has_block self.now.heap.table block) }
-        ensures { result ≡ length (bytes_of self.now.heap.table block) }
-    {
-        self.zone.length(block)
     }
 
     /// How many bytes a handle has: none where it isn't live, or empty. One that is lent has those that it had.
@@ -137,7 +129,7 @@ impl MemoryManager {
         ensures refusal { IfErr result (λ code. (code ≡ MemLockedErr) × (0 < length self.now.heap.table.lent)) }
     {
         if self.zone.lent_count() == 0 {
-            Ok(self.zone.image())
+            Ok(self.zone.linked().image())
         } else {
             Err(OsErr::MemLockedErr)
         }

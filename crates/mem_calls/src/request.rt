@@ -131,7 +131,7 @@ fn turn<G: GrowZone>(
     ensures shape { zone.new.shape ≡ zone.old.shape }
     ensures loans { KeepsLoans zone.old zone.new }
 {
-    let needed = need_for(zone.heads(), length_asked(*request));
+    let needed = need_for(zone.linked().spec().heads(), length_asked(*request));
     match procedure.ask(needed) {
         Some(answer) => {
             carry_out(zone, &answer, protected, procedure);

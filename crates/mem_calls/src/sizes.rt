@@ -55,7 +55,7 @@ impl MemoryManager {
         ensures step { MemoryStep self.now.shape self.now.heap (call.GetHandleSize handle) [] (number_outcome result) self.now.heap }
     {
         test_full(&self.zone, handle)?;
-        Ok(self.zone.length(handle.number()))
+        Ok(self.zone.linked().length(handle.number()))
     }
 
     /// SetPtrSize: gives the pointer's block `size` bytes where it is; bytes that are added are zero. The relocatable blocks of the gap
@@ -94,7 +94,7 @@ impl MemoryManager {
         ensures step { MemoryStep self.now.shape self.now.heap (call.GetPtrSize pointer) [] (number_outcome result) self.now.heap }
     {
         test_pointer(&self.zone, pointer)?;
-        Ok(self.zone.length(pointer.number()))
+        Ok(self.zone.linked().length(pointer.number()))
     }
 
     /// ReallocateHandle: a new block of `size` zero bytes for the handle, without flags, in place of the one that it has, which

@@ -1,5 +1,5 @@
 -- What all open files have together is the same where their data are given in another way; and there are few of them.
-use Rattle.std.proofs.Common.{◌≡◌, refl, sym, ap, ◌∙◌, arith, ℕ, zero, suc, ◌+◌, ◌-◌, ◌*◌, ◌≤◌, pos, List, [], ◌∷◌, ◌++◌, length, map, filter, length-append, Bool, true, false, not, cond, ◌||◌, Option, Some, None, if◌then◌else◌}
+use Rattle.std.proofs.Common.{◌≡◌, refl, sym, ap, subst, ◌∙◌, arith, ℕ, zero, suc, ◌+◌, ◌-◌, ◌*◌, ◌≤◌, pos, List, [], ◌∷◌, ◌++◌, length, map, filter, length-append, Bool, true, false, not, cond, ◌||◌, Option, Some, None, if◌then◌else◌}
 use Rattle.std.specs.Prelude.{nat_le}
 use Rattle.std.specs.List.{list_any, AllByRecursion}
 use Rattle.std.specs.Option.{option_map}
@@ -140,3 +140,7 @@ module _ {S : Type 0} (fork : S → List ℕ) (is_ready is_honest : S → Type 0
   few_open chain stand =
       let few = stand.few in let most = all_marked (length stores) chain.files stand.apart in let each = each_marked chain.files stand.each in
       let rows = rows_few chain.files stand.each in (omega (arith, few, most, each), omega (arith, few, most, each, rows))
+
+  -- so are those that are read
+  pub few_read : (chain : OpenFiles Place) → StandOn fork is_ready is_honest stores chain → (files : List (OpenFile Place)) → files ≡ chain.files → length (all_rows files) ≤ 2088960
+  few_read chain stand files is = subst (λ (files : List (OpenFile Place)). length (all_rows files) ≤ 2088960) (sym is) (few_open chain stand).1

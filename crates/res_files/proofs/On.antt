@@ -9,16 +9,16 @@ use Rattle.fork_reader.specs.declared.place.Place.{Place}
 use Rattle.res_table.specs.declared.row.Row.{Row}
 use Rattle.res_table.specs.declared.chain.ResourceTable.{ResourceTable}
 use Rattle.res_table.specs.declared.chain.RowPlace.{RowPlace}
-use Rattle.res_table.specs.Rows.{added, ith, index_of_ith}
+use Rattle.res_table.specs.Rows.{added, changed_at, ith, index_of_ith}
 use Rattle.res_table.specs.Saved.{bare, saved_row}
-use Rattle.res_table.specs.OpenFiles.{OpenFiles, is_open, row_at, table_of}
-use Rattle.res_calls.specs.Changes.{Files, FileRow, FileTable, rows_of, current_rows, rows_in}
+use Rattle.res_table.specs.OpenFiles.{OpenFiles, is_open, row_at, rows_changed, table_of}
+use Rattle.res_calls.specs.Changes.{Files, FileRow, FileTable, row_changed, rows_of, current_rows, rows_in}
 use Rattle.res_calls.specs.Fitting.{rows_fit}
 use Rattle.res_update.specs.Placed.{bytes_on, row_on}
 use Rattle.res_update.proofs.PlaceBytes.{length-on}
 use Rattle.res_files.specs.FilesOn.{FilesOn, Shows}
 use Rattle.res_files.specs.Standing.{fork_at, files_on, placed_rows, placed_rows_of}
-use Rattle.res_files.proofs.Mapped.{mapped_rows, mapped_table, table-mapped, row-mapped, open-mapped, index_of_ith-mapped}
+use Rattle.res_files.proofs.Mapped.{mapped_row, mapped_rows, mapped_table, changed_at-mapped, rows_changed-mapped, table-mapped, row-mapped, open-mapped, index_of_ith-mapped}
 use Rattle.res_files.proofs.Stands.{long_added}
 
 -- the bytes at a place of the file of a number
@@ -65,6 +65,14 @@ module _ {S : Type 0} (fork : S → List ℕ) (chain : OpenFiles Place) (loads :
       ap (λ (chain : OpenFiles Place). seen fork chain loads stores) is
       ∙ ap (λ (files : Files). let v : FilesOn S = record { files = files; loads = loads; stores = stores } in v) (sym natural)
       ∙ ap (λ (v : FilesOn S). let w : FilesOn S = record { files = change v.files; loads = v.loads; stores = v.stores } in w) view_is
+
+  -- and of a row
+  pub changed_row : (new : OpenFiles Place) (place : RowPlace) (own : Row Place → Row Place) (change : FileRow → FileRow) → ((f : Place → List ℕ) (r : Row Place) → change (mapped_row f r) ≡ mapped_row f (own r))
+      → new ≡ rows_changed place.file (changed_at place.index own) chain → seen fork new loads stores ≡ record { files = row_changed place change now.files; loads = now.loads; stores = now.stores }
+  changed_row new place own change same is =
+      let bytes = bytes_in (map fork stores) in
+      changed new (row_changed place change) (rows_changed place.file (changed_at place.index own)) is
+      (rows_changed-mapped bytes place.file (changed_at place.index change) (changed_at place.index own) (changed_at-mapped (bytes place.file) place.index change own (same (bytes place.file))) chain)
 
   -- a row that is seen is there
   some_mapped : {X Y : Type 0} (g : X → Y) (found : Option X) → IsSome (option_map g found) → IsSome found

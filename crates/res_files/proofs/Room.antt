@@ -10,7 +10,6 @@ use Rattle.std.proofs.lemmas.List.Sums.{sum_by-cons, sum_by-insert}
 use Rattle.std.proofs.lemmas.List.{length-map, length-drop, take_all, append-nil}
 use Rattle.fork_bytes.specs.Fork.{max_rows}
 use Rattle.fork_bytes.specs.Written.{counted_before, name_text, names_offset}
-use Rattle.fork_bytes.specs.declared.layout.TypeCount.{TypeCount}
 use Rattle.fork_reader.specs.declared.place.Place.{Place}
 use Rattle.mac_base.specs.declared.resource.Resource.{Resource}
 use Rattle.res_table.specs.declared.row.Row.{Row}
@@ -18,6 +17,7 @@ use Rattle.res_table.specs.Rows.{is_of_type, added, name_size, names_size, ith, 
 use Rattle.res_table.specs.Behind.{end_of_type}
 use Rattle.res_table.specs.Saved.{bare, saved_row, row_types}
 use Rattle.res_table.proofs.Adding.{up_to_last, last-is, insert-at-end}
+use Rattle.res_table.proofs.Types.{first_kind, one_before}
 use Rattle.res_calls.specs.Fitting.{rows_fit, names_fit}
 use Rattle.res_files.proofs.Mapped.{mapped_row, mapped_rows, bare-mapped, added-mapped}
 use Rattle.res_files.proofs.Stands.{long_added}
@@ -98,28 +98,10 @@ types-runs : {D : Type 0} (rows : List (Row D)) → length (row_types rows) ≡ 
 types-runs [] = refl
 types-runs {D} (r ∷ rows) = by rows (types-runs rows)
   where
-    step : (kind : List ℕ) (types : List TypeCount) → length (counted_before kind 1 types) ≡ (if option_map_or (λ (first : TypeCount). bytes_eq kind first.kind) (slice_get types 0) false then length types else suc (length types))
-    step kind [] = refl
-    step kind (first ∷ others) = pick (bytes_eq kind first.kind)
-      where
-        pick : (b : Bool) → length (if b then record { kind = kind; count = 1 + first.count } ∷ others else record { kind = kind; count = 1 } ∷ first ∷ others)
-            ≡ (if b then suc (length others) else suc (suc (length others)))
-        pick true = refl
-        pick false = refl
-
-    first_kind : (kind next : List ℕ) (n : ℕ) (types : List TypeCount) → option_map_or (λ (first : TypeCount). bytes_eq kind first.kind) (slice_get (counted_before next n types) 0) false ≡ bytes_eq kind next
-    first_kind kind next n [] = refl
-    first_kind kind next n (first ∷ others) = pick (bytes_eq next first.kind)
-      where
-        pick : (b : Bool) → option_map_or (λ (first : TypeCount). bytes_eq kind first.kind) (slice_get (if b then record { kind = next; count = n + first.count } ∷ others else record { kind = next; count = n } ∷ first ∷ others) 0) false
-            ≡ bytes_eq kind next
-        pick true = refl
-        pick false = refl
-
     by : (rest : List (Row D)) → length (row_types rest) ≡ runs rest → length (counted_before r.resource.kind 1 (row_types rest)) ≡ (if goes_on r.resource.kind rest then runs rest else suc (runs rest))
     by [] deeper = refl
     by (x ∷ rest) deeper =
-        step r.resource.kind (row_types (x ∷ rest))
+        one_before r.resource.kind 1 (row_types (x ∷ rest))
         ∙ ap (λ b. if b then length (row_types (x ∷ rest)) else suc (length (row_types (x ∷ rest)))) (first_kind r.resource.kind x.resource.kind 1 (row_types rest))
         ∙ ap (λ (n : ℕ). if bytes_eq r.resource.kind x.resource.kind then n else suc n) deeper
 

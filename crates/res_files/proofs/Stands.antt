@@ -204,6 +204,12 @@ stand_changed fork is_ready is_honest stores k change chain keeps stand = record
     by None open_now = open_now
     by (Some n) open_now = subst IsTrue (sym (any_changed n k change chain.files)) open_now
 
+-- and once a row is, whose datum and type stay
+pub stand_row_changed : {S : Type 0} (fork : S → List ℕ) (is_ready is_honest : S → Type 0) (stores : List S) (k at : ℕ) (change : Row Place → Row Place) (chain new : OpenFiles Place) → new ≡ rows_changed k (changed_at at change) chain
+    → ((r : Row Place) → (change r).resource.datum ≡ r.resource.datum) → ((r : Row Place) → (change r).resource.kind ≡ r.resource.kind) → StandOn fork is_ready is_honest stores chain → StandOn fork is_ready is_honest stores new
+stand_row_changed fork is_ready is_honest stores k at change chain new is same same_kind stand =
+    subst (StandOn fork is_ready is_honest stores) (sym is) (stand_changed fork is_ready is_honest stores k (changed_at at change) chain (keeps_changed_at at change same same_kind) stand)
+
 -- with another current file
 pub stand_used : {S : Type 0} (fork : S → List ℕ) (is_ready is_honest : S → Type 0) (stores : List S) (k : ℕ) (chain : OpenFiles Place) → IsTrue (is_open k chain)
     → StandOn fork is_ready is_honest stores chain → StandOn fork is_ready is_honest stores (file_used k chain)

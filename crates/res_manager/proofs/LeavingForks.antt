@@ -1,5 +1,5 @@
 -- What calls leave of the forks, by what was done to the stores.
-use Rattle.std.proofs.Common.{◌≡◌, refl, true, List, [], Option, Some, None, Result, Ok, Err, ℕ, ap, subst}
+use Rattle.std.proofs.Common.{◌≡◌, refl, true, List, [], Option, Some, None, Result, Ok, Err, ℕ, ap, subst, sym}
 use Rattle.std.specs.Prelude.{IfOk, IfSome, OnOk, OnErr, ⊤}
 use Rattle.std.specs.Option.{option_map_or}
 use Rattle.mac_base.specs.HandleTable.{HandleTable}
@@ -23,7 +23,7 @@ use Rattle.res_manager.specs.Crash.{CrashLeaves, IsSettled, LeavesForks, OpensFo
 use Rattle.res_manager.specs.Steps.{state_of}
 use Rattle.res_manager.proofs.CalmCalls.{IsIdle, calm_reads, calm_settles}
 use Rattle.res_manager.proofs.Crash.{calm_leaves, made_file, open_leaves, work_leaves, work_settles, changed_leaves}
-use Rattle.res_manager.proofs.Keeping.{one_kept}
+use Rattle.res_manager.proofs.Keeping.{kept_same, one_kept}
 use Rattle.res_manager.proofs.ReadingBack.{made_reads}
 use Rattle.res_manager.proofs.Stepping.{if_ok}
 use Rattle.res_manager.proofs.UpdatingCalls.{Makes, on_err}
@@ -91,6 +91,12 @@ idle_leaves store old new on after c (Ok outcome) kept idle =
     }
 idle_leaves store old new on after c (Err full) kept idle =
     record { honest = λ k honest. (kept k honest).honest; reads_back = tt; any_moment = tt; settled = tt; crash_full = calm_leaves store on.stores after.stores None (λ k honest. (kept k honest).calm) }
+
+-- and so does one of a kind without work on a file, where it keeps the stores
+pub workless_leaves : {S E : Type 0} (store : Ghosts S) (old new : ZoneState) (on after : FilesOn S) (c d : ResourceCall) (result : Result Outcome E) → c ≡ d → IsIdle (work_of (state_of store.fork old on) d) → after.stores ≡ on.stores
+    → LeavesForks store old on c result new after
+workless_leaves store old new on after c d result is idle same =
+    idle_leaves store old new on after c result (kept_same store on.stores after.stores same) (subst (λ (d : ResourceCall). IsIdle (work_of (state_of store.fork old on) d)) (sym is) idle)
 
 -- and so does one that is refused
 pub refused_leaves : {S E : Type 0} (store : Ghosts S) (zone : ZoneState) (on : FilesOn S) (c : ResourceCall) (code : OsErr) → (let result : Result Outcome E = Ok (Err code) in LeavesForks store zone on c result zone on)

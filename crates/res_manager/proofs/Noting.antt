@@ -1,5 +1,5 @@
 -- What a watch over the grow-zone procedure has noted, ask by ask and call by call.
-use Rattle.std.proofs.Common.{◌≡◌, ℕ, ◌+◌, ◌*◌, ◌<◌, ◌≤◌, true, false, List, [], ◌∷◌, ◌++◌, length, Option, Some, None, refl, sym, ap, ◌∙◌, subst, arith, append-nil, append_assoc, drop}
+use Rattle.std.proofs.Common.{◌≡◌, ℕ, ◌+◌, ◌*◌, ◌<◌, ◌≤◌, true, false, List, [], ◌∷◌, ◌++◌, length, Option, Some, None, refl, sym, ap, ◌∙◌, subst, arith, append-nil, append_assoc}
 use Rattle.std.specs.Prelude.{IfSome, nat_le, nat_lt, filter_map, is_some}
 use Rattle.std.specs.List.{cons_option, list_all}
 use Rattle.std.specs.Option.{option_map_or}
@@ -12,7 +12,7 @@ use Rattle.mac_base.specs.declared.error.OsErr.{OsErr}
 use Rattle.mac_base.specs.declared.releasing.ReleasingCall.{ReleasingCall}
 use Rattle.mac_calls.specs.GrowZone.{Ask, Answer, may_ask, may_note, new_ask, noted, most_answers}
 use Rattle.mac_calls.specs.Released.{disposed_by, disposed_in}
-use Rattle.res_manager.specs.Watching.{Notes, has_few_calls, named_source}
+use Rattle.res_manager.specs.Watching.{Notes, has_few_calls}
 
 each-behind : (asks : List Ask) (ask : Ask) → list_all has_few_calls asks ≡ true → has_few_calls ask ≡ true → list_all has_few_calls (asks ++ ask ∷ []) ≡ true
 each-behind [] ask each few = rw few refl
@@ -118,11 +118,3 @@ notes-noted handles asks call code notes may = record {
 -- so it is with the handle behind the others, if there is one
 pub notes-told : (handles new : List ℕ) (asks : List Ask) (call : ReleasingCall) (code : Option OsErr) → Notes handles asks → may_note asks ≡ true → new ≡ handles ++ cons_option (disposed_by (call, code)) [] → Notes new (noted call code asks)
 notes-told handles new asks call code notes may is = subst (λ hs. Notes hs (noted call code asks)) (sym is) (notes-noted handles asks call code notes may)
-
-abbrev name_in : List Answer → ℕ
-name_in [] = 0
-name_in (a ∷ answers) = a.value
-
--- where the same stays of two procedures under watch, one is the other, and the same stays of what they borrow
-pub same-named : (one other : ℕ) (xs ys : List Answer) → named_source one xs ≡ named_source other ys → (one ≡ other) × (xs ≡ ys)
-same-named one other xs ys is = (ap name_in is, ap (drop 1) is)

@@ -1,6 +1,6 @@
 -- How it ends where a row gets other bytes in its file.
 use Rattle.std.proofs.Common.{◌≡◌, ◌∙◌, ℕ, true, false, List, length, slice_get, Option, Some, None, Result, Ok, Err, refl, sym, ap, subst, option_map}
-use Rattle.std.specs.Prelude.{IfSome, IsSomeAnd}
+use Rattle.std.specs.Prelude.{IfOk, IfSome, IsSomeAnd, OnOk}
 use Rattle.std.specs.Option.{option_and_then}
 use Rattle.std.proofs.lemmas.Result.{on_ok_weaker}
 use Rattle.fork_bytes.specs.Fork.{StandsFor}
@@ -17,11 +17,13 @@ use Rattle.mac_base.specs.declared.resource.ResAttrs.{ResAttrs}
 use Rattle.mac_calls.specs.declared.resource_call.ResourceCall.TheVariants.{Writing}
 use Rattle.mac_calls.specs.declared.resource_call.WritingCall.TheVariants.{UpdateResFile}
 use Rattle.mac_calls.specs.declared.reply.Results.TheVariants.{Nothing}
+use Rattle.mac_calls.specs.Outcomes.{Outcome}
 use Rattle.res_table.specs.declared.chain.RowPlace.{RowPlace}
 use Rattle.res_table.specs.OpenFiles.{file_closed, row_at, table_of}
 use Rattle.res_table.specs.Rows.{changed_at, with_attributes, with_datum}
 use Rattle.res_calls.specs.Answered.{AnswersFor}
 use Rattle.res_calls.specs.Changes.{FileRow, FileTable, Files, row_changed, saved_table, with_changed_rows}
+use Rattle.res_calls.specs.Steps.{IsSaved}
 use Rattle.res_calls.specs.Updates.{Update, fits_fork}
 use Rattle.res_files.specs.Crash.{OthersStay, history_of}
 use Rattle.res_files.specs.FilesOn.{FailedAt, FilesOn, HonestAt, NoneFailed, fork_of}
@@ -29,9 +31,13 @@ use Rattle.res_files.specs.Stores.{UpdatesStore}
 use Rattle.res_update.specs.Selected.{updated}
 use Rattle.res_update.specs.declared.fault.UpdateFault.{UpdateFault}
 use Rattle.res_update.specs.declared.selection.Selection.TheVariants.{RowAt}
+use Rattle.res_manager.specs.Crash.{IsSettled, SavesFork}
 use Rattle.res_manager.specs.Ends.{WritesFile}
 use Rattle.res_manager.specs.Patching.{HasHandle, update_with}
+use Rattle.res_manager.specs.Steps.{state_of}
+use Rattle.res_manager.proofs.LeavingForks.{saves_changed}
 use Rattle.res_manager.proofs.PatchedRows.{attributes_back, fits_alike, table_alike, updated_files}
+use Rattle.res_manager.proofs.RowUpdates.{row_open}
 use Rattle.res_manager.proofs.WritingFiles.{writes_all, writes_faulted, writes_nothing}
 
 -- the row at a place, and its table
@@ -96,6 +102,15 @@ module _ (t : HandleTable) (h : ℕ) (bytes : List ℕ) (holds : bytes_of t h �
 
     is_patch : (u : Update) → update_with bytes p files ≡ Some u → patch ≡ u
     is_patch u is = let one : Some patch ≡ Some u = sym (ap (option_map (λ (table : FileTable). let v : Update = record { file = p.file; table = with_bytes table } in v)) f.is) ∙ is in cc one
+
+  -- how the update leaves its fork, whatever its end
+  pub saves_patched : {S T E : Type 0} (store : Ghosts S) (zone : ZoneState) (on after : FilesOn S) (writing : Result T UpdateFault) (result : Result Outcome E) → HasHandle p h on.files
+      → (HonestAt store.is_honest after.stores p.file → UpdatesStore store p.file (updated t (RowAt p.index)) on.files on.stores after.stores writing) → OthersStay p.file on.stores after.stores
+      → IfOk result (λ outcome. OnOk outcome (IsSettled store (Some p.file) after.stores)) → IfOk result (λ outcome. OnOk outcome (IsSaved (HonestAt store.is_honest after.stores) (update_with bytes p on.files) (state_of store.fork zone after)))
+      → SavesFork store p.file (update_with bytes p on.files) on.stores zone after result
+  saves_patched store zone on after writing result there updates =
+      saves_changed store zone p.file with_bytes on.files on.stores after writing result (row_open p on.files (λ (r : FileRow). r.handle ≡ Some h) there)
+      (λ honest. updates_as store p.file (updated t (RowAt p.index)) with_bytes on.files on.stores after.stores writing (if_alike on.files (found p h on.files there)) (updates honest))
 
   module _ {S : Type 0} (store : Ghosts S) (zone : ZoneState) (on after : FilesOn S) (f : Found p h on.files) (u : Update) (is : update_with bytes p on.files ≡ Some u)
       (loads : after.loads ≡ on.loads) (count : length after.stores ≡ length on.stores) (others : OthersStay p.file on.stores after.stores) where

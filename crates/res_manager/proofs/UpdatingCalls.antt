@@ -72,19 +72,25 @@ module _ {S : Type 0} (fork : S → List ℕ) (zone : ZoneState) (on : FilesOn S
     pub work : work_of (state_of fork zone on) c ≡ Updates u
     pub full : takes_memory (state_of fork zone on) c ≡ true
 
+  -- a call whose work is the update of its file, if there is one
+  makes : (c d : ResourceCall) (o : Option Update) (u : Update) → c ≡ d → work_of (state_of fork zone on) d ≡ updating o → takes_memory (state_of fork zone on) d ≡ work_takes_memory (updating o)
+      → first_refused_for (state_of fork zone on) (late_tests d) ≡ option_or (unless_passed DskFulErr (can_be_made o)) None → first_refused_for (state_of fork zone on) (early_tests c) ≡ None → o ≡ Some u → Makes c u
+  makes c d o u call work full test passed is =
+      let P : ResourceCall → Type 0 = λ d. first_refused_for (state_of fork zone on) (early_tests d) ≡ None in
+      subst (λ (d : ResourceCall). Makes d u) (sym call) (record {
+        late = passed-early (state_of fork zone on) d (subst P call passed);
+        test = test ∙ or_none _ ∙ ap (λ (o : Option Update). unless_passed DskFulErr (can_be_made o)) is;
+        work = work ∙ ap updating is;
+        full = full ∙ ap (λ (o : Option Update). work_takes_memory (updating o)) is;
+      })
+
   -- WriteResource of a changed row
   pub makes_row : (h : ℕ) (p : RowPlace) (u : Update) → first_refused_for (state_of fork zone on) (early_tests (Writing (WriteResource h))) ≡ None → place_of_handle h on.files ≡ Some p → row_passes is_changed h on.files ≡ true
       → update_of p.file (updated zone.heap.table (RowAt p.index)) on.files ≡ Some u → Makes (Writing (WriteResource h)) u
   makes_row h p u passed place changed is =
-      let row : row_update (state_of fork zone on) h ≡ Some u =
-      ap (λ b. cond b (option_map_or (λ (q : RowPlace). update_of q.file (updated_at zone.heap.table q.index) on.files) (place_of_handle h on.files) None) None) changed
-      ∙ ap (λ (o : Option RowPlace). option_map_or (λ (q : RowPlace). update_of q.file (updated_at zone.heap.table q.index) on.files) o None) place ∙ is in
-      record {
-        late = passed-early (state_of fork zone on) (Writing (WriteResource h)) passed;
-        test = or_none _ ∙ ap (λ (o : Option Update). unless_passed DskFulErr (can_be_made o)) row;
-        work = ap updating row;
-        full = ap (λ (o : Option Update). work_takes_memory (updating o)) row;
-      }
+      makes (Writing (WriteResource h)) (Writing (WriteResource h)) (row_update (state_of fork zone on) h) u refl refl refl refl passed
+      (ap (λ b. cond b (option_map_or (λ (q : RowPlace). update_of q.file (updated_at zone.heap.table q.index) on.files) (place_of_handle h on.files) None) None) changed
+      ∙ ap (λ (o : Option RowPlace). option_map_or (λ (q : RowPlace). update_of q.file (updated_at zone.heap.table q.index) on.files) o None) place ∙ is)
 
   named_update : (named : Option ℕ) (k : ℕ) (u : Update) → file_named named on.files ≡ Some k → update_of k (updated zone.heap.table AllChanged) on.files ≡ Some u → file_update (state_of fork zone on) named ≡ Some u
   named_update named k u is update = rw is update
@@ -92,28 +98,12 @@ module _ {S : Type 0} (fork : S → List ℕ) (zone : ZoneState) (on : FilesOn S
   -- UpdateResFile
   pub makes_file : (c : ResourceCall) (named : Option ℕ) (k : ℕ) (u : Update) → c ≡ Writing (UpdateResFile named) → first_refused_for (state_of fork zone on) (early_tests c) ≡ None → file_named named on.files ≡ Some k
       → update_of k (updated zone.heap.table AllChanged) on.files ≡ Some u → Makes c u
-  makes_file c named k u call passed file is =
-      let up : file_update (state_of fork zone on) named ≡ Some u = named_update named k u file is in
-      let P : ResourceCall → Type 0 = λ d. resource_refusal (state_of fork zone on) d ≡ first_refused_for (state_of fork zone on) (late_tests d) → Makes d u in
-      subst P (sym call) (λ late. record {
-        late = late;
-        test = or_none _ ∙ ap (λ (o : Option Update). unless_passed DskFulErr (can_be_made o)) up;
-        work = ap updating up;
-        full = ap (λ (o : Option Update). work_takes_memory (updating o)) up;
-      }) (passed-early (state_of fork zone on) c passed)
+  makes_file c named k u call passed file is = makes c _ (file_update (state_of fork zone on) named) u call refl refl refl passed (named_update named k u file is)
 
   -- CloseResFile
   pub makes_closed : (c : ResourceCall) (named : Option ℕ) (k : ℕ) (u : Update) → c ≡ Writing (CloseResFile named) → first_refused_for (state_of fork zone on) (early_tests c) ≡ None → file_named named on.files ≡ Some k
       → update_of k (updated zone.heap.table AllChanged) on.files ≡ Some u → Makes c u
-  makes_closed c named k u call passed file is =
-      let up : file_update (state_of fork zone on) named ≡ Some u = named_update named k u file is in
-      let P : ResourceCall → Type 0 = λ d. resource_refusal (state_of fork zone on) d ≡ first_refused_for (state_of fork zone on) (late_tests d) → Makes d u in
-      subst P (sym call) (λ late. record {
-        late = late;
-        test = or_none _ ∙ ap (λ (o : Option Update). unless_passed DskFulErr (can_be_made o)) up;
-        work = ap updating up;
-        full = ap (λ (o : Option Update). work_takes_memory (updating o)) up;
-      }) (passed-early (state_of fork zone on) c passed)
+  makes_closed c named k u call passed file is = makes c _ (file_update (state_of fork zone on) named) u call refl refl refl passed (named_update named k u file is)
 
   -- what a file's closing has found unlent can be written
   pub closing_unlent : (c : ResourceCall) (named : Option ℕ) (k : ℕ) → c ≡ Writing (CloseResFile named) → first_refused_for (state_of fork zone on) (early_tests c) ≡ None → file_named named on.files ≡ Some k

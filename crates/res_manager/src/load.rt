@@ -111,28 +111,9 @@ fn make_place<S: ForkStore, G: GrowZone>(
     ensures shape { memory.new.shape ≡ memory.old.shape }
 {
     let mut watched = Watched::new(procedure);
-    let made = request_watched(memory, own, size, loads, &mut watched);
+    let made = request_place(memory, own, size, loads, &mut watched);
     watched.forget_in(files);
     made
-}
-
-/// The same with a procedure under watch, which stays the one that it is.
-fn request_watched<G: GrowZone>(
-    memory: &mut MemoryManager,
-    own: Option<Handle>,
-    size: u32,
-    loads: bool,
-    watched: &mut Watched<'_, G>,
-) -> Result<Handle, OsErr>
-    requires unasked { G.asks watched.old.procedure.now ≡ [] }
-    ensures same_reference { watched.new.procedure.ghost_name ≡ watched.old.procedure.ghost_name }
-    ensures step { (outcome : Outcome) × Memory memory.old.shape memory.old.heap (place_call own size loads) (G.asks watched.new.procedure.now) outcome memory.new.heap × (result ≡ handle_placed own outcome) }
-    ensures placed { loads ≡ true → IfOk result (λ handle. IsPlaced memory.new.heap handle size) }
-    ensures source { G.source watched.new.procedure.now ≡ G.source watched.old.procedure.now }
-    ensures loans { KeepsLoans memory.old memory.new }
-    ensures shape { memory.new.shape ≡ memory.old.shape }
-{
-    request_place(memory, own, size, loads, watched)
 }
 
 /// The call of the Memory Manager that makes the place for a row's bytes.

@@ -11,7 +11,7 @@ use Rattle.res_table.specs.Indexed.{kinds_of}
 use Rattle.res_table.specs.Saved.{row_types}
 
 -- one type more before others, where the first is another or there is none
-one_before : (kind : List ℕ) (n : ℕ) (types : List TypeCount)
+pub one_before : (kind : List ℕ) (n : ℕ) (types : List TypeCount)
     → length (counted_before kind n types) ≡ (if option_map_or (λ (first : TypeCount). bytes_eq kind first.kind) (slice_get types 0) false then length types else suc (length types))
 one_before kind n [] = refl
 one_before kind n (first ∷ others) = pick (bytes_eq kind first.kind)
@@ -22,7 +22,7 @@ one_before kind n (first ∷ others) = pick (bytes_eq kind first.kind)
     pick false = refl
 
 -- the first of the types that are counted so
-first_kind : (kind next : List ℕ) (n : ℕ) (types : List TypeCount) → option_map_or (λ (first : TypeCount). bytes_eq kind first.kind) (slice_get (counted_before next n types) 0) false ≡ bytes_eq kind next
+pub first_kind : (kind next : List ℕ) (n : ℕ) (types : List TypeCount) → option_map_or (λ (first : TypeCount). bytes_eq kind first.kind) (slice_get (counted_before next n types) 0) false ≡ bytes_eq kind next
 first_kind kind next n [] = refl
 first_kind kind next n (first ∷ others) = pick (bytes_eq next first.kind)
   where

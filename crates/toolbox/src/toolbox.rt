@@ -1,10 +1,9 @@
 //! The toolbox: one call, one reply.
 
 ghost use Rattle.std.specs.Prelude.{◌≡◌, [], None, IfOk, OnErr, IsTrue};
-ghost use Rattle.linked_zone.specs.Loans.{KeepsLoans};
 ghost use Rattle.mac_calls.specs.Tests.{refusal};
 ghost use Rattle.mac_calls.specs.Released.{disposed_itself};
-ghost use Rattle.held_calls.specs.Making.{MemorySteps, copies};
+ghost use Rattle.held_calls.specs.Making.{copies};
 ghost use Rattle.toolbox.specs.Steps.{refused_after, resource_refused_after};
 
 use crate::{AnswerQueue, lending};
@@ -155,7 +154,7 @@ impl<S: ForkStore> Toolbox<S> {
         ensures late { OnErr result (refusal self.old.shape self.old.heap call.now ≡ None) }
     {
         let mut watched = Watched::new(procedure);
-        let outcome = make_watched(&mut self.memory, self.alloc, call, &mut watched)?;
+        let outcome = making::make(&mut self.memory, self.alloc, call, &mut watched)?;
         watched.forget_in(&mut self.files);
         if let Some(handle) = disposed_itself(call, &outcome) {
             self.files.forget(handle);
@@ -230,26 +229,6 @@ impl<S: ForkStore> Toolbox<S> {
         } = self;
         (held_calls::lending::finish(memory, loans), files)
     }
-}
-
-/// Makes a call of the Memory Manager with a procedure under watch, which stays the one that it is.
-fn make_watched<G: GrowZone>(
-    memory: &mut MemoryManager,
-    alloc: Global,
-    call: &MemoryCall<'_>,
-    watched: &mut Watched<'_, G>,
-) -> Result<Outcome, HostFull>
-    requires { G.asks watched.old.procedure.now ≡ [] }
-    ensures same_reference { watched.new.procedure.ghost_name ≡ watched.old.procedure.ghost_name }
-    ensures step { IfOk result (λ outcome. MemorySteps memory.old call.now (G.asks watched.new.procedure.now) outcome memory.new) }
-    ensures source { G.source watched.new.procedure.now ≡ G.source watched.old.procedure.now }
-    ensures loans { KeepsLoans memory.old memory.new }
-    ensures unchanged { OnErr result (memory.new ≡ memory.old) }
-    ensures unasked { OnErr result (G.asks watched.new.procedure.now ≡ []) }
-    ensures full { OnErr result (IsTrue (copies call.now)) }
-    ensures late { OnErr result (refusal memory.old.shape memory.old.heap call.now ≡ None) }
-{
-    making::make(memory, alloc, call, watched)
 }
 
 /// The handle that a call of the Memory Manager disposed of itself, if it did.

@@ -6,7 +6,6 @@ use crate::shortage::Shortage;
 use crate::size::resize_block;
 use crate::zone::Zone;
 use mac_base::request::Request;
-use zone_index::IndexedZone;
 
 impl Zone {
     ghost use Rattle.mac_base.specs.Sound.{Sound};
@@ -22,37 +21,23 @@ impl Zone {
         ensures attempt { Attempts request self.old result self.new }
         ensures loans { KeepsLoans self.old self.new }
     {
-        attempt(&mut self.pointers, request)
-    }
-}
-
-ghost use Rattle.linked_zone.specs.Loans.{KeepsLoans};
-ghost use Rattle.zone_heap.specs.Attempts.{Attempts, CanAsk, SoundZone};
-
-/// Makes one attempt to serve a request.
-fn attempt(zone: &mut IndexedZone, request: Request) -> Result<u32, Shortage>
-    requires ready { CanAsk zone.old request }
-    requires sound { SoundZone zone.old }
-    ensures attempt { Attempts request zone.old result zone.new }
-    ensures loans { KeepsLoans zone.old zone.new }
-    ensures sound { SoundZone zone.new }
-{
-    match request {
-        Request::NewBlock(length) => Ok(new_block(zone, length)?.number()),
-        Request::NewEmpty => Ok(new_empty(zone)?.number()),
-        Request::NewPointer(length) => Ok(new_pointer(zone, length)?.number()),
-        Request::NewMaster => new_master(zone),
-        Request::Reserve(length) => {
-            reserve(zone, length)?;
-            Ok(0)
-        }
-        Request::Resize(block, length) => {
-            resize_block(zone, block, length)?;
-            Ok(block)
-        }
-        Request::Replace(handle, length) => {
-            replace(zone, handle, length)?;
-            Ok(handle.number())
+        match request {
+            Request::NewBlock(length) => Ok(new_block(&mut self.pointers, length)?.number()),
+            Request::NewEmpty => Ok(new_empty(&mut self.pointers)?.number()),
+            Request::NewPointer(length) => Ok(new_pointer(&mut self.pointers, length)?.number()),
+            Request::NewMaster => new_master(&mut self.pointers),
+            Request::Reserve(length) => {
+                reserve(&mut self.pointers, length)?;
+                Ok(0)
+            }
+            Request::Resize(block, length) => {
+                resize_block(&mut self.pointers, block, length)?;
+                Ok(block)
+            }
+            Request::Replace(handle, length) => {
+                replace(&mut self.pointers, handle, length)?;
+                Ok(handle.number())
+            }
         }
     }
 }

@@ -1,7 +1,6 @@
 //! Blocks moved on a program's own demand, and the handle of a block by its address.
 
 use crate::zone::Zone;
-use linked_zone::LinkedZone;
 use mac_base::block::Kind;
 use mac_base::handle::Handle;
 use zone_gaps::{raise, squeeze_all_down, squeeze_down, zone_end};
@@ -16,12 +15,19 @@ impl Zone {
     ghost use Rattle.mac_base.specs.ZoneState.{with_heap};
     ghost use Rattle.linked_zone.specs.Loans.{KeepsLoans};
 
-    /// The size of the largest free block, and 0 where none is free. It is what MaxMem and CompactMem report of a zone
-    /// (Inside Macintosh: Memory, "Freeing Memory").
+    /// The size of the largest free block, and 0 where none is free. From each free block the search goes on to the lowest
+    /// larger one: no other block is read. It is what MaxMem and CompactMem report of a zone (Inside Macintosh: Memory,
+    /// "Freeing Memory").
     pub fn largest_free(&self) -> u32
         ensures { result ≡ largest_free self.now.heap.map }
     {
-        largest_free(self.pointers.linked())
+        let linked = self.pointers.linked();
+        prove!(zone_end(linked) <= u32::MAX);
+        let mut largest = 0;
+        while let Some(at) = linked.lowest_free(largest + 1) {
+            largest = linked.free_size(at);
+        }
+        largest
     }
 
     /// CompactMem: where no free block has `needed` bytes, its header among them, the blocks of the lowest gap that has
@@ -32,12 +38,12 @@ impl Zone {
         ensures largest { result ≡ largest_free self.new.heap.map }
         ensures loans { KeepsLoans self.old self.new }
     {
-        let largest = largest_free(self.pointers.linked());
+        let largest = self.largest_free();
         if needed <= largest {
             return largest;
         }
         squeeze(&mut self.pointers, needed);
-        largest_free(self.pointers.linked())
+        self.largest_free()
     }
 
     /// Moves the blocks of all gaps down, which is how MaxMem compacts the zone (Inside Macintosh: Memory, "Freeing
@@ -78,24 +84,11 @@ impl Zone {
 }
 
 ghost use Rattle.std.specs.Prelude.{◌≡◌, ◌<◌};
-ghost use Rattle.mac_base.specs.ZoneMap.{handle_of, largest_free};
+ghost use Rattle.mac_base.specs.ZoneMap.{handle_of};
 ghost use Rattle.linked_zone.specs.Changes.{with_map as zone_with_map};
 ghost use Rattle.linked_zone.specs.Loans.{KeepsLoans};
 ghost use Rattle.zone_gaps.specs.Gaps.{Settled};
 ghost use Rattle.zone_heap.specs.Squeezed.{squeezed};
-
-/// The size of the largest free block, and 0 where none is free. From each free block the search goes on to the lowest
-/// larger one: no other block is read.
-fn largest_free(pointers: &LinkedZone) -> u32
-    ensures { result ≡ largest_free pointers.now.heap.map }
-{
-    prove!(zone_end(pointers) <= u32::MAX);
-    let mut largest = 0;
-    while let Some(at) = pointers.lowest_free(largest + 1) {
-        largest = pointers.free_size(at);
-    }
-    largest
-}
 
 /// Moves the blocks of the lowest gap with at least `needed` free bytes down, or those of all gaps where none has so many.
 fn squeeze(pointers: &mut IndexedZone, needed: u32)

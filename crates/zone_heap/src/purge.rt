@@ -36,7 +36,13 @@ impl Zone {
         ensures fits { result ≡ fits self.new.shape self.new.heap.table request self.new.heap.map }
         ensures loans { KeepsLoans self.old self.new }
     {
-        purge_for(&mut self.pointers, request, protected)
+        while !fits(&mut self.pointers, &request) {
+            let Some(handle) = next_for(&self.pointers, &request, protected) else {
+                return false;
+            };
+            empty(&mut self.pointers, handle);
+        }
+        true
     }
 
     /// Purges relocatable blocks that are unlocked and purgeable, in order of address, until `needed` bytes are free in one
@@ -47,7 +53,13 @@ impl Zone {
         ensures enough { result ≡ nat_le needed (largest_free self.new.heap.map) }
         ensures loans { KeepsLoans self.old self.new }
     {
-        purge_to(&mut self.pointers, needed)
+        while !has_free(self.pointers.linked(), needed) {
+            let Some(handle) = next_in_zone(&self.pointers, &[]) else {
+                return false;
+            };
+            empty(&mut self.pointers, handle);
+        }
+        true
     }
 
     /// Purges all relocatable blocks that are unlocked and purgeable (Inside Macintosh: Memory, "MaxMem").
@@ -56,57 +68,9 @@ impl Zone {
         ensures zone { self.new ≡ with_heap (all_purged self.old.heap) self.old }
         ensures loans { KeepsLoans self.old self.new }
     {
-        purge_all(&mut self.pointers);
-    }
-}
-
-/// Empties as few handles that may be purged as serve a request, in order of address, and all where none do. Gives whether
-/// the request fits then.
-pub(crate) fn purge_for(zone: &mut IndexedZone, request: Request, protected: &[u32]) -> bool
-    requires sound { SoundZone zone.old }
-    requires ready { CanAsk zone.old request }
-    requires protects { IsTrue (is_protected protected.now request) }
-    ensures zone { zone.new ≡ with_heap (purged zone.old.shape protected.now request zone.old.heap) zone.old }
-    ensures fits { result ≡ fits zone.new.shape zone.new.heap.table request zone.new.heap.map }
-    ensures loans { KeepsLoans zone.old zone.new }
-    ensures sound { SoundZone zone.new }
-{
-    while !fits(zone, &request) {
-        let Some(handle) = next_for(zone, &request, protected) else {
-            return false;
-        };
-        empty(zone, handle);
-    }
-    true
-}
-
-/// Empties as few handles that may be purged as leave `needed` free bytes in one block, in order of address, and all where
-/// none do. Gives whether there is such a block then.
-pub(crate) fn purge_to(zone: &mut IndexedZone, needed: u32) -> bool
-    requires sound { SoundZone zone.old }
-    ensures zone { zone.new ≡ with_heap (purged_for needed zone.old.heap) zone.old }
-    ensures enough { result ≡ nat_le needed (largest_free zone.new.heap.map) }
-    ensures loans { KeepsLoans zone.old zone.new }
-    ensures sound { SoundZone zone.new }
-{
-    while !has_free(zone.linked(), needed) {
-        let Some(handle) = next_in_zone(zone, &[]) else {
-            return false;
-        };
-        empty(zone, handle);
-    }
-    true
-}
-
-/// Empties all handles that may be purged.
-pub(crate) fn purge_all(zone: &mut IndexedZone)
-    requires sound { SoundZone zone.old }
-    ensures zone { zone.new ≡ with_heap (all_purged zone.old.heap) zone.old }
-    ensures loans { KeepsLoans zone.old zone.new }
-    ensures sound { SoundZone zone.new }
-{
-    while let Some(handle) = next_in_zone(zone, &[]) {
-        empty(zone, handle);
+        while let Some(handle) = next_in_zone(&self.pointers, &[]) {
+            empty(&mut self.pointers, handle);
+        }
     }
 }
 

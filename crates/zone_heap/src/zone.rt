@@ -1,7 +1,7 @@
 //! The zone.
 
 use linked_zone::LinkedZone;
-use mac_base::block::{Flags, HeadKind, Status};
+use mac_base::block::{Flags, Status};
 use mac_base::error::HostFull;
 use mac_base::handle::{Handle, Ptr};
 use mac_base::size::{MASTER_LENGTH, ZONE_HEADER, need_for};
@@ -46,7 +46,7 @@ impl Zone {
     ghost use Rattle.mac_base.specs.ZoneMap.{address_behind, contents_of};
     ghost use Rattle.std.specs.Borrow.{sem};
     ghost use Rattle.mac_base.specs.BlockStatus.{status_of};
-    ghost use Rattle.mac_base.specs.HandleTable.{has_block, is_full, is_handle, is_lent, is_pointer, bytes_of, flags_of, with_flags};
+    ghost use Rattle.mac_base.specs.HandleTable.{is_full, is_handle, is_lent, is_pointer, bytes_of, flags_of, with_flags};
     ghost use Rattle.mac_base.specs.Loans.{LoansAreFixed, LoansFit, lent_out, may_be_lent, returned};
     ghost use Rattle.mac_base.specs.ZoneState.{own_memory, with_heap};
     ghost use Rattle.linked_zone.specs.Loans.{IsLoanOf, KeepsLoans, KeepsOtherLoans};
@@ -56,8 +56,6 @@ impl Zone {
     ghost use Rattle.mac_base.specs.Releasing.{heap_released};
     ghost use Rattle.mac_base.specs.ZoneSizes.{shape_of};
     ghost use Rattle.zone_heap.specs.Placed.{resized_there};
-    ghost use Rattle.linked_zone.specs.Image.{IsImage};
-    ghost use Rattle.block_bytes.specs.Walk.{Walks};
     ghost use Rattle.zone_heap.specs.WritingBack.{WritesBackBytes};
 
     /// A new zone: a master block with 64 free slots, and one free block.
@@ -190,29 +188,6 @@ impl Zone {
         ensures reach { self.now.shape.base + self.now.shape.limit ≤ 0xFFFF_FFFF }
     {
         self.pointers.linked().spec().base() + ZONE_HEADER
-    }
-    /// How many bytes a handle or a pointer has. It may be lent.
-    pub fn length(&self, block: u32) -> u32
-        requires { IsTrue (has_block self.now.heap.table block) }
-        ensures { result ≡ length (bytes_of self.now.heap.table block) }
-    {
-        self.pointers.linked().length(block)
-    }
-
-    /// How the zone's blocks are headed.
-    pub fn heads(&self) -> HeadKind
-        ensures { result ≡ self.now.shape.heads }
-    {
-        self.pointers.linked().spec().heads()
-    }
-    /// The bytes of the zone, from its start to the end of its last block: its header, and its blocks with their
-    /// headers, master pointers and contents. They are bytes that `check` takes.
-    pub fn image(&self) -> &[u8]
-        requires nothing_lent { self.now.heap.table.lent ≡ [] }
-        ensures form { IsImage self.now result.now }
-        ensures walks { Walks self.now.shape.heads result.now }
-    {
-        self.pointers.linked().image()
     }
 }
 

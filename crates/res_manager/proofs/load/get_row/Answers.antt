@@ -15,49 +15,40 @@ use Rattle.res_manager.proofs.GettingRows.{IsGot, empty_load, failed_load, given
 use Rattle.res_manager.proofs.Keeping.{kept_same, kept_then}
 use Rattle.res_manager.proofs.Lent.{lent_placed}
 use Rattle.res_manager.proofs.load.get_row.Goals as goal
-use Rattle.res_manager.proofs.load.get_row.Goals.{in-Some+else-serves, in_default, then-loads+in_ok-load_bytes, else-loads}
+use Rattle.res_manager.proofs.load.get_row.Goals.{After-make_place, in-Some+else-serves, in_default, then-loads+in_ok-load_bytes, else-loads}
+
+-- the row that is got, and what its place has to hold
+got : (g : _) (c : After-make_place g) → let shown = some-holds _ _ _ c.unwrap-row.ensures c.row.ensures.some in
+    IsGot (state_of g.S.ForkStore.fork c.args.memory.now c.args.files.now) c.args.place c.args.loads c.match-own.own c.unwrap-row.result.now.resource.datum.length shown.0
+got g c =
+    let shown = some-holds _ _ _ c.unwrap-row.ensures c.row.ensures.some in
+    record {
+      here = shown.1;
+      same = (elim c.match-own.branch [ in-Some+else-serves w ↦ w.own-is ∙ sym w.in-Some.is | in_default w ↦ w.own-is ]) ∙ (shown.2).handle;
+      long = (shown.2).size;
+      needs = elim c.match-own.branch [ in-Some+else-serves w ↦ rw w.own-is (sym w.serves.ensures ∙ w.if-serves.false) | in_default w ↦ rw (w.own-is ∙ w.in_default.is) tt ];
+    }
 
 pub returns-in_err-handle-clause-step : goal.returns-in_err-handle-clause-step
 returns-in_err-handle-clause-step g c =
     let shown = some-holds _ _ _ c.unwrap-row.ensures c.row.ensures.some in
-    let row = shown.2 in
-    let got : IsGot (state_of g.S.ForkStore.fork c.args.memory.now c.args.files.now) c.args.place c.args.loads c.match-own.own c.unwrap-row.result.now.resource.datum.length shown.0 = record {
-      here = shown.1;
-      same = (elim c.match-own.branch [ in-Some+else-serves w ↦ w.own-is ∙ sym w.in-Some.is | in_default w ↦ w.own-is ]) ∙ row.handle;
-      long = row.size;
-      needs = elim c.match-own.branch [ in-Some+else-serves w ↦ rw w.own-is (sym w.serves.ensures ∙ w.if-serves.false) | in_default w ↦ rw (w.own-is ∙ w.in_default.is) tt ];
-    } in
     let ends = err_from_is_err_and c.from_residual.result c.from_residual.ensures.1 in
     let step = c.make_place.ensures.step in
-    rw (ends.1, ends.2) (refused_load g.S.ForkStore c.args.memory.now c.args.files.now c.args.place c.args.loads c.match-own.own c.unwrap-row.result.now.resource.datum.length shown.0 got (g.G.GrowZone.asks c.make_place.new.procedure) c.make_place.new.memory c.make_place.new.files c.make_place.ensures.forgotten c.make_place.ensures.shape step.0 step.1 _ (sym c.in_err-handle.was ∙ step.2))
+    rw (ends.1, ends.2) (refused_load g.S.ForkStore c.args.memory.now c.args.files.now c.args.place c.args.loads c.match-own.own c.unwrap-row.result.now.resource.datum.length shown.0 (got g (goal.at.returns-in_err-handle-clause-step g c).After-make_place) (g.G.GrowZone.asks c.make_place.new.procedure) c.make_place.new.memory c.make_place.new.files c.make_place.ensures.forgotten c.make_place.ensures.shape step.0 step.1 _ (sym c.in_err-handle.was ∙ step.2))
 
 pub load_bytes-requires-clause-long : goal.load_bytes-requires-clause-long
 load_bytes-requires-clause-long g c =
     let shown = some-holds _ _ _ c.unwrap-row.ensures c.row.ensures.some in
-    let row = shown.2 in
-    let got : IsGot (state_of g.S.ForkStore.fork c.args.memory.now c.args.files.now) c.args.place c.args.loads c.match-own.own c.unwrap-row.result.now.resource.datum.length shown.0 = record {
-      here = shown.1;
-      same = (elim c.match-own.branch [ in-Some+else-serves w ↦ w.own-is ∙ sym w.in-Some.is | in_default w ↦ w.own-is ]) ∙ row.handle;
-      long = row.size;
-      needs = elim c.match-own.branch [ in-Some+else-serves w ↦ rw w.own-is (sym w.serves.ensures ∙ w.if-serves.false) | in_default w ↦ rw (w.own-is ∙ w.in_default.is) tt ];
-    } in
     let step = c.make_place.ensures.step in
-    long_then g.S.ForkStore c.args.memory.now c.args.files.now c.args.place c.args.loads c.match-own.own c.unwrap-row.result.now.resource.datum.length shown.0 got (g.G.GrowZone.asks c.make_place.new.procedure) c.make_place.new.memory c.make_place.new.files c.make_place.ensures.forgotten c.make_place.ensures.shape step.0 step.1
+    long_then g.S.ForkStore c.args.memory.now c.args.files.now c.args.place c.args.loads c.match-own.own c.unwrap-row.result.now.resource.datum.length shown.0 (got g (goal.at.load_bytes-requires-clause-long g c).After-make_place) (g.G.GrowZone.asks c.make_place.new.procedure) c.make_place.new.memory c.make_place.new.files c.make_place.ensures.forgotten c.make_place.ensures.shape step.0 step.1
 
 pub returns-in_err-load_bytes-clause-step : goal.returns-in_err-load_bytes-clause-step
 returns-in_err-load_bytes-clause-step g c =
     let shown = some-holds _ _ _ c.unwrap-row.ensures c.row.ensures.some in
-    let row = shown.2 in
-    let got : IsGot (state_of g.S.ForkStore.fork c.args.memory.now c.args.files.now) c.args.place c.args.loads c.match-own.own c.unwrap-row.result.now.resource.datum.length shown.0 = record {
-      here = shown.1;
-      same = (elim c.match-own.branch [ in-Some+else-serves w ↦ w.own-is ∙ sym w.in-Some.is | in_default w ↦ w.own-is ]) ∙ row.handle;
-      long = row.size;
-      needs = elim c.match-own.branch [ in-Some+else-serves w ↦ rw w.own-is (sym w.serves.ensures ∙ w.if-serves.false) | in_default w ↦ rw (w.own-is ∙ w.in_default.is) tt ];
-    } in
     let step = c.make_place.ensures.step in
     let ends = err_from_is_err_and c.from_residual-in_err-load_bytes.result c.from_residual-in_err-load_bytes.ensures.1 in
     let load = c.in_err-load_bytes.ensures in
-    rw (ends.1, ends.2, load.code) (failed_load g.S.ForkStore c.args.memory.now c.args.files.now c.args.place c.args.loads c.match-own.own c.unwrap-row.result.now.resource.datum.length shown.0 got (g.G.GrowZone.asks c.make_place.new.procedure) c.make_place.new.memory c.make_place.new.files c.make_place.ensures.forgotten c.make_place.ensures.shape step.0 step.1 c.in_ok-handle.handle (sym c.in_ok-handle.was ∙ step.2) c.load_bytes.new.memory c.load_bytes.new.files load.shape load.files (λ k h. (load.keeps k h).fork) load.loads load.count c.if-loads.true load.some
+    rw (ends.1, ends.2, load.code) (failed_load g.S.ForkStore c.args.memory.now c.args.files.now c.args.place c.args.loads c.match-own.own c.unwrap-row.result.now.resource.datum.length shown.0 (got g (goal.at.returns-in_err-load_bytes-clause-step g c).After-make_place) (g.G.GrowZone.asks c.make_place.new.procedure) c.make_place.new.memory c.make_place.new.files c.make_place.ensures.forgotten c.make_place.ensures.shape step.0 step.1 c.in_ok-handle.handle (sym c.in_ok-handle.was ∙ step.2) c.load_bytes.new.memory c.load_bytes.new.files load.shape load.files (λ k h. (load.keeps k h).fork) load.loads load.count c.if-loads.true load.some
     (load.undone ∙ ap (λ b. if b then with_emptied c.make_place.new.memory.heap c.in_ok-handle.handle else heap_released (DisposesHandle c.in_ok-handle.handle) c.make_place.new.memory.heap) c.is_some.ensures) load.cause)
 
 pub returns-in_err-load_bytes-clause-loans : goal.returns-in_err-load_bytes-clause-loans
@@ -67,21 +58,15 @@ pub returns-clause-step : goal.returns-clause-step
 returns-clause-step g c =
     let shown = some-holds _ _ _ c.unwrap-row.ensures c.row.ensures.some in
     let row = shown.2 in
-    let got : IsGot (state_of g.S.ForkStore.fork c.args.memory.now c.args.files.now) c.args.place c.args.loads c.match-own.own c.unwrap-row.result.now.resource.datum.length shown.0 = record {
-      here = shown.1;
-      same = (elim c.match-own.branch [ in-Some+else-serves w ↦ w.own-is ∙ sym w.in-Some.is | in_default w ↦ w.own-is ]) ∙ row.handle;
-      long = row.size;
-      needs = elim c.match-own.branch [ in-Some+else-serves w ↦ rw w.own-is (sym w.serves.ensures ∙ w.if-serves.false) | in_default w ↦ rw (w.own-is ∙ w.in_default.is) tt ];
-    } in
     let step = c.make_place.ensures.step in
     elim c.if-loads.branch [
-      | else-loads w ↦ rw w.memory-is (empty_load g.S.ForkStore c.args.memory.now c.args.files.now c.args.place c.args.loads c.match-own.own c.unwrap-row.result.now.resource.datum.length shown.0 got (g.G.GrowZone.asks c.make_place.new.procedure) c.make_place.new.memory c.make_place.new.files c.make_place.ensures.forgotten c.make_place.ensures.shape step.0 step.1 c.in_ok-handle.handle (sym c.in_ok-handle.was ∙ step.2) c.make_place.new.memory c.if-loads.files refl
+      | else-loads w ↦ rw w.memory-is (empty_load g.S.ForkStore c.args.memory.now c.args.files.now c.args.place c.args.loads c.match-own.own c.unwrap-row.result.now.resource.datum.length shown.0 (got g (goal.at.returns-clause-step g c).After-make_place) (g.G.GrowZone.asks c.make_place.new.procedure) c.make_place.new.memory c.make_place.new.files c.make_place.ensures.forgotten c.make_place.ensures.shape step.0 step.1 c.in_ok-handle.handle (sym c.in_ok-handle.was ∙ step.2) c.make_place.new.memory c.if-loads.files refl
           (subst (λ (f : FilesOn g.row.S.Denot). AnswersFor (HonestAt g.S.ForkStore.is_honest c.if-loads.files.stores) c.make_place.new.files.files f.files) (sym w.files-is) (λ known are. refl))
           (λ k honest. ap (λ (f : FilesOn g.row.S.Denot). fork_of g.S.ForkStore.fork k f.stores) w.files-is) (ap (λ (f : FilesOn g.row.S.Denot). f.loads) w.files-is) (ap (λ (f : FilesOn g.row.S.Denot). length f.stores) w.files-is)
           w.if-loads.false refl w.files-is c.attach.new.files c.attach.ensures.attached)
       | then-loads+in_ok-load_bytes w ↦
           let load = w.in_ok-load_bytes.ensures in
-          rw w.memory-is (given_load g.S.ForkStore c.args.memory.now c.args.files.now c.args.place c.args.loads c.match-own.own c.unwrap-row.result.now.resource.datum.length shown.0 got (g.G.GrowZone.asks c.make_place.new.procedure) c.make_place.new.memory c.make_place.new.files c.make_place.ensures.forgotten c.make_place.ensures.shape step.0 step.1 c.in_ok-handle.handle (sym c.in_ok-handle.was ∙ step.2) w.load_bytes.new.memory w.load_bytes.new.files load.shape load.files (λ k h. (load.keeps k h).fork) load.loads load.count
+          rw w.memory-is (given_load g.S.ForkStore c.args.memory.now c.args.files.now c.args.place c.args.loads c.match-own.own c.unwrap-row.result.now.resource.datum.length shown.0 (got g (goal.at.returns-clause-step g c).After-make_place) (g.G.GrowZone.asks c.make_place.new.procedure) c.make_place.new.memory c.make_place.new.files c.make_place.ensures.forgotten c.make_place.ensures.shape step.0 step.1 c.in_ok-handle.handle (sym c.in_ok-handle.was ∙ step.2) w.load_bytes.new.memory w.load_bytes.new.files load.shape load.files (λ k h. (load.keeps k h).fork) load.loads load.count
           c.unwrap-row.result.now.resource.attributes load.loaded.0 w.if-loads.true row.attributes load.loaded.1 load.loaded.2 load.cause c.attach.new.files
           (subst (λ (f : FilesOn g.row.S.Denot). IsSome (row_at c.args.place f.files) → c.attach.new.files ≡ record f { files = row_changed c.args.place (with_handle (Some c.in_ok-handle.handle)) f.files }) w.files-is c.attach.ensures.attached))
     ]

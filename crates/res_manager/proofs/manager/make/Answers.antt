@@ -1,4 +1,4 @@
-use Rattle.std.proofs.Common.{◌≡◌, ℕ, ℤ, List, Option, SFits, to_z, of_z, w64, Ok, rules, refl, ap, sym, subst, ◌∙◌}
+use Rattle.std.proofs.Common.{◌≡◌, ℕ, ℤ, List, Option, SFits, w64, Ok, rules, refl, ap, sym, subst, ◌∙◌}
 use Rattle.std.proofs.lemmas.Int.{to_z-of_z}
 use Rattle.mac_calls.specs.declared.resource_call.ResourceCall.TheVariants.{AddResource, GetResInfo}
 use Rattle.res_calls.specs.Files.{ResState}
@@ -14,8 +14,7 @@ use Rattle.res_manager.specs.Ends.{EndsTested}
 use Rattle.res_manager.specs.Steps.{ResourceSteps, state_of}
 use Rattle.res_manager.specs.Tests.{Tests, early_tests, late_tests}
 use Rattle.res_manager.proofs.CalmCalls.{IsIdle, getting_work, no_work}
-use Rattle.res_manager.proofs.Keeping.{kept_same}
-use Rattle.res_manager.proofs.LeavingForks.{idle_leaves}
+use Rattle.res_manager.proofs.LeavingForks.{idle_leaves, workless_leaves}
 use Rattle.res_manager.proofs.Stepping.{tested_steps, told_if_ok, told_steps}
 use Rattle.res_manager.proofs.manager.make.Goals as goal
 
@@ -37,12 +36,7 @@ returns-in-Looking-clause-step g c =
     told_steps S zone on call _ c.look.result c.requires.unasked (ap late_tests c.in-Looking.is) (ap (work_of state) c.in-Looking.is) (ap (λ (d : ResourceCall). quiet_state d state) c.in-Looking.is) passed value
 
 pub returns-in-Looking-clause-leaves : goal.returns-in-Looking-clause-leaves
-returns-in-Looking-clause-leaves g c =
-    let S = g.S.ForkStore in
-    let zone = c.args.memory.now in
-    let on = c.args.files.now in
-    let idle = subst (λ (d : ResourceCall). IsIdle (work_of (state_of S.fork zone on) d)) (sym c.in-Looking.is) no_work in
-    idle_leaves S zone zone on on c.args.call.now _ (kept_same S on.stores on.stores refl) idle
+returns-in-Looking-clause-leaves g c = workless_leaves g.S.ForkStore c.args.memory.now c.args.memory.now c.args.files.now c.args.files.now c.args.call.now _ _ c.in-Looking.is no_work refl
 
 pub returns-in-Changing-clause-step : goal.returns-in-Changing-clause-step
 returns-in-Changing-clause-step g c =
@@ -55,12 +49,7 @@ returns-in-Changing-clause-step g c =
     (tested_steps S zone c.change.new.memory on c.change.new.files c.args.call.now _ c.change.result c.requires.unasked (ap late_tests c.in-Changing.is) (ap (work_of state) c.in-Changing.is) c.change.ensures.stores ends)
 
 pub returns-in-Changing-clause-leaves : goal.returns-in-Changing-clause-leaves
-returns-in-Changing-clause-leaves g c =
-    let S = g.S.ForkStore in
-    let zone = c.args.memory.now in
-    let on = c.args.files.now in
-    let idle = subst (λ (d : ResourceCall). IsIdle (work_of (state_of S.fork zone on) d)) (sym c.in-Changing.is) no_work in
-    idle_leaves S zone c.change.new.memory on c.change.new.files c.args.call.now _ (kept_same S on.stores c.change.new.files.stores c.change.ensures.stores) idle
+returns-in-Changing-clause-leaves g c = workless_leaves g.S.ForkStore c.args.memory.now c.change.new.memory c.args.files.now c.change.new.files c.args.call.now _ _ c.in-Changing.is no_work c.change.ensures.stores
 
 pub returns-in_ok-add-in-AddResource-clause-step : goal.returns-in_ok-add-in-AddResource-clause-step
 returns-in_ok-add-in-AddResource-clause-step g c =
@@ -78,28 +67,10 @@ returns-in_ok-add-in-AddResource-clause-step g c =
     (tested_steps S zone c.add.new.memory on c.add.new.files c.args.call.now _ c.in_ok-add-in-AddResource.field-0 c.requires.unasked (ap late_tests c.in-AddResource.is) (ap (work_of state) c.in-AddResource.is) c.add.ensures.stores ends)
 
 pub returns-in_ok-add-in-AddResource-clause-leaves : goal.returns-in_ok-add-in-AddResource-clause-leaves
-returns-in_ok-add-in-AddResource-clause-leaves g c =
-    let S = g.S.ForkStore in
-    let zone = c.args.memory.now in
-    let on = c.args.files.now in
-    let idle = subst (λ (d : ResourceCall). IsIdle (work_of (state_of S.fork zone on) d)) (sym c.in-AddResource.is) no_work in
-    idle_leaves S zone c.add.new.memory on c.add.new.files c.args.call.now _ (kept_same S on.stores c.add.new.files.stores c.add.ensures.stores) idle
+returns-in_ok-add-in-AddResource-clause-leaves g c = workless_leaves g.S.ForkStore c.args.memory.now c.add.new.memory c.args.files.now c.add.new.files c.args.call.now _ _ c.in-AddResource.is no_work c.add.ensures.stores
 
 pub returns-in_err-add-in-AddResource-clause-leaves : goal.returns-in_err-add-in-AddResource-clause-leaves
-returns-in_err-add-in-AddResource-clause-leaves g c =
-    let S = g.S.ForkStore in
-    let zone = c.args.memory.now in
-    let on = c.args.files.now in
-    let idle = subst (λ (d : ResourceCall). IsIdle (work_of (state_of S.fork zone on) d)) (sym c.in-AddResource.is) no_work in
-    idle_leaves S zone c.add.new.memory on c.add.new.files c.args.call.now _ (kept_same S on.stores c.add.new.files.stores c.add.ensures.stores) idle
-
-pub returns-in-GetResInfo-clause-leaves : goal.returns-in-GetResInfo-clause-leaves
-returns-in-GetResInfo-clause-leaves g c =
-    let S = g.S.ForkStore in
-    let zone = c.args.memory.now in
-    let on = c.args.files.now in
-    let idle = subst (λ (d : ResourceCall). IsIdle (work_of (state_of S.fork zone on) d)) (sym c.in-GetResInfo.is) no_work in
-    idle_leaves S zone zone on on c.args.call.now _ (kept_same S on.stores on.stores refl) idle
+returns-in_err-add-in-AddResource-clause-leaves g c = workless_leaves g.S.ForkStore c.args.memory.now c.add.new.memory c.args.files.now c.add.new.files c.args.call.now _ _ c.in-AddResource.is no_work c.add.ensures.stores
 
 pub returns-in-GetResInfo-clause-step : goal.returns-in-GetResInfo-clause-step
 returns-in-GetResInfo-clause-step g c =
@@ -111,6 +82,9 @@ returns-in-GetResInfo-clause-step g c =
     let Q : ResourceCall → Type 0 = λ d. IfOk c.info.result (λ outcome. (state : ResState) → state.files ≡ on.files → IfOk outcome (λ results. results ≡ quiet_results state d)) in
     told_if_ok S zone on c.args.call.now _ c.info.result c.requires.unasked (ap late_tests c.in-GetResInfo.is) (ap (work_of state) c.in-GetResInfo.is) (ap (λ (d : ResourceCall). quiet_state d state) c.in-GetResInfo.is)
     (subst P (sym c.in-GetResInfo.is) c.info.ensures.passed) (subst Q (sym c.in-GetResInfo.is) c.info.ensures.value)
+
+pub returns-in-GetResInfo-clause-leaves : goal.returns-in-GetResInfo-clause-leaves
+returns-in-GetResInfo-clause-leaves g c = workless_leaves g.S.ForkStore c.args.memory.now c.args.memory.now c.args.files.now c.args.files.now c.args.call.now _ _ c.in-GetResInfo.is no_work refl
 
 pub returns-in-GetResInfo-clause-late : goal.returns-in-GetResInfo-clause-late
 returns-in-GetResInfo-clause-late g c =

@@ -13,8 +13,7 @@ use Rattle.res_update.specs.declared.selection.Selection.TheVariants.{RowAt}
 use Rattle.res_manager.specs.Ends.{WritesFile}
 use Rattle.res_manager.specs.Crash.{SavesFork}
 use Rattle.res_manager.specs.Patching.{live_alone, update_with}
-use Rattle.res_manager.proofs.LeavingForks.{saves_changed}
-use Rattle.res_manager.proofs.PatchedFiles.{faulted, found, if_alike, unwritten, updates_as, with_bytes, written_back}
+use Rattle.res_manager.proofs.PatchedFiles.{faulted, found, if_alike, saves_patched, unwritten, updates_as, with_bytes, written_back}
 use Rattle.res_manager.proofs.PatchedRows.{alone, there_still}
 use Rattle.res_manager.proofs.ReadingBack.{saved_update}
 use Rattle.res_manager.proofs.RowUpdates.{row_open}
@@ -40,37 +39,31 @@ pub returns-in-Ok-clause-writes : goal.returns-in-Ok-clause-writes
 returns-in-Ok-clause-writes g c = λ zone u is.
     let on = c.args.files.now in
     let f = found c.args.place c.args.handle on.files c.requires.there in
-    let t = c.alone-contents.result in
-    let holds = holds_so t c.args.handle c.args.bytes.now c.alone-contents.ensures in
     let rows = rw f.is at c.in-Ok.ensures.rows in
     let big = rw f.is at c.in-Ok.ensures.too_big in
     let row : c.attributes_at-attributes.ensures.0 ≡ f.row = cc (sym c.attributes_at-attributes.ensures.1 ∙ f.there) in
     let same = c.attributes_at-attributes.ensures.2 ∙ ap (λ (r : FileRow). r.resource.attributes) row in
     let P : FilesOn _ → Type 0 = λ after. WritesFile g.S.ForkStore zone on (Writing (UpdateResFile None)) u (Ok Nothing) zone after in
     subst P (sym c.set_attributes.ensures)
-    (written_back t c.args.handle c.args.bytes.now holds c.args.place g.S.ForkStore zone on c.update.new.self f u is c.update.ensures.loads c.update.ensures.count c.update.ensures.others c.attributes_at-attributes.result same
-    (true_unless (fits_fork (updated t (RowAt c.args.place.index) f.table)) (λ h. absurd (cc (big.1 h)))) rows (λ honest. rw f.is at ((c.in-Ok.ensures.updates honest).replaced)) c.in-Ok.ensures.none)
+    (written_back c.alone-contents.result c.args.handle c.args.bytes.now (holds_so _ _ _ c.alone-contents.ensures) c.args.place g.S.ForkStore zone on c.update.new.self f u is c.update.ensures.loads c.update.ensures.count c.update.ensures.others c.attributes_at-attributes.result same
+    (true_unless (fits_fork (updated c.alone-contents.result (RowAt c.args.place.index) f.table)) (λ h. absurd (cc (big.1 h)))) rows (λ honest. rw f.is at ((c.in-Ok.ensures.updates honest).replaced)) c.in-Ok.ensures.none)
 
 pub returns-in-Err-TooBig-clause-writes : goal.returns-in-Err-TooBig-clause-writes
 returns-in-Err-TooBig-clause-writes g c = λ zone u is.
     let on = c.args.files.now in
     let f = found c.args.place c.args.handle on.files c.requires.there in
-    let t = c.alone-contents.result in
-    let holds = holds_so t c.args.handle c.args.bytes.now c.alone-contents.ensures in
     let all = rw c.in-Err-TooBig.field-0-is at c.in-Err-TooBig.ensures in
     let big = rw f.is at all.too_big in
-    unwritten t c.args.handle c.args.bytes.now holds c.args.place g.S.ForkStore zone on c.update.new.self f u is c.update.ensures.loads c.update.ensures.count c.update.ensures.others (big.0 refl) (all.untouched refl)
+    unwritten c.alone-contents.result c.args.handle c.args.bytes.now (holds_so _ _ _ c.alone-contents.ensures) c.args.place g.S.ForkStore zone on c.update.new.self f u is c.update.ensures.loads c.update.ensures.count c.update.ensures.others (big.0 refl) (all.untouched refl)
 
 pub returns-in-Err-Device-clause-writes : goal.returns-in-Err-Device-clause-writes
 returns-in-Err-Device-clause-writes g c = λ zone u is.
     let on = c.args.files.now in
     let f = found c.args.place c.args.handle on.files c.requires.there in
-    let t = c.alone-contents.result in
-    let holds = holds_so t c.args.handle c.args.bytes.now c.alone-contents.ensures in
     let all = rw c.in-Err-Device.field-0-is at c.in-Err-Device.ensures in
     let big = rw f.is at all.too_big in
-    faulted t c.args.handle c.args.bytes.now holds c.args.place g.S.ForkStore zone on c.update.new.self f u is c.update.ensures.loads c.update.ensures.count c.update.ensures.others c.in-Err-Device.field-0-0
-    (true_unless (fits_fork (updated t (RowAt c.args.place.index) f.table)) (λ h. absurd (cc (big.1 h))))
+    faulted c.alone-contents.result c.args.handle c.args.bytes.now (holds_so _ _ _ c.alone-contents.ensures) c.args.place g.S.ForkStore zone on c.update.new.self f u is c.update.ensures.loads c.update.ensures.count c.update.ensures.others c.in-Err-Device.field-0-0
+    (true_unless (fits_fork (updated c.alone-contents.result (RowAt c.args.place.index) f.table)) (λ h. absurd (cc (big.1 h))))
     (λ is. all.before (ap (λ (f : ReplaceFault). Err (Device f)) is))
     (λ honest is. ((all.updates honest).before (ap (λ (f : ReplaceFault). Err (Device f)) is)).fork)
     (λ is. all.closed (ap (λ (f : ReplaceFault). Err (Device f)) is))
@@ -83,46 +76,24 @@ returns-in-Ok-clause-saves g c = λ zone.
     let on = c.args.files.now in
     let after = c.update.new.self in
     let p = c.args.place in
-    let f = found p c.args.handle on.files c.requires.there in
     let t = c.alone-contents.result in
     let holds = holds_so t c.args.handle c.args.bytes.now c.alone-contents.ensures in
-    let updates = λ (honest : HonestAt S.is_honest after.stores p.file). updates_as S p.file (updated t (RowAt p.index)) (with_bytes t c.args.handle c.args.bytes.now holds p) on.files on.stores after.stores _ (if_alike t c.args.handle c.args.bytes.now holds p on.files f) (c.update.ensures.updates honest) in
-    let done = λ (honest : HonestAt S.is_honest after.stores p.file). updates_as S p.file (updated t (RowAt p.index)) (with_bytes t c.args.handle c.args.bytes.now holds p) on.files on.stores after.stores _ (if_alike t c.args.handle c.args.bytes.now holds p on.files f) (c.in-Ok.ensures.updates honest) in
+    let alike = if_alike t c.args.handle c.args.bytes.now holds p on.files (found p c.args.handle on.files c.requires.there) in
+    let done = λ (honest : HonestAt S.is_honest after.stores p.file). updates_as S p.file (updated t (RowAt p.index)) (with_bytes t c.args.handle c.args.bytes.now holds p) on.files on.stores after.stores _ alike (c.in-Ok.ensures.updates honest) in
     let P : FilesOn _ → Type 0 = λ now. SavesFork S p.file (update_with c.args.bytes.now p on.files) on.stores zone now (Ok (Ok Nothing)) in
     subst P (sym c.set_attributes.ensures)
-    (saves_changed S zone p.file (with_bytes t c.args.handle c.args.bytes.now holds p) on.files on.stores _ _ _ (row_open p on.files (λ (r : FileRow). r.handle ≡ Some c.args.handle) c.requires.there) updates c.update.ensures.others
+    (saves_patched t c.args.handle c.args.bytes.now holds p S zone on _ _ _ c.requires.there c.update.ensures.updates c.update.ensures.others
     (λ journal h. (done h).settled journal)
     (saved_update (HonestAt S.is_honest after.stores) S.fork zone after p.file (with_bytes t c.args.handle c.args.bytes.now holds p) on.files (λ h. (done h).stands)))
 
 pub returns-in-Err-TooBig-clause-saves : goal.returns-in-Err-TooBig-clause-saves
 returns-in-Err-TooBig-clause-saves g c = λ zone.
-    let on = c.args.files.now in
-    let p = c.args.place in
-    let f = found p c.args.handle on.files c.requires.there in
-    let t = c.alone-contents.result in
-    let holds = holds_so t c.args.handle c.args.bytes.now c.alone-contents.ensures in
-    saves_changed g.S.ForkStore zone p.file (with_bytes t c.args.handle c.args.bytes.now holds p) on.files on.stores c.update.new.self _ _ (row_open p on.files (λ (r : FileRow). r.handle ≡ Some c.args.handle) c.requires.there)
-    (λ honest. updates_as g.S.ForkStore p.file (updated t (RowAt p.index)) (with_bytes t c.args.handle c.args.bytes.now holds p) on.files on.stores c.update.new.self.stores _ (if_alike t c.args.handle c.args.bytes.now holds p on.files f) (c.update.ensures.updates honest))
-    c.update.ensures.others tt tt
+    saves_patched c.alone-contents.result c.args.handle c.args.bytes.now (holds_so _ _ _ c.alone-contents.ensures) c.args.place g.S.ForkStore zone c.args.files.now c.update.new.self _ _ c.requires.there c.update.ensures.updates c.update.ensures.others tt tt
 
 pub returns-in-Err-HostFull-clause-saves : goal.returns-in-Err-HostFull-clause-saves
 returns-in-Err-HostFull-clause-saves g c = λ zone.
-    let on = c.args.files.now in
-    let p = c.args.place in
-    let f = found p c.args.handle on.files c.requires.there in
-    let t = c.alone-contents.result in
-    let holds = holds_so t c.args.handle c.args.bytes.now c.alone-contents.ensures in
-    saves_changed g.S.ForkStore zone p.file (with_bytes t c.args.handle c.args.bytes.now holds p) on.files on.stores c.update.new.self _ _ (row_open p on.files (λ (r : FileRow). r.handle ≡ Some c.args.handle) c.requires.there)
-    (λ honest. updates_as g.S.ForkStore p.file (updated t (RowAt p.index)) (with_bytes t c.args.handle c.args.bytes.now holds p) on.files on.stores c.update.new.self.stores _ (if_alike t c.args.handle c.args.bytes.now holds p on.files f) (c.update.ensures.updates honest))
-    c.update.ensures.others tt tt
+    saves_patched c.alone-contents.result c.args.handle c.args.bytes.now (holds_so _ _ _ c.alone-contents.ensures) c.args.place g.S.ForkStore zone c.args.files.now c.update.new.self _ _ c.requires.there c.update.ensures.updates c.update.ensures.others tt tt
 
 pub returns-in-Err-Device-clause-saves : goal.returns-in-Err-Device-clause-saves
 returns-in-Err-Device-clause-saves g c = λ zone.
-    let on = c.args.files.now in
-    let p = c.args.place in
-    let f = found p c.args.handle on.files c.requires.there in
-    let t = c.alone-contents.result in
-    let holds = holds_so t c.args.handle c.args.bytes.now c.alone-contents.ensures in
-    saves_changed g.S.ForkStore zone p.file (with_bytes t c.args.handle c.args.bytes.now holds p) on.files on.stores c.update.new.self _ _ (row_open p on.files (λ (r : FileRow). r.handle ≡ Some c.args.handle) c.requires.there)
-    (λ honest. updates_as g.S.ForkStore p.file (updated t (RowAt p.index)) (with_bytes t c.args.handle c.args.bytes.now holds p) on.files on.stores c.update.new.self.stores _ (if_alike t c.args.handle c.args.bytes.now holds p on.files f) (c.update.ensures.updates honest))
-    c.update.ensures.others tt tt
+    saves_patched c.alone-contents.result c.args.handle c.args.bytes.now (holds_so _ _ _ c.alone-contents.ensures) c.args.place g.S.ForkStore zone c.args.files.now c.update.new.self _ _ c.requires.there c.update.ensures.updates c.update.ensures.others tt tt

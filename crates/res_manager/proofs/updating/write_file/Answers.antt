@@ -1,43 +1,38 @@
 use Rattle.res_manager.proofs.LeavingForks.{saves_fork}
-use Rattle.std.proofs.Common.{◌≡◌, true, subst, sym, ap, refl, Ok, Err, Some, None}
+use Rattle.std.proofs.Common.{◌≡◌, subst, sym, ap, refl, Err, Some}
 use Rattle.mac_base.specs.HandleTable.{HandleTable}
 use Rattle.fork_disk.specs.declared.store.ReplaceFault.{ReplaceFault}
-use Rattle.mac_base.specs.declared.error.OsErr.TheVariants.{DskFulErr, IoErr}
 use Rattle.res_files.specs.FilesOn.{HonestAt}
-use Rattle.res_manager.specs.Ends.{WritesFile}
 use Rattle.res_manager.specs.Steps.{state_of}
 use Rattle.res_calls.specs.Steps.{IsSaved}
 use Rattle.res_update.specs.Selected.{updated}
 use Rattle.res_update.specs.declared.fault.UpdateFault.TheVariants.{Device}
-use Rattle.mac_calls.specs.declared.reply.Results.TheVariants.{Nothing}
-use Rattle.mac_calls.specs.declared.resource_call.ResourceCall.TheVariants.{Writing}
-use Rattle.mac_calls.specs.declared.resource_call.WritingCall.TheVariants.{UpdateResFile}
-use Rattle.res_calls.specs.Updates.{Update, fits_fork, update_of}
+use Rattle.res_calls.specs.Updates.{Update, update_of}
 use Rattle.res_manager.proofs.ReadingBack.{saved_update}
-use Rattle.res_manager.proofs.WritingFiles.{true_unless, update_found, writes_all, writes_faulted, writes_nothing}
+use Rattle.res_manager.proofs.WritingFiles.{UpdateOf, true_unless, update_found, writes_all, writes_faulted, writes_nothing}
 use Rattle.res_manager.proofs.updating.write_file.Goals as goal
+use Rattle.res_manager.proofs.updating.write_file.Goals.{After-zone-contents}
+
+-- the table that the file has, of which the update is
+table_found : (g : _) (c : After-zone-contents g) (u : Update) → update_of c.args.number (updated c.args.memory.now.heap.table c.args.selection) c.args.files.now.files ≡ Some u
+    → UpdateOf c.args.number (updated c.zone-contents.result c.args.selection) c.args.files.now.files u
+table_found g c u is =
+    let Q : HandleTable → Type 0 = λ table. update_of c.args.number (updated table c.args.selection) c.args.files.now.files ≡ Some u in
+    update_found c.args.number (updated c.zone-contents.result c.args.selection) c.args.files.now.files u (subst Q (sym c.zone-contents.ensures) is)
 
 pub returns-in-Ok-clause-written : goal.returns-in-Ok-clause-written
 returns-in-Ok-clause-written g c = λ u is.
-    let t = c.zone-contents.result in
-    let Q : HandleTable → Type 0 = λ table. update_of c.args.number (updated table c.args.selection) c.args.files.now.files ≡ Some u in
-    let f = update_found c.args.number (updated t c.args.selection) c.args.files.now.files u (subst Q (sym c.zone-contents.ensures) is) in
+    let f = table_found g (goal.at.returns-in-Ok-clause-written g c).After-zone-contents u is in
     let rows = rw f.there at c.in-Ok.ensures.rows in
     let big = rw f.there at c.in-Ok.ensures.too_big in
-    let v : Update = record { file = c.args.number; table = updated t c.args.selection f.table } in
-    let P : Update → Type 0 = λ w. WritesFile g.S.ForkStore c.args.memory.now c.args.files.now (Writing (UpdateResFile None)) w (Ok Nothing) c.args.memory.now c.update.new.self in
-    subst P f.is (writes_all g.S.ForkStore c.args.memory.now c.args.files.now c.update.new.self v c.update.ensures.loads c.update.ensures.count c.update.ensures.others (true_unless (fits_fork v.table) (λ h. absurd (cc (big.1 h)))) rows (λ honest. rw f.there at ((c.in-Ok.ensures.updates honest).replaced)) c.in-Ok.ensures.none)
+    rw (← f.is) (writes_all g.S.ForkStore c.args.memory.now c.args.files.now c.update.new.self _ c.update.ensures.loads c.update.ensures.count c.update.ensures.others (true_unless _ (λ h. absurd (cc (big.1 h)))) rows (λ honest. rw f.there at ((c.in-Ok.ensures.updates honest).replaced)) c.in-Ok.ensures.none)
 
 pub returns-in-Err-Device-clause-written : goal.returns-in-Err-Device-clause-written
 returns-in-Err-Device-clause-written g c = λ u is.
-    let t = c.zone-contents.result in
-    let Q : HandleTable → Type 0 = λ table. update_of c.args.number (updated table c.args.selection) c.args.files.now.files ≡ Some u in
-    let f = update_found c.args.number (updated t c.args.selection) c.args.files.now.files u (subst Q (sym c.zone-contents.ensures) is) in
+    let f = table_found g (goal.at.returns-in-Err-Device-clause-written g c).After-zone-contents u is in
     let all = rw c.in-Err-Device.field-0-is at c.in-Err-Device.ensures in
     let big = rw f.there at all.too_big in
-    let v : Update = record { file = c.args.number; table = updated t c.args.selection f.table } in
-    let P : Update → Type 0 = λ w. WritesFile g.S.ForkStore c.args.memory.now c.args.files.now (Writing (UpdateResFile None)) w (Err IoErr) c.args.memory.now c.update.new.self in
-    subst P f.is (writes_faulted g.S.ForkStore c.args.memory.now c.args.files.now c.update.new.self v c.update.ensures.loads c.update.ensures.count c.update.ensures.others c.in-Err-Device.field-0-0 (true_unless (fits_fork v.table) (λ h. absurd (cc (big.1 h))))
+    rw (← f.is) (writes_faulted g.S.ForkStore c.args.memory.now c.args.files.now c.update.new.self _ c.update.ensures.loads c.update.ensures.count c.update.ensures.others c.in-Err-Device.field-0-0 (true_unless _ (λ h. absurd (cc (big.1 h))))
     (λ is. all.before (ap (λ (f : ReplaceFault). Err (Device f)) is))
     (λ honest is. ((all.updates honest).before (ap (λ (f : ReplaceFault). Err (Device f)) is)).fork)
     (λ is. all.closed (ap (λ (f : ReplaceFault). Err (Device f)) is))
@@ -46,23 +41,18 @@ returns-in-Err-Device-clause-written g c = λ u is.
 
 pub returns-in-Err-TooBig-clause-written : goal.returns-in-Err-TooBig-clause-written
 returns-in-Err-TooBig-clause-written g c = λ u is.
-    let t = c.zone-contents.result in
-    let Q : HandleTable → Type 0 = λ table. update_of c.args.number (updated table c.args.selection) c.args.files.now.files ≡ Some u in
-    let f = update_found c.args.number (updated t c.args.selection) c.args.files.now.files u (subst Q (sym c.zone-contents.ensures) is) in
+    let f = table_found g (goal.at.returns-in-Err-TooBig-clause-written g c).After-zone-contents u is in
     let all = rw c.in-Err-TooBig.field-0-is at c.in-Err-TooBig.ensures in
     let big = rw f.there at all.too_big in
-    let v : Update = record { file = c.args.number; table = updated t c.args.selection f.table } in
-    let P : Update → Type 0 = λ w. WritesFile g.S.ForkStore c.args.memory.now c.args.files.now (Writing (UpdateResFile None)) w (Err DskFulErr) c.args.memory.now c.update.new.self in
-    subst P f.is (writes_nothing g.S.ForkStore c.args.memory.now c.args.files.now c.update.new.self v c.update.ensures.loads c.update.ensures.count c.update.ensures.others (big.0 refl) (all.untouched refl))
+    let v : Update = record { file = c.args.number; table = updated c.zone-contents.result c.args.selection f.table } in
+    rw (← f.is) (writes_nothing g.S.ForkStore c.args.memory.now c.args.files.now c.update.new.self v c.update.ensures.loads c.update.ensures.count c.update.ensures.others (big.0 refl) (all.untouched refl))
 
 pub returns-in-Err-HostFull-clause-fits : goal.returns-in-Err-HostFull-clause-fits
 returns-in-Err-HostFull-clause-fits g c = λ u is.
-    let t = c.zone-contents.result in
-    let Q : HandleTable → Type 0 = λ table. update_of c.args.number (updated table c.args.selection) c.args.files.now.files ≡ Some u in
-    let f = update_found c.args.number (updated t c.args.selection) c.args.files.now.files u (subst Q (sym c.zone-contents.ensures) is) in
+    let f = table_found g (goal.at.returns-in-Err-HostFull-clause-fits g c).After-zone-contents u is in
     let all = rw c.in-Err-HostFull.field-0-is at c.in-Err-HostFull.ensures in
     let big = rw f.there at all.too_big in
-    subst (λ (w : Update). fits_fork w.table ≡ true) f.is (true_unless (fits_fork (updated t c.args.selection f.table)) (λ h. absurd (cc (big.1 h))))
+    rw (← f.is) (true_unless _ (λ h. absurd (cc (big.1 h))))
 
 pub returns-in-Ok-clause-saves : goal.returns-in-Ok-clause-saves
 returns-in-Ok-clause-saves g c =

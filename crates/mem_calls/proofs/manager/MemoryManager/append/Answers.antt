@@ -1,4 +1,5 @@
-use Rattle.std.proofs.Common.{◌≡◌, ◌+◌, ◌++◌, length, take, Some, refl, ap, sym}
+use Rattle.std.proofs.Common.{◌≡◌, ◌+◌, ◌++◌, length, take, Some, refl, ap, sym, ◌∙◌}
+use Rattle.mac_base.specs.ZoneState.{ZoneState}
 use Rattle.mac_base.specs.HandleTable.{HandleTable, bytes_of, with_bytes}
 use Rattle.mac_base.specs.declared.request.Request.TheVariants.{Resize}
 use Rattle.mac_calls.specs.declared.memory_call.MemoryCall.TheVariants.{Append}
@@ -8,23 +9,17 @@ use Rattle.mem_calls.proofs.KeptLoans.{kept}
 use Rattle.mem_calls.proofs.Stepping.{exact-copied, done_ends, step-exact}
 use Rattle.mem_calls.proofs.manager.MemoryManager.append.Goals as goal
 
-pub returns-clause-exact : goal.returns-clause-exact
-returns-clause-exact g c =
+pub returns : goal.returns
+returns g c =
     let entry = c.self.inside.zone.heap.table in
     let h = c.args.handle in
     let bytes = c.args.bytes.now in
     let offset = c.length-length.result in
-    let long : offset ≡ length (bytes_of entry h) = rw c.number-block.ensures at c.length-length.ensures in
+    let long : offset ≡ length (bytes_of entry h) = rw c.number-block.ensures at rw c.linked.ensures.zone at c.length-length.ensures in
     let run = rw c.number-block.ensures at c.bring_behind.ensures.run in
-    exact-copied c.args.self.now c.self.inside.zone c.bring_behind.new.zone c.self.view_is c.bring_behind.ensures.sound (Append h bytes) c.in_ok-test_handle_for.ensures.tests
+    let exact = exact-copied c.args.self.now c.self.inside.zone c.bring_behind.new.zone c.self.view_is c.bring_behind.ensures.sound (Append h bytes) c.in_ok-test_handle_for.ensures.tests
     (Resize h (offset + length bytes)) (take offset (bytes_of entry h) ++ bytes) (g.G.GrowZone.asks c.bring_behind.new.procedure) run.0 (done_outcome c.bring_behind.result)
     (ap (λ k. Some (Resize h (k + length bytes))) (sym long))
     (λ x (t : HandleTable). ap (λ front. with_bytes h (front ++ bytes) t) (whole offset (bytes_of entry h) long))
-    run.2 (done_ends (Append h bytes) (λ x. refl) c.bring_behind.result run.0 run.1)
-
-pub returns-clause-step : goal.returns-clause-step
-returns-clause-step g c = step-exact c.args.self.now c.self.inside.zone c.bring_behind.new.zone c.self.view_is c.bring_behind.ensures.sound (Append c.args.handle c.args.bytes.now) c.in_ok-test_handle_for.ensures.tests
-    (g.G.GrowZone.asks c.bring_behind.new.procedure) (done_outcome c.bring_behind.result) (returns-clause-exact g c)
-
-pub returns-clause-loans : goal.returns-clause-loans
-returns-clause-loans g c = kept c.bring_behind.ensures.loans c.self.view_is
+    run.2 (done_ends (Append h bytes) (λ x. refl) c.bring_behind.result run.0 run.1) in
+    record { exact = exact; step = step-exact c.args.self.now c.self.inside.zone c.bring_behind.new.zone c.self.view_is c.bring_behind.ensures.sound (Append c.args.handle c.args.bytes.now) (g.G.GrowZone.asks c.bring_behind.new.procedure) (done_outcome c.bring_behind.result) exact; source = c.bring_behind.ensures.source; shape = c.bring_behind.ensures.shape ∙ ap (λ (z : ZoneState). z.shape) c.self.view_is; loans = kept c.bring_behind.ensures.loans c.self.view_is }

@@ -13,9 +13,7 @@ returns-clause-exact c =
     (Ok (Number c.compact.result)) refl (ap (λ (z : ZoneState). z.heap) c.compact.ensures.zone) (ap (λ n. Ok (Number n)) c.compact.ensures.largest)
 
 pub returns-clause-step : goal.returns-clause-step
-returns-clause-step c =
-    step-exact c.args.self.now c.self.inside.zone c.compact.new.self c.self.view_is c.first_block.ensures.sound (CompactMem c.args.size) (ap (λ o. option_or o None) c.in_ok-test_size.ensures)
-    [] (Ok (Number c.compact.result)) (returns-clause-exact c)
+returns-clause-step c = step-exact c.args.self.now c.self.inside.zone c.compact.new.self c.self.view_is c.first_block.ensures.sound (CompactMem c.args.size) [] (Ok (Number c.compact.result)) (returns-clause-exact c)
 
 pub returns-clause-loans : goal.returns-clause-loans
 returns-clause-loans c = kept c.compact.ensures.loans c.self.view_is

@@ -1,4 +1,5 @@
-use Rattle.std.proofs.Common.{◌≡◌, length, take, Some, refl, ap, sym}
+use Rattle.std.proofs.Common.{◌≡◌, length, take, Some, refl, ap, sym, ◌∙◌}
+use Rattle.mac_base.specs.ZoneState.{ZoneState}
 use Rattle.mac_base.specs.HandleTable.{HandleTable, bytes_of, with_bytes}
 use Rattle.mac_base.specs.declared.request.Request.TheVariants.{NewBlock}
 use Rattle.mac_calls.specs.declared.memory_call.MemoryCall.TheVariants.{HandToHand}
@@ -8,19 +9,13 @@ use Rattle.mem_calls.proofs.KeptLoans.{kept}
 use Rattle.mem_calls.proofs.Stepping.{exact-copied, handle_ends, step-exact}
 use Rattle.mem_calls.proofs.manager.MemoryManager.hand_to_hand.Goals as goal
 
-pub returns-clause-exact : goal.returns-clause-exact
-returns-clause-exact g c =
+pub returns : goal.returns
+returns g c =
     let entry = c.self.inside.zone.heap.table in
     let h = c.args.handle in
     let n = c.length-count.result in
-    let long : n ≡ length (bytes_of entry h) = rw c.number-block.ensures at c.length-count.ensures in
-    exact-copied c.args.self.now c.self.inside.zone c.copy_to_new.new.zone c.self.view_is c.copy_to_new.ensures.sound (HandToHand h) c.in_ok-test_full_here.ensures
+    let long : n ≡ length (bytes_of entry h) = rw c.number-block.ensures at rw c.linked.ensures.zone at c.length-count.ensures in
+    let exact = exact-copied c.args.self.now c.self.inside.zone c.copy_to_new.new.zone c.self.view_is c.copy_to_new.ensures.sound (HandToHand h) c.in_ok-test_full_here.ensures
     (NewBlock n) (take n (bytes_of entry h)) (g.G.GrowZone.asks c.copy_to_new.new.procedure) c.copy_to_new.result (handle_outcome c.copy_to_new.result) (ap (λ n. Some (NewBlock n)) (sym long))
-    (λ x (t : HandleTable). ap (λ bytes. with_bytes x bytes t) (whole n (bytes_of entry h) long)) (rw c.number-block.ensures at c.copy_to_new.ensures.run) (handle_ends (HandToHand h) (λ x. refl) c.copy_to_new.result)
-
-pub returns-clause-step : goal.returns-clause-step
-returns-clause-step g c = step-exact c.args.self.now c.self.inside.zone c.copy_to_new.new.zone c.self.view_is c.copy_to_new.ensures.sound (HandToHand c.args.handle) c.in_ok-test_full_here.ensures
-    (g.G.GrowZone.asks c.copy_to_new.new.procedure) (handle_outcome c.copy_to_new.result) (returns-clause-exact g c)
-
-pub returns-clause-loans : goal.returns-clause-loans
-returns-clause-loans g c = kept c.copy_to_new.ensures.loans c.self.view_is
+    (λ x (t : HandleTable). ap (λ bytes. with_bytes x bytes t) (whole n (bytes_of entry h) long)) (rw c.number-block.ensures at c.copy_to_new.ensures.run) (handle_ends (HandToHand h) (λ x. refl) c.copy_to_new.result) in
+    record { exact = exact; step = step-exact c.args.self.now c.self.inside.zone c.copy_to_new.new.zone c.self.view_is c.copy_to_new.ensures.sound (HandToHand c.args.handle) (g.G.GrowZone.asks c.copy_to_new.new.procedure) (handle_outcome c.copy_to_new.result) exact; source = c.copy_to_new.ensures.source; shape = c.copy_to_new.ensures.shape ∙ ap (λ (z : ZoneState). z.shape) c.self.view_is; loans = kept c.copy_to_new.ensures.loans c.self.view_is }

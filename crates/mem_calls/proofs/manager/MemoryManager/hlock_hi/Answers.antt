@@ -23,9 +23,7 @@ returns-clause-exact c =
     refl
 
 pub returns-clause-step : goal.returns-clause-step
-returns-clause-step c =
-    step-exact c.args.self.now c.self.inside.zone c.set_flags.new.self c.self.view_is c.first_block.ensures.sound (HLockHi c.args.handle) c.in_ok-flags.ensures.refusal
-    [] (Ok Nothing) (returns-clause-exact c)
+returns-clause-step c = step-exact c.args.self.now c.self.inside.zone c.set_flags.new.self c.self.view_is c.first_block.ensures.sound (HLockHi c.args.handle) [] (Ok Nothing) (returns-clause-exact c)
 
 pub returns-clause-loans : goal.returns-clause-loans
 returns-clause-loans c = kept (c.set_flags.ensures.loans.0 ∙ c.move_high.ensures.loans.0, λ x loan lent. c.set_flags.ensures.loans.1 x loan (c.move_high.ensures.loans.1 x loan lent)) c.self.view_is

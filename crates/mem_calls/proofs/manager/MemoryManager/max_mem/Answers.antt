@@ -24,8 +24,7 @@ returns-clause-exact c =
     ∙ ap (λ n. Ok (TwoNumbers (largest_free new.heap.map) n)) (c.growth_left.ensures ∙ ap (λ (s : Shape). s.limit - (zone_header + total_size new.heap.map)) shape))
 
 pub returns-clause-step : goal.returns-clause-step
-returns-clause-step c =
-    step-exact c.args.self.now c.self.inside.zone c.compact_all.new.self c.self.view_is c.first_block.ensures.sound MaxMem refl [] (Ok (TwoNumbers c.largest_free.result c.growth_left.result)) (returns-clause-exact c)
+returns-clause-step c = step-exact c.args.self.now c.self.inside.zone c.compact_all.new.self c.self.view_is c.first_block.ensures.sound MaxMem [] (Ok (TwoNumbers c.largest_free.result c.growth_left.result)) (returns-clause-exact c)
 
 pub returns-clause-loans : goal.returns-clause-loans
 returns-clause-loans c = kept (c.compact_all.ensures.loans.0 ∙ c.purge_all.ensures.loans.0, λ x loan lent. c.compact_all.ensures.loans.1 x loan (c.purge_all.ensures.loans.1 x loan lent)) c.self.view_is

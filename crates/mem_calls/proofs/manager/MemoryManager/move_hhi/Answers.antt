@@ -12,9 +12,7 @@ returns-clause-exact c =
     (Ok Nothing) refl (ap (λ (z : ZoneState). z.heap) c.move_high.ensures.zone) refl
 
 pub returns-clause-step : goal.returns-clause-step
-returns-clause-step c =
-    step-exact c.args.self.now c.self.inside.zone c.move_high.new.self c.self.view_is c.first_block.ensures.sound (MoveHHi c.args.handle) c.in_ok-test_movable.ensures.refusal
-    [] (Ok Nothing) (returns-clause-exact c)
+returns-clause-step c = step-exact c.args.self.now c.self.inside.zone c.move_high.new.self c.self.view_is c.first_block.ensures.sound (MoveHHi c.args.handle) [] (Ok Nothing) (returns-clause-exact c)
 
 pub returns-clause-loans : goal.returns-clause-loans
 returns-clause-loans c = kept c.move_high.ensures.loans c.self.view_is

@@ -1,4 +1,5 @@
 use Rattle.std.proofs.Common.{refl, ap, ◌∙◌, None}
+use Rattle.mac_base.specs.ZoneState.{ZoneState}
 use Rattle.std.specs.Option.{option_or}
 use Rattle.mac_calls.specs.declared.memory_call.MemoryCall.TheVariants.{NewHandle}
 use Rattle.mac_base.specs.declared.request.Request.TheVariants.{NewBlock}
@@ -7,16 +8,9 @@ use Rattle.mem_calls.proofs.KeptLoans.{kept}
 use Rattle.mem_calls.proofs.Stepping.{exact-requested, step-exact, handle_ends, mapped}
 use Rattle.mem_calls.proofs.manager.MemoryManager.new_handle.Goals as goal
 
-pub returns-clause-exact : goal.returns-clause-exact
-returns-clause-exact g c =
-    exact-requested c.args.self.now c.self.inside.zone c.request.new.zone c.self.view_is c.request.ensures.sound (NewHandle c.args.size) (ap (λ o. option_or o None) c.in_ok-test_size.ensures)
+pub returns : goal.returns
+returns g c =
+    let exact = exact-requested c.args.self.now c.self.inside.zone c.request.new.zone c.self.view_is c.request.ensures.sound (NewHandle c.args.size) (ap (λ o. option_or o None) c.in_ok-test_size.ensures)
     (NewBlock c.args.size) (g.G.GrowZone.asks c.request.new.procedure) c.request.result (handle_outcome c.map.result) refl (λ x t. refl) c.request.ensures.run
-    (ap handle_outcome (mapped c.request.result c.map.result c.map.ensures.cases) ∙ handle_ends (NewHandle c.args.size) (λ x. refl) c.request.result)
-
-pub returns-clause-step : goal.returns-clause-step
-returns-clause-step g c =
-    step-exact c.args.self.now c.self.inside.zone c.request.new.zone c.self.view_is c.request.ensures.sound (NewHandle c.args.size) (ap (λ o. option_or o None) c.in_ok-test_size.ensures)
-    (g.G.GrowZone.asks c.request.new.procedure) (handle_outcome c.map.result) (returns-clause-exact g c)
-
-pub returns-clause-loans : goal.returns-clause-loans
-returns-clause-loans g c = kept c.request.ensures.loans c.self.view_is
+    (ap handle_outcome (mapped c.request.result c.map.result c.map.ensures.cases) ∙ handle_ends (NewHandle c.args.size) (λ x. refl) c.request.result) in
+    record { exact = exact; step = step-exact c.args.self.now c.self.inside.zone c.request.new.zone c.self.view_is c.request.ensures.sound (NewHandle c.args.size) (g.G.GrowZone.asks c.request.new.procedure) (handle_outcome c.map.result) exact; source = c.request.ensures.source; shape = c.request.ensures.shape ∙ ap (λ (z : ZoneState). z.shape) c.self.view_is; loans = kept c.request.ensures.loans c.self.view_is }

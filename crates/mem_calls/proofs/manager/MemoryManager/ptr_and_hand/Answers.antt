@@ -1,4 +1,5 @@
-use Rattle.std.proofs.Common.{◌≡◌, ◌+◌, ◌++◌, length, take, Some, refl, ap, sym}
+use Rattle.std.proofs.Common.{◌≡◌, ◌+◌, ◌++◌, length, take, Some, refl, ap, sym, ◌∙◌}
+use Rattle.mac_base.specs.ZoneState.{ZoneState}
 use Rattle.mac_base.specs.HandleTable.{HandleTable, bytes_of, with_bytes}
 use Rattle.mac_base.specs.declared.request.Request.TheVariants.{Resize}
 use Rattle.mac_calls.specs.declared.memory_call.MemoryCall.TheVariants.{PtrAndHand}
@@ -8,25 +9,19 @@ use Rattle.mem_calls.proofs.KeptLoans.{kept}
 use Rattle.mem_calls.proofs.Stepping.{exact-copied, done_ends, step-exact}
 use Rattle.mem_calls.proofs.manager.MemoryManager.ptr_and_hand.Goals as goal
 
-pub returns-clause-exact : goal.returns-clause-exact
-returns-clause-exact g c =
+pub returns : goal.returns
+returns g c =
     let entry = c.self.inside.zone.heap.table in
     let p = c.args.pointer in
     let h = c.args.handle in
     let n = c.args.count in
     let offset = c.length-length.result in
-    let long : offset ≡ length (bytes_of entry h) = rw c.number-to.ensures at c.length-length.ensures in
+    let long : offset ≡ length (bytes_of entry h) = rw c.number-to.ensures at rw c.linked.ensures.zone at c.length-length.ensures in
     let run = rw c.number-from.ensures at rw c.number-to.ensures at c.copy_behind.ensures.run in
-    exact-copied c.args.self.now c.self.inside.zone c.copy_behind.new.zone c.self.view_is c.copy_behind.ensures.sound (PtrAndHand c.args.pointer c.args.handle c.args.count)
+    let exact = exact-copied c.args.self.now c.self.inside.zone c.copy_behind.new.zone c.self.view_is c.copy_behind.ensures.sound (PtrAndHand c.args.pointer c.args.handle c.args.count)
     c.in_ok-test_pointer_for.ensures
     (Resize h (offset + n)) (take offset (bytes_of entry h) ++ take n (bytes_of entry p)) (g.G.GrowZone.asks c.copy_behind.new.procedure) run.0 (done_outcome c.copy_behind.result)
     (ap (λ k. Some (Resize h (k + n))) (sym long))
     (λ x (t : HandleTable). ap (λ bytes. with_bytes h (bytes ++ take n (bytes_of entry p)) t) (whole offset (bytes_of entry h) long))
-    run.2 (done_ends (PtrAndHand c.args.pointer c.args.handle c.args.count) (λ x. refl) c.copy_behind.result run.0 run.1)
-
-pub returns-clause-step : goal.returns-clause-step
-returns-clause-step g c = step-exact c.args.self.now c.self.inside.zone c.copy_behind.new.zone c.self.view_is c.copy_behind.ensures.sound (PtrAndHand c.args.pointer c.args.handle c.args.count)
-    c.in_ok-test_pointer_for.ensures (g.G.GrowZone.asks c.copy_behind.new.procedure) (done_outcome c.copy_behind.result) (returns-clause-exact g c)
-
-pub returns-clause-loans : goal.returns-clause-loans
-returns-clause-loans g c = kept c.copy_behind.ensures.loans c.self.view_is
+    run.2 (done_ends (PtrAndHand c.args.pointer c.args.handle c.args.count) (λ x. refl) c.copy_behind.result run.0 run.1) in
+    record { exact = exact; step = step-exact c.args.self.now c.self.inside.zone c.copy_behind.new.zone c.self.view_is c.copy_behind.ensures.sound (PtrAndHand c.args.pointer c.args.handle c.args.count) (g.G.GrowZone.asks c.copy_behind.new.procedure) (done_outcome c.copy_behind.result) exact; source = c.copy_behind.ensures.source; shape = c.copy_behind.ensures.shape ∙ ap (λ (z : ZoneState). z.shape) c.self.view_is; loans = kept c.copy_behind.ensures.loans c.self.view_is }

@@ -14,9 +14,7 @@ returns-then-not-purge_to-clause-exact c =
     (Err MemFullErr) refl (ap (λ (z : ZoneState). z.heap) c.purge_to.ensures.zone) (sym (ap (λ b. cond b (Ok Nothing) (Err MemFullErr)) (sym c.purge_to.ensures.enough ∙ c.if-not-purge_to.true)))
 
 pub returns-then-not-purge_to-clause-step : goal.returns-then-not-purge_to-clause-step
-returns-then-not-purge_to-clause-step c =
-    step-exact c.args.self.now c.self.inside.zone c.purge_to.new.self c.self.view_is c.first_block.ensures.sound (PurgeMem c.args.size) (ap (λ o. option_or o None) c.in_ok-test_size.ensures)
-    [] (Err MemFullErr) (returns-then-not-purge_to-clause-exact c)
+returns-then-not-purge_to-clause-step c = step-exact c.args.self.now c.self.inside.zone c.purge_to.new.self c.self.view_is c.first_block.ensures.sound (PurgeMem c.args.size) [] (Err MemFullErr) (returns-then-not-purge_to-clause-exact c)
 
 pub returns-then-not-purge_to-clause-loans : goal.returns-then-not-purge_to-clause-loans
 returns-then-not-purge_to-clause-loans c = kept c.purge_to.ensures.loans c.self.view_is
@@ -27,9 +25,7 @@ returns-clause-exact c =
     (Ok Nothing) refl (ap (λ (z : ZoneState). z.heap) c.purge_to.ensures.zone) (sym (ap (λ b. cond b (Ok Nothing) (Err MemFullErr)) (sym c.purge_to.ensures.enough ∙ c.if-not-purge_to.false)))
 
 pub returns-clause-step : goal.returns-clause-step
-returns-clause-step c =
-    step-exact c.args.self.now c.self.inside.zone c.purge_to.new.self c.self.view_is c.first_block.ensures.sound (PurgeMem c.args.size) (ap (λ o. option_or o None) c.in_ok-test_size.ensures)
-    [] (Ok Nothing) (returns-clause-exact c)
+returns-clause-step c = step-exact c.args.self.now c.self.inside.zone c.purge_to.new.self c.self.view_is c.first_block.ensures.sound (PurgeMem c.args.size) [] (Ok Nothing) (returns-clause-exact c)
 
 pub returns-clause-loans : goal.returns-clause-loans
 returns-clause-loans c = kept c.purge_to.ensures.loans c.self.view_is

@@ -1,21 +1,18 @@
 use Rattle.std.proofs.Common.{List, ℕ, length, map, sym, ap, ◌∙◌, arith}
 use Rattle.res_table.specs.declared.chain.OpenFile.{OpenFile}
-use Rattle.res_table.specs.AllFiles.{all_rows, all_types}
+use Rattle.res_table.specs.AllFiles.{all_types}
 use Rattle.res_table.proofs.AllFiles.{all_types_few}
-use Rattle.res_files.proofs.AllMapped.{all_types-mapped, few_open}
+use Rattle.res_files.proofs.AllMapped.{all_types-mapped, few_read}
 use Rattle.res_files.proofs.On.{bytes_in, asked}
 use Rattle.res_files.proofs.files.ResourceFiles.count_types_in_all.Goals as goal
 
 pub count_types-requires : goal.count_types-requires
-count_types-requires g c =
-    let few = (few_open g.S.ForkStore.fork g.S.ForkStore.is_ready g.S.ForkStore.is_honest c.self.inside.stores.items c.self.inside.chain c.self.invariant).1 in
-    let same = ap (λ (files : List (OpenFile _)). length (all_rows files)) c.files.ensures in omega (arith, few, same)
+count_types-requires g c = omega (arith, few_read g.S.ForkStore.fork g.S.ForkStore.is_ready g.S.ForkStore.is_honest c.self.inside.stores.items c.self.inside.chain c.self.invariant c.files.result.now c.files.ensures)
 
 pub overflow_cast-result : goal.overflow_cast-result
 overflow_cast-result g c =
-    let few = (few_open g.S.ForkStore.fork g.S.ForkStore.is_ready g.S.ForkStore.is_honest c.self.inside.stores.items c.self.inside.chain c.self.invariant).1 in
-    let same = ap (λ (files : List (OpenFile _)). length (all_rows files)) c.files.ensures in
-    let is = c.count_types.ensures in let less = all_types_few c.files.result.now in omega (arith, few, same, is, less)
+    let less = all_types_few c.files.result.now in
+    omega (arith, few_read g.S.ForkStore.fork g.S.ForkStore.is_ready g.S.ForkStore.is_honest c.self.inside.stores.items c.self.inside.chain c.self.invariant c.files.result.now c.files.ensures, c.count_types.ensures, less)
 
 pub returns : goal.returns
 returns g c =

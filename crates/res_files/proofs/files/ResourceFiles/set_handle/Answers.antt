@@ -1,25 +1,14 @@
-use Rattle.std.proofs.Common.{refl, sym, subst, map}
-use Rattle.fork_reader.specs.declared.place.Place.{Place}
-use Rattle.res_table.specs.OpenFiles.{OpenFiles, rows_changed}
-use Rattle.res_table.specs.Rows.{changed_at, with_handle}
-use Rattle.res_files.proofs.Mapped.{changed_at-mapped, rows_changed-mapped}
-use Rattle.res_files.proofs.Stands.{keeps_changed_at, stand_changed}
-use Rattle.res_calls.specs.Changes.{row_changed}
-use Rattle.res_files.specs.Standing.{StandOn}
-use Rattle.res_files.proofs.On.{bytes_in, row_there, changed}
+use Rattle.std.proofs.Common.{refl}
+use Rattle.res_table.specs.Rows.{with_handle}
+use Rattle.res_files.proofs.On.{changed_row, row_there}
+use Rattle.res_files.proofs.Stands.{stand_row_changed}
 use Rattle.res_files.proofs.files.ResourceFiles.set_handle.Goals as goal
 
 pub set_handle-requires : goal.set_handle-requires
 set_handle-requires g c = row_there g.S.ForkStore.fork c.self.inside.chain c.self.inside.loads c.self.inside.stores.items c.args.self.now c.self.view_is c.args.place c.requires
 
 pub invariant_of-self : goal.invariant_of-self
-invariant_of-self g c =
-    subst (λ (chain : OpenFiles Place). StandOn g.S.ForkStore.fork g.S.ForkStore.is_ready g.S.ForkStore.is_honest c.self.inside.stores.items chain) (sym c.set_handle.ensures)
-    (stand_changed g.S.ForkStore.fork g.S.ForkStore.is_ready g.S.ForkStore.is_honest c.self.inside.stores.items c.args.place.file (changed_at c.args.place.index (with_handle c.args.handle)) c.self.inside.chain
-    (keeps_changed_at c.args.place.index (with_handle c.args.handle) (λ r. refl) (λ r. refl)) c.self.invariant)
+invariant_of-self g c = stand_row_changed g.S.ForkStore.fork g.S.ForkStore.is_ready g.S.ForkStore.is_honest c.self.inside.stores.items c.args.place.file c.args.place.index (with_handle c.args.handle) c.self.inside.chain c.set_handle.new.self c.set_handle.ensures (λ r. refl) (λ r. refl) c.self.invariant
 
 pub returns : goal.returns
-returns g c =
-    changed g.S.ForkStore.fork c.self.inside.chain c.self.inside.loads c.self.inside.stores.items c.args.self.now c.self.view_is c.set_handle.new.self (row_changed c.args.place (with_handle c.args.handle)) (rows_changed c.args.place.file (changed_at c.args.place.index (with_handle c.args.handle))) c.set_handle.ensures
-    (rows_changed-mapped (bytes_in (map g.S.ForkStore.fork c.self.inside.stores.items)) c.args.place.file (changed_at c.args.place.index (with_handle c.args.handle)) (changed_at c.args.place.index (with_handle c.args.handle))
-    (λ rows. changed_at-mapped ((bytes_in (map g.S.ForkStore.fork c.self.inside.stores.items)) c.args.place.file) c.args.place.index (with_handle c.args.handle) (with_handle c.args.handle) (λ r. refl) rows) c.self.inside.chain)
+returns g c = changed_row g.S.ForkStore.fork c.self.inside.chain c.self.inside.loads c.self.inside.stores.items c.args.self.now c.self.view_is c.set_handle.new.self c.args.place (with_handle c.args.handle) (with_handle c.args.handle) (λ f r. refl) c.set_handle.ensures

@@ -13,15 +13,9 @@ invariant_of-self g c =
     let long = ap (λ (rs : List (Row _)). length rs) c.self.view_is in
     let within : c.args.index < length rows = subst (λ (n : ℕ). c.args.index < n) (sym long) c.requires in
     let rest = rest_kept c.args.index c.index_mut.result.now c.self.inside.rows.items c.args.self.now c.self.view_is c.requires c.index_mut.ensures.value new _ _ _ refl refl refl (λ told. told) c.self.invariant.2 c.self.invariant.3 c.self.invariant.4 c.self.invariant.5 in
-    let all = kept c.args.index r new rows pairs c.self.inside.handles.room c.index_mut.ensures.value refl (c.self.invariant.0, c.self.invariant.1) in (
-      all.0,
-      all.1,
-      rest.0,
-      rest.1,
-      rest.2,
-      rest.3,
-      handles_set c.args.index new c.index.result.now rows c.self.inside.changed.items c.changed_handle.result within c.index.ensures c.self.invariant.6 c.changed_handle.ensures,
-    )
+    let all = kept c.args.index r new rows pairs c.self.inside.handles.room c.index_mut.ensures.value refl (c.self.invariant.0, c.self.invariant.1) in
+    let handles = handles_set c.args.index new c.index.result.now rows c.self.inside.changed.items c.changed_handle.result within c.index.ensures c.self.invariant.6 c.changed_handle.ensures in
+    (all.0, all.1, rest.0, rest.1, rest.2, rest.3, handles)
 
 pub returns : goal.returns
 returns g c = row_changed c.args.index c.index_mut.result.now c.self.inside.rows.items c.args.self.now c.self.view_is c.requires c.index_mut.ensures.value (with_attributes c.args.attributes)

@@ -1,10 +1,10 @@
 use Rattle.std.proofs.Common.{[], List, refl, sym, ap, subst, ◌∙◌}
-use Rattle.mac_base.specs.ZoneState.{ZoneState}
+use Rattle.mac_base.specs.ZoneState.{ZoneState, with_heap}
 use Rattle.mac_calls.specs.Loans.{all_returned}
 use Rattle.held_calls.specs.Holding.{Holds, loans_of}
 use Rattle.held_calls.specs.declared.loans.Held.{Held}
 use Rattle.held_calls.proofs.Holding.{Holds-returned, nothing_lent}
-use Rattle.held_calls.proofs.lending.finish.Goals as goal
+use Rattle.held_calls.proofs.lending.take_all_back.Goals as goal
 
 pub loop-block-preserved : goal.loop-block-preserved
 loop-block-preserved c =
@@ -13,8 +13,8 @@ loop-block-preserved c =
     let old = c.loop-block.memory in
     let new = c.give_back.new.self in record {
       holds = Holds-returned old new held.block c.loop-block.loans held.loan rest (record { before = []; behind = rest; was = c.in-Some.ensures.first; is = refl; first = refl }) c.give_back.ensures.zone c.give_back.ensures.loans c.loop-block.invariant.holds;
-      heap = ap (λ (z : ZoneState). all_returned (loans_of rest) z.heap) c.give_back.ensures.zone ∙ sym (ap (λ (hs : List Held). all_returned (loans_of hs) old.heap) c.in-Some.ensures.first) ∙ c.loop-block.invariant.heap;
-      shape = ap (λ (z : ZoneState). z.shape) c.give_back.ensures.zone ∙ c.loop-block.invariant.shape;
+      zone = ap (λ (z : ZoneState). with_heap (all_returned (loans_of rest) z.heap) z) c.give_back.ensures.zone
+          ∙ sym (ap (λ (hs : List Held). with_heap (all_returned (loans_of hs) old.heap) old) c.in-Some.ensures.first) ∙ c.loop-block.invariant.zone;
     }
 
 pub returns-clause-nothing_lent : goal.returns-clause-nothing_lent
