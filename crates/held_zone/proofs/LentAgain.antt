@@ -207,7 +207,8 @@ pub blocks-lent : (held : List Held) → holding.blocks_of held ≡ map (λ loan
 blocks-lent [] = refl
 blocks-lent (h ∷ hs) = ap (λ (xs : List ℕ). h.block ∷ xs) (blocks-lent hs)
 
-held-there : (x : ℕ) (held : List Held) → there (map (λ loan. loan.0) (loans_of held)) x ≡ is_held x held
+-- just those are among them whose loan is held
+pub held-there : (x : ℕ) (held : List Held) → there (map (λ loan. loan.0) (loans_of held)) x ≡ is_held x held
 held-there x [] = refl
 held-there x (h ∷ hs) = ap (λ b. (h.block == x) || b) (held-there x hs)
 

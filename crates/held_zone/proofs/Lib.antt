@@ -1,3 +1,4 @@
+pub mod AsBefore
 pub mod Filled
 pub mod Lendable
 pub mod LentAgain

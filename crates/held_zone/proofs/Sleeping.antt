@@ -1,21 +1,18 @@
 -- What is held of a zone that sleeps: nothing.
-use Rattle.std.proofs.Common.{◌≡◌, ◌∙◌, ℕ, ◌==◌, Bool, true, false, ◌||◌, List, [], ◌∷◌, map, refl, sym, ap, arith}
-use Rattle.std.proofs.lemmas.Bool.Decides.{nat_tests}
+use Rattle.std.proofs.Common.{◌≡◌, ◌∙◌, ℕ, ◌==◌, Bool, true, false, ◌||◌, List, [], ◌∷◌, map, refl, sym, ap}
 use Rattle.std.specs.List.{list_any}
 use Rattle.mac_base.specs.HandleTable.{is_lent}
 use Rattle.mac_base.specs.ZoneState.{ZoneState}
+use Rattle.zone_laws.proofs.Tables.{eqb_same}
 use Rattle.held_calls.specs.declared.loans.Held.{Held}
 use Rattle.held_calls.specs.Holding.{Holds, is_held}
 use Rattle.raw_region.specs.State.{State as Region}
-use Rattle.held_zone.specs.Asleep.{FallsAsleep, IsInRegion, all_back, awake_in, new_loans, with_these_lent}
+use Rattle.held_zone.specs.Asleep.{FallsAsleep, all_back, awake_in, new_loans, with_these_lent}
 use Rattle.held_zone.specs.State.{State}
 
-same_number : (n : ℕ) → (n == n) ≡ true
-same_number n = grind (arith, nat_tests)
-
 -- the block of the first that is held is lent
-first_is_held : (h : Held) (hs : List Held) → is_held h.block (h ∷ hs) ≡ true
-first_is_held h hs = ap (λ (b : Bool). b || is_held h.block hs) (same_number h.block)
+pub first_is_held : (h : Held) (hs : List Held) → is_held h.block (h ∷ hs) ≡ true
+first_is_held h hs = ap (λ (b : Bool). b || is_held h.block hs) (eqb_same h.block)
 
 -- where nothing is lent, nothing is held
 pub nothing_held : (zone : ZoneState) (held : List Held) → zone.heap.table.lent ≡ [] → Holds zone held → held ≡ []
@@ -32,10 +29,10 @@ lent_again s =
     let heap = (all_back s).zone.heap in
     record s { zone = record s.zone { heap = with_these_lent blocks heap }; loans = new_loans heap.table blocks; waiting = [] }
 
--- a zone that falls asleep and wakes in the same bytes is as it was, and what was lent is lent again with the bytes that C left
-pub as_it_was : (old : State) (r : Region) (new : State) → FallsAsleep old r new → IsInRegion (all_back old) r → awake_in r new ≡ lent_again old
-as_it_was old r new falls inside = λ i. record {
-  zone = record (falls.as_before i) { memory = record { region = sym inside.memory i; kept = sym falls.kept i }; heap = with_these_lent (falls.waiting i) (falls.as_before i).heap };
+-- a zone that falls asleep and wakes in the same bytes is as it was, once what was lent came back and was lent again
+pub as_it_was : (old : State) (r : Region) (new : State) → FallsAsleep old r new → r.name ≡ old.zone.memory.region → awake_in r new ≡ lent_again old
+as_it_was old r new falls place = λ i. record {
+  zone = record (falls.as_before i) { memory = record { region = place i; kept = sym falls.kept i }; heap = with_these_lent (falls.waiting i) (falls.as_before i).heap };
   loans = new_loans (falls.as_before i).heap.table (falls.waiting i);
   left = falls.left i;
   asks = falls.asks i;

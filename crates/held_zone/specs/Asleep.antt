@@ -3,7 +3,7 @@ use Rattle.std.specs.Prelude.{◌≡◌, ◌==◌, ◌≤◌, ℕ, Bool, true, �
 use Rattle.std.specs.List.{list_all, list_any}
 use Rattle.mac_base.specs.declared.error.OsErr.{OsErr}
 use Rattle.mac_base.specs.declared.error.OsErr.TheVariants.{ParamErr}
-use Rattle.mac_base.specs.HandleTable.{HandleTable, bytes_of}
+use Rattle.mac_base.specs.HandleTable.{HandleTable, bytes_of, with_bytes}
 use Rattle.mac_base.specs.Heap.{Heap, with_table}
 use Rattle.mac_base.specs.Loans.{most_loans, owners, with_lent}
 use Rattle.mac_base.specs.ZoneMap.{is_named, sizes}
@@ -96,6 +96,21 @@ pub record FallsAsleep (old : State) (r : Region) (new : State) : Type 0 where
   pub left : new.left ≡ old.left
   pub asks : new.asks ≡ old.asks
   pub asleep : IsAsleep new
+
+-- the table in which lent blocks have the bytes of their loans. They are lent still
+abbrev pub with_loans : Loans → HandleTable → HandleTable
+with_loans [] t = t
+with_loans (loan ∷ loans) t = with_loans loans (with_bytes loan.0 loan.1 t)
+
+-- the state in which each lent block has the bytes that C has of it. All else is as it is
+abbrev pub as_left : State → State
+as_left s = record s { zone = with_heap (with_table (with_loans s.loans s.zone.heap.table) s.zone.heap) s.zone }
+
+-- a zone that fell asleep wakes in the bytes that it left, and nothing refuses it there: what waits may be lent. It is as it
+-- was then, with the same blocks lent in the same order, and with the bytes that C left in them
+pub record WakesAsBefore (old : State) (r : Region) (new : State) : Type 0 where
+  pub may : IsTrue (all_lendable new r.bytes)
+  pub awake : awake_in r new ≡ as_left old
 
 -- a region has the structure of a zone, with the zone's flags, and is the one that was given: all other bytes are as they
 -- were, and so are the contents that they have for handles and pointers

@@ -1,33 +1,19 @@
-//! Loans of a zone that falls asleep and wakes: what is lent comes back, and is lent again.
+//! Loans of a zone that wakes: what was lent is lent again.
 
-ghost use Rattle.std.specs.Prelude.{◌≡◌, ◌≤◌, [], length, IsTrue};
+ghost use Rattle.std.specs.Prelude.{◌≡◌, [], IsTrue};
 ghost use Rattle.std.specs.List.{list_all};
 ghost use Rattle.linked_zone.specs.Structure.{Agrees, HasStructure, shown};
 ghost use Rattle.mac_base.specs.HandleTable.{is_handle, is_locked};
 ghost use Rattle.mac_base.specs.ZoneState.{with_heap};
-ghost use Rattle.mac_calls.specs.Loans.{all_returned};
 ghost use Rattle.held_calls.specs.Holding.{Holds, loans_of};
 ghost use Rattle.held_zone.specs.Asleep.{CanBeLent, is_lendable, new_loans, with_these_lent};
 
-use crate::session::MOST_LOANS;
 use held_calls::lending;
-use held_calls::loans::{Held, Loans};
+use held_calls::loans::Loans;
 use linked_zone::Agreement;
 use mac_base::block::Status;
 use mac_base::handle::{Handle, Ptr};
 use mem_calls::MemoryManager;
-
-/// Takes back all that is lent.
-pub(crate) fn take_all_back(memory: &mut MemoryManager, loans: &mut Loans)
-    requires { Holds memory.old loans.old }
-    ensures zone { memory.new ≡ with_heap (all_returned (loans_of loans.old) memory.old.heap) memory.old }
-    ensures loans { loans.new ≡ [] }
-    ensures nothing_lent { memory.new.heap.table.lent ≡ [] }
-{
-    while let Some(Held { block, loan }) = loans.take_first() {
-        memory.give_back(block, loan);
-    }
-}
 
 /// Lends blocks that may be lent, where nothing is lent.
 pub(crate) fn lend_all(memory: &mut MemoryManager, loans: &mut Loans, blocks: &[u32])

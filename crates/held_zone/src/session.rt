@@ -8,8 +8,6 @@ use held_calls::answers::{AnswerQueue, MOST_ASKS, MadeAsk};
 use held_calls::loans::Loans;
 use held_calls::window::Window;
 use held_calls::{bytes, lending, making};
-use linked_zone::Part;
-use mac_base::block::Block;
 use mac_base::error::{HostFull, OsErr};
 use mac_base::zone_spec::ZoneSpec;
 use mac_calls::{Answer, LoanCall, MemoryCall, Outcome};
@@ -59,15 +57,8 @@ impl Drop for Session {
 }
 
 impl Session {
-    ghost use Rattle.std.specs.Prelude.{◌<◌, ◌++◌, ◌∷◌, not, length, is_some, IfOk, IfErr, IfSome, IfNone, OnOk, OnErr};
+    ghost use Rattle.std.specs.Prelude.{◌++◌, ◌∷◌, not, length, is_some, IfOk, IfSome, IfNone, OnOk, OnErr};
     ghost use Rattle.std.specs.Result.{result_err};
-    ghost use Rattle.linked_zone.specs.Faults.{IsFirstFault};
-    ghost use Rattle.linked_zone.specs.Image.{IsImage};
-    ghost use Rattle.linked_zone.specs.Parts.{IsHolder, LiesOutside};
-    ghost use Rattle.linked_zone.specs.Structure.{HasStructure};
-    ghost use Rattle.mac_base.specs.declared.error.OsErr.TheVariants.{MemLockedErr};
-    ghost use Rattle.mac_base.specs.BlockReport.{report_at};
-    ghost use Rattle.mac_base.specs.ZoneMap.{address_behind};
     ghost use Rattle.mac_calls.specs.declared.loan_call.LoanCall.TheVariants as loan_call;
     ghost use Rattle.mac_calls.specs.declared.memory_call.MemoryCall.TheVariants as call;
     ghost use Rattle.mac_calls.specs.Loans.{loan_refusal};
@@ -158,48 +149,6 @@ impl Session {
     {
         self.answers.begin();
         lending::window(&self.memory, &self.loans, block)
-    }
-
-    /// The address of the zone's first block header.
-    pub fn first_block(&self) -> u32
-        ensures { result ≡ address_behind self.now.zone.shape [] }
-    {
-        self.memory.first_block()
-    }
-
-    /// The block whose header stands at this address, if one does.
-    pub fn block(&self, at: u32) -> Option<Block>
-        ensures { result ≡ report_at self.now.zone.shape self.now.zone.heap at }
-    {
-        self.memory.entry(at)
-    }
-
-    /// The block that has the byte at an address, in its header or after it, if one does.
-    pub fn holder(&self, at: u32) -> Option<Block>
-        ensures holds { IfSome result (λ block. IsHolder self.now.zone at block) }
-        ensures outside { IfNone result (LiesOutside self.now.zone at) }
-    {
-        self.memory.linked().holder(at)
-    }
-
-    /// The first of as many bytes as the zone's limit that isn't as the structure of the zone calls for, which sleeps, and
-    /// the part of the structure that it is in. None where they have the structure.
-    pub fn first_fault(&self, bytes: &[u8]) -> Option<(u32, Part)>
-        requires asleep { IsAsleep self.now }
-        requires whole { length bytes.now ≡ self.now.zone.shape.limit }
-        ensures fault { IfSome result (λ found. IsFirstFault self.now.zone bytes.now found.0 found.1) }
-        ensures none { IfNone result (HasStructure self.now.zone bytes.now) }
-    {
-        self.memory.linked().first_fault(bytes)
-    }
-
-    /// The bytes of the zone, from its start to the end of its last block. memLockedErr where a block is lent.
-    pub fn image(&self) -> Result<&[u8], OsErr>
-        ensures image { IfOk result (λ image. IsImage self.now.zone image.now) }
-        ensures nothing_lent { IfOk result (λ image. length self.now.zone.heap.table.lent ≡ 0) }
-        ensures refusal { IfErr result (λ code. (code ≡ MemLockedErr) × (0 < length self.now.zone.heap.table.lent)) }
-    {
-        self.memory.image()
     }
 
     /// Queues an answer behind the others: nothing is asked then. Sixteen may wait.

@@ -1,7 +1,8 @@
 //! A session whose zone sleeps, and wakes in bytes of the host.
 
 use crate::lending_again;
-use crate::session::Session;
+use crate::session::{MOST_LOANS, Session};
+use held_calls::lending;
 use linked_zone::{Agreement, LinkedZone, Written};
 use mac_base::error::OsErr;
 use mem_calls::MemoryManager;
@@ -29,7 +30,7 @@ impl Session {
     ghost use Rattle.std.specs.Result.{result_err};
     ghost use Rattle.linked_zone.specs.Structure.{HasStructure, SameFlags, shown};
     ghost use Rattle.linked_zone.specs.Written.{DifferIn};
-    ghost use Rattle.held_zone.specs.Asleep.{CanBeLent, FallsAsleep, IsAsleep, IsInRegion, IsSettled, SleepsOn, all_back, all_lendable, awake_in, sleep_refusal};
+    ghost use Rattle.held_zone.specs.Asleep.{CanBeLent, FallsAsleep, IsAsleep, IsInRegion, IsSettled, SleepsOn, WakesAsBefore, all_back, all_lendable, awake_in, sleep_refusal};
 
     /// How many bytes the zone may have, and its memory has.
     pub fn limit(&self) -> usize
@@ -123,18 +124,22 @@ impl Session {
     }
 
     /// Puts the zone to sleep, which is awake in bytes of the host, and gives these back. What is lent comes back first,
-    /// and waits to be lent again.
+    /// and waits to be lent again. Where these bytes stay as they are, the zone wakes in them as it was: nothing refuses it,
+    /// the same blocks are lent in the same order, and each has the bytes that C left in it.
     pub fn sleep(&mut self) -> Result<Region, OsErr>
         ensures region { IfOk result (λ region. IsInRegion (all_back self.old) region) }
         ensures asleep { IfOk result (λ region. FallsAsleep self.old region self.new) }
+        ensures again { IfOk result (λ region. WakesAsBefore self.old region self.new) }
         ensures refusal { result_err result ≡ sleep_refusal self.old }
         ensures unchanged { OnErr result (self.new ≡ self.old) }
     {
         if !self.memory.linked().is_awake() {
             return Err(OsErr::ParamErr);
         }
+        // The count of loans says that each is a pointer's or a locked handle's.
+        prove!(self.memory.lent_count() as usize <= MOST_LOANS);
         let blocks = self.loans.blocks();
-        lending_again::take_all_back(&mut self.memory, &mut self.loans);
+        lending::take_all_back(&mut self.memory, &mut self.loans);
         let Some(region) = self.memory.sleep() else {
             // No type says that a zone that is awake has a region to give back.
             unreachable!();

@@ -7,7 +7,7 @@ use Rattle.mac_base.specs.Codes.{code_of, minus}
 use Rattle.mac_base.specs.declared.error.OsErr.{OsErr}
 use Rattle.mac_base.specs.ZoneSizes.{ZoneSizes}
 use Rattle.raw_region.specs.State.{State as Region}
-use Rattle.held_zone.specs.Asleep.{FallsAsleep, IsInRegion, IsSettled, SleepsOn, all_back, all_lendable, awake_in, sleep_refusal}
+use Rattle.held_zone.specs.Asleep.{FallsAsleep, IsInRegion, IsSettled, SleepsOn, WakesAsBefore, all_back, all_lendable, awake_in, sleep_refusal}
 use Rattle.held_zone.specs.declared.waking.WhyAsleep.{WhyAsleep}
 use Rattle.held_zone.specs.declared.waking.WhyAsleep.TheVariants.{Damaged, Unlocked}
 use Rattle.held_zone.specs.State.{State, IsNew}
@@ -47,9 +47,10 @@ abbrev pub IsTold : Option State → Option Region → List Written → Type 0
 IsTold (Some old) (Some region) ranges = length region.bytes ≡ old.zone.shape.limit → DifferIn old.zone region.bytes ranges
 IsTold old region ranges = ⊤
 
--- the zone sleeps, and the bytes in which it was are there again, with what C left in the blocks that were lent
+-- the zone sleeps, and the bytes in which it was are there again, with what C left in the blocks that were lent. It wakes in
+-- them as it was
 abbrev pub SleepsOutOf : State → Option State → Option Region → Type 0
-SleepsOutOf old (Some new) (Some region) = FallsAsleep old region new × IsInRegion (all_back old) region
+SleepsOutOf old (Some new) (Some region) = FallsAsleep old region new × IsInRegion (all_back old) region × WakesAsBefore old region new
 SleepsOutOf old _ _ = ⊥
 
 -- a zone falls asleep unless it is refused: then it is awake as before

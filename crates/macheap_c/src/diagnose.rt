@@ -85,7 +85,8 @@ fn check(session: &Session, memory: &mut MhMemory, fault: &mut MhFault) -> i16
         memory.put(region);
         return OsErr::ParamErr.code();
     }
-    let found = session.first_fault(region.bytes(0, region.len()));
+    let zone = session.memory.linked();
+    let found = zone.first_fault(region.bytes(0, region.len()));
     memory.put(region);
     match found {
         Some((offset, part)) => {
@@ -118,7 +119,7 @@ pub extern "C" fn mh_holder(alloc: Global, zone: &mut MhZone, at: u32, block: &m
     let Some(session) = zone.take(alloc) else {
         return NO_ZONE;
     };
-    let found = session.holder(at);
+    let found = session.memory.linked().holder(at);
     zone.put(session);
     match found {
         Some(found) => {

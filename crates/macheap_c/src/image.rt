@@ -1,6 +1,6 @@
 //! The bytes of a zone.
 
-ghost use Rattle.std.specs.Prelude.{◌≡◌, length};
+ghost use Rattle.std.specs.Prelude.{length};
 ghost use Rattle.macheap_c.specs.Image.{ImageTold, Shows, size_of, sized};
 
 use held_zone::told::NO_ZONE;
@@ -16,7 +16,7 @@ pub extern "C" fn mh_image_size(alloc: Global, zone: &mut MhZone, size: &mut usi
     let Some(session) = zone.take(alloc) else {
         return NO_ZONE;
     };
-    let code = match session.image() {
+    let code = match session.memory.image() {
         Ok(image) => {
             *size = image.len();
             NO_ERR
@@ -36,7 +36,7 @@ pub extern "C" fn mh_image(alloc: Global, zone: &mut MhZone, bytes: &mut [u8]) -
     let Some(session) = zone.take(alloc) else {
         return NO_ZONE;
     };
-    let code = match session.image() {
+    let code = match session.memory.image() {
         Ok(image) => copied(image, bytes),
         Err(code) => code.code(),
     };

@@ -31,7 +31,7 @@ pub extern "C" fn mh_first_block(alloc: Global, zone: &mut MhZone, at: &mut u32)
     let Some(session) = zone.take(alloc) else {
         return NO_ZONE;
     };
-    *at = session.first_block();
+    *at = session.memory.first_block();
     zone.put(session);
     NO_ERR
 }
@@ -44,7 +44,7 @@ pub extern "C" fn mh_block(alloc: Global, zone: &mut MhZone, at: u32, block: &mu
     let Some(session) = zone.take(alloc) else {
         return NO_ZONE;
     };
-    let found = session.block(at);
+    let found = session.memory.entry(at);
     zone.put(session);
     match found {
         Some(found) => {

@@ -3,8 +3,9 @@ use Rattle.mac_base.specs.Heap.{Heap}
 use Rattle.mac_base.specs.ZoneState.{ZoneState}
 use Rattle.linked_zone.specs.Structure.{DifferInContents}
 use Rattle.held_calls.specs.Holding.{loans_of}
-use Rattle.held_zone.specs.Asleep.{FallsAsleep, each_once}
+use Rattle.held_zone.specs.Asleep.{FallsAsleep, WakesAsBefore, each_once}
 use Rattle.held_zone.specs.State.{State}
+use Rattle.held_zone.proofs.AsBefore.{wakes-as_before}
 use Rattle.held_zone.proofs.LentAgain.{blocks-lent, blocks-once}
 use Rattle.held_zone.proofs.Made.{state}
 use Rattle.held_zone.proofs.session.Session.sleep.Goals as goal
@@ -27,3 +28,12 @@ returns-clause-asleep c =
       asks = refl;
       asleep = record { nothing_lent = none; own = falls.own; once = ap each_once blocks ∙ blocks-once c.self.inside.loans c.self.invariant.0.once };
     })
+
+pub returns-clause-again : goal.returns-clause-again
+returns-clause-again c =
+    let inside = c.self.inside in let left = inside.answers.left in let asks = inside.answers.asks in
+    let new : State = state c.sleep.new.self (loans_of c.take_all_back.new.loans) left asks c.blocks-blocks.result.items in
+    let falls = subst (λ (s : State). FallsAsleep s c.in-Some.region new) (sym c.self.view_is) (returns-clause-asleep c) in
+    let place = c.in-Some.ensures.name ∙ ap (λ (z : ZoneState). z.memory.region) c.take_all_back.ensures.zone in
+    subst (λ (s : State). WakesAsBefore s c.in-Some.region new) c.self.view_is
+    (wakes-as_before inside.memory inside.loans left asks inside.waiting.items c.in-Some.region new c.linked.ensures.sound c.lent_count.ensures.loans c.lent_count.ensures.fixed c.self.invariant.0 c.self.invariant.1 place falls)
