@@ -1,6 +1,6 @@
 //! A path of the host.
 
-ghost use Rattle.std.specs.Prelude.{◌≡◌, [], ◌∷◌, is_ok, IfOk};
+ghost use Rattle.std.specs.Prelude.{◌≡◌, [], ◌∷◌, is_ok, IfOk, None, Ok, option_map};
 ghost use Rattle.fork_disk.specs.Disk.{Counts};
 ghost use Rattle.file_replace.specs.Calls.{history_of, IsHonest};
 
@@ -138,7 +138,9 @@ impl<'a, W: FolderWorld> FileReplacer<'a, W> {
     }
 
     /// The path of the file that was made beside and neither renamed nor removed, if there is one.
-    pub fn into_left(self) -> Option<PathBuf> {
+    pub fn into_left(self) -> Option<PathBuf>
+        ensures { result ≡ option_map (λ beside. beside.path) self.entry.beside }
+    {
         let FileReplacer { beside, .. } = self;
         match beside {
             Some(beside) => Some(beside.path),
@@ -168,7 +170,9 @@ impl<'a, W: FolderWorld> FileReplacer<'a, W> {
 }
 
 /// Syncs a folder, if the host offers that.
-pub(crate) fn sync_offered(folder: &Option<File>) -> io::Result<FolderSync> {
+pub(crate) fn sync_offered(folder: &Option<File>) -> io::Result<FolderSync>
+    ensures { folder.now ≡ None → result ≡ Ok FolderSync.NotOffered }
+{
     let Some(folder) = folder else {
         return Ok(FolderSync::NotOffered);
     };

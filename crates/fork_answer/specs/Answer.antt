@@ -1,5 +1,5 @@
 -- What is shown of a resource fork.
-use Rattle.std.specs.Prelude.{◌≡◌, ◌≢◌, ℕ, ◌⊎◌, List, [], length, replicate, slice_get, Option, None, Some, Result, Ok, Err, ⊤}
+use Rattle.std.specs.Prelude.{◌≡◌, ◌≢◌, ℕ, ◌⊎◌, Bool, true, false, List, [], length, replicate, slice_get, Option, None, Some, Result, Ok, Err, ⊤}
 use Rattle.std.specs.List.{filter}
 use Rattle.std.specs.Io.KnownBytes.{Appends}
 use Rattle.fork_bytes.specs.declared.fault.ForkFault.{ForkFault}
@@ -40,6 +40,12 @@ abbrev pub IsAsked : Request → Table → List ℕ → Type 0
 IsAsked (request.List choice) table text = text ≡ listing length choice.letters choice.kinds.items table.rows
 IsAsked (request.Types choice) table text = text ≡ type_lines choice.letters choice.kinds.items table.rows None table.rows
 IsAsked (request.Get wanted) table text = (row : Row) × (wanted_row wanted table.rows ≡ Some row) × (text ≡ row.datum)
+
+-- the bytes of a resource are asked for, and no list
+abbrev pub is_get : Request → Bool
+is_get (request.List choice) = false
+is_get (request.Types choice) = false
+is_get (request.Get wanted) = true
 
 -- the table has no such resource as is asked for
 abbrev pub Lacks : Request → Table → Type 0

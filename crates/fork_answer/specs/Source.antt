@@ -1,6 +1,8 @@
 -- The resource fork in a file.
-use Rattle.std.specs.Prelude.{◌≡◌, ℕ, Bool, true, false, List, Option, None, Some, Result, Ok, Err, ⊤}
+use Rattle.std.specs.Prelude.{◌≡◌, ℕ, Bool, true, false, List, codes, Option, None, Some, Result, Ok, Err, ⊤}
 use Rattle.mac_files.specs.declared.container.Container.{Container}
+use Rattle.mac_files.specs.declared.container.Container.TheVariants as container
+use Rattle.mac_files.specs.declared.container.Version.TheVariants as version
 use Rattle.mac_files.specs.declared.bin_hex.fault.BinHexFault.{BinHexFault}
 use Rattle.mac_files.specs.Containers.{container_of, fault_of, fork_in}
 use Rattle.mac_files.specs.BinHex.{File, bin_hex_of, is_bin_hex}
@@ -54,3 +56,12 @@ IsForkIn file fork = IsForkAs (container_of file) file fork
 -- why there is none in a file
 abbrev pub IsNoForkIn : List ℕ → NoFork → Type 0
 IsNoForkIn file fault = IsNoForkAs (container_of file) file fault
+
+-- what a file in a container is called
+abbrev pub container_text : Container → List ℕ
+container_text container.Raw = codes "a resource fork"
+container_text container.AppleSingle = codes "an AppleSingle file"
+container_text container.AppleDouble = codes "an AppleDouble file"
+container_text (container.MacBinary version.I) = codes "a MacBinary file"
+container_text (container.MacBinary version.II) = codes "a MacBinary II file"
+container_text (container.MacBinary version.III) = codes "a MacBinary III file"

@@ -1,5 +1,8 @@
 //! What is asked about a resource fork.
 
+ghost use Rattle.std.specs.Prelude.{◌≡◌};
+ghost use Rattle.fork_answer.specs.Answer.{is_get};
+
 use fork_list::find::Wanted;
 use mac_base::resource::ResType;
 use mac_text::letters::Letters;
@@ -26,7 +29,9 @@ pub struct Choice {
 
 impl Request {
     /// Whether what is shown isn't meant for a terminal.
-    pub fn is_for_files(&self) -> bool {
+    pub fn is_for_files(&self) -> bool
+        ensures { result ≡ is_get self.now }
+    {
         match self {
             Request::List(_) | Request::Types(_) => false,
             Request::Get(_) => true,

@@ -2,7 +2,7 @@
 
 ghost use Rattle.std.specs.Prelude.{◌≡◌, IfErr, IfOk, Some};
 ghost use Rattle.mac_files.specs.BinHex.{bin_hex_of};
-ghost use Rattle.fork_answer.specs.Source.{IsForkAs, IsForkIn, IsForkOfText, IsNoForkAs, IsNoForkIn, IsNoForkOfText, fork_of};
+ghost use Rattle.fork_answer.specs.Source.{IsForkAs, IsForkIn, IsForkOfText, IsNoForkAs, IsNoForkIn, IsNoForkOfText, container_text, fork_of};
 
 use mac_files::bin_hex::fault::BinHexFault;
 use mac_files::bin_hex::file::BinHexFile;
@@ -99,7 +99,9 @@ fn fork_in_text<'a>(alloc: Global, text: &[u8]) -> Result<Found<'a>, NoFork>
 }
 
 /// What a file in this container is called.
-pub fn name_of_container(container: Container) -> &'static str {
+pub fn name_of_container(container: Container) -> &'static str
+    ensures { result.now ≡ container_text container }
+{
     match container {
         Container::Raw => "a resource fork",
         Container::AppleSingle => "an AppleSingle file",

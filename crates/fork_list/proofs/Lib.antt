@@ -3,3 +3,4 @@ pub mod Written
 pub mod Words
 pub mod TypeLines
 pub mod Placed
+pub mod Naming

@@ -3,3 +3,4 @@ pub mod Find
 pub mod Kind
 pub mod Listing
 pub mod Types
+pub mod Names

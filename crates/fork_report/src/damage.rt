@@ -1,5 +1,11 @@
 //! What is told of a damaged fork.
 
+ghost use Rattle.std.specs.Prelude.{◌≡◌, ◌≢◌, ℕ, List, [], ◌∷◌, filter_map, length, IfNone, IfSome, Some, is_some};
+ghost use Rattle.fork_bytes.specs.Fork.{IsForkWithin, format_limits};
+ghost use Rattle.fork_mend.specs.Salvaged.{found_in};
+ghost use Rattle.fork_answer.specs.Source.{IsForkIn};
+ghost use Rattle.fork_report.specs.Damage.{IsDamageOf, holder_of, holder_text, is_of_fork, is_readable, is_run, tally_of};
+
 use fork_answer::{name_of_container, resource_fork};
 use fork_bytes::fault::{Condition, ForkFault};
 use fork_salvage::{Fault, Item, Salvage, first_fault};
@@ -38,7 +44,9 @@ pub struct Damage {
 
 impl Holder {
     /// What has the fork of this file in it. None where the whole file is taken for a fork.
-    pub fn of_file(file: &[u8]) -> Option<Holder> {
+    pub fn of_file(file: &[u8]) -> Option<Holder>
+        ensures { result ≡ holder_of file.now }
+    {
         match container_of(file) {
             Some(Container::Raw) => None,
             Some(container) => Some(Holder::Container(container)),
@@ -48,7 +56,9 @@ impl Holder {
     }
 
     /// What such a file is called.
-    pub fn name(self) -> &'static str {
+    pub fn name(self) -> &'static str
+        ensures { result.now ≡ holder_text self }
+    {
         match self {
             Holder::Container(container) => name_of_container(container),
             Holder::BinHex => "a BinHex file",
@@ -57,8 +67,12 @@ impl Holder {
 }
 
 impl Damage {
-    /// That of the fork in a file. None where there is no such fork or it has no fault, or where the host has no memory for it.
-    pub fn of_file(alloc: Global, file: &[u8]) -> Option<Damage> {
+    /// That of the fork in a file. None where there is no such fork or it has no fault, or where the host has no memory for that of a
+    /// BinHex text.
+    pub fn of_file(alloc: Global, file: &[u8]) -> Option<Damage>
+        ensures damage { IfSome result (λ damage. (fork : List ℕ) × IsDamageOf file.now fork damage) }
+        ensures none { IfNone result (holder_of file.now ≢ Some Holder.BinHex → (fork : List ℕ) → IsForkIn file.now fork → IsForkWithin format_limits fork) }
+    {
         let Ok(found) = resource_fork(alloc, file) else {
             return None;
         };
@@ -71,12 +85,16 @@ impl Damage {
     }
 
     /// Whether the fork is only a part of its file.
-    pub fn is_in_container(&self) -> bool {
+    pub fn is_in_container(&self) -> bool
+        ensures { result ≡ is_some self.now.holder }
+    {
         self.holder.is_some()
     }
 
     /// Whether the bytes are those of a fork in spite of it: its parts lie within it, or some resource can be read.
-    pub fn is_of_fork(&self) -> bool {
+    pub fn is_of_fork(&self) -> bool
+        ensures { result ≡ is_of_fork self.now }
+    {
         let has_parts = match self.fault.refusal() {
             ForkFault::EndOfFile | ForkFault::BadMap(Condition::Parts) => false,
             _ => true,
@@ -85,11 +103,10 @@ impl Damage {
     }
 
     /// Whether some resource can be read.
-    pub fn is_readable(&self) -> bool {
-        match self.tally {
-            Some(tally) => tally.readable > 0,
-            None => false,
-        }
+    pub fn is_readable(&self) -> bool
+        ensures { result ≡ is_readable self.now.tally }
+    {
+        is_readable(self.tally)
     }
 }
 
@@ -110,18 +127,54 @@ impl fmt::Display for Damage {
     }
 }
 
+/// Whether some resource can be read of so many.
+pub fn is_readable(tally: Option<Tally>) -> bool
+    ensures { result ≡ is_readable tally }
+{
+    match tally {
+        Some(tally) => tally.readable > 0,
+        None => false,
+    }
+}
+
+/// Whether it is a run of bytes in a fork in which no type is found.
+fn is_run(item: &Item) -> bool
+    ensures { result ≡ is_run item.now }
+{
+    match item {
+        Item::Row(_) | Item::Lost(_) => false,
+        Item::Run(_) => true,
+    }
+}
+
+/// How many resources of these can be read: one, or none.
+fn readable_in(item: &Item) -> usize
+    ensures { result ≡ length (filter_map found_in (item.now ∷ [])) }
+{
+    match item {
+        Item::Row(_) => 1,
+        Item::Lost(_) | Item::Run(_) => 0,
+    }
+}
+
 /// How many resources of a fork can be read, of how many that are found in it. None where none is found, or too many to be counted.
-pub fn tally_of(fork: &[u8]) -> Option<Tally> {
+pub fn tally_of(fork: &[u8]) -> Option<Tally>
+    ensures { result ≡ tally_of fork.now }
+{
     let mut salvage = Salvage::new(fork);
     let mut readable = 0usize;
     for found in 0..MOST_FOUND {
-        match salvage.next() {
-            Some(Item::Row(_)) => readable = readable.saturating_add(1),
-            Some(Item::Lost(_)) => {}
-            Some(Item::Run(_)) => return None,
-            None if found == 0 => return None,
-            None => return Some(Tally { readable, found }),
+        let Some(item) = salvage.next() else {
+            return if found == 0 {
+                None
+            } else {
+                Some(Tally { readable, found })
+            };
+        };
+        if is_run(&item) {
+            return None;
         }
+        readable = readable.saturating_add(readable_in(&item));
     }
     None
 }

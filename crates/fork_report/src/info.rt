@@ -1,12 +1,18 @@
 //! What a file is.
 
-ghost use Rattle.std.specs.Prelude.{◌≡◌, IfSome, length, true};
+ghost use Rattle.std.specs.Prelude.{◌≡◌, IfErr, IfOk, IfSome, Some, length, true};
+ghost use Rattle.mac_files.specs.BinHex.{bin_hex_of};
+ghost use Rattle.mac_files.specs.BinHexFiles.{view};
+ghost use Rattle.mac_files.specs.Containers.{container_of};
 ghost use Rattle.mac_files.specs.Parts.{lies_within};
+ghost use Rattle.fork_answer.specs.Source.{IsForkOfText, IsNoForkOfText};
+ghost use Rattle.fork_report.specs.Refused.{IsCause, IsForkCause};
 
 use fork_answer::{Failure, NoFork, name_of_container, read_table};
 use fork_bytes::table::Table;
 use fork_list::{KindText, types_listing};
 use mac_base::resource::ResType;
+use mac_files::bin_hex::fault::BinHexFault;
 use mac_files::bin_hex::file::BinHexFile;
 use mac_files::bin_hex::{is_bin_hex, read_bin_hex};
 use mac_files::container::Container;
@@ -62,8 +68,22 @@ fn push_text(text: &mut String, file: &BinHexFile) -> Result<(), AllocError> {
     writeln!(text, "data fork: {data} bytes")
 }
 
+/// What a BinHex text stands for.
+pub(crate) fn file_of_text(alloc: Global, text: &[u8]) -> Result<BinHexFile, NoFork>
+    ensures file { IfOk result (λ file. IsForkOfText (bin_hex_of text.now) (view file).resource_fork) }
+    ensures none { IfErr result (IsNoForkOfText (bin_hex_of text.now)) }
+{
+    match read_bin_hex(alloc, text) {
+        Ok(file) => Ok(file),
+        Err(BinHexFault::HostFull) => Err(NoFork::HostFull),
+        Err(fault) => Err(NoFork::Text(fault)),
+    }
+}
+
 /// Adds what a fork holds, in lines.
-fn push_fork(alloc: Global, text: &mut String, fork: &[u8]) -> Result<(), Failure> {
+fn push_fork(alloc: Global, text: &mut String, fork: &[u8]) -> Result<(), Failure>
+    ensures { IfErr result (IsForkCause fork.now) }
+{
     let table = read_table(alloc, fork).map_err(Failure::Fork)?;
     Ok(push_table(alloc, text, fork.len(), &table)?)
 }
@@ -86,7 +106,10 @@ fn push_table(
 }
 
 /// What a file in a container is, in lines.
-fn container_text(alloc: Global, container: Container, file: &[u8]) -> Result<String, Failure> {
+fn container_text(alloc: Global, container: Container, file: &[u8]) -> Result<String, Failure>
+    requires { container_of file.now ≡ Some container }
+    ensures { IfErr result (IsCause file.now) }
+{
     let contents = match read_contents(container, file) {
         Ok(contents) => contents,
         Err(fault) => return Err(Failure::NoFork(NoFork::Container(fault))),
@@ -102,13 +125,15 @@ fn container_text(alloc: Global, container: Container, file: &[u8]) -> Result<St
 }
 
 /// What a file is, in lines: what its container tells, and what its resource fork holds.
-pub fn info_text(alloc: Global, file: &[u8]) -> Result<String, Failure> {
+pub fn info_text(alloc: Global, file: &[u8]) -> Result<String, Failure>
+    ensures { IfErr result (IsCause file.now) }
+{
     if let Some(container) = container_of(file) {
         return container_text(alloc, container, file);
     }
     let mut text = String::new(alloc);
     if is_bin_hex(file) {
-        let read = read_bin_hex(alloc, file).map_err(|fault| Failure::NoFork(NoFork::Text(fault)))?;
+        let read = file_of_text(alloc, file).map_err(Failure::NoFork)?;
         push_text(&mut text, &read)?;
         push_fork(alloc, &mut text, read.resource_fork())?;
     } else {

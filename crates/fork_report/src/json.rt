@@ -1,6 +1,14 @@
 //! Lines of JSON, one for each file.
 
+ghost use Rattle.std.specs.Prelude.{◌≡◌, IfErr, IfOk, None, Some, string_bytes, true};
+ghost use Rattle.mac_files.specs.BinHex.{is_bin_hex};
+ghost use Rattle.mac_files.specs.Containers.{container_of};
+ghost use Rattle.fork_report.specs.Json.{line_of, refused_data};
+ghost use Rattle.fork_report.specs.Refused.{IsCause, IsForkCause};
+ghost use Rattle.fork_report.specs.Reported.{HasTable};
+
 use crate::damage::Holder;
+use crate::info::file_of_text;
 use crate::json_object::{Object, place_value};
 use crate::json_row::{Bytes, full_rows_value, rows_value};
 use crate::json_text::{roman_value, text_value};
@@ -9,7 +17,7 @@ use fork_list::HasSize;
 use fork_mend::warning::Warning;
 use fork_salvage::Fault;
 use mac_base::resource::{ResType, Resource};
-use mac_files::bin_hex::{is_bin_hex, read_bin_hex};
+use mac_files::bin_hex::is_bin_hex;
 use mac_files::container::Container;
 use mac_files::{container_of, read_contents};
 use serde_json::Value;
@@ -21,12 +29,9 @@ fn container_name(bytes: &[u8]) -> &'static str {
 }
 
 /// The line of a file that isn't shown, and why.
-pub fn refused_line(
-    alloc: Global,
-    file: &str,
-    status: u8,
-    told: &str,
-) -> Result<String, AllocError> {
+pub fn refused_line(alloc: Global, file: &str, status: u8, told: &str) -> Result<String, AllocError>
+    ensures { IfOk result (λ line. string_bytes line ≡ line_of (refused_data file.now status told.now)) }
+{
     Object::of_file(alloc, file)
         .with("status", Ok(Value::from(status)))
         .with("error", text_value(alloc, told))
@@ -40,9 +45,18 @@ pub fn list_line(
     kinds: &[ResType],
     shown: Bytes,
     bytes: &[u8],
-) -> Result<String, Failure> {
-    let found = resource_fork(alloc, bytes).map_err(Failure::NoFork)?;
-    let table = read_table(alloc, found.fork()).map_err(Failure::Fork)?;
+) -> Result<String, Failure>
+    ensures table { IfOk result (λ _. HasTable bytes.now) }
+    ensures refused { IfErr result (IsCause bytes.now) }
+{
+    let found = match resource_fork(alloc, bytes) {
+        Ok(found) => found,
+        Err(fault) => return Err(Failure::NoFork(fault)),
+    };
+    let table = match read_table(alloc, found.fork()) {
+        Ok(table) => table,
+        Err(fault) => return Err(Failure::Fork(fault)),
+    };
     let rows = table.rows.as_slice();
     let values = match shown {
         Bytes::Hidden => rows_value(alloc, kinds, rows),
@@ -151,7 +165,9 @@ fn with_finder(
 }
 
 /// With how many bytes a fork has, its attributes, and how many resources.
-fn with_fork(alloc: Global, object: Object, fork: &[u8]) -> Result<Object, Failure> {
+fn with_fork(alloc: Global, object: Object, fork: &[u8]) -> Result<Object, Failure>
+    ensures { IfErr result (IsForkCause fork.now) }
+{
     let table = read_table(alloc, fork).map_err(Failure::Fork)?;
     let count = table.rows.as_slice().len();
     Ok(
@@ -168,7 +184,10 @@ fn with_contents(
     object: Object,
     container: Container,
     bytes: &[u8],
-) -> Result<Object, Failure> {
+) -> Result<Object, Failure>
+    requires { container_of bytes.now ≡ Some container }
+    ensures { IfErr result (IsCause bytes.now) }
+{
     let contents = match read_contents(container, bytes) {
         Ok(contents) => contents,
         Err(fault) => return Err(Failure::NoFork(NoFork::Container(fault))),
@@ -190,8 +209,12 @@ fn with_contents(
 }
 
 /// With what a BinHex text tells of a file.
-fn with_text(alloc: Global, object: Object, text: &[u8]) -> Result<Object, Failure> {
-    let read = read_bin_hex(alloc, text).map_err(|fault| Failure::NoFork(NoFork::Text(fault)))?;
+fn with_text(alloc: Global, object: Object, text: &[u8]) -> Result<Object, Failure>
+    requires none { container_of text.now ≡ None }
+    requires text { is_bin_hex text.now ≡ true }
+    ensures { IfErr result (IsCause text.now) }
+{
+    let read = file_of_text(alloc, text).map_err(Failure::NoFork)?;
     let object = with_finder(alloc, object, read.name(), read.kind, read.creator);
     let data = read.data_fork().len();
     with_fork(
@@ -202,7 +225,9 @@ fn with_text(alloc: Global, object: Object, text: &[u8]) -> Result<Object, Failu
 }
 
 /// The line of what a file is.
-pub fn info_line(alloc: Global, file: &str, bytes: &[u8]) -> Result<String, Failure> {
+pub fn info_line(alloc: Global, file: &str, bytes: &[u8]) -> Result<String, Failure>
+    ensures { IfErr result (IsCause bytes.now) }
+{
     let object = Object::of_file(alloc, file).with(
         "container",
         text_value(alloc, container_name(bytes)),

@@ -1,5 +1,9 @@
 //! Why nothing is shown of a file's fork.
 
+ghost use Rattle.std.specs.Prelude.{◌≡◌};
+ghost use Rattle.fork_report.specs.Damage.{is_readable};
+ghost use Rattle.fork_report.specs.Refused.{IsToldOf, IsToldOfFork};
+
 use crate::damage::Damage;
 use fork_answer::{Failure, NoFork, name_of_container};
 use fork_bytes::fault::ForkFault;
@@ -42,22 +46,43 @@ pub enum Refusal {
 
 impl Refusal {
     /// Why what this file holds can't be shown, told by what the file is known as.
-    pub fn of_failure(alloc: Global, failure: Failure, file: &[u8]) -> Refusal {
+    pub fn of_failure(alloc: Global, failure: Failure, file: &[u8]) -> Refusal
+        ensures { IsToldOf file.now failure result }
+    {
         match failure {
-            Failure::NoFork(NoFork::HostFull) | Failure::Fork(ForkFault::HostFull) => {
-                Refusal::Show(Failure::HostFull)
-            }
-            Failure::NoFork(fault) => Refusal::Container {
-                container: container_of(file).map_or("a BinHex file", name_of_container),
-                fault,
-            },
+            Failure::NoFork(fault) => Refusal::of_no_fork(fault, file),
             Failure::Fork(fault) => Refusal::of_fork(alloc, fault, file),
             failure => Refusal::Show(failure),
         }
     }
 
-    /// Why a fork that is refused isn't shown: its first fault, with its place, if this file has a fork at all.
-    fn of_fork(alloc: Global, refusal: ForkFault, file: &[u8]) -> Refusal {
+    /// Why a file without a fork to read isn't shown.
+    fn of_no_fork(fault: NoFork, file: &[u8]) -> Refusal
+        ensures { IsToldOf file.now (Failure.NoFork fault) result }
+    {
+        match fault {
+            NoFork::HostFull => Refusal::Show(Failure::HostFull),
+            fault => Refusal::Container {
+                container: container_of(file).map_or("a BinHex file", name_of_container),
+                fault,
+            },
+        }
+    }
+
+    /// Why a fork that is refused isn't shown.
+    fn of_fork(alloc: Global, refusal: ForkFault, file: &[u8]) -> Refusal
+        ensures { IsToldOf file.now (Failure.Fork refusal) result }
+    {
+        match refusal {
+            ForkFault::HostFull => Refusal::Show(Failure::HostFull),
+            refusal => Refusal::of_damage(alloc, refusal, file),
+        }
+    }
+
+    /// What is told of a fork that is refused: its first fault, with its place, if this file has a fork at all.
+    fn of_damage(alloc: Global, refusal: ForkFault, file: &[u8]) -> Refusal
+        ensures { IsToldOfFork file.now refusal result }
+    {
         let Some(damage) = Damage::of_file(alloc, file) else {
             return Refusal::Show(Failure::Fork(refusal));
         };
@@ -75,7 +100,9 @@ impl Refusal {
     }
 
     /// That a fork is damaged.
-    fn damaged(told: String, damage: Damage) -> Refusal {
+    fn damaged(told: String, damage: Damage) -> Refusal
+        ensures { result ≡ Refusal.Damaged told (is_readable damage.tally) }
+    {
         Refusal::Damaged {
             told,
             is_readable: damage.is_readable(),

@@ -1,6 +1,13 @@
 //! What the commands do that tell about files: what each is, its faults, and what can be read of it.
 
-use crate::damage::{Damage, MOST_FOUND, Tally, tally_of};
+ghost use Rattle.std.specs.Prelude.{◌≡◌, ◌≢◌, ◌↔◌, ℕ, List, [], IfErr, IfOk, IsTrue, false, string_bytes};
+ghost use Rattle.fork_mend.specs.Lines.{salvage_listing};
+ghost use Rattle.fork_answer.specs.Source.{IsForkIn, fork_of};
+ghost use Rattle.fork_report.specs.Damage.{IsDamaged, is_readable, tally_of};
+ghost use Rattle.fork_report.specs.Refused.{IsRefused};
+ghost use Rattle.fork_report.specs.Reported.{HasTable, IsNotSalvaged, Salvages, Tells, TellsLeft};
+
+use crate::damage::{MOST_FOUND, Tally, is_readable, tally_of};
 use crate::info::info_text;
 use crate::json::{check_line, info_line, list_line};
 use crate::json_row::Bytes;
@@ -10,7 +17,7 @@ use fork_answer::{Failure, Found, mended_fork, resource_fork};
 use fork_bytes::fault::WriteFault;
 use fork_mend::salvage_listing;
 use fork_mend::warning::{Warning, warnings};
-use fork_salvage::{Fault, all_faults};
+use fork_salvage::{Fault, all_faults, first_fault};
 use mac_base::resource::ResType;
 use mac_text::letters::Letters;
 use std::alloc::{AllocError, Global};
@@ -24,7 +31,9 @@ pub struct Told {
 
 impl Told {
     /// What is told of a file whose fork is whole.
-    pub fn whole(text: String) -> Told {
+    pub fn whole(text: String) -> Told
+        ensures { result ≡ record { text = text; is_damaged = false } }
+    {
         Told {
             text,
             is_damaged: false,
@@ -33,12 +42,10 @@ impl Told {
 }
 
 /// What is told of a file.
-pub fn report_on(
-    alloc: Global,
-    report: &Report,
-    name: &str,
-    bytes: &[u8],
-) -> Result<Told, Refusal> {
+pub fn report_on(alloc: Global, report: &Report, name: &str, bytes: &[u8]) -> Result<Told, Refusal>
+    ensures told { IfOk result (Tells report.now bytes.now) }
+    ensures refused { IfErr result (IsRefused bytes.now) }
+{
     match report {
         Report::Info(form) => info(alloc, *form, name, bytes),
         Report::Check(form) => check(alloc, *form, name, bytes),
@@ -53,7 +60,10 @@ fn list_json(
     kinds: &[ResType],
     shown: Bytes,
     bytes: &[u8],
-) -> Result<Told, Refusal> {
+) -> Result<Told, Refusal>
+    ensures told { IfOk result (λ told. HasTable bytes.now × (told.is_damaged ≡ false)) }
+    ensures refused { IfErr result (IsRefused bytes.now) }
+{
     match list_line(alloc, name, kinds, shown, bytes) {
         Ok(line) => Ok(Told::whole(line)),
         Err(failure) => Err(Refusal::of_failure(alloc, failure, bytes)),
@@ -61,7 +71,10 @@ fn list_json(
 }
 
 /// What a file is.
-fn info(alloc: Global, form: Form, name: &str, bytes: &[u8]) -> Result<Told, Refusal> {
+fn info(alloc: Global, form: Form, name: &str, bytes: &[u8]) -> Result<Told, Refusal>
+    ensures told { IfOk result (λ told. told.is_damaged ≡ false) }
+    ensures refused { IfErr result (IsRefused bytes.now) }
+{
     let text = match form {
         Form::Text => info_text(alloc, bytes),
         Form::Json => info_line(alloc, name, bytes),
@@ -73,34 +86,50 @@ fn info(alloc: Global, form: Form, name: &str, bytes: &[u8]) -> Result<Told, Ref
 }
 
 /// The fork in a file, or why there is none.
-fn fork_in<'a>(alloc: Global, bytes: &'a [u8]) -> Result<Found<'a>, Refusal> {
-    resource_fork(alloc, bytes).map_err(|fault| Refusal::of_failure(
-        alloc,
-        Failure::NoFork(fault),
-        bytes,
-    ))
+fn fork_in<'a>(alloc: Global, bytes: &'a [u8]) -> Result<Found<'a>, Refusal>
+    ensures fork { IfOk result (λ found. IsForkIn bytes.now (fork_of found)) }
+    ensures refused { IfErr result (IsRefused bytes.now) }
+{
+    match resource_fork(alloc, bytes) {
+        Ok(found) => Ok(found),
+        Err(fault) => Err(Refusal::of_failure(alloc, Failure::NoFork(fault), bytes)),
+    }
 }
 
 /// All faults of a file's fork, and what is odd about it.
-fn check(alloc: Global, form: Form, name: &str, bytes: &[u8]) -> Result<Told, Refusal> {
+fn check(alloc: Global, form: Form, name: &str, bytes: &[u8]) -> Result<Told, Refusal>
+    ensures told { IfOk result (Tells (Report.Check form) bytes.now) }
+    ensures refused { IfErr result (IsRefused bytes.now) }
+{
     let found = fork_in(alloc, bytes)?;
-    let fork = found.fork();
-    check_fork(alloc, form, name, bytes, fork).map_err(|_| Refusal::Show(Failure::HostFull))
+    match check_fork(alloc, form, name, bytes, found.fork()) {
+        Ok(told) => Ok(told),
+        Err(_) => Err(Refusal::Show(Failure::HostFull)),
+    }
 }
 
-/// All faults of a fork, and what is odd about it. A fork without bytes has none.
+/// All faults of a fork. One without bytes has none.
+fn faults_of(alloc: Global, fork: &[u8]) -> Result<Vec<Fault>, AllocError>
+    ensures damaged { IfOk result (λ faults. faults.items ≢ [] → IsDamaged fork.now) }
+    ensures whole { IfOk result (λ faults. faults.items ≡ [] → ¬ IsDamaged fork.now) }
+{
+    if fork.is_empty() {
+        return Ok(Vec::new(alloc));
+    }
+    all_faults(alloc, fork)
+}
+
+/// All faults of a fork, and what is odd about it.
 fn check_fork(
     alloc: Global,
     form: Form,
     name: &str,
     bytes: &[u8],
     fork: &[u8],
-) -> Result<Told, AllocError> {
-    let faults = if fork.is_empty() {
-        Vec::new(alloc)
-    } else {
-        all_faults(alloc, fork)?
-    };
+) -> Result<Told, AllocError>
+    ensures { IfOk result (λ told. IsTrue told.is_damaged ↔ IsDamaged fork.now) }
+{
+    let faults = faults_of(alloc, fork)?;
     let warnings = warnings(alloc, fork)?;
     let text = match form {
         Form::Text => check_text(alloc, faults.as_slice(), warnings.as_slice())?,
@@ -128,7 +157,10 @@ fn check_text(alloc: Global, faults: &[Fault], warnings: &[Warning]) -> Result<S
 }
 
 /// A line for each resource that can be read of a file's fork, and for each that can't.
-pub fn salvage_list(alloc: Global, letters: Letters, bytes: &[u8]) -> Result<String, Refusal> {
+pub fn salvage_list(alloc: Global, letters: Letters, bytes: &[u8]) -> Result<String, Refusal>
+    ensures list { IfOk result (λ text. (fork : List ℕ) × IsForkIn bytes.now fork × (string_bytes text ≡ salvage_listing letters fork MOST_FOUND)) }
+    ensures refused { IfErr result (IsRefused bytes.now) }
+{
     let found = fork_in(alloc, bytes)?;
     match salvage_listing(alloc, letters, found.fork(), MOST_FOUND) {
         Ok(text) => Ok(text),
@@ -136,21 +168,31 @@ pub fn salvage_list(alloc: Global, letters: Letters, bytes: &[u8]) -> Result<Str
     }
 }
 
+/// How much can be read of a fork that is damaged; None of one that isn't. It is refused where no resource can be read.
+fn left_of(fork: &[u8]) -> Result<Option<Tally>, Refusal>
+    ensures told { IfOk result (TellsLeft fork.now) }
+    ensures nothing { IfErr result (λ refusal. (refusal ≡ Refusal.Nothing) × IsDamaged fork.now × (is_readable (tally_of fork.now) ≡ false)) }
+{
+    if fork.is_empty() || first_fault(fork).is_none() {
+        return Ok(None);
+    }
+    let tally = tally_of(fork);
+    if !is_readable(tally) {
+        return Err(Refusal::Nothing);
+    }
+    Ok(tally)
+}
+
 /// A fork of all resources that can be read of a file's fork, and how many they are of how many, unless that is all.
-pub fn salvage(alloc: Global, bytes: &[u8]) -> Result<(Vec<u8>, Option<Tally>), Refusal> {
+pub fn salvage(alloc: Global, bytes: &[u8]) -> Result<(Vec<u8>, Option<Tally>), Refusal>
+    ensures salvaged { IfOk result (λ salvaged. Salvages bytes.now salvaged.0.items salvaged.1) }
+    ensures refused { IfErr result (IsNotSalvaged bytes.now) }
+{
     let found = fork_in(alloc, bytes)?;
     let fork = found.fork();
-    let tally = match Damage::of_file(alloc, bytes) {
-        Some(damage) if !fork.is_empty() => {
-            if !damage.is_readable() {
-                return Err(Refusal::Nothing);
-            }
-            tally_of(fork)
-        }
-        _ => None,
-    };
+    let left = left_of(fork)?;
     match mended_fork(alloc, fork) {
-        Ok(bytes) => Ok((bytes, tally)),
+        Ok(bytes) => Ok((bytes, left)),
         Err(WriteFault::HostFull) => Err(Refusal::Show(Failure::HostFull)),
         Err(WriteFault::TooBig) => Err(Refusal::TooMuch),
     }

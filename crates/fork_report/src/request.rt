@@ -1,5 +1,8 @@
 //! What is asked about files.
 
+ghost use Rattle.std.specs.Prelude.{◌≡◌};
+ghost use Rattle.fork_report.specs.Reported.{form_of};
+
 use crate::json_row::Bytes;
 use mac_base::resource::ResType;
 
@@ -25,7 +28,9 @@ pub enum Report {
 
 impl Report {
     /// The form in which it is told.
-    pub fn form(&self) -> Form {
+    pub fn form(&self) -> Form
+        ensures { result ≡ form_of self.now }
+    {
         match self {
             Report::Info(form) | Report::Check(form) => *form,
             Report::List { .. } => Form::Json,

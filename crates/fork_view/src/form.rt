@@ -1,5 +1,8 @@
 //! The bytes of a resource as text, in hexadecimal digits, and as a picture.
 
+ghost use Rattle.std.specs.Prelude.{◌≡◌, IfOk, false, option_map, string_bytes};
+ghost use Rattle.fork_view.specs.Forms.{is_text, picture_file};
+
 use fork_bytes::table::Row;
 use mac_pictures::{format_of, picture_of, png_file};
 use mac_text::char_of;
@@ -77,13 +80,17 @@ fn push_version(text: &mut String, version: &Version<'_>) -> Result<(), AllocErr
 }
 
 /// Whether the resources of a type are shown as text if nothing else is asked for.
-pub(crate) fn is_text(row: &Row) -> bool {
+pub(crate) fn is_text(row: &Row) -> bool
+    ensures { result ≡ is_text row.now.kind }
+{
     matches!(&row.kind.bytes(), b"STR " | b"STR#" | b"TEXT" | b"vers")
 }
 
 /// Adds a resource as text: its strings, its version, or all its bytes as MacRoman. False where it ends before its strings do, and
 /// nothing is added.
-pub(crate) fn push_text(alloc: Global, text: &mut String, row: &Row) -> Result<bool, AllocError> {
+pub(crate) fn push_text(alloc: Global, text: &mut String, row: &Row) -> Result<bool, AllocError>
+    ensures { IfOk result (λ is_shown. is_shown ≡ false → string_bytes text.new ≡ string_bytes text.old) }
+{
     let bytes = row.datum.as_slice();
     match &row.kind.bytes() {
         b"STR " => match string_of(bytes) {
@@ -150,7 +157,9 @@ pub(crate) fn push_hex(text: &mut String, bytes: &[u8]) -> Result<(), AllocError
 }
 
 /// The PNG file of a resource, or None where it is no picture.
-pub(crate) fn png_of(alloc: Global, row: &Row) -> Result<Option<Vec<u8>>, AllocError> {
+pub(crate) fn png_of(alloc: Global, row: &Row) -> Result<Option<Vec<u8>>, AllocError>
+    ensures { IfOk result (λ file. option_map (λ bytes. bytes.items) file ≡ picture_file row.now) }
+{
     let Some(format) = format_of(row.kind.bytes()) else {
         return Ok(None);
     };

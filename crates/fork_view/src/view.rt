@@ -1,5 +1,8 @@
 //! Resources shown to people.
 
+ghost use Rattle.std.specs.Prelude.{◌≡◌, ◌⊎◌, Some, IfErr};
+ghost use Rattle.fork_view.specs.Sights.{ShowsChosen, ShowsRow, ShowsRows};
+
 use crate::form::{is_text, png_of, push_hex, push_text};
 use fork_bytes::table::Row;
 use fork_list::find::Wanted;
@@ -54,6 +57,11 @@ pub enum NotShown {
 }
 
 impl From<AllocError> for NotShown {
+    ghost use Rattle.std.specs.Prelude.{◌≡◌};
+    ghost use Rattle.fork_view.specs.declared.view.NotShown.TheVariants.{HostFull};
+
+    ghost from_gives = { λ _ why. why ≡ HostFull };
+
     fn from(_: AllocError) -> NotShown {
         NotShown::HostFull
     }
@@ -72,7 +80,9 @@ fn push_row(
     text: &mut String,
     row: &Row,
     form: Option<ShowAs>,
-) -> Result<(), NotShown> {
+) -> Result<(), NotShown>
+    ensures { IfErr result (λ why. (why ≡ NotShown.HostFull) ⊎ ((why ≡ NotShown.NoText) × (form ≡ Some ShowAs.Text))) }
+{
     let bytes = row.datum.as_slice();
     match form {
         Some(ShowAs::Text) => {
@@ -103,7 +113,9 @@ fn push_title(text: &mut String, row: &Row) -> Result<(), AllocError> {
 }
 
 /// One resource, as it is shown.
-fn sight_of_row(alloc: Global, row: &Row, form: Option<ShowAs>) -> Result<Sight, NotShown> {
+fn sight_of_row(alloc: Global, row: &Row, form: Option<ShowAs>) -> Result<Sight, NotShown>
+    ensures { ShowsRow form row.now result }
+{
     if form.is_none() || form == Some(ShowAs::Png) {
         if let Some(bytes) = png_of(alloc, row)? {
             return Ok(Sight {
@@ -129,7 +141,9 @@ fn sight_of_rows(
     rows: &[Row],
     kind: Option<ResType>,
     form: Option<ShowAs>,
-) -> Result<Sight, NotShown> {
+) -> Result<Sight, NotShown>
+    ensures { ShowsRows form result }
+{
     if form == Some(ShowAs::Png) {
         return Err(NotShown::ManyPictures);
     }
@@ -147,7 +161,9 @@ fn sight_of_rows(
 }
 
 /// What is shown of rows.
-pub fn sight_of(alloc: Global, view: &View, rows: &[Row]) -> Result<Sight, NotShown> {
+pub fn sight_of(alloc: Global, view: &View, rows: &[Row]) -> Result<Sight, NotShown>
+    ensures { ShowsChosen view.now.chosen view.now.form rows.now result }
+{
     match &view.chosen {
         Chosen::All => sight_of_rows(alloc, rows, None, view.form),
         Chosen::Kind(kind) => sight_of_rows(alloc, rows, Some(*kind), view.form),

@@ -1,5 +1,10 @@
 //! The words of the command line.
 
+ghost use Rattle.std.specs.Prelude.{◌≡◌, [], None, Some, IfErr, IfOk, codes, option_map, unwrap_or};
+ghost use Rattle.clap.specs.Matches.{first_value, found_of, matched_of, one_text, raw_values};
+ghost use Rattle.fork_words.specs.Asks.{IsFault, IsFit};
+ghost use Rattle.fork_words.specs.Kinds.{IsKindRefused, NameKinds, NamesKind};
+
 use crate::command::program;
 use crate::fault::Fault;
 use crate::work::{Work, work_of};
@@ -92,19 +97,32 @@ impl fmt::Display for NotAsked {
 }
 
 impl From<AllocError> for NotAsked {
+    ghost use Rattle.std.specs.Prelude.{◌≡◌};
+    ghost use Rattle.fork_words.specs.declared.asked.NotAsked.TheVariants as not_asked;
+
+    ghost from_gives = { λ _ why. why ≡ not_asked.HostFull };
+
     fn from(_: AllocError) -> NotAsked {
         NotAsked::HostFull
     }
 }
 
 impl From<Fault> for NotAsked {
+    ghost use Rattle.std.specs.Prelude.{◌≡◌};
+    ghost use Rattle.fork_words.specs.declared.asked.NotAsked.TheVariants as not_asked;
+
+    ghost from_gives = { λ fault why. why ≡ not_asked.Fault fault };
+
     fn from(fault: Fault) -> NotAsked {
         NotAsked::Fault(fault)
     }
 }
 
 /// What the words ask for, of which the first is the program's name.
-pub fn asked_by<'a, S: AsStr>(alloc: Global, words: &'a [S]) -> Result<Asked<'a>, NotAsked> {
+pub fn asked_by<'a, S: AsStr>(alloc: Global, words: &'a [S]) -> Result<Asked<'a>, NotAsked>
+    ensures fit { IfOk result IsFit }
+    ensures fault { IfErr result IsFault }
+{
     match program(alloc)?.try_get_matches_from(words) {
         Ok(matches) => asked_of(alloc, &matches),
         Err(error) => not_matched(error),
@@ -112,7 +130,10 @@ pub fn asked_by<'a, S: AsStr>(alloc: Global, words: &'a [S]) -> Result<Asked<'a>
 }
 
 /// What the command asks for.
-fn asked_of<'a>(alloc: Global, matches: &ArgMatches<'a>) -> Result<Asked<'a>, NotAsked> {
+fn asked_of<'a>(alloc: Global, matches: &ArgMatches<'a>) -> Result<Asked<'a>, NotAsked>
+    ensures fit { IfOk result IsFit }
+    ensures fault { IfErr result IsFault }
+{
     let Some((name, matches)) = matches.subcommand() else {
         return Err(NotAsked::Fault(Fault::NoCommand));
     };
@@ -129,7 +150,10 @@ fn asked_of<'a>(alloc: Global, matches: &ArgMatches<'a>) -> Result<Asked<'a>, No
 }
 
 /// The form in which something is told.
-pub(crate) fn form_of(matches: &ArgMatches<'_>) -> Form {
+pub(crate) fn form_of(matches: &ArgMatches<'_>) -> Form
+    ensures json { one_text (found_of matches.now) (codes "json") ≡ Some (codes "true") → result ≡ Form.Json }
+    ensures text { one_text (found_of matches.now) (codes "json") ≡ None → result ≡ Form.Text }
+{
     if matches.get_flag("json") {
         Form::Json
     } else {
@@ -147,7 +171,9 @@ fn letters_of(matches: &ArgMatches<'_>) -> Letters {
 }
 
 /// The value of an option or an operand that must be there.
-pub(crate) fn word<'a>(matches: &ArgMatches<'a>, name: &str) -> &'a str {
+pub(crate) fn word<'a>(matches: &ArgMatches<'a>, name: &str) -> &'a str
+    ensures { result.now ≡ unwrap_or (first_value (found_of matches.now) name.now) [] }
+{
     matches.get_str(name).unwrap_or("")
 }
 
@@ -161,13 +187,18 @@ fn reported<'a>(
     alloc: Global,
     report: Report,
     matches: &ArgMatches<'a>,
-) -> Result<Asked<'a>, NotAsked> {
+) -> Result<Asked<'a>, NotAsked>
+    ensures fit { IfOk result IsFit }
+    ensures fault { IfErr result IsFault }
+{
     let files = files_named(alloc, matches)?;
     Ok(Asked::Report(Reporting { report, files }))
 }
 
 /// What `salvage` asks for.
-fn asked_to_salvage<'a>(matches: &ArgMatches<'a>) -> Asked<'a> {
+fn asked_to_salvage<'a>(matches: &ArgMatches<'a>) -> Asked<'a>
+    ensures { IsFit result }
+{
     Asked::Salvage(Salvaging {
         file: word(matches, "file"),
         letters: letters_of(matches),
@@ -194,7 +225,10 @@ fn shown<'a>(
     alloc: Global,
     request: Request,
     matches: &ArgMatches<'a>,
-) -> Result<Asked<'a>, NotAsked> {
+) -> Result<Asked<'a>, NotAsked>
+    ensures fit { IfOk result IsFit }
+    ensures fault { IfErr result IsFault }
+{
     let files = files_named(alloc, matches)?;
     Ok(Asked::Show(Showing {
         request,
@@ -204,7 +238,10 @@ fn shown<'a>(
 }
 
 /// What `ls` asks for.
-fn asked_to_list<'a>(alloc: Global, matches: &ArgMatches<'a>) -> Result<Asked<'a>, NotAsked> {
+fn asked_to_list<'a>(alloc: Global, matches: &ArgMatches<'a>) -> Result<Asked<'a>, NotAsked>
+    ensures fit { IfOk result IsFit }
+    ensures fault { IfErr result IsFault }
+{
     let kinds = kinds_named(alloc, matches)?;
     let shown_bytes = bytes_shown(matches)?;
     if let Form::Json = form_of(matches) {
@@ -224,7 +261,10 @@ fn asked_to_list<'a>(alloc: Global, matches: &ArgMatches<'a>) -> Result<Asked<'a
 }
 
 /// What `get` asks for.
-fn asked_to_get<'a>(alloc: Global, matches: &ArgMatches<'a>) -> Result<Asked<'a>, NotAsked> {
+fn asked_to_get<'a>(alloc: Global, matches: &ArgMatches<'a>) -> Result<Asked<'a>, NotAsked>
+    ensures fit { IfOk result IsFit }
+    ensures fault { IfErr result IsFault }
+{
     let kind = kind_named(alloc, word(matches, "type"))?;
     let key = key_named(alloc, word(matches, "key"))?;
     let nth = nth_named(matches.get_str("nth").unwrap_or("1"))?;
@@ -242,7 +282,9 @@ fn shown_as(word: &str) -> Result<ShowAs, Fault> {
 }
 
 /// Which resources a type and an id or a name ask for, where they are given.
-fn chosen_by(alloc: Global, matches: &ArgMatches<'_>) -> Result<Chosen, NotAsked> {
+fn chosen_by(alloc: Global, matches: &ArgMatches<'_>) -> Result<Chosen, NotAsked>
+    ensures { IfErr result IsFault }
+{
     let Some(word) = matches.get_str("type") else {
         return Ok(Chosen::All);
     };
@@ -255,7 +297,10 @@ fn chosen_by(alloc: Global, matches: &ArgMatches<'_>) -> Result<Chosen, NotAsked
 }
 
 /// What `show` asks for.
-fn asked_to_view<'a>(alloc: Global, matches: &ArgMatches<'a>) -> Result<Asked<'a>, NotAsked> {
+fn asked_to_view<'a>(alloc: Global, matches: &ArgMatches<'a>) -> Result<Asked<'a>, NotAsked>
+    ensures fit { IfOk result IsFit }
+    ensures fault { IfErr result IsFault }
+{
     let form = match matches.get_str("as") {
         Some(word) => Some(shown_as(word)?),
         None => None,
@@ -269,7 +314,10 @@ fn asked_to_view<'a>(alloc: Global, matches: &ArgMatches<'a>) -> Result<Asked<'a
 }
 
 /// What `unpack` asks for.
-fn asked_to_unpack<'a>(alloc: Global, matches: &ArgMatches<'a>) -> Result<Asked<'a>, NotAsked> {
+fn asked_to_unpack<'a>(alloc: Global, matches: &ArgMatches<'a>) -> Result<Asked<'a>, NotAsked>
+    ensures fit { IfOk result IsFit }
+    ensures fault { IfErr result IsFault }
+{
     let kinds = kinds_named(alloc, matches)?;
     Ok(Asked::Unpack {
         unpacking: Unpacking {
@@ -281,10 +329,10 @@ fn asked_to_unpack<'a>(alloc: Global, matches: &ArgMatches<'a>) -> Result<Asked<
 }
 
 /// The types that `-t` names.
-pub(crate) fn kinds_named(
-    alloc: Global,
-    matches: &ArgMatches<'_>,
-) -> Result<Vec<ResType>, NotAsked> {
+pub(crate) fn kinds_named(alloc: Global, matches: &ArgMatches<'_>) -> Result<Vec<ResType>, NotAsked>
+    ensures kinds { IfOk result (λ kinds. NameKinds (unwrap_or (option_map raw_values (matched_of (found_of matches.now) (codes "type"))) []) kinds.items) }
+    ensures fault { IfErr result IsFault }
+{
     let mut kinds = Vec::new(alloc);
     for word in matches.get_strs("type").unwrap_or(&[]) {
         let kind = kind_named(alloc, word)?;
@@ -294,15 +342,23 @@ pub(crate) fn kinds_named(
 }
 
 /// The type that a word names.
-pub(crate) fn kind_named(alloc: Global, word: &str) -> Result<ResType, NotAsked> {
+pub(crate) fn kind_named(alloc: Global, word: &str) -> Result<ResType, NotAsked>
+    ensures kind { IfOk result (NamesKind word.now) }
+    ensures refused { IfErr result (IsKindRefused word.now) }
+{
     let Some(bytes) = bytes_of(alloc, word)? else {
         return Err(NotAsked::Fault(Fault::NoType));
     };
-    kind_of(bytes.as_slice()).ok_or(NotAsked::Fault(Fault::NoType))
+    match kind_of(bytes.as_slice()) {
+        Some(kind) => Ok(kind),
+        None => Err(NotAsked::Fault(Fault::NoType)),
+    }
 }
 
 /// The id that a word names, or the name.
-fn key_named(alloc: Global, word: &str) -> Result<Key, NotAsked> {
+fn key_named(alloc: Global, word: &str) -> Result<Key, NotAsked>
+    ensures { IfErr result IsFault }
+{
     if let Ok(id) = word.parse::<i16>() {
         return Ok(Key::Id(id));
     }
@@ -310,7 +366,9 @@ fn key_named(alloc: Global, word: &str) -> Result<Key, NotAsked> {
 }
 
 /// The name that a word shows.
-pub(crate) fn name_named(alloc: Global, word: &str) -> Result<Vec<u8>, NotAsked> {
+pub(crate) fn name_named(alloc: Global, word: &str) -> Result<Vec<u8>, NotAsked>
+    ensures { IfErr result IsFault }
+{
     let Some(bytes) = bytes_of(alloc, word)? else {
         return Err(NotAsked::Fault(Fault::NoKey));
     };
@@ -326,7 +384,10 @@ fn nth_named(word: &str) -> Result<usize, Fault> {
 }
 
 /// What it means that the words don't match.
-fn not_matched<'a>(error: clap::Error) -> Result<Asked<'a>, NotAsked> {
+fn not_matched<'a>(error: clap::Error) -> Result<Asked<'a>, NotAsked>
+    ensures fit { IfOk result IsFit }
+    ensures fault { IfErr result IsFault }
+{
     match error.kind() {
         ErrorKind::DisplayHelp | ErrorKind::DisplayVersion => Ok(Asked::Tell(error)),
         ErrorKind::OutOfMemory => Err(NotAsked::HostFull),

@@ -1,5 +1,9 @@
 //! The words of the commands that change files, and of those that compare them.
 
+ghost use Rattle.std.specs.Prelude.{◌≡◌, IfErr, IfOk};
+ghost use Rattle.fork_words.specs.Asks.{IsFault};
+ghost use Rattle.fork_words.specs.Inputs.{GoesElsewhere, IsInput, ReadsOnce};
+
 use crate::INPUT;
 use crate::asked::{NotAsked, form_of, kind_named, kinds_named, name_named, word};
 use crate::fault::Fault;
@@ -130,7 +134,10 @@ pub(crate) fn work_of<'a>(
     alloc: Global,
     name: &str,
     matches: &ArgMatches<'a>,
-) -> Result<Work<'a>, NotAsked> {
+) -> Result<Work<'a>, NotAsked>
+    ensures once { IfOk result ReadsOnce }
+    ensures fault { IfErr result IsFault }
+{
     match name {
         "put" => put(alloc, matches),
         "rm" => remove(alloc, matches),
@@ -146,19 +153,26 @@ pub(crate) fn work_of<'a>(
 }
 
 /// What `derez` asks for.
-fn derez<'a>(alloc: Global, matches: &ArgMatches<'a>) -> Result<Work<'a>, NotAsked> {
+fn derez<'a>(alloc: Global, matches: &ArgMatches<'a>) -> Result<Work<'a>, NotAsked>
+    ensures once { IfOk result ReadsOnce }
+    ensures fault { IfErr result IsFault }
+{
     let kinds = kinds_named(alloc, matches)?;
     let file = word(matches, "file");
     Ok(Work::Derez(Derezzing { file, kinds }))
 }
 
 /// What `rez` asks for.
-fn rez<'a>(matches: &ArgMatches<'a>) -> Work<'a> {
+fn rez<'a>(matches: &ArgMatches<'a>) -> Work<'a>
+    ensures { ReadsOnce result }
+{
     Work::Rez(target_of(matches, word(matches, "file")))
 }
 
 /// What `pack` asks for.
-fn pack<'a>(matches: &ArgMatches<'a>) -> Work<'a> {
+fn pack<'a>(matches: &ArgMatches<'a>) -> Work<'a>
+    ensures { ReadsOnce result }
+{
     let folder = word(matches, "folder");
     Work::Pack(Packing {
         folder,
@@ -175,7 +189,11 @@ fn changed_target<'a>(
     matches: &ArgMatches<'a>,
     file: &'a str,
     other: &str,
-) -> Result<Target<'a>, Fault> {
+) -> Result<Target<'a>, Fault>
+    ensures file { IfOk result (λ target. target.file ≡ file.entry) }
+    ensures elsewhere { IfOk result GoesElsewhere }
+    ensures once { IfOk result (λ _. IsInput file.now → ¬ IsInput other.now) }
+{
     let target = target_of(matches, file);
     if file != INPUT {
         return Ok(target);
@@ -190,7 +208,9 @@ fn changed_target<'a>(
 }
 
 /// Where a file goes.
-fn target_of<'a>(matches: &ArgMatches<'a>, file: &'a str) -> Target<'a> {
+fn target_of<'a>(matches: &ArgMatches<'a>, file: &'a str) -> Target<'a>
+    ensures { result.file ≡ file.entry }
+{
     Target {
         file,
         output: matches.get_str("output"),
@@ -209,14 +229,18 @@ fn id_named(word: &str) -> Result<i16, Fault> {
 }
 
 /// The type and the id that two words name.
-fn resource_named(alloc: Global, kind: &str, id: &str) -> Result<ResourceId, NotAsked> {
+fn resource_named(alloc: Global, kind: &str, id: &str) -> Result<ResourceId, NotAsked>
+    ensures { IfErr result IsFault }
+{
     let kind = kind_named(alloc, kind)?;
     let id = id_named(id)?;
     Ok(ResourceId { kind, id })
 }
 
 /// What becomes of a resource's name.
-fn name_change(alloc: Global, matches: &ArgMatches<'_>) -> Result<NameChange, NotAsked> {
+fn name_change(alloc: Global, matches: &ArgMatches<'_>) -> Result<NameChange, NotAsked>
+    ensures { IfErr result IsFault }
+{
     if matches.get_flag("no-name") {
         return Ok(NameChange::Clear);
     }
@@ -298,7 +322,10 @@ fn attribute_change(matches: &ArgMatches<'_>) -> Result<AttributeChange, Fault> 
 }
 
 /// What `put` asks for.
-fn put<'a>(alloc: Global, matches: &ArgMatches<'a>) -> Result<Work<'a>, NotAsked> {
+fn put<'a>(alloc: Global, matches: &ArgMatches<'a>) -> Result<Work<'a>, NotAsked>
+    ensures once { IfOk result ReadsOnce }
+    ensures fault { IfErr result IsFault }
+{
     let to = resource_named(alloc, word(matches, "type"), word(matches, "id"))?;
     let name = name_change(alloc, matches)?;
     let attributes = attribute_change(matches)?;
@@ -322,7 +349,9 @@ fn resources_named(
     alloc: Global,
     kind: ResType,
     words: &[&str],
-) -> Result<Vec<ResourceId>, NotAsked> {
+) -> Result<Vec<ResourceId>, NotAsked>
+    ensures { IfErr result IsFault }
+{
     let mut whats = Vec::new(alloc);
     for word in words {
         let id = id_named(word)?;
@@ -334,7 +363,10 @@ fn resources_named(
 }
 
 /// What `rm` asks for.
-fn remove<'a>(alloc: Global, matches: &ArgMatches<'a>) -> Result<Work<'a>, NotAsked> {
+fn remove<'a>(alloc: Global, matches: &ArgMatches<'a>) -> Result<Work<'a>, NotAsked>
+    ensures once { IfOk result ReadsOnce }
+    ensures fault { IfErr result IsFault }
+{
     let kind = kind_named(alloc, word(matches, "type"))?;
     let whats = resources_named(alloc, kind, matches.get_strs("id").unwrap_or(&[]))?;
     let target = changed_target(matches, word(matches, "file"), "")?;
@@ -342,7 +374,10 @@ fn remove<'a>(alloc: Global, matches: &ArgMatches<'a>) -> Result<Work<'a>, NotAs
 }
 
 /// What `set` asks for.
-fn set<'a>(alloc: Global, matches: &ArgMatches<'a>) -> Result<Work<'a>, NotAsked> {
+fn set<'a>(alloc: Global, matches: &ArgMatches<'a>) -> Result<Work<'a>, NotAsked>
+    ensures once { IfOk result ReadsOnce }
+    ensures fault { IfErr result IsFault }
+{
     let old_kind = word(matches, "old-type");
     let old_id = word(matches, "old-id");
     let kind = matches.get_str("type").unwrap_or(old_kind);
@@ -364,7 +399,9 @@ fn set<'a>(alloc: Global, matches: &ArgMatches<'a>) -> Result<Work<'a>, NotAsked
 }
 
 /// Which resources a word of `cp` names: TYPE, or TYPE:ID.
-fn choice_named(alloc: Global, word: &str) -> Result<Choice, NotAsked> {
+fn choice_named(alloc: Global, word: &str) -> Result<Choice, NotAsked>
+    ensures { IfErr result IsFault }
+{
     if word.len() != KIND_LENGTH
         && let Some((kind, id)) = word.rsplit_once(":")
         && let Ok(id) = id.parse::<i16>()
@@ -376,7 +413,9 @@ fn choice_named(alloc: Global, word: &str) -> Result<Choice, NotAsked> {
 }
 
 /// Which resources words of `cp` name: all where there are none.
-fn choices_named(alloc: Global, words: &[&str]) -> Result<Vec<Choice>, NotAsked> {
+fn choices_named(alloc: Global, words: &[&str]) -> Result<Vec<Choice>, NotAsked>
+    ensures { IfErr result IsFault }
+{
     let mut chosen = Vec::new(alloc);
     if words.is_empty() {
         chosen.push(Choice::All).map_err(AllocError::from)?;
@@ -402,7 +441,10 @@ fn collision_of(matches: &ArgMatches<'_>) -> Collision {
 }
 
 /// What `cp` asks for.
-fn copy<'a>(alloc: Global, matches: &ArgMatches<'a>) -> Result<Work<'a>, NotAsked> {
+fn copy<'a>(alloc: Global, matches: &ArgMatches<'a>) -> Result<Work<'a>, NotAsked>
+    ensures once { IfOk result ReadsOnce }
+    ensures fault { IfErr result IsFault }
+{
     let [words @ .., file] = matches.get_strs("words").unwrap_or(&[]) else {
         return Err(NotAsked::Fault(Fault::NoCommand));
     };
@@ -418,7 +460,9 @@ fn copy<'a>(alloc: Global, matches: &ArgMatches<'a>) -> Result<Work<'a>, NotAske
 }
 
 /// What `diff` asks for.
-fn compare<'a>(matches: &ArgMatches<'a>) -> Result<Work<'a>, Fault> {
+fn compare<'a>(matches: &ArgMatches<'a>) -> Result<Work<'a>, Fault>
+    ensures { IfOk result ReadsOnce }
+{
     let a = word(matches, "a");
     let b = word(matches, "b");
     if a == INPUT && b == INPUT {
@@ -441,7 +485,10 @@ fn kind_of_container(word: &str) -> Result<Kind, Fault> {
 }
 
 /// What `convert` asks for.
-fn convert<'a>(alloc: Global, matches: &ArgMatches<'a>) -> Result<Work<'a>, NotAsked> {
+fn convert<'a>(alloc: Global, matches: &ArgMatches<'a>) -> Result<Work<'a>, NotAsked>
+    ensures once { IfOk result ReadsOnce }
+    ensures fault { IfErr result IsFault }
+{
     let name = match matches.get_str("name") {
         Some(word) => Some(name_named(alloc, word)?),
         None => None,

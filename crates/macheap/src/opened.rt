@@ -31,10 +31,12 @@ pub enum NotOpened {
 
 impl NotOpened {
     ghost use Rattle.std.specs.Prelude.{◌≡◌};
-    ghost use Rattle.macheap.specs.Opening.{reason};
+    ghost use Rattle.macheap.specs.Opening.{because, reason};
 
     /// What an error of this kind says.
-    pub fn because(kind: ErrorKind) -> NotOpened {
+    pub fn because(kind: ErrorKind) -> NotOpened
+        ensures { result ≡ because kind }
+    {
         match kind {
             ErrorKind::NotFound | ErrorKind::NotADirectory => NotOpened::NoFolder,
             ErrorKind::IsADirectory => NotOpened::Folder,

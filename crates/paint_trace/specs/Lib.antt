@@ -1,1 +1,2 @@
 pub mod Trace
+pub mod Shown

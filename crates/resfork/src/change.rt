@@ -1,5 +1,8 @@
 //! Files changed: read whole, changed, and written in their own place or in another.
 
+ghost use Rattle.std.specs.Prelude.{◌≡◌, IfErr, IfOk, IfSome, Ok, true};
+ghost use Rattle.resfork.specs.Problems.{IsIdle, IsNotSaved};
+
 use crate::asked_change::Target;
 use crate::input::read_all;
 use crate::message::{DONE, Problem};
@@ -21,7 +24,9 @@ pub fn change(
     target: &Target<'_>,
     from: &[Row<'_>],
     edit: Edit<'_>,
-) -> Result<u8, Problem> {
+) -> Result<u8, Problem>
+    ensures { IfOk result (λ status. status ≡ DONE) }
+{
     if target.is_dry || target.output.is_some() {
         let old = read(rt, target.file)?;
         change_into(rt, target, &old, from, edit)
@@ -36,7 +41,9 @@ pub fn create(
     target: &Target<'_>,
     from: &[Row<'_>],
     edit: Edit<'_>,
-) -> Result<u8, Problem> {
+) -> Result<u8, Problem>
+    ensures { IfOk result (λ status. status ≡ DONE) }
+{
     let target = Target {
         output: target.output.or(Some(target.file)),
         ..*target
@@ -50,7 +57,9 @@ fn change_in_place(
     target: &Target<'_>,
     from: &[Row<'_>],
     edit: Edit<'_>,
-) -> Result<u8, Problem> {
+) -> Result<u8, Problem>
+    ensures { IfOk result (λ status. status ≡ DONE) }
+{
     let mut held = Held::open::<UnknownPair>(rt, target.file)?;
     // a byte more, for the read that finds the end
     let expected = (held.file().metadata().map_err(Problem::Read)?.len() as usize).saturating_add(
@@ -82,7 +91,9 @@ fn change_into(
     old: &[u8],
     from: &[Row<'_>],
     edit: Edit<'_>,
-) -> Result<u8, Problem> {
+) -> Result<u8, Problem>
+    ensures { IfOk result (λ status. status ≡ DONE) }
+{
     match changed_of(rt, old, from, edit)? {
         Some(changed) => {
             write_output(rt, target, &changed.file)?;
@@ -96,7 +107,10 @@ fn change_into(
 }
 
 /// Writes the file that a command names, unless it only says what it would do.
-pub fn write_output(rt: &HostRuntime, target: &Target<'_>, bytes: &[u8]) -> Result<(), Problem> {
+pub fn write_output(rt: &HostRuntime, target: &Target<'_>, bytes: &[u8]) -> Result<(), Problem>
+    ensures idle { IsIdle target.now → result ≡ Ok tt }
+    ensures cause { IfErr result (λ why. IfSome target.now.output (λ path. IsNotSaved path.now why)) }
+{
     match target.output {
         Some(output) if !target.is_dry => save_to(rt, output, bytes),
         _ => Ok(()),
@@ -104,7 +118,9 @@ pub fn write_output(rt: &HostRuntime, target: &Target<'_>, bytes: &[u8]) -> Resu
 }
 
 /// Writes a file, which is whole then, or as it was; or bytes to the standard output, unless it is a terminal.
-pub fn save_to(rt: &HostRuntime, output: &str, bytes: &[u8]) -> Result<(), Problem> {
+pub fn save_to(rt: &HostRuntime, output: &str, bytes: &[u8]) -> Result<(), Problem>
+    ensures { IfErr result (IsNotSaved output.now) }
+{
     if output == OUTPUT {
         if rt.stdout().is_terminal() {
             return Err(Problem::Terminal);
@@ -121,7 +137,10 @@ pub fn save_to(rt: &HostRuntime, output: &str, bytes: &[u8]) -> Result<(), Probl
 }
 
 /// Says what was done, or would be, unless the file itself goes to the standard output.
-pub fn say(rt: &HostRuntime, target: &Target<'_>, text: &String) -> Result<u8, Problem> {
+pub fn say(rt: &HostRuntime, target: &Target<'_>, text: &String) -> Result<u8, Problem>
+    ensures done { IfOk result (λ status. status ≡ DONE) }
+    ensures quiet { target.now.is_quiet ≡ true → result ≡ Ok DONE }
+{
     if !target.is_quiet && (target.is_dry || target.output != Some(OUTPUT)) {
         write_text(rt, text)?;
     }

@@ -1,5 +1,8 @@
 //! A file is written in another container.
 
+ghost use Rattle.std.specs.Prelude.{◌≡◌, IfOk, Err, Some, option_map};
+ghost use Rattle.resfork.specs.Problems.{written_file};
+
 use crate::asked_change::Conversion;
 use crate::change::{save_to, say};
 use crate::message::{DONE, Problem};
@@ -118,7 +121,9 @@ fn data_for(
 }
 
 /// The file that is written.
-fn output_of<'a>(asked: &Conversion<'a>) -> &'a str {
+fn output_of<'a>(asked: &Conversion<'a>) -> &'a str
+    ensures { result.now ≡ written_file asked.now.target }
+{
     asked.target.output.unwrap_or(asked.target.file)
 }
 
@@ -155,7 +160,10 @@ fn in_container(alloc: Global, transfer: &Transfer<'_>) -> Result<Rewritten, Pro
 }
 
 /// Writes a file in another container. The result is the exit status.
-pub fn convert(rt: &HostRuntime, asked: &Conversion<'_>) -> Result<u8, Problem> {
+pub fn convert(rt: &HostRuntime, asked: &Conversion<'_>) -> Result<u8, Problem>
+    ensures done { IfOk result (λ status. status ≡ DONE) }
+    ensures one_file { option_map (λ path. path.now) asked.now.data ≡ Some (written_file asked.now.target) → result ≡ Err Problem.OneFile }
+{
     if asked.data == Some(output_of(asked)) {
         return Err(Problem::OneFile);
     }
@@ -174,7 +182,9 @@ fn convert_file(
     asked: &Conversion<'_>,
     bytes: &[u8],
     file: MacFile<'_>,
-) -> Result<u8, Problem> {
+) -> Result<u8, Problem>
+    ensures { IfOk result (λ status. status ≡ DONE) }
+{
     let data = data_for(rt, asked, bytes, &file)?;
     let name = name_for(rt.alloc(), asked, &file)?;
     let transfer = Transfer {
@@ -196,7 +206,9 @@ fn write_converted(
     asked: &Conversion<'_>,
     new: &Rewritten,
     data: &[u8],
-) -> Result<u8, Problem> {
+) -> Result<u8, Problem>
+    ensures { IfOk result (λ status. status ≡ DONE) }
+{
     let words = lost_words(rt.alloc(), &new.lost)?;
     if !asked.target.is_dry {
         write_both(rt, asked, &new.file, data)?;

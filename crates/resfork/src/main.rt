@@ -1,6 +1,9 @@
 //! Shows what the resource forks of old Macintosh files hold: `resfork ls FILE`, `resfork get FILE TYPE ID`.
 #![tactic(auto)]
 
+ghost use Rattle.std.specs.Prelude.{◌≡◌, ◌≤◌, if◌then◌else◌, IfOk};
+ghost use Rattle.resfork.specs.Statuses.{status_after};
+
 mod change;
 mod convert;
 mod input;
@@ -37,7 +40,9 @@ fn main(rt: HostRuntime) -> ExitCode {
 }
 
 /// Does what the words of the command line ask for. The result is the exit status.
-fn run(rt: &HostRuntime) -> u8 {
+fn run(rt: &HostRuntime) -> u8
+    ensures { result ≤ CANT_GO_ON }
+{
     let words = match env::args(rt) {
         Ok(words) => words,
         Err(error) => return tell_no_words(rt, &error),
@@ -52,7 +57,9 @@ fn run(rt: &HostRuntime) -> u8 {
 }
 
 /// Does what is asked for. The result is the exit status.
-fn done(rt: &HostRuntime, asked: Asked<'_>) -> u8 {
+fn done(rt: &HostRuntime, asked: Asked<'_>) -> u8
+    ensures { result ≤ CANT_GO_ON }
+{
     match asked {
         Asked::Show(asked) => show_all(rt, &asked),
         Asked::Report(asked) => report_all(rt, &asked),
@@ -70,7 +77,9 @@ fn is_titled(rt: &HostRuntime, files: &[&str], file: &str) -> bool {
 }
 
 /// Shows something of each of these files, and tells why some aren't shown. The result is the highest status of them.
-fn show_all(rt: &HostRuntime, asked: &Showing<'_>) -> u8 {
+fn show_all(rt: &HostRuntime, asked: &Showing<'_>) -> u8
+    ensures { result ≤ CANT_GO_ON }
+{
     let files = asked.files.as_slice();
     let mut status = DONE;
     for file in files {
@@ -83,7 +92,9 @@ fn show_all(rt: &HostRuntime, asked: &Showing<'_>) -> u8 {
 }
 
 /// Shows something of the file of this name, on the standard output or in a file.
-fn show(rt: &HostRuntime, asked: &Showing<'_>, file: &str) -> Result<u8, Problem> {
+fn show(rt: &HostRuntime, asked: &Showing<'_>, file: &str) -> Result<u8, Problem>
+    ensures { IfOk result (λ status. status ≡ DONE) }
+{
     match asked.output {
         Some(output) => save_answer(rt, &asked.request, file, output)?,
         None if asked.request.is_for_files() && rt.stdout().is_terminal() => {
@@ -125,7 +136,9 @@ fn write_answer<W: Write>(
 }
 
 /// Reports on each of these files, and tells why of some nothing is told. The result is the highest status of them.
-fn report_all(rt: &HostRuntime, asked: &Reporting<'_>) -> u8 {
+fn report_all(rt: &HostRuntime, asked: &Reporting<'_>) -> u8
+    ensures { result ≤ CANT_GO_ON }
+{
     let files = asked.files.as_slice();
     let is_text = matches!(asked.report.form(), Form::Text);
     let mut status = DONE;
@@ -139,7 +152,9 @@ fn report_all(rt: &HostRuntime, asked: &Reporting<'_>) -> u8 {
 }
 
 /// Reports on the file of this name. The result is its status, or why nothing is told.
-fn report_one(rt: &HostRuntime, report: &Report, file: &str) -> Result<u8, Problem> {
+fn report_one(rt: &HostRuntime, report: &Report, file: &str) -> Result<u8, Problem>
+    ensures { IfOk result (λ status. status ≤ NO_FORK) }
+{
     match report_file(rt, report, file) {
         Ok(told) => print_told(rt, &told),
         Err(problem) if matches!(report.form(), Form::Json) => Err(refused(rt, file, problem)),
@@ -162,7 +177,9 @@ fn report_file(rt: &HostRuntime, report: &Report, file: &str) -> Result<Told, Pr
 }
 
 /// Writes what is told of a file. The result is its status.
-fn print_told(rt: &HostRuntime, told: &Told) -> Result<u8, Problem> {
+fn print_told(rt: &HostRuntime, told: &Told) -> Result<u8, Problem>
+    ensures { IfOk result (λ status. status ≡ (if told.now.is_damaged then NO_FORK else DONE)) }
+{
     write_text(rt, &told.text)?;
     Ok(if told.is_damaged { NO_FORK } else { DONE })
 }
@@ -192,7 +209,10 @@ fn write_text(rt: &HostRuntime, text: &String) -> Result<(), Problem> {
 }
 
 /// The status of what was done with a file. A problem is told.
-fn finish(rt: &HostRuntime, file: &str, done: Result<u8, Problem>) -> u8 {
+fn finish(rt: &HostRuntime, file: &str, done: Result<u8, Problem>) -> u8
+    ensures status { result ≡ status_after done }
+    ensures few { IfOk done (λ status. status ≤ CANT_GO_ON) → result ≤ CANT_GO_ON }
+{
     match done {
         Ok(status) => status,
         Err(problem) => {
@@ -205,7 +225,9 @@ fn finish(rt: &HostRuntime, file: &str, done: Result<u8, Problem>) -> u8 {
 }
 
 /// Lists what can be read of a file, or writes it to another. The result is the exit status.
-fn salvage_file(rt: &HostRuntime, asked: Salvaging<'_>) -> Result<u8, Problem> {
+fn salvage_file(rt: &HostRuntime, asked: Salvaging<'_>) -> Result<u8, Problem>
+    ensures { IfOk result (λ status. status ≡ DONE) }
+{
     let bytes = read(rt, asked.file)?;
     match asked.output {
         Some(output) => save_salvaged(rt, asked.file, &bytes, output)?,
@@ -253,17 +275,22 @@ fn table_found<'a>(
 /// Something that is done with the table of a file's resource fork.
 pub trait TableUse {
     /// Does it. The result is the exit status.
-    fn done(&self, rt: &HostRuntime, bytes: &[u8], table: &Table<'_>) -> Result<u8, Problem>;
+    fn done(&self, rt: &HostRuntime, bytes: &[u8], table: &Table<'_>) -> Result<u8, Problem>
+        ensures { IfOk result (λ status. status ≡ DONE) };
 }
 
 /// Does something with the table of the file of this name.
-pub fn use_table<U: TableUse>(rt: &HostRuntime, file: &str, table_use: &U) -> Result<u8, Problem> {
+pub fn use_table<U: TableUse>(rt: &HostRuntime, file: &str, table_use: &U) -> Result<u8, Problem>
+    ensures { IfOk result (λ status. status ≡ DONE) }
+{
     let bytes = read(rt, file)?;
     use_table_in(rt, &bytes, table_use)
 }
 
 /// Does something with the table of the resource fork in these bytes.
-fn use_table_in<U: TableUse>(rt: &HostRuntime, bytes: &[u8], table_use: &U) -> Result<u8, Problem> {
+fn use_table_in<U: TableUse>(rt: &HostRuntime, bytes: &[u8], table_use: &U) -> Result<u8, Problem>
+    ensures { IfOk result (λ status. status ≡ DONE) }
+{
     let found = fork_found(rt, bytes)?;
     let table = table_found(rt, &found, bytes)?;
     table_use.done(rt, bytes, &table)
@@ -324,7 +351,9 @@ fn read_whole(rt: &HostRuntime, file: &str) -> io::Result<Vec<u8>> {
 }
 
 /// Writes the help or the version. The result is the exit status.
-fn tell(rt: &HostRuntime, text: clap::Error) -> u8 {
+fn tell(rt: &HostRuntime, text: clap::Error) -> u8
+    ensures { result ≤ CANT_GO_ON }
+{
     match print!(rt; "{text}") {
         Ok(()) => DONE,
         Err(_) => CANT_GO_ON,
@@ -332,7 +361,9 @@ fn tell(rt: &HostRuntime, text: clap::Error) -> u8 {
 }
 
 /// Tells that the words can't be read: they are no text, or the host has no memory for them. The result is the exit status.
-fn tell_no_words(rt: &HostRuntime, error: &io::Error) -> u8 {
+fn tell_no_words(rt: &HostRuntime, error: &io::Error) -> u8
+    ensures { result ≤ CANT_GO_ON }
+{
     if error.kind() == ErrorKind::OutOfMemory {
         return tell_bad_words(rt, &NotAsked::HostFull);
     }

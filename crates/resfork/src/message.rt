@@ -1,5 +1,9 @@
 //! What is told on the standard error, and the exit statuses.
 
+ghost use Rattle.std.specs.Prelude.{◌≡◌};
+ghost use Rattle.resfork.specs.Problems.{IsToldOfChange, after_change};
+ghost use Rattle.resfork.specs.Statuses.{status_of, status_of_words};
+
 use file_replace::NotReplaced;
 use fork_answer::Failure;
 use fork_change::row::ResourceId;
@@ -109,6 +113,11 @@ impl fmt::Display for Problem {
 }
 
 impl From<AllocError> for Problem {
+    ghost use Rattle.std.specs.Prelude.{◌≡◌};
+    ghost use Rattle.resfork.specs.declared.message.Problem.TheVariants as problem;
+
+    ghost from_gives = { λ _ why. why ≡ problem.HostFull };
+
     fn from(_: AllocError) -> Problem {
         Problem::HostFull
     }
@@ -133,7 +142,9 @@ impl From<Refusal> for Problem {
 }
 
 /// The exit status that says so.
-fn status_of_refusal(refusal: &Refusal) -> u8 {
+fn status_of_refusal(refusal: &Refusal) -> u8
+    ensures { result ≡ status_of (Problem.Refused refusal.now) }
+{
     match refusal {
         Refusal::Show(Failure::NotFound) => NOT_FOUND,
         Refusal::Show(Failure::HostFull) | Refusal::Show(Failure::Write(_)) => CANT_GO_ON,
@@ -192,7 +203,9 @@ impl Problem {
     }
 
     /// Why this file isn't changed.
-    pub fn of_change(alloc: Global, fault: NotChanged, file: &[u8]) -> Problem {
+    pub fn of_change(alloc: Global, fault: NotChanged, file: &[u8]) -> Problem
+        ensures { IsToldOfChange file.now fault result }
+    {
         match fault {
             NotChanged::Read(failure) => Problem::Refused(Refusal::of_failure(
                 alloc, failure, file,
@@ -204,7 +217,9 @@ impl Problem {
     }
 
     /// The problem, where a file is changed already.
-    pub fn after_change(self) -> Problem {
+    pub fn after_change(self) -> Problem
+        ensures { result ≡ after_change self }
+    {
         match self {
             Problem::Print(error) => Problem::Said(error),
             problem => problem,
@@ -212,7 +227,9 @@ impl Problem {
     }
 
     /// The exit status that says so.
-    pub fn status(&self) -> u8 {
+    pub fn status(&self) -> u8
+        ensures { result ≡ status_of self.now }
+    {
         match self {
             Problem::Refused(refusal) => status_of_refusal(refusal),
             Problem::View(NotShown::NotFound)
@@ -297,7 +314,9 @@ fn tell_archive(rt: &HostRuntime, file: &str, archive: Archive) -> io::Result<()
 }
 
 /// Tells why the words ask for nothing. The result is the exit status.
-pub fn tell_bad_words(rt: &HostRuntime, error: &NotAsked) -> u8 {
+pub fn tell_bad_words(rt: &HostRuntime, error: &NotAsked) -> u8
+    ensures { result ≡ status_of_words error.now }
+{
     let _ = eprint!(rt; "{error}");
     match error {
         NotAsked::HostFull => CANT_GO_ON,

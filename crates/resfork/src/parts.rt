@@ -1,5 +1,9 @@
 //! Files that are resource forks and nothing else: of them only what is shown is read.
 
+ghost use Rattle.std.specs.Prelude.{◌≡◌, ◌≢◌, Err, IfErr, IfNone, IfSome, Some};
+ghost use Rattle.fork_bytes.specs.declared.fault.ForkFault.{ForkFault};
+ghost use Rattle.fork_answer.specs.Answer.{IsQuiet};
+
 use crate::{INPUT, settled};
 use fork_answer::request::Request;
 use fork_answer::{Failure, answer_in_parts, rows_in_parts};
@@ -30,7 +34,11 @@ pub fn answer_by_parts<W: World, O: Write>(
     request: &Request,
     name: &str,
     output: &mut O,
-) -> Option<Result<(), Failure>> {
+) -> Option<Result<(), Failure>>
+    ensures none { IfNone result (output.new ≡ output.old) }
+    ensures quiet { IfSome result (λ shown. IfErr shown (λ failure. IsQuiet failure → output.new ≡ output.old)) }
+    ensures whole { (fault : ForkFault) → result ≢ Some (Err (Failure.Fork fault)) }
+{
     let mut store = file_of::<W>(rt, name)?;
     match answer_in_parts(rt.alloc(), request, &mut store, output)? {
         Err(Failure::Fork(_)) => None,

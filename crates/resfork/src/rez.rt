@@ -1,5 +1,7 @@
 //! Resources as a text, and the fork of a text; and the fork of a folder to which resources were unpacked.
 
+ghost use Rattle.std.specs.Prelude.{◌≡◌, IfOk};
+
 use crate::asked_change::Target;
 use crate::change::{say, write_output};
 use crate::message::{DONE, Problem};
@@ -38,12 +40,16 @@ impl TableUse for Derez<'_> {
 }
 
 /// Writes resources of a file as a text.
-pub fn derez_file(rt: &HostRuntime, file: &str, kinds: &[ResType]) -> Result<u8, Problem> {
+pub fn derez_file(rt: &HostRuntime, file: &str, kinds: &[ResType]) -> Result<u8, Problem>
+    ensures { IfOk result (λ status. status ≡ DONE) }
+{
     use_table(rt, file, &Derez(kinds))
 }
 
 /// Writes a fork of a text.
-pub fn rez_file(rt: &HostRuntime, target: &Target<'_>) -> Result<u8, Problem> {
+pub fn rez_file(rt: &HostRuntime, target: &Target<'_>) -> Result<u8, Problem>
+    ensures { IfOk result (λ status. status ≡ DONE) }
+{
     let alloc = rt.alloc();
     let text = read(rt, target.file)?;
     let made = rez(alloc, &text).map_err(Problem::Rez)?;
@@ -97,7 +103,9 @@ fn write_table(
     target: &Target<'_>,
     like: &[u8],
     table: &Table<'_>,
-) -> Result<u8, Problem> {
+) -> Result<u8, Problem>
+    ensures { IfOk result (λ status. status ≡ DONE) }
+{
     let alloc = rt.alloc();
     let name = target.output.unwrap_or("");
     if like.is_empty() && is_container(rt, name) {
@@ -156,7 +164,9 @@ pub fn pack_folder(
     folder: &str,
     like: &[u8],
     target: &Target<'_>,
-) -> Result<u8, Problem> {
+) -> Result<u8, Problem>
+    ensures { IfOk result (λ status. status ≡ DONE) }
+{
     let packing = packing_of(rt, folder)?;
     let files = read_files(rt, folder, packing.entries.as_slice())?;
     let rows = packed(rt.alloc(), packing.entries.as_slice(), &files).map_err(Problem::Pack)?;

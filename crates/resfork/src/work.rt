@@ -1,9 +1,11 @@
 //! What the commands do that change files, and those that compare them.
 
+ghost use Rattle.std.specs.Prelude.{◌≡◌, ◌≢◌, ◌≤◌, IfOk, Ok};
+
 use crate::asked_change::{Comparison, Copying, Packing, Putting, Removing, Setting, Target, Work};
 use crate::change::{change, create};
 use crate::convert::convert;
-use crate::message::{DONE, NOT_FOUND, Problem};
+use crate::message::{CANT_GO_ON, DONE, NOT_FOUND, Problem};
 use crate::rez::{derez_file, pack_folder, rez_file};
 use crate::{INPUT, finish, fork_found, read, table_found, write_text};
 use fork_bytes::table::{Row, Table};
@@ -24,7 +26,9 @@ struct Failed<'a> {
 }
 
 /// Does what is asked for. The result is the exit status.
-pub fn work(rt: &HostRuntime, work: Work<'_>) -> u8 {
+pub fn work(rt: &HostRuntime, work: Work<'_>) -> u8
+    ensures { result ≤ CANT_GO_ON }
+{
     match done(rt, work) {
         Ok(status) => status,
         Err(Failed { file, problem }) => finish(rt, file, Err(problem)),
@@ -32,7 +36,9 @@ pub fn work(rt: &HostRuntime, work: Work<'_>) -> u8 {
 }
 
 /// What was done with a file, or that it is in the way.
-fn of_file<'a, T>(file: &'a str, done: Result<T, Problem>) -> Result<T, Failed<'a>> {
+fn of_file<'a, T>(file: &'a str, done: Result<T, Problem>) -> Result<T, Failed<'a>>
+    ensures { IfOk result (λ value. done ≡ Ok value) }
+{
     match done {
         Ok(done) => Ok(done),
         Err(problem) => Err(Failed { file, problem }),
@@ -40,7 +46,9 @@ fn of_file<'a, T>(file: &'a str, done: Result<T, Problem>) -> Result<T, Failed<'
 }
 
 /// Does what is asked for. The result is the exit status, or which file is in the way.
-fn done<'a>(rt: &HostRuntime, work: Work<'a>) -> Result<u8, Failed<'a>> {
+fn done<'a>(rt: &HostRuntime, work: Work<'a>) -> Result<u8, Failed<'a>>
+    ensures { IfOk result (λ status. status ≤ NOT_FOUND) }
+{
     match work {
         Work::Put(asked) => put(rt, asked),
         Work::Remove(asked) => remove(rt, &asked),
@@ -58,14 +66,18 @@ fn done<'a>(rt: &HostRuntime, work: Work<'a>) -> Result<u8, Failed<'a>> {
 }
 
 /// Puts bytes in the place of a resource's, or adds it.
-fn put<'a>(rt: &HostRuntime, asked: Putting<'a>) -> Result<u8, Failed<'a>> {
+fn put<'a>(rt: &HostRuntime, asked: Putting<'a>) -> Result<u8, Failed<'a>>
+    ensures { IfOk result (λ status. status ≡ DONE) }
+{
     let input = asked.input.unwrap_or(INPUT);
     let bytes = of_file(input, read(rt, input))?;
     of_file(asked.target.file, put_bytes(rt, asked, &bytes))
 }
 
 /// Puts these bytes in the place of a resource's, or adds it.
-fn put_bytes(rt: &HostRuntime, asked: Putting<'_>, bytes: &[u8]) -> Result<u8, Problem> {
+fn put_bytes(rt: &HostRuntime, asked: Putting<'_>, bytes: &[u8]) -> Result<u8, Problem>
+    ensures { IfOk result (λ status. status ≡ DONE) }
+{
     let edit = Edit::Put {
         change: asked.change,
         bytes,
@@ -75,13 +87,17 @@ fn put_bytes(rt: &HostRuntime, asked: Putting<'_>, bytes: &[u8]) -> Result<u8, P
 }
 
 /// Removes resources.
-fn remove<'a>(rt: &HostRuntime, asked: &Removing<'a>) -> Result<u8, Failed<'a>> {
+fn remove<'a>(rt: &HostRuntime, asked: &Removing<'a>) -> Result<u8, Failed<'a>>
+    ensures { IfOk result (λ status. status ≡ DONE) }
+{
     let edit = Edit::Remove(asked.whats.as_slice());
     of_file(asked.target.file, change(rt, &asked.target, &[], edit))
 }
 
 /// Changes all of a resource but its bytes.
-fn set<'a>(rt: &HostRuntime, asked: Setting<'a>) -> Result<u8, Failed<'a>> {
+fn set<'a>(rt: &HostRuntime, asked: Setting<'a>) -> Result<u8, Failed<'a>>
+    ensures { IfOk result (λ status. status ≡ DONE) }
+{
     let target = asked.target;
     let edit = Edit::Set {
         what: asked.what,
@@ -91,7 +107,9 @@ fn set<'a>(rt: &HostRuntime, asked: Setting<'a>) -> Result<u8, Failed<'a>> {
 }
 
 /// Copies resources of a file to another.
-fn copy_from<'a>(rt: &HostRuntime, asked: &Copying<'a>) -> Result<u8, Failed<'a>> {
+fn copy_from<'a>(rt: &HostRuntime, asked: &Copying<'a>) -> Result<u8, Failed<'a>>
+    ensures { IfOk result (λ status. status ≡ DONE) }
+{
     let from = asked.from;
     let bytes = of_file(from, read(rt, from))?;
     let found = of_file(from, fork_found(rt, &bytes))?;
@@ -100,11 +118,9 @@ fn copy_from<'a>(rt: &HostRuntime, asked: &Copying<'a>) -> Result<u8, Failed<'a>
 }
 
 /// Copies those of these rows that are asked for to a file.
-fn copy_rows<'a>(
-    rt: &HostRuntime,
-    asked: &Copying<'a>,
-    rows: &[Row<'_>],
-) -> Result<u8, Failed<'a>> {
+fn copy_rows<'a>(rt: &HostRuntime, asked: &Copying<'a>, rows: &[Row<'_>]) -> Result<u8, Failed<'a>>
+    ensures { IfOk result (λ status. status ≡ DONE) }
+{
     let chosen = asked.chosen.as_slice();
     of_file(asked.from, can_copy(rt, chosen, rows))?;
     let edit = Edit::Copy {
@@ -128,7 +144,9 @@ fn can_copy(rt: &HostRuntime, chosen: &[Choice], rows: &[Row<'_>]) -> Result<(),
 }
 
 /// Writes what differs between two files. The result says whether something does.
-fn compare<'a>(rt: &HostRuntime, asked: Comparison<'a>) -> Result<u8, Failed<'a>> {
+fn compare<'a>(rt: &HostRuntime, asked: Comparison<'a>) -> Result<u8, Failed<'a>>
+    ensures { IfOk result (λ status. status ≤ NOT_FOUND) }
+{
     let a = asked.a;
     let bytes = of_file(a, read(rt, a))?;
     let found = of_file(a, fork_found(rt, &bytes))?;
@@ -137,7 +155,9 @@ fn compare<'a>(rt: &HostRuntime, asked: Comparison<'a>) -> Result<u8, Failed<'a>
 }
 
 /// Writes what differs between the first file's table and the second file. The result says whether something does.
-fn compare_with(rt: &HostRuntime, asked: Comparison<'_>, old: &Table<'_>) -> Result<u8, Problem> {
+fn compare_with(rt: &HostRuntime, asked: Comparison<'_>, old: &Table<'_>) -> Result<u8, Problem>
+    ensures { IfOk result (λ status. status ≤ NOT_FOUND) }
+{
     let bytes = read(rt, asked.b)?;
     let found = fork_found(rt, &bytes)?;
     let new = table_found(rt, &found, &bytes)?;
@@ -150,7 +170,10 @@ fn write_differences(
     asked: Comparison<'_>,
     old: &Table<'_>,
     new: &Table<'_>,
-) -> Result<u8, Problem> {
+) -> Result<u8, Problem>
+    ensures differs { IfOk result (λ status. old.now ≢ new.now → status ≡ NOT_FOUND) }
+    ensures few { IfOk result (λ status. status ≤ NOT_FOUND) }
+{
     let differences = fork_change::compare(rt.alloc(), old, new)?;
     write_text(rt, &difference_text(rt.alloc(), asked, &differences)?)?;
     Ok(if differences.is_empty() {
@@ -173,7 +196,9 @@ fn difference_text(
 }
 
 /// Writes a fork of the files in a folder, alone or in a file like another one.
-fn pack<'a>(rt: &HostRuntime, asked: Packing<'a>) -> Result<u8, Failed<'a>> {
+fn pack<'a>(rt: &HostRuntime, asked: Packing<'a>) -> Result<u8, Failed<'a>>
+    ensures { IfOk result (λ status. status ≡ DONE) }
+{
     let bytes = match asked.like {
         Some(like) => of_file(like, read(rt, like))?,
         None => Vec::new(rt.alloc()),
@@ -190,7 +215,9 @@ fn put_into(
     target: &Target<'_>,
     creates: bool,
     edit: Edit<'_>,
-) -> Result<u8, Problem> {
+) -> Result<u8, Problem>
+    ensures { IfOk result (λ status. status ≡ DONE) }
+{
     if target.file == INPUT || is_there(rt, target.file) {
         change(rt, target, &[], edit)
     } else if creates {

@@ -1,0 +1,4 @@
+pub mod Damage
+pub mod Refused
+pub mod Reported
+pub mod Json
