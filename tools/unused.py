@@ -36,7 +36,6 @@ EXAMPLES = {
 # what may stay though nothing reaches it, and why
 STAYS = {
     "crates/fork_bytes/specs/Fork.antt: HasParts": "the first of what macheap's limits say, beside the others",
-    "crates/held_zone/proofs/Sleeping.antt: as_it_was": "a theorem: a zone that falls asleep and wakes in the same bytes is as it was",
     "crates/held_zone/proofs/SaveStates.antt: restored_same": "a theorem: what is made of a zone's image is that zone again",
     "crates/held_zone/proofs/SaveStates.antt: attached_wakes": "a theorem: a zone that was attached wakes in the same bytes as it is",
     "crates/linked_zone/proofs/OneZone.antt: zone_again": "a theorem: what is made of a sound zone's bytes is that zone again",
