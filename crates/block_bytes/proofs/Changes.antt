@@ -210,7 +210,7 @@ module _ (z : Inside) (whole : IsLayout z) (small : ArePossible z.spec) (before 
       let p = i.here_possible in let even = p.even in let large = p.large in
       contents-changed here.lent cs (with_bytes z.memory place ws) z.index z.loans offset place ws there fits refl refl refl
       (is_possible-from z.spec.heads b (record { even = omega arith; large = omega arith; few = p.few; told = p.told; lendable = p.lendable }))
-      (marked-same z whole before here behind is b size (ap (λ (n : ℕ). if here.lent then 2 else mark_in (record { size = n; role = here.role; correction = length here.slack })) size))
+      (marked-same z whole before here behind is b size refl)
       (λ s. whole.lent s ∙ ap (λ (bs : List RawBlock). times s (lent_spans z.spec.heads zone_header bs)) is
       ∙ ap (times s) (sym (spans-replaced before (here ∷ []) (b ∷ []) behind (unlent, tt) (unlent, tt) z.spec.heads zone_header (omega arith))))
       (whole.loans ∙ ap lent_count is ∙ sym (count-replaced before (here ∷ []) (b ∷ []) behind (unlent, tt) (unlent, tt))) whole.few

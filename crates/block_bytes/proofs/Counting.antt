@@ -1,10 +1,8 @@
 -- What counting the free bytes asks for, after bytes behind the zone's header have changed.
-use Rattle.std.proofs.Common.{◌≡◌, ℕ, zero, suc, ◌∷◌, ◌+◌, ◌-◌, ◌*◌, ◌/◌, ◌<◌, ◌≤◌, Bool, true, false, List, [], ◌++◌, length, refl, sym, ap, subst, ◌∙◌, inl, arith, slice_index, length-append, length-drop, ⊎_elim}
+use Rattle.std.proofs.Common.{◌≡◌, ℕ, zero, suc, ◌∷◌, ◌+◌, ◌-◌, ◌*◌, ◌/◌, ◌<◌, ◌≤◌, Bool, true, false, List, [], ◌++◌, length, refl, sym, ap, subst, ◌∙◌, inl, arith, slice_index, length-append, length-drop}
 use Rattle.std.specs.Prelude.{if◌then◌else◌}
 use Rattle.std.proofs.Math.ListN.{set}
-use Rattle.std.proofs.lemmas.Bool.{cases_lt}
 use Rattle.std.proofs.lemmas.List.{get_or-set_other}
-use Rattle.place_numbers.specs.Numbers.{FirstAtLeast}
 use Rattle.byteorder.specs.Endian.{big_number}
 use Rattle.mac_base.specs.HeadKind.{zone_header}
 use Rattle.mac_base.specs.ZoneSizes.{ArePossible}
@@ -119,21 +117,3 @@ set-apart [] i j m n apart = refl
 set-apart (x ∷ xs) zero j m n apart = absurd (omega arith)
 set-apart (x ∷ xs) (suc i) zero m n apart = refl
 set-apart (x ∷ xs) (suc i) (suc j) m n apart = ap (λ (ys : List ℕ). x ∷ ys) (set-apart xs i j m n (omega arith))
-
--- below the place that the zone's header has no free block stands
-pub none-under : (z : Inside) → IsLayout z → ArePossible z.spec → (base from : ℕ) → base ≡ z.spec.base → from ≤ length z.index
-    → (base ≤ big_number 4 (part z.memory.bytes lowest_field 4) → base + 4 * from ≤ big_number 4 (part z.memory.bytes lowest_field 4)) → (j : ℕ) → j < from → slice_index z.index j < 3
-none-under z whole small base from base_is within before j low =
-    let few = none-lower z z.memory z.index base (length z.index) (kept-first z whole small) base_is (λ i inside. refl) j (omega arith) (λ above. let b = before above in omega arith) in omega arith
-
--- so the first that is large enough is found from there on
-module _ (xs : List ℕ) (k from : ℕ) (three : 3 ≤ k) (lower : (j : ℕ) → j < from → slice_index xs j < 3) where
-  pub first-all : (p : ℕ) → FirstAtLeast xs k from p → FirstAtLeast xs k 0 p
-  first-all p found = record {
-    inside = (omega arith, found.inside.1);
-    large = found.large;
-    first = λ j any before. ⊎_elim (λ low. let few = lower j low in omega arith) (λ above. found.first j above before) (cases_lt j from);
-  }
-
-  pub none-all : ((j : ℕ) → from ≤ j → j < length xs → slice_index xs j < k) → (j : ℕ) → 0 ≤ j → j < length xs → slice_index xs j < k
-  none-all none j any inside = ⊎_elim (λ low. let few = lower j low in omega arith) (λ above. none j above inside) (cases_lt j from)

@@ -18,7 +18,7 @@ use Rattle.block_bytes.specs.declared.blocks.Blocks.TheInside.{Inside}
 use Rattle.block_bytes.specs.Head.{head_bytes}
 use Rattle.block_bytes.specs.ZoneHead.{end_field, free_field, lowest_field, zone_head, CanCount}
 use Rattle.block_bytes.specs.Layout.{RawBlock, Layout, free_raw_block, free_block_of, extended, size_of, total_of, free_total, first_free, is_possible, rendered, header_bytes, image_of, address_behind}
-use Rattle.block_bytes.specs.Starts.{marks_of, starts_of, first_marked, NoneLower}
+use Rattle.block_bytes.specs.Starts.{free_mark, marks_of, starts_of, first_marked, NoneLower}
 use Rattle.block_bytes.specs.Reading.{layout_of, IsLayout, lent_spans, times}
 use Rattle.block_bytes.proofs.Heads.{length-head_bytes}
 use Rattle.block_bytes.proofs.Rendered.{total_of-append, length-rendered, rendered-append, written-middle}
@@ -65,12 +65,12 @@ module _ (z : Inside) (heads : HeadKind) (base size limit : ℕ) (are : AreRead 
   headed-read m is = is ∙ (λ i. with_bytes z.memory (are.size_is i) (head_bytes (are.heads_is i) (are.base_is i) (record { size = are.limit_is i - are.size_is i; role = Free; correction = 0 })))
 
   -- the index with its number
-  pub marked-read : (index : List ℕ) → index ≡ set z.index (size / 4) (limit - size) → index ≡ set z.index (z.spec.size / 4) (z.spec.limit - z.spec.size)
-  marked-read index is = is ∙ (λ i. set z.index (are.size_is i / 4) (are.limit_is i - are.size_is i))
+  pub marked-read : (index : List ℕ) → index ≡ set z.index (size / 4) free_mark → index ≡ set z.index (z.spec.size / 4) free_mark
+  marked-read index is = is ∙ ap (λ (n : ℕ). set z.index (n / 4) free_mark) are.size_is
 
   -- what counting its bytes asks for
   pub can-extend : IsLayout z → (m : State) (index : List ℕ) → m ≡ with_bytes z.memory size (head_bytes heads base (record { size = limit - size; role = Free; correction = 0 }))
-      → index ≡ set z.index (size / 4) (limit - size) → CanCount m index base (limit - size) 0
+      → index ≡ set z.index (size / 4) free_mark → CanCount m index base (limit - size) 0
   can-extend whole m index headed marked = let size_is = are.size_is in let limit_is = are.limit_is in
       can-count_more z whole are.possible m index base (limit - size) 0
       (kept-written z z.memory m z.spec.size _ (kept-first z whole are.possible) (headed-read m headed) whole.low)
@@ -78,10 +78,10 @@ module _ (z : Inside) (heads : HeadKind) (base size limit : ℕ) (are : AreRead 
 
   -- no free block lies below the lowest one before
   pub low-extend : IsLayout z → (m : State) (index : List ℕ) → m ≡ with_bytes z.memory size (head_bytes heads base (record { size = limit - size; role = Free; correction = 0 }))
-      → index ≡ set z.index (size / 4) (limit - size) → NoneLower base (big_number 4 (part m.bytes lowest_field 4)) (size / 4) index
+      → index ≡ set z.index (size / 4) free_mark → NoneLower base (big_number 4 (part m.bytes lowest_field 4)) (size / 4) index
   low-extend whole m index headed marked = none-lower z m index base (size / 4)
       (kept-written z z.memory m z.spec.size _ (kept-first z whole are.possible) (headed-read m headed) whole.low)
-      are.base_is (set-behind z.index index (size / 4) (limit - size) (size / 4) marked (omega arith))
+      are.base_is (set-behind z.index index (size / 4) free_mark (size / 4) marked (omega arith))
 
 module _ (z : Inside) (whole : IsLayout z) where
   -- how many bytes there are up to the limit
@@ -171,7 +171,7 @@ module _ (z : Inside) (whole : IsLayout z) (small : ArePossible z.spec) (more : 
       (ap (λ (xs : List ℕ). old ++ xs) (sym one) ∙ sym (rendered-append z.spec.heads z.spec.base l.blocks (added ∷ [])) ∙ sym (append-nil (rendered z.spec.heads z.spec.base blocks)))
 
   -- its number in the index
-  marked : set z.index (z.spec.size / 4) left ≡ starts_of after
+  marked : set z.index (z.spec.size / 4) free_mark ≡ starts_of after
   marked = let l = layout_of z in let heads = z.spec.heads in let first = unmarked (zone_header / 4) ++ marks_of heads l.blocks in
       let long = length-spare z whole in let enough = small.growth more in let even = small.even_size in let even' = small.even_limit in
       let a = length-append (unmarked (zone_header / 4)) (marks_of heads l.blocks) in let b = length-unmarked (zone_header / 4) in
@@ -179,13 +179,13 @@ module _ (z : Inside) (whole : IsLayout z) (small : ArePossible z.spec) (more : 
       let rest : unmarked (length l.spare / 4) ≡ 0 ∷ unmarked (left / 4 - 1) = ap (λ (n : ℕ). unmarked n) (let e : length l.spare / 4 ≡ suc (left / 4 - 1) = omega arith in e) in
       let old : z.index ≡ first ++ 0 ∷ unmarked (left / 4 - 1) =
       whole.marked ∙ sym (append_assoc (unmarked (zone_header / 4)) (marks_of heads l.blocks) (unmarked (length l.spare / 4))) ∙ ap (λ (ms : List ℕ). first ++ ms) rest in
-      let new : starts_of after ≡ first ++ left ∷ unmarked (left / 4 - 1) =
-      ap (λ (ms : List ℕ). unmarked (zone_header / 4) ++ (ms ++ [])) (marks_of-append heads l.blocks (added ∷ []) ∙ ap (λ (n : ℕ). marks_of heads l.blocks ++ n ∷ (unmarked (n / 4 - 1) ++ [])) size-added)
+      let new : starts_of after ≡ first ++ free_mark ∷ unmarked (left / 4 - 1) =
+      ap (λ (ms : List ℕ). unmarked (zone_header / 4) ++ (ms ++ [])) (marks_of-append heads l.blocks (added ∷ []) ∙ ap (λ (n : ℕ). marks_of heads l.blocks ++ free_mark ∷ (unmarked (n / 4 - 1) ++ [])) size-added)
       ∙ simp (append_assoc, append-nil) in
-      ap (λ (ms : List ℕ). set ms (z.spec.size / 4) left) old ∙ set_at first 0 (unmarked (left / 4 - 1)) left (z.spec.size / 4) (omega arith) ∙ sym new
+      ap (λ (ms : List ℕ). set ms (z.spec.size / 4) free_mark) old ∙ set_at first 0 (unmarked (left / 4 - 1)) free_mark (z.spec.size / 4) (omega arith) ∙ sym new
 
   -- the zone's header says so, and the zone has grown
-  pub extends : (m n : State) (spec : ZoneSizes) (index : List ℕ) → m ≡ with_bytes z.memory z.spec.size head → index ≡ set z.index (z.spec.size / 4) left
+  pub extends : (m n : State) (spec : ZoneSizes) (index : List ℕ) → m ≡ with_bytes z.memory z.spec.size head → index ≡ set z.index (z.spec.size / 4) free_mark
       → n ≡ with_bytes (counted m z.spec.base left 0 (first_marked z.spec.base index)) end_field (big_bytes 4 (z.spec.base + z.spec.limit))
       → spec ≡ record { heads = z.spec.heads; base = z.spec.base; size = z.spec.limit; limit = z.spec.limit }
       → IsRead (record { spec = spec; memory = n; index = index; loans = z.loans; kept = z.kept }) (extended (layout_of z))

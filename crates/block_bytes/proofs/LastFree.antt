@@ -12,8 +12,7 @@ use Rattle.block_bytes.specs.Finding.{SplitAt, LastFree, none_free}
 use Rattle.block_bytes.specs.Reading.{layout_of, IsLayout}
 use Rattle.block_bytes.specs.Starts.{marks_of}
 use Rattle.block_bytes.proofs.ReadBlocks.{and-true, IsPossible, IsPossible-from, smallest-block}
-use Rattle.block_bytes.proofs.Starts.{unmarked, length-unmarked, unmarked-at, length-marks_of}
-use Rattle.block_bytes.proofs.LowestFree.{large-free}
+use Rattle.block_bytes.proofs.Starts.{unmarked, length-unmarked, unmarked-at, large-free, length-marks_of}
 use Rattle.block_bytes.proofs.NextFree.{mark-behind, mark-further, mark-within, used-all, numbers-before, numbers-behind, index-split, are-split}
 
 -- the last free one of the blocks behind the first is that of all
@@ -55,7 +54,7 @@ free-last heads from (b ∷ bs) zero possible inside large low =
       passed = bs;
       blocks = refl;
       used = used-all heads bs both.1 (λ i inside. let m = mark-behind heads b bs i p in let l = low (size_of heads b / 4 + i) (omega arith) (omega arith) in omega arith);
-      free = (large-free b.lent b.role (size_of heads b) 3 (omega arith) large).0;
+      free = large-free b.lent b.role large;
       place = omega arith;
     }
 free-last heads from (b ∷ bs) (suc j) possible inside large low =

@@ -19,7 +19,6 @@ pub mod Counting
 pub mod Here
 pub mod Same
 pub mod OwnersRead
-pub mod LowestFree
 pub mod Holders
 pub mod FirstFrom
 pub mod Walks
@@ -41,5 +40,4 @@ pub mod Begun
 pub mod Comparing
 pub mod WrittenOwn
 pub mod OwnPassed
-pub mod Alone
 pub mod Asleep

@@ -13,7 +13,7 @@ use Rattle.block_bytes.specs.declared.blocks.Blocks.TheInside.{Inside}
 use Rattle.block_bytes.specs.declared.header.Role.{Role}
 use Rattle.block_bytes.specs.declared.header.Role.TheVariants.{Free, Fixed, Master, Relocatable}
 use Rattle.block_bytes.specs.Layout.{RawBlock, is_free, has_owner, size_of, total_of, lent_count, most_lent, lent_block, given_back, with_blocks}
-use Rattle.block_bytes.specs.Starts.{lent_mark, mark_of}
+use Rattle.block_bytes.specs.Starts.{free_mark, lent_mark, mark_of}
 use Rattle.block_bytes.specs.Reading.{layout_of, IsLayout, lent_spans, times}
 use Rattle.block_bytes.proofs.Rendered.{written-whole}
 use Rattle.block_bytes.proofs.Starts.{mark-written}
@@ -48,11 +48,11 @@ times-without s x (t ∷ ss) listed = head_case x t ss
     let f : times s (without x (t ∷ ss)) ≡ times s (t ∷ without x ss) = ap (times s) e in omega arith)
 
 -- a lent block's number, once it is back
-mark-used : (role : Role) (lent : Bool) (n : ℕ) → lent ≡ true → IsTrue (not lent || has_owner role) → (if is_free role then n else 1) ≡ 1
-mark-used Free lent n is owned = let no : not true || false ≡ true = subst (λ (t : Bool). IsTrue (not t || false)) is owned in let bad : false ≡ true = no in cc
-mark-used Fixed lent n is owned = refl
-mark-used Master lent n is owned = refl
-mark-used (Relocatable slot flags) lent n is owned = refl
+mark-used : (role : Role) (lent : Bool) → lent ≡ true → IsTrue (not lent || has_owner role) → (if is_free role then free_mark else 1) ≡ 1
+mark-used Free lent is owned = let no : not true || false ≡ true = subst (λ (t : Bool). IsTrue (not t || false)) is owned in let bad : false ≡ true = no in cc
+mark-used Fixed lent is owned = refl
+mark-used Master lent is owned = refl
+mark-used (Relocatable slot flags) lent is owned = refl
 
 module _ (z : Inside) (whole : IsLayout z) (small : ArePossible z.spec) (before : List RawBlock) (here : RawBlock) (behind : List RawBlock) (is : (layout_of z).blocks ≡ before ++ here ∷ behind) where
   -- the range of its contents
@@ -121,7 +121,7 @@ module _ (z : Inside) (whole : IsLayout z) (small : ArePossible z.spec) (before 
       let a = count-append before (b ∷ behind) in let c = count-append before (here ∷ behind) in let d = ap lent_count is in
       let e : lent_count (here ∷ behind) ≡ suc (lent_count behind) = ap (λ (t : Bool). if t then suc (lent_count behind) else lent_count behind) lent in omega arith in
       let were = whole.loans in let most = whole.few in
-      let used : mark_of z.spec.heads b ≡ 1 = mark-used here.role here.lent (size_of z.spec.heads b) lent p.lendable in
+      let used : mark_of z.spec.heads b ≡ 1 = mark-used here.role here.lent lent p.lendable in
       contents-changed z whole small before here behind is false bytes m index loans 0 (zone_header + total_of z.spec.heads before + head_size z.spec.heads) bytes (omega arith) (omega arith)
       (sym (written-whole here.contents bytes long)) (ap (λ (s : State). s.name) is_m) (ap (λ (s : State). s.bytes) is_m)
       (is_possible-from z.spec.heads b (record { even = omega arith; large = omega arith; few = p.few; told = p.told; lendable = refl }))

@@ -16,6 +16,7 @@ use Rattle.block_bytes.specs.Head.{head_bytes}
 use Rattle.block_bytes.specs.ZoneHead.{zone_head}
 use Rattle.block_bytes.specs.Layout.{free_raw_block, size_of, header_of, header_bytes, is_possible}
 use Rattle.block_bytes.specs.NewLayout.{new_layout}
+use Rattle.block_bytes.specs.Starts.{free_mark}
 use Rattle.block_bytes.proofs.Heads.{length-head_bytes}
 use Rattle.block_bytes.proofs.Rendered.{written-middle}
 use Rattle.block_bytes.proofs.ZoneHeads.{length-zone_head}
@@ -72,7 +73,7 @@ module _ (z : ZoneSizes) (possible : ArePossible z) where
   pub new-read : (start first m : State) (index : List ℕ) (heads : HeadKind) (base end free lowest : ℕ) (h : Header) → heads ≡ z.heads → base ≡ z.base
       → h ≡ record { size = z.size - zone_header; role = Free; correction = 0 } → end ≡ z.base + z.size → free ≡ z.size - zone_header → lowest ≡ z.base + zone_header
       → start.bytes ≡ zeros z.limit → start.lent ≡ [] → first ≡ with_bytes start 0 (zone_head end 0 free lowest) → m ≡ with_bytes first zone_header (head_bytes heads base h)
-      → index ≡ set (zeros (z.limit / 4)) (zone_header / 4) (z.size - zone_header)
+      → index ≡ set (zeros (z.limit / 4)) (zone_header / 4) free_mark
       → IsRead (record { spec = z; memory = m; index = index; loans = 0; kept = None }) (new_layout m.name z)
   new-read start first m index heads base end free lowest h heads_is base_is h_is end_is free_is lowest_is start_is none first_is m_is marks =
       let small = sizes-small z.heads in let one = small.0 in let two = small.1 in let top = end-small z.heads in
@@ -95,5 +96,5 @@ module _ (z : ZoneSizes) (possible : ArePossible z) where
       let lent : m.lent ≡ [] = ap (λ (s : State). s.lent) m_is ∙ ap (λ (s : State). s.lent) first_is ∙ none in
       image-read (record { spec = z; memory = m; index = index; loans = 0; kept = None }) m.name 0 (b ∷ []) (zeros (z.limit - z.size)) refl (omega arith) (omega arith) (ap (λ (t : Bool). t && true) told) (omega arith) (omega arith) (omega arith) all
       (bytes ∙ regrouped zone (head_bytes z.heads z.base (header_of z.heads b)) (zeros room) (zeros (z.limit - z.size)))
-      (marks ∙ ap (set (zeros (z.limit / 4)) (zone_header / 4)) size ∙ first-marked (size_of z.heads b) (size_of z.heads b) (omega arith))
+      (marks ∙ first-marked (size_of z.heads b) free_mark (omega arith))
       (λ s. ap (times s) lent) refl (omega arith)

@@ -17,8 +17,7 @@ use Rattle.block_bytes.specs.Starts.{mark_of, marks_of, starts_of}
 use Rattle.block_bytes.proofs.Rendered.{total_of-append}
 use Rattle.block_bytes.proofs.ReadBlocks.{and-true, IsPossible, IsPossible-from, smallest-block}
 use Rattle.block_bytes.proofs.Parts.{total-ends}
-use Rattle.block_bytes.proofs.Starts.{unmarked, length-unmarked, unmarked-at, length-before, mark-free, marks_of-append, length-marks_of}
-use Rattle.block_bytes.proofs.LowestFree.{large-free}
+use Rattle.block_bytes.proofs.Starts.{unmarked, length-unmarked, unmarked-at, length-before, mark-free, large-free, marks_of-append, length-marks_of}
 
 -- the marks behind those of the first block are those of the others
 pub mark-behind : (heads : HeadKind) (b : RawBlock) (bs : List RawBlock) (i : ℕ) → IsPossible heads b → slice_index (marks_of heads (b ∷ bs)) (size_of heads b / 4 + i) ≡ slice_index (marks_of heads bs) i
@@ -81,7 +80,7 @@ free-first : (heads : HeadKind) (from : ℕ) (bs : List RawBlock) (j : ℕ) → 
     → ((i : ℕ) → i < j → slice_index (marks_of heads bs) i < 3) → FirstFree heads bs from (from + 4 * j)
 free-first heads from [] j possible inside large low = absurd (omega arith)
 free-first heads from (b ∷ bs) zero possible inside large low =
-    record { passed = []; here = b; behind = bs; blocks = refl; used = refl; free = (large-free b.lent b.role (size_of heads b) 3 (omega arith) large).0; place = omega arith }
+    record { passed = []; here = b; behind = bs; blocks = refl; used = refl; free = large-free b.lent b.role large; place = omega arith }
 free-first heads from (b ∷ bs) (suc j) possible inside large low =
     let both = and-true (is_possible heads b) (list_all (is_possible heads) bs) possible in let p = IsPossible-from heads b both.0 in
     let long = length-marks_of heads (b ∷ bs) possible in let long' = length-marks_of heads bs both.1 in let even = p.even in

@@ -44,19 +44,19 @@ pub head_size-positive : (heads : HeadKind) → 0 < head_size heads
 head_size-positive Bits24 = omega arith
 head_size-positive Bits32 = omega arith
 
--- the smallest block has more bytes than any number of the index that isn't a size
+-- the smallest block has 12 bytes or more
 pub smallest-block : (heads : HeadKind) → 12 ≤ smallest_block heads
 smallest-block Bits24 = omega arith
 smallest-block Bits32 = omega arith
 
--- the number of a block tells whether it is lent
-pub lent-marked : (heads : HeadKind) (b : RawBlock) → IsPossible heads b → (mark_of heads b == lent_mark) ≡ b.lent
-lent-marked heads b p = let large = p.large in let some = smallest-block heads in by_mark b.lent (is_free b.role) (size_of heads b) (omega arith)
+-- the number of a block says whether it is lent
+pub lent-marked : (heads : HeadKind) (b : RawBlock) → (mark_of heads b == lent_mark) ≡ b.lent
+lent-marked heads b = by_mark b.lent (is_free b.role)
   where
-    by_mark : (lent free : Bool) (n : ℕ) → 3 ≤ n → ((if lent then 2 else (if free then n else 1)) == 2) ≡ lent
-    by_mark true free n large = refl
-    by_mark false true n large = grind (arith, nat_tests)
-    by_mark false false n large = refl
+    by_mark : (lent free : Bool) → ((if lent then 2 else (if free then 3 else 1)) == 2) ≡ lent
+    by_mark true free = refl
+    by_mark false true = refl
+    by_mark false false = refl
 
 -- one block is read, and then the others
 blocks_in-more : (n : ℕ) (heads : HeadKind) (marks xs : List ℕ) (h : Header) → 0 < length xs → header_in heads xs ≡ h
@@ -116,6 +116,6 @@ blocks_in-rendered heads base (suc n) (b ∷ bs) others possible small low fuel 
     let rest : blocks_in n heads (marks_of heads bs ++ others) (rendered heads base bs) ≡ bs = blocks_in-rendered heads base n bs others both.1 (omega arith) low (omega arith) in
     (λ i. blocks_in (suc n) heads (marks-is i) (rendered-more heads base b bs i))
     ∙ blocks_in-more n heads marks bytes (header_of heads b) (omega arith) head
-    ∙ (λ i. held_in-rendered heads base b (mark_of heads b == lent_mark) (rendered heads base bs) (lent-marked heads b here) i
+    ∙ (λ i. held_in-rendered heads base b (mark_of heads b == lent_mark) (rendered heads base bs) (lent-marked heads b) i
     ∷ blocks_in n heads (drop-marks (mark_of heads b) (size_of heads b / 4 - 1) (size_of heads b / 4) (marks_of heads bs ++ others) (omega arith) i) (drop-rendered heads base b (rendered heads base bs) i))
     ∙ ap (λ (l : List RawBlock). b ∷ l) rest

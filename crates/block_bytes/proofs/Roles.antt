@@ -6,8 +6,8 @@ use Rattle.mac_base.specs.ZoneSizes.{ArePossible}
 use Rattle.raw_region.specs.State.{State}
 use Rattle.block_bytes.specs.declared.header.Role.{Role}
 use Rattle.block_bytes.specs.declared.blocks.Blocks.TheInside.{Inside}
-use Rattle.block_bytes.specs.Layout.{RawBlock, body, is_free, size_of, lent_count, is_possible, rendered, with_blocks, in_role}
-use Rattle.block_bytes.specs.Starts.{lent_mark}
+use Rattle.block_bytes.specs.Layout.{RawBlock, body, is_free, lent_count, is_possible, rendered, with_blocks, in_role}
+use Rattle.block_bytes.specs.Starts.{free_mark, lent_mark}
 use Rattle.block_bytes.specs.Reading.{layout_of, IsLayout, lent_spans, times}
 use Rattle.block_bytes.proofs.Spans.{spans-append, count-append}
 use Rattle.block_bytes.proofs.Parts.{IsRead, front, rear, head, image-parts, IsIn-from, possible-with, possible-more, marked-same, changed}
@@ -25,7 +25,7 @@ role-changed z whole small before here behind is role possible same m named lent
     (bytes ∙ sym (image-parts l before b behind) ∙ ap (λ (h : List ℕ). h ++ (rendered l.heads l.base (before ++ b ∷ behind) ++ l.spare)) (header-same z whole small before here behind is b refl same))
     (total-same z whole small before here behind is b refl)
     (possible-with heads before (b ∷ behind) i.before_possible (possible-more heads b behind possible i.behind_possible))
-    (marked-same z whole before here behind is b refl (ap (λ (t : Bool). if here.lent then lent_mark else (if t then size_of heads here else 1)) same))
+    (marked-same z whole before here behind is b refl (ap (λ (t : Bool). if here.lent then lent_mark else (if t then free_mark else 1)) same))
     (λ s. ap (times s) lent ∙ whole.lent s ∙ ap (λ (bs : List RawBlock). times s (lent_spans heads zone_header bs)) is
     ∙ ap (times s) (spans-append heads zone_header before (here ∷ behind) ∙ sym (spans-append heads zone_header before (b ∷ behind))))
     (whole.loans ∙ ap lent_count is ∙ (count-append before (here ∷ behind) ∙ sym (count-append before (b ∷ behind)))) whole.few (front-fits z whole)

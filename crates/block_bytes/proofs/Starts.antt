@@ -32,27 +32,35 @@ unmarked-at (suc n) zero = refl
 unmarked-at (suc n) (suc k) = unmarked-at n k
 
 -- a block's mark is above 0
-pub mark-positive : (heads : HeadKind) (b : RawBlock) → IsPossible heads b → 0 < mark_of heads b
-mark-positive heads b p = let large = p.large in let some = smallest-block heads in either b.lent (is_free b.role) (size_of heads b) (omega arith)
+pub mark-positive : (heads : HeadKind) (b : RawBlock) → 0 < mark_of heads b
+mark-positive heads b = either b.lent (is_free b.role)
   where
-    either : (lent free : Bool) (n : ℕ) → 0 < n → 0 < (if lent then 2 else (if free then n else 1))
-    either true free n positive = omega arith
-    either false true n positive = positive
-    either false false n positive = omega arith
+    either : (lent free : Bool) → 0 < (if lent then 2 else (if free then 3 else 1))
+    either true free = omega arith
+    either false true = omega arith
+    either false false = omega arith
 
 -- it is above that of a lent block where the block is free
 pub mark-free : (heads : HeadKind) (b : RawBlock) → IsPossible heads b → nat_lt lent_mark (mark_of heads b) ≡ is_free b.role
-mark-free heads b p = let large = p.large in let some = smallest-block heads in either b.lent b.role (size_of heads b) (omega arith) p.lendable
+mark-free heads b p = either b.lent b.role p.lendable
   where
-    either : (lent : Bool) (role : Role) (n : ℕ) → 3 ≤ n → IsTrue (not lent || has_owner role) → nat_lt 2 (if lent then 2 else (if is_free role then n else 1)) ≡ is_free role
-    either true Free n large owned = let no : false ≡ true = owned in cc
-    either true Fixed n large owned = refl
-    either true Master n large owned = refl
-    either true (Relocatable slot flags) n large owned = refl
-    either false Free n large owned = grind (arith, nat_tests)
-    either false Fixed n large owned = refl
-    either false Master n large owned = refl
-    either false (Relocatable slot flags) n large owned = refl
+    either : (lent : Bool) (role : Role) → IsTrue (not lent || has_owner role) → nat_lt 2 (if lent then 2 else (if is_free role then 3 else 1)) ≡ is_free role
+    either true Free owned = let no : false ≡ true = owned in cc
+    either true Fixed owned = refl
+    either true Master owned = refl
+    either true (Relocatable slot flags) owned = refl
+    either false Free owned = refl
+    either false Fixed owned = refl
+    either false Master owned = refl
+    either false (Relocatable slot flags) owned = refl
+
+-- a block whose mark is 3 is free
+pub large-free : (lent : Bool) (role : Role) → 3 ≤ (if lent then 2 else (if is_free role then 3 else 1)) → role ≡ Free
+large-free true role large = absurd (omega arith)
+large-free false Free large = refl
+large-free false Fixed large = absurd (omega arith)
+large-free false Master large = absurd (omega arith)
+large-free false (Relocatable slot flags) large = absurd (omega arith)
 
 -- the marks of two lists of blocks, one behind the other
 pub marks_of-append : (heads : HeadKind) (xs ys : List RawBlock) → marks_of heads (xs ++ ys) ≡ marks_of heads xs ++ marks_of heads ys
@@ -108,7 +116,7 @@ two-written front mid rest x y x' y' p q first second =
     ∙ set_at (front ++ x' ∷ mid) y rest y' q (omega arith) ∙ append_assoc front (x' ∷ mid) (y' ∷ rest)
 
 -- the marks behind a block's own, where it is cut
-pub unmarked-apart : (whole first second : ℕ) → whole ≡ first + second → first % 4 ≡ 0 → second % 4 ≡ 0 → 4 ≤ first → 4 ≤ second
+unmarked-apart : (whole first second : ℕ) → whole ≡ first + second → first % 4 ≡ 0 → second % 4 ≡ 0 → 4 ≤ first → 4 ≤ second
     → unmarked (whole / 4 - 1) ≡ unmarked (first / 4 - 1) ++ (0 ∷ unmarked (second / 4 - 1))
 unmarked-apart whole first second sum even even' some some' =
     ap (λ (n : ℕ). unmarked n) (let e : whole / 4 - 1 ≡ first / 4 - 1 + suc (second / 4 - 1) = omega arith in e)
@@ -257,7 +265,7 @@ module _ (l : Layout) (possible : IsTrue (list_all (is_possible l.heads) l.block
         even = omega arith;
         below = omega arith;
         mark = (λ i. slice_index (marks i) (sym before i)) ∙ get_or-append_seam front (mark_of l.heads b.here) rest 0;
-        some = mark-positive l.heads b.here (IsPossible-from l.heads b.here here.0);
+        some = mark-positive l.heads b.here;
       }
 
 -- behind marks of none, the first free block is looked for further on

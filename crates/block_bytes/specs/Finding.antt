@@ -1,5 +1,5 @@
 -- What a walk over the blocks finds.
-use Rattle.std.specs.Prelude.{◌≡◌, ℕ, ◌+◌, ◌<◌, ◌≤◌, ◌⊎◌, Bool, not, ◌&&◌, nat_le, IsTrue, List, [], ◌∷◌, ◌++◌}
+use Rattle.std.specs.Prelude.{◌≡◌, ℕ, ◌+◌, ◌<◌, ◌≤◌, ◌⊎◌, Bool, not, IsTrue, List, [], ◌∷◌, ◌++◌}
 use Rattle.std.specs.List.{list_all}
 use Rattle.mac_base.specs.declared.block.Flags.{Flags}
 use Rattle.mac_base.specs.declared.block.HeadKind.{HeadKind}
@@ -57,21 +57,6 @@ pub record LastFree (heads : HeadKind) (bs : List RawBlock) (from at : ℕ) : Ty
   pub used : IsTrue (none_free passed)
   pub free : here.role ≡ Free
   pub place : at ≡ from + total_of heads front
-
--- whether a block is free and has so many bytes, its header among them
-abbrev pub has_room : HeadKind → ℕ → RawBlock → Bool
-has_room heads k b = is_free b.role && nat_le k (size_of heads b)
-
--- the block at an address is the lowest free one with so many bytes
-pub record LowestFree (l : Layout) (k at : ℕ) : Type 0 where
-  pub block : BlockAt l at
-  pub free : block.here.role ≡ Free
-  pub large : k ≤ size_of l.heads block.here
-  pub lowest : IsTrue (list_all (λ b. not (has_room l.heads k b)) block.before)
-
--- no free block has so many bytes
-abbrev pub NoneFree : Layout → ℕ → Type 0
-NoneFree l k = IsTrue (list_all (λ b. not (has_room l.heads k b)) l.blocks)
 
 -- the block at an address is the first that begins at another or after it
 pub record FirstFrom (l : Layout) (from at : ℕ) : Type 0 where

@@ -5,9 +5,13 @@ use Rattle.mac_base.specs.HeadKind.{zone_header}
 use Rattle.block_bytes.specs.declared.header.Header.{Header}
 use Rattle.block_bytes.specs.Layout.{RawBlock, Layout, is_free, size_of, header_of}
 
--- the number of a block with this header that isn't lent: its size if it is free, or else 1
+-- the number of a free block
+abbrev pub free_mark : ℕ
+free_mark = 3
+
+-- the number of a block with this header that isn't lent
 abbrev pub mark_in : Header → ℕ
-mark_in h = if is_free h.role then h.size else 1
+mark_in h = if is_free h.role then free_mark else 1
 
 -- how many bytes are free by a block with this header
 abbrev pub free_in : Header → ℕ

@@ -7,7 +7,7 @@ ghost use Rattle.block_bytes.specs.Starts.{first_marked};
 ghost use Rattle.block_bytes.specs.declared.adopting.WhyNot.TheVariants.{NotZone};
 ghost use Rattle.mac_base.specs.ZoneState.{own_memory};
 
-use crate::blocks::{Blocks, LENT_MARK, first_from};
+use crate::blocks::Blocks;
 use crate::memory::Memory;
 use mac_base::size::ZONE_HEADER;
 use mac_base::zone_spec::ZoneSpec;
@@ -64,7 +64,7 @@ fn lowest_free(index: &Numbers, base: u32) -> u32
     ensures { result ≡ first_marked base index.now }
 {
     let _len = index.len();
-    match first_from(index, LENT_MARK + 1, 0) {
+    match index.first_most(0) {
         Some(place) => base + 4 * place as u32,
         None => 0,
     }

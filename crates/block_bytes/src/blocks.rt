@@ -1,6 +1,6 @@
 //! The list of a zone's blocks.
 
-ghost use Rattle.std.specs.Prelude.{◌≡◌, ℕ, ◌+◌, ◌-◌, ◌*◌, ◌/◌, nat_lt, ◌<◌, ◌≤◌, ◌^◌, ◌++◌, ◌∷◌, [], length, slice_index, IfOk, IfSome, IfNone, IsTrue, IsFalse};
+ghost use Rattle.std.specs.Prelude.{◌≡◌, ℕ, ◌+◌, ◌-◌, ◌*◌, ◌<◌, ◌≤◌, ◌^◌, ◌++◌, ◌∷◌, [], length, IfOk, IfSome, IfNone, IsTrue};
 ghost use Rattle.std.specs.Borrow.{sem};
 ghost use Rattle.std.specs.List.{list_all};
 ghost use Rattle.byteorder.specs.Endian.{big_bytes, big_number};
@@ -10,10 +10,9 @@ ghost use Rattle.raw_region.specs.Span.{IsFree};
 ghost use Rattle.raw_region.specs.State.{with_bytes};
 ghost use Rattle.block_bytes.specs.declared.header.Role.TheVariants.{Free};
 ghost use Rattle.block_bytes.specs.Starts.{first_marked, NoneLower};
-ghost use Rattle.place_numbers.specs.Numbers.{FirstAtLeast};
 ghost use Rattle.block_bytes.specs.ZoneHead.{free_field, lowest_field, CanCount};
 
-use crate::header::{Header, Role};
+use crate::header::{FREE_MARK, Header, LENT_MARK, Role, USED_MARK};
 use crate::memory::Memory;
 use crate::record::{Record, end, note, note_if};
 use mac_base::error::HostFull;
@@ -24,15 +23,6 @@ use raw_region::{Lent, Region};
 use std::alloc::Global;
 use std::marker::Model;
 
-/// What the index has at the place of a lent block. No block is as small.
-pub(crate) const LENT_MARK: u32 = 2;
-
-/// Where the first of some blocks has as many bytes, few of their numbers in the index are thought to be above 0.
-const SPARSE_SIZE: u32 = 1024;
-
-/// Where a block changes places with so many times fewer bytes than it has, it takes less time to move the numbers of these one by one.
-const FEW_BYTES: usize = 256;
-
 /// The blocks of a zone in one run of bytes, from the zone's start to its limit. A contract sees the list of the
 /// blocks, each with all bytes behind its header, beside the bytes up to the limit and the number in the zone's header that
 /// tells of the free slots. All else in that header follows from the blocks: where they end, how many bytes are free and
@@ -41,8 +31,8 @@ const FEW_BYTES: usize = 256;
 pub struct Blocks {
     pub(crate) spec: ZoneSpec,
     pub(crate) memory: Memory,
-    /// For each four bytes of the zone a number: where a block begins with them its size if it is free, 2 if it is lent, and
-    /// else 1; or 0.
+    /// For each four bytes of the zone a number: where a block begins with them 3 if it is free, 2 if it is lent, and else 1;
+    /// or 0.
     pub(crate) index: Numbers,
     /// How many blocks are lent.
     pub(crate) loans: u32,
@@ -82,13 +72,6 @@ impl Drop for Blocks {
     }
 }
 
-/// Whether a block has so many times more bytes than change places with it that the numbers of these are moved one by one.
-fn are_few(count: usize, size: usize) -> bool
-    ensures { result ≡ nat_lt count (size / 256) }
-{
-    count < size / FEW_BYTES
-}
-
 /// Where the search for the lowest free block begins, once the index has changed from a place on: there, or where the
 /// lowest one was before, by the zone's header.
 #[tactic(auto, using(raw_region::proofs::Rules::upkeep))]
@@ -104,18 +87,6 @@ fn search_start(memory: &Memory, base: u32, changed: usize) -> usize
     } else {
         changed.min((before - base) as usize / 4)
     }
-}
-
-/// The first place, `from` or behind it, whose number is at least `least`. That of `from` is looked at before the search begins.
-pub(crate) fn first_from(index: &Numbers, least: u32, from: usize) -> Option<usize>
-    requires { 0 < least }
-    ensures first { IfSome result (λ at. FirstAtLeast index.now least from at) }
-    ensures none { IfNone result ((j : ℕ) → from ≤ j → j < length index.now → slice_index index.now j < least) }
-{
-    if from < index.len() && least <= index.get(from) {
-        return Some(from);
-    }
-    index.first_at_least(least, from)
 }
 
 /// Writes in the zone's header how many bytes are free, where `gained` came to them and `lost` went, and the address of the
@@ -136,7 +107,7 @@ fn count_free(
 {
     let _len = index.len();
     let from = search_start(memory, base, changed);
-    let lowest = match first_from(index, LENT_MARK + 1, from) {
+    let lowest = match index.first_most(from) {
         Some(place) => base + 4 * place as u32,
         None => 0,
     };
@@ -145,7 +116,7 @@ fn count_free(
 }
 
 impl Blocks {
-    ghost use Rattle.std.specs.Prelude.{◌≡◌, ℕ, ◌+◌, ◌-◌, ◌<◌, ◌≤◌, ◌^◌, ◌++◌, ◌∷◌, ◌↔◌, ◌&&◌, [], length, take, drop, is_some, IfOk, IfSome, IfNone, IsTrue, IsFalse};
+    ghost use Rattle.std.specs.Prelude.{◌≡◌, ℕ, ◌+◌, ◌-◌, ◌<◌, ◌≤◌, ◌^◌, ◌++◌, ◌∷◌, ◌↔◌, ◌&&◌, [], length, take, drop, is_some, IfOk, IfSome, IfNone, IsTrue};
     ghost use Rattle.std.specs.Borrow.{sem};
     ghost use Rattle.std.specs.List.{list_all};
     ghost use Rattle.byteorder.specs.Endian.{big_bytes, big_number};
@@ -153,7 +124,7 @@ impl Blocks {
     ghost use Rattle.raw_region.specs.Bytes.{part};
     ghost use Rattle.block_bytes.specs.declared.header.Role.TheVariants.{Free};
     ghost use Rattle.block_bytes.specs.Layout.{Layout, BlockAt, UnlentAt, WordAt, CanBe, CanTurn, CanResize, CanSplit, ParcelAt, Carried, ParcelUpTo, Sunk, CanMerge, CanLend, IsLoanOf, NothingLent, in_role, front_of, rest_of, with_word, cleared, cleared_from, CanClear, body, raw_block, free_raw_block, size_of, header_of, is_possible, joint_body, zone_bytes, with_blocks, with_front, extended, address_behind, free_total, lent_count, most_lent, loan_of, lent_block, given_back};
-    ghost use Rattle.block_bytes.specs.Finding.{HoldsByte, LiesOutside, FreeAt, OwnedAt, LowestFree, NoneFree, SplitAt, FirstFree, LastFree, none_free, FirstFrom, NoneFrom};
+    ghost use Rattle.block_bytes.specs.Finding.{HoldsByte, LiesOutside, FreeAt, OwnedAt, SplitAt, FirstFree, LastFree, none_free, FirstFrom, NoneFrom};
     ghost use Rattle.block_bytes.specs.Copying.{CanCopy, copied_over};
     ghost use Rattle.block_bytes.specs.WritingBack.{WritesBackContents};
     ghost use Rattle.block_bytes.specs.NewLayout.{new_layout};
@@ -175,7 +146,7 @@ impl Blocks {
         let first = spec.base() + ZONE_HEADER;
         memory.set_zone_head(spec.base() + spec.size(), free.size, first);
         memory.set_header(heads, ZONE_HEADER as usize, spec.base(), free);
-        index.set(ZONE_HEADER as usize / 4, free.size);
+        index.set(ZONE_HEADER as usize / 4, FREE_MARK);
         Ok(Blocks {
             spec,
             memory,
@@ -276,12 +247,12 @@ impl Blocks {
             .owner(self.spec.heads(), (at - self.spec.base()) as usize)
     }
 
-    /// The size of the free block at an address. No header is read: the index has it.
+    /// The size of the free block at an address.
     pub fn free_size(&self, at: u32) -> u32
         requires { FreeAt self.now at }
         ensures { (f : FreeAt self.now at) → result ≡ size_of self.now.heads f.block.here }
     {
-        self.index.get((at - self.spec.base()) as usize / 4)
+        self.entry_at(at).size
     }
 
     /// The address of the block behind the one at an address, if there is one.
@@ -296,8 +267,8 @@ impl Blocks {
     }
 
     /// The address of the block that a byte of the zone is part of, its header's bytes among them. There is none where
-    /// the byte lies before the first block or behind the last. No header is read: the index tells the last place up to
-    /// the byte at which a block begins.
+    /// the byte lies before the first block or behind the last. No header is read: the index has the last place up to the
+    /// byte at which a block begins.
     pub fn holder(&self, at: u32) -> Option<u32>
         ensures holds { IfSome result (λ start. HoldsByte self.now at start) }
         ensures outside { IfNone result (LiesOutside self.now at) }
@@ -307,7 +278,7 @@ impl Blocks {
             return None;
         }
         let offset = at - self.spec.base();
-        let place = self.index.last_at_least(1, offset as usize / 4 + 1)?;
+        let place = self.index.last_some(offset as usize / 4 + 1)?;
         Some(self.spec.base() + 4 * place as u32)
     }
 
@@ -318,20 +289,7 @@ impl Blocks {
     {
         let base = self.spec.base();
         let first = (from.saturating_sub(base) as usize).div_ceil(4);
-        let place = first_from(&self.index, 1, first)?;
-        Some(base + 4 * place as u32)
-    }
-
-    /// The address of the lowest free block of at least so many bytes, its header among them. No header is read: the
-    /// index tells the first place whose number is as large, and no free block has a size below 3. The search begins where the zone's header
-    /// has the lowest free block.
-    pub fn lowest_free(&self, needed: u32) -> Option<u32>
-        ensures lowest { IfSome result (λ at. LowestFree self.now needed at) }
-        ensures none { IfNone result (NoneFree self.now needed) }
-    {
-        let base = self.spec.base();
-        let from = search_start(&self.memory, base, self.index.len());
-        let place = first_from(&self.index, needed.max(LENT_MARK + 1), from)?;
+        let place = self.index.first_some(first)?;
         Some(base + 4 * place as u32)
     }
 
@@ -428,7 +386,7 @@ impl Blocks {
         self.memory.set_header(heads, offset, base, front);
         self.memory.set_header(heads, second, base, rest);
         self.index.set(offset / 4, front.mark());
-        self.index.set(second / 4, rest.size);
+        self.index.set(second / 4, FREE_MARK);
         count_free(
             &mut self.memory,
             &self.index,
@@ -481,15 +439,13 @@ impl Blocks {
         let heads = self.spec.heads();
         let base = self.spec.base();
         let header = self.entry_at(at);
-        let sparse = self.is_sparse(at + header.size, end);
         let size = header.size as usize;
         let start = (at - base) as usize;
         let count = (end - at) as usize - size;
         note(&mut self.kept, at - base, end - at);
         self.memory.carry(heads, start, count, header);
-        let sparse = sparse | are_few(count, size);
         self.index
-            .shift_down((start + size) / 4, start / 4, count / 4, sparse);
+            .shift_down((start + size) / 4, start / 4, count / 4);
         self.index.set(start / 4 + count / 4, header.mark());
         count_free(&mut self.memory, &self.index, base, start / 4, 0, 0);
     }
@@ -503,27 +459,15 @@ impl Blocks {
         let heads = self.spec.heads();
         let base = self.spec.base();
         let header = self.entry_at(at);
-        let sparse = self.is_sparse(start, at);
         let size = header.size as usize;
         let first = (start - base) as usize;
         let count = (at - start) as usize;
         note(&mut self.kept, start - base, at - start + header.size);
         self.memory.sink(heads, first, count, header);
-        let sparse = sparse | are_few(count, size);
         self.index
-            .shift_up(first / 4, (first + size) / 4, count / 4, sparse);
+            .shift_up(first / 4, (first + size) / 4, count / 4);
         self.index.set(first / 4, header.mark());
         count_free(&mut self.memory, &self.index, base, first / 4, 0, 0);
-    }
-
-    /// Whether there are blocks between two addresses, and the first is so large that few numbers of the index are thought to be
-    /// above 0 there.
-    fn is_sparse(&self, start: u32, end: u32) -> bool
-        requires { start < end → BlockAt self.now start }
-        ensures none { end ≤ start → IsFalse result }
-        ensures first { (b : BlockAt self.now start) → start < end → IsTrue result ↔ 1024 ≤ size_of self.now.heads b.here }
-    {
-        start < end && self.entry_at(start).size >= SPARSE_SIZE
     }
 
     /// The address of the first free block from an address on, if there is one. No header is read.
@@ -534,7 +478,7 @@ impl Blocks {
     {
         let base = self.spec.base();
         let first = (from - base) as usize / 4;
-        let place = self.index.first_at_least(LENT_MARK + 1, first)?;
+        let place = self.index.first_most(first)?;
         Some(base + 4 * place as u32)
     }
 
@@ -546,7 +490,7 @@ impl Blocks {
     {
         let base = self.spec.base();
         let behind = (end - base) as usize / 4;
-        let place = self.index.last_at_least(LENT_MARK + 1, behind)?;
+        let place = self.index.last_most(behind)?;
         Some(base + 4 * place as u32)
     }
 
@@ -569,7 +513,7 @@ impl Blocks {
         };
         note(&mut self.kept, size, heads.head_size());
         self.memory.set_header(heads, size as usize, base, free);
-        self.index.set(size as usize / 4, free.size);
+        self.index.set(size as usize / 4, FREE_MARK);
         count_free(
             &mut self.memory,
             &self.index,
@@ -605,7 +549,7 @@ impl Blocks {
     {
         let offset = at - self.spec.base();
         self.memory.give_back(loan);
-        self.index.set(offset as usize / 4, 1);
+        self.index.set(offset as usize / 4, USED_MARK);
         self.loans -= 1;
     }
 

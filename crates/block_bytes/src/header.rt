@@ -9,6 +9,15 @@ ghost use Rattle.block_bytes.specs.Structure.{is_master};
 use byteorder::{BigEndian, ByteOrder};
 use mac_base::block::{Flags, HeadKind};
 
+/// What the index has at the place of a block that is used, and not lent.
+pub(crate) const USED_MARK: u8 = 1;
+
+/// What it has at that of a lent one.
+pub(crate) const LENT_MARK: u8 = 2;
+
+/// What it has at that of a free one.
+pub(crate) const FREE_MARK: u8 = 3;
+
 /// What a block's header says it is for.
 #[derive(Clone, Copy, Debug, PartialEq, Eq)]
 pub enum Role {
@@ -200,7 +209,7 @@ impl Header {
     ghost use Rattle.block_bytes.specs.Head.{head_bytes, most_over};
     ghost use Rattle.block_bytes.specs.Layout.{is_free};
     ghost use Rattle.block_bytes.specs.Record.{own_most};
-    ghost use Rattle.block_bytes.specs.Starts.{mark_in, free_in};
+    ghost use Rattle.block_bytes.specs.Starts.{free_mark, mark_in, free_in};
 
     /// Whether the block is free.
     pub(crate) fn is_free(self) -> bool
@@ -212,13 +221,14 @@ impl Header {
         }
     }
 
-    /// What the index has at the block's place, unless it is lent: its size if it is free, or else 1.
-    pub(crate) fn mark(self) -> u32
-        ensures { result ≡ mark_in self }
+    /// What the index has at the block's place, unless it is lent.
+    pub(crate) fn mark(self) -> u8
+        ensures value { result ≡ mark_in self }
+        ensures most { result ≤ free_mark }
     {
         match self.role {
-            Role::Free => self.size,
-            Role::Fixed | Role::Master | Role::Relocatable(_, _) => 1,
+            Role::Free => FREE_MARK,
+            Role::Fixed | Role::Master | Role::Relocatable(_, _) => USED_MARK,
         }
     }
 

@@ -1,6 +1,5 @@
 -- One address as that of an entry of a zone's map and as that of its block, and one number as that of a slot in both.
-use Rattle.std.proofs.Common.{◌≡◌, ℕ, zero, suc, ◌+◌, ◌*◌, ◌<◌, true, not, ◌&&◌, nat_le, cond, List, [], ◌∷◌, ◌++◌, length, map, refl, ap, sym, ◌∙◌, subst, arith, Contains, length-append}
-use Rattle.std.specs.List.{list_all}
+use Rattle.std.proofs.Common.{◌≡◌, ℕ, zero, suc, ◌+◌, ◌*◌, ◌<◌, true, not, ◌&&◌, cond, List, [], ◌∷◌, ◌++◌, length, map, refl, ap, sym, ◌∙◌, subst, arith, Contains, length-append}
 use Rattle.std.proofs.lemmas.List.{length-map}
 use Rattle.std.proofs.lemmas.List.Elements.{Contains-append_left, Contains-append_right}
 use Rattle.mac_base.specs.declared.block.Entry.{Entry}
@@ -19,7 +18,7 @@ use Rattle.zone_records.specs.Records as zone_records
 use Rattle.zone_records.specs.Places.{RecordAt, SlotAt}
 use Rattle.zone_records.specs.Places as records
 use Rattle.linked_zone.specs.Owned.{Owners, owners_of, slot_of, content_of, record_of, records_from, records_of}
-use Rattle.linked_zone.specs.Places.{EntryAt, LowestAt, FirstFrom, NoneFrom, SplitAt, FirstFree, LastFree, none_free}
+use Rattle.linked_zone.specs.Places.{EntryAt, FirstFrom, NoneFrom, SplitAt, FirstFree, LastFree, none_free}
 use Rattle.linked_zone.specs.Fit.{Fits, HasRooms}
 use Rattle.linked_zone.proofs.Owning.{records_from-append, records-total}
 use Rattle.linked_zone.proofs.ReadBlocks.{IsPointerThere, ArePointersThere, kind-back}
@@ -167,28 +166,6 @@ free-kind o at kind.Free is = refl
 free-kind o at kind.Master is = absurd (cc is)
 free-kind o at (kind.Ptr p) is = absurd (cc is)
 free-kind o at (kind.Rel h) is = absurd (cc is)
-
--- none of the blocks is free and large enough where none of the entries is
-pub rooms-same : (o : Owners) (s : Shape) (at k : ℕ) (m : ZoneMap) → list_all (λ b. not (records.has_free k b)) (records_from o s at m) ≡ list_all (λ (e : Entry). not (map.has_free k e)) m
-rooms-same o s at k [] = refl
-rooms-same o s at k (e ∷ es) =
-    ap (λ t. not (t && nat_le k e.size) && list_all (λ b. not (records.has_free k b)) (records_from o s (at + e.size) es)) (free-content o (at + head_size s.heads) e.kind)
-    ∙ ap (λ t. not (map.has_free k e) && t) (rooms-same o s (at + e.size) k es)
-
--- the lowest free one of the blocks is that of the map
-pub lowest-at : (r : ZoneRecords) (z : ZoneState) → r ≡ records_of z → (k at : ℕ) → records.LowestAt r k at → LowestAt z k at
-lowest-at r z is k at low =
-    let f = low.free in
-    let mine = of-record r z is at (record { before = f.before; here = block_record Free f.size; behind = f.behind; blocks = f.blocks; place = f.place }) in
-    let e = mine.entry in
-    let free : e.here.kind ≡ kind.Free = free-kind (owners_of z) (at + head_size z.shape.heads) e.here.kind (ap (λ (b : BlockRecord). b.content) mine.here) in
-    let size : f.size ≡ e.here.size = ap (λ (b : BlockRecord). b.size) mine.here in
-    let large = low.large in
-    record {
-      free = record { before = e.before; size = e.here.size; behind = e.behind; map = e.map ∙ ap (λ k. e.before ++ block k e.here.size ∷ e.behind) free; place = e.place };
-      large = omega arith;
-      lowest = sym (ap (list_all (λ b. not (records.has_free k b))) mine.lower ∙ rooms-same (owners_of z) z.shape (address_behind z.shape []) k e.before) ∙ low.lowest;
-    }
 
 -- none of the blocks is free where none of the entries is
 pub none_free-same : (o : Owners) (s : Shape) (at : ℕ) (m : ZoneMap) → records.none_free (records_from o s at m) ≡ none_free m

@@ -41,7 +41,6 @@ impl Drop for LinkedZone {
 
 impl LinkedZone {
     ghost use Rattle.std.specs.Prelude.{◌≡◌, ◌+◌, ◌≤◌, ◌<◌, IfOk, IfSome, IfNone, IsTrue, IsFalse, MatchOption, Some, None, ◌∷◌, [], not, drop, length, Contains, ◌↔◌};
-    ghost use Rattle.std.specs.List.{list_all};
     ghost use Rattle.std.specs.Borrow.{sem};
     ghost use Rattle.mac_base.specs.HandleTable.{EmptyHandle, has_block, is_handle, is_full, is_lent, is_pointer, live_at, bytes_of, flags_of};
     ghost use Rattle.mac_base.specs.HeadKind.{master_length, head_size};
@@ -49,12 +48,12 @@ impl LinkedZone {
     ghost use Rattle.mac_base.specs.Loans.{most_loans, LoansFit};
     ghost use Rattle.mac_base.specs.Suits.{slots, wanted_length};
     ghost use Rattle.mac_base.specs.BlockReport.{report_at};
-    ghost use Rattle.mac_base.specs.ZoneMap.{address_behind, free_bytes, has_free, contents_of};
+    ghost use Rattle.mac_base.specs.ZoneMap.{address_behind, free_bytes, contents_of};
     ghost use Rattle.mac_base.specs.ZoneState.{own_memory};
     ghost use Rattle.linked_zone.specs.Changes.{bare_zone, taken, given_back, pointed, without_block, fixed, unfixed, held_there, enlarged, cut_in_two, joined_pair, with_master, flagged};
     ghost use Rattle.linked_zone.specs.Fit.{Fits, HasSizes};
     ghost use Rattle.linked_zone.specs.WritingBack.{WritesBackBytes};
-    ghost use Rattle.linked_zone.specs.Places.{EntryAt, FreeAt, BlockOf, NamedAt, LowestAt, RoomFor, CanCut, CanHold, CanGrow, FreePair, SplitAt, FirstFree, LastFree, none_free, FirstFrom, NoneFrom};
+    ghost use Rattle.linked_zone.specs.Places.{EntryAt, FreeAt, BlockOf, NamedAt, RoomFor, CanCut, CanHold, CanGrow, FreePair, SplitAt, FirstFree, LastFree, none_free, FirstFrom, NoneFrom};
     ghost use Rattle.linked_zone.specs.Sizes.{sizes_of};
     ghost use Rattle.linked_zone.specs.Image.{IsImage};
     ghost use Rattle.block_bytes.specs.Walk.{Walks};
@@ -222,14 +221,6 @@ impl LinkedZone {
         self.records.first_from(from)
     }
 
-    /// The lowest free block of at least `needed` bytes, its header among them.
-    pub fn lowest_free(&self, needed: u32) -> Option<u32>
-        ensures lowest { IfSome result (λ at. LowestAt self.now needed at) }
-        ensures none { IfNone result (IsTrue (list_all (λ e. not (has_free needed e)) self.now.heap.map)) }
-    {
-        self.records.lowest_free(needed)
-    }
-
     /// The address of the first free block from an address on, if there is one.
     pub fn next_free(&self, from: u32) -> Option<u32>
         requires { SplitAt self.now from }
@@ -248,7 +239,7 @@ impl LinkedZone {
         self.records.last_free(end)
     }
 
-    /// The size of the free block at an address. No header is read.
+    /// The size of the free block at an address.
     pub fn free_size(&self, at: u32) -> u32
         requires { FreeAt self.now at }
         ensures { (f : FreeAt self.now at) → result ≡ f.size }

@@ -1,12 +1,14 @@
 -- Marks that move to other places.
-use Rattle.std.proofs.Common.{◌≡◌, ℕ, List, ◌++◌, replicate, sym, ap, ◌∙◌, append_assoc, length-append, ◌+◌, ◌-◌, ◌<◌, ◌≤◌, inl, inr, length, map, get_or, take, drop, arith, get_or-take, get_or-drop}
+use Rattle.std.proofs.Common.{◌≡◌, ℕ, zero, suc, refl, List, ◌++◌, replicate, sym, ap, ◌∙◌, length-append, ◌+◌, ◌-◌, ◌<◌, ◌≤◌, inl, inr, length, get_or, take, drop, arith, get_or-take, get_or-drop}
 use Rattle.std.proofs.lemmas.Bool.{cases_lt}
-use Rattle.std.proofs.lemmas.List.{ext_get_or, get_or_append_left, get_or-append_right, length-replicate, map-id, length-take-le, length-drop, take-append-le, drop-append-le}
+use Rattle.std.proofs.lemmas.List.{ext_get_or, get_or_append_left, get_or-append_right, length-replicate, length-take-le, length-drop}
 use Rattle.place_numbers.specs.Shifted.{shifted_down, shifted_up}
-use Rattle.place_numbers.specs.Bounds.{AreBounds, AreBoundsOutside}
-use Rattle.place_numbers.specs.Rows.{padded}
-use Rattle.place_numbers.proofs.Bounds.{outside}
-use Rattle.place_numbers.proofs.Rows.{zeros-at, long, reached, still-seen}
+
+-- zeros
+pub zeros-at : (k j : ℕ) → get_or {A = ℕ} (replicate k 0) j 0 ≡ 0
+zeros-at zero j = refl
+zeros-at (suc k) zero = refl
+zeros-at (suc k) (suc j) = zeros-at k j
 
 -- those of xs from `to + gap` up to `place` have moved down by `gap`, and 0 stands in all other places from `to` on
 pub record MovedDown (xs ys : List ℕ) (to gap place : ℕ) : Type 0 where
@@ -104,94 +106,3 @@ only-up xs ys zs end gap place one other = ext_get_or 0 ys zs (one.len ∙ sym o
     | inr past ↦ one.behind j past ∙ sym (other.behind j past)
   ]
 ])
-
--- zeros behind a list stay where they are while a run in it moves
-pub padded-down : (xs : List ℕ) (from to n k : ℕ) → to ≤ from → from + n ≤ length xs → shifted_down from to n xs ++ replicate k 0 ≡ shifted_down from to n (xs ++ replicate k 0)
-padded-down xs from to n k down inside =
-    let zs = replicate {A = ℕ} k 0 in let rest = length-drop from xs in
-    append_assoc (take to xs ++ take n (drop from xs) ++ replicate (from - to) 0) (drop (from + n) xs) zs
-    ∙ (λ i. sym (take-append-le to xs zs (omega arith)) i ++ (sym (take-append-le n (drop from xs) zs (omega arith)) ∙ ap (take n) (sym (drop-append-le from xs zs (omega arith)))) i
-    ++ replicate (from - to) 0 ++ sym (drop-append-le (from + n) xs zs inside) i)
-
-pub padded-up : (xs : List ℕ) (from to n k : ℕ) → from ≤ to → to + n ≤ length xs → shifted_up from to n xs ++ replicate k 0 ≡ shifted_up from to n (xs ++ replicate k 0)
-padded-up xs from to n k up inside =
-    let zs = replicate {A = ℕ} k 0 in let rest = length-drop from xs in
-    append_assoc (take from xs ++ replicate (to - from) 0 ++ take n (drop from xs)) (drop (to + n) xs) zs
-    ∙ (λ i. sym (take-append-le from xs zs (omega arith)) i ++ replicate (to - from) 0
-    ++ (sym (take-append-le n (drop from xs) zs (omega arith)) ∙ ap (take n) (sym (drop-append-le from xs zs (omega arith)))) i ++ sym (drop-append-le (to + n) xs zs inside) i)
-
-module _ (xs ys : List ℕ) (to gap place : ℕ) (done : MovedDown xs ys to gap place) where
-  -- zeros are passed over
-  pub skip-down : (at : ℕ) → place ≤ at → ((j : ℕ) → place ≤ j → j < at → get_or ys j 0 < 1) → MovedDown xs ys to gap at
-  skip-down at on none = record {
-    len = done.len;
-    below = done.below;
-    moved = λ j from high. elim (cases_lt (j + gap) place) [
-      | inl early ↦ done.moved j from early
-      | inr late ↦ let same = done.behind (j + gap) late in let was = none (j + gap) late high in let now = empty j from late (omega arith) in omega arith
-    ];
-    zeros = λ j from late before. empty j from (omega arith) before;
-    behind = λ j past. done.behind j (omega arith);
-  }
-    where
-      empty : (j : ℕ) → to ≤ j → place ≤ j + gap → j < at → get_or ys j 0 ≡ 0
-      empty j from late before = elim (cases_lt j place) [
-        | inl here ↦ done.zeros j from late here
-        | inr past ↦ let no = none j past before in omega arith
-      ]
-
-module _ (xs ys : List ℕ) (end gap place : ℕ) (done : MovedUp xs ys end gap place) where
-  -- zeros are passed over
-  pub skip-up : (at : ℕ) → at ≤ place → ((j : ℕ) → at ≤ j → j < place → get_or ys j 0 < 1) → MovedUp xs ys end gap at
-  skip-up at on none = record {
-    len = done.len;
-    below = λ j low. done.below j (omega arith);
-    zeros = λ j from early before. empty j from (omega arith) before;
-    moved = λ j past before. elim (cases_lt j (place + gap)) [
-      | inl early ↦ let same = done.below (j - gap) (omega arith) in let was = none (j - gap) (omega arith) (omega arith) in let now = empty j (omega arith) early before in omega arith
-      | inr late ↦ done.moved j late before
-    ];
-    behind = done.behind;
-  }
-    where
-      empty : (j : ℕ) → at ≤ j → j < place + gap → j < end → get_or ys j 0 ≡ 0
-      empty j from early before = elim (cases_lt j place) [
-        | inl here ↦ let no = none j from here in omega arith
-        | inr past ↦ done.zeros j past early before
-      ]
-
--- where a run has moved, the bounds are right at the other places
-pub but-moved : (bs xs zs : List ℕ) (first end : ℕ) → AreBounds bs xs → length zs ≡ length xs
-    → ((j : ℕ) → j < first → get_or zs j 0 ≡ get_or xs j 0)
-    → ((j : ℕ) → end ≤ j → get_or zs j 0 ≡ get_or xs j 0)
-    → AreBoundsOutside bs zs first end
-but-moved bs xs zs first end bounds long below behind =
-    outside bs xs zs first end first end bounds (let count = bounds.count in omega arith) below behind (omega arith) (omega arith)
-
--- numbers that are seen, and written up to a place
-pub record SeenUpTo (ys now : List ℕ) (end count : ℕ) : Type 0 where
-  pub view : padded (map (λ x. x) ys) count ≡ now
-  pub reached : end ≤ length ys
-
--- once zeros are written up to there
-pub seen-up-to : (xs ys now : List ℕ) (end count : ℕ) → padded (map (λ x. x) xs) count ≡ now → map (λ x. x) ys ≡ map (λ x. x) xs ++ replicate (end - length xs) 0 → length xs ≤ count → end ≤ length now → SeenUpTo ys now end count
-seen-up-to xs ys now end count view zeros fits inside =
-    let whole = long (λ (x : ℕ). x) xs count now view fits in let within : end ≤ count = omega (arith, whole, inside) in
-    record { view = still-seen (λ (x : ℕ). x) xs count now view ys end zeros fits within; reached = reached (λ (x : ℕ). x) xs count now view ys end zeros fits within }
-
--- a run that is moved among the numbers that are written
-module _ (ys zs now : List ℕ) (from to n count : ℕ) where
-  plain : (end : ℕ) → SeenUpTo ys now end count → ys ++ replicate (count - length ys) 0 ≡ now
-  plain end seen = ap (λ (l : List ℕ). padded l count) (sym (map-id ys)) ∙ seen.view
-
-  pub view-down : SeenUpTo ys now (from + n) count → zs ≡ shifted_down from to n ys → to ≤ from → padded (map (λ x. x) zs) count ≡ shifted_down from to n now
-  view-down seen moved down =
-      ap (λ (l : List ℕ). padded l count) (map-id zs)
-      ∙ (λ i. moved i ++ replicate (count - (ap length moved ∙ (shifted-down ys from to n down seen.reached).len) i) 0)
-      ∙ padded-down ys from to n (count - length ys) down seen.reached ∙ ap (shifted_down from to n) (plain (from + n) seen)
-
-  pub view-up : SeenUpTo ys now (to + n) count → zs ≡ shifted_up from to n ys → from ≤ to → padded (map (λ x. x) zs) count ≡ shifted_up from to n now
-  view-up seen moved up =
-      ap (λ (l : List ℕ). padded l count) (map-id zs)
-      ∙ (λ i. moved i ++ replicate (count - (ap length moved ∙ (shifted-up ys from to n up seen.reached).len) i) 0)
-      ∙ padded-up ys from to n (count - length ys) up seen.reached ∙ ap (shifted_up from to n) (plain (to + n) seen)

@@ -4,7 +4,7 @@ use Rattle.std.proofs.Math.Nat.{mod-lt}
 use Rattle.std.specs.Int.{bit_at, bit_not}
 use Rattle.std.proofs.lemmas.Nat.{pow_pos}
 use Rattle.std.proofs.lemmas.Nat.Bits.{bit_at-zero, bit_at-lt, bit_at_and, bit_at_or, bit_at_not, bit_at_ones, bit_at_ones_above, bit_at_above, bit_at_cat_low, bit_at_cat_high, ones_shr}
-use Rattle.place_numbers.proofs.Words.{shifted-bit}
+use Rattle.place_numbers.proofs.Marked.{shifted-bit}
 
 -- a word that is shifted up
 whole : (x k i : ℕ) → i < 32 → bit_at (x * 2 ^ k % 2 ^ 32) i ≡ bit_at (x * 2 ^ k + 0) i

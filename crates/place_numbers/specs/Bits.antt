@@ -3,12 +3,12 @@ use Rattle.std.specs.Prelude.{◌≡◌, ℕ, ◌+◌, ◌/◌, ◌%◌, ◌^◌
 use Rattle.std.specs.Int.{bit_at}
 use Rattle.std.specs.List.{range_with_len}
 
--- the number that stands for a mark, or for none
+-- the number for a mark, or for none
 abbrev pub mark_of : Bool → ℕ
 mark_of true = 1
 mark_of false = 0
 
--- the first bit of a word, `from` or behind it, that is 1
+-- the first bit of a word, `from` or after it, that is 1
 pub record FirstBit (word from at : ℕ) : Type 0 where
   pub inside : (from ≤ at) × (at < 32)
   pub one : bit_at word at ≡ 1
@@ -28,14 +28,24 @@ bit_of words j = bit_at (slice_index words (j / 32)) (j % 32)
 abbrev pub bits_of : List ℕ → ℕ → List ℕ
 bits_of words count = map (bit_of words) (range_with_len 0 count)
 
--- there are words for so many places, none has a mark behind these, and those that aren't 0 are noted
-pub record AreNoted (words used : List ℕ) (count : ℕ) : Type 0 where
+-- there is room for the words of so many places, and none has a mark after these
+pub record AreWords (words : List ℕ) (count capacity : ℕ) : Type 0 where
   pub few : count < 2 ^ 40
-  pub room : length words ≡ count / 32 + 1
-  pub each : length used ≡ length words
+  pub room : count / 32 < capacity
   pub past : (j : ℕ) → count ≤ j → bit_of words j ≡ 0
-  pub zero : (w : ℕ) → slice_index used w ≡ 0 → slice_index words w ≡ 0
-  pub some : (w : ℕ) → 1 ≤ slice_index used w → 1 ≤ slice_index words w
+
+-- a mark is in a word
+pub record HasMark (xs : List ℕ) (word : ℕ) : Type 0 where
+  pub place : ℕ
+  pub here : place / 32 ≡ word
+  pub one : 1 ≤ slice_index xs place
+
+-- the words that have a mark are noted
+pub record AreNoted (xs used : List ℕ) : Type 0 where
+  pub few : length xs < 2 ^ 40
+  pub each : length used ≡ length xs / 32 + 1
+  pub none : (j : ℕ) → slice_index used (j / 32) < 1 → slice_index xs j < 1
+  pub some : (w : ℕ) → 1 ≤ slice_index used w → HasMark xs w
 
 -- n marks from a place on are the lowest bits of a word, and the others stay
 pub record AreWritten (xs ys : List ℕ) (place n word : ℕ) : Type 0 where

@@ -1,26 +1,20 @@
 //! Marks at places, a bit for each.
 
-ghost use Rattle.std.specs.Prelude.{◌≡◌, ◌<◌, length, set};
-ghost use Rattle.place_numbers.specs.Bits.{mark_of};
-
-use crate::levels::Levels;
-use crate::row::Row;
+use crate::level::{Level, Marks};
+use crate::word::first_bit;
+use crate::words::Words;
 use std::alloc::{AllocError, Global};
 use std::marker::Model;
-use word::{first_bit, last_bit, with_bit};
 
 mod copies;
-mod word;
 
-/// A mark or none at each of so many places, from 0 on. A contract sees a list of numbers: 1 for a mark, 0 for none. After `create` no
-/// call takes memory of the host.
+/// A mark or none at each of so many places, from 0 on. A contract sees a list of numbers: 1 for a mark, 0 for none.
+/// After `create` no call takes memory of the host.
 #[derive(Drop)]
 pub struct Bits {
-    /// The marks of 32 places each.
-    words: Row<u32>,
-    /// For each word 1, or 0 where the word is 0.
-    used: Levels<u8>,
-    count: usize,
+    /// Each row over another has a mark for each of its words that has any, so that a search passes over 32, 1,024 or
+    /// 32,768 places without a mark in one step.
+    levels: Level<Level<Level<Words>>>,
 }
 
 impl Model for Bits {
@@ -28,22 +22,7 @@ impl Model for Bits {
 
     ghost Value = { List ℕ };
 
-    ghost use Rattle.place_numbers.specs.Bits.{bits_of, AreNoted};
-
-    ghost view = { λ b. bits_of b.words b.count };
-
-    ghost invariant = { λ b. AreNoted b.words b.used b.count };
-}
-
-/// Notes whether a word has a mark.
-fn note(used: &mut Levels<u8>, word: usize, some: bool)
-    requires { word < length used.old }
-    ensures { used.new ≡ set used.old word (mark_of some) }
-{
-    let mark = u8::from(some);
-    if used.get(word) != mark {
-        used.set(word, mark);
-    }
+    ghost view = { λ b. b.levels };
 }
 
 impl Bits {
@@ -58,9 +37,7 @@ impl Bits {
         ensures { IfOk result (λ bits. bits ≡ replicate count 0) }
     {
         Ok(Bits {
-            words: Row::create(alloc, count / 32 + 1)?,
-            used: Levels::create(alloc, count / 32 + 1)?,
-            count,
+            levels: Level::create(alloc, count)?,
         })
     }
 
@@ -68,7 +45,7 @@ impl Bits {
     pub fn len(&self) -> usize
         ensures { result ≡ length self.now }
     {
-        self.count
+        self.levels.len()
     }
 
     /// Whether a mark is at a place.
@@ -76,7 +53,7 @@ impl Bits {
         requires { place < length self.now }
         ensures { mark_of result ≡ slice_index self.now place }
     {
-        self.words.get(place / 32) >> (place % 32) & 1 != 0
+        self.levels.get(place)
     }
 
     /// Puts a mark at a place, or takes it away.
@@ -84,27 +61,18 @@ impl Bits {
         requires { place < length self.old }
         ensures { self.new ≡ set self.old place (mark_of marked) }
     {
-        let word = place / 32;
-        let now = with_bit(self.words.get(word), (place % 32) as u32, marked);
-        self.words.set(word, now);
-        note(&mut self.used, word, now != 0);
+        self.levels.set(place, marked);
     }
 
-    /// The first place with a mark, `from` or behind it.
+    /// The first place with a mark, `from` or after it.
     pub fn first_from(&self, from: usize) -> Option<usize>
         ensures first { IfSome result (λ at. FirstAtLeast self.now 1 from at) }
         ensures none { IfNone result ((j : ℕ) → from ≤ j → j < length self.now → slice_index self.now j < 1) }
     {
-        let word = from / 32;
-        if let Some(bit) = first_bit(self.words.get(word), (from % 32) as u32) {
-            return Some(word * 32 + bit as usize);
-        }
-        let next = self.used.first_at_least(1, word + 1)?;
-        let bit = first_bit(self.words.get(next), 0)?;
-        Some(next * 32 + bit as usize)
+        self.levels.first_from(from)
     }
 
-    /// The first place with a mark, `from` or behind it, that comes before `end`.
+    /// The first place with a mark, `from` or after it, that comes before `end`.
     pub fn first_between(&self, from: usize, end: usize) -> Option<usize>
         requires { end ≤ length self.now }
         ensures first { IfSome result (λ at. FirstAtLeast self.now 1 from at) }
@@ -130,17 +98,11 @@ impl Bits {
         ensures last { IfSome result (λ at. LastAtLeast self.now 1 end at) }
         ensures none { IfNone result ((j : ℕ) → j < end → slice_index self.now j < 1) }
     {
-        let word = end / 32;
-        if let Some(bit) = last_bit(self.words.get(word), (end % 32) as u32) {
-            return Some(word * 32 + bit as usize);
-        }
-        let before = self.used.last_at_least(1, word)?;
-        let bit = last_bit(self.words.get(before), 32)?;
-        Some(before * 32 + bit as usize)
+        self.levels.last_before(end)
     }
 
-    /// Moves the `count` marks from `from` on down to `to` and behind. Those that stood between are gone, and none is left behind the
-    /// moved ones.
+    /// Moves the `count` marks from `from` on down to `to` and after it. Those between are gone, and none is left after
+    /// the moved ones.
     pub fn shift_down(&mut self, from: usize, to: usize, count: usize)
         requires order { to ≤ from }
         requires inside { from + count ≤ length self.old }
@@ -151,8 +113,8 @@ impl Bits {
         self.clear(to + count, from + count);
     }
 
-    /// Moves the `count` marks from `from` on up to `to` and behind. Those that stood there are gone, and none is left before the
-    /// moved ones.
+    /// Moves the `count` marks from `from` on up to `to` and after it. Those that were there are gone, and none is left
+    /// before the moved ones.
     pub fn shift_up(&mut self, from: usize, to: usize, count: usize)
         requires order { from ≤ to }
         requires inside { to + count ≤ length self.old }

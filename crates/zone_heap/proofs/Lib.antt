@@ -21,7 +21,6 @@ pub mod Attempting
 pub mod Extending
 pub mod Resizing
 pub mod Moving
-pub mod Largest
 pub mod Compacting
 pub mod Recovering
 pub mod Resizes

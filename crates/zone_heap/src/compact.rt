@@ -3,7 +3,7 @@
 use crate::zone::Zone;
 use mac_base::block::Kind;
 use mac_base::handle::Handle;
-use zone_gaps::{raise, squeeze_all_down, squeeze_down, zone_end};
+use zone_gaps::{raise, squeeze_all_down, squeeze_down};
 use zone_index::IndexedZone;
 
 impl Zone {
@@ -15,19 +15,13 @@ impl Zone {
     ghost use Rattle.mac_base.specs.ZoneState.{with_heap};
     ghost use Rattle.linked_zone.specs.Loans.{KeepsLoans};
 
-    /// The size of the largest free block, and 0 where none is free. From each free block the search goes on to the lowest
-    /// larger one: no other block is read. It is what MaxMem and CompactMem report of a zone (Inside Macintosh: Memory,
-    /// "Freeing Memory").
-    pub fn largest_free(&self) -> u32
-        ensures { result ≡ largest_free self.now.heap.map }
+    /// The size of the largest free block, and 0 where none is free. It is what MaxMem and CompactMem report of a zone (Inside
+    /// Macintosh: Memory, "Freeing Memory").
+    pub fn largest_free(&mut self) -> u32
+        ensures zone { self.new ≡ self.old }
+        ensures largest { result ≡ largest_free self.old.heap.map }
     {
-        let linked = self.pointers.linked();
-        prove!(zone_end(linked) <= u32::MAX);
-        let mut largest = 0;
-        while let Some(at) = linked.lowest_free(largest + 1) {
-            largest = linked.free_size(at);
-        }
-        largest
+        self.pointers.largest_free()
     }
 
     /// CompactMem: where no free block has `needed` bytes, its header among them, the blocks of the lowest gap that has

@@ -107,7 +107,7 @@ pub(crate) fn open_lowest(zone: &mut IndexedZone, needed: u32) -> Option<u32>
     ensures loans { KeepsLoans zone.old zone.new }
     ensures sound { SoundZone zone.new }
 {
-    if let Some(at) = zone.linked().lowest_free(needed) {
+    if let Some(at) = zone.lowest_free(needed) {
         return Some(at);
     }
     let at = zone.lowest_gap(needed)?;

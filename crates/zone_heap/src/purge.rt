@@ -15,7 +15,6 @@ ghost use Rattle.zone_heap.specs.Purge.{is_protected, BlocksAt, unprotected};
 use crate::fitting::fits;
 use crate::size::stays;
 use crate::zone::{Zone, empty};
-use linked_zone::LinkedZone;
 use mac_base::block::Kind;
 use mac_base::handle::Handle;
 use mac_base::request::Request;
@@ -53,7 +52,7 @@ impl Zone {
         ensures enough { result ≡ nat_le needed (largest_free self.new.heap.map) }
         ensures loans { KeepsLoans self.old self.new }
     {
-        while !has_free(self.pointers.linked(), needed) {
+        while self.pointers.largest_free() < needed {
             let Some(handle) = next_in_zone(&self.pointers, &[]) else {
                 return false;
             };
@@ -72,13 +71,6 @@ impl Zone {
             empty(&mut self.pointers, handle);
         }
     }
-}
-
-/// Whether `needed` bytes are free in one block.
-fn has_free(zone: &LinkedZone, needed: u32) -> bool
-    ensures { result ≡ nat_le needed (largest_free zone.now.heap.map) }
-{
-    needed == 0 || zone.lowest_free(needed).is_some()
 }
 
 /// The lowest handle that may be purged for a request, if there is one. Where the block of a number stays and is to grow, it is

@@ -24,7 +24,7 @@ use Rattle.zone_index.specs.Weights.{most, weights}
 use Rattle.zone_index.proofs.Fronts.{front_split, split_entry}
 use Rattle.zone_index.proofs.Lowest.{FewBelow, first_run-is, later-found}
 use Rattle.zone_index.proofs.Most.{most-gaps}
-use Rattle.zone_index.proofs.Rooms.{free-among, none-among}
+use Rattle.zone_index.proofs.GapWalk.{free-among, none-among}
 use Rattle.zone_index.proofs.Splits.{FirstRun, LastRun, first_run, last_run, run-free}
 
 -- where fewer bytes are free in all no gap has room

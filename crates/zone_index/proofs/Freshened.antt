@@ -48,8 +48,7 @@ module _ (z : ZoneState) (within : zone_header + total_size z.heap.map ≤ z.sha
 
   pub freshened : (old new : Stored Span) → AreRooms z old → length new.sums ≡ length old.sums → AllRight no_span new.sums (room_in z) → AreFresh z new
   freshened old new a count right = record {
-    places = count ∙ a.places;
-    right = right;
+    are = record { places = count ∙ a.are.places; right = right };
     light = (let light = right-light z new.sums right in omega arith);
   }
 

@@ -5,8 +5,8 @@ use Rattle.mac_base.specs.ZoneState.{ZoneState}
 use Rattle.zone_laws.proofs.Arranging.{free_bytes-all_used}
 use Rattle.zone_laws.proofs.GapAppend.{free_bytes-append}
 use Rattle.linked_zone.specs.Places.{FirstFree, SplitAt, none_free}
-use Rattle.zone_index.specs.Rooms.{IsUsed}
-use Rattle.zone_index.proofs.Rooms.{none-among}
+use Rattle.zone_index.specs.Leaves.{IsUsed}
+use Rattle.zone_index.proofs.GapWalk.{none-among}
 
 module _ {z : ZoneState} {low : ℕ} (split : SplitAt z low) (high : ℕ) where
   pub used-up_to : (at : ℕ) → FirstFree split.behind low at → high ≤ at → IsUsed split high

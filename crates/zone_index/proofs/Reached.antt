@@ -1,5 +1,5 @@
 -- The search for the block with which some gap has room.
-use Rattle.std.proofs.Common.{◌≡◌, ℕ, ◌+◌, ◌*◌, ◌-◌, ◌<◌, ◌≤◌, ◌^◌, [], ◌∷◌, ◌++◌, length, ap, sym, ◌∙◌, subst, append_assoc, append-nil, inr, arith}
+use Rattle.std.proofs.Common.{◌≡◌, ℕ, ◌+◌, ◌*◌, ◌-◌, ◌<◌, ◌≤◌, ◌^◌, [], ◌∷◌, ◌++◌, ap, sym, ◌∙◌, subst, append_assoc, append-nil, inr, arith}
 use Rattle.std.specs.Prelude.{IsFalse, nat_le}
 use Rattle.std.proofs.lemmas.Bool.Decides.{nat_tests}
 use Rattle.mac_base.specs.declared.block.Entry.{Entry}
@@ -12,22 +12,20 @@ use Rattle.zone_laws.proofs.Maps.{total_size-append}
 use Rattle.linked_zone.specs.Fit.{HasSizes}
 use Rattle.linked_zone.specs.Places.{EntryAt, FirstFrom, NoneFrom}
 use Rattle.block_sums.specs.declared.span.Span.{Span}
-use Rattle.block_sums.specs.Span.{no_span, joined, span_laws, most_in, SpanFits}
-use Rattle.block_sums.proofs.Leaves.{sum-leaves}
-use Rattle.sum_tree.specs.Monoids.{sum_of, total}
-use Rattle.sum_tree.proofs.Totals.{sum-all}
+use Rattle.block_sums.specs.Span.{no_span, joined, most_in, SpanFits}
+use Rattle.sum_tree.specs.Monoids.{total}
 use Rattle.sum_tree.specs.Rows.{IsFirst}
 use Rattle.sum_tree.specs.Stale.{Stored}
-use Rattle.zone_index.specs.declared.weight.Weight.{Weight}
 use Rattle.zone_index.specs.Weights.{weigh, weights}
 use Rattle.zone_index.specs.Pages.{begun}
-use Rattle.zone_index.specs.Rooms.{AreFresh, Reaches, SumsBelow, room_of, room_sum}
+use Rattle.zone_index.specs.Rooms.{AreFresh, Reaches, SumsBelow, room_of, room_sum, summing_rooms}
 use Rattle.zone_index.proofs.Entries.{FirstIn, first_in}
-use Rattle.zone_index.proofs.Begun.{begun-between, below-end}
+use Rattle.zone_index.proofs.Begun.{begun-between}
 use Rattle.zone_index.proofs.LeafWalk.{first-below, none-below, sum-push}
-use Rattle.zone_index.proofs.RoomSums.{room_sum-largest, room_sum-most, sum-fits}
+use Rattle.zone_index.proofs.RoomSums.{room_sum-largest, room_sum-most, rooms_are, sum-fits}
 use Rattle.zone_index.proofs.Sizes.{all_parts}
 use Rattle.zone_index.proofs.SomeBytes.{no_bytes, total_size-push}
+use Rattle.zone_index.proofs.Summing.{leaves-sum, leaves-total}
 use Rattle.zone_index.proofs.Walking.{filling-all}
 
 -- with the blocks below an address no gap has room for k bytes
@@ -123,11 +121,8 @@ module _ (z : ZoneState) (k at : ℕ) (s : Span) (b : Below z k at s) where
         few = few;
       }
 
--- the sums of leaves are those of blocks
+-- by the sums of leaves
 module _ (z : ZoneState) (rooms : Stored Span) (fresh : AreFresh z rooms) where
-  leaves-sum : (n : ℕ) → n ≤ length rooms.sums → sum_of no_span joined rooms.sums 0 n ≡ room_sum (begun 0 (256 * n) zone_header (weights z.heap.table z.heap.map))
-  leaves-sum n inside = sum-leaves span_laws (λ (w : Weight). w.bytes) room_of zone_header (weights z.heap.table z.heap.map) rooms.sums fresh.right n inside
-
   -- below a leaf no gap has room
   pub leaf_below : (k i from : ℕ) (s : Span) → from ≡ z.shape.base + i * 256 → IsFirst no_span joined (λ (s : Span). nat_le k (most_in s)) rooms.sums i s → SumsBelow z from k s
   leaf_below k i from s is first =
@@ -135,16 +130,13 @@ module _ (z : ZoneState) (rooms : Stored Span) (fresh : AreFresh z rooms) where
       let same : 256 * i ≡ from - z.shape.base = omega arith in
       record {
         low = omega arith;
-        sum = first.sum_is ∙ leaves-sum i (omega arith) ∙ ap (λ n. room_sum (begun 0 n zone_header (weights z.heap.table z.heap.map))) same;
+        sum = first.sum_is ∙ leaves-sum summing_rooms rooms_are z rooms fresh.are i (omega arith) ∙ ap (λ n. room_sum (begun 0 n zone_header (weights z.heap.table z.heap.map))) same;
         few = (let none = first.before in grind (arith, nat_tests));
       }
 
   -- the most that one gap has
   pub all_most : zone_header + total_size z.heap.map ≤ z.shape.limit → most_in (total no_span joined rooms.sums) ≡ largest_room z.heap.table z.heap.map
-  all_most within =
-      let places = fresh.places in
-      let all = begun-between z.heap.table 0 (256 * length rooms.sums) zone_header z.heap.map (omega arith) (below-end (256 * length rooms.sums) zone_header z.heap.map (omega arith)) in
-      ap most_in (sym (sum-all span_laws rooms.sums (length rooms.sums) (omega arith)) ∙ leaves-sum (length rooms.sums) (omega arith) ∙ ap room_sum all) ∙ room_sum-largest z.heap.table z.heap.map
+  all_most within = ap most_in (leaves-total summing_rooms rooms_are z rooms fresh.are within) ∙ room_sum-largest z.heap.table z.heap.map
 
   -- no gap has room
   pub all_below : (k : ℕ) → zone_header + total_size z.heap.map ≤ z.shape.limit → IsFalse (nat_le k (most_in (total no_span joined rooms.sums))) → largest_room z.heap.table z.heap.map < k

@@ -5,16 +5,18 @@ use Rattle.mac_base.specs.HeadKind.{Shape, zone_header}
 use Rattle.mac_base.specs.Heap.{Heap}
 use Rattle.mac_base.specs.ZoneState.{ZoneState}
 use Rattle.linked_zone.specs.Structure.{DifferInContents}
-use Rattle.block_sums.specs.declared.span.Span.{Span}
 use Rattle.block_sums.specs.Span.{heavy}
 use Rattle.sum_tree.specs.Stale.{Stored}
+use Rattle.zone_index.specs.declared.leaves.LeafSums.{LeafSums}
 use Rattle.zone_index.specs.declared.lengths.Lengths.{Lengths}
 use Rattle.zone_index.specs.declared.sums.Sums.{Sums}
-use Rattle.zone_index.specs.declared.weight.Weight.{Weight}
+use Rattle.zone_index.specs.Free.{summing_largest}
+use Rattle.zone_index.specs.Leaves.{AreSums, Summing, leaf_size, sum_over}
+use Rattle.zone_index.specs.LeafSums.{AreLeaves}
 use Rattle.zone_index.specs.Lengths.{AreLengths}
 use Rattle.zone_index.specs.Marks.{AreMarked}
 use Rattle.zone_index.specs.Pages.{ArePages, begun, page_size, page_start}
-use Rattle.zone_index.specs.Rooms.{AreRooms, leaf_size, room_sum}
+use Rattle.zone_index.specs.Rooms.{summing_rooms}
 use Rattle.zone_index.specs.Spans.{IsSum}
 use Rattle.zone_index.specs.Weights.{weights}
 use Rattle.zone_index.proofs.Alike.{AreAlike, alike-same, alike-tables, blank, blank-flags, blank-full, blank-long}
@@ -58,11 +60,16 @@ module _ (z w : ZoneState) (d : DifferInContents z w) where
   pub purgeable-refilled : (marks : List ℕ) → AreMarked goes.test z marks → AreMarked goes.test w marks
   purgeable-refilled = kept-marked goes purge-blank
 
-  pub rooms-refilled : (rooms : Stored Span) → AreRooms z rooms → AreRooms w rooms
-  rooms-refilled rooms a = record {
+  sums-refilled : {M : Type 0} (s : Summing M) (kept : Stored M) → AreSums s z kept → AreSums s w kept
+  sums-refilled s kept a = record {
     places = a.places ∙ ap (λ (s : Shape). s.limit / leaf_size + 1) d.shape;
-    right = λ j inside fresh. a.right j inside fresh ∙ ap (λ ws. room_sum (begun (256 * j) (256 * j + 256) zone_header ws)) (sym same_weights);
-    light = subst (λ (s : Shape). heavy rooms.sums ≤ s.limit) d.shape a.light;
+    right = λ j inside fresh. a.right j inside fresh ∙ ap (λ ws. sum_over s (begun (256 * j) (256 * j + 256) zone_header ws)) (sym same_weights);
+  }
+
+  pub leaves-refilled : (l : LeafSums) → AreLeaves z l → AreLeaves w l
+  leaves-refilled l a = record {
+    rooms = record { are = sums-refilled summing_rooms l.rooms a.rooms.are; light = subst (λ (s : Shape). heavy l.rooms.sums ≤ s.limit) d.shape a.rooms.light };
+    largest = sums-refilled summing_largest l.largest a.largest;
   }
 
   pub pages-refilled : (pages : List (Option Sums)) → ArePages z pages → ArePages w pages

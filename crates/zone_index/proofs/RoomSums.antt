@@ -1,28 +1,33 @@
 -- What gaps have of the free bytes of many blocks.
 use Rattle.std.proofs.Common.{◌≡◌, ℕ, ◌+◌, ◌<◌, ◌≤◌, ◌^◌, Bool, true, false, cond, List, [], ◌∷◌, ◌++◌, map, refl, ap, ◌∙◌, arith}
-use Rattle.std.proofs.lemmas.List.{map-append}
 use Rattle.mac_base.specs.declared.block.Entry.{Entry}
 use Rattle.mac_base.specs.Gap.{is_fixed}
 use Rattle.mac_base.specs.HandleTable.{HandleTable}
 use Rattle.mac_base.specs.Reports.{largest_room}
 use Rattle.mac_base.specs.ZoneMap.{ZoneMap, free_bytes, free_size, total_size}
 use Rattle.block_sums.specs.declared.span.Span.TheVariants.{Whole}
-use Rattle.block_sums.specs.Span.{no_span, joined, span_laws, most_in, parts, weight, heavy, SpanFits}
+use Rattle.block_sums.specs.Span.{joined, span_laws, most_in, parts, weight, heavy, SpanFits}
 use Rattle.block_sums.proofs.Mixed.{light-fits, total-light}
-use Rattle.sum_tree.specs.Monoids.{total}
-use Rattle.sum_tree.proofs.Totals.{total-append}
 use Rattle.zone_index.specs.declared.weight.Weight.{Weight}
 use Rattle.zone_index.specs.Weights.{most, weigh, weights}
 use Rattle.zone_index.specs.Spans.{IsSpan}
 use Rattle.zone_index.specs.Pages.{begun}
-use Rattle.zone_index.specs.Rooms.{room_of, room_sum}
+use Rattle.zone_index.specs.Rooms.{room_of, room_sum, summing_rooms}
 use Rattle.zone_index.proofs.Begun.{begun-test, within}
 use Rattle.zone_index.proofs.Most.{most-gaps}
+use Rattle.zone_index.proofs.Summing.{IsSumming, sum-append}
 use Rattle.zone_index.proofs.Spans.{free-light, span-all, span-join, span-none, span-one}
+
+-- they can be joined, and a block that isn't fixed has its free bytes
+pub rooms_are : IsSumming summing_rooms SpanFits
+rooms_are = record {
+  laws = span_laws;
+  idle = λ w moves none. ap (λ c. cond c (parts 0 0 0) (Whole w.free)) moves ∙ ap Whole none;
+}
 
 -- of two parts
 pub room_sum-append : (a b : List Weight) → room_sum (a ++ b) ≡ joined (room_sum a) (room_sum b)
-room_sum-append a b = ap (total no_span joined) (map-append room_of a b) ∙ total-append span_laws (map room_of a) (map room_of b)
+room_sum-append = sum-append summing_rooms rooms_are
 
 room_sum-span : (ws : List Weight) → IsSpan (λ (w : Weight). w.free) ws (room_sum ws)
 room_sum-span [] = span-none (λ (w : Weight). w.free)

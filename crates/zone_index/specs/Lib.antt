@@ -6,7 +6,10 @@ pub mod Turning
 pub mod Gaps
 pub mod Weights
 pub mod Spans
+pub mod Leaves
 pub mod Rooms
+pub mod Free
+pub mod LeafSums
 pub mod Pages
 pub mod Walk
 pub mod Disorder

@@ -2,11 +2,11 @@
 use Rattle.mac_base.specs.Gap.{is_fixed}
 use Rattle.mac_base.specs.ZoneState.{ZoneState}
 use Rattle.zone_index.specs.declared.zone.IndexedZone.TheInside.{Inside}
+use Rattle.zone_index.specs.LeafSums.{AreLeaves}
 use Rattle.zone_index.specs.Lengths.{AreLengths}
 use Rattle.zone_index.specs.Marks.{AreMarked}
 use Rattle.zone_index.specs.Pages.{ArePages}
 use Rattle.zone_index.specs.Purging.{may_go}
-use Rattle.zone_index.specs.Rooms.{AreRooms}
 
 -- the zone that they show
 abbrev pub zone_of : Inside → ZoneState
@@ -17,6 +17,6 @@ zone_of z = z.zone
 pub record IsIndexed (z : Inside) : Type 0 where
   pub fixed : AreMarked is_fixed z.zone z.marks
   pub purgeable : AreMarked may_go z.zone z.purgeable
-  pub rooms : AreRooms z.zone z.rooms
+  pub leaves : AreLeaves z.zone z.leaves
   pub pages : ArePages z.zone z.pages
   pub lengths : AreLengths z.zone.heap.table z.lengths

@@ -55,7 +55,7 @@ impl IndexedZone {
         let page = self.page_at(end);
         let leaf = self.leaf_at(end);
         self.pages.forget(page, page);
-        self.rooms.touch(leaf);
+        self.leaves.touch(leaf);
         self.zone.extend();
     }
 
@@ -70,8 +70,8 @@ impl IndexedZone {
         let low = self.leaf(at);
         let high = self.leaf_at(behind);
         self.pages.forget(first, last);
-        self.rooms.touch(low);
-        self.rooms.touch(high);
+        self.leaves.touch(low);
+        self.leaves.touch(high);
         self.zone.split(at, size);
     }
 
@@ -86,8 +86,8 @@ impl IndexedZone {
         let low = self.leaf(at);
         let high = self.leaf_at(behind);
         self.pages.forget(first, last);
-        self.rooms.touch(low);
-        self.rooms.touch(high);
+        self.leaves.touch(low);
+        self.leaves.touch(high);
         self.zone.merge(at);
     }
 
@@ -106,9 +106,9 @@ impl IndexedZone {
         let old = self.leaf(at);
         let new = self.leaf_at(at + others);
         self.pages.forget(from, to);
-        pass(&self.zone, &mut self.rooms, at + size, end);
-        self.rooms.touch(old);
-        self.rooms.touch(new);
+        pass(&self.zone, &mut self.leaves, at + size, end);
+        self.leaves.touch(old);
+        self.leaves.touch(new);
         carry(
             &mut self.purgeable,
             first,
@@ -133,9 +133,9 @@ impl IndexedZone {
         let old = self.leaf(at);
         let new = self.leaf(start);
         self.pages.forget(from, to);
-        pass(&self.zone, &mut self.rooms, start, at);
-        self.rooms.touch(old);
-        self.rooms.touch(new);
+        pass(&self.zone, &mut self.leaves, start, at);
+        self.leaves.touch(old);
+        self.leaves.touch(new);
         sink(
             &mut self.purgeable,
             first,
@@ -154,7 +154,7 @@ impl IndexedZone {
         let page = self.page(at);
         let leaf = self.leaf(at);
         self.pages.forget(page, page);
-        self.rooms.touch(leaf);
+        self.leaves.touch(leaf);
         self.zone.point(handle, at, length);
         self.lengths.note(handle.number(), length);
     }
@@ -169,7 +169,7 @@ impl IndexedZone {
         let page = self.page(at);
         let leaf = self.leaf(at);
         self.pages.forget(page, page);
-        self.rooms.touch(leaf);
+        self.leaves.touch(leaf);
         self.marks.set(place, true);
         let pointer = self.zone.fix(at, length);
         let _spec = self.zone.spec();
@@ -188,7 +188,7 @@ impl IndexedZone {
         let page = self.page(at);
         let leaf = self.leaf(at);
         self.pages.forget(page, page);
-        self.rooms.touch(leaf);
+        self.leaves.touch(leaf);
         self.marks.set(place, false);
         self.zone.unfix(pointer);
         self.lengths.note(pointer.number(), 0);
@@ -205,7 +205,7 @@ impl IndexedZone {
         let page = self.page(at);
         let leaf = self.leaf(at);
         self.pages.forget(page, page);
-        self.rooms.touch(leaf);
+        self.leaves.touch(leaf);
         self.marks.set(place, false);
         self.purgeable.set(place, false);
         self.zone.empty(handle);
@@ -221,7 +221,7 @@ impl IndexedZone {
         let page = self.page(at);
         let leaf = self.leaf(at);
         self.pages.forget(page, page);
-        self.rooms.touch(leaf);
+        self.leaves.touch(leaf);
         self.marks.set(place, true);
         self.zone.build_master(at);
     }
@@ -236,7 +236,7 @@ impl IndexedZone {
         let page = self.page(at);
         let leaf = self.leaf(at);
         self.pages.forget(page, page);
-        self.rooms.touch(leaf);
+        self.leaves.touch(leaf);
         self.marks.set(place, flags.lock);
         self.purgeable.set(place, may_purge(flags));
         self.zone.set_flags(handle, flags);
@@ -260,8 +260,8 @@ impl IndexedZone {
         let to_leaf = self.leaf(at);
         self.pages.forget(from_page, from_page);
         self.pages.forget(to_page, to_page);
-        self.rooms.touch(from_leaf);
-        self.rooms.touch(to_leaf);
+        self.leaves.touch(from_leaf);
+        self.leaves.touch(to_leaf);
         let mark = self.purgeable.get(old);
         self.purgeable.set(old, false);
         self.purgeable.set(new, mark);
@@ -284,8 +284,8 @@ impl IndexedZone {
         let low = self.leaf(at);
         let high = self.leaf_at(end);
         self.pages.forget(first, last);
-        self.rooms.touch(low);
-        self.rooms.touch(high);
+        self.leaves.touch(low);
+        self.leaves.touch(high);
         self.zone.hold(block, size, length);
         self.lengths.note(block, length);
     }
@@ -307,9 +307,9 @@ impl IndexedZone {
         let middle = self.leaf_at(behind);
         let high = self.leaf_at(end);
         self.pages.forget(first, last);
-        self.rooms.touch(low);
-        self.rooms.touch(middle);
-        self.rooms.touch(high);
+        self.leaves.touch(low);
+        self.leaves.touch(middle);
+        self.leaves.touch(high);
         self.zone.grow(block, size, length);
         self.lengths.note(block, length);
     }

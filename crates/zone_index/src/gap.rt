@@ -3,13 +3,14 @@
 ghost use Rattle.std.specs.Prelude.{◌≡◌, ◌+◌, ◌<◌, ◌≤◌, IfSome, MatchOption, None, nat_le};
 ghost use Rattle.mac_base.specs.Gap.{gaps, is_fixed, lowest_gap};
 ghost use Rattle.mac_base.specs.ZoneMap.{free_bytes, total_size};
+ghost use Rattle.linked_zone.specs.Places.{LowestAt};
 ghost use Rattle.zone_index.specs.Runs.{RestAt};
 ghost use Rattle.zone_index.specs.Gaps.{GapAt, IsLowestGap};
 ghost use Rattle.zone_index.specs.Marks.{AreMarked};
 ghost use Rattle.zone_index.specs.Rooms.{AreFresh};
 
 use crate::fixed::{gap_end, gap_start};
-use crate::leaves::{freshen, most_room, reached};
+use crate::rooms::{freshen, most_room, reached};
 use crate::zone::IndexedZone;
 use block_sums::Span;
 use linked_zone::LinkedZone;
@@ -32,8 +33,8 @@ impl IndexedZone {
         if let Some(at) = large_first(&self.zone, needed) {
             return Some(at);
         }
-        freshen(&self.zone, &mut self.rooms);
-        lowest_by_sums(&self.zone, &self.marks, &self.rooms, needed)
+        freshen(&self.zone, &mut self.leaves.rooms);
+        lowest_by_sums(&self.zone, &self.marks, &self.leaves.rooms, needed)
     }
 
     /// Whether the gap that begins at an address has at least `needed` free bytes. Where no gap has, none of its blocks is looked at.
@@ -42,15 +43,16 @@ impl IndexedZone {
         ensures zone { self.new ≡ self.old }
         ensures room { (gap : GapAt self.old start) → result ≡ nat_le needed (free_bytes gap.rest.blocks) }
     {
-        freshen(&self.zone, &mut self.rooms);
-        has_room(&self.zone, &self.marks, &self.rooms, start, needed)
+        freshen(&self.zone, &mut self.leaves.rooms);
+        has_room(&self.zone, &self.marks, &self.leaves.rooms, start, needed)
     }
 }
 
 /// The zone's lowest free block, if it alone has so many bytes: then it is the first one of the lowest gap with room.
-fn large_first(zone: &LinkedZone, needed: u32) -> Option<u32>
+pub(crate) fn large_first(zone: &LinkedZone, needed: u32) -> Option<u32>
     requires some { 0 < needed }
-    ensures { IfSome result (λ at. IsLowestGap zone.now needed at) }
+    ensures gap { IfSome result (λ at. IsLowestGap zone.now needed at) }
+    ensures lowest { IfSome result (λ at. LowestAt zone.now needed at) }
 {
     let at = zone.next_free(zone.spec().base() + ZONE_HEADER)?;
     if needed <= zone.free_size(at) {

@@ -2,30 +2,28 @@
 
 ghost use Rattle.zone_index.specs.Index.{IsBlank};
 
-use crate::leaves::LEAF_SIZE;
+use crate::leaves::{LEAF_SIZE, LeafSums};
 use crate::lengths::Lengths;
 use crate::marking::mark_blocks;
 use crate::pages::{PAGE_SIZE, Pages};
 use crate::zone::IndexedZone;
-use block_sums::Span;
 use linked_zone::LinkedZone;
 use mac_base::error::HostFull;
 use mac_base::zone_spec::ZoneSpec;
 use place_numbers::Bits;
 use std::alloc::Global;
-use sum_tree::StaleTree;
 
 /// A zone has so many bytes for each place in which a handle's length is remembered. A place is for four bytes, so
-/// there are places for the lowest eighth of the zone: master blocks don't move and take the lowest room, so handles
+/// there are places for the lowest sixteenth of the zone: master blocks don't move and take the lowest room, so handles
 /// have their numbers there. The length of one above is asked of the zone.
-const BYTES_PER_LENGTH: u32 = 32;
+const BYTES_PER_LENGTH: u32 = 64;
 
 /// What is kept beside a zone. Its parts are those of `IndexedZone`.
 #[derive(Drop)]
 pub(crate) struct Index {
     marks: Bits,
     purgeable: Bits,
-    rooms: StaleTree<Span>,
+    leaves: LeafSums,
     pages: Pages,
     lengths: Lengths,
 }
@@ -40,7 +38,7 @@ impl Index {
         let places = spec.limit() as usize / 4 + 1;
         let marks = Bits::create(alloc, places)?;
         let purgeable = Bits::create(alloc, places)?;
-        let rooms = StaleTree::create(alloc, (spec.limit() / LEAF_SIZE) as usize + 1)?;
+        let leaves = LeafSums::create(alloc, (spec.limit() / LEAF_SIZE) as usize + 1)?;
         let pages = Pages::create(alloc, (spec.limit() / PAGE_SIZE) as usize + 1)?;
         let lengths = Lengths::create(
             alloc,
@@ -50,7 +48,7 @@ impl Index {
         Ok(Index {
             marks,
             purgeable,
-            rooms,
+            leaves,
             pages,
             lengths,
         })
@@ -65,7 +63,7 @@ impl Index {
         let Index {
             mut marks,
             mut purgeable,
-            rooms,
+            leaves,
             pages,
             lengths,
         } = self;
@@ -74,7 +72,7 @@ impl Index {
             zone,
             marks,
             purgeable,
-            rooms,
+            leaves,
             pages,
             lengths,
         }

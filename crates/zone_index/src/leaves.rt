@@ -1,77 +1,59 @@
-//! What free bytes gaps have, by the sums of the blocks that begin in each leaf of a zone. A change of the zone makes a few of them
-//! stale, and a question makes them anew.
+//! What is kept of each leaf of a zone. A change of the zone makes the sums of a few leaves stale, and a question makes them anew.
 
-ghost use Rattle.std.specs.Prelude.{◌≡◌, ◌<◌, IsTrue, MatchOption};
-ghost use Rattle.mac_base.specs.Reports.{largest_room};
+ghost use Rattle.std.specs.Prelude.{IsTrue};
 ghost use Rattle.linked_zone.specs.Places.{SplitAt};
-ghost use Rattle.zone_index.specs.Rooms.{AreFresh, AreRooms, IsPassed, IsUsed, Reaches, SumsBelow, leaf_count, room_in, room_of};
+ghost use Rattle.zone_index.specs.Leaves.{IsUsed};
+ghost use Rattle.zone_index.specs.LeafSums.{LeavesPassed, SameSums};
 
-use crate::weight::{Weight, weigh};
-use block_sums::{HasRoom, Span};
+use block_sums::{Largest, Span};
 use linked_zone::LinkedZone;
-use sum_tree::{Monoid, Source, StaleTree};
+use std::alloc::{AllocError, Global};
+use sum_tree::StaleTree;
 
 /// The bytes of a leaf.
 pub const LEAF_SIZE: u32 = 0x100;
 
-/// A zone, from whose blocks the sums are made.
+/// The sums of the blocks that begin in each leaf.
 #[derive(Drop)]
-struct Leaves<'a> {
-    zone: &'a LinkedZone,
+pub(crate) struct LeafSums {
+    /// What gaps have of their free bytes.
+    pub(crate) rooms: StaleTree<Span>,
+    /// The size of the largest free one.
+    pub(crate) largest: StaleTree<Largest>,
 }
 
-impl Source<Span> for Leaves<'_> {
-    ghost use Rattle.zone_index.specs.Rooms.{leaf_count, room_in};
+impl LeafSums {
+    ghost use Rattle.std.specs.Prelude.{◌^◌, ◌<◌, IfOk};
+    ghost use Rattle.zone_index.specs.LeafSums.{AllStale, HasLeaf, IsNew, LeafTouched, SameSums};
 
-    ghost leaves = { λ s. leaf_count s.zone.now };
-
-    ghost value = { λ s. room_in s.zone.now };
-
-    fn measure(&self, leaf: usize) -> Span {
-        measure(self.zone, leaf)
+    /// Those of so many leaves, all stale. The only error is that the host has no memory.
+    pub(crate) fn create(alloc: Global, count: usize) -> Result<LeafSums, AllocError>
+        requires { count < 2 ^ 40 }
+        ensures { IfOk result (λ leaves. IsNew leaves count) }
+    {
+        Ok(LeafSums {
+            rooms: StaleTree::create(alloc, count)?,
+            largest: StaleTree::create(alloc, count)?,
+        })
     }
-}
 
-/// What one block has of the free bytes of gaps.
-fn span_of(weight: Weight) -> Span
-    ensures { result ≡ room_of weight }
-{
-    if weight.fixed {
-        Span::FIXED
-    } else {
-        Span::Whole(weight.free)
+    /// Notes that those of a leaf are stale.
+    pub(crate) fn touch(&mut self, leaf: usize)
+        requires { HasLeaf self.old leaf }
+        ensures { LeafTouched self.old self.new leaf }
+    {
+        self.rooms.touch(leaf);
+        self.largest.touch(leaf);
     }
-}
 
-/// The sum of a leaf, by a walk over the blocks that begin in it.
-fn measure(zone: &LinkedZone, leaf: usize) -> Span
-    requires { leaf < leaf_count zone.now }
-    ensures { result ≡ room_in zone.now leaf }
-{
-    let spec = zone.spec();
-    let base = spec.base();
-    let start = base + leaf as u32 * LEAF_SIZE;
-    let end = start.saturating_add(LEAF_SIZE).min(base + spec.size());
-    let mut sum = Span::none();
-    let Some(mut at) = zone.first_from(start) else {
-        return sum;
-    };
-    while at < end {
-        let here = zone.entry_at(at);
-        sum = sum.join(span_of(weigh(zone, here.size, here.kind)));
-        at += here.size;
+    /// Notes that those of all leaves are stale.
+    fn touch_all(&mut self)
+        ensures sums { SameSums self.old self.new }
+        ensures all { AllStale self.old self.new }
+    {
+        self.rooms.touch_all();
+        self.largest.touch_all();
     }
-    sum
-}
-
-/// Makes the stale sums anew.
-pub fn freshen(zone: &LinkedZone, rooms: &mut StaleTree<Span>)
-    requires { AreRooms zone.now rooms.old }
-    ensures { AreFresh zone.now rooms.new }
-{
-    let spec = zone.spec();
-    let _limit = spec.limit();
-    rooms.freshen(&Leaves { zone });
 }
 
 /// Whether none of the blocks between two addresses is free.
@@ -86,57 +68,12 @@ fn is_used(zone: &LinkedZone, low: u32, high: u32) -> bool
 }
 
 /// A block is to pass the others between two addresses. Where one of them is free all sums are stale.
-pub fn pass(zone: &LinkedZone, rooms: &mut StaleTree<Span>, low: u32, high: u32)
+pub(crate) fn pass(zone: &LinkedZone, leaves: &mut LeafSums, low: u32, high: u32)
     requires { SplitAt zone.now low }
-    ensures sums { rooms.new.sums ≡ rooms.old.sums }
-    ensures passed { (split : SplitAt zone.now low) → IsPassed rooms.old rooms.new split high }
+    ensures sums { SameSums leaves.old leaves.new }
+    ensures passed { (split : SplitAt zone.now low) → LeavesPassed leaves.old leaves.new split high }
 {
     if !is_used(zone, low, high) {
-        rooms.touch_all();
+        leaves.touch_all();
     }
-}
-
-/// The block with which some gap has at least `needed` free bytes for the first time.
-pub fn reached(zone: &LinkedZone, rooms: &StaleTree<Span>, needed: u32) -> Option<u32>
-    requires some { 0 < needed }
-    requires fresh { AreFresh zone.now rooms.now }
-    ensures { MatchOption result (largest_room zone.now.heap.table zone.now.heap.map < needed) (λ at. Reaches zone.now needed at) }
-{
-    let spec = zone.spec();
-    let base = spec.base();
-    let test = HasRoom { bytes: needed };
-    let stop = rooms.sums().first(&test)?;
-    let from = base + stop.at as u32 * LEAF_SIZE;
-    reach(zone, from, stop.sum, needed)
-}
-
-/// The same by a walk over the blocks from an address on, where those below have a sum.
-fn reach(zone: &LinkedZone, from: u32, below: Span, needed: u32) -> Option<u32>
-    requires { SumsBelow zone.now from needed below }
-    ensures { MatchOption result (largest_room zone.now.heap.table zone.now.heap.map < needed) (λ at. Reaches zone.now needed at) }
-{
-    let spec = zone.spec();
-    let end = spec.base() + spec.size();
-    let mut sum = below;
-    let mut at = zone.first_from(from)?;
-    while at < end {
-        let here = zone.entry_at(at);
-        let next = sum.join(span_of(weigh(zone, here.size, here.kind)));
-        if next.most() >= needed {
-            return Some(at);
-        }
-        sum = next;
-        at += here.size;
-    }
-    None
-}
-
-/// The most free bytes that one gap has.
-pub fn most_room(zone: &LinkedZone, rooms: &StaleTree<Span>) -> u32
-    requires { AreFresh zone.now rooms.now }
-    ensures { result ≡ largest_room zone.now.heap.table zone.now.heap.map }
-{
-    let spec = zone.spec();
-    let _limit = spec.limit();
-    rooms.sums().total().most()
 }

@@ -2,9 +2,10 @@
 
 use crate::fixed::{gap_end, gap_start};
 use crate::index::Index;
-use crate::leaves::{LEAF_SIZE, freshen, most_room};
+use crate::leaves::{LEAF_SIZE, LeafSums};
 use crate::lengths::Lengths;
 use crate::pages::{Pages, page_of, page_sums};
+use crate::rooms::{freshen, most_room};
 use crate::sums::{Sums, ZoneSums};
 use block_sums::Span;
 use linked_zone::LinkedZone;
@@ -26,8 +27,8 @@ pub struct IndexedZone {
     pub(crate) marks: Bits,
     /// The same of the blocks that may be purged.
     pub(crate) purgeable: Bits,
-    /// What gaps have of the free bytes of the blocks that begin in each leaf.
-    pub(crate) rooms: StaleTree<Span>,
+    /// The sums of the blocks that begin in each leaf.
+    pub(crate) leaves: LeafSums,
     /// The sums of the blocks that begin in each page, where they are known.
     pub(crate) pages: Pages,
     /// How many bytes handles have, where that is known.
@@ -57,14 +58,14 @@ impl Drop for IndexedZone {
             zone,
             marks,
             purgeable,
-            rooms,
+            leaves,
             pages,
             lengths,
         } = self;
         drop(zone);
         drop(marks);
         drop(purgeable);
-        drop(rooms);
+        drop(leaves);
         drop(pages);
         drop(lengths);
     }
@@ -83,7 +84,7 @@ impl IndexedZone {
     ghost use Rattle.linked_zone.specs.Sizes.{sizes_of};
     ghost use Rattle.zone_index.specs.Marks.{place};
     ghost use Rattle.zone_index.specs.Pages.{page, page_size};
-    ghost use Rattle.zone_index.specs.Rooms.{leaf, leaf_count};
+    ghost use Rattle.zone_index.specs.Leaves.{leaf, leaf_count};
     ghost use Rattle.zone_index.specs.Runs.{FrontAt, RestAt};
 
     /// A new zone: one free block, and no slot.
@@ -126,8 +127,8 @@ impl IndexedZone {
         ensures room { result.room ≡ largest_room self.old.heap.table self.old.heap.map }
         ensures contiguous { result.contiguous ≡ largest_purge_space self.old.heap.table self.old.heap.map }
     {
-        freshen(&self.zone, &mut self.rooms);
-        zone_sums(&self.zone, &self.rooms, &mut self.pages)
+        freshen(&self.zone, &mut self.leaves.rooms);
+        zone_sums(&self.zone, &self.leaves.rooms, &mut self.pages)
     }
 
     /// How many bytes a handle has: none where it isn't live, or empty. The zone is asked where that isn't remembered.

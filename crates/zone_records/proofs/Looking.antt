@@ -1,6 +1,5 @@
 -- What the calls that look for a block find.
-use Rattle.std.proofs.Common.{◌≡◌, ℕ, ◌+◌, ◌-◌, ◌%◌, ◌==◌, Bool, not, ◌&&◌, ◌||◌, true, false, nat_le, List, [], ◌∷◌, ◌++◌, length, refl, ap, sym, ◌∙◌, arith, inl, inr, IsTrue, Option, Some, None, IfNone}
-use Rattle.std.specs.List.{list_all}
+use Rattle.std.proofs.Common.{◌≡◌, ℕ, ◌+◌, ◌-◌, ◌%◌, ◌==◌, Bool, not, ◌&&◌, ◌||◌, true, false, nat_le, List, [], ◌∷◌, length, refl, ap, sym, ◌∙◌, arith, inl, inr, Option, Some, None, IfNone}
 use Rattle.std.proofs.lemmas.Bool.{and_parts}
 use Rattle.mac_base.specs.HeadKind.{smallest_block}
 use Rattle.mac_base.specs.declared.block.HeadKind.{HeadKind}
@@ -10,13 +9,13 @@ use Rattle.block_bytes.specs.Layout as raw
 use Rattle.block_bytes.specs.Head.{most_over}
 use Rattle.block_bytes.specs.Layout.{RawBlock, Layout, BlockAt, size_of, is_possible, can_be_told}
 use Rattle.block_bytes.specs.Finding as finding
-use Rattle.block_bytes.specs.Finding.{HoldsByte, LiesOutside, LowestFree, NoneFree, has_room}
+use Rattle.block_bytes.specs.Finding.{HoldsByte, LiesOutside}
 use Rattle.block_bytes.proofs.ReadBlocks.{head_size-positive}
 use Rattle.zone_records.specs.Records.{Free, BlockRecord, ZoneRecords}
-use Rattle.zone_records.specs.Places.{RecordAt, LowestAt, FirstFrom, NoneFrom, is_free, has_free}
+use Rattle.zone_records.specs.Places.{RecordAt, FirstFrom, NoneFrom, is_free}
 use Rattle.zone_records.specs.Reading.{content_in, record_in, has_use, is_sound}
 use Rattle.zone_records.proofs.Apart.{read, read-append}
-use Rattle.zone_records.proofs.Held.{Held, address-is, one, sound-one}
+use Rattle.zone_records.proofs.Held.{Held, address-is, one}
 use Rattle.zone_records.proofs.Ranked.{rank, one-block, within, none_before}
 
 -- what follows from what a clause says of `None`
@@ -34,13 +33,6 @@ free-same heads base (role.Relocatable offset flags) bytes = refl
 -- a block has no bytes where nothing is read
 none-read : (heads : HeadKind) (base : ℕ) (bs : List RawBlock) → bs ≡ [] → read heads base bs ≡ []
 none-read heads base bs is = ap (read heads base) is
-
--- the blocks with room
-rooms-same : (heads : HeadKind) (base k : ℕ) (bs : List RawBlock) → list_all (λ b. not (has_room heads k b)) bs ≡ list_all (λ b. not (has_free k b)) (read heads base bs)
-rooms-same heads base k [] = refl
-rooms-same heads base k (b ∷ bs) =
-    ap (λ t. not (t && nat_le k (size_of heads b)) && list_all (λ b. not (has_room heads k b)) bs) (free-same heads base b.role b.contents)
-    ∙ ap (λ t. not (is_free (content_in heads base b.role b.contents) && nat_le k (size_of heads b)) && t) (rooms-same heads base k bs)
 
 -- what a sound block is known to be
 pub record Sound (heads : HeadKind) (base : ℕ) (b : RawBlock) : Type 0 where
@@ -140,27 +132,6 @@ module _ (l : Layout) (z : ZoneRecords) (held : Held l z) where
         | inl below ↦ none_before l b.before (omega arith)
         | inr above ↦ absurd (omega arith)
       ])
-
-  -- the lowest free block
-  pub lowest-at : (k at : ℕ) → LowestFree l k at → LowestAt z k at
-  lowest-at k at low =
-      let b = low.block in
-      let r = of-block at b in
-      record {
-        free = record {
-          before = r.before;
-          size = size_of l.heads b.here;
-          behind = r.behind;
-          blocks = r.blocks ∙ ap (λ h. r.before ++ h ∷ r.behind) (free-record l.heads l.base b.here low.free (sound-one l b.before b.here b.behind held.sound b.blocks));
-          place = r.place;
-        };
-        large = low.large;
-        lowest = sym (rooms-same l.heads l.base k b.before) ∙ low.lowest;
-      }
-
-  -- and where there is none, no free block is large enough
-  pub none-free : (k : ℕ) → NoneFree l k → IsTrue (list_all (λ b. not (has_free k b)) z.blocks)
-  none-free k none = ap (list_all (λ b. not (has_free k b))) (sym (ap (λ (z : ZoneRecords). z.blocks) held.shows)) ∙ sym (rooms-same l.heads l.base k l.blocks) ∙ none
 
   -- the first block from an address on
   pub first-from : (from at : ℕ) → finding.FirstFrom l from at → FirstFrom z from at

@@ -185,16 +185,6 @@ is_free (Fixed bytes) = false
 is_free (Master slots) = false
 is_free (Relocatable h flags bytes) = false
 
--- whether a block is free and has k bytes
-abbrev pub has_free : ℕ → BlockRecord → Bool
-has_free k b = is_free b.content && nat_le k b.size
-
--- the block at an address is the lowest free one with k bytes
-pub record LowestAt (z : ZoneRecords) (k at : ℕ) : Type 0 where
-  pub free : FreeAt z at
-  pub large : k ≤ free.size
-  pub lowest : IsTrue (list_all (λ b. not (has_free k b)) free.before)
-
 -- the blocks from an address on, which is that of a block or of the end of the last
 pub record SplitAt (z : ZoneRecords) (at : ℕ) : Type 0 where
   pub before : List BlockRecord

@@ -44,8 +44,7 @@ impl Drop for Records {
 }
 
 impl Records {
-    ghost use Rattle.std.specs.Prelude.{◌≡◌, ◌+◌, [], not, ◌==◌, ◌≤◌, ◌<◌, ◌%◌, ◌-◌, ◌↔◌, IfOk, IfSome, IfNone, IsTrue};
-    ghost use Rattle.std.specs.List.{list_all};
+    ghost use Rattle.std.specs.Prelude.{◌≡◌, ◌+◌, [], ◌==◌, ◌≤◌, ◌<◌, ◌%◌, ◌-◌, ◌↔◌, IfOk, IfSome, IfNone, IsTrue};
     ghost use Rattle.std.specs.Borrow.{sem};
     ghost use Rattle.mac_base.specs.HeadKind.{head_size, master_length, slot_count};
     ghost use Rattle.mac_base.specs.HandleTable.{zeros, no_flags};
@@ -53,7 +52,7 @@ impl Records {
     ghost use Rattle.mac_base.specs.ZoneState.{own_memory};
     ghost use Rattle.zone_records.specs.Records.{ZoneRecords, Fixed, Master, Relocatable, sizes_of, kind_of, length_of, bytes_of, lent_count, address_behind, NothingLent};
     ghost use Rattle.mac_base.specs.Loans.{most_loans};
-    ghost use Rattle.zone_records.specs.Places.{RecordAt, FreeAt, HeldAt, HandleBlockAt, SlotAt, RoomFor, CanCut, FreePair, CanHold, CanGrow, ParcelAt, IsLoanOf, LowestAt, has_free, can_say, can_flag, ParcelUpTo, SplitAt, FirstFree, LastFree, none_free, free_total, FirstFrom, NoneFrom};
+    ghost use Rattle.zone_records.specs.Places.{RecordAt, FreeAt, HeldAt, HandleBlockAt, SlotAt, RoomFor, CanCut, FreePair, CanHold, CanGrow, ParcelAt, IsLoanOf, can_say, can_flag, ParcelUpTo, SplitAt, FirstFree, LastFree, none_free, free_total, FirstFrom, NoneFrom};
     ghost use Rattle.zone_records.specs.Changes.{new_records, with_front, extended, filled, chained, emptied, flagged, with_slot, cut_in_two, joined_pair, held_there, enlarged, carried, sunk, lent_out, loan_of, taken_back};
     ghost use Rattle.zone_records.specs.Fitting.{fitted, CanKeep};
     ghost use Rattle.zone_records.specs.Copying.{CanCopy, copied};
@@ -181,14 +180,6 @@ impl Records {
         ensures none { IfNone result (NoneFrom self.now from) }
     {
         self.blocks.first_from(from)
-    }
-
-    /// The lowest free block of at least `needed` bytes, its header among them.
-    pub fn lowest_free(&self, needed: u32) -> Option<u32>
-        ensures lowest { IfSome result (λ at. LowestAt self.now needed at) }
-        ensures none { IfNone result (IsTrue (list_all (λ b. not (has_free needed b)) self.now.blocks)) }
-    {
-        self.blocks.lowest_free(needed)
     }
 
     /// Whether an address is that of a slot.
@@ -369,7 +360,7 @@ impl Records {
         self.blocks.last_free(end)
     }
 
-    /// The size of the free block at an address. No header is read.
+    /// The size of the free block at an address.
     pub fn free_size(&self, at: u32) -> u32
         requires { FreeAt self.now at }
         ensures { (f : FreeAt self.now at) → result ≡ f.size }

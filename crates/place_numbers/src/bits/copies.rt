@@ -5,23 +5,17 @@ ghost use Rattle.std.specs.Int.{bit_at};
 ghost use Rattle.place_numbers.specs.Bits.{AreWritten};
 ghost use Rattle.place_numbers.specs.Shifted.{copied, shifted_down};
 
-use super::word::{bits_from, with_bits};
-use super::{Bits, note};
+use super::Bits;
 
 /// So many places are gone through word by word as fast as the next mark is searched.
 const NEAR: usize = 256;
 
 impl Bits {
-    /// The marks of 32 places, from one on, the lowest bit that of the first. Behind the last place there are none.
+    /// The marks of 32 places, from one on, the lowest bit that of the first. After the last place there are none.
     pub(super) fn read(&self, place: usize) -> u32
         ensures { (i : ℕ) → i < 32 → bit_at result i ≡ slice_index self.now (place + i) }
     {
-        let word = place / 32;
-        bits_from(
-            self.words.get(word),
-            self.words.get(word + 1),
-            (place % 32) as u32,
-        )
+        self.levels.read(place)
     }
 
     /// Writes the marks of `count` places of one word, the first that of the lowest bit.
@@ -31,15 +25,11 @@ impl Bits {
         requires inside { place + count ≤ length self.old }
         ensures { AreWritten self.old self.new place count marks }
     {
-        let word = place / 32;
-        let before = self.words.get(word);
-        let now = with_bits(before, (place % 32) as u32, count as u32, marks);
-        self.words.set(word, now);
-        note(&mut self.used, word, now != 0);
+        self.levels.write(place, count, marks);
     }
 
-    /// The place up to which none from `from` on has a mark, as far as it is looked for: where few places are left, they are gone
-    /// through as fast.
+    /// The place up to which none from `from` on has a mark, as far as it is looked for: where few places are left,
+    /// they are gone through as fast.
     pub(super) fn pass(&self, from: usize, end: usize) -> usize
         requires order { from ≤ end }
         requires inside { end ≤ length self.now }
@@ -71,8 +61,8 @@ impl Bits {
         }
     }
 
-    /// Copies the first of `count` marks from `from` on down to `to`: those of one word of these places, or the places without a mark
-    /// with which they begin. Gives how many.
+    /// Copies the first of `count` marks from `from` on down to `to`: those of one word of these places, or the places
+    /// without a mark with which they begin. Gives how many.
     fn copy_first(&mut self, from: usize, to: usize, count: usize) -> usize
         requires some { 0 < count }
         requires order { to ≤ from }
@@ -96,8 +86,8 @@ impl Bits {
         free
     }
 
-    /// Copies the last of `count` marks from `from` on up to those from `to` on: those of one word of these places, or the places
-    /// without a mark with which they end. Gives how many.
+    /// Copies the last of `count` marks from `from` on up to those from `to` on: those of one word of these places, or
+    /// the places without a mark with which they end. Gives how many.
     fn copy_last(&mut self, from: usize, to: usize, count: usize) -> usize
         requires some { 0 < count }
         requires order { from ≤ to }

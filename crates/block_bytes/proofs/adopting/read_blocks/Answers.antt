@@ -1,7 +1,6 @@
 use Rattle.std.proofs.Common.{◌≡◌, ◌-◌, ◌+◌, ◌/◌, ℕ, refl, sym, ap, subst, ◌∙◌, arith}
 use Rattle.std.proofs.Math.ListN.{set}
 use Rattle.block_bytes.specs.Adopting.{IsHeadAt, BlocksUpTo}
-use Rattle.block_bytes.proofs.Alone.{alone-read}
 use Rattle.block_bytes.proofs.AdoptedBlocks.{head-at-same, none-read, length-index, free-few, none-next, more-next}
 use Rattle.block_bytes.proofs.adopting.read_blocks.Goals as goal
 use Rattle.block_bytes.proofs.adopting.read_blocks.Goals.{After-mark, After-free_bytes-free, After-limit-limit}
@@ -17,16 +16,13 @@ more : (c : After-free_bytes-free) → IsHeadAt c.args.spec.heads c.args.spec.ba
 more c p = let below = c.loop-at-test.true in let size = c.size-size.ensures.value in
     more-next c.args.spec c.size-size.ensures.possible c.args.memory.now.bytes c.requires.whole c.loop-at.index c.loop-at.at c.loop-at.free c.loop-at.invariant (omega arith) c.in-Some.header
     p c.set.new.self (c.loop-at.at + c.in-Some.header.size) (c.loop-at.free + c.free_bytes-free.result)
-    (c.set.ensures ∙ ap (set c.loop-at.index (c.loop-at.at / 4)) c.mark.ensures) refl (ap (λ (n : ℕ). c.loop-at.free + n) c.free_bytes-free.ensures)
+    (c.set.ensures ∙ ap (set c.loop-at.index (c.loop-at.at / 4)) c.mark.ensures.value) refl (ap (λ (n : ℕ). c.loop-at.free + n) c.free_bytes-free.ensures)
 
 pub loop-at-init : goal.loop-at-init
 loop-at-init c = none-read c.args.spec c.size-size.ensures.possible c.args.memory.now.bytes c.requires.whole c.args.index.now c.requires.zeros
 
 pub loop-at-preserved : goal.loop-at-preserved
 loop-at-preserved c = more (goal.at.loop-at-preserved c).After-free_bytes-free (read (goal.at.loop-at-preserved c).After-mark)
-
-pub set-requires-clause-alone : goal.set-requires-clause-alone
-set-requires-clause-alone c = λ high. alone-read c.args.spec c.args.memory.now.bytes c.loop-at.index c.loop-at.at c.loop-at.free c.loop-at.invariant
 
 pub set-requires-clause-inside : goal.set-requires-clause-inside
 set-requires-clause-inside c =

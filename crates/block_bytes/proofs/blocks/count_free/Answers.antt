@@ -13,7 +13,7 @@ returns c =
     let from = c.search_start-from.result in
     let lower : (j : ℕ) → j < from → slice_index c.args.index.now j < 3 = λ j before.
     let changed = c.search_start-from.ensures.changed in let few = c.requires.low j (omega arith) (λ above. let b = c.search_start-from.ensures.before above in omega arith) in omega arith in
-    let lowest : c.match-first_from.lowest ≡ first_marked c.args.base c.args.index.now = elim c.match-first_from.branch [
+    let lowest : c.match-first_most.lowest ≡ first_marked c.args.base c.args.index.now = elim c.match-first_most.branch [
       | in-Some w ↦ let found = w.in-Some.ensures.first in
           w.lowest-is ∙ sym (first_marked-found c.args.index.now c.args.base w.in-Some.place found.inside.1 found.large
           (λ j before. ⊎_elim (λ low. lower j low) (λ above. found.first j above before) (cases_lt j from)))

@@ -1,19 +1,26 @@
-use Rattle.std.proofs.Common.{◌∙◌, sym, arith}
-use Rattle.place_numbers.proofs.Parts.{long, by-mark, by-size}
+use Rattle.std.proofs.Common.{arith}
+use Rattle.place_numbers.proofs.Parts.{long, value}
 use Rattle.place_numbers.proofs.Numbers.get.Goals as goal
 
-pub get-mark-requires : goal.get-mark-requires
-get-mark-requires c = let l = long c.self.inside.marks c.self.inside.sizes c.args.self.now c.self.invariant c.self.view_is in omega (arith, l, c.requires)
-
 pub get-requires : goal.get-requires
-get-requires c = let l = long c.self.inside.marks c.self.inside.sizes c.args.self.now c.self.invariant c.self.view_is in let runs = c.self.invariant.runs in omega (arith, l, runs, c.requires)
+get-requires c = let l = long c.self.inside.some c.self.inside.middle c.self.inside.most c.self.invariant c.args.self.now c.self.view_is in omega (arith, l, c.requires)
 
-pub returns-then-mark-lt-LARGE : goal.returns-then-mark-lt-LARGE
-returns-then-mark-lt-LARGE c =
-    let same = by-mark c.self.inside.marks c.self.inside.sizes c.args.self.now c.self.invariant c.self.view_is c.args.place in
-    c.get-mark.ensures ∙ sym (same (omega (arith, c.get-mark.ensures)))
+pub returns-then-not-get : goal.returns-then-not-get
+returns-then-not-get c =
+    let v = value c.self.inside.some c.self.inside.middle c.self.inside.most c.self.invariant c.args.self.now c.self.view_is c.args.place in
+    let each = c.self.invariant.each c.args.place in omega (arith, c.if-not-get.ensures)
 
-pub returns-else-mark-lt-LARGE : goal.returns-else-mark-lt-LARGE
-returns-else-mark-lt-LARGE c =
-    let same = by-size c.self.inside.marks c.self.inside.sizes c.args.self.now c.self.invariant c.self.view_is c.args.place in
-    c.get.ensures ∙ sym (same (omega (arith, c.get-mark.ensures)))
+pub returns-then-get : goal.returns-then-get
+returns-then-get c =
+    let v = value c.self.inside.some c.self.inside.middle c.self.inside.most c.self.invariant c.args.self.now c.self.view_is c.args.place in
+    let each = c.self.invariant.each c.args.place in let one = c.self.invariant.one c.args.place in omega (arith, c.if-get.ensures)
+
+pub returns-then-get-2 : goal.returns-then-get-2
+returns-then-get-2 c =
+    let v = value c.self.inside.some c.self.inside.middle c.self.inside.most c.self.invariant c.args.self.now c.self.view_is c.args.place in
+    let each = c.self.invariant.each c.args.place in let one = c.self.invariant.one c.args.place in omega (arith, c.if-get-2.ensures)
+
+pub returns-else-get-2 : goal.returns-else-get-2
+returns-else-get-2 c =
+    let v = value c.self.inside.some c.self.inside.middle c.self.inside.most c.self.invariant c.args.self.now c.self.view_is c.args.place in
+    omega (arith, c.if-not-get.ensures, c.if-get.ensures, c.if-get-2.ensures)

@@ -3,6 +3,7 @@ use Rattle.mac_base.specs.ZoneMap.{address_behind}
 use Rattle.mac_base.specs.ZoneSizes.{ZoneSizes}
 use Rattle.linked_zone.specs.Places.{FirstFree, FreeAt}
 use Rattle.zone_index.proofs.Found.{first-large}
+use Rattle.zone_index.proofs.FreeWalk.{first-lowest}
 use Rattle.zone_index.proofs.gap.large_first.Goals as goal
 use Rattle.zone_index.proofs.gap.large_first.Goals.{In_ok-at}
 
@@ -21,8 +22,14 @@ there c = let f = first c in record { before = f.passed; size = f.size; behind =
 pub free_size-requires : goal.free_size-requires
 free_size-requires c = there (goal.at.free_size-requires c).In_ok-at
 
-pub returns-then-needed-free_size : goal.returns-then-needed-free_size
-returns-then-needed-free_size c =
-    let at = (goal.at.returns-then-needed-free_size c).In_ok-at in
+pub returns-then-needed-free_size-clause-gap : goal.returns-then-needed-free_size-clause-gap
+returns-then-needed-free_size-clause-gap c =
+    let at = (goal.at.returns-then-needed-free_size-clause-gap c).In_ok-at in
     let size = c.free_size.ensures (there at) in
     first-large c.args.zone.now c.args.needed c.requires.some (c.base.result + 52) c.in_ok-at.at (begins at) (first at) (omega (arith, size, c.if-needed-free_size.true))
+
+pub returns-then-needed-free_size-clause-lowest : goal.returns-then-needed-free_size-clause-lowest
+returns-then-needed-free_size-clause-lowest c =
+    let at = (goal.at.returns-then-needed-free_size-clause-lowest c).In_ok-at in
+    let size = c.free_size.ensures (there at) in
+    first-lowest c.args.zone.now c.args.needed (c.base.result + 52) c.in_ok-at.at (begins at) (first at) (omega (arith, size, c.if-needed-free_size.true))

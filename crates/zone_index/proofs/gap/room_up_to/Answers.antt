@@ -1,6 +1,6 @@
 use Rattle.std.proofs.Common.{◌+◌, ◌<◌, ◌≤◌, arith}
 use Rattle.mac_base.specs.ZoneMap.{total_size}
-use Rattle.zone_index.proofs.Rooms.{free_summed, next-some, next-summed, next-within, room-within, split_summed, summed-behind, summed-last, summed-most}
+use Rattle.zone_index.proofs.GapWalk.{free_summed, next-some, next-summed, next-within, room-within, split_summed, summed-behind, summed-last, summed-most}
 use Rattle.zone_index.proofs.gap.room_up_to.Goals as goal
 use Rattle.zone_index.proofs.gap.room_up_to.Goals.{After-free_size-size}
 

@@ -1,6 +1,6 @@
 use Rattle.std.proofs.Common.{◌-◌}
 use Rattle.zone_index.specs.Runs.{RestAt}
-use Rattle.zone_index.proofs.Rooms.{Summed}
+use Rattle.zone_index.proofs.GapWalk.{Summed}
 use Rattle.zone_index.proofs.gap.room_up_to.Given as goal
 
 -- the blocks below are passed

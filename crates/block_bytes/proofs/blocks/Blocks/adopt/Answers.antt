@@ -23,3 +23,7 @@ returns-then-is_zone-clause-zone c = (
   subst (λ (xs : List ℕ). IsZoneIn c.args.spec xs (layout_of (record { spec = c.args.spec; memory = c.of-memory.result; index = c.is_zone.new.index; loans = 0; kept = None }))) (ap (λ (m : State). m.bytes) c.of-memory.ensures) (subst (IsZoneIn c.args.spec c.of-memory.result.bytes) (sym (made c).view) (zone c).zone),
   ap (λ (m : State). own_memory m.name) c.of-memory.ensures,
 )
+
+pub returns-clause-none : goal.returns-clause-none
+returns-clause-none c = λ why l zone. c.is_zone.ensures.no c.if-is_zone.false l
+    (subst (λ (xs : List ℕ). IsZoneIn c.args.spec xs l) (sym (ap (λ (m : State). m.bytes) c.of-memory.ensures)) zone)

@@ -9,7 +9,6 @@ use Rattle.block_bytes.specs.Layout.{Layout, BlockAt, CanBe, body, raw_block, he
 use Rattle.block_bytes.specs.Record.{own_most}
 use Rattle.block_bytes.specs.Starts.{first_marked, mark_in, free_in}
 use Rattle.block_bytes.specs.Reading.{layout_of}
-use Rattle.block_bytes.proofs.Alone.{alone-at, mark-size}
 use Rattle.block_bytes.proofs.ReadBlocks.{IsPossible-from, head_size-positive}
 use Rattle.block_bytes.proofs.Parts.{rear, IsIn-from}
 use Rattle.block_bytes.proofs.Recorded.{IsReadWhole, counted-stay, head-whole}
@@ -47,13 +46,6 @@ set_header-requires-clause-size c = let h = IsHere-from c.self.inside c.self.inv
 pub set_header-requires-clause-correction : goal.set_header-requires-clause-correction
 set_header-requires-clause-correction c = let o = over c.args.self.now c.args.at c.args.role c.args.length c.requires c.entry_at-old.result (c.entry_at-old.ensures c.requires.block) in let few = o.1 in
     let heads = c.heads-heads.ensures ∙ ap (λ (l : Layout). l.heads) c.self.view_is in let e = c.head_size.ensures ∙ ap head_size heads in let e' = ap most_over heads in omega arith
-
-pub set-requires-clause-alone : goal.set-requires-clause-alone
-set-requires-clause-alone c = λ high.
-    let r = c.entry_at-old.result in let header : Header = record { size = r.size; role = c.args.role; correction = r.size - c.head_size.result - c.args.length } in
-    let size : r.size ≡ size_of c.args.self.now.heads c.requires.block.here = ap (λ (h : Header). h.size) (c.entry_at-old.ensures c.requires.block) in
-    let mark = mark-size header c.mark.result c.mark.ensures high in
-    alone-at c.self.inside c.self.invariant.layout c.args.self.now c.self.view_is c.args.at c.base-base.result c.mark.result ((c.args.at - c.base-base.result) / 4) c.requires.block c.base-base.ensures.value refl (omega (arith, mark, size)) high
 
 pub set-requires-clause-inside : goal.set-requires-clause-inside
 set-requires-clause-inside c = let h = IsHere-from c.self.inside c.self.invariant.layout c.args.self.now c.self.view_is c.args.at c.entry_at-old.result c.requires.block (c.entry_at-old.ensures c.requires.block) in
@@ -97,7 +89,7 @@ assigned c can = let z = c.self.inside in let at = c.args.at in let n = c.args.l
     (ap (λ (m : State). m.bytes) c.set_header.ensures
     ∙ head-written z b.before (header_of z.spec.heads b.here) (body b.here ++ rear (layout_of z) b.behind) i.bytes (at - c.base-base.result) c.heads-heads.result c.base-base.result
     said (header_of z.spec.heads new) (omega arith) c.heads-heads.ensures c.base-base.ensures.value header)
-    ((at - c.base-base.result) / 4) (omega arith) (c.set.ensures ∙ ap (λ (m : ℕ). set z.index ((at - c.base-base.result) / 4) m) (c.mark.ensures ∙ ap mark_in header))
+    ((at - c.base-base.result) / 4) (omega arith) (c.set.ensures ∙ ap (λ (m : ℕ). set z.index ((at - c.base-base.result) / 4) m) (c.mark.ensures.value ∙ ap mark_in header))
     c.base-base.ensures.value (c.free_bytes.ensures ∙ ap free_in header) (c.free_bytes-2.ensures ∙ ap free_in (entry b)) c.count_free.ensures in
     let own = c.own_size.ensures ∙ (λ i. own_most (c.heads-heads.ensures i) (header i)) in
     head-whole z c.self.invariant b.before (b.here ∷ []) new b.behind b.blocks read c.note.new.kept (at - c.base-base.result) c.own_size.result (omega arith) own c.note.ensures

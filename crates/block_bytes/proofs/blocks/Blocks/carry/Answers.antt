@@ -14,10 +14,7 @@ use Rattle.block_bytes.specs.Head.{most_over, head_bytes}
 use Rattle.block_bytes.specs.Layout.{RawBlock, Layout, BlockAt, ParcelAt, Carried, is_free, size_of, total_of, header_of, with_blocks}
 use Rattle.block_bytes.specs.Starts.{mark_in, first_marked}
 use Rattle.block_bytes.specs.Reading.{layout_of, IsLayout, IsWhole}
-use Rattle.place_numbers.specs.Parts.{IsAlone}
-use Rattle.block_bytes.proofs.Alone.{alone-down, ends-at, far-index, mark-size, spread-down}
 use Rattle.block_bytes.proofs.Heads.{head-free}
-use Rattle.block_bytes.proofs.Rendered.{total_of-append}
 use Rattle.block_bytes.proofs.Parts.{IsRead}
 use Rattle.block_bytes.proofs.Settled.{counted}
 use Rattle.block_bytes.proofs.Changes.{mark-unlent}
@@ -34,20 +31,6 @@ use Rattle.block_bytes.proofs.blocks.Blocks.carry.Goals.{After-set}
 -- the block that is carried
 abbrev carried_block : (l : Layout) (at end : ℕ) → ParcelAt l at end → BlockAt l at
 carried_block l at end parcel = record { before = parcel.before; here = parcel.here; behind = parcel.others ++ parcel.behind; blocks = parcel.blocks; place = parcel.place }
-
--- below the end, another stands behind it
-next_block : (l : Layout) (at end next : ℕ) (parcel : ParcelAt l at end) → next ≡ at + size_of l.heads parcel.here → next < end → BlockAt l next
-next_block l at end next parcel there below = by_others parcel.others parcel.blocks parcel.long
-  where
-    by_others : (others : List RawBlock) → l.blocks ≡ parcel.before ++ parcel.here ∷ (others ++ parcel.behind) → end ≡ at + (size_of l.heads parcel.here + total_of l.heads others) → BlockAt l next
-    by_others [] is long = absurd (omega arith)
-    by_others (b ∷ bs) is long = let sum = total_of-append l.heads parcel.before (parcel.here ∷ []) in let place = parcel.place in record {
-      before = parcel.before ++ parcel.here ∷ [];
-      here = b;
-      behind = bs ++ parcel.behind;
-      blocks = is ∙ sym (append_assoc parcel.before (parcel.here ∷ []) (b ∷ (bs ++ parcel.behind)));
-      place = omega arith;
-    }
 
 -- where the blocks lie
 record Lies (z : Inside) (at end : ℕ) (header : Header) : Type 0 where
@@ -66,15 +49,6 @@ lies z whole l is at end header = subst (λ (m : Layout). ParcelAt m at end → 
       long = omega arith;
       from = lies-from z whole parcel.before parcel.others parcel.behind parcel.here a (parcel.here ∷ parcel.others) parcel.blocks (a.here_unlent, a.others_unlent) refl at header (end - at - header.size) (omega arith) said (omega arith);
     })
-
-pub overflow_add-at : goal.overflow_add-at
-overflow_add-at c = let lie = lies c.self.inside c.self.invariant.layout c.args.self.now c.self.view_is c.args.at c.args.end c.entry_at-header.result c.requires c.entry_at-header.ensures in
-    let long = lie.long in let f = lie.from in let above = f.above in let below = f.below in let within = f.within in let small = c.base-base.ensures.possible in let base_is = c.base-base.ensures.value in
-    let high = c.base-base.ensures.reach in omega arith
-
-pub is_sparse-sparse-requires : goal.is_sparse-sparse-requires
-is_sparse-sparse-requires c = next_block c.args.self.now c.args.at c.args.end (c.args.at + c.entry_at-header.result.size) c.requires
-    (ap (λ (h : Header). c.args.at + h.size) (c.entry_at-header.ensures (carried_block c.args.self.now c.args.at c.args.end c.requires)))
 
 pub overflow_sub-count-2 : goal.overflow_sub-count-2
 overflow_sub-count-2 c = let lie = lies c.self.inside c.self.invariant.layout c.args.self.now c.self.view_is c.args.at c.args.end c.entry_at-header.result c.requires c.entry_at-header.ensures in
@@ -103,35 +77,12 @@ shift_down-requires-clause-inside c = let lie = lies c.self.inside c.self.invari
     let long = lie.long in let f = lie.from in let above = f.above in let below = f.below in let within = f.within in let small = c.base-base.ensures.possible in let base_is = c.base-base.ensures.value in
     let marks = f.marks in let even = f.even in let even_size = f.even_size in let even_count = f.even_count in omega arith
 
-pub shift_down-requires-clause-spread : goal.shift_down-requires-clause-spread
-shift_down-requires-clause-spread c = let lie = lies c.self.inside c.self.invariant.layout c.args.self.now c.self.view_is c.args.at c.args.end c.entry_at-header.result c.requires c.entry_at-header.ensures in
-    let long = lie.long in let f = lie.from in let above = f.above in let below = f.below in let within = f.within in let small = c.base-base.ensures.possible in let base_is = c.base-base.ensures.value in
-    let marks = f.marks in let even = f.even in let even_size = f.even_size in let even_count = f.even_count in
-    let z = c.self.inside in let size = c.entry_at-header.result.size in let at = c.args.at in let base = c.base-base.result in
-    let w = subst (λ (l : Layout). ParcelAt l at c.args.end) (sym c.self.view_is) c.requires in let place = w.place in
-    let from = (at - base + size) / 4 in let to = (at - base) / 4 in let n = (c.args.end - at - size) / 4 in
-    spread-down z.index from to n (omega arith) (omega arith) (far-index z c.self.invariant.layout) (ends-at z c.self.invariant.layout w.before (w.here ∷ (w.others ++ w.behind)) w.blocks to (omega arith))
-
 -- the index is as long as before
 as_long : (z : Inside) (start : ℕ) (header : Header) (count base : ℕ) → LiesFrom z start header count → base ≡ z.spec.base
     → length (shifted_down ((start - base + header.size) / 4) ((start - base) / 4) (count / 4) z.index) ≡ length z.index
 as_long z start header count base f base_is =
     let even = f.even in let even_size = f.even_size in let even_count = f.even_count in let marks = f.marks in let above = f.above in let below = f.below in
     length-shifted_down ((start - base + header.size) / 4) ((start - base) / 4) (count / 4) z.index (omega arith) (omega arith)
-
-pub set-requires-clause-alone : goal.set-requires-clause-alone
-set-requires-clause-alone c = λ high. let lie = lies c.self.inside c.self.invariant.layout c.args.self.now c.self.view_is c.args.at c.args.end c.entry_at-header.result c.requires c.entry_at-header.ensures in
-    let long = lie.long in let f = lie.from in let above = f.above in let below = f.below in let within = f.within in let small = c.base-base.ensures.possible in let base_is = c.base-base.ensures.value in
-    let marks = f.marks in let even = f.even in let even_size = f.even_size in let even_count = f.even_count in
-    let z = c.self.inside in let size = c.entry_at-header.result.size in let at = c.args.at in let base = c.base-base.result in
-    let w = subst (λ (l : Layout). ParcelAt l at c.args.end) (sym c.self.view_is) c.requires in let place = w.place in
-    let from = (at - base + size) / 4 in let to = (at - base) / 4 in let n = (c.args.end - at - size) / 4 in
-    let mark = mark-size c.entry_at-header.result c.mark.result c.mark.ensures high in let far_on = w.long in
-    let sum = total_of-append z.spec.heads w.before (w.here ∷ w.others) in
-    let said = c.entry_at-header.ensures (carried_block c.args.self.now at c.args.end c.requires) in
-    subst (λ (ms : List ℕ). IsAlone ms (to + n)) (sym c.shift_down.ensures)
-    (alone-down z.index from to n (omega arith) (omega arith) (far-index z c.self.invariant.layout) (ends-at z c.self.invariant.layout w.before (w.here ∷ (w.others ++ w.behind)) w.blocks to (omega arith))
-    (ends-at z c.self.invariant.layout (w.before ++ w.here ∷ w.others) w.behind (w.blocks ∙ sym (append_assoc w.before (w.here ∷ w.others) w.behind)) (from + n) (omega arith)) (omega arith) (to + n) refl)
 
 pub set-requires-clause-inside : goal.set-requires-clause-inside
 set-requires-clause-inside c = let lie = lies c.self.inside c.self.invariant.layout c.args.self.now c.self.view_is c.args.at c.args.end c.entry_at-header.result c.requires c.entry_at-header.ensures in
@@ -235,7 +186,7 @@ done : (c : goal.After-count_free) (parcel : ParcelAt c.args.self.now c.args.at 
     (record { heads_is = c.heads-heads.ensures; base_is = c.base-base.ensures.value; free = c.carry.ensures.free; used = c.carry.ensures.used }) c.args.self.now parcel c.count_free.new.memory c.set.new.self c.note.new.kept
 done c parcel = is_done c.self.inside c.self.invariant.layout c.base-base.ensures.possible c.args.at c.args.end c.heads-heads.result c.base-base.result c.entry_at-header.result c.carry.new.self
     (record { heads_is = c.heads-heads.ensures; base_is = c.base-base.ensures.value; free = c.carry.ensures.free; used = c.carry.ensures.used }) c.args.self.now c.self.view_is c.count_free.new.memory c.set.new.self c.note.new.kept c.self.invariant c.note.ensures
-    (c.set.ensures ∙ (λ i. set (c.shift_down.ensures i) ((c.args.at - c.base-base.result) / 4 + (c.args.end - c.args.at - c.entry_at-header.result.size) / 4) (c.mark.ensures i)))
+    (c.set.ensures ∙ (λ i. set (c.shift_down.ensures i) ((c.args.at - c.base-base.result) / 4 + (c.args.end - c.args.at - c.entry_at-header.result.size) / 4) (c.mark.ensures.value i)))
     c.count_free.ensures parcel c.entry_at-header.ensures
 
 pub invariant_of-self : goal.invariant_of-self

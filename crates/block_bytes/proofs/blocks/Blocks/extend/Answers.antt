@@ -1,4 +1,4 @@
-use Rattle.std.proofs.Common.{ℕ, ◌/◌, ◌≡◌, ◌+◌, ◌-◌, ◌<◌, ◌≤◌, List, [], ◌∷◌, inl, inr, length, drop, slice_index, refl, ap, subst, ◌∙◌, arith}
+use Rattle.std.proofs.Common.{ℕ, ◌≡◌, ◌+◌, ◌-◌, ◌<◌, ◌≤◌, List, [], ◌∷◌, inl, inr, length, drop, slice_index, refl, ap, subst, ◌∙◌, arith}
 use Rattle.byteorder.specs.Endian.{big_bytes}
 use Rattle.mac_base.specs.declared.block.HeadKind.{HeadKind}
 use Rattle.mac_base.specs.HeadKind.{head_size, zone_header}
@@ -15,7 +15,6 @@ use Rattle.raw_region.specs.State.{State, with_bytes}
 use Rattle.block_bytes.specs.Layout.{Layout, extended, free_block_of, free_raw_block}
 use Rattle.block_bytes.specs.Starts.{first_marked}
 use Rattle.block_bytes.specs.ZoneHead.{end_field}
-use Rattle.block_bytes.proofs.Alone.{alone-end}
 use Rattle.block_bytes.proofs.Parts.{total-ends}
 use Rattle.block_bytes.specs.ZoneHead.{CanCount}
 use Rattle.block_bytes.proofs.Settled.{counted}
@@ -35,9 +34,6 @@ set_header-requires-clause-free c = spare-free c.self.inside c.self.invariant.la
 -- the numbers that are read before a header is written
 read_first : (c : goal.After-set-arg-1) → AreRead c.self.inside c.heads-heads.result c.base-base.result c.size-size.result c.limit-limit.result
 read_first c = record { heads_is = c.heads-heads.ensures; base_is = c.base-base.ensures.value; size_is = c.size-size.ensures.value; limit_is = c.limit-limit.ensures.value; possible = c.base-base.ensures.possible; other = c.if-size-limit.false }
-
-pub set-requires-clause-alone : goal.set-requires-clause-alone
-set-requires-clause-alone c = λ high. alone-end c.self.inside c.self.invariant.layout (c.size-size.result / 4) (ap (λ (n : ℕ). n / 4) c.size-size.ensures.value)
 
 pub set-requires-clause-inside : goal.set-requires-clause-inside
 set-requires-clause-inside c = let size = c.size-size.ensures.value in

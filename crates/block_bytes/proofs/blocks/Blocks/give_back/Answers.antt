@@ -15,9 +15,6 @@ pub give_back-requires-clause-listed : goal.give_back-requires-clause-listed
 give_back-requires-clause-listed c = let z = c.self.inside in let w = subst (λ (l : Layout). IsLoanOf l c.args.at c.args.loan) (sym c.self.view_is) c.requires in let b = w.block in
     subst (λ (s : Span). IsListed z.memory.lent s) (sym (λ i. (w.place i, w.long i))) (range-listed z c.self.invariant.layout c.base.ensures.possible b.before b.here b.behind b.blocks w.lent)
 
-pub set-requires-clause-alone : goal.set-requires-clause-alone
-set-requires-clause-alone c = λ high. absurd (omega (arith, high))
-
 pub set-requires-clause-inside : goal.set-requires-clause-inside
 set-requires-clause-inside c = let z = c.self.inside in let w = subst (λ (l : Layout). IsLoanOf l c.args.at c.args.loan) (sym c.self.view_is) c.requires in let b = w.block in
     let i = IsIn-from z c.self.invariant.layout b.before b.here b.behind b.blocks in let place = b.place in let marks = length-starts z c.self.invariant.layout in let some = head_size-positive z.spec.heads in omega arith

@@ -12,8 +12,8 @@ use Rattle.block_bytes.proofs.blocks.Blocks.holder.Goals as goal
 end_is : (z : Inside) (l : Layout) → layout_of z ≡ l → address_behind (layout_of z) (layout_of z).blocks ≡ z.spec.base + z.spec.size → (end : ℕ) → end ≡ address_behind l l.blocks → end ≡ z.spec.base + z.spec.size
 end_is z l is ends end that = that ∙ sym (ap (λ (m : Layout). address_behind m m.blocks) is) ∙ ends
 
-pub last_at_least-requires : goal.last_at_least-requires
-last_at_least-requires c =
+pub last_some-requires : goal.last_some-requires
+last_some-requires c =
     let z = c.self.inside in let end = end_is z c.args.self.now c.self.view_is c.self.invariant.layout.ends c.end.result c.end.ensures in
     let marks = length-starts z c.self.invariant.layout in let value = c.base.ensures.value in omega arith
 

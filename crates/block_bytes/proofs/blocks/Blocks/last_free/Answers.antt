@@ -42,8 +42,8 @@ returns-clause-last c =
     (λ split. subst (λ (n : ℕ). LastFree z.spec.heads split.before n there) (let e : z.spec.base + zone_header ≡ address_behind (layout_of z) [] = omega arith in e)
     (subst (λ (n : ℕ). LastFree z.spec.heads split.before (z.spec.base + zone_header) (n + 4 * c.in_ok-place.place)) (sym c.base-base.ensures.value) (found c split).0))
 
-pub last_at_least-requires-clause-inside : goal.last_at_least-requires-clause-inside
-last_at_least-requires-clause-inside c =
+pub last_most-requires : goal.last_most-requires
+last_most-requires c =
     let base_is = c.base-base.ensures.value in
     let s = are-split c.self.inside c.self.invariant.layout c.args.end (subst (λ (l : Layout). SplitAt l c.args.end) (sym c.self.view_is) c.requires) ((c.args.end - c.base-base.result) / 4) (omega arith) in
     let all = s.all in omega arith

@@ -22,9 +22,6 @@ overflow_sub-length-2 c =
     let h = IsHere-from c.self.inside c.self.invariant.layout c.args.self.now c.self.view_is c.args.at c.entry_at-header.result c.requires.block (c.entry_at-header.ensures c.requires.block) in
     let e = c.head_size-head_size.ensures ∙ ap head_size c.heads.ensures in omega arith
 
-pub set-requires-clause-alone : goal.set-requires-clause-alone
-set-requires-clause-alone c = λ high. absurd (omega (arith, high))
-
 pub set-requires-clause-inside : goal.set-requires-clause-inside
 set-requires-clause-inside c = let h = IsHere-from c.self.inside c.self.invariant.layout c.args.self.now c.self.view_is c.args.at c.entry_at-header.result c.requires.block (c.entry_at-header.ensures c.requires.block) in let e = c.head_size-head_size.ensures ∙ ap head_size c.heads.ensures in let some = head_size-positive c.self.inside.spec.heads in omega arith
 

@@ -11,11 +11,9 @@ use Rattle.block_bytes.specs.ZoneHead.{CanCount}
 use Rattle.block_bytes.specs.declared.header.Header.{Header}
 use Rattle.block_bytes.specs.declared.blocks.Blocks.TheInside.{Inside}
 use Rattle.block_bytes.specs.Head.{most_over, head_bytes}
-use Rattle.block_bytes.specs.Layout.{RawBlock, Layout, BlockAt, ParcelUpTo, Sunk, is_free, size_of, total_of, header_of, with_blocks}
+use Rattle.block_bytes.specs.Layout.{RawBlock, Layout, BlockAt, ParcelUpTo, Sunk, is_free, size_of, header_of, with_blocks}
 use Rattle.block_bytes.specs.Starts.{mark_in, first_marked}
 use Rattle.block_bytes.specs.Reading.{layout_of, IsLayout, IsWhole}
-use Rattle.place_numbers.specs.Parts.{IsAlone}
-use Rattle.block_bytes.proofs.Alone.{alone-up, ends-at, far-index, mark-size, spread-up}
 use Rattle.block_bytes.proofs.Heads.{head-free}
 use Rattle.block_bytes.proofs.Rendered.{total_of-append}
 use Rattle.block_bytes.proofs.Parts.{IsRead}
@@ -41,14 +39,6 @@ sunk_block l start at parcel = let sum = total_of-append l.heads parcel.before p
   place = omega arith;
 }
 
--- where there are others, the first stands where they begin
-first_block : (l : Layout) (start at : ℕ) → ParcelUpTo l start at → start < at → BlockAt l start
-first_block l start at parcel below = by_others parcel.others parcel.blocks parcel.long
-  where
-    by_others : (others : List RawBlock) → l.blocks ≡ parcel.before ++ (others ++ parcel.here ∷ parcel.behind) → at ≡ start + total_of l.heads others → BlockAt l start
-    by_others [] is long = absurd (omega arith)
-    by_others (b ∷ bs) is long = record { before = parcel.before; here = b; behind = bs ++ parcel.here ∷ parcel.behind; blocks = is; place = parcel.place }
-
 -- none of the blocks is lent
 are_unlent : (z : Inside) → IsLayout z → (start at : ℕ) (parcel : ParcelUpTo (layout_of z) start at) → AreUnlent z parcel.before parcel.others parcel.here
 are_unlent z whole start at parcel = unlent-last z whole parcel.before parcel.others parcel.behind parcel.here parcel.blocks parcel.unlent
@@ -64,9 +54,6 @@ lies z whole l is start at header = subst (λ (m : Layout). ParcelUpTo m start a
 
 pub entry_at-header-requires : goal.entry_at-header-requires
 entry_at-header-requires c = sunk_block c.args.self.now c.args.start c.args.at c.requires
-
-pub is_sparse-sparse-requires : goal.is_sparse-sparse-requires
-is_sparse-sparse-requires c = first_block c.args.self.now c.args.start c.args.at c.requires
 
 pub sink-requires-clause-inside : goal.sink-requires-clause-inside
 sink-requires-clause-inside c = let f = lies c.self.inside c.self.invariant.layout c.args.self.now c.self.view_is c.args.start c.args.at c.entry_at-header.result c.requires c.entry_at-header.ensures in
@@ -91,38 +78,12 @@ shift_up-requires-clause-inside c = let f = lies c.self.inside c.self.invariant.
     let order = c.requires.long in let above = f.above in let below = f.below in let within = f.within in let small = c.base-base.ensures.possible in let base_is = c.base-base.ensures.value in
     let marks = f.marks in let even = f.even in let even_size = f.even_size in let even_count = f.even_count in omega arith
 
-pub shift_up-requires-clause-spread : goal.shift_up-requires-clause-spread
-shift_up-requires-clause-spread c = let f = lies c.self.inside c.self.invariant.layout c.args.self.now c.self.view_is c.args.start c.args.at c.entry_at-header.result c.requires c.entry_at-header.ensures in
-    let order = c.requires.long in let above = f.above in let below = f.below in let within = f.within in let small = c.base-base.ensures.possible in let base_is = c.base-base.ensures.value in
-    let marks = f.marks in let even = f.even in let even_size = f.even_size in let even_count = f.even_count in
-    let z = c.self.inside in let size = c.entry_at-header.result.size in let start = c.args.start in let base = c.base-base.result in
-    let w = subst (λ (l : Layout). ParcelUpTo l start c.args.at) (sym c.self.view_is) c.requires in let place = w.place in let far_on = w.long in
-    let from = (start - base) / 4 in let to = (start - base + size) / 4 in let n = (c.args.at - start) / 4 in
-    let sum = total_of-append z.spec.heads w.before w.others in
-    let low = ends-at z c.self.invariant.layout w.before (w.others ++ w.here ∷ w.behind) w.blocks from (omega arith) in
-    let mid = ends-at z c.self.invariant.layout (w.before ++ w.others) (w.here ∷ w.behind) (w.blocks ∙ sym (append_assoc w.before w.others (w.here ∷ w.behind))) (from + n) (omega arith) in
-    spread-up z.index from to n (omega arith) (omega arith) (far-index z c.self.invariant.layout) low mid
-
 -- the index is as long as before
 as_long : (z : Inside) (start : ℕ) (header : Header) (count base : ℕ) → LiesFrom z start header count → base ≡ z.spec.base
     → length (shifted_up ((start - base) / 4) ((start - base + header.size) / 4) (count / 4) z.index) ≡ length z.index
 as_long z start header count base f base_is =
     let even = f.even in let even_size = f.even_size in let even_count = f.even_count in let marks = f.marks in let above = f.above in let below = f.below in
     length-shifted_up ((start - base) / 4) ((start - base + header.size) / 4) (count / 4) z.index (omega arith) (omega arith)
-
-pub set-requires-clause-alone : goal.set-requires-clause-alone
-set-requires-clause-alone c = λ high. let f = lies c.self.inside c.self.invariant.layout c.args.self.now c.self.view_is c.args.start c.args.at c.entry_at-header.result c.requires c.entry_at-header.ensures in
-    let order = c.requires.long in let above = f.above in let below = f.below in let within = f.within in let small = c.base-base.ensures.possible in let base_is = c.base-base.ensures.value in
-    let marks = f.marks in let even = f.even in let even_size = f.even_size in let even_count = f.even_count in
-    let z = c.self.inside in let size = c.entry_at-header.result.size in let start = c.args.start in let base = c.base-base.result in
-    let w = subst (λ (l : Layout). ParcelUpTo l start c.args.at) (sym c.self.view_is) c.requires in let place = w.place in let far_on = w.long in
-    let from = (start - base) / 4 in let to = (start - base + size) / 4 in let n = (c.args.at - start) / 4 in
-    let sum = total_of-append z.spec.heads w.before w.others in
-    let low = ends-at z c.self.invariant.layout w.before (w.others ++ w.here ∷ w.behind) w.blocks from (omega arith) in
-    let mid = ends-at z c.self.invariant.layout (w.before ++ w.others) (w.here ∷ w.behind) (w.blocks ∙ sym (append_assoc w.before w.others (w.here ∷ w.behind))) (from + n) (omega arith) in
-    let mark = mark-size c.entry_at-header.result c.mark.result c.mark.ensures high in
-    subst (λ (ms : List ℕ). IsAlone ms from) (sym c.shift_up.ensures)
-    (alone-up z.index from to n (omega arith) (omega arith) (far-index z c.self.invariant.layout) low mid (omega arith))
 
 pub overflow_add-at : goal.overflow_add-at
 overflow_add-at c = let f = lies c.self.inside c.self.invariant.layout c.args.self.now c.self.view_is c.args.start c.args.at c.entry_at-header.result c.requires c.entry_at-header.ensures in
@@ -229,7 +190,7 @@ done : (c : goal.After-count_free) (parcel : ParcelUpTo c.args.self.now c.args.s
     (record { heads_is = c.heads-heads.ensures; base_is = c.base-base.ensures.value; free = c.sink.ensures.free; used = c.sink.ensures.used }) c.args.self.now parcel c.count_free.new.memory c.set.new.self c.note.new.kept
 done c parcel = is_done c.self.inside c.self.invariant.layout c.base-base.ensures.possible c.args.start c.args.at c.heads-heads.result c.base-base.result c.entry_at-header.result c.sink.new.self
     (record { heads_is = c.heads-heads.ensures; base_is = c.base-base.ensures.value; free = c.sink.ensures.free; used = c.sink.ensures.used }) c.args.self.now c.self.view_is c.count_free.new.memory c.set.new.self c.note.new.kept c.self.invariant c.note.ensures
-    (c.set.ensures ∙ (λ i. set (c.shift_up.ensures i) ((c.args.start - c.base-base.result) / 4) (c.mark.ensures i)))
+    (c.set.ensures ∙ (λ i. set (c.shift_up.ensures i) ((c.args.start - c.base-base.result) / 4) (c.mark.ensures.value i)))
     c.count_free.ensures parcel c.entry_at-header.ensures
 
 pub invariant_of-self : goal.invariant_of-self

@@ -1,7 +1,6 @@
-use Rattle.std.proofs.Common.{◌≡◌, ◌+◌, ◌-◌, ◌/◌, ◌≤◌, ◌∷◌, ◌++◌, List, ℕ, refl, length, take, drop, sym, ap, ◌∙◌, subst, arith, length-take-le, length-drop, length-set, append-nil, drop-drop, take-append-drop}
+use Rattle.std.proofs.Common.{◌≡◌, ◌+◌, ◌-◌, ◌/◌, ◌∷◌, ◌++◌, List, ℕ, refl, length, take, drop, sym, ap, ◌∙◌, subst, arith, length-take-le, length-drop, length-set, append-nil, drop-drop, take-append-drop}
 use Rattle.std.proofs.Math.ListN.{set}
 use Rattle.mac_base.specs.HeadKind.{address_end, head_size}
-use Rattle.place_numbers.specs.Parts.{IsAlone}
 use Rattle.raw_region.specs.Bytes.{written, length-written}
 use Rattle.raw_region.specs.Span.{Span, IsFree}
 use Rattle.raw_region.specs.State.{State}
@@ -10,11 +9,9 @@ use Rattle.block_bytes.specs.declared.header.Role.TheVariants.{Free}
 use Rattle.block_bytes.specs.Head.{most_over, head_bytes}
 use Rattle.block_bytes.specs.Layout.{Layout, BlockAt, CanSplit, front_of, rest_of, body, raw_block, free_raw_block, size_of, header_of, with_blocks}
 use Rattle.block_bytes.specs.Record.{own_most}
-use Rattle.block_bytes.specs.Starts.{first_marked, mark_in, free_in}
-use Rattle.block_bytes.specs.Reading.{layout_of, IsLayout}
-use Rattle.block_bytes.specs.declared.blocks.Blocks.TheInside.{Inside}
-use Rattle.block_bytes.proofs.Alone.{alone-at, alone-rest, mark-size}
-use Rattle.block_bytes.proofs.ReadBlocks.{head_size-positive, IsPossible-from, smallest-block}
+use Rattle.block_bytes.specs.Starts.{first_marked, free_mark, mark_in, free_in}
+use Rattle.block_bytes.specs.Reading.{layout_of}
+use Rattle.block_bytes.proofs.ReadBlocks.{head_size-positive, IsPossible-from}
 use Rattle.block_bytes.proofs.Parts.{front, rear, head, IsIn-from}
 use Rattle.block_bytes.proofs.Changes.{body-raw_block, size-body, header-raw_block, head-written, split-written, split-changed}
 use Rattle.block_bytes.proofs.Here.{IsHere-from, unlent-here}
@@ -48,42 +45,11 @@ set_header-requires-2-clause-free c = let h = IsHere-from c.self.inside c.self.i
 pub set_header-requires-2-clause-size : goal.set_header-requires-2-clause-size
 set_header-requires-2-clause-size c = let h = IsHere-from c.self.inside c.self.invariant.layout c.args.self.now c.self.view_is c.args.at c.entry_at-whole.result c.requires.block (c.entry_at-whole.ensures c.requires.block) in let end = ap address_end c.heads-heads.ensures in omega arith
 
--- the place of the rest is one for a large number, once that of the front is written
-rest-alone : (z : Inside) → IsLayout z → (l : Layout) → layout_of z ≡ l → (at size n : ℕ) (can : CanSplit l at size n) (base : ℕ) → base ≡ z.spec.base → (index : List ℕ) (r mark : ℕ) → r ≡ size_of l.heads can.block.here
-    → 255 ≤ r - size → (255 ≤ mark → 255 ≤ size) → index ≡ set z.index ((at - base) / 4) mark → IsAlone index ((at - base + size) / 4)
-rest-alone z whole l is at size n can base base_is index r mark = subst (λ (m : Layout). (can : CanSplit m at size n) → r ≡ size_of m.heads can.block.here
-    → 255 ≤ r - size → (255 ≤ mark → 255 ≤ size) → index ≡ set z.index ((at - base) / 4) mark → IsAlone index ((at - base + size) / 4)) is
-    (λ can one large small marks.
-    let heads = z.spec.heads in let k = head_size heads in let b = can.block in let xs = body b.here in let place = b.place in let smaller = can.smaller in let enough = can.large in
-    let sum = size-body heads b.here in let front_long = length-take-le (size - k) xs (omega arith) in
-    let first = raw_block b.here.role n (take (size - k) xs) in let p = IsPossible-from heads first can.front in
-    let first_size : size_of heads first ≡ size = size-body heads first ∙ ap (λ (ys : List ℕ). k + length ys) (body-raw_block b.here.role n (take (size - k) xs)) ∙ omega arith in
-    let even = p.even in let least = p.large in let some = smallest-block heads in
-    subst (λ (ms : List ℕ). IsAlone ms ((at - base + size) / 4)) (sym marks)
-    (alone-rest z whole b.before b.here b.behind b.blocks size (r - size) mark ((at - base) / 4) ((at - base + size) / 4)
-    (omega (arith, one, large)) (omega (arith, even, first_size)) (omega (arith, least, some, first_size)) large small
-    (omega (arith, place, base_is)) (omega (arith, place, base_is, even, first_size)))) can
-
 pub set-requires-clause-inside : goal.set-requires-clause-inside
 set-requires-clause-inside c = let h = IsHere-from c.self.inside c.self.invariant.layout c.args.self.now c.self.view_is c.args.at c.entry_at-whole.result c.requires.block (c.entry_at-whole.ensures c.requires.block) in let some = head_size-positive c.self.inside.spec.heads in omega arith
 
-pub set-requires-clause-alone : goal.set-requires-clause-alone
-set-requires-clause-alone c = λ high.
-    let front : Header = record { size = c.args.size; role = c.entry_at-whole.result.role; correction = c.args.size - c.head_size.result - c.args.length } in
-    let size : c.entry_at-whole.result.size ≡ size_of c.args.self.now.heads c.requires.block.here = ap (λ (h : Header). h.size) (c.entry_at-whole.ensures c.requires.block) in let smaller = c.requires.smaller in
-    let mark = mark-size front c.mark.result c.mark.ensures high in
-    alone-at c.self.inside c.self.invariant.layout c.args.self.now c.self.view_is c.args.at c.base-base.result c.mark.result ((c.args.at - c.base-base.result) / 4) c.requires.block c.base-base.ensures.value refl (omega (arith, mark, size, smaller)) high
-
 pub set-requires-2-clause-inside : goal.set-requires-2-clause-inside
 set-requires-2-clause-inside c = let long : length c.set.new.self ≡ length c.self.inside.index = ap length c.set.ensures ∙ length-set c.self.inside.index _ _ in let h = IsHere-from c.self.inside c.self.invariant.layout c.args.self.now c.self.view_is c.args.at c.entry_at-whole.result c.requires.block (c.entry_at-whole.ensures c.requires.block) in let size : c.entry_at-whole.result.size ≡ size_of c.args.self.now.heads c.requires.block.here = ap (λ (h : Header). h.size) (c.entry_at-whole.ensures c.requires.block) in let smaller = c.requires.smaller in let large = c.requires.large in let heads = c.heads-heads.ensures ∙ ap (λ (l : Layout). l.heads) c.self.view_is in let e = ap head_size heads in let e' = ap head_size c.heads-heads.ensures in let e'' = ap head_size (ap (λ (l : Layout). l.heads) c.self.view_is) in let some = head_size-positive c.args.self.now.heads in omega arith
-
-pub set-requires-2-clause-alone : goal.set-requires-2-clause-alone
-set-requires-2-clause-alone c = λ high.
-    let entry = c.entry_at-whole.ensures c.requires.block in
-    rest-alone c.self.inside c.self.invariant.layout c.args.self.now c.self.view_is c.args.at c.args.size c.args.length c.requires c.base-base.result c.base-base.ensures.value c.set.new.self c.entry_at-whole.result.size c.mark.result
-    (ap (λ (h : Header). h.size) entry) high
-    (λ big. let mark = mark-size (record { size = c.args.size; role = c.entry_at-whole.result.role; correction = c.args.size - c.head_size.result - c.args.length }) c.mark.result c.mark.ensures big in omega (arith, mark, big))
-    c.set.ensures
 
 pub count_free-requires-clause-count : goal.count_free-requires-clause-count
 count_free-requires-clause-count c = let z = c.self.inside in let small = c.base-base.ensures.possible in let r = c.entry_at-whole.result in
@@ -152,9 +118,8 @@ cut_apart c can = let z = c.self.inside in let at = c.args.at in let n = c.args.
     (head_bytes (c.heads-heads.ensures i) (c.base-base.ensures.value i) (second_header i)))
     ∙ split-written z c.self.invariant.layout c.base-base.ensures.possible b.before b.here b.behind b.blocks can.unlent first second cut apart cut_long (at - c.base-base.result + size) (omega arith))
     ((at - c.base-base.result) / 4) ((at - c.base-base.result + size) / 4) (omega arith) (omega arith)
-    (c.set-2.ensures ∙ ap (λ (ms : List ℕ). set ms ((at - c.base-base.result + size) / 4) (r.size - size)) c.set.ensures
-    ∙ ap (λ (m : ℕ). set (set z.index ((at - c.base-base.result) / 4) m) ((at - c.base-base.result + size) / 4) (r.size - size)) (c.mark.ensures ∙ ap mark_in first_header)
-    ∙ ap (λ (m : ℕ). set (set z.index ((at - c.base-base.result) / 4) (mark_in (header_of heads first))) ((at - c.base-base.result + size) / 4) m) (let e : r.size - size ≡ size_of heads second = omega arith in e))
+    (c.set-2.ensures ∙ ap (λ (ms : List ℕ). set ms ((at - c.base-base.result + size) / 4) free_mark) c.set.ensures
+    ∙ ap (λ (m : ℕ). set (set z.index ((at - c.base-base.result) / 4) m) ((at - c.base-base.result + size) / 4) free_mark) (c.mark.ensures.value ∙ ap mark_in first_header))
     c.base-base.ensures.value (let gained = c.free_bytes.ensures ∙ ap free_in first_header in omega arith) (c.free_bytes-2.ensures ∙ ap free_in (entry b)) c.count_free.ensures in
     let own = c.own_size.ensures ∙ (λ i. own_most (c.heads-heads.ensures i) (first_header i)) in
     heads-whole z c.self.invariant b.before b.here first second b.behind b.blocks read c.note.new.kept c.note-2.new.kept (at - c.base-base.result) (at - c.base-base.result + size) c.own_size.result c.head_size-2.result

@@ -1,4 +1,4 @@
-use Rattle.std.proofs.Common.{[], ◌+◌, ◌-◌, Ok, refl, ap, ◌∙◌}
+use Rattle.std.proofs.Common.{[], ◌+◌, ◌-◌, Ok, refl, ap, sym, ◌∙◌}
 use Rattle.mac_base.specs.HeadKind.{Shape, zone_header}
 use Rattle.mac_base.specs.ZoneMap.{ZoneMap, total_size, largest_free}
 use Rattle.mac_base.specs.Compaction.{all_down}
@@ -14,17 +14,19 @@ use Rattle.mem_calls.proofs.manager.MemoryManager.max_mem.Goals as goal
 pub returns-clause-exact : goal.returns-clause-exact
 returns-clause-exact c =
     let old = c.self.inside.zone.heap in
-    let new = c.compact_all.new.self in
-    let shape = ap (λ (z : ZoneState). z.shape) c.compact_all.ensures.zone ∙ ap (λ (z : ZoneState). z.shape) c.purge_all.ensures.zone in
+    let new = c.largest_free.new.self in
+    let same = c.largest_free.ensures.zone in
+    let shape = ap (λ (z : ZoneState). z.shape) (same ∙ c.compact_all.ensures.zone) ∙ ap (λ (z : ZoneState). z.shape) c.purge_all.ensures.zone in
     exact-done c.args.self.now c.self.inside.zone new c.self.view_is c.first_block.ensures.sound MaxMem refl
     (Ok (TwoNumbers c.largest_free.result c.growth_left.result)) refl
-    (ap (λ (z : ZoneState). z.heap) c.compact_all.ensures.zone ∙ ap (λ (z : ZoneState). with_map (all_down z.heap.table z.heap.map) z.heap) c.purge_all.ensures.zone
+    (ap (λ (z : ZoneState). z.heap) (same ∙ c.compact_all.ensures.zone) ∙ ap (λ (z : ZoneState). with_map (all_down z.heap.table z.heap.map) z.heap) c.purge_all.ensures.zone
     ∙ ap (λ (m : ZoneMap). with_map m (all_purged old)) (all_down-purged old))
-    (ap (λ n. Ok (TwoNumbers n c.growth_left.result)) c.largest_free.ensures
+    (ap (λ n. Ok (TwoNumbers n c.growth_left.result)) (c.largest_free.ensures.largest ∙ ap (λ (z : ZoneState). largest_free z.heap.map) (sym same))
     ∙ ap (λ n. Ok (TwoNumbers (largest_free new.heap.map) n)) (c.growth_left.ensures ∙ ap (λ (s : Shape). s.limit - (zone_header + total_size new.heap.map)) shape))
 
 pub returns-clause-step : goal.returns-clause-step
-returns-clause-step c = step-exact c.args.self.now c.self.inside.zone c.compact_all.new.self c.self.view_is c.first_block.ensures.sound MaxMem [] (Ok (TwoNumbers c.largest_free.result c.growth_left.result)) (returns-clause-exact c)
+returns-clause-step c = step-exact c.args.self.now c.self.inside.zone c.largest_free.new.self c.self.view_is c.first_block.ensures.sound MaxMem [] (Ok (TwoNumbers c.largest_free.result c.growth_left.result)) (returns-clause-exact c)
 
 pub returns-clause-loans : goal.returns-clause-loans
-returns-clause-loans c = kept (c.compact_all.ensures.loans.0 ∙ c.purge_all.ensures.loans.0, λ x loan lent. c.compact_all.ensures.loans.1 x loan (c.purge_all.ensures.loans.1 x loan lent)) c.self.view_is
+returns-clause-loans c =
+    rw c.largest_free.ensures.zone (kept (c.compact_all.ensures.loans.0 ∙ c.purge_all.ensures.loans.0, λ x loan lent. c.compact_all.ensures.loans.1 x loan (c.purge_all.ensures.loans.1 x loan lent)) c.self.view_is)

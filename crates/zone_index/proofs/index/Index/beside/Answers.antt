@@ -1,7 +1,6 @@
-use Rattle.std.proofs.Common.{ℕ, ◌+◌, ◌/◌, ◌∙◌, List, length, ap, refl, arith}
+use Rattle.std.proofs.Common.{ℕ, ◌+◌, ◌/◌, ◌∙◌, List, length, ap, arith}
 use Rattle.std.proofs.lemmas.List.{length-replicate}
-use Rattle.zone_index.specs.Rooms.{leaf_size}
-use Rattle.zone_index.proofs.Creating.{rooms-created}
+use Rattle.zone_index.proofs.Creating.{leaves-created}
 use Rattle.zone_index.proofs.index.Index.beside.Goals as goal
 
 pub mark_blocks-requires-clause-fixed : goal.mark_blocks-requires-clause-fixed
@@ -14,7 +13,7 @@ pub invariant_of-result : goal.invariant_of-result
 invariant_of-result c = record {
   fixed = c.mark_blocks.ensures.fixed;
   purgeable = c.mark_blocks.ensures.purgeable;
-  rooms = rooms-created c.args.zone c.args.self.rooms (c.args.zone.shape.limit / leaf_size + 1) refl c.requires.sums c.requires.stale;
+  leaves = leaves-created c.args.zone c.args.self.leaves c.requires.leaves;
   pages = record { places = c.requires.places; known = λ p s there. absurd (c.requires.unknown p s (omega arith) there) };
   lengths = λ x n told. absurd (c.requires.lengths x n told);
 }

@@ -1,4 +1,4 @@
-use Rattle.std.proofs.Common.{◌≤◌, ◌≡◌, ◌+◌, ◌-◌, ◌/◌, ap, sym, subst, arith, ◌∷◌, IsTrue, ◌++◌, ◌∙◌, List, length}
+use Rattle.std.proofs.Common.{◌≤◌, ◌≡◌, ◌+◌, ◌-◌, ◌/◌, ap, sym, subst, arith, ◌∷◌, IsTrue, ◌++◌, ◌∙◌}
 use Rattle.std.specs.Prelude.{IsTrue, ◌∷◌}
 use Rattle.mac_base.specs.declared.block.Entry.{Entry}
 use Rattle.mac_base.specs.Gap.{is_fixed}
@@ -12,14 +12,14 @@ use Rattle.zone_index.specs.Runs.{none_fixed}
 use Rattle.zone_index.proofs.Exchanged.{carried-marked}
 use Rattle.zone_index.proofs.Placed.{placed}
 use Rattle.zone_index.proofs.Turned.{carried-fits, carried-turned, parcel-entry}
-use Rattle.zone_index.specs.Rooms.{AreRooms, leaf}
+use Rattle.zone_index.specs.LeafSums.{AreLeaves}
+use Rattle.zone_index.specs.Leaves.{leaf}
 use Rattle.zone_index.proofs.PagesKept.{forgets-read, pages-kept, part-ends}
 use Rattle.zone_index.proofs.Changing.{pages-carry}
 use Rattle.zone_index.proofs.Measured.{lengths-of}
 use Rattle.zone_laws.proofs.Maps.{total_size-append}
-use Rattle.zone_index.proofs.RoomsRenewed.{leaf-there, touched-first, touched-next}
-use Rattle.zone_index.proofs.RoomsChanged.{parcel_split, rooms-carry}
-use Rattle.block_sums.specs.declared.span.Span.{Span}
+use Rattle.zone_index.proofs.LeavesChanged.{leaf-same, leaf-there, leaf-touched, leaves-carry, touched-first, touched-next}
+use Rattle.zone_index.proofs.SumsChanged.{parcel_split}
 use Rattle.zone_index.proofs.zone.IndexedZone.carry.Goals as goal
 use Rattle.zone_index.proofs.zone.IndexedZone.carry.Goals.{After-entry_at-size, Start}
 
@@ -48,12 +48,12 @@ invariant_of-self c =
       fixed = subst (λ (z : ZoneState). AreMarked is_fixed z c.self.inside.marks) (sym (c.carry-2.ensures parcel)) (carried-marked z c.self.inside.marks c.self.invariant.fixed c.args.at c.args.end parcel loose);
       purgeable = subst (λ (z : ZoneState). AreMarked may_go z c.carry.new.marks) (sym (c.carry-2.ensures parcel))
           (carried-turned may_go z c.self.inside.purgeable c.carry.new.marks c.self.invariant.purgeable p.sizes c.args.at c.args.end parcel _ _ _ p.value (ap (λ n. n / 4) size) (ap (λ n. n / 4) run) c.carry.ensures);
-      rooms = (let passed = c.pass.ensures.passed in
+      leaves = (let passed = c.pass.ensures.passed in
           let split = parcel_split z parcel (c.args.at + c.entry_at-size.result.size) (ap (λ n. c.args.at + n) size) in
           let new : c.leaf_at-new.result ≡ leaf c.args.self.now.shape (c.args.at + total_size parcel.blocks) = c.leaf_at-new.ensures.value ∙ ap (λ n. leaf c.args.self.now.shape (c.args.at + n)) run in
-          subst (λ (z : ZoneState). AreRooms z c.touch-2.new.self) (sym (c.carry-2.ensures parcel))
-          (rooms-carry z c.self.inside.rooms c.pass.new.rooms c.touch-2.new.self c.self.invariant.rooms parcel loose (c.args.at + c.entry_at-size.result.size) (ap (λ n. c.args.at + n) size) c.pass.ensures.sums (passed split)
-          (touched-next c.pass.new.rooms c.touch.new.self c.touch-2.new.self (c.args.at + total_size parcel.blocks) (touched-first c.pass.new.rooms c.touch.new.self c.args.at c.self.view_is c.leaf-old.ensures.value c.touch.ensures.sums c.touch.ensures.here c.touch.ensures.others) c.self.view_is new c.touch-2.ensures.sums c.touch-2.ensures.here c.touch-2.ensures.others)));
+          subst (λ (z : ZoneState). AreLeaves z c.touch-2.new.self) (sym (c.carry-2.ensures parcel))
+          (leaves-carry z c.self.inside.leaves c.pass.new.leaves c.touch-2.new.self c.self.invariant.leaves c.pass.ensures.sums parcel loose (c.args.at + c.entry_at-size.result.size) (ap (λ n. c.args.at + n) size) (passed split)
+          (touched-next c.pass.new.leaves c.touch.new.self c.touch-2.new.self (c.args.at + total_size parcel.blocks) (touched-first c.pass.new.leaves c.touch.new.self c.args.at c.self.view_is c.leaf-old.ensures.value c.touch.ensures) c.self.view_is new c.touch-2.ensures)));
       pages = pages-kept c.forget.new.self (c.carry-2.ensures parcel)
           (pages-carry c.self.inside.zone c.self.inside.pages c.forget.new.self c.self.invariant.pages parcel
           (forgets-read c.args.at c.args.end c.self.view_is c.page-from.ensures.value c.page_at-to.ensures.value c.forget.ensures));
@@ -89,11 +89,11 @@ pass-requires c =
     let size = ap (λ (e : Entry). e.size) (c.entry_at-size.ensures (parcel-entry z parcel)) in
     parcel_split z parcel (c.args.at + c.entry_at-size.result.size) (ap (λ n. c.args.at + n) size)
 
-pub touch-requires : goal.touch-requires
-touch-requires c = leaf-there c.self.inside.zone c.args.self.now c.self.view_is _ _ c.leaf-old.ensures.inside (ap (λ (xs : List Span). length xs) c.pass.ensures.sums ∙ c.self.invariant.rooms.places)
-
-pub touch-requires-2 : goal.touch-requires-2
-touch-requires-2 c = leaf-there c.self.inside.zone c.args.self.now c.self.view_is _ _ c.leaf_at-new.ensures.inside (ap (λ (xs : List Span). length xs) (c.touch.ensures.sums ∙ c.pass.ensures.sums) ∙ c.self.invariant.rooms.places)
-
 pub overflow_add-at-2 : goal.overflow_add-at-2
 overflow_add-at-2 c = omega (arith, size_is (goal.at.overflow_add-at-2 c).After-entry_at-size, c.requires.parcel.long, c.ranges.end.fits)
+
+pub touch-requires : goal.touch-requires
+touch-requires c = leaf-same _ c.self.inside.leaves c.pass.new.leaves c.pass.ensures.sums (leaf-there c.self.inside.zone c.args.self.now c.self.view_is _ c.self.inside.leaves c.self.invariant.leaves c.leaf-old.ensures.inside)
+
+pub touch-requires-2 : goal.touch-requires-2
+touch-requires-2 c = leaf-touched _ _ c.pass.new.leaves c.touch.new.self c.touch.ensures (leaf-same _ c.self.inside.leaves c.pass.new.leaves c.pass.ensures.sums (leaf-there c.self.inside.zone c.args.self.now c.self.view_is _ c.self.inside.leaves c.self.invariant.leaves c.leaf_at-new.ensures.inside))

@@ -6,7 +6,7 @@ use Rattle.mac_base.specs.ZoneState.{overwritten}
 use Rattle.zone_index.proofs.Bytes.{weights-bytes}
 use Rattle.zone_index.proofs.PagesRenewed.{pages-still}
 use Rattle.zone_index.proofs.Measured.{length-overwritten, lengths-kept, same-with_bytes}
-use Rattle.zone_index.proofs.RoomsRenewed.{rooms-still}
+use Rattle.zone_index.proofs.LeavesChanged.{leaves-still}
 use Rattle.zone_index.proofs.zone.IndexedZone.contents_mut.Goals as goal
 
 pub invariant_of-self-lent : goal.invariant_of-self-lent
@@ -14,7 +14,7 @@ invariant_of-self-lent c ws =
     record {
       fixed = rewritten-marked fixes c.self.inside.zone c.self.inside.marks c.self.invariant.fixed c.args.block _;
       purgeable = rewritten-marked goes c.self.inside.zone c.self.inside.purgeable c.self.invariant.purgeable c.args.block _;
-      rooms = rooms-still c.self.inside.zone _ c.self.inside.rooms c.self.invariant.rooms refl (weights-bytes c.self.inside.zone.heap.table c.args.block _ c.self.inside.zone.heap.map);
+      leaves = leaves-still c.self.inside.zone _ c.self.inside.leaves c.self.invariant.leaves refl (weights-bytes c.self.inside.zone.heap.table c.args.block _ c.self.inside.zone.heap.map);
       pages = pages-still c.self.inside.zone _ c.self.inside.pages c.self.invariant.pages refl (weights-bytes c.self.inside.zone.heap.table c.args.block _ c.self.inside.zone.heap.map);
       lengths = (let t = c.self.inside.zone.heap.table in
           let x = c.args.block in

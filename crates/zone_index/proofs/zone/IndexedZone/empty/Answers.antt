@@ -7,15 +7,14 @@ use Rattle.zone_index.specs.Purging.{may_go}
 use Rattle.zone_index.proofs.Freed.{emptied-marked}
 use Rattle.zone_index.proofs.Placed.{placed}
 use Rattle.zone_index.proofs.Rules.{fixes, goes}
-use Rattle.zone_index.specs.Rooms.{AreRooms}
+use Rattle.zone_index.specs.LeafSums.{AreLeaves}
 use Rattle.linked_zone.specs.Fit.{Fits}
 use Rattle.zone_index.proofs.Changed.{emptied-other}
 use Rattle.zone_index.proofs.Changing.{pages-other}
 use Rattle.zone_index.proofs.PagesKept.{forgets-read, pages-kept}
 use Rattle.mac_base.specs.HandleTable.{EmptyHandle}
 use Rattle.zone_index.proofs.Measured.{lengths-given, lengths-of}
-use Rattle.zone_index.proofs.RoomsRenewed.{touched-first}
-use Rattle.zone_index.proofs.RoomsChanged.{rooms-other}
+use Rattle.zone_index.proofs.LeavesChanged.{leaf-there, leaves-other, touched-first}
 use Rattle.zone_index.proofs.zone.IndexedZone.empty.Goals as goal
 
 pub invariant_of-self : goal.invariant_of-self
@@ -30,11 +29,14 @@ invariant_of-self c =
       purgeable = subst (λ (z : ZoneState). AreMarked may_go z c.set-2.new.self) (sym c.empty.ensures)
           (subst (AreMarked may_go (without_block c.args.handle z)) (sym (c.set-2.ensures ∙ ap (λ p. set c.self.inside.purgeable p 0) p.value))
           (emptied-marked goes z c.self.inside.purgeable c.self.invariant.purgeable c.args.handle c.block_of-at.result p.sizes c.block_of-at.ensures p.inside));
-      rooms = subst (λ (z : ZoneState). AreRooms z c.touch.new.self) (sym c.empty.ensures)
-          (rooms-other c.self.inside.zone _ c.block_of-at.result c.self.inside.rooms c.touch.new.self c.self.invariant.rooms other
-          (touched-first c.self.inside.rooms c.touch.new.self c.block_of-at.result c.self.view_is c.leaf-leaf.ensures.value c.touch.ensures.sums c.touch.ensures.here c.touch.ensures.others));
+      leaves = subst (λ (z : ZoneState). AreLeaves z c.touch.new.self) (sym c.empty.ensures)
+          (leaves-other c.self.inside.zone _ c.block_of-at.result c.self.inside.leaves c.touch.new.self c.self.invariant.leaves other
+          (touched-first c.self.inside.leaves c.touch.new.self c.block_of-at.result c.self.view_is c.leaf-leaf.ensures.value c.touch.ensures));
       pages = pages-kept c.forget.new.self c.empty.ensures
           (pages-other c.self.inside.zone _ c.block_of-at.result c.self.inside.pages c.forget.new.self c.self.invariant.pages other
           (forgets-read c.block_of-at.result c.block_of-at.result c.self.view_is c.page-page.ensures.value c.page-page.ensures.value c.forget.ensures));
       lengths = lengths-of c.note.new.self c.empty.ensures (lengths-given c.self.inside.zone.heap.table c.self.inside.lengths c.note.new.self c.args.handle c.number.result 0 c.number.ensures c.self.invariant.lengths c.note.ensures EmptyHandle refl);
     }
+
+pub touch-requires : goal.touch-requires
+touch-requires c = leaf-there c.self.inside.zone c.args.self.now c.self.view_is _ c.self.inside.leaves c.self.invariant.leaves c.leaf-leaf.ensures.inside

@@ -4,13 +4,12 @@ use Rattle.zone_index.specs.Marks.{AreMarked}
 use Rattle.zone_index.proofs.Exchanged.{extended-marked}
 use Rattle.zone_index.proofs.Rules.{Rule, fixes, goes}
 use Rattle.mac_base.specs.ZoneMap.{address_behind}
-use Rattle.zone_index.specs.Rooms.{AreRooms}
+use Rattle.zone_index.specs.LeafSums.{AreLeaves}
 use Rattle.zone_index.proofs.Known.{size-known}
 use Rattle.zone_index.proofs.PagesKept.{forgets-read, pages-kept}
 use Rattle.zone_index.proofs.Changing.{pages-extended}
 use Rattle.zone_index.proofs.Measured.{lengths-of}
-use Rattle.zone_index.proofs.RoomsRenewed.{touched-first}
-use Rattle.zone_index.proofs.RoomsChanged.{rooms-extended}
+use Rattle.zone_index.proofs.LeavesChanged.{leaf-there, leaves-extended, touched-first}
 use Rattle.zone_index.proofs.zone.IndexedZone.extend.Goals as goal
 
 pub invariant_of-self : goal.invariant_of-self
@@ -22,11 +21,14 @@ invariant_of-self c =
     let end : c.base-base.result + c.size.result ≡ address_behind c.self.inside.zone.shape c.self.inside.zone.heap.map = omega arith in record {
       fixed = keep fixes _ c.self.invariant.fixed;
       purgeable = keep goes _ c.self.invariant.purgeable;
-      rooms = subst (λ (z : ZoneState). AreRooms z c.touch.new.self) (sym c.extend.ensures)
-          (rooms-extended c.self.inside.zone c.self.inside.rooms c.touch.new.self c.self.invariant.rooms end
-          (touched-first c.self.inside.rooms c.touch.new.self (c.base-base.result + c.size.result) c.self.view_is c.leaf_at-leaf.ensures.value c.touch.ensures.sums c.touch.ensures.here c.touch.ensures.others));
+      leaves = subst (λ (z : ZoneState). AreLeaves z c.touch.new.self) (sym c.extend.ensures)
+          (leaves-extended c.self.inside.zone c.self.inside.leaves c.touch.new.self c.self.invariant.leaves end
+          (touched-first c.self.inside.leaves c.touch.new.self (c.base-base.result + c.size.result) c.self.view_is c.leaf_at-leaf.ensures.value c.touch.ensures));
       pages = pages-kept c.forget.new.self c.extend.ensures
           (pages-extended c.self.inside.zone c.self.inside.pages c.forget.new.self c.self.invariant.pages end
           (forgets-read (c.base-base.result + c.size.result) (c.base-base.result + c.size.result) c.self.view_is c.page_at-page.ensures.value c.page_at-page.ensures.value c.forget.ensures));
       lengths = lengths-of c.self.inside.lengths c.extend.ensures c.self.invariant.lengths;
     }
+
+pub touch-requires : goal.touch-requires
+touch-requires c = leaf-there c.self.inside.zone c.args.self.now c.self.view_is _ c.self.inside.leaves c.self.invariant.leaves c.leaf_at-leaf.ensures.inside

@@ -9,14 +9,15 @@ use Rattle.mac_base.specs.declared.block.Kind.TheVariants.{Free}
 use Rattle.mac_base.specs.HandleTable.{has_block}
 use Rattle.mac_base.specs.ZoneMap.{address_behind, block}
 use Rattle.linked_zone.specs.Fit.{Fits}
-use Rattle.zone_index.specs.Rooms.{AreRooms, leaf}
+use Rattle.zone_index.specs.LeafSums.{AreLeaves}
+use Rattle.zone_index.specs.Leaves.{leaf}
 use Rattle.mac_base.specs.declared.block.Entry.{Entry}
 use Rattle.zone_index.proofs.Named.{named-owner}
 use Rattle.zone_index.proofs.PagesKept.{forgets-read, named-place, named-reach, pages-kept}
 use Rattle.zone_index.proofs.Changing.{pages-grown}
 use Rattle.zone_index.proofs.Measured.{lengths-of, lengths-sized}
-use Rattle.zone_index.proofs.RoomsRenewed.{touched-first, touched-next}
-use Rattle.zone_index.proofs.RoomsChanged.{grown-entry, rooms-grown}
+use Rattle.zone_index.proofs.LeavesChanged.{leaf-there, leaf-touched, leaves-grown, touched-first, touched-next}
+use Rattle.zone_index.proofs.SumsChanged.{grown-entry}
 use Rattle.zone_index.proofs.Fronts.{entry-high}
 use Rattle.zone_index.proofs.zone.IndexedZone.grow.Goals as goal
 use Rattle.zone_index.proofs.zone.IndexedZone.grow.Goals.{After-page-first}
@@ -42,11 +43,11 @@ invariant_of-self c =
     let place = named-place c.self.inside.zone c.args.block c.place_of-at.result fits c.place_of-at.ensures can.before can.here (block Free can.free ∷ can.behind) can.map can.named in record {
       fixed = keep fixes _ c.self.invariant.fixed;
       purgeable = keep goes _ c.self.invariant.purgeable;
-      rooms = (let read = ap (λ (e : Entry). e.size) (c.entry_at.ensures (grown-entry c.self.inside.zone can place)) in
+      leaves = (let read = ap (λ (e : Entry). e.size) (c.entry_at.ensures (grown-entry c.self.inside.zone can place)) in
           let middle = subst (λ n. c.leaf_at-middle.result ≡ leaf c.args.self.now.shape (c.place_of-at.result + n)) read c.leaf_at-middle.ensures.value in
-          subst (λ (z : ZoneState). AreRooms z c.touch-3.new.self) (sym (c.grow.ensures can))
-          (rooms-grown c.self.inside.zone c.self.inside.rooms c.touch-3.new.self c.self.invariant.rooms can place
-          (touched-next c.self.inside.rooms c.touch-2.new.self c.touch-3.new.self (c.place_of-at.result + c.args.size) (touched-next c.self.inside.rooms c.touch.new.self c.touch-2.new.self (c.place_of-at.result + can.here.size) (touched-first c.self.inside.rooms c.touch.new.self c.place_of-at.result c.self.view_is c.leaf-low.ensures.value c.touch.ensures.sums c.touch.ensures.here c.touch.ensures.others) c.self.view_is middle c.touch-2.ensures.sums c.touch-2.ensures.here c.touch-2.ensures.others) c.self.view_is c.leaf_at-high.ensures.value c.touch-3.ensures.sums c.touch-3.ensures.here c.touch-3.ensures.others)));
+          subst (λ (z : ZoneState). AreLeaves z c.touch-3.new.self) (sym (c.grow.ensures can))
+          (leaves-grown c.self.inside.zone c.self.inside.leaves c.touch-3.new.self c.self.invariant.leaves can place
+          (touched-next c.self.inside.leaves c.touch-2.new.self c.touch-3.new.self (c.place_of-at.result + c.args.size) (touched-next c.self.inside.leaves c.touch.new.self c.touch-2.new.self (c.place_of-at.result + can.here.size) (touched-first c.self.inside.leaves c.touch.new.self c.place_of-at.result c.self.view_is c.leaf-low.ensures.value c.touch.ensures) c.self.view_is middle c.touch-2.ensures) c.self.view_is c.leaf_at-high.ensures.value c.touch-3.ensures)));
       pages = pages-kept c.forget.new.self (c.grow.ensures can)
           (pages-grown c.self.inside.zone c.self.inside.pages c.forget.new.self c.self.invariant.pages can place
           (forgets-read c.place_of-at.result (c.place_of-at.result + c.args.size) c.self.view_is c.page-first.ensures.value c.page_at-last.ensures.value c.forget.ensures));
@@ -95,3 +96,12 @@ leaf_at-middle-requires-clause-high c =
     let read = ap (λ (e : Entry). e.size) (subst (λ (z : ZoneState). (e : EntryAt z c.place_of-at.result) → c.entry_at.result ≡ e.here) c.self.view_is c.entry_at.ensures e) in
     let high = entry-high c.args.self.now c.place_of-at.result e in
     omega arith
+
+pub touch-requires : goal.touch-requires
+touch-requires c = leaf-there c.self.inside.zone c.args.self.now c.self.view_is _ c.self.inside.leaves c.self.invariant.leaves c.leaf-low.ensures.inside
+
+pub touch-requires-2 : goal.touch-requires-2
+touch-requires-2 c = leaf-touched _ _ c.self.inside.leaves c.touch.new.self c.touch.ensures (leaf-there c.self.inside.zone c.args.self.now c.self.view_is _ c.self.inside.leaves c.self.invariant.leaves c.leaf_at-middle.ensures.inside)
+
+pub touch-requires-3 : goal.touch-requires-3
+touch-requires-3 c = leaf-touched _ _ c.touch.new.self c.touch-2.new.self c.touch-2.ensures (leaf-touched _ _ c.self.inside.leaves c.touch.new.self c.touch.ensures (leaf-there c.self.inside.zone c.args.self.now c.self.view_is _ c.self.inside.leaves c.self.invariant.leaves c.leaf_at-high.ensures.inside))

@@ -8,13 +8,12 @@ use Rattle.zone_index.proofs.Exchanged.{held-marked}
 use Rattle.zone_index.proofs.Rules.{Rule, fixes, goes}
 use Rattle.mac_base.specs.HandleTable.{has_block}
 use Rattle.linked_zone.specs.Fit.{Fits}
-use Rattle.zone_index.specs.Rooms.{AreRooms}
+use Rattle.zone_index.specs.LeafSums.{AreLeaves}
 use Rattle.zone_index.proofs.Named.{named-owner}
 use Rattle.zone_index.proofs.PagesKept.{forgets-read, named-place, named-reach, pages-kept}
 use Rattle.zone_index.proofs.Changing.{pages-held}
 use Rattle.zone_index.proofs.Measured.{lengths-of, lengths-sized}
-use Rattle.zone_index.proofs.RoomsRenewed.{touched-first, touched-next}
-use Rattle.zone_index.proofs.RoomsChanged.{rooms-held}
+use Rattle.zone_index.proofs.LeavesChanged.{leaf-there, leaf-touched, leaves-held, touched-first, touched-next}
 use Rattle.zone_index.proofs.zone.IndexedZone.hold.Goals as goal
 use Rattle.zone_index.proofs.zone.IndexedZone.hold.Goals.{After-page-first}
 
@@ -35,9 +34,9 @@ invariant_of-self c =
     let place = named-place c.self.inside.zone c.args.block c.place_of-at.result fits c.place_of-at.ensures can.before can.here can.behind can.map can.named in record {
       fixed = keep fixes _ c.self.invariant.fixed;
       purgeable = keep goes _ c.self.invariant.purgeable;
-      rooms = subst (λ (z : ZoneState). AreRooms z c.touch-2.new.self) (sym (c.hold.ensures can))
-          (rooms-held c.self.inside.zone c.self.inside.rooms c.touch-2.new.self c.self.invariant.rooms can place
-          (touched-next c.self.inside.rooms c.touch.new.self c.touch-2.new.self (c.place_of-at.result + c.args.size) (touched-first c.self.inside.rooms c.touch.new.self c.place_of-at.result c.self.view_is c.leaf-low.ensures.value c.touch.ensures.sums c.touch.ensures.here c.touch.ensures.others) c.self.view_is c.leaf_at-high.ensures.value c.touch-2.ensures.sums c.touch-2.ensures.here c.touch-2.ensures.others));
+      leaves = subst (λ (z : ZoneState). AreLeaves z c.touch-2.new.self) (sym (c.hold.ensures can))
+          (leaves-held c.self.inside.zone c.self.inside.leaves c.touch-2.new.self c.self.invariant.leaves can place
+          (touched-next c.self.inside.leaves c.touch.new.self c.touch-2.new.self (c.place_of-at.result + c.args.size) (touched-first c.self.inside.leaves c.touch.new.self c.place_of-at.result c.self.view_is c.leaf-low.ensures.value c.touch.ensures) c.self.view_is c.leaf_at-high.ensures.value c.touch-2.ensures));
       pages = pages-kept c.forget.new.self (c.hold.ensures can)
           (pages-held c.self.inside.zone c.self.inside.pages c.forget.new.self c.self.invariant.pages can place
           (forgets-read c.place_of-at.result (c.place_of-at.result + c.args.size) c.self.view_is c.page-first.ensures.value c.page_at-last.ensures.value c.forget.ensures));
@@ -63,3 +62,9 @@ page_at-last-requires c = let p = (goal.at.page_at-last-requires c).After-page-f
 
 pub leaf_at-high-requires : goal.leaf_at-high-requires
 leaf_at-high-requires c = let p = (goal.at.leaf_at-high-requires c).After-page-first in record { low = (let place = (named p).place in omega arith); high = high p }
+
+pub touch-requires : goal.touch-requires
+touch-requires c = leaf-there c.self.inside.zone c.args.self.now c.self.view_is _ c.self.inside.leaves c.self.invariant.leaves c.leaf-low.ensures.inside
+
+pub touch-requires-2 : goal.touch-requires-2
+touch-requires-2 c = leaf-touched _ _ c.self.inside.leaves c.touch.new.self c.touch.ensures (leaf-there c.self.inside.zone c.args.self.now c.self.view_is _ c.self.inside.leaves c.self.invariant.leaves c.leaf_at-high.ensures.inside)

@@ -5,7 +5,8 @@ use Rattle.linked_zone.specs.Places.{FreePair, FreeAt}
 use Rattle.zone_index.specs.Marks.{AreMarked}
 use Rattle.zone_index.proofs.Exchanged.{joined-marked}
 use Rattle.zone_index.proofs.Rules.{Rule, fixes, goes}
-use Rattle.zone_index.specs.Rooms.{AreRooms, leaf}
+use Rattle.zone_index.specs.LeafSums.{AreLeaves}
+use Rattle.zone_index.specs.Leaves.{leaf}
 use Rattle.mac_base.specs.declared.block.Kind.TheVariants.{Free}
 use Rattle.mac_base.specs.ZoneMap.{address_behind, block}
 use Rattle.zone_index.specs.Pages.{page}
@@ -13,8 +14,7 @@ use Rattle.zone_index.proofs.PagesKept.{forgets-read, pages-kept, part-ends}
 use Rattle.zone_index.proofs.Changed.{first_free}
 use Rattle.zone_index.proofs.Changing.{pages-merge}
 use Rattle.zone_index.proofs.Measured.{lengths-of}
-use Rattle.zone_index.proofs.RoomsRenewed.{touched-first, touched-next}
-use Rattle.zone_index.proofs.RoomsChanged.{rooms-merge}
+use Rattle.zone_index.proofs.LeavesChanged.{leaf-there, leaf-touched, leaves-merge, touched-first, touched-next}
 use Rattle.zone_index.proofs.zone.IndexedZone.merge.Goals as goal
 use Rattle.zone_index.proofs.zone.IndexedZone.merge.Goals.{After-free_size}
 
@@ -34,9 +34,9 @@ invariant_of-self c =
     let size = c.free_size.ensures (first_free c.self.inside.zone pair) in record {
       fixed = keep fixes _ c.self.invariant.fixed;
       purgeable = keep goes _ c.self.invariant.purgeable;
-      rooms = subst (λ (z : ZoneState). AreRooms z c.touch-2.new.self) (sym (c.merge.ensures pair))
-          (rooms-merge c.self.inside.zone c.self.inside.rooms c.touch-2.new.self c.self.invariant.rooms pair
-          (touched-next c.self.inside.rooms c.touch.new.self c.touch-2.new.self (c.args.at + pair.first) (touched-first c.self.inside.rooms c.touch.new.self c.args.at c.self.view_is c.leaf-low.ensures.value c.touch.ensures.sums c.touch.ensures.here c.touch.ensures.others) c.self.view_is (subst (λ n. c.leaf_at-high.result ≡ leaf c.args.self.now.shape (c.args.at + n)) size c.leaf_at-high.ensures.value) c.touch-2.ensures.sums c.touch-2.ensures.here c.touch-2.ensures.others));
+      leaves = subst (λ (z : ZoneState). AreLeaves z c.touch-2.new.self) (sym (c.merge.ensures pair))
+          (leaves-merge c.self.inside.zone c.self.inside.leaves c.touch-2.new.self c.self.invariant.leaves pair
+          (touched-next c.self.inside.leaves c.touch.new.self c.touch-2.new.self (c.args.at + pair.first) (touched-first c.self.inside.leaves c.touch.new.self c.args.at c.self.view_is c.leaf-low.ensures.value c.touch.ensures) c.self.view_is (subst (λ n. c.leaf_at-high.result ≡ leaf c.args.self.now.shape (c.args.at + n)) size c.leaf_at-high.ensures.value) c.touch-2.ensures));
       pages = pages-kept c.forget.new.self (c.merge.ensures pair)
           (pages-merge c.self.inside.zone c.self.inside.pages c.forget.new.self c.self.invariant.pages pair
           (forgets-read c.args.at (c.args.at + pair.first) c.self.view_is c.page-first.ensures.value
@@ -56,3 +56,9 @@ page_at-last-requires-clause-high c = high (goal.at.page_at-last-requires-clause
 
 pub leaf_at-high-requires-clause-high : goal.leaf_at-high-requires-clause-high
 leaf_at-high-requires-clause-high c = high (goal.at.leaf_at-high-requires-clause-high c).After-free_size
+
+pub touch-requires : goal.touch-requires
+touch-requires c = leaf-there c.self.inside.zone c.args.self.now c.self.view_is _ c.self.inside.leaves c.self.invariant.leaves c.leaf-low.ensures.inside
+
+pub touch-requires-2 : goal.touch-requires-2
+touch-requires-2 c = leaf-touched _ _ c.self.inside.leaves c.touch.new.self c.touch.ensures (leaf-there c.self.inside.zone c.args.self.now c.self.view_is _ c.self.inside.leaves c.self.invariant.leaves c.leaf_at-high.ensures.inside)

@@ -6,14 +6,13 @@ use Rattle.zone_index.specs.Marks.{AreMarked}
 use Rattle.zone_index.proofs.Exchanged.{pointed-marked}
 use Rattle.zone_index.proofs.Rules.{Rule, fixes, goes}
 use Rattle.mac_base.specs.HandleTable.{EmptyHandle, live_at, FullHandle, no_flags, zeros}
-use Rattle.zone_index.specs.Rooms.{AreRooms}
+use Rattle.zone_index.specs.LeafSums.{AreLeaves}
 use Rattle.zone_index.proofs.Changed.{pointed-other}
 use Rattle.zone_index.proofs.Changing.{pages-other}
 use Rattle.zone_index.proofs.PagesKept.{forgets-read, pages-kept}
 use Rattle.std.proofs.lemmas.List.{length-replicate}
 use Rattle.zone_index.proofs.Measured.{lengths-given, lengths-of}
-use Rattle.zone_index.proofs.RoomsRenewed.{touched-first}
-use Rattle.zone_index.proofs.RoomsChanged.{rooms-other}
+use Rattle.zone_index.proofs.LeavesChanged.{leaf-there, leaves-other, touched-first}
 use Rattle.zone_index.proofs.zone.IndexedZone.point.Goals as goal
 
 pub invariant_of-self : goal.invariant_of-self
@@ -24,9 +23,9 @@ invariant_of-self c =
     let other = pointed-other c.self.inside.zone room.free c.args.handle c.args.length empty in record {
       fixed = keep fixes _ c.self.invariant.fixed;
       purgeable = keep goes _ c.self.invariant.purgeable;
-      rooms = subst (λ (z : ZoneState). AreRooms z c.touch.new.self) (sym (c.point.ensures room))
-          (rooms-other c.self.inside.zone _ c.args.at c.self.inside.rooms c.touch.new.self c.self.invariant.rooms other
-          (touched-first c.self.inside.rooms c.touch.new.self c.args.at c.self.view_is c.leaf-leaf.ensures.value c.touch.ensures.sums c.touch.ensures.here c.touch.ensures.others));
+      leaves = subst (λ (z : ZoneState). AreLeaves z c.touch.new.self) (sym (c.point.ensures room))
+          (leaves-other c.self.inside.zone _ c.args.at c.self.inside.leaves c.touch.new.self c.self.invariant.leaves other
+          (touched-first c.self.inside.leaves c.touch.new.self c.args.at c.self.view_is c.leaf-leaf.ensures.value c.touch.ensures));
       pages = pages-kept c.forget.new.self (c.point.ensures room)
           (pages-other c.self.inside.zone _ c.args.at c.self.inside.pages c.forget.new.self c.self.invariant.pages other
           (forgets-read c.args.at c.args.at c.self.view_is c.page-page.ensures.value c.page-page.ensures.value c.forget.ensures));
@@ -37,3 +36,6 @@ invariant_of-self c =
 pub returns : goal.returns
 returns c =
     subst (λ (z : ZoneState). (r : RoomFor z c.args.at c.args.length) → c.point.new.self ≡ pointed c.args.handle c.args.length z r.free) c.self.view_is c.point.ensures
+
+pub touch-requires : goal.touch-requires
+touch-requires c = leaf-there c.self.inside.zone c.args.self.now c.self.view_is _ c.self.inside.leaves c.self.invariant.leaves c.leaf-leaf.ensures.inside

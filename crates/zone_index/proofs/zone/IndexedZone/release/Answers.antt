@@ -4,12 +4,12 @@ use Rattle.zone_index.specs.Marks.{AreMarked}
 use Rattle.zone_index.proofs.Table.{given_back-marked}
 use Rattle.zone_index.proofs.Rules.{Rule, fixes, goes}
 use Rattle.mac_base.specs.HandleTable.{EmptyHandle, live_at, without}
-use Rattle.zone_index.specs.Rooms.{AreRooms}
+use Rattle.zone_index.specs.LeafSums.{AreLeaves}
 use Rattle.zone_index.specs.Pages.{ArePages}
 use Rattle.zone_index.proofs.Changed.{released-weights}
 use Rattle.zone_index.proofs.PagesRenewed.{pages-still}
 use Rattle.zone_index.proofs.Measured.{lengths-of, lengths-kept, same-without}
-use Rattle.zone_index.proofs.RoomsRenewed.{rooms-still}
+use Rattle.zone_index.proofs.LeavesChanged.{leaves-still}
 use Rattle.zone_index.proofs.zone.IndexedZone.release.Goals as goal
 
 pub invariant_of-self : goal.invariant_of-self
@@ -18,7 +18,7 @@ invariant_of-self c =
     let empty = subst (λ (z : ZoneState). live_at z.heap.table c.args.handle ≡ Some EmptyHandle) (sym c.self.view_is) c.requires in record {
       fixed = keep fixes _ c.self.invariant.fixed;
       purgeable = keep goes _ c.self.invariant.purgeable;
-      rooms = subst (λ (z : ZoneState). AreRooms z c.self.inside.rooms) (sym c.release.ensures) (rooms-still c.self.inside.zone _ c.self.inside.rooms c.self.invariant.rooms refl (released-weights c.self.inside.zone c.args.handle empty));
+      leaves = subst (λ (z : ZoneState). AreLeaves z c.self.inside.leaves) (sym c.release.ensures) (leaves-still c.self.inside.zone _ c.self.inside.leaves c.self.invariant.leaves refl (released-weights c.self.inside.zone c.args.handle empty));
       pages = subst (λ (z : ZoneState). ArePages z c.self.inside.pages) (sym c.release.ensures) (pages-still c.self.inside.zone _ c.self.inside.pages c.self.invariant.pages refl (released-weights c.self.inside.zone c.args.handle empty));
       lengths = (let empty = subst (λ (z : ZoneState). live_at z.heap.table c.args.handle ≡ Some EmptyHandle) (sym c.self.view_is) c.requires in lengths-of c.self.inside.lengths c.release.ensures (lengths-kept c.self.inside.zone.heap.table (without c.args.handle c.self.inside.zone.heap.table) c.self.inside.lengths c.self.invariant.lengths (same-without c.args.handle c.self.inside.zone.heap.table empty)));
     }

@@ -9,13 +9,12 @@ use Rattle.zone_index.specs.Marks.{AreMarked}
 use Rattle.zone_index.specs.Purging.{may_go}
 use Rattle.zone_index.proofs.Freed.{moved-marked, relocated-marked}
 use Rattle.zone_index.proofs.Placed.{placed}
-use Rattle.zone_index.specs.Rooms.{AreRooms}
+use Rattle.zone_index.specs.LeafSums.{AreLeaves}
 use Rattle.linked_zone.specs.Fit.{Fits}
 use Rattle.zone_index.proofs.Changing.{pages-relocated}
 use Rattle.zone_index.proofs.PagesKept.{forgets-read, pages-kept}
 use Rattle.zone_index.proofs.Measured.{lengths-of, lengths-sized}
-use Rattle.zone_index.proofs.RoomsRenewed.{touched-first}
-use Rattle.zone_index.proofs.RoomsChanged.{rooms-relocated}
+use Rattle.zone_index.proofs.LeavesChanged.{leaf-there, leaf-touched, leaves-relocated, touched-first}
 use Rattle.zone_index.proofs.zone.IndexedZone.relocate.Goals as goal
 
 pub invariant_of-self : goal.invariant_of-self
@@ -34,11 +33,11 @@ invariant_of-self c =
       purgeable = subst (λ (z : ZoneState). AreMarked may_go z c.set-2.new.self) (sym (c.relocate.ensures room))
           (subst (AreMarked may_go (relocated c.args.handle c.args.length z room.free)) (sym both)
           (moved-marked z marks c.self.invariant.purgeable old.sizes c.args.handle c.args.length c.block_of-from.result c.args.at room.free c.block_of-from.ensures old.inside new.inside));
-      rooms = subst (λ (z : ZoneState). AreRooms z c.touch-2.new.self) (sym (c.relocate.ensures room))
-          (rooms-relocated c.self.inside.zone c.self.inside.rooms c.touch.new.self c.self.invariant.rooms c.block_of-from.result
-          (touched-first c.self.inside.rooms c.touch.new.self c.block_of-from.result c.self.view_is c.leaf-from_leaf.ensures.value c.touch.ensures.sums c.touch.ensures.here c.touch.ensures.others)
+      leaves = subst (λ (z : ZoneState). AreLeaves z c.touch-2.new.self) (sym (c.relocate.ensures room))
+          (leaves-relocated c.self.inside.zone c.self.inside.leaves c.touch.new.self c.self.invariant.leaves c.block_of-from.result
+          (touched-first c.self.inside.leaves c.touch.new.self c.block_of-from.result c.self.view_is c.leaf-from_leaf.ensures.value c.touch.ensures)
           c.args.handle c.args.length c.args.at c.touch-2.new.self room.free fits c.block_of-from.ensures
-          (touched-first c.touch.new.self c.touch-2.new.self c.args.at c.self.view_is c.leaf-to_leaf.ensures.value c.touch-2.ensures.sums c.touch-2.ensures.here c.touch-2.ensures.others));
+          (touched-first c.touch.new.self c.touch-2.new.self c.args.at c.self.view_is c.leaf-to_leaf.ensures.value c.touch-2.ensures));
       pages = pages-kept c.forget-2.new.self (c.relocate.ensures room)
           (pages-relocated c.self.inside.zone c.self.inside.pages c.forget.new.self c.self.invariant.pages c.block_of-from.result
           (forgets-read c.block_of-from.result c.block_of-from.result c.self.view_is c.page-from_page.ensures.value c.page-from_page.ensures.value c.forget.ensures)
@@ -51,3 +50,9 @@ invariant_of-self c =
 pub returns : goal.returns
 returns c =
     subst (λ (z : ZoneState). (r : RoomFor z c.args.at c.args.length) → c.relocate.new.self ≡ relocated c.args.handle c.args.length z r.free) c.self.view_is c.relocate.ensures
+
+pub touch-requires : goal.touch-requires
+touch-requires c = leaf-there c.self.inside.zone c.args.self.now c.self.view_is _ c.self.inside.leaves c.self.invariant.leaves c.leaf-from_leaf.ensures.inside
+
+pub touch-requires-2 : goal.touch-requires-2
+touch-requires-2 c = leaf-touched _ _ c.self.inside.leaves c.touch.new.self c.touch.ensures (leaf-there c.self.inside.zone c.args.self.now c.self.view_is _ c.self.inside.leaves c.self.invariant.leaves c.leaf-to_leaf.ensures.inside)

@@ -10,13 +10,12 @@ use Rattle.zone_index.proofs.Fresh.{flagged-marked}
 use Rattle.zone_index.proofs.Placed.{placed}
 use Rattle.zone_index.proofs.Rules.{fixes, goes}
 use Rattle.place_numbers.specs.Bits.{mark_of}
-use Rattle.zone_index.specs.Rooms.{AreRooms}
+use Rattle.zone_index.specs.LeafSums.{AreLeaves}
 use Rattle.zone_index.proofs.Changed.{flagged-other}
 use Rattle.zone_index.proofs.Changing.{pages-other}
 use Rattle.zone_index.proofs.PagesKept.{forgets-read, pages-kept}
 use Rattle.zone_index.proofs.Measured.{lengths-of, lengths-kept, same-with_flags}
-use Rattle.zone_index.proofs.RoomsRenewed.{touched-first}
-use Rattle.zone_index.proofs.RoomsChanged.{rooms-other}
+use Rattle.zone_index.proofs.LeavesChanged.{leaf-there, leaves-other, touched-first}
 use Rattle.zone_index.proofs.zone.IndexedZone.set_flags.Goals as goal
 
 pub invariant_of-self : goal.invariant_of-self
@@ -33,11 +32,14 @@ invariant_of-self c =
       purgeable = subst (λ (z : ZoneState). AreMarked may_go z c.set-2.new.self) (sym c.set_flags.ensures)
           (subst (AreMarked may_go (flagged c.args.handle c.args.flags z)) (sym (c.set-2.ensures ∙ ap (λ p. set c.self.inside.purgeable p (mark_of c.may_purge.result)) p.value))
           (flagged-marked goes z c.self.inside.purgeable c.self.invariant.purgeable c.args.handle c.block_of-at.result c.args.flags fits p.sizes full c.block_of-at.ensures p.inside (mark_of c.may_purge.result) (λ is. goes_now ∙ ap mark_of is) (λ is. goes_now ∙ ap mark_of is)));
-      rooms = subst (λ (z : ZoneState). AreRooms z c.touch.new.self) (sym c.set_flags.ensures)
-          (rooms-other c.self.inside.zone _ c.block_of-at.result c.self.inside.rooms c.touch.new.self c.self.invariant.rooms other
-          (touched-first c.self.inside.rooms c.touch.new.self c.block_of-at.result c.self.view_is c.leaf-leaf.ensures.value c.touch.ensures.sums c.touch.ensures.here c.touch.ensures.others));
+      leaves = subst (λ (z : ZoneState). AreLeaves z c.touch.new.self) (sym c.set_flags.ensures)
+          (leaves-other c.self.inside.zone _ c.block_of-at.result c.self.inside.leaves c.touch.new.self c.self.invariant.leaves other
+          (touched-first c.self.inside.leaves c.touch.new.self c.block_of-at.result c.self.view_is c.leaf-leaf.ensures.value c.touch.ensures));
       pages = pages-kept c.forget.new.self c.set_flags.ensures
           (pages-other c.self.inside.zone _ c.block_of-at.result c.self.inside.pages c.forget.new.self c.self.invariant.pages other
           (forgets-read c.block_of-at.result c.block_of-at.result c.self.view_is c.page-page.ensures.value c.page-page.ensures.value c.forget.ensures));
       lengths = lengths-of c.self.inside.lengths c.set_flags.ensures (lengths-kept c.self.inside.zone.heap.table (with_flags c.args.handle c.args.flags c.self.inside.zone.heap.table) c.self.inside.lengths c.self.invariant.lengths (same-with_flags c.args.handle c.args.flags c.self.inside.zone.heap.table));
     }
+
+pub touch-requires : goal.touch-requires
+touch-requires c = leaf-there c.self.inside.zone c.args.self.now c.self.view_is _ c.self.inside.leaves c.self.invariant.leaves c.leaf-leaf.ensures.inside

@@ -1,4 +1,4 @@
-use Rattle.std.proofs.Common.{◌≤◌, ◌≡◌, ◌-◌, ◌/◌, ap, sym, subst, arith, [], ◌∷◌, ◌++◌, IsTrue, ◌+◌, ◌∙◌, List, length}
+use Rattle.std.proofs.Common.{◌≤◌, ◌≡◌, ◌-◌, ◌/◌, ap, sym, subst, arith, [], ◌∷◌, ◌++◌, IsTrue, ◌+◌}
 use Rattle.std.specs.Prelude.{IsTrue, [], ◌∷◌, ◌++◌}
 use Rattle.mac_base.specs.declared.block.Entry.{Entry}
 use Rattle.mac_base.specs.Gap.{is_fixed}
@@ -12,16 +12,15 @@ use Rattle.zone_index.specs.Runs.{none_fixed}
 use Rattle.zone_index.proofs.Exchanged.{sunk-marked}
 use Rattle.zone_index.proofs.Placed.{placed}
 use Rattle.zone_index.proofs.Turned.{last-entry, run-entry, sunk-fits, sunk-turned}
-use Rattle.zone_index.specs.Rooms.{AreRooms}
+use Rattle.zone_index.specs.LeafSums.{AreLeaves}
 use Rattle.zone_index.specs.Pages.{page}
 use Rattle.zone_index.proofs.PagesKept.{forgets-read, pages-kept, part-ends}
 use Rattle.zone_index.proofs.Changed.{last_entry}
 use Rattle.zone_index.proofs.Changing.{pages-sink}
 use Rattle.zone_index.proofs.Measured.{lengths-of}
 use Rattle.zone_laws.proofs.Maps.{total_size-append}
-use Rattle.zone_index.proofs.RoomsRenewed.{leaf-there, touched-first, touched-next}
-use Rattle.zone_index.proofs.RoomsChanged.{none_fixed-first, run_split, rooms-sink}
-use Rattle.block_sums.specs.declared.span.Span.{Span}
+use Rattle.zone_index.proofs.LeavesChanged.{leaf-same, leaf-there, leaf-touched, leaves-sink, touched-first, touched-next}
+use Rattle.zone_index.proofs.SumsChanged.{none_fixed-first, run_split}
 use Rattle.zone_index.proofs.zone.IndexedZone.sink.Goals as goal
 use Rattle.zone_index.proofs.zone.IndexedZone.sink.Goals.{After-entry_at-size, After-page-from}
 
@@ -51,10 +50,10 @@ invariant_of-self c =
       fixed = subst (λ (z : ZoneState). AreMarked is_fixed z c.self.inside.marks) (sym (c.sink-2.ensures parcel)) (sunk-marked z c.self.inside.marks c.self.invariant.fixed c.args.start c.args.at parcel loose);
       purgeable = subst (λ (z : ZoneState). AreMarked may_go z c.sink.new.marks) (sym (c.sink-2.ensures parcel))
           (sunk-turned may_go z c.self.inside.purgeable c.sink.new.marks c.self.invariant.purgeable p.sizes c.args.start c.args.at parcel _ _ _ p.value (ap (λ n. n / 4) size) (ap (λ n. n / 4) run) c.sink.ensures);
-      rooms = (let passed = c.pass.ensures.passed in
-          subst (λ (z : ZoneState). AreRooms z c.touch-2.new.self) (sym (c.sink-2.ensures parcel))
-          (rooms-sink z c.self.inside.rooms c.pass.new.rooms c.touch-2.new.self c.self.invariant.rooms parcel (none_fixed-first z.heap.table parcel.blocks (parcel.here ∷ []) loose) c.pass.ensures.sums (passed (run_split z parcel))
-          (touched-next c.pass.new.rooms c.touch.new.self c.touch-2.new.self c.args.start (touched-first c.pass.new.rooms c.touch.new.self c.args.at c.self.view_is c.leaf-old.ensures.value c.touch.ensures.sums c.touch.ensures.here c.touch.ensures.others) c.self.view_is c.leaf-new.ensures.value c.touch-2.ensures.sums c.touch-2.ensures.here c.touch-2.ensures.others)));
+      leaves = (let passed = c.pass.ensures.passed in
+          subst (λ (z : ZoneState). AreLeaves z c.touch-2.new.self) (sym (c.sink-2.ensures parcel))
+          (leaves-sink z c.self.inside.leaves c.pass.new.leaves c.touch-2.new.self c.self.invariant.leaves c.pass.ensures.sums parcel (none_fixed-first z.heap.table parcel.blocks (parcel.here ∷ []) loose) (passed (run_split z parcel))
+          (touched-next c.pass.new.leaves c.touch.new.self c.touch-2.new.self c.args.start (touched-first c.pass.new.leaves c.touch.new.self c.args.at c.self.view_is c.leaf-old.ensures.value c.touch.ensures) c.self.view_is c.leaf-new.ensures.value c.touch-2.ensures)));
       pages = (let size = ap (λ (e : Entry). e.size) (c.entry_at-size.ensures (last_entry c.self.inside.zone parcel)) in
           pages-kept c.forget.new.self (c.sink-2.ensures parcel)
           (pages-sink c.self.inside.zone c.self.inside.pages c.forget.new.self c.self.invariant.pages parcel
@@ -105,7 +104,7 @@ pub pass-requires : goal.pass-requires
 pass-requires c = run_split c.self.inside.zone (subst (λ (z : ZoneState). ParcelUpTo z c.args.start c.args.at) (sym c.self.view_is) c.requires.parcel)
 
 pub touch-requires : goal.touch-requires
-touch-requires c = leaf-there c.self.inside.zone c.args.self.now c.self.view_is _ _ c.leaf-old.ensures.inside (ap (λ (xs : List Span). length xs) c.pass.ensures.sums ∙ c.self.invariant.rooms.places)
+touch-requires c = leaf-same _ c.self.inside.leaves c.pass.new.leaves c.pass.ensures.sums (leaf-there c.self.inside.zone c.args.self.now c.self.view_is _ c.self.inside.leaves c.self.invariant.leaves c.leaf-old.ensures.inside)
 
 pub touch-requires-2 : goal.touch-requires-2
-touch-requires-2 c = leaf-there c.self.inside.zone c.args.self.now c.self.view_is _ _ c.leaf-new.ensures.inside (ap (λ (xs : List Span). length xs) (c.touch.ensures.sums ∙ c.pass.ensures.sums) ∙ c.self.invariant.rooms.places)
+touch-requires-2 c = leaf-touched _ _ c.pass.new.leaves c.touch.new.self c.touch.ensures (leaf-same _ c.self.inside.leaves c.pass.new.leaves c.pass.ensures.sums (leaf-there c.self.inside.zone c.args.self.now c.self.view_is _ c.self.inside.leaves c.self.invariant.leaves c.leaf-new.ensures.inside))

@@ -4,7 +4,7 @@ use Rattle.mac_base.specs.Sound.{Sound}
 use Rattle.mac_base.specs.ZoneState.{ZoneState}
 use Rattle.linked_zone.specs.Sleeping.{FallsAsleep}
 use Rattle.linked_zone.proofs.Structured.{differ-slept}
-use Rattle.zone_index.proofs.Refilled.{fixed-refilled, lengths-refilled, pages-refilled, purgeable-refilled, rooms-refilled}
+use Rattle.zone_index.proofs.Refilled.{fixed-refilled, lengths-refilled, pages-refilled, purgeable-refilled, leaves-refilled}
 use Rattle.zone_index.proofs.zone.IndexedZone.sleep.Goals as goal
 
 pub invariant_of-self : goal.invariant_of-self
@@ -15,7 +15,7 @@ invariant_of-self c =
     let d = differ-slept z (subst (λ (z : ZoneState). Sound z.shape z.heap) was c.requires.sound) (subst (λ (z : ZoneState). z.heap.table.lent ≡ []) was c.requires.nothing_lent) c.sleep.result w c.sleep.ensures.asleep c.sleep.ensures.none in record {
       fixed = fixed-refilled z w d c.self.inside.marks c.self.invariant.fixed;
       purgeable = purgeable-refilled z w d c.self.inside.purgeable c.self.invariant.purgeable;
-      rooms = rooms-refilled z w d c.self.inside.rooms c.self.invariant.rooms;
+      leaves = leaves-refilled z w d c.self.inside.leaves c.self.invariant.leaves;
       pages = pages-refilled z w d c.self.inside.pages c.self.invariant.pages;
       lengths = lengths-refilled z w d c.self.inside.lengths c.self.invariant.lengths;
     }

@@ -9,14 +9,13 @@ use Rattle.mac_base.specs.ZoneState.{ZoneState}
 use Rattle.zone_index.specs.Marks.{AreMarked}
 use Rattle.zone_index.proofs.Placed.{placed}
 use Rattle.mac_base.specs.HandleTable.{is_pointer}
-use Rattle.zone_index.specs.Rooms.{AreRooms}
+use Rattle.zone_index.specs.LeafSums.{AreLeaves}
 use Rattle.linked_zone.specs.Fit.{Fits}
 use Rattle.zone_index.proofs.Changed.{unfixed-other}
 use Rattle.zone_index.proofs.Changing.{pages-other}
 use Rattle.zone_index.proofs.PagesKept.{forgets-read, pages-kept}
 use Rattle.zone_index.proofs.Measured.{lengths-of, lengths-out}
-use Rattle.zone_index.proofs.RoomsRenewed.{touched-first}
-use Rattle.zone_index.proofs.RoomsChanged.{rooms-other}
+use Rattle.zone_index.proofs.LeavesChanged.{leaf-there, leaves-other, touched-first}
 use Rattle.zone_index.proofs.zone.IndexedZone.unfix.Goals as goal
 
 pub invariant_of-self : goal.invariant_of-self
@@ -30,11 +29,14 @@ invariant_of-self c =
           (subst (AreMarked is_fixed (unfixed c.args.pointer c.self.inside.zone)) (sym (c.set.ensures ∙ ap (λ p. set c.self.inside.marks p 0) p.value))
           (unfixed-marked fixes c.self.inside.zone c.self.inside.marks c.self.invariant.fixed c.args.pointer c.place_of-at.result p.sizes (subst (λ x. NamedAt c.self.inside.zone x c.place_of-at.result) c.number.ensures c.place_of-at.ensures) p.inside));
       purgeable = subst (λ (z : ZoneState). AreMarked may_go z c.self.inside.purgeable) (sym c.unfix.ensures) (unfixed-kept goes c.self.inside.zone c.self.inside.purgeable c.self.invariant.purgeable c.args.pointer);
-      rooms = subst (λ (z : ZoneState). AreRooms z c.touch.new.self) (sym c.unfix.ensures)
-          (rooms-other c.self.inside.zone _ c.place_of-at.result c.self.inside.rooms c.touch.new.self c.self.invariant.rooms other
-          (touched-first c.self.inside.rooms c.touch.new.self c.place_of-at.result c.self.view_is c.leaf-leaf.ensures.value c.touch.ensures.sums c.touch.ensures.here c.touch.ensures.others));
+      leaves = subst (λ (z : ZoneState). AreLeaves z c.touch.new.self) (sym c.unfix.ensures)
+          (leaves-other c.self.inside.zone _ c.place_of-at.result c.self.inside.leaves c.touch.new.self c.self.invariant.leaves other
+          (touched-first c.self.inside.leaves c.touch.new.self c.place_of-at.result c.self.view_is c.leaf-leaf.ensures.value c.touch.ensures));
       pages = pages-kept c.forget.new.self c.unfix.ensures
           (pages-other c.self.inside.zone _ c.place_of-at.result c.self.inside.pages c.forget.new.self c.self.invariant.pages other
           (forgets-read c.place_of-at.result c.place_of-at.result c.self.view_is c.page-page.ensures.value c.page-page.ensures.value c.forget.ensures));
       lengths = lengths-of c.note.new.self c.unfix.ensures (lengths-out c.self.inside.zone.heap.table c.self.inside.lengths c.note.new.self c.args.pointer c.number-2.result 0 c.number-2.ensures c.self.invariant.lengths c.note.ensures refl);
     }
+
+pub touch-requires : goal.touch-requires
+touch-requires c = leaf-there c.self.inside.zone c.args.self.now c.self.view_is _ c.self.inside.leaves c.self.invariant.leaves c.leaf-leaf.ensures.inside

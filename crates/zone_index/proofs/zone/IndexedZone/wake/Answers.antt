@@ -3,7 +3,7 @@ use Rattle.mac_base.specs.Sound.{Sound}
 use Rattle.mac_base.specs.ZoneState.{ZoneState, woken_in}
 use Rattle.linked_zone.specs.Structure.{DifferInContents, HasStructure, SameFlags, shown}
 use Rattle.linked_zone.proofs.Structured.{differ}
-use Rattle.zone_index.proofs.Refilled.{fixed-refilled, lengths-refilled, pages-refilled, purgeable-refilled, rooms-refilled}
+use Rattle.zone_index.proofs.Refilled.{fixed-refilled, lengths-refilled, pages-refilled, purgeable-refilled, leaves-refilled}
 use Rattle.zone_index.proofs.zone.IndexedZone.wake.Goals as goal
 
 pub wake-requires-clause-same : goal.wake-requires-clause-same
@@ -22,7 +22,7 @@ invariant_of-self c =
     let d = subst (λ (w : ZoneState). DifferInContents z w) (sym c.wake.ensures) others in record {
       fixed = fixed-refilled z w d c.self.inside.marks c.self.invariant.fixed;
       purgeable = purgeable-refilled z w d c.self.inside.purgeable c.self.invariant.purgeable;
-      rooms = rooms-refilled z w d c.self.inside.rooms c.self.invariant.rooms;
+      leaves = leaves-refilled z w d c.self.inside.leaves c.self.invariant.leaves;
       pages = pages-refilled z w d c.self.inside.pages c.self.invariant.pages;
       lengths = lengths-refilled z w d c.self.inside.lengths c.self.invariant.lengths;
     }

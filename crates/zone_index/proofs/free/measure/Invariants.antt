@@ -1,0 +1,11 @@
+use Rattle.std.proofs.Common.{◌+◌, ◌*◌, ◌-◌}
+use Rattle.mac_base.specs.ZoneMap.{address_behind}
+use Rattle.zone_index.proofs.FreeWalk.{Counted}
+use Rattle.zone_index.proofs.free.measure.Given as goal
+
+abbrev pub invariant-loop-at : goal.invariant-loop-at
+invariant-loop-at l = Counted l.zone (256 * l.leaf) (256 * l.leaf + 256) l.from l.largest
+
+-- the bytes that are left
+abbrev pub decreases-loop-at : goal.decreases-loop-at
+decreases-loop-at l = address_behind l.zone.shape l.zone.heap.map - l.from
