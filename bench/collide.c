@@ -1,8 +1,10 @@
-/* Writes names of six letters and digits whose hashes agree, by the library's own hasher, in the 20 bits that tell entries of a table
-   apart: collide COUNT > NAMES, which takes minutes. A script that assigns them would compare each with thousands, if names were
-   hashed by that hasher; with ours it takes as long as any other:
+/* Writes names of six letters and digits whose hashes agree, by the library's own hasher, in the 20 bits that say which
+   entries of a table differ: collide COUNT > NAMES, which takes minutes. A script that assigns them would compare each
+   with thousands, if that hasher began with its own start; ours begins with a hash of the script's text, and takes as
+   long as for any other names:
 
-       cc -O3 bench/collide.c -o collide && ./collide 49000 | sed 's/$/=NewPtr 0/' | time macheap --zone 1048576 >/dev/null
+       cc -O3 bench/collide.c -o collide &&
+           ./collide 49000 | sed 's/$/=NewPtr 0/' | time macheap --zone 1048576 >/dev/null
 */
 #include <stdint.h>
 #include <stdio.h>

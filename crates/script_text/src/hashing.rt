@@ -1,12 +1,13 @@
 //! What hashes the names of a script.
 
-use std::hash::{BuildHasher, DefaultHasher, Hasher};
+use std::hash::{BuildHasher, DefaultHasher, FoldHasher, Hasher};
 
-/// Hashes the names of one script: by SipHash, behind a hash of the script's whole text. So which names collide follows from all that
-/// stands in the script, the names themselves among it. Nothing is promised of how many do.
+/// Hashes the names of one script: by a fast hash, which begins with the SipHash of the script's whole text. So which
+/// names collide follows from all that is in the script, the names themselves among it. Nothing is promised of how many
+/// do.
 #[derive(Clone, Copy)]
 pub struct NameHasher {
-    start: DefaultHasher,
+    start: FoldHasher,
 }
 
 impl NameHasher {
@@ -14,18 +15,18 @@ impl NameHasher {
     pub fn new(text: &[u8]) -> NameHasher {
         let mut whole = DefaultHasher::new();
         whole.write(text);
-        let mut start = DefaultHasher::new();
+        let mut start = FoldHasher::default();
         start.write_u64(whole.finish());
         NameHasher { start }
     }
 }
 
 impl BuildHasher for NameHasher {
-    type Hasher = DefaultHasher;
+    type Hasher = FoldHasher;
 
     ghost build_hasher = { λ hasher. hasher.start };
 
-    fn build_hasher(&self) -> DefaultHasher {
+    fn build_hasher(&self) -> FoldHasher {
         self.start
     }
 }
