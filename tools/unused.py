@@ -25,11 +25,11 @@ TOP = Path(__file__).resolve().parent.parent / "crates"
 ANSWERS = {"Answers", "Proof", "Invariants"}
 # worked examples, which are computed to check the definitions
 EXAMPLES = {
-    "call_laws.proofs.FirstStep",
-    "call_laws.proofs.Rows",
+    "zone_laws.proofs.FirstStep",
+    "zone_laws.proofs.Rows",
     "fork_bytes.proofs.Vectors",
     "script_lang.proofs.Replies",
-    "res_calls.proofs.Worked",
+    "res_update.proofs.Worked",
     "res_table.proofs.SameNames",
     "script_lang.proofs.Rows",
 }

@@ -1,4 +1,5 @@
--- A block that is carried past those behind it, or sinks past those before it: its bytes, the index, and what the list of blocks is then.
+-- A block that is carried past those behind it, or sinks past those before it: its bytes, the index, and what the list
+-- of blocks is then.
 use Rattle.std.proofs.Common.{◌≡◌, ℕ, ◌+◌, ◌-◌, ◌*◌, ◌/◌, ◌%◌, ◌≤◌, false, not, List, [], ◌∷◌, ◌++◌, length, take, drop, refl, sym, ap, ◌∙◌, subst, arith, append_assoc, append-nil, length-append, length-take-le, length-drop, take-append-drop, IsTrue}
 use Rattle.std.specs.List.{list_all}
 use Rattle.std.proofs.Math.ListN.{set}

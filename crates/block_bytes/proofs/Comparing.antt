@@ -49,8 +49,8 @@ master-is Fixed is = let e : false ≡ true = is in cc
 master-is Master is = refl
 master-is (Relocatable slot flags) is = let e : false ≡ true = is in cc
 
--- the headers from an address up to an offset agree, and none of them is that of a master block. Their blocks begin before another
--- address
+-- the headers from an address up to an offset agree, and none of them is that of a master block. Their blocks begin
+-- before another address
 pub record ComparedUpTo (l : Layout) (bytes : List ℕ) (from end at : ℕ) : Type 0 where
   pub start : List RawBlock
   pub passed : List RawBlock

@@ -51,7 +51,8 @@ module _ (heads : HeadKind) where
       ⊎_elim (λ (h : IsOwn heads (at + size_of heads b) xs i). inl (inr h)) (λ (h : IsOwn heads to ys i). inr h)
       (own-split (at + size_of heads b) to xs ys i (let e : to ≡ at + (size_of heads b + total_of heads xs) = is in omega arith) there)
 
-  -- blocks stand for others that take as many bytes: an own byte is one of theirs, or was an own byte and isn't among theirs
+  -- blocks stand for others that take as many bytes: an own byte is one of theirs, or was an own byte and isn't among
+  -- theirs
   pub own-replaced : (at to : ℕ) (before old new behind : List RawBlock) (i : ℕ) → to ≡ at + total_of heads before → total_of heads new ≡ total_of heads old
       → IsOwn heads at (before ++ (new ++ behind)) i
       → IsOwn heads to new i ⊎ (IsOwn heads at (before ++ (old ++ behind)) i × IsOff to (total_of heads old) i)
@@ -87,7 +88,8 @@ module _ (heads : HeadKind) where
       either true n m = omega arith
       either false n m = omega arith
 
-  -- a block with contents and bytes over of the same lengths, for the same, stands for another: the own bytes are the same
+  -- a block with contents and bytes over of the same lengths, for the same, stands for another: the own bytes are the
+  -- same
   pub own-alike : (at : ℕ) (before : List RawBlock) (old new : RawBlock) (behind : List RawBlock) → new.role ≡ old.role → length new.contents ≡ length old.contents → length new.slack ≡ length old.slack
       → (i : ℕ) → IsOwn heads at (before ++ new ∷ behind) i → IsOwn heads at (before ++ old ∷ behind) i
   own-alike at [] old new behind role contents slack i (inl here) =

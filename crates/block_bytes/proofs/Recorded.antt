@@ -118,8 +118,8 @@ kept-changed heads bs cs bytes others (Some old) (Some new) grows long change ke
   };
 }
 
--- blocks stand for others that take as many bytes; of the bytes only theirs, and those of the zone's header, change, and each own byte
--- of the new ones is noted
+-- blocks stand for others that take as many bytes; of the bytes only theirs, and those of the zone's header, change,
+-- and each own byte of the new ones is noted
 pub own-change : (heads : HeadKind) (before old new behind : List RawBlock) (bytes others : List ℕ) (kept : Option Record) (place : ℕ) → place ≡ zone_header + total_of heads before → total_of heads new ≡ total_of heads old
     → ((i : ℕ) → IsOwn heads place new i → NotedIn kept i)
     → ((i : ℕ) → zone_header ≤ i → IsOff place (total_of heads old) i → slice_index others i ≡ slice_index bytes i)
@@ -202,7 +202,8 @@ module _ (z : Inside) (whole : IsWhole z) {memory : State} {index : List ℕ} {l
       let heads = z.spec.heads in let ends = total-ends z whole.layout in let sum = ap (total_of heads) is in let same = total-kept in let high = whole.layout.high in let all = whole.layout.all_bytes in
       let a = total_of-append heads before (old ++ behind) in let b = total_of-append heads old behind in omega arith
 
-  -- where their own bytes are noted, and no bytes change but theirs and those of the zone's header, the record is that of the zone
+  -- where their own bytes are noted, and no bytes change but theirs and those of the zone's header, the record is that
+  -- of the zone
   pub replaced-whole : (kept : Option Record) → Grows (length z.memory.bytes) z.kept kept → (place : ℕ) → place ≡ zone_header + total_of z.spec.heads before → ((i : ℕ) → IsOwn z.spec.heads place new i → NotedIn kept i)
       → ((i : ℕ) → zone_header ≤ i → IsOff place (total_of z.spec.heads new) i → slice_index memory.bytes i ≡ slice_index z.memory.bytes i)
       → IsReadWhole (record z { memory = memory; index = index; loans = loans; kept = kept }) (with_blocks (before ++ (new ++ behind)) (layout_of z))
@@ -248,7 +249,8 @@ heads-whole z whole {memory} {index} {loans} before here first second behind is 
     ∙ head-stay m n next heads base g writes' i (off-within start (total_of k (first ∷ second ∷ [])) next (head_size heads) i (omega arith) (omega arith) off)
     ∙ head-stay z.memory m start heads base h writes i (off-within start (total_of k (first ∷ second ∷ [])) start (head_size heads) i (omega arith) (omega arith) off))
 
--- a block has other contents of the same length; of the bytes only a part of them changes, and of a master block this part is noted
+-- a block has other contents of the same length; of the bytes only a part of them changes, and of a master block this
+-- part is noted
 pub contents-whole : (z : Inside) (whole : IsWhole z) {memory : State} {index : List ℕ} {loans : ℕ} (before : List RawBlock) (here new : RawBlock) (behind : List RawBlock) (is : (layout_of z).blocks ≡ before ++ here ∷ behind)
     (read : IsRead (record z { memory = memory; index = index; loans = loans }) (with_blocks (before ++ new ∷ behind) (layout_of z)))
     → new.role ≡ here.role → length new.contents ≡ length here.contents → length new.slack ≡ length here.slack

@@ -44,8 +44,8 @@ pub record HasZoneHead (bytes : List ℕ) (end free lowest : ℕ) : Type 0 where
   pub front : ℕ
   pub head : take zone_header bytes ≡ zone_head end front free lowest
 
--- possible blocks, none of them lent, are in bytes up to an offset, with their numbers in the index and so many bytes of the free
--- ones; and a zone of these sizes that is in the bytes begins with them
+-- possible blocks, none of them lent, are in bytes up to an offset, with their numbers in the index and so many bytes
+-- of the free ones; and a zone of these sizes that is in the bytes begins with them
 pub record BlocksUpTo (spec : ZoneSizes) (bytes index : List ℕ) (at free : ℕ) : Type 0 where
   pub blocks : List RawBlock
   pub place : at ≡ zone_header + total_of spec.heads blocks

@@ -3,8 +3,8 @@ use Rattle.std.specs.Prelude.{◌≡◌, ℕ, ◌+◌, ◌≤◌, false, List, l
 use Rattle.mac_base.specs.ZoneState.{written}
 use Rattle.block_bytes.specs.Layout.{RawBlock, Layout, BlockAt}
 
--- n bytes of contents of the block at one address, from a place among them on, can be copied over as many of the block at another:
--- both have so many, and neither is lent. It may be one block
+-- n bytes of contents of the block at one address, from a place among them on, can be copied over as many of the block
+-- at another: both have so many, and neither is lent. It may be one block
 pub record CanCopy (l : Layout) (from start to offset n : ℕ) : Type 0 where
   pub source : BlockAt l from
   pub target : BlockAt l to

@@ -14,7 +14,8 @@ abbrev pub most_over : HeadKind → ℕ
 most_over Bits24 = 15
 most_over Bits32 = 255
 
--- a tag: what the block is for in bits 7 and 6, a master block in bit 4 too; in the low bits a number, the size correction or 0
+-- a tag: what the block is for in bits 7 and 6, a master block in bit 4 too; in the low bits a number, the size
+-- correction or 0
 abbrev pub tag_of : Role → ℕ → ℕ
 tag_of Free low = low
 tag_of Fixed low = 64 + low
@@ -46,8 +47,8 @@ owner_of Fixed = None
 owner_of Master = None
 owner_of (Relocatable slot flags) = Some slot
 
--- the first word. 24 bits: the tag with the correction in its low four bits, and the size. 32 bits: the tag, the flags, a zero
--- byte and the correction
+-- the first word. 24 bits: the tag with the correction in its low four bits, and the size. 32 bits: the tag, the flags,
+-- a zero byte and the correction
 abbrev pub first_word : HeadKind → Header → ℕ
 first_word Bits24 h = 0x100_0000 * tag_of h.role h.correction + h.size
 first_word Bits32 h = 0x100_0000 * tag_of h.role 0 + (0x1_0000 * flags_byte (flags_of h.role) + h.correction)

@@ -15,8 +15,8 @@ use Rattle.block_bytes.specs.declared.header.Role.TheVariants.{Free, Fixed, Mast
 use Rattle.block_bytes.specs.Head.{most_over, head_bytes}
 use Rattle.block_bytes.specs.ZoneHead.{zone_head}
 
--- a block: what it is for, its contents, the bytes behind them that are over, and whether its contents are lent. Those of a lent
--- block are the bytes that were there when it was lent
+-- a block: what it is for, its contents, the bytes behind them that are over, and whether its contents are lent. Those
+-- of a lent block are the bytes that were there when it was lent
 pub record RawBlock : Type 0 where
   pub role : Role
   pub contents : List ℕ
@@ -93,8 +93,8 @@ can_be_told heads Fixed correction = true
 can_be_told heads Master correction = true
 can_be_told heads (Relocatable slot flags) correction = nat_lt slot (2 ^ 32) && can_say heads flags
 
--- whether a block of a zone may be like this: its size is a multiple of four and not below the smallest, few bytes are over, and
--- only a handle's or a pointer's block is lent
+-- whether a block of a zone may be like this: its size is a multiple of four and not below the smallest, few bytes are
+-- over, and only a handle's or a pointer's block is lent
 abbrev pub is_possible : HeadKind → RawBlock → Bool
 is_possible heads b = (size_of heads b % 4 == 0) && (nat_le (smallest_block heads) (size_of heads b)
     && (nat_le (length b.slack) (most_over heads) && (can_be_told heads b.role (length b.slack) && (not b.lent || has_owner b.role))))
@@ -104,8 +104,8 @@ abbrev pub rendered : HeadKind → ℕ → List RawBlock → List ℕ
 rendered heads base [] = []
 rendered heads base (b ∷ bs) = head_bytes heads base (header_of heads b) ++ (b.contents ++ (b.slack ++ rendered heads base bs))
 
--- a zone: the memory that it is in, where it begins and how its blocks are headed, the number that its header says of the free slots,
--- its blocks, and the bytes up to its limit
+-- a zone: the memory that it is in, where it begins and how its blocks are headed, the number that its header says of
+-- the free slots, its blocks, and the bytes up to its limit
 pub record Layout : Type 0 where
   pub memory : Memory
   pub heads : HeadKind

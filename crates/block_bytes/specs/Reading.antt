@@ -57,7 +57,8 @@ times s (t ∷ ts) = if (t.0 == s.0) && (t.1 == s.1) then suc (times s ts) else 
 abbrev pub SameSpans : List Span → List Span → Type 0
 SameSpans ss ts = (s : Span) → times s ss ≡ times s ts
 
--- the bytes are those of possible blocks, and nothing else, the index is that of these, and their lent contents are what is lent
+-- the bytes are those of possible blocks, and nothing else, the index is that of these, and their lent contents are
+-- what is lent
 pub record IsLayout (z : Inside) : Type 0 where
   pub all_bytes : length z.memory.bytes ≡ z.spec.limit
   pub low : zone_header ≤ z.spec.size

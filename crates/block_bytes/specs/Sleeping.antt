@@ -4,7 +4,8 @@ use Rattle.mac_base.specs.HeadKind.{zone_header}
 use Rattle.block_bytes.specs.Layout.{Layout}
 use Rattle.block_bytes.specs.Structure.{AreWritten, EachMaster, HasStructure, shown}
 
--- the new zone is the old one asleep: in memory of its own, whose bytes have its structure and the contents of its master blocks
+-- the new zone is the old one asleep: in memory of its own, whose bytes have its structure and the contents of its
+-- master blocks
 pub record FallsAsleep (old new : Layout) : Type 0 where
   pub kept : old.memory.kept ≡ Some new.memory.region
   pub bytes : List ℕ

@@ -1,4 +1,5 @@
--- What the index holds: a number for each four bytes of a zone, which says what block begins with them, or that none does.
+-- What the index holds: a number for each four bytes of a zone, which says what block begins with them, or that none
+-- does.
 use Rattle.std.specs.Prelude.{ℕ, ◌+◌, ◌-◌, ◌*◌, ◌/◌, ◌<◌, ◌≤◌, nat_lt, if◌then◌else◌, List, [], ◌∷◌, ◌++◌, length, replicate, slice_index}
 use Rattle.mac_base.specs.declared.block.HeadKind.{HeadKind}
 use Rattle.mac_base.specs.HeadKind.{zone_header}
@@ -34,12 +35,13 @@ marks_of heads (b ∷ bs) = mark_of heads b ∷ (replicate (size_of heads b / 4 
 abbrev pub starts_of : Layout → List ℕ
 starts_of l = replicate (zone_header / 4) 0 ++ (marks_of l.heads l.blocks ++ replicate (length l.spare / 4) 0)
 
--- the address of the first place whose number is that of a free block, from the start of these numbers on; 0 where there is none
+-- the address of the first place whose number is that of a free block, from the start of these numbers on; 0 where
+-- there is none
 abbrev pub first_marked : ℕ → List ℕ → ℕ
 first_marked at [] = 0
 first_marked at (m ∷ ms) = if nat_lt lent_mark m then at else first_marked (at + 4) ms
 
--- no number of a free block stands before a place and below an address; where the address is below the first number's, none
--- stands before the place
+-- no number of a free block stands before a place and below an address; where the address is below the first number's,
+-- none stands before the place
 abbrev pub NoneLower : ℕ → ℕ → ℕ → List ℕ → Type 0
 NoneLower at lowest place ms = (j : ℕ) → j < place → (at ≤ lowest → at + 4 * j < lowest) → slice_index ms j ≤ lent_mark

@@ -24,15 +24,15 @@ use std::alloc::Global;
 use std::marker::Model;
 
 /// The blocks of a zone in one run of bytes, from the zone's start to its limit. A contract sees the list of the
-/// blocks, each with all bytes behind its header, beside the bytes up to the limit and the number in the zone's header that
-/// tells of the free slots. All else in that header follows from the blocks: where they end, how many bytes are free and
-/// where the lowest free block is. That an address is that of a block is up to the caller. After `create` no call takes
-/// memory of the host.
+/// blocks, each with all bytes behind its header, beside the bytes up to the limit and the number in the zone's header
+/// that tells of the free slots. All else in that header follows from the blocks: where they end, how many bytes are
+/// free and where the lowest free block is. That an address is that of a block is up to the caller. After `create` no
+/// call takes memory of the host.
 pub struct Blocks {
     pub(crate) spec: ZoneSpec,
     pub(crate) memory: Memory,
-    /// For each four bytes of the zone a number: where a block begins with them 3 if it is free, 2 if it is lent, and else 1;
-    /// or 0.
+    /// For each four bytes of the zone a number: where a block begins with them 3 if it is free, 2 if it is lent, and
+    /// else 1; or 0.
     pub(crate) index: Numbers,
     /// How many blocks are lent.
     pub(crate) loans: u32,
@@ -89,8 +89,8 @@ fn search_start(memory: &Memory, base: u32, changed: usize) -> usize
     }
 }
 
-/// Writes in the zone's header how many bytes are free, where `gained` came to them and `lost` went, and the address of the
-/// lowest free block, by the index, which has changed from a place on.
+/// Writes in the zone's header how many bytes are free, where `gained` came to them and `lost` went, and the address of
+/// the lowest free block, by the index, which has changed from a place on.
 #[tactic(auto, using(raw_region::proofs::Rules::upkeep))]
 fn count_free(
     memory: &mut Memory,
@@ -267,8 +267,8 @@ impl Blocks {
     }
 
     /// The address of the block that a byte of the zone is part of, its header's bytes among them. There is none where
-    /// the byte lies before the first block or behind the last. No header is read: the index has the last place up to the
-    /// byte at which a block begins.
+    /// the byte lies before the first block or behind the last. No header is read: the index has the last place up to
+    /// the byte at which a block begins.
     pub fn holder(&self, at: u32) -> Option<u32>
         ensures holds { IfSome result (λ start. HoldsByte self.now at start) }
         ensures outside { IfNone result (LiesOutside self.now at) }
@@ -321,8 +321,8 @@ impl Blocks {
         );
     }
 
-    /// Makes the block at an address one for something else, as free as before. Its contents stay, and it may be lent: only
-    /// its header is written.
+    /// Makes the block at an address one for something else, as free as before. Its contents stay, and it may be lent:
+    /// only its header is written.
     pub fn set_role(&mut self, at: u32, role: Role)
         requires { CanTurn self.old at role }
         ensures { (can : CanTurn self.old at role) → self.new ≡ with_blocks (can.block.before ++ in_role can.block.here role ∷ can.block.behind) self.old }
@@ -430,8 +430,8 @@ impl Blocks {
         );
     }
 
-    /// The block at an address changes places with those behind it up to an address. The bytes of a free one aren't kept: the
-    /// others slide over them. Else the bytes of all turn in one rotation.
+    /// The block at an address changes places with those behind it up to an address. The bytes of a free one aren't
+    /// kept: the others slide over them. Else the bytes of all turn in one rotation.
     pub fn carry(&mut self, at: u32, end: u32)
         requires { ParcelAt self.old at end }
         ensures { (parcel : ParcelAt self.old at end) → Carried self.old parcel self.new }
@@ -450,8 +450,8 @@ impl Blocks {
         count_free(&mut self.memory, &self.index, base, start / 4, 0, 0);
     }
 
-    /// The block at an address changes places with those before it, which begin at `start`. The bytes of a free one aren't kept: the
-    /// others slide over them. Else the bytes of all turn in one rotation.
+    /// The block at an address changes places with those before it, which begin at `start`. The bytes of a free one
+    /// aren't kept: the others slide over them. Else the bytes of all turn in one rotation.
     pub fn sink(&mut self, start: u32, at: u32)
         requires { ParcelUpTo self.old start at }
         ensures { (parcel : ParcelUpTo self.old start at) → Sunk self.old parcel self.new }
@@ -494,8 +494,8 @@ impl Blocks {
         Some(base + 4 * place as u32)
     }
 
-    /// Grows the zone to its limit: the bytes up to there become one free block behind the last. Its header is written, and
-    /// the other bytes stay. Where the zone is as large as its limit nothing changes.
+    /// Grows the zone to its limit: the bytes up to there become one free block behind the last. Its header is written,
+    /// and the other bytes stay. Where the zone is as large as its limit nothing changes.
     pub fn extend(&mut self)
         ensures { self.new ≡ extended self.old }
     {
@@ -632,8 +632,8 @@ impl Blocks {
         self.kept.is_some() && self.entry_at(at).role.is_master()
     }
 
-    /// Copies the `count` bytes of contents from `start` on of the block at `from` over those from `offset` on of the block at `to`.
-    /// It may be the same block, whose bytes are then those before the call.
+    /// Copies the `count` bytes of contents from `start` on of the block at `from` over those from `offset` on of the
+    /// block at `to`. It may be the same block, whose bytes are then those before the call.
     pub fn copy(&mut self, from: u32, start: u32, to: u32, offset: u32, count: u32)
         requires { CanCopy self.old from start to offset count }
         ensures { (can : CanCopy self.old from start to offset count)

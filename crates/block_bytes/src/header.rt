@@ -27,8 +27,8 @@ pub enum Role {
     Fixed,
     /// A master block, which doesn't move either.
     Master,
-    /// A relocatable block, whose master pointer stands so many bytes from the zone's start, and the flags that the header
-    /// says: none in a zone of 24-bit blocks.
+    /// A relocatable block, whose master pointer stands so many bytes from the zone's start, and the flags that the
+    /// header says: none in a zone of 24-bit blocks.
     Relocatable(u32, Flags),
 }
 
@@ -242,8 +242,8 @@ impl Header {
         }
     }
 
-    /// How many bytes from the block's front on those are among that are the zone's own: the header, and of a master block the
-    /// contents too.
+    /// How many bytes from the block's front on those are among that are the zone's own: the header, and of a master
+    /// block the contents too.
     pub(crate) fn own_size(self, heads: HeadKind) -> u32
         ensures { result ≡ own_most heads self }
     {

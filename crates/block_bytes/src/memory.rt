@@ -193,8 +193,8 @@ impl Memory {
         self.region.rotate(at, middle, end);
     }
 
-    /// The block with this header, which stands at `at`, moves behind the `count` bytes behind it. Where it is free only those
-    /// move, and its header, which names no zone, is written anew.
+    /// The block with this header, which stands at `at`, moves behind the `count` bytes behind it. Where it is free
+    /// only those move, and its header, which names no zone, is written anew.
     pub fn carry(&mut self, heads: HeadKind, at: usize, count: usize, header: Header)
         requires inside { at + header.size + count ≤ length self.old.bytes }
         requires free { IsFree self.old.lent at (header.size + count) }
@@ -213,8 +213,8 @@ impl Memory {
         }
     }
 
-    /// The block with this header moves before the `count` bytes before it, which begin at `at`. Where it is free only those
-    /// move, and its header, which names no zone, is written anew.
+    /// The block with this header moves before the `count` bytes before it, which begin at `at`. Where it is free only
+    /// those move, and its header, which names no zone, is written anew.
     pub fn sink(&mut self, heads: HeadKind, at: usize, count: usize, header: Header)
         requires inside { at + count + header.size ≤ length self.old.bytes }
         requires free { IsFree self.old.lent at (count + header.size) }
@@ -411,8 +411,8 @@ impl Memory {
         }
     }
 
-    /// Writes the header of a zone into bytes of zero: the address behind its last block, how many bytes are free, and the
-    /// address of the lowest free block.
+    /// Writes the header of a zone into bytes of zero: the address behind its last block, how many bytes are free, and
+    /// the address of the lowest free block.
     pub fn set_zone_head(&mut self, end: u32, free: u32, lowest: u32)
         requires inside { zone_header ≤ length self.old.bytes }
         requires unlent { self.old.lent ≡ [] }

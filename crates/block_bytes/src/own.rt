@@ -1,6 +1,6 @@
-//! The blocks' own bytes, their headers and the contents of the master blocks, compared with other bytes. The place of a
-//! header is known once the one before it is read, so a single walk waits for each. Four walks, each over about a quarter
-//! of the blocks' bytes, take turns, and the processor reads four headers at once.
+//! The blocks' own bytes, their headers and the contents of the master blocks, compared with other bytes. The place of
+//! a header is known once the one before it is read, so a single walk waits for each. Four walks, each over about a
+//! quarter of the blocks' bytes, take turns, and the processor reads four headers at once.
 
 ghost use Rattle.std.specs.Prelude.{◌≡◌, ◌+◌, ◌<◌, ◌≤◌, ◌↔◌, length, IfNone, IfSome, IsTrue};
 ghost use Rattle.mac_base.specs.HeadKind.{head_size, zone_header};

@@ -1,4 +1,5 @@
-//! The record of a zone that is awake: other bytes with the zone's structure, and where its own bytes changed since it woke.
+//! The record of a zone that is awake: other bytes with the zone's structure, and where its own bytes changed since it
+//! woke.
 
 ghost use Rattle.std.specs.Prelude.{◌≡◌, [], IfSome, if◌then◌else◌};
 ghost use Rattle.block_bytes.specs.Record.{Notes, all_noted};
@@ -9,8 +10,8 @@ use raw_region::Region;
 /// How many ranges are noted at most. Where there are more, all bytes are taken to have changed.
 const MOST_RANGES: usize = 32;
 
-/// How many bytes a range has at most. Where there are more, all bytes are taken to have changed, since a walk over the blocks
-/// takes less time than to copy as many.
+/// How many bytes a range has at most. Where there are more, all bytes are taken to have changed, since a walk over the
+/// blocks takes less time than to copy as many.
 const MOST_BYTES: u32 = 0x4000;
 
 /// A range of bytes.
@@ -31,8 +32,8 @@ pub(crate) struct Changed {
     ranges: [Range; MOST_RANGES],
 }
 
-/// The record of a zone: the region that it was in before it woke, whose bytes have the zone's structure but for what changed
-/// since.
+/// The record of a zone: the region that it was in before it woke, whose bytes have the zone's structure but for what
+/// changed since.
 pub(crate) struct Record {
     pub region: Region,
     pub changed: Changed,

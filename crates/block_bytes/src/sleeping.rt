@@ -1,5 +1,5 @@
-//! A zone that sleeps and wakes. It wakes in bytes of others with its structure, and the region that it was in becomes the
-//! record of this structure. It falls asleep in its record, over which the own bytes are copied that changed since.
+//! A zone that sleeps and wakes. It wakes in bytes of others with its structure, and the region that it was in becomes
+//! the record of this structure. It falls asleep in its record, over which the own bytes are copied that changed since.
 
 ghost use Rattle.std.specs.Prelude.{◌≡◌, [], IfNone, IfSome, None, is_some};
 ghost use Rattle.mac_base.specs.HeadKind.{zone_header};
@@ -23,9 +23,9 @@ impl Blocks {
         self.kept.is_some()
     }
 
-    /// Wakes the zone, which sleeps, in a region with the same structure and the same contents of its master blocks: it is in
-    /// this region's bytes from then on. The region that it was in becomes the record of its structure. So the zone falls asleep
-    /// again by copies of what changes until then, without a look at each block.
+    /// Wakes the zone, which sleeps, in a region with the same structure and the same contents of its master blocks: it
+    /// is in this region's bytes from then on. The region that it was in becomes the record of its structure. So the
+    /// zone falls asleep again by copies of what changes until then, without a look at each block.
     pub fn wake(&mut self, region: Region)
         requires nothing_lent { NothingLent self.old }
         requires asleep { self.old.memory.kept ≡ None }
@@ -43,8 +43,8 @@ impl Blocks {
         end(self.kept.replace(record));
     }
 
-    /// Puts the zone to sleep: it is in its record from then on. Returns the region that it was in, or None where it isn't
-    /// awake, and nothing has changed.
+    /// Puts the zone to sleep: it is in its record from then on. Returns the region that it was in, or None where it
+    /// isn't awake, and nothing has changed.
     pub fn sleep(&mut self) -> Option<Region>
         requires nothing_lent { NothingLent self.old }
         ensures asleep { IfSome result (λ region. FallsAsleep self.old self.new) }

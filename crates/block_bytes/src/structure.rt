@@ -39,8 +39,8 @@ impl Blocks {
         self.compare_until(bytes, from, self.end())
     }
 
-    /// Compares the headers of the blocks from an address on that begin before another with those among as many bytes as
-    /// the zone has.
+    /// Compares the headers of the blocks from an address on that begin before another with those among as many bytes
+    /// as the zone has.
     pub fn compare_until(&self, bytes: &[u8], from: u32, end: u32) -> Compared
         requires whole { length bytes.now ≡ length (image_of self.now) }
         requires split { SplitAt self.now from }
@@ -62,8 +62,8 @@ impl Blocks {
         Compared::AllAgree
     }
 
-    /// Writes the header of the block at an offset among as many other bytes as the zone has, and if it is a master block
-    /// its contents too. Returns the block's size.
+    /// Writes the header of the block at an offset among as many other bytes as the zone has, and if it is a master
+    /// block its contents too. Returns the block's size.
     fn write_block(&self, at: u32, bytes: &mut [u8]) -> u32
         requires whole { length bytes.old ≡ length (image_of self.now) }
         requires block { BlockAt self.now (self.now.base + at) }
@@ -81,8 +81,8 @@ impl Blocks {
         header.size
     }
 
-    /// Writes the zone's own bytes, which are its header, those of its blocks and the contents of its master blocks, among
-    /// as many other bytes as it has. No other of these changes.
+    /// Writes the zone's own bytes, which are its header, those of its blocks and the contents of its master blocks,
+    /// among as many other bytes as it has. No other of these changes.
     pub fn write_own_bytes(&self, bytes: &mut [u8])
         requires whole { length bytes.old ≡ length (image_of self.now) }
         ensures same { HasStructure self.now bytes.new }

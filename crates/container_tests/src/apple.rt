@@ -6,8 +6,8 @@ use mac_files::fault::{ContainerFault, Entry};
 use mac_files::part::Part;
 use mac_files::{container_of, fork_in, read_contents};
 
-/// AppleSingle of version 1. Its entries are listed in the order 2, 3, 1, 9, 8, and lie in the order 3, 9, 2, 1, 8, with a byte of
-/// no entry before the resource fork.
+/// AppleSingle of version 1. Its entries are listed in the order 2, 3, 1, 9, 8, and lie in the order 3, 9, 2, 1, 8,
+/// with a byte of no entry before the resource fork.
 const SINGLE: &[u8] = b"\x00\x05\x16\x00\x00\x01\x00\x00Macintosh       \x00\x05\
     \x00\x00\x00\x02\x00\x00\x00\x65\x00\x00\x00\x03\
     \x00\x00\x00\x03\x00\x00\x00\x56\x00\x00\x00\x04\

@@ -18,8 +18,8 @@ const HEADER: &[u8] = b"\
     \x00\x00\x02\x00\x00\x00\x00\x00\x00\x00\x00\x00\x00\x00\x00\x00\
     \x00\x00\x00\x00\x00\x00\x00\x00\x00\x00\x00\x00\x00\x00\x00\x00";
 
-/// The header of a version. Those of II and III say that a second header of one byte comes next, and have a checksum, which
-/// Python's `binascii.crc_hqx` gives.
+/// The header of a version. Those of II and III say that a second header of one byte comes next, and have a checksum,
+/// which Python's `binascii.crc_hqx` gives.
 fn header_of(alloc: Global, version: Version) -> Result<Vec<u8>, AllocError> {
     let mut header = HEADER.to_vec(alloc)?;
     let (signature, end) = match version {
@@ -36,8 +36,8 @@ fn header_of(alloc: Global, version: Version) -> Result<Vec<u8>, AllocError> {
     Ok(header)
 }
 
-/// A file with the header of this version, its data fork at 256 and its resource fork at 384. To that of version I they are at 128
-/// and 256.
+/// A file with the header of this version, its data fork at 256 and its resource fork at 384. To that of version I they
+/// are at 128 and 256.
 fn file_with(alloc: Global, version: Version) -> Result<Vec<u8>, AllocError> {
     let mut file = header_of(alloc, version)?;
     file.resize(256, 0)?;

@@ -8,8 +8,8 @@ use mac_write::refusal::Refusal;
 use mac_write::{Target, parts_of, with_fork, write_file};
 use std::alloc::{AllocError, Global};
 
-/// AppleSingle of version 1, listed in the order 2, 3, 1: the name, a byte of no entry, the resource fork, a byte of no entry, and the
-/// data fork.
+/// AppleSingle of version 1, listed in the order 2, 3, 1: the name, a byte of no entry, the resource fork, a byte of no
+/// entry, and the data fork.
 const SINGLE: &[u8] = b"\x00\x05\x16\x00\x00\x01\x00\x00Macintosh       \x00\x03\
     \x00\x00\x00\x02\x00\x00\x00\x43\x00\x00\x00\x03\
     \x00\x00\x00\x03\x00\x00\x00\x3E\x00\x00\x00\x04\
@@ -36,7 +36,8 @@ const DOUBLE_WITH_FORK: &[u8] =
     \x00\x00\x00\x02\x00\x00\x00\x36\x00\x00\x00\x03\
     NameFRK";
 
-/// A file of a name, a type, a creator, a flag and two forks, made at the end of 1999 and changed at the beginning of 2000.
+/// A file of a name, a type, a creator, a flag and two forks, made at the end of 1999 and changed at the beginning of
+/// 2000.
 const FILE: MacFile = MacFile {
     name: b"Name",
     finder: FinderInfo {

@@ -5,7 +5,8 @@ use Rattle.file_replace.specs.declared.place.Event.TheVariants.{Found}
 use Rattle.file_replace.specs.Place.{Answered, Folder, History, MayLeave}
 use Rattle.file_replace.specs.OnPlace.{Fits, happened}
 
--- the answers of these calls, the newest first, are those of a folder that had such files after each of them, and nothing beside the path at first
+-- the answers of these calls, the newest first, are those of a folder that had such files after each of them, and
+-- nothing beside the path at first
 abbrev pub IsHonest : (List Answered → Folder) → List Answered → Type 0
 IsHonest held [] = (held []).beside ≡ None
 IsHonest held (e ∷ past) = IsHonest held past × Fits e.0.call e.0.is_done e.1 (held past) (held (e ∷ past))

@@ -25,7 +25,8 @@ IsSure Old bytes now = now ≢ bytes
 IsSure New bytes now = now ≡ bytes
 IsSure Either bytes now = ⊤
 
--- The fork was settled, or it may not be ready. Whenever a crash comes, a start finds a fork that it might have found before.
+-- The fork was settled, or it may not be ready. Whenever a crash comes, a start finds a fork that it might have found
+-- before.
 pub record Settles (is_done : Bool) (before after : Contents) (past now : History) : Type 0 where
   pub same : settled_fork after ≡ settled_fork before
   pub ready : IsTrue is_done → IsReady after now
@@ -38,8 +39,8 @@ pub record FindsOut (bytes : List ℕ) (reached : Reached) (before after : Conte
   pub ready : reached ≢ Either → IsReady after now
   pub any_moment : AlwaysFinds MayFind (MayFind past) past now
 
--- The fork has the bytes that are told; where these are known it is ready, so that its journal has nothing to do. Whenever a crash comes,
--- a start finds a fork that it might have found before, or the new one.
+-- The fork has the bytes that are told; where these are known it is ready, so that its journal has nothing to do.
+-- Whenever a crash comes, a start finds a fork that it might have found before, or the new one.
 pub record Changes (bytes : List ℕ) (reached : Reached) (before after : Contents) (past now : History) : Type 0 where
   pub has : Has reached (settled_fork before) bytes (settled_fork after)
   pub ready : reached ≢ Either → IsReady after now

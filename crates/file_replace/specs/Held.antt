@@ -1,4 +1,5 @@
--- What a replacement of an open file does, told by the calls that the host was asked for. It rests on no premise about the host but that of `InPlace`, for the bytes of a file that is changed in its place.
+-- What a replacement of an open file does, told by the calls that the host was asked for. It rests on no premise about
+-- the host but that of `InPlace`, for the bytes of a file that is changed in its place.
 use Rattle.std.specs.Prelude.{◌≡◌, ℕ, ◌⊎◌, Bool, true, false, List, [], ◌∷◌, ◌++◌, Option, Some, None, Result, Ok, Err, IsErrAnd, ⊤}
 use Rattle.std.specs.Path.{path_buf_bytes}
 use Rattle.std.specs.IoError.{error_kind}
@@ -48,7 +49,8 @@ PutsInPlace held bytes result old new = ⊥
 abbrev pub TriesBoth : Held → ℕ → List ℕ → Result Outcome NotReplaced → Log → Log → Type 0
 TriesBoth held mode bytes result old new = (stop : Stop) × (mid : Log) × IsBusy stop × PutAt at.File (Some mode) bytes (Err stop) old mid × PutsInPlace held bytes result mid new
 
--- The new file was put at the path, or the one that is there was changed in its place, or why not. It is changed in its place only where it can't be renamed over.
+-- The new file was put at the path, or the one that is there was changed in its place, or why not. It is changed in its
+-- place only where it can't be renamed over.
 abbrev pub PutsFile : Held → ℕ → List ℕ → Result Outcome NotReplaced → Log → Log → Type 0
 PutsFile held mode bytes (Ok Unchanged) old new = ⊥
 PutsFile held mode bytes (Ok (Written answer)) old new = PutAt at.File (Some mode) bytes (Ok answer) old new
@@ -71,7 +73,8 @@ TellsNames path (refusals.NoBackup name stop) = path_buf_bytes name ≡ path ++ 
 TellsNames path (refusals.InPlace cut) = NamesJournal (journal_name path) cut
 TellsNames path refusal = ⊤
 
--- Where the bytes are the same, no call is made. Else, where the old ones are kept, they are put at the backup's name first, and where that fails no call is made at the file.
+-- Where the bytes are the same, no call is made. Else, where the old ones are kept, they are put at the backup's name
+-- first, and where that fails no call is made at the file.
 abbrev pub ReplacesHeld : Held → Bool → ℕ → List ℕ → List ℕ → Result Outcome NotReplaced → Log → Log → Type 0
 ReplacesHeld held keeps_old mode before after (Ok Unchanged) old new = new ≡ old
 ReplacesHeld held false mode before after result old new = PutsFile held mode after result old new
@@ -101,7 +104,8 @@ abbrev pub WritesSo : List ℕ → Result Outcome NotReplaced → Log → Type 0
 WritesSo bytes (Ok outcome) new = (outcome ≡ Written NotOffered) × WritesThrough bytes true new
 WritesSo bytes (Err refusal) new = IsUnopened refusal × WritesThrough bytes false new
 
--- Bytes were written at a path: to the file that is there, once it was settled, as a new file, or through to what is no regular file. Else the path wasn't opened, and no call made.
+-- Bytes were written at a path: to the file that is there, once it was settled, as a new file, or through to what is no
+-- regular file. Else the path wasn't opened, and no call made.
 abbrev pub Saves : Held → Held → List ℕ → Result Outcome NotReplaced → Log → Type 0
 Saves settled held bytes result new = ((start : Log) × (mode : ℕ) × IsSettled settled [] start × PutsFile held mode bytes result start new)
     ⊎ PutsNew bytes result [] new ⊎ WritesSo bytes result new

@@ -1,5 +1,6 @@
--- What is done for a file that can't be renamed over: which calls, in their order, and what those on it and its journal do. The one premise about the host is that
--- the pair is honest: the file and its journal are what their answers tell, nobody else writes them, and a name stays that was there when its folder was synced.
+-- What is done for a file that can't be renamed over: which calls, in their order, and what those on it and its journal
+-- do. The one premise about the host is that the pair is honest: the file and its journal are what their answers tell,
+-- nobody else writes them, and a name stays that was there when its folder was synced.
 use Rattle.std.specs.Prelude.{◌≡◌, ℕ, ⊤, ◌⊎◌, Bool, true, false, List, [], ◌∷◌, ◌++◌, Option, None, IfSome, Result, Ok, Err, IsErrAnd, unwrap_or, codes}
 use Rattle.std.specs.Path.{path_buf_bytes, path_file_name, path_with_file_name}
 use Rattle.std.specs.declared.path.buf.PathBuf.{PathBuf}
@@ -85,7 +86,8 @@ Ends reached (Err cut) old new = (cut.reached ≡ reached) × CutSo reached old 
 abbrev pub IsUntouched : Log → Log → Type 0
 IsUntouched old new = (new ≡ old) ⊎ (new ≡ did (calls.Make false) ∷ old) ⊎ GivesUp (did (calls.SyncFolder false) ∷ did (calls.Make true) ∷ old) new ⊎ GivesUp (begun old) new
 
--- A file was changed in its place: under a journal whose name is stable, and which is removed after that. Or the change was cut short before it began, or it ended so.
+-- A file was changed in its place: under a journal whose name is stable, and which is removed after that. Or the change
+-- was cut short before it began, or it ended so.
 abbrev pub ChangesSo : {T : Type 0} → Held → List ℕ → Result T Cut → Log → Log → Type 0
 ChangesSo {T} held bytes result old new = (IsErrAnd result (λ cut. (cut.reached ≡ Old) × IsUntouched old new))
     ⊎ ((reached : Reached) × (events : List files.Event) × ChangesFiles held bytes reached events × Ends reached result (InPlace (calls.Change reached) events ∷ begun old) new)

@@ -16,8 +16,8 @@ moved folder = record { path = folder.beside; beside = None }
 abbrev pub Becomes : (PlainFile → PlainFile) → Folder → Folder → Type 0
 Becomes change old new = (file : PlainFile) → old.beside ≡ Some file → new.beside ≡ Some (change file)
 
--- The answer of a call fits a folder that had the old files before it and has the new ones after it. A write and a mode change the file
--- beside alone, a rename is done or not, and a file that can't be made isn't there.
+-- The answer of a call fits a folder that had the old files before it and has the new ones after it. A write and a mode
+-- change the file beside alone, a rename is done or not, and a file that can't be made isn't there.
 abbrev pub Fits : Call → Bool → List ℕ → Folder → Folder → Type 0
 Fits calls.Create true bytes old new = (new.path ≡ old.path) × ((file : PlainFile) × (new.beside ≡ Some file) × (file.bytes ≡ []))
 Fits calls.Create false bytes old new = new ≡ old

@@ -19,7 +19,8 @@ History = List Event
 abbrev pub Answered : Type 0
 Answered = Noted × List ℕ
 
--- a place: the calls there, the newest first; and its files, what happened, and that it does what it answers and nobody else writes there
+-- a place: the calls there, the newest first; and its files, what happened, and that it does what it answers and nobody
+-- else writes there
 pub record Seen : Type 1 where
   pub calls : List Answered
   pub files : Folder
@@ -46,7 +47,8 @@ has_failed (Renamed ∷ past) = has_failed past
 has_failed (Tried ∷ past) = has_failed past
 has_failed (Asked answer ∷ past) = has_failed past
 
--- What a crash may leave of the file that was made beside: any file until a sync, and what was synced after it. After a sync that failed no later one counts.
+-- What a crash may leave of the file that was made beside: any file until a sync, and what was synced after it. After a
+-- sync that failed no later one counts.
 abbrev pub MayBe : History → PlainFile → Type 0
 MayBe [] file = ⊤
 MayBe (Found start ∷ past) file = ⊤
@@ -74,7 +76,8 @@ MaySettle (Renamed ∷ past) left = IsMade past left
 MaySettle (Tried ∷ past) left = MaySettle past left ⊎ IsMade past left
 MaySettle (Asked answer ∷ past) left = MaySettle past left
 
--- What a crash may leave at the path: what it might have left before a rename, or the file that was renamed; and of this a sync of the folder leaves only the last.
+-- What a crash may leave at the path: what it might have left before a rename, or the file that was renamed; and of
+-- this a sync of the folder leaves only the last.
 abbrev pub MayLeave : History → Option PlainFile → Type 0
 MayLeave [] left = ⊥
 MayLeave (Found start ∷ past) left = left ≡ start

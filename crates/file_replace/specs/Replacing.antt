@@ -18,7 +18,8 @@ use Rattle.file_replace.specs.OnPlace.{answered}
 abbrev pub IsNew : Option ℕ → List ℕ → Option PlainFile → Type 0
 IsNew mode bytes left = (file : PlainFile) × (left ≡ Some file) × (file.bytes ≡ bytes) × IfSome mode (λ m. file.mode ≡ m)
 
--- which file the path has after a step that failed: the old one until the rename, either after that failed, and the new one later
+-- which file the path has after a step that failed: the old one until the rename, either after that failed, and the new
+-- one later
 abbrev pub HasAfter : Step → Option ℕ → List ℕ → Option PlainFile → Option PlainFile → Type 0
 HasAfter Create mode bytes old now = now ≡ old
 HasAfter Write mode bytes old now = now ≡ old
@@ -71,7 +72,8 @@ is_beside Sync = true
 is_beside Rename = true
 is_beside SyncFolder = false
 
--- Once the file beside was made, the calls of the steps before this one are done; or one failed, after all before it were done.
+-- Once the file beside was made, the calls of the steps before this one are done; or one failed, after all before it
+-- were done.
 abbrev pub Steps : {T E : Type 0} → Step → Option ℕ → List ℕ → Result T (Stopped E) → Seen → Seen → Type 0
 Steps next mode bytes result old new = (past : List Answered) → old.calls ≡ before_step Write mode bytes past
     → MatchResult result (λ _. new.calls ≡ before_step next mode bytes past)
@@ -81,7 +83,8 @@ Steps next mode bytes result old new = (past : List Answered) → old.calls ≡ 
 abbrev pub with_removal : Step → Bool → List Answered → List Answered
 with_removal step is_left made = if is_beside step then answered calls.Remove (not is_left) [] ∷ made else made
 
--- the calls of a replacement: each step's is done, or one failed after all before it were done, and no later one was made
+-- the calls of a replacement: each step's is done, or one failed after all before it were done, and no later one was
+-- made
 abbrev pub CallsOf : {E : Type 0} → Option ℕ → List ℕ → Result FolderSync (Fault E) → List Answered → List Answered → Type 0
 CallsOf mode bytes result old new = MatchResult result (λ answer. new ≡ answered (calls.SyncFolder answer) true [] ∷ before_step SyncFolder mode bytes old)
     (λ fault. new ≡ with_removal fault.step fault.is_left (step_call fault.step mode bytes false ∷ before_step fault.step mode bytes old))
@@ -106,8 +109,9 @@ pub record Puts {T E : Type 0} (mode : Option ℕ) (bytes : List ℕ) (result : 
   pub settles : OnOk result (Finds MaySettle (IsNew mode bytes) new.history)
   pub left : IfErr result (λ stopped. HasAfter stopped.step mode bytes old.files.path new.files.path)
 
--- The path has the new file. Where it fails, the step tells whether it has the old one, and no file is beside but where this is told.
--- Whenever a crash comes, it leaves what it might have left before, or the new file; and only that one once the folder was synced.
+-- The path has the new file. Where it fails, the step tells whether it has the old one, and no file is beside but where
+-- this is told. Whenever a crash comes, it leaves what it might have left before, or the new file; and only that one
+-- once the folder was synced.
 pub record ReplacesFile {E : Type 0} (mode : Option ℕ) (bytes : List ℕ) (result : Result FolderSync (Fault E)) (old new : Seen) : Type 0 where
   pub any_moment : AlwaysFinds MayLeave (IsOldOrNew old.history mode bytes) old.history new.history
   pub put : OnOk result (IsNew mode bytes new.files.path)

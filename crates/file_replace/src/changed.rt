@@ -55,7 +55,8 @@ fn settled<P: PairDisk>(alloc: Global, store: &mut Journal<P>, bytes: &[u8]) -> 
     }
 }
 
-/// Puts these bytes in the place of a fork, under its journal, which is settled first. Where that fails the fork is settled again.
+/// Puts these bytes in the place of a fork, under its journal, which is settled first. Where that fails the fork is
+/// settled again.
 pub fn change<P: PairDisk>(alloc: Global, store: &mut Journal<P>, bytes: &[u8]) -> Reached
     requires { length bytes.now < 2 ^ 32 }
     ensures { P.is_honest store.new.pair → P.is_honest store.old.pair × Changes bytes.now result (P.contents store.old.pair)

@@ -182,8 +182,8 @@ fn is_busy(stop: &Stop) -> bool
 }
 
 impl Held {
-    /// Opens a file that is to be replaced, and locks it. A link is followed: the file that it leads to is replaced. Where a change of
-    /// it was cut short, it is settled by its journal.
+    /// Opens a file that is to be replaced, and locks it. A link is followed: the file that it leads to is replaced.
+    /// Where a change of it was cut short, it is settled by its journal.
     pub fn open<W: PairWorld>(rt: &HostRuntime, path: &str) -> Result<Held, NotReplaced>
         ensures start { IfOk result (λ held. IsSettled (W.held 0) [] held.log.events) }
         ensures refuses { IfErr result IsUnopened }
@@ -232,9 +232,9 @@ impl Held {
         &self.file
     }
 
-    /// Replaces the file, or changes it in its place where it can't be renamed over. The old bytes are those that were read of it. Where
-    /// the new ones are the same, nothing is written. Where it is to be kept, a copy of the old bytes is put at its name with a tilde,
-    /// NAME~, before that.
+    /// Replaces the file, or changes it in its place where it can't be renamed over. The old bytes are those that were
+    /// read of it. Where the new ones are the same, nothing is written. Where it is to be kept, a copy of the old bytes
+    /// is put at its name with a tilde, NAME~, before that.
     pub fn replace<W: PairWorld>(
         &mut self,
         rt: &HostRuntime,
@@ -365,9 +365,9 @@ fn is_missing(refusal: &NotReplaced) -> bool {
     }
 }
 
-/// Writes a file of these bytes, and notes the calls in a record that begins anew. Where there is one, it is replaced, and keeps its
-/// mode; so the path has all of the new file or what it had before. What is no regular file, as a device or a pipe, is written to as it
-/// is.
+/// Writes a file of these bytes, and notes the calls in a record that begins anew. Where there is one, it is replaced,
+/// and keeps its mode; so the path has all of the new file or what it had before. What is no regular file, as a device
+/// or a pipe, is written to as it is.
 pub fn save<W: PairWorld>(
     rt: &HostRuntime,
     path: &str,
@@ -398,7 +398,8 @@ fn unsettled(journal: PathBuf, refusal: NotReplaced) -> NotReplaced
     NotReplaced::Unsettled { journal, error }
 }
 
-/// Settles the file of a path before it is read, where a change of it was cut short, and notes the calls in a record that begins anew.
+/// Settles the file of a path before it is read, where a change of it was cut short, and notes the calls in a record
+/// that begins anew.
 pub fn settle<W: PairWorld>(
     rt: &HostRuntime,
     path: &str,

@@ -27,8 +27,9 @@ struct Beside {
     path: PathBuf,
 }
 
-/// A path of the host at which a file is replaced, and no link. Each call of the system is noted with its answer, in a record that only
-/// clauses read. It is honest where these answers are those of the folder that its world tells of, so that nobody else wrote there.
+/// A path of the host at which a file is replaced, and no link. Each call of the system is noted with its answer, in a
+/// record that only clauses read. It is honest where these answers are those of the folder that its world tells of, so
+/// that nobody else wrote there.
 #[derive(Drop)]
 pub struct FileReplacer<'a, W: FolderWorld> {
     rt: &'a HostRuntime,
@@ -43,14 +44,15 @@ pub struct FileReplacer<'a, W: FolderWorld> {
     world: PhantomData<W>,
 }
 
-/// The limit that a line of the kernel's list gives, where it is that of a file's length. No number stands for no limit.
+/// The limit that a line of the kernel's list gives, where it is that of a file's length. No number stands for no
+/// limit.
 fn limit_in(line: &str) -> Option<u64> {
     let limits = line.strip_prefix("Max file size")?;
     limits.split_whitespace().next()?.parse().ok()
 }
 
-/// How long a file may be that this process writes, as Linux tells it. A write past it would end the process. Elsewhere no limit is
-/// known.
+/// How long a file may be that this process writes, as Linux tells it. A write past it would end the process. Elsewhere
+/// no limit is known.
 pub(crate) fn longest_file(rt: &HostRuntime) -> u64 {
     match fs::read_to_string(rt, "/proc/self/limits") {
         Ok(limits) => limits.lines().find_map(limit_in).unwrap_or(u64::MAX),
@@ -111,8 +113,8 @@ fn write_whole(rt: &HostRuntime, file: &mut File, bytes: &[u8]) -> io::Result<()
 }
 
 impl<'a, W: FolderWorld> FileReplacer<'a, W> {
-    /// The place of a path, which is no link, and beside which nothing was made so far. No other place of this world may have its
-    /// number.
+    /// The place of a path, which is no link, and beside which nothing was made so far. No other place of this world
+    /// may have its number.
     pub fn new(rt: &'a HostRuntime, path: PathBuf, number: u64) -> io::Result<FileReplacer<'a, W>>
         ensures number { IfOk result (λ place. place.number ≡ number) }
         ensures path { IfOk result (λ place. place.path ≡ path) }

@@ -261,8 +261,9 @@ fn fits(rt: &HostRuntime, len: usize) -> bool
     len <= MOST_BYTES && len as u64 + HEAD <= longest_file(rt)
 }
 
-/// Changes a file, which is open and locked, in its place. A journal is made beside it, its name is made stable, the file is changed under
-/// it, and the journal is removed. Where that fails, it is told which bytes the file has, and whether the journal is there still.
+/// Changes a file, which is open and locked, in its place. A journal is made beside it, its name is made stable, the
+/// file is changed under it, and the journal is removed. Where that fails, it is told which bytes the file has, and
+/// whether the journal is there still.
 pub(crate) fn change_in_place<W: PairWorld>(
     rt: &HostRuntime,
     file: &File,

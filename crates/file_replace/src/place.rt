@@ -45,11 +45,12 @@ pub enum Event {
     Asked(FolderSync),
 }
 
-/// A path at which a file is replaced, and the name beside it at which the new file is made. Each call may fail, and what it leaves then
-/// is said beside it.
+/// A path at which a file is replaced, and the name beside it at which the new file is made. Each call may fail, and
+/// what it leaves then is said beside it.
 ///
-/// What is promised of files holds of an *honest* place: one that does what it answers, and at which nobody else writes. A rename is
-/// atomic there: the path has the file that it had, or the one that was beside it. A place that is honest after a call was so before it.
+/// What is promised of files holds of an *honest* place: one that does what it answers, and at which nobody else
+/// writes. A rename is atomic there: the path has the file that it had, or the one that was beside it. A place that is
+/// honest after a call was so before it.
 pub trait Replaces {
     /// Why a call failed.
     type Error: Drop;
@@ -60,8 +61,8 @@ pub trait Replaces {
     /// How often a call has failed.
     ghost failures: { Self → ℕ };
 
-    /// Makes an empty file beside the path, at a name that no file has. A private one can be read by its owner alone until it gets its
-    /// mode. Where it fails, no file was made.
+    /// Makes an empty file beside the path, at a name that no file has. A private one can be read by its owner alone
+    /// until it gets its mode. Where it fails, no file was made.
     fn create(&mut self, is_private: bool) -> Result<(), Self::Error>
         requires { IsClear (seen self.old) }
         ensures creates { Does calls.Create (is_ok result) [] (seen self.old) (seen self.new) }
@@ -77,13 +78,14 @@ pub trait Replaces {
         ensures sets { Does (calls.SetMode mode) (is_ok result) [] (seen self.old) (seen self.new) }
         ensures cause { Counts (failures self.old) (failures self.new) result };
 
-    /// Makes the file beside stable, so that a crash leaves it as it is. A sync that failed makes nothing stable, and may have dropped
-    /// what waited for it: after one, none of that file counts.
+    /// Makes the file beside stable, so that a crash leaves it as it is. A sync that failed makes nothing stable, and
+    /// may have dropped what waited for it: after one, none of that file counts.
     fn sync(&mut self) -> Result<(), Self::Error>
         ensures syncs { Does calls.Sync (is_ok result) [] (seen self.old) (seen self.new) }
         ensures cause { Counts (failures self.old) (failures self.new) result };
 
-    /// Renames the file beside to the path. The file that was there is gone. Where it fails, all of this was done or nothing.
+    /// Renames the file beside to the path. The file that was there is gone. Where it fails, all of this was done or
+    /// nothing.
     fn rename(&mut self) -> Result<(), Self::Error>
         ensures renames { Does calls.Rename (is_ok result) [] (seen self.old) (seen self.new) }
         ensures cause { Counts (failures self.old) (failures self.new) result };

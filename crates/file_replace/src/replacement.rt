@@ -82,8 +82,9 @@ fn put<R: Replaces>(place: &mut R, bytes: &[u8], mode: Option<u32>) -> Result<()
     at(Step::Rename, place.rename())
 }
 
-/// Puts a file of these bytes, and of this mode or the host's own, in the place of the one at the path, or at a path that has none. It is made
-/// beside the path, written, synced and renamed. Where that fails before the rename, the old file is there, untouched.
+/// Puts a file of these bytes, and of this mode or the host's own, in the place of the one at the path, or at a path
+/// that has none. It is made beside the path, written, synced and renamed. Where that fails before the rename, the old
+/// file is there, untouched.
 pub fn replace<R: Replaces>(
     place: &mut R,
     bytes: &[u8],

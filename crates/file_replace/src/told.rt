@@ -21,7 +21,8 @@ fn put_between<W: Write, D: Display>(
     write!(f, "{before}{told}{behind}")
 }
 
-/// Why a file has not been replaced, or not for good. Its text says what failed and why, what there is now, and what to do.
+/// Why a file has not been replaced, or not for good. Its text says what failed and why, what there is now, and what to
+/// do.
 #[derive(Debug, Drop)]
 pub enum NotReplaced {
     /// The file can't be opened to be changed.

@@ -6,8 +6,8 @@ ghost use Rattle.file_replace.specs.Place.{Answered, Folder};
 use fork_journal::PairWorld;
 use std::marker::PhantomData;
 
-/// What paths had, and the names beside them, after each of the calls there. No code can know it, so a function over `W: FolderWorld` is
-/// proved for each world that there may be. Each path has a number of its own.
+/// What paths had, and the names beside them, after each of the calls there. No code can know it, so a function over
+/// `W: FolderWorld` is proved for each world that there may be. Each path has a number of its own.
 pub trait FolderWorld: Drop {
     /// What the path of a number has, and what is beside it, after these calls, of which the newest comes first.
     ghost held: { ℕ → List Answered → Folder };

@@ -14,7 +14,7 @@ use Rattle.fork_list.specs.Find.{is_wanted}
 use Rattle.fork_list.specs.Listing.{listing}
 use Rattle.fork_list.specs.Types.{type_lines}
 use Rattle.fork_list.proofs.Placed.{place_size, listing_at, type_lines_at, wanted_at}
-use Rattle.fork_reader.specs.Reading.{PlacedRow, IsWithin, row_at}
+use Rattle.fork_bytes.specs.Reading.{PlacedRow, IsWithin, row_at}
 use Rattle.fork_rows.specs.Opening.{OpensAsWithin, Reads, filled}
 use Rattle.fork_rows.specs.declared.fault.OpenFault.TheVariants.{Fork}
 use Rattle.fork_rows.specs.declared.table.PlacedTable.{PlacedTable}

@@ -1,2 +1,4 @@
+pub mod Grouping
+pub mod Lining
 pub mod Mending
 mod InParts

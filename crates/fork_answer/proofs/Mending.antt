@@ -9,7 +9,7 @@ use Rattle.fork_bytes.specs.declared.fault.WriteFault.TheVariants.{TooBig}
 use Rattle.fork_bytes.specs.Fork.{IsForkWithin, RefusesWithin, data_of, format_limits, map_of}
 use Rattle.fork_bytes.specs.Laws.{IsGrouped}
 use Rattle.fork_bytes.proofs.Grouped.{map_grouped}
-use Rattle.fork_mend.specs.Salvaged.{IsTooMuch, salvaged_table}
+use Rattle.fork_answer.specs.Salvaged.{IsTooMuch, salvaged_table}
 use Rattle.fork_answer.specs.Answer.{IsReadOf, IsTableOf}
 use Rattle.fork_answer.specs.Mended.{IsMended, IsTooBig}
 

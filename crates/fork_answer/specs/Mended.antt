@@ -3,7 +3,7 @@ use Rattle.std.specs.Prelude.{◌≡◌, ◌≢◌, ℕ, ◌⊎◌, List, []}
 use Rattle.fork_bytes.specs.declared.table.Table.{Table}
 use Rattle.fork_bytes.specs.Fork.{IsForkWithin, StandsForWithin, format_limits}
 use Rattle.fork_bytes.specs.Written.{IsTooBigWithin, written}
-use Rattle.fork_mend.specs.Salvaged.{IsTooMuch, salvaged_table}
+use Rattle.fork_answer.specs.Salvaged.{IsTooMuch, salvaged_table}
 use Rattle.fork_answer.specs.Answer.{IsTableOf}
 
 -- the table of the fork, or of what can be read of bytes that are no fork

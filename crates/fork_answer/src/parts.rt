@@ -2,7 +2,7 @@
 
 ghost use Rattle.std.specs.Prelude.{◌≡◌, IfErr, IfNone, IfSome};
 ghost use Rattle.std.specs.List.{AllByRecursion};
-ghost use Rattle.fork_reader.specs.Reading.{IsWithin};
+ghost use Rattle.fork_bytes.specs.Reading.{IsWithin};
 ghost use Rattle.fork_rows.specs.Opening.{IsReadyWith};
 ghost use Rattle.mac_files.specs.Containers.{is_raw};
 ghost use Rattle.fork_answer.specs.Answer.{Answers, IsQuiet};
@@ -12,9 +12,9 @@ use crate::answer::{Failure, list, list_types, write};
 use crate::request::Request;
 use fork_bytes::fault::ForkFault;
 use fork_bytes::layout::Limits;
+use fork_bytes::place::PlacedRow;
 use fork_disk::store::ForkStore;
 use fork_list::find::{Wanted, find_row};
-use fork_reader::place::PlacedRow;
 use fork_rows::fault::OpenFault;
 use fork_rows::table::PlacedRows;
 use fork_rows::{read_part, read_rows_within};
@@ -25,7 +25,8 @@ use std::io::Write;
 /// By so many bytes, the first, a container is known.
 const FRONT_LENGTH: usize = 128;
 
-/// Whether a file is a resource fork and nothing else, by its length and its first 128 bytes. None where the device fails.
+/// Whether a file is a resource fork and nothing else, by its length and its first 128 bytes. None where the device
+/// fails.
 fn is_fork_alone<S: ForkStore>(store: &mut S) -> Option<bool>
     requires { IsReady S.ForkStore store.old }
     ensures raw { TellsInParts S.ForkStore store.old store.new (λ file is. is ≡ is_raw file) Never result }
@@ -42,9 +43,9 @@ fn is_fork_alone<S: ForkStore>(store: &mut S) -> Option<bool>
     }
 }
 
-/// The resources of a file that is a resource fork and nothing else, with the places of their bytes, or why it has none. Of the file
-/// are read its first 256 bytes, the map, and four bytes for each resource. None where it isn't known as such a fork, and where the
-/// device fails.
+/// The resources of a file that is a resource fork and nothing else, with the places of their bytes, or why it has
+/// none. Of the file are read its first 256 bytes, the map, and four bytes for each resource. None where it isn't known
+/// as such a fork, and where the device fails.
 pub fn rows_in_parts<S: ForkStore>(
     alloc: Global,
     store: &mut S,
@@ -88,9 +89,9 @@ fn get_part<S: ForkStore, W: Write>(
     }
 }
 
-/// Writes what is asked for of a file that is a resource fork and nothing else, as `answer` does: of the file are read its first 256
-/// bytes, the map, four bytes for each resource, and the bytes that are written. None, and nothing is written, where the file isn't
-/// known as such a fork, and where the device fails.
+/// Writes what is asked for of a file that is a resource fork and nothing else, as `answer` does: of the file are read
+/// its first 256 bytes, the map, four bytes for each resource, and the bytes that are written. None, and nothing is
+/// written, where the file isn't known as such a fork, and where the device fails.
 pub fn answer_in_parts<S: ForkStore, W: Write>(
     alloc: Global,
     request: &Request,

@@ -4,8 +4,8 @@ ghost use Rattle.std.specs.Prelude.{◌≡◌};
 ghost use Rattle.fork_answer.specs.Answer.{is_get};
 
 use fork_list::find::Wanted;
+use fork_list::letters::Letters;
 use mac_base::resource::ResType;
-use mac_text::letters::Letters;
 
 /// What to show of a fork.
 #[derive(Drop)]

@@ -13,3 +13,10 @@ mod ReadWhole
 pub mod Lengths
 mod Sized
 pub mod Plain
+pub mod Lists
+pub mod Faults
+pub mod Placing
+pub mod Sharing
+pub mod Distinct
+pub mod Whole
+pub mod Pieces

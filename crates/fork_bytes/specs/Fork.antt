@@ -151,7 +151,8 @@ max_rows = 8192
 abbrev pub macheap_limits : Limits
 macheap_limits = record { fork = max_fork; rows = max_rows; bytes = max_fork }
 
--- how much the format can say: a place in the fork has 4 bytes, and one in the data 3; so many bytes are the lengths of so many rows
+-- how much the format can say: a place in the fork has 4 bytes, and one in the data 3; so many bytes are the lengths of
+-- so many rows
 abbrev pub format_limits : Limits
 format_limits = record { fork = 4294967295; rows = 4194304; bytes = 16777216 }
 

@@ -3,3 +3,4 @@ pub mod Fork
 pub mod Written
 pub mod Laws
 pub mod Sizes
+pub mod Reading

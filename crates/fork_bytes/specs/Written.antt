@@ -85,8 +85,8 @@ header_for rows = record {
 abbrev pub header_text : Header → List ℕ
 header_text h = big_bytes 4 h.data_offset ++ (big_bytes 4 h.map_offset ++ (big_bytes 4 h.data_length ++ big_bytes 4 h.map_length))
 
--- the first bytes of the map: the fork's header again, zeros for the next map and the file reference, the map attributes, and
--- where the type list and the name list stand
+-- the first bytes of the map: the fork's header again, zeros for the next map and the file reference, the map
+-- attributes, and where the type list and the name list stand
 abbrev pub map_header_text : Header → ℕ → ℕ → List ℕ
 map_header_text header attributes names =
     header_text header ++ (big_bytes 4 0 ++ (big_bytes 2 0 ++ (big_bytes 2 attributes ++ (big_bytes 2 28 ++ big_bytes 2 names))))
@@ -113,7 +113,8 @@ abbrev pub NamesFit : {X : Type 0} → ℕ → List (Resource X) → Type 0
 NamesFit at [] = Unit {0}
 NamesFit at (row ∷ rows) = IfSome row.name (λ _. at ≤ 65534) × NamesFit (at + length (name_text row.name)) rows
 
--- The table fits a fork: not too many rows, and offsets that two bytes hold. Those of the references are less than the name list's.
+-- The table fits a fork: not too many rows, and offsets that two bytes hold. Those of the references are less than the
+-- name list's.
 pub record FitsWithin (limits : Limits) (table : Table) : Type 0 where
   pub few_rows : length table.rows ≤ limits.rows
   pub lists : names_offset table.rows ≤ 65535

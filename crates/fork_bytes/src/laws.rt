@@ -3,8 +3,8 @@
 ghost use Rattle.fork_bytes.specs.declared.layout.Limits.{Limits};
 ghost use Rattle.fork_bytes.specs.Laws.{IsReadAgain, IsReadAgainWithin, StandsForOne, IsReadGrouped, IsReadGroupedWithin, IsReadWhole, IsReadWholeWithin};
 
-/// The laws of forks and tables: the written form of a table stands for it, no bytes stand for two tables, and what bytes stand for
-/// is grouped by type and may be written again. It computes nothing.
+/// The laws of forks and tables: the written form of a table stands for it, no bytes stand for two tables, and what
+/// bytes stand for is grouped by type and may be written again. It computes nothing.
 pub fn fork_laws()
     ensures read_again { IsReadAgain }
     ensures one { StandsForOne }

@@ -27,8 +27,8 @@ impl Limits {
         bytes: MAX_FORK as u32,
     };
 
-    /// What the format can say. The places in a header have four bytes, and those of resources in the data have three. Each
-    /// resource has four bytes of length, and so these bytes are those of as many resources at most.
+    /// What the format can say. The places in a header have four bytes, and those of resources in the data have three.
+    /// Each resource has four bytes of length, and so these bytes are those of as many resources at most.
     pub const FORMAT: Limits = Limits {
         fork: 0xFFFF_FFFF,
         rows: 0x40_0000,

@@ -74,7 +74,8 @@ fn data_length<D: Datum>(rows: &[Resource<D>], most: u32) -> Option<usize>
     Some(total)
 }
 
-/// What each row is by its type: four bytes of type, numbers in range, and a name of 255 bytes at most. It computes nothing.
+/// What each row is by its type: four bytes of type, numbers in range, and a name of 255 bytes at most. It computes
+/// nothing.
 fn known<D>(row: &Resource<D>)
     ensures { IsRow row.now }
 {
@@ -86,7 +87,8 @@ fn known<D>(row: &Resource<D>)
     }
 }
 
-/// How many bytes the name list has, or None where two bytes don't hold the offset of a name. What each row is comes with it.
+/// How many bytes the name list has, or None where two bytes don't hold the offset of a name. What each row is comes
+/// with it.
 fn names_length<D>(rows: &[Resource<D>]) -> Option<usize>
     ensures some { IfSome result (λ n. n ≡ length (names_text rows.now)) }
     ensures fit { IfSome result (λ _. NamesFit 0 rows.now) }
@@ -107,7 +109,8 @@ fn names_length<D>(rows: &[Resource<D>]) -> Option<usize>
     Some(next)
 }
 
-/// The header of the fork that is written for rows, or None where they are too big for one. What each row is comes with it.
+/// The header of the fork that is written for rows, or None where they are too big for one. What each row is comes with
+/// it.
 pub(crate) fn header_of_rows<D: Datum>(rows: &[Resource<D>], limits: Limits) -> Option<Header>
     ensures header { IfSome result (λ header. header ≡ sized_header (text_length D.text) rows.now) }
     ensures fit { IfSome result (λ _. FitSizesWithin limits (text_length D.text) rows.now) }

@@ -5,8 +5,8 @@ ghost use Rattle.std.specs.Prelude.{◌≡◌};
 use mac_base::resource::Resource;
 use std::marker::Model;
 
-/// The bytes of a resource where they stand: in a fork that was read, or in what a fork is to be written of. A contract sees the
-/// list.
+/// The bytes of a resource where they stand: in a fork that was read, or in what a fork is to be written of. A contract
+/// sees the list.
 #[derive(Drop)]
 pub struct Contents<'a> {
     bytes: &'a [u8],

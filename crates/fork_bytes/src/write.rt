@@ -252,8 +252,8 @@ fn push_fork<D: Datum>(
     Ok(())
 }
 
-/// The bytes of the fork of rows, extra bytes and the attributes of a map: those that `write_fork_within` writes for the table of
-/// them, whatever stands for the bytes of the rows. No memory is needed but for the fork itself.
+/// The bytes of the fork of rows, extra bytes and the attributes of a map: those that `write_fork_within` writes for
+/// the table of them, whatever stands for the bytes of the rows. No memory is needed but for the fork itself.
 pub fn write_rows_within<D: Datum>(
     alloc: Global,
     limits: Limits,
@@ -282,8 +282,8 @@ pub fn write_rows_within<D: Datum>(
     }
 }
 
-/// The bytes of the fork of rows, extra bytes and the attributes of a map: those that `write_fork` writes for the table of them,
-/// whatever stands for the bytes of the rows. No memory is needed but for the fork itself.
+/// The bytes of the fork of rows, extra bytes and the attributes of a map: those that `write_fork` writes for the table
+/// of them, whatever stands for the bytes of the rows. No memory is needed but for the fork itself.
 pub fn write_rows<D: Datum>(
     alloc: Global,
     rows: &[Resource<D>],
@@ -300,10 +300,10 @@ pub fn write_rows<D: Datum>(
 }
 
 /// The bytes of the fork of a table: the header, the extra bytes, the data of the rows without gaps, and the map, whose
-/// lists follow each other in the order of the rows (Inside Macintosh: More Macintosh Toolbox, chapter 1, "Resource File Format").
-/// Where the rows of each type stand together, the bytes stand for the table: they are read as it.
-/// The fault is TooBig exactly where the fork would have more bytes than the limits allow, or the table has more rows, or its rows
-/// more bytes with four of length for each, or an offset in the map is too large for its two bytes.
+/// lists follow each other in the order of the rows (Inside Macintosh: More Macintosh Toolbox, chapter 1, "Resource
+/// File Format"). Where the rows of each type stand together, the bytes stand for the table: they are read as it. The
+/// fault is TooBig exactly where the fork would have more bytes than the limits allow, or the table has more rows, or
+/// its rows more bytes with four of length for each, or an offset in the map is too large for its two bytes.
 pub fn write_fork_within(
     alloc: Global,
     limits: Limits,
@@ -325,9 +325,9 @@ pub fn write_fork_within(
     )
 }
 
-/// The bytes of the fork of a table, as `write_fork_within` gives them, within macheap's limits.
-/// The fault is TooBig exactly where the fork would have more than 4,194,304 bytes, or the table has more than 8,192 rows, or an
-/// offset in the map is too large for its two bytes.
+/// The bytes of the fork of a table, as `write_fork_within` gives them, within macheap's limits. The fault is TooBig
+/// exactly where the fork would have more than 4,194,304 bytes, or the table has more than 8,192 rows, or an offset in
+/// the map is too large for its two bytes.
 pub fn write_fork(alloc: Global, table: &Table) -> Result<Vec<u8>, WriteFault>
     ensures written { IfOk result (λ fork. fork.items ≡ written table.now) }
     ensures small { IfOk result (λ _. length (written table.now) ≤ max_fork) }

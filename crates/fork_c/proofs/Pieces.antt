@@ -10,7 +10,7 @@ use Rattle.fork_bytes.specs.declared.fault.Condition.TheVariants.{RowCount, Plac
 use Rattle.fork_bytes.specs.declared.table.Table.{Table}
 use Rattle.fork_bytes.specs.Rows.{Row, MapRow}
 use Rattle.fork_bytes.specs.Fork.{bytes_at, data_of, map_of, datum_length, map_row, map_rows, references_of, row_with, max_fork, max_rows, HasData, StandsFor}
-use Rattle.fork_reader.proofs.Placing.{length-part}
+use Rattle.fork_bytes.proofs.Placing.{length-part}
 
 -- the pieces of one more row
 pub pieces_more : {X : Type 0} (f : X → List ℕ) (xs : List X) (i : ℕ) (d : X) → i < length xs → flat_map f (take (i + 1) xs) ≡ flat_map f (take i xs) ++ f (get_or xs i d)

@@ -16,7 +16,8 @@ use Rattle.fork_c.specs.Told.{Shows}
 abbrev pub type_given : MfType → List ℕ
 type_given kind = kind.first ∷ kind.second ∷ kind.third ∷ kind.fourth ∷ []
 
--- whether the bytes of a row's name and of its data begin these; a name has 255 bytes at most, and none where the row has no name
+-- whether the bytes of a row's name and of its data begin these; a name has 255 bytes at most, and none where the row
+-- has no name
 abbrev pub has_parts : MfRow → List ℕ → List ℕ → Bool
 has_parts row names contents = nat_le row.name_length (if row.has_name then 255 else 0) && nat_le row.name_length (length names) && nat_le row.data_length (length contents)
 
@@ -30,7 +31,8 @@ row_given row name datum = record {
   datum = datum;
 }
 
--- the rows of these, whose names and data follow one another; none where bytes of a name or a datum are missing, or some are left over
+-- the rows of these, whose names and data follow one another; none where bytes of a name or a datum are missing, or
+-- some are left over
 abbrev pub rows_given : List MfRow → List ℕ → List ℕ → Option (List Row)
 rows_given [] names contents = if (length names == 0) && (length contents == 0) then Some [] else None
 rows_given (row ∷ rows) names contents =

@@ -29,7 +29,8 @@ abbrev pub Shows : {A : Type 0} → Result A OsErr → ℤ → A → A → Type 
 Shows (Ok found) code before shown = (code ≡ pos 0) × (shown ≡ found)
 Shows (Err refusal) code before shown = (code ≡ code_of refusal) × (shown ≡ before)
 
--- C is shown what is found in the rows of the fork that the bytes are; where they aren't read as one, what was there stays.
+-- C is shown what is found in the rows of the fork that the bytes are; where they aren't read as one, what was there
+-- stays.
 abbrev pub IsShown : {A : Type 0} → (List Row → Result A OsErr) → List ℕ → ℤ → A → A → Type 0
 IsShown of fork code before shown = (IsFork fork × Shows (of (table_of fork).rows) code before shown) ⊎ (IsRefused fork code × (shown ≡ before))
 

@@ -33,9 +33,9 @@ pub extern "C" fn mf_sizes(alloc: Global, fork: &[u8], sizes: &mut MfSizes) -> i
     }
 }
 
-/// All resources in the order of the map, in one reading: a row for each, the bytes of all names, one after the other, and those of all
-/// data. `mf_write` takes the same three. paramErr where there is room for more rows or bytes than these or for fewer; then, and after
-/// any other refusal, all is as it was.
+/// All resources in the order of the map, in one reading: a row for each, the bytes of all names, one after the other,
+/// and those of all data. `mf_write` takes the same three. paramErr where there is room for more rows or bytes than
+/// these or for fewer; then, and after any other refusal, all is as it was.
 #[unsafe(no_mangle)]
 pub extern "C" fn mf_rows(
     alloc: Global,

@@ -1,5 +1,5 @@
-//! The table of a fork that C gives: rows as C is shown them, the bytes of their names one behind the other, and those of their
-//! data.
+//! The table of a fork that C gives: rows as C is shown them, the bytes of their names one behind the other, and those
+//! of their data.
 
 ghost use Rattle.std.specs.Prelude.{◌≡◌, ◌≤◌, length, IfOk, bytes_eq};
 ghost use Rattle.std.specs.List.{list_any};
@@ -15,7 +15,8 @@ use mac_base::name::{MAX_NAME, Name};
 use mac_base::resource::{ResAttrs, ResType, Resource};
 use std::alloc::Global;
 
-/// What a fork has beside its resources: 112 bytes for the system and 128 for the application, and the attributes of the map.
+/// What a fork has beside its resources: 112 bytes for the system and 128 for the application, and the attributes of
+/// the map.
 #[repr(C)]
 #[derive(Clone, Copy)]
 pub struct MfExtra {
@@ -33,8 +34,8 @@ pub(crate) fn extra_of(table: &Table) -> MfExtra
     }
 }
 
-/// The table that C gives, or None where it gives none: a name or a datum isn't there, bytes are left over, or rows of one type
-/// stand apart.
+/// The table that C gives, or None where it gives none: a name or a datum isn't there, bytes are left over, or rows of
+/// one type stand apart.
 pub(crate) fn table_given<'a>(
     alloc: Global,
     rows: &[MfRow],
@@ -88,7 +89,8 @@ fn rows_given<'a>(
     Ok(Some(Rows::new(given)))
 }
 
-/// Whether the bytes of a row's name and of its data begin these. A name has 255 bytes at most, and none where the row has no name.
+/// Whether the bytes of a row's name and of its data begin these. A name has 255 bytes at most, and none where the row
+/// has no name.
 fn has_parts(row: &MfRow, names: &[u8], contents: &[u8]) -> bool
     ensures { result ≡ has_parts row.now names.now contents.now }
 {

@@ -30,7 +30,8 @@ pub extern "C" fn mf_row(alloc: Global, fork: &[u8], index: usize, row: &mut MfR
     }
 }
 
-/// The name of one of its resources, no bytes where it has none. paramErr where there are more bytes than that or fewer.
+/// The name of one of its resources, no bytes where it has none. paramErr where there are more bytes than that or
+/// fewer.
 #[unsafe(no_mangle)]
 pub extern "C" fn mf_name(alloc: Global, fork: &[u8], index: usize, bytes: &mut [u8]) -> i16
     ensures { IsShown (name_in index (length bytes.old)) fork.now result bytes.old bytes.new }

@@ -7,8 +7,8 @@ ghost use Rattle.fork_bytes.specs.Rows.{Row};
 ghost use Rattle.fork_c.specs.Told.{IsRefused, Shows, code_of_fault, sized};
 
 use fork_bytes::fault::ForkFault;
+use fork_bytes::read_fork;
 use fork_bytes::table::Table;
-use fork_reader::read_fork;
 use mac_base::error::{NO_ERR, OsErr};
 use std::alloc::Global;
 

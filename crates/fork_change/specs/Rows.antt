@@ -47,7 +47,8 @@ put new rows = if is_there (id_of new) rows then first_to (is_at (id_of new)) (n
 abbrev pub removed : ResourceId → List Row → List Row
 removed what rows = first_to (is_at what) [] rows
 
--- the rows where the first of a type and id becomes this one: in its place, or, where its type is another, as the last of that
+-- the rows where the first of a type and id becomes this one: in its place, or, where its type is another, as the last
+-- of that
 abbrev pub changed_to : ResourceId → Row → List Row → List Row
 changed_to what new rows = if bytes_eq new.kind what.kind then first_to (is_at what) (new ∷ []) rows else added new (removed what rows)
 

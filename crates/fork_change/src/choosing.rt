@@ -35,8 +35,8 @@ pub fn unmet<'c>(choices: &'c [Choice], rows: &[Row]) -> Option<&'c Choice>
     choices.iter().find(|choice| is_unmet(choice, rows))
 }
 
-/// The first row that is meant and has the type and the id of another one before it. The only error is that the host has
-/// no memory.
+/// The first row that is meant and has the type and the id of another one before it. The only error is that the host
+/// has no memory.
 pub fn second_of<'r, 'a>(
     alloc: Global,
     choices: &[Choice],

@@ -25,7 +25,8 @@ pub struct Difference<'r, 'a> {
 /// What differs between two tables.
 #[derive(Drop)]
 pub struct Differences<'r, 'a> {
-    /// The rows that differ: those of the first table in its order, and then those that only the second has, in its own.
+    /// The rows that differ: those of the first table in its order, and then those that only the second has, in its
+    /// own.
     pub rows: Vec<Difference<'r, 'a>>,
     /// Whether no row differs, and they come in another order.
     pub is_reordered: bool,

@@ -9,14 +9,16 @@ bytes_at n at bytes = take n (drop at bytes)
 abbrev pub put_at : ℕ → List ℕ → List ℕ → List ℕ
 put_at at bytes old = take at old ++ bytes ++ drop (at + length bytes) old
 
--- A write of n bytes, done in part: any bytes in its range and past the old end, the same elsewhere, and a length from the old to the new.
+-- A write of n bytes, done in part: any bytes in its range and past the old end, the same elsewhere, and a length from
+-- the old to the new.
 pub record Torn (at n : ℕ) (old new : List ℕ) : Type 0 where
   pub before : take at new ≡ take at old
   pub after : drop (at + n) new ≡ drop (at + n) old
   pub no_shorter : length old ≤ length new
   pub no_longer : length new ≤ max (length old) (at + n)
 
--- A cut to n bytes, done in part: the same bytes before n, any bytes behind, and a length from the old to the new. What is shorter already stays.
+-- A cut to n bytes, done in part: the same bytes before n, any bytes behind, and a length from the old to the new. What
+-- is shorter already stays.
 pub record CutShort (n : ℕ) (old new : List ℕ) : Type 0 where
   pub before : take n new ≡ take n old
   pub no_shorter : min n (length old) ≤ length new

@@ -29,8 +29,9 @@ module _ {S Event : Type 0} (fork : S → List ℕ) (is_ready is_stable is_hones
     pub keeps : KeepsFork
     pub read : OnOk result (after ≡ bytes_at (length before) at (fork old))
 
-  -- The fork is this one, ready and stable. A failure before the first write, which one fault tells, changes nothing, and a later one leaves
-  -- what it may. Whenever a crash comes, a start finds a fork that it might have found before, or this one.
+  -- The fork is this one, ready and stable. A failure before the first write, which one fault tells, changes nothing,
+  -- and a later one leaves what it may. Whenever a crash comes, a start finds a fork that it might have found before,
+  -- or this one.
   pub record ReplacesFork {T E : Type 0} (may_leave : List ℕ → List ℕ → List ℕ → Type 0) (may_find : List Event → List ℕ → Type 0) (early late : E) (this : List ℕ) (result : Result T E) : Type 0 where
     pub honest : is_honest old
     pub replaced : OnOk result (fork new ≡ this)
@@ -40,8 +41,8 @@ module _ {S Event : Type 0} (fork : S → List ℕ) (is_ready is_stable is_hones
     pub left : IsErrOf result late → may_leave this (fork old) (fork new)
     pub any_moment : AlwaysFinds may_find (FoundBeforeOr may_find (history old) this) (history old) (history new)
 
-  -- The fork is the same, and ready where nothing fails. Whenever a crash comes, a start finds a fork that it might have found before.
-  -- The host's memory is asked for only where a fork is copied.
+  -- The fork is the same, and ready where nothing fails. Whenever a crash comes, a start finds a fork that it might
+  -- have found before. The host's memory is asked for only where a fork is copied.
   pub record RecoversFork {T : Type 0} (may_find : List Event → List ℕ → Type 0) (copied : S → ℕ) (result : Result T RecoverFault) : Type 0 where
     pub honest : is_honest old
     pub same : fork new ≡ fork old

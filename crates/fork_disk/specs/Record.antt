@@ -2,7 +2,8 @@
 use Rattle.std.specs.Prelude.{◌≡◌, ⊤, ℕ, zero, suc, ◌==◌, Bool, true, false, List, [], ◌∷◌, length, take, slice_index, IsTrue, Result, Ok, Err}
 use Rattle.fork_disk.specs.Disk.{bytes_at, put_at, Torn, CutShort}
 
--- A call with its answer, as it is noted: which call, an offset or a length, 1 for success, and which file it was; and bytes.
+-- A call with its answer, as it is noted: which call, an offset or a length, 1 for success, and which file it was; and
+-- bytes.
 abbrev pub Event : Type 0
 Event = List ℕ × List ℕ
 
@@ -39,8 +40,8 @@ cut_event which len result = (3 ∷ len ∷ done result ∷ which ∷ [], [])
 abbrev pub sync_event : {T E : Type 0} → ℕ → Result T E → Event
 sync_event which result = (4 ∷ 0 ∷ done result ∷ which ∷ [], [])
 
--- The answer of a call fits a file that held the old bytes before it and holds the new ones after it. A call that failed tells nothing
--- of the bytes; a write or a cut that failed may have been done in part.
+-- The answer of a call fits a file that held the old bytes before it and holds the new ones after it. A call that
+-- failed tells nothing of the bytes; a write or a cut that failed may have been done in part.
 abbrev pub Fits : ℕ → ℕ → Bool → List ℕ → List ℕ → List ℕ → Type 0
 Fits zero n ok bytes old new = (new ≡ old) × (IsTrue ok → n ≡ length old)
 Fits (suc zero) at ok bytes old new = (new ≡ old) × (IsTrue ok → bytes ≡ bytes_at (length bytes) at old)
@@ -54,7 +55,8 @@ Fits (suc (suc (suc (suc more)))) n ok bytes old new = new ≡ old
 abbrev pub IsStable : (List Event → List ℕ) → (List Event → List ℕ → Type 0) → List Event → Type 0
 IsStable held may_leave calls = (left : List ℕ) → may_leave calls left → left ≡ held calls
 
--- What a call does to what a crash may leave: a sync that succeeds makes the file stable, and what changes no bytes keeps it so.
+-- What a call does to what a crash may leave: a sync that succeeds makes the file stable, and what changes no bytes
+-- keeps it so.
 abbrev pub Settles : ℕ → Bool → Type 0 → Type 0 → Type 0
 Settles zero ok old new = old → new
 Settles (suc zero) ok old new = old → new
@@ -62,8 +64,8 @@ Settles (suc (suc zero)) ok old new = ⊤
 Settles (suc (suc (suc zero))) ok old new = ⊤
 Settles (suc (suc (suc (suc more)))) ok old new = (old → new) × (IsTrue ok → new)
 
--- The answers of these calls, the newest first, are those of a file that held such bytes behind each of them, and of which a crash
--- behind each might have left such.
+-- The answers of these calls, the newest first, are those of a file that held such bytes behind each of them, and of
+-- which a crash behind each might have left such.
 abbrev pub IsHonest : (List Event → List ℕ) → (List Event → List ℕ → Type 0) → List Event → Type 0
 IsHonest held may_leave [] = ⊤
 IsHonest held may_leave (e ∷ past) = IsHonest held may_leave past

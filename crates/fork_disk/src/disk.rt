@@ -13,10 +13,11 @@ pub struct DiskFault;
 
 /// A disk with the bytes of one fork. Each call may fail, and what it leaves then is said beside it.
 ///
-/// What is promised of bytes holds of an *honest* disk: one that returns what was written, and that nobody else writes. A disk that is
-/// honest behind a call was so before it, and what is promised of a call rests on the disk that it leaves. Of an honest
-/// disk a caller asks only for bytes that are there: a range that ends past the end is a mistake of the caller, and no failure of
-/// the device. A disk that can't know how long it is, as a file, answers such a read by a fault.
+/// What is promised of bytes holds of an *honest* disk: one that returns what was written, and that nobody else writes.
+/// A disk that is honest behind a call was so before it, and what is promised of a call rests on the disk that it
+/// leaves. Of an honest disk a caller asks only for bytes that are there: a range that ends past the end is a mistake
+/// of the caller, and no failure of the device. A disk that can't know how long it is, as a file, answers such a read
+/// by a fault.
 pub trait ForkDisk {
     /// The bytes that reads give, where the disk is honest.
     ghost seen: { Self → List ℕ };
@@ -53,8 +54,8 @@ pub trait ForkDisk {
         ensures cuts { is_honest self.new → CutsDisk seen is_honest is_stable self.old self.new len result }
         ensures cause { Counts (failures self.old) (failures self.new) result };
 
-    /// Makes what was written stable, so that a crash leaves it. A sync that failed makes nothing stable. The bytes are the same
-    /// either way.
+    /// Makes what was written stable, so that a crash leaves it. A sync that failed makes nothing stable. The bytes are
+    /// the same either way.
     fn sync(&mut self) -> Result<(), DiskFault>
         ensures syncs { is_honest self.new → SyncsDisk seen is_honest is_stable self.old self.new result }
         ensures cause { Counts (failures self.old) (failures self.new) result };

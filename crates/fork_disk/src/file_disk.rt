@@ -9,9 +9,9 @@ use crate::record::FileCalls;
 use crate::world::World;
 use std::marker::PhantomData;
 
-/// A disk that is a file. Each call of the system is noted with its answer, in a record that only clauses read. The disk is honest
-/// where these answers are those of the file that its world tells of, so that nobody else wrote it. Each fault of the system is
-/// counted, and so is a read that ends past the end.
+/// A disk that is a file. Each call of the system is noted with its answer, in a record that only clauses read. The
+/// disk is honest where these answers are those of the file that its world tells of, so that nobody else wrote it. Each
+/// fault of the system is counted, and so is a read that ends past the end.
 #[derive(Drop)]
 pub struct FileDisk<W: World> {
     file: HostFile,

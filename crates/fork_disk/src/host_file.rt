@@ -22,8 +22,8 @@ const CUT: u64 = 3;
 
 const SYNCED: u64 = 4;
 
-/// A file of the system. Nothing is claimed of its bytes. Each fault is counted, and so is a read that ends past the end. Each call is
-/// noted with its answer, and with which file it was of those that share a record.
+/// A file of the system. Nothing is claimed of its bytes. Each fault is counted, and so is a read that ends past the
+/// end. Each call is noted with its answer, and with which file it was of those that share a record.
 #[derive(Drop)]
 pub struct HostFile {
     file: File,
@@ -173,9 +173,9 @@ impl HostFile {
         answer
     }
 
-    /// The same, for one who counts on all that was written so far. Where a sync fails, the system may drop what waited for it, and
-    /// still answer the next one as done. So after one that failed each fails, and no call of the system is made; it is noted as one
-    /// that failed.
+    /// The same, for one who counts on all that was written so far. Where a sync fails, the system may drop what waited
+    /// for it, and still answer the next one as done. So after one that failed each fails, and no call of the system is
+    /// made; it is noted as one that failed.
     pub fn settle(&mut self, log: &mut FileCalls) -> Result<(), DiskFault>
         ensures cause { Counts self.old.failures self.new.failures result }
         ensures trusted { OnOk result (self.old.is_spent ≡ false) }

@@ -26,7 +26,8 @@ impl<T> Record<T> {
         Record { of: PhantomData }
     }
 
-    /// The same. A pick sees the arguments of the call that it is for and nothing else, so they are all that it picks from.
+    /// The same. A pick sees the arguments of the call that it is for and nothing else, so they are all that it picks
+    /// from.
     pub fn of_events_beside<A, B>(_past: &Record<T>, _first: &A, _second: &B) -> Record<T>
         ghost picked: { List T }
         ensures { result.events ≡ picked }

@@ -23,8 +23,8 @@ pub enum ReplaceFault {
     Later,
 }
 
-/// A fork that is read, and replaced as a whole. What is promised of bytes holds where the device is honest behind the call, and so
-/// was before it.
+/// A fork that is read, and replaced as a whole. What is promised of bytes holds where the device is honest behind the
+/// call, and so was before it.
 pub trait ForkStore {
     /// The bytes of the fork, where the device is honest.
     ghost fork: { Self → List ℕ };
@@ -62,9 +62,9 @@ pub trait ForkStore {
     /// Where a store is ready, a start finds the fork that is read.
     ghost ready_finds: { (store : Self) → has_journal → is_honest store → is_ready store → Finds may_find (λ found. found ≡ fork store) (history store) };
 
-    /// Makes the fork ready: a store with a journal finishes, or drops, what a crash or a failed replacement left. The fork is the
-    /// same. Whenever a crash comes, a start finds a fork that it might have found before. The host's memory is asked for only where
-    /// a fork is copied.
+    /// Makes the fork ready: a store with a journal finishes, or drops, what a crash or a failed replacement left. The
+    /// fork is the same. Whenever a crash comes, a start finds a fork that it might have found before. The host's
+    /// memory is asked for only where a fork is copied.
     fn recover(&mut self) -> Result<(), RecoverFault>
         ensures recovers { is_honest self.new → RecoversFork fork is_ready is_stable is_honest history self.old self.new may_find copied result }
         ensures cause { CountsDevice (failures self.old) (failures self.new) result };
@@ -81,8 +81,9 @@ pub trait ForkStore {
         ensures reads { is_honest self.new → ReadsFork fork is_ready is_stable is_honest history self.old self.new at buffer.old buffer.new result }
         ensures cause { Counts (failures self.old) (failures self.new) result };
 
-    /// Puts another fork, whose length four bytes hold, in the place of the one that is there. Where it succeeds, a crash leaves the
-    /// new one. Whenever a crash comes, a start finds a fork that it might have found before, or the new one.
+    /// Puts another fork, whose length four bytes hold, in the place of the one that is there. Where it succeeds, a
+    /// crash leaves the new one. Whenever a crash comes, a start finds a fork that it might have found before, or the
+    /// new one.
     fn replace(&mut self, new: &[u8]) -> Result<(), ReplaceFault>
         requires ready { is_honest self.old → is_ready self.old }
         requires short { length new.now < 2 ^ 32 }

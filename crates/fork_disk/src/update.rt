@@ -32,8 +32,8 @@ fn read_kept<S: ForkStore>(store: &mut S, fork: &mut [u8], range: Kept) -> Resul
     store.read_at(range.from, &mut fork[range.to..range.to + range.length])
 }
 
-/// Reads the bytes that a new fork keeps to their places in it: one read for each range, and none for an empty one. After a fault
-/// the new fork holds any bytes. The old fork stays as it is in any case.
+/// Reads the bytes that a new fork keeps to their places in it: one read for each range, and none for an empty one.
+/// After a fault the new fork holds any bytes. The old fork stays as it is in any case.
 pub fn gather<S: ForkStore>(store: &mut S, fork: &mut [u8], kept: &[Kept]) -> Result<(), DiskFault>
     requires inside { All (λ k. k.to + k.length ≤ length fork.old) kept.now }
     requires there { S.is_honest store.old → CanGather S.ForkStore store.old kept.now }
@@ -46,8 +46,8 @@ pub fn gather<S: ForkStore>(store: &mut S, fork: &mut [u8], kept: &[Kept]) -> Re
     Ok(())
 }
 
-/// Puts a new fork in the place of the old one, of which it keeps some bytes. All of these are read before the first write, so a
-/// fault of a read leaves the old fork.
+/// Puts a new fork in the place of the old one, of which it keeps some bytes. All of these are read before the first
+/// write, so a fault of a read leaves the old fork.
 pub fn update<S: ForkStore>(
     store: &mut S,
     fork: &mut [u8],
@@ -66,8 +66,8 @@ pub fn update<S: ForkStore>(
     }
 }
 
-/// Puts a fork in the place of what a disk has: it is written from the start, the disk is cut to its length, and synced. After a
-/// fault it may be there in part.
+/// Puts a fork in the place of what a disk has: it is written from the start, the disk is cut to its length, and
+/// synced. After a fault it may be there in part.
 pub fn replace<D: ForkDisk>(disk: &mut D, fork: &[u8]) -> Result<(), DiskFault>
     ensures replaces { D.is_honest disk.new → ReplacesDisk D.seen D.is_honest D.is_stable disk.old disk.new fork.now result }
     ensures cause { Counts (D.failures disk.old) (D.failures disk.new) result }

@@ -21,8 +21,9 @@ IsTableIn file table = (fork : List ℕ) × IsSourceOf file fork × IsTableOf fo
 abbrev pub Differs : List ℕ → List Row → Edit → Table → List Row → Type 0
 Differs file from edit table rows = IsTableIn file table × (edited edit from table.rows ≡ Ok rows) × (rows ≢ table.rows)
 
--- what comes of a change of a file: nothing where its table stays as it is, else the file with the new table; or it is refused,
--- as the change is, or since the file has no table, or exactly as the file is refused the new one. The host may have no memory.
+-- what comes of a change of a file: nothing where its table stays as it is, else the file with the new table; or it is
+-- refused, as the change is, or since the file has no table, or exactly as the file is refused the new one. The host
+-- may have no memory.
 abbrev pub Comes : List ℕ → List Row → Edit → Result (Option NewFile) NotChanged → Type 0
 Comes file from edit (Ok None) = (table : Table) × IsTableIn file table × (edited edit from table.rows ≡ Ok table.rows)
 Comes file from edit (Ok (Some new)) = (table : Table) × (rows : List Row) × Differs file from edit table rows × HasTable file (with_rows table rows) new.file.items × Refuses file (with_rows table rows) None

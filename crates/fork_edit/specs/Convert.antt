@@ -87,7 +87,8 @@ is_data_beside (Some (MacBinary version)) = false
 abbrev pub lacks_data : Transfer → Bool
 lacks_data asked = is_data_beside (container_of asked.bytes.now) && (holds asked.target DataFork && not asked.is_data_named)
 
--- all that is lost: details that the container can't hold, a data fork that is elsewhere, and what no container is given
+-- all that is lost: details that the container can't hold, a data fork that is elsewhere, and what no container is
+-- given
 abbrev pub losses : Transfer → List Loss
 losses asked = lost_details asked
     ++ ((if lacks_data asked then loss.DataBeside ∷ [] else []) ++ map loss.Extra (extras asked.bytes.now))
@@ -96,8 +97,8 @@ losses asked = lost_details asked
 abbrev pub MayLose : Transfer → Type 0
 MayLose asked = (asked.is_lossy ≡ true) ⊎ (losses asked ≡ [])
 
--- what comes of a file in another container: what is lost is told, and refused where it may not be; then the container's own
--- refusal comes, and else there is the new file
+-- what comes of a file in another container: what is lost is told, and refused where it may not be; then the
+-- container's own refusal comes, and else there is the new file
 abbrev pub IsConverted : Transfer → Result Rewritten NotConverted → Type 0
 IsConverted asked (Ok new) = MayLose asked × (new.lost.items ≡ losses asked) × (new.file.items ≡ text_of asked.target (new_file asked))
     × (unwritten asked.target (new_file asked) ≡ None)

@@ -1,5 +1,5 @@
--- What a file has that no container is given: all but the forks, the name, the type, the creator and the flags, the first two dates
--- and the comment.
+-- What a file has that no container is given: all but the forks, the name, the type, the creator and the flags, the
+-- first two dates and the comment.
 use Rattle.std.specs.Prelude.{ℕ, ◌==◌, nat_le, nat_lt, Bool, false, ◌&&◌, ◌||◌, not, if◌then◌else◌, List, [], ◌∷◌, ◌++◌, length, drop, bytes_eq, Option, None, Some, is_some}
 use Rattle.std.specs.List.{filter_map}
 use Rattle.mac_files.specs.Apple.{entries_of, entry_of}
@@ -20,7 +20,8 @@ use Rattle.fork_edit.specs.declared.extra.Extra.TheVariants as extra
 abbrev pub is_known : List ℕ → Bool
 is_known date = says_something date && not (bytes_eq date (128 ∷ 0 ∷ 0 ∷ 0 ∷ []))
 
--- the dates of an entry from the third on, those of the last backup and the last access, say something; or what follows them does
+-- the dates of an entry from the third on, those of the last backup and the last access, say something; or what follows
+-- them does
 abbrev pub has_other_dates : List ℕ → Bool
 has_other_dates bytes = is_known (bytes_at 4 8 bytes) || is_known (bytes_at 4 12 bytes) || says_something (drop 16 bytes)
 

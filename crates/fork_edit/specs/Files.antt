@@ -34,7 +34,8 @@ pub record IsNoSourceIn (file : List ℕ) (fault : NoFork) : Type 0 where
   pub none : IsNoForkIn file fault
   pub unsure : fault ≡ Absent → container_of file ≡ Some (MacBinary I)
 
--- the file is kept as it was, with these bytes as its resource fork: in its container, as a BinHex text, or as nothing but the fork
+-- the file is kept as it was, with these bytes as its resource fork: in its container, as a BinHex text, or as nothing
+-- but the fork
 abbrev pub IsKeptElsewhere : Bool → List ℕ → List ℕ → List ℕ → Type 0
 IsKeptElsewhere true file fork new = (read : File) × (bin_hex_of file ≡ Ok read) × (bin_hex_of new ≡ Ok (record read { resource_fork = fork }))
 IsKeptElsewhere false file fork new = new ≡ fork
@@ -49,7 +50,8 @@ abbrev pub IsForkBy : Container → List ℕ → List ℕ → Type 0
 IsForkBy Raw new fork = ⊤
 IsForkBy container new fork = IsForkIn new fork
 
--- A file has this table in the place of its own, and all else as it was: its resource fork is the written form of the table.
+-- A file has this table in the place of its own, and all else as it was: its resource fork is the written form of the
+-- table.
 pub record HasTable (file : List ℕ) (table : Table) (new : List ℕ) : Type 0 where
   pub found : IsForkIn new (written table)
   pub stands : IsTableOf (written table) table
@@ -78,8 +80,8 @@ kept_why None file fork = if is_bin_hex file then text_why (bin_hex_of file) for
 kept_why (Some Raw) file fork = alone_why fork
 kept_why (Some container) file fork = option_map unwritten.Container (refusal container file (length fork))
 
--- Why a file isn't given a table: the table is too big; or rows of one type are apart, which no fork can say; or it is why the file
--- isn't given the fork of the table.
+-- Why a file isn't given a table: the table is too big; or rows of one type are apart, which no fork can say; or it is
+-- why the file isn't given the fork of the table.
 abbrev pub IsWhy : List ℕ → Table → NotWritten → Type 0
 IsWhy file table fault = ((fault ≡ unwritten.TooBig) × IsTooBigWithin format_limits table)
     ⊎ ((¬ IsTooBigWithin format_limits table) × (((fault ≡ unwritten.Mistaken) × (¬ IsGrouped table.rows))

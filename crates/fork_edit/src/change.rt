@@ -47,8 +47,8 @@ pub struct NewFile {
     pub told: String,
 }
 
-/// The file after a change of its table, to which resources are copied from these rows, and all else as it was. None exactly where
-/// the change leaves the table as it is: then nothing is to be written.
+/// The file after a change of its table, to which resources are copied from these rows, and all else as it was. None
+/// exactly where the change leaves the table as it is: then nothing is to be written.
 pub fn changed(
     alloc: Global,
     file: &[u8],

@@ -2,10 +2,9 @@
 
 use fork_bytes::table::Row;
 use fork_change::{Difference, Differences, first_difference};
-use fork_list::{Attributes, KindText, NamePart};
+use fork_list::letters::Letters;
+use fork_list::{Attributes, KindText, NamePart, Quoted};
 use mac_base::error::HostFull;
-use mac_text::Quoted;
-use mac_text::letters::Letters;
 use std::alloc::{AllocError, Global};
 
 /// The name of a row, if it has one.

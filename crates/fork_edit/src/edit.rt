@@ -81,8 +81,8 @@ fn copy_in<'a>(
     copy(table, from, chosen, how)
 }
 
-/// The table after a change, to which resources are copied from these: exactly that of the definitions, or refused as they say. It is
-/// Missing where a resource that is named isn't there, and Taken where one is there that must not be.
+/// The table after a change, to which resources are copied from these: exactly that of the definitions, or refused as
+/// they say. It is Missing where a resource that is named isn't there, and Taken where one is there that must not be.
 pub fn edited<'a>(table: Table<'a>, from: &[Row<'a>], edit: Edit<'a>) -> Result<Table<'a>, Refusal>
     ensures { Becomes table.entry (edited edit.entry from.now table.entry.rows) result }
 {

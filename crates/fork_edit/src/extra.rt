@@ -1,5 +1,5 @@
-//! What a file has that no container is given: all but the forks, the name, the type, the creator and the flags, the first two dates
-//! and the comment.
+//! What a file has that no container is given: all but the forks, the name, the type, the creator and the flags, the
+//! first two dates and the comment.
 
 ghost use Rattle.std.specs.Prelude.{◌≡◌, ◌≤◌, ◌+◌, ◌*◌, ◌++◌, true, IfOk, List, None, OnOk, drop, filter_map, length};
 ghost use Rattle.std.specs.List.{cons_option};
@@ -185,8 +185,8 @@ fn apple_extras(alloc: Global, file: &[u8]) -> Result<Vec<Extra>, AllocError>
     }
 }
 
-/// Whether MacBinary has what the Finder notes beside the type, the creator and the flags: from 75 on the place of its icon, its
-/// folder and its lock, at 106 the script of its name and more flags.
+/// Whether MacBinary has what the Finder notes beside the type, the creator and the flags: from 75 on the place of its
+/// icon, its folder and its lock, at 106 the script of its name and more flags.
 fn has_notes(file: &[u8]) -> bool
     ensures { result ≡ has_notes file.now }
 {

@@ -74,8 +74,8 @@ impl From<BinHexFault> for NotWritten {
     }
 }
 
-/// The resource fork in a file. In a container without one it has no bytes; but what only seems to be MacBinary I, which has no
-/// signature, isn't taken for a container without one.
+/// The resource fork in a file. In a container without one it has no bytes; but what only seems to be MacBinary I,
+/// which has no signature, isn't taken for a container without one.
 pub fn fork_or_none<'a>(alloc: Global, file: &'a [u8]) -> Result<Found<'a>, NoFork>
     ensures fork { IfOk result (λ found. IsSourceOf file.now (fork_of found)) }
     ensures none { IfErr result (IsNoSourceIn file.now) }
@@ -88,9 +88,10 @@ pub fn fork_or_none<'a>(alloc: Global, file: &'a [u8]) -> Result<Found<'a>, NoFo
     }
 }
 
-/// The file with this table in the place of its own, and all else as it was. It is TooBig exactly where the table is more than the
-/// format can say, and Mistaken where rows of one type are apart, or where the fork alone would be taken for something else. Any
-/// other refusal is that of the container or of the text, and comes exactly where it is defined, but for HostFull.
+/// The file with this table in the place of its own, and all else as it was. It is TooBig exactly where the table is
+/// more than the format can say, and Mistaken where rows of one type are apart, or where the fork alone would be taken
+/// for something else. Any other refusal is that of the container or of the text, and comes exactly where it is
+/// defined, but for HostFull.
 pub fn with_table(alloc: Global, file: &[u8], table: &Table) -> Result<Vec<u8>, NotWritten>
     ensures too_big { IsErrOf result NotWritten.TooBig ↔ IsTooBigWithin format_limits table.now }
     ensures refused { Refuses file.now table.now (result_err result) }

@@ -1,4 +1,5 @@
-//! A file whose resources are changed: the table of its resource fork is read, changed, and written in the place of the old one.
+//! A file whose resources are changed: the table of its resource fork is read, changed, and written in the place of the
+//! old one.
 #![tactic(auto)]
 
 pub mod change;

@@ -34,7 +34,8 @@ abbrev pub with_row : Listed → Option (List ℕ) → Result (List Row) (List �
 with_row entry None others = Err entry.file
 with_row entry (Some bytes) others = before (row_with entry bytes) others
 
--- the rows of a manifest's entries, each with the bytes of its file in a folder, or the first path where there is no file
+-- the rows of a manifest's entries, each with the bytes of its file in a folder, or the first path where there is no
+-- file
 abbrev pub packed : (List ℕ → Option (List ℕ)) → List Listed → Result (List Row) (List ℕ)
 packed folder [] = Ok []
 packed folder (entry ∷ entries) = with_row entry (folder entry.file) (packed folder entries)

@@ -67,8 +67,8 @@ fn push_file<'a>(
     Ok(())
 }
 
-/// The files of the resources of these types, or of all where none are named, in the order of the rows. The only error is that the host
-/// has no memory.
+/// The files of the resources of these types, or of all where none are named, in the order of the rows. The only error
+/// is that the host has no memory.
 pub fn unpacked<'a>(
     alloc: Global,
     kinds: &[ResType],

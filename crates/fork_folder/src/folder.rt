@@ -3,8 +3,8 @@
 ghost use Rattle.std.specs.Prelude.{◌≡◌, Some};
 ghost use Rattle.fork_folder.specs.Names.{escaped, folder_name, is_capital, is_plain, is_small, symbol, turned};
 
+use fork_list::hexadecimal_digit;
 use mac_base::resource::ResType;
-use mac_text::hexadecimal_digit;
 use std::fmt;
 
 /// A byte that a file's name can't have as it stands: `%` and two hexadecimal digits.
@@ -95,8 +95,8 @@ impl fmt::Display for Symbol {
     }
 }
 
-/// The name of the folder for a type: capital letters as they are, and `~` before a letter whose case is another than that of the letter
-/// before it. Types that differ have folders that differ, for a file system that knows no case too.
+/// The name of the folder for a type: capital letters as they are, and `~` before a letter whose case is another than
+/// that of the letter before it. Types that differ have folders that differ, for a file system that knows no case too.
 #[derive(Clone, Copy)]
 pub(crate) struct FolderName(pub ResType);
 

@@ -3,14 +3,15 @@
 ghost use Rattle.fork_folder.specs.Laws.{AreSafe, IsOneToOne};
 ghost use Rattle.fork_folder.specs.PackedAgain.{IsPackedAgain};
 
-/// Each resource has a path of its own, for a file system that has no regard to case too, and names that file systems take. It computes
-/// nothing.
+/// Each resource has a path of its own, for a file system that has no regard to case too, and names that file systems
+/// take. It computes nothing.
 pub fn folder_laws()
     ensures own { IsOneToOne }
     ensures safe { AreSafe }
 {}
 
-/// The files that the rows of a fork are unpacked to, packed again by what their manifest says, are those rows. It computes nothing.
+/// The files that the rows of a fork are unpacked to, packed again by what their manifest says, are those rows. It
+/// computes nothing.
 pub fn pack_laws()
     ensures again { IsPackedAgain }
 {}

@@ -1,5 +1,6 @@
-//! The files that the resources of a fork are unpacked to: TYPE/ID NAME.bin, with types and names made safe for file systems, and no two
-//! files of one path. The resources of such a folder: what `resources.json` says of each, and the bytes of its file.
+//! The files that the resources of a fork are unpacked to: TYPE/ID NAME.bin, with types and names made safe for file
+//! systems, and no two files of one path. The resources of such a folder: what `resources.json` says of each, and the
+//! bytes of its file.
 #![tactic(auto)]
 
 mod counts;

@@ -7,9 +7,9 @@ ghost use Rattle.fork_folder.specs.Paths.{IsInFolder, IsRefusedPath, is_dots, is
 
 use crate::rows::{Entry, Flaw, PackFault};
 use bitflags::Flags;
+use fork_list::bytes_of;
 use mac_base::name::Name;
 use mac_base::resource::{ResAttrs, ResType};
-use mac_text::bytes_of;
 use serde::Deserialize;
 use std::alloc::{AllocError, Global};
 
@@ -154,8 +154,8 @@ fn extra_of(text: &str) -> Option<[u8; 240]> {
     Some(extra)
 }
 
-/// What a manifest says that `unpack` wrote. An error says what isn't so, and in which file's entry. Each file is in a folder of the
-/// folder, and a path is refused only where it leads elsewhere.
+/// What a manifest says that `unpack` wrote. An error says what isn't so, and in which file's entry. Each file is in a
+/// folder of the folder, and a path is refused only where it leads elsewhere.
 pub fn manifest_of(alloc: Global, text: &str) -> Result<Packing, PackFault>
     ensures inside { IfOk result (λ packing. AllByRecursion IsInFolder packing.entries.items) }
     ensures outside { IfErr result IsRefusedPath }

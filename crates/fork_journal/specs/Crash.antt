@@ -23,7 +23,8 @@ abbrev pub OnSide : Side → (List ℕ → List ℕ → Type 0) → Contents →
 OnSide Fork step old new = step old.fork new.fork × (new.journal ≡ old.journal)
 OnSide Journal step old new = step old.journal new.journal × (new.fork ≡ old.fork)
 
--- What happened to a pair: it was found so at a start; n bytes of a side were written at an offset, or a side was cut to n bytes, at least in part; a side was synced while it read so; a sync of a side failed.
+-- What happened to a pair: it was found so at a start; n bytes of a side were written at an offset, or a side was cut
+-- to n bytes, at least in part; a side was synced while it read so; a sync of a side failed.
 pub data Event : Type 0 where
   Found : Contents → Event
   Wrote : Side → ℕ → ℕ → Event
@@ -54,8 +55,9 @@ abbrev pub has_failed : Side → History → Bool
 has_failed side [] = false
 has_failed side (event ∷ past) = fails_on event side || has_failed side past
 
--- What a crash after these events may leave: each write and each cut may be done in part or not at all, by itself, and of this a sync leaves only what its side read then.
--- A sync that failed may have dropped what waited for it, so after one no later sync of its side counts.
+-- What a crash after these events may leave: each write and each cut may be done in part or not at all, by itself, and
+-- of this a sync leaves only what its side read then. A sync that failed may have dropped what waited for it, so after
+-- one no later sync of its side counts.
 abbrev pub MayLeave : History → Contents → Type 0
 MayLeave [] c = ⊥
 MayLeave (Found d ∷ past) c = c ≡ d

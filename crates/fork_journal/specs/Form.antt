@@ -1,4 +1,5 @@
--- The form of a journal: byte 0 is the gate, and the text behind it is the length of a fork in four bytes and as many bytes.
+-- The form of a journal: byte 0 is the gate, and the text behind it is the length of a fork in four bytes and as many
+-- bytes.
 use Rattle.std.specs.Prelude.{◌≡◌, ℕ, ◌+◌, ◌==◌, ◌&&◌, ◌||◌, nat_le, Bool, List, ◌++◌, length, take, drop, get_or}
 use Rattle.byteorder.specs.Endian.{big_bytes, big_number}
 

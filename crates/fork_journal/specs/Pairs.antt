@@ -31,8 +31,8 @@ module _ {P : Type 0} (pair : Ghosts P) (old new : P) where
         (λ fork. (is_usable (pair.contents old).journal ≡ true) × (fork.items ≡ fork_in (drop 1 (pair.contents old).journal))))
     pub memory : IsErrOf result Host → 1 ≤ copied_length (pair.contents old)
 
-  -- The side gets these bytes, and is stable then. Whenever a crash comes, it leaves what it might have left before, but for steps of
-  -- this side.
+  -- The side gets these bytes, and is stable then. Whenever a crash comes, it leaves what it might have left before,
+  -- but for steps of this side.
   pub record PutsSide {T E : Type 0} (side : Side) (Step : List ℕ → List ℕ → Type 0) (bytes : List ℕ) (result : Result T E) : Type 0 where
     pub honest : pair.is_honest old
     pub any_moment : AlwaysLeaves (LeftWith side Step (pair.history old)) (pair.history old) (pair.history new)

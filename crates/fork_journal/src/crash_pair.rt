@@ -12,8 +12,8 @@ use crate::pair::{PairDisk, Side};
 use fork_disk::disk::DiskFault;
 use std::alloc::{AllocError, Global};
 
-/// A pair in memory that stops behind its n-th write, cut or sync. Each call from then on fails, is counted and changes nothing.
-/// `outcome` then tells what a crash at that moment leaves, as a test picks it.
+/// A pair in memory that stops behind its n-th write, cut or sync. Each call from then on fails, is counted and changes
+/// nothing. `outcome` then tells what a crash at that moment leaves, as a test picks it.
 #[derive(Drop)]
 pub struct CrashPair {
     pair: MemPair,
@@ -41,8 +41,8 @@ impl CrashPair {
         &self.pair
     }
 
-    /// What a start finds after a crash now, by a choice for each call of the record, from the first on. A call without one was done whole,
-    /// and of a call that a sync of its side follows the choice says nothing.
+    /// What a start finds after a crash now, by a choice for each call of the record, from the first on. A call without
+    /// one was done whole, and of a call that a sync of its side follows the choice says nothing.
     pub fn outcome(&self, alloc: Global, choices: &[Choice]) -> Result<MemPair, AllocError>
         ensures left { IfOk result (λ left. MayLeave (after_calls self.now.pair.calls.items (found self.now.pair.first_fork.items self.now.pair.first_journal.items)).history
             (record { fork = left.fork.items; journal = left.journal.items })) }

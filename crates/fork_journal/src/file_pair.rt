@@ -11,10 +11,10 @@ use fork_disk::disk::DiskFault;
 use fork_disk::{FileCalls, HostFile};
 use std::marker::PhantomData;
 
-/// A fork and its journal that are two files. Each call of the system is noted with its answer, in one record for both, that only
-/// clauses read. The pair is honest where these answers are those of the files that its world tells of, so that nobody else wrote them.
-/// The two are one device: their faults are one count, and a machine that stops, stops both. After a sync that failed, each sync of that
-/// file fails.
+/// A fork and its journal that are two files. Each call of the system is noted with its answer, in one record for both,
+/// that only clauses read. The pair is honest where these answers are those of the files that its world tells of, so
+/// that nobody else wrote them. The two are one device: their faults are one count, and a machine that stops, stops
+/// both. After a sync that failed, each sync of that file fails.
 #[derive(Drop)]
 pub struct FilePair<W: PairWorld> {
     fork: HostFile,
@@ -29,8 +29,8 @@ pub struct FilePair<W: PairWorld> {
 }
 
 impl<W: PairWorld> FilePair<W> {
-    /// The pair of two files, which must not be the same one, and of which nothing was asked so far. No other pair of this world may
-    /// have its number.
+    /// The pair of two files, which must not be the same one, and of which nothing was asked so far. No other pair of
+    /// this world may have its number.
     pub fn new(fork: HostFile, journal: HostFile, number: u64) -> FilePair<W>
         ensures fork { result.fork ≡ record fork { which = 0 } }
         ensures journal { result.journal ≡ record journal { which = 1 } }

@@ -13,8 +13,8 @@ use fork_disk::faults::RecoverFault;
 use fork_disk::store::{ForkStore, ReplaceFault};
 use std::alloc::Global;
 
-/// A fork that is replaced by way of its journal, so that whenever a crash comes, the old fork or the new one is there once the pair is
-/// recovered. Its failures are those of the pair.
+/// A fork that is replaced by way of its journal, so that whenever a crash comes, the old fork or the new one is there
+/// once the pair is recovered. Its failures are those of the pair.
 #[derive(Drop)]
 pub struct Journal<P: PairDisk> {
     alloc: Global,

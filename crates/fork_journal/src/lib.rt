@@ -1,4 +1,5 @@
-//! A journal beside a resource fork: an update of the fork is all there or not at all, also when the machine stops in it.
+//! A journal beside a resource fork: an update of the fork is all there or not at all, also when the machine stops in
+//! it.
 #![tactic(auto)]
 
 mod crash_pair;

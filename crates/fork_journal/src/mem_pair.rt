@@ -21,8 +21,8 @@ pub enum Call {
     Sync(Side),
 }
 
-/// A pair in memory. It is honest, and fails only where the host refuses it memory, for a growth or for its record; then nothing has
-/// changed.
+/// A pair in memory. It is honest, and fails only where the host refuses it memory, for a growth or for its record;
+/// then nothing has changed.
 #[derive(Drop)]
 pub struct MemPair {
     alloc: Global,

@@ -13,7 +13,8 @@ use fork_disk::disk::DiskFault;
 use fork_disk::faults::RecoverFault;
 use std::alloc::Global;
 
-/// Writes the fork that stands behind the open gate, and shuts the gate. Whenever a crash comes, the pair recovers this fork.
+/// Writes the fork that stands behind the open gate, and shuts the gate. Whenever a crash comes, the pair recovers this
+/// fork.
 pub(crate) fn finish<P: PairDisk>(pair: &mut P, fork: &[u8]) -> Result<(), DiskFault>
     requires { P.is_honest pair.old → IsStaged P.PairDisk pair.old fork.now }
     ensures puts { P.is_honest pair.new → Puts P.PairDisk pair.old pair.new (λ c. settled_fork c ≡ fork.now) fork.now
@@ -25,8 +26,8 @@ pub(crate) fn finish<P: PairDisk>(pair: &mut P, fork: &[u8]) -> Result<(), DiskF
     Ok(())
 }
 
-/// Makes what a crash or a fault left whole again: it syncs the journal, and where that is usable, it writes its fork and shuts the
-/// gate. It may stop anywhere and be run again.
+/// Makes what a crash or a fault left whole again: it syncs the journal, and where that is usable, it writes its fork
+/// and shuts the gate. It may stop anywhere and be run again.
 pub fn recover<P: PairDisk>(alloc: Global, pair: &mut P) -> Result<(), RecoverFault>
     requires { CanRecover P.PairDisk pair.old }
     ensures recovers { P.is_honest pair.new → RecoversPair P.PairDisk pair.old pair.new result }

@@ -1,5 +1,5 @@
-//! The steps of an update, each with at most three calls of its own that change the device. Whenever a crash comes in a step, it
-//! leaves what it might have left before, but for the part that the step writes.
+//! The steps of an update, each with at most three calls of its own that change the device. Whenever a crash comes in a
+//! step, it leaves what it might have left before, but for the part that the step writes.
 
 ghost use Rattle.std.specs.Prelude.{◌+◌, ◌<◌, ◌^◌, ◌∷◌, ◌++◌, length, take, drop};
 ghost use Rattle.fork_disk.specs.Disk.{Counts};

@@ -1,3 +1,6 @@
+pub mod Table
+pub mod Texts
+pub mod Counted
 pub mod Reading
 pub mod Written
 pub mod Words

@@ -4,11 +4,11 @@ use Rattle.std.specs.Prelude.{◌+◌, ◌&&◌, if◌then◌else◌, cond, byte
 use Rattle.std.specs.List.{AllByRecursion, filter, flat_map}
 use Rattle.std.proofs.lemmas.List.Sums.{sum_by-cons}
 use Rattle.std.proofs.lemmas.Option.{slice_get-map}
-use Rattle.mac_text.specs.declared.letters.Letters.{Letters}
+use Rattle.fork_list.specs.declared.letters.Letters.{Letters}
 use Rattle.fork_bytes.specs.Rows.{Row}
-use Rattle.fork_reader.specs.Reading.{PlacedRow, IsWithin, row_at}
-use Rattle.fork_reader.specs.declared.place.Place.{Place}
-use Rattle.fork_reader.proofs.Placing.{length-part}
+use Rattle.fork_bytes.specs.Reading.{PlacedRow, IsWithin, row_at}
+use Rattle.fork_bytes.specs.declared.place.Place.{Place}
+use Rattle.fork_bytes.proofs.Placing.{length-part}
 use Rattle.fork_list.specs.declared.find.Key.{Key}
 use Rattle.fork_list.specs.declared.find.Key.TheVariants.{Id, Name}
 use Rattle.fork_list.specs.declared.find.Wanted.{Wanted}

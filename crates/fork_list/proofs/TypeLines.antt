@@ -2,7 +2,7 @@
 use Rattle.std.proofs.Common.{◌≡◌, ℕ, suc, ◌+◌, ◌<◌, List, ◌∷◌, ◌++◌, length, get_or, drop, Option, Some, add-one, append_assoc, sym, ap, ◌∙◌}
 use Rattle.std.proofs.Math.Seq.{drop-cons}
 use Rattle.mac_base.specs.declared.resource.Resource.{Resource}
-use Rattle.mac_text.specs.declared.letters.Letters.{Letters}
+use Rattle.fork_list.specs.declared.letters.Letters.{Letters}
 use Rattle.fork_list.specs.Types.{type_line, type_lines}
 
 pub one_more : {X : Type 0} (letters : Letters) (kinds : List (List ℕ)) (all : List (Resource X)) (before : Option (List ℕ)) (done whole : List ℕ) (rows : List (Resource X)) (i : ℕ) (row : Resource X)

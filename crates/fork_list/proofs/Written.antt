@@ -5,8 +5,8 @@ use Rattle.std.specs.Char.{digit_value}
 use Rattle.std.specs.Fmt.{digit_glyph}
 use Rattle.std.proofs.lemmas.Bool.{eqb-true, eqb-false, leb-true, cond-true, cond-false, cases_Bool, cases_lt, or_cases, or_parts, or_from, or_left, or_right, and_parts, and_from, eq-eqb, ne_eqb, le-leb, agree_below_at}
 use Rattle.std.proofs.lemmas.List.{take_rest}
-use Rattle.mac_text.specs.declared.letters.Letters.TheVariants.{Roman}
-use Rattle.mac_text.specs.Quoted.{is_letter}
+use Rattle.fork_list.specs.declared.letters.Letters.TheVariants.{Roman}
+use Rattle.fork_list.specs.Quoted.{is_letter}
 use Rattle.fork_list.specs.Kind.{IsHexadecimal, ShowsFirst, written}
 
 -- the byte stands for itself

@@ -3,11 +3,11 @@ use Rattle.std.specs.Prelude.{◌≡◌, ℕ, ◌+◌, ◌-◌, ◌*◌, ◌/◌
 use Rattle.std.specs.List.{flat_map}
 use Rattle.std.specs.Char.{digit_value}
 use Rattle.std.specs.Fmt.{digit_glyph}
-use Rattle.mac_text.specs.declared.letters.Letters.TheVariants.{Roman}
-use Rattle.mac_text.specs.Quoted.{is_letter}
+use Rattle.fork_list.specs.declared.letters.Letters.TheVariants.{Roman}
+use Rattle.fork_list.specs.Quoted.{is_letter}
 
--- a byte as it is written between single quotes, in MacRoman: itself where it is a letter, and else `\x` and two digits; a backslash
--- stands before a quote and a backslash
+-- a byte as it is written between single quotes, in MacRoman: itself where it is a letter, and else `\x` and two
+-- digits; a backslash stands before a quote and a backslash
 abbrev pub written : ℕ → List ℕ
 written byte =
     if byte == 39 || byte == 92 then 92 ∷ byte ∷ []

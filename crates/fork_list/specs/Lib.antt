@@ -1,3 +1,7 @@
+pub mod Roman
+pub mod Quoted
+pub mod Strings
+pub mod Versions
 pub mod Attributes
 pub mod Find
 pub mod Kind

@@ -4,11 +4,12 @@ use Rattle.std.specs.List.{flat_map, list_all, list_any}
 use Rattle.std.specs.Fmt.{format_spec, styled_decimal, styled_signed_decimal}
 use Rattle.mac_base.specs.declared.resource.ResAttrs.{ResAttrs}
 use Rattle.mac_base.specs.declared.resource.Resource.{Resource}
-use Rattle.mac_text.specs.declared.letters.Letters.{Letters}
-use Rattle.mac_text.specs.Quoted.{escaped, quoted}
+use Rattle.fork_list.specs.declared.letters.Letters.{Letters}
+use Rattle.fork_list.specs.Quoted.{escaped, quoted}
 use Rattle.fork_list.specs.Attributes.{attributes_text}
 
--- the byte of a type at a place: a blank is padding where only blanks follow, but not in the first place, and else `\x20`
+-- the byte of a type at a place: a blank is padding where only blanks follow, but not in the first place, and else
+-- `\x20`
 abbrev pub cell_text : Letters → List ℕ → ℕ → List ℕ
 cell_text letters kind at = let byte = slice_index kind at in
     if byte == 32 then (if nat_lt 0 at && list_all (λ byte. byte == 32) (drop at kind) then 32 ∷ [] else codes "\\x20")

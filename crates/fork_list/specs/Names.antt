@@ -2,8 +2,8 @@
 use Rattle.std.specs.Prelude.{◌≡◌, ◌≢◌, ◌⊎◌, ℕ, ◌+◌, ◌*◌, ◌<◌, List, [], ◌∷◌, ◌++◌}
 use Rattle.std.specs.Char.{digit_value}
 
--- the text names this byte first, and this text is behind it: itself, or behind a backslash a quote or a backslash, or `x` and two
--- hexadecimal digits
+-- the text names this byte first, and this text is behind it: itself, or behind a backslash a quote or a backslash, or
+-- `x` and two hexadecimal digits
 abbrev pub NamesFirst : List ℕ → ℕ → List ℕ → Type 0
 NamesFirst text byte rest = ((text ≡ byte ∷ rest) × (byte ≢ 92))
     ⊎ (((text ≡ 92 ∷ byte ∷ rest) × ((byte ≡ 34) ⊎ (byte ≡ 92)))

@@ -2,7 +2,7 @@
 use Rattle.std.specs.Prelude.{ℕ, ◌-◌, ◌^◌, ◌&&◌, Bool, true, not, if◌then◌else◌, List, [], ◌∷◌, ◌++◌, count_by, bytes_eq, Option, None, Some}
 use Rattle.std.specs.Fmt.{format_spec, styled_decimal}
 use Rattle.mac_base.specs.declared.resource.Resource.{Resource}
-use Rattle.mac_text.specs.declared.letters.Letters.{Letters}
+use Rattle.fork_list.specs.declared.letters.Letters.{Letters}
 use Rattle.fork_list.specs.Listing.{is_chosen, kind_text}
 
 -- whether a row after one of this type, or after none, is the first of its own

@@ -103,9 +103,10 @@ fn bare_kind(text: &[u8]) -> Option<ResType>
     Some(ResType::new(kind))
 }
 
-/// The type that a text in MacRoman shows, as a list of resources shows it: four bytes, where a letter stands for itself, and each
-/// byte may be written `\xHH` (`\'` and `\\` for a quote and a backslash). There may be single quotes around it, and blanks at its end
-/// may be left out. None where the text shows no byte or more than four, or isn't such a text.
+/// The type that a text in MacRoman shows, as a list of resources shows it: four bytes, where a letter stands for
+/// itself, and each byte may be written `\xHH` (`\'` and `\\` for a quote and a backslash). There may be single quotes
+/// around it, and blanks at its end may be left out. None where the text shows no byte or more than four, or isn't such
+/// a text.
 pub fn kind_of(text: &[u8]) -> Option<ResType>
     ensures exact { (kind : List ℕ) → (result ≡ Some kind) ↔ ShowsKind text.now kind }
     ensures listed { (kind : List ℕ) → length kind ≡ 4 → All (λ byte. byte < 256) kind → text.now ≡ in_quotes kind → result ≡ Some kind }

@@ -5,10 +5,10 @@ ghost use Rattle.std.specs.List.{list_any};
 ghost use Rattle.fork_list.specs.Listing.{cells_text, is_chosen, listing, row_line};
 
 use crate::attribute::Attributes;
+use crate::letters::Letters;
 use crate::shown::{KindText, NamePart};
 use crate::size::HasSize;
 use mac_base::resource::{ResAttrs, ResType, Resource};
-use mac_text::letters::Letters;
 use std::alloc::{AllocError, Global};
 use std::fmt;
 
@@ -22,8 +22,8 @@ fn name_of<D>(row: &Resource<D>) -> Option<&[u8]>
     }
 }
 
-/// A resource as a line shows it: its type, its id, how many bytes it has, its attributes, and its name in double quotes if it has
-/// one, with a space or more between them.
+/// A resource as a line shows it: its type, its id, how many bytes it has, its attributes, and its name in double
+/// quotes if it has one, with a space or more between them.
 #[derive(Clone, Copy)]
 pub struct RowText<'a> {
     pub letters: Letters,
@@ -113,8 +113,8 @@ impl<D: HasSize> fmt::Display for Lines<'_, D> {
     }
 }
 
-/// A list of resources, those of these types, or all where none are named: a line for each in the order of the rows, with its type,
-/// its id, how many bytes it has, its attributes and its name.
+/// A list of resources, those of these types, or all where none are named: a line for each in the order of the rows,
+/// with its type, its id, how many bytes it has, its attributes and its name.
 pub fn listing<D: HasSize>(
     alloc: Global,
     letters: Letters,

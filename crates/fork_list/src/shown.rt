@@ -4,9 +4,9 @@ ghost use Rattle.std.specs.Prelude.{◌≡◌, ◌<◌, ◌≤◌, ◌==◌, Som
 ghost use Rattle.std.specs.List.{list_all};
 ghost use Rattle.fork_list.specs.Listing.{cell_text, kind_text, name_text};
 
+use crate::letters::Letters;
+use crate::{Escaped, Quoted};
 use mac_base::resource::ResType;
-use mac_text::letters::Letters;
-use mac_text::{Escaped, Quoted};
 use std::fmt;
 
 /// The name of a resource if it has one, with a space before it.

@@ -1,7 +1,7 @@
 //! How many bytes a resource has.
 
+use fork_bytes::place::Place;
 use fork_bytes::table::Contents;
-use fork_reader::place::Place;
 
 /// What tells how many bytes a resource has: these bytes, or where they stand in a fork.
 pub trait HasSize {

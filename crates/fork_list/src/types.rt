@@ -3,10 +3,10 @@
 ghost use Rattle.std.specs.Prelude.{◌≡◌, Some, None, IfOk, count_by, string_bytes, bytes_eq};
 ghost use Rattle.fork_list.specs.Types.{begins_type, type_line, type_lines};
 
+use crate::letters::Letters;
 use crate::list::is_chosen;
 use crate::shown::KindText;
 use mac_base::resource::{ResType, Resource};
-use mac_text::letters::Letters;
 use std::alloc::{AllocError, Global};
 use std::fmt;
 
@@ -27,7 +27,8 @@ fn begins_type(before: Option<ResType>, kind: ResType) -> bool
     }
 }
 
-/// The line of a type, at its first row: the type, and how many rows have it. Nothing at other rows, and where the type isn't chosen.
+/// The line of a type, at its first row: the type, and how many rows have it. Nothing at other rows, and where the type
+/// isn't chosen.
 #[derive(Drop)]
 struct TypeLine<'a, D> {
     letters: Letters,

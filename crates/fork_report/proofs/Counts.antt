@@ -5,7 +5,7 @@ use Rattle.std.specs.List.{list_any}
 use Rattle.std.proofs.lemmas.Bool.{cond-true, cond-false, or_from, or_left, or_right, lt-leb, ne_eqb}
 use Rattle.fork_salvage.specs.declared.salvage.Item.{Item}
 use Rattle.fork_salvage.specs.declared.salvage.Item.TheVariants.{Row, Lost, Run}
-use Rattle.fork_mend.specs.Salvaged.{found_in}
+use Rattle.fork_answer.specs.Salvaged.{found_in}
 use Rattle.fork_report.specs.declared.damage.TheConstants.{MOST_FOUND}
 use Rattle.fork_report.specs.Damage.{is_run, tally_with}
 

@@ -9,7 +9,7 @@ use Rattle.fork_salvage.specs.declared.salvage.Item.{Item}
 use Rattle.fork_salvage.specs.declared.salvage.Item.TheVariants as item
 use Rattle.fork_salvage.specs.Fault.{IsFault, refusal_of}
 use Rattle.fork_salvage.specs.Salvage.{items}
-use Rattle.fork_mend.specs.Salvaged.{readable}
+use Rattle.fork_answer.specs.Salvaged.{readable}
 use Rattle.mac_files.specs.declared.container.Container.{Container}
 use Rattle.mac_files.specs.declared.container.Container.TheVariants.{Raw}
 use Rattle.mac_files.specs.BinHex.{is_bin_hex}
@@ -65,7 +65,8 @@ has_parts other = true
 abbrev pub is_of_fork : Damage → Bool
 is_of_fork damage = has_parts (refusal_of damage.fault) || is_readable damage.tally
 
--- The damage is that of the fork in a file: a fault of it that is the first, what has the fork in it, and how much of it can be read.
+-- The damage is that of the fork in a file: a fault of it that is the first, what has the fork in it, and how much of
+-- it can be read.
 pub record IsDamageOf (file fork : List ℕ) (damage : Damage) : Type 0 where
   pub found : IsForkIn file fork
   pub is : IsFault fork damage.fault

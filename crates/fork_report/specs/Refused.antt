@@ -19,8 +19,8 @@ use Rattle.fork_report.specs.Damage.{IsDamageOf, is_known, is_of_fork, is_readab
 abbrev pub IsTakenForFork : List ℕ → Damage → Type 0
 IsTakenForFork file damage = (is_known file ≡ true) ⊎ ((archive_of file ≡ None) × (is_of_fork damage ≡ true))
 
--- what is told of a file whose fork is refused: the damage, that it is an archive, or that nothing is known of it; where the host has no
--- memory for that, the fault alone
+-- what is told of a file whose fork is refused: the damage, that it is an archive, or that nothing is known of it;
+-- where the host has no memory for that, the fault alone
 abbrev pub IsToldOfFork : List ℕ → ForkFault → Refusal → Type 0
 IsToldOfFork file fault (refusal.Show (failure.Fork told)) = told ≡ fault
 IsToldOfFork file fault (refusal.Show failure.HostFull) = ⊤

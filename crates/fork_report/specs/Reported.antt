@@ -25,7 +25,8 @@ form_of (report.List kinds shown) = Json
 abbrev pub HasTable : List ℕ → Type 0
 HasTable file = (fork : List ℕ) × (table : Table) × IsForkIn file fork × IsTableOf fork table
 
--- where the faults of a file's fork are asked for, it is told as damaged exactly if it is; a list is told of a fork that isn't
+-- where the faults of a file's fork are asked for, it is told as damaged exactly if it is; a list is told of a fork
+-- that isn't
 abbrev pub Tells : Report → List ℕ → Told → Type 0
 Tells (report.Check form) file told = (fork : List ℕ) × IsForkIn file fork × (IsTrue told.is_damaged ↔ IsDamaged fork)
 Tells (report.List kinds shown) file told = HasTable file × (told.is_damaged ≡ false)
@@ -40,7 +41,8 @@ TellsLeft fork (Some tally) = IsDamaged fork × (tally_of fork ≡ Some tally) �
 abbrev pub Salvages : List ℕ → List ℕ → Option Tally → Type 0
 Salvages file bytes tally = (fork : List ℕ) × IsForkIn file fork × IsMendedFork fork bytes × TellsLeft fork tally
 
--- why nothing is salvaged: no resource can be read of a damaged fork, or more than one fork holds; or the file has no fork
+-- why nothing is salvaged: no resource can be read of a damaged fork, or more than one fork holds; or the file has no
+-- fork
 abbrev pub IsNotSalvaged : List ℕ → Refusal → Type 0
 IsNotSalvaged file refusal.Nothing = (fork : List ℕ) × IsForkIn file fork × IsDamaged fork × (is_readable (tally_of fork) ≡ false)
 IsNotSalvaged file refusal.TooMuch = (fork : List ℕ) × IsForkIn file fork × IsTooBig fork

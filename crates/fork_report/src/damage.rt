@@ -2,7 +2,7 @@
 
 ghost use Rattle.std.specs.Prelude.{◌≡◌, ◌≢◌, ℕ, List, [], ◌∷◌, filter_map, length, IfNone, IfSome, Some, is_some};
 ghost use Rattle.fork_bytes.specs.Fork.{IsForkWithin, format_limits};
-ghost use Rattle.fork_mend.specs.Salvaged.{found_in};
+ghost use Rattle.fork_answer.specs.Salvaged.{found_in};
 ghost use Rattle.fork_answer.specs.Source.{IsForkIn};
 ghost use Rattle.fork_report.specs.Damage.{IsDamageOf, holder_of, holder_text, is_of_fork, is_readable, is_run, tally_of};
 
@@ -67,8 +67,8 @@ impl Holder {
 }
 
 impl Damage {
-    /// That of the fork in a file. None where there is no such fork or it has no fault, or where the host has no memory for that of a
-    /// BinHex text.
+    /// That of the fork in a file. None where there is no such fork or it has no fault, or where the host has no memory
+    /// for that of a BinHex text.
     pub fn of_file(alloc: Global, file: &[u8]) -> Option<Damage>
         ensures damage { IfSome result (λ damage. (fork : List ℕ) × IsDamageOf file.now fork damage) }
         ensures none { IfNone result (holder_of file.now ≢ Some Holder.BinHex → (fork : List ℕ) → IsForkIn file.now fork → IsForkWithin format_limits fork) }
@@ -157,7 +157,8 @@ fn readable_in(item: &Item) -> usize
     }
 }
 
-/// How many resources of a fork can be read, of how many that are found in it. None where none is found, or too many to be counted.
+/// How many resources of a fork can be read, of how many that are found in it. None where none is found, or too many to
+/// be counted.
 pub fn tally_of(fork: &[u8]) -> Option<Tally>
     ensures { result ≡ tally_of fork.now }
 {

@@ -10,7 +10,8 @@ ghost use Rattle.fork_report.specs.Refused.{IsCause, IsForkCause};
 
 use fork_answer::{Failure, NoFork, name_of_container, read_table};
 use fork_bytes::table::Table;
-use fork_list::{KindText, types_listing};
+use fork_list::letters::Letters;
+use fork_list::{KindText, Quoted, types_listing};
 use mac_base::resource::ResType;
 use mac_files::bin_hex::fault::BinHexFault;
 use mac_files::bin_hex::file::BinHexFile;
@@ -18,8 +19,6 @@ use mac_files::bin_hex::{is_bin_hex, read_bin_hex};
 use mac_files::container::Container;
 use mac_files::contents::Contents;
 use mac_files::{container_of, read_contents};
-use mac_text::Quoted;
-use mac_text::letters::Letters;
 use std::alloc::{AllocError, Global};
 
 /// Adds the lines of a name, and of a type and a creator.

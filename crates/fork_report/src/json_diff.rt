@@ -53,8 +53,8 @@ fn attributes_pair(alloc: Global, pair: Option<(u16, u16)>) -> Result<Value, All
     Ok(Value::Array(values))
 }
 
-/// The line of what differs between the resources of two files of these names. Its lists are empty, and its other members false or
-/// null, where nothing does.
+/// The line of what differs between the resources of two files of these names. Its lists are empty, and its other
+/// members false or null, where nothing does.
 pub fn difference_line(
     alloc: Global,
     first: &str,

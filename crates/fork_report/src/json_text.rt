@@ -3,10 +3,10 @@
 ghost use Rattle.std.specs.Prelude.{◌≡◌, IfOk};
 ghost use Rattle.serde_json.specs.Data.{string};
 ghost use Rattle.serde_json.specs.View.{view};
-ghost use Rattle.mac_text.specs.Roman.{roman_text};
+ghost use Rattle.fork_list.specs.Roman.{roman_text};
 
+use fork_list::text_of;
 use mac_base::resource::ResType;
-use mac_text::text_of;
 use serde_json::Value;
 use std::alloc::{AllocError, Global};
 

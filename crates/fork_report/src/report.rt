@@ -1,7 +1,7 @@
 //! What the commands do that tell about files: what each is, its faults, and what can be read of it.
 
 ghost use Rattle.std.specs.Prelude.{◌≡◌, ◌≢◌, ◌↔◌, ℕ, List, [], IfErr, IfOk, IsTrue, false, string_bytes};
-ghost use Rattle.fork_mend.specs.Lines.{salvage_listing};
+ghost use Rattle.fork_answer.specs.Lines.{salvage_listing};
 ghost use Rattle.fork_answer.specs.Source.{IsForkIn, fork_of};
 ghost use Rattle.fork_report.specs.Damage.{IsDamaged, is_readable, tally_of};
 ghost use Rattle.fork_report.specs.Refused.{IsRefused};
@@ -13,13 +13,12 @@ use crate::json::{check_line, info_line, list_line};
 use crate::json_row::Bytes;
 use crate::refusal::Refusal;
 use crate::request::{Form, Report};
-use fork_answer::{Failure, Found, mended_fork, resource_fork};
+use fork_answer::warning::{Warning, warnings};
+use fork_answer::{Failure, Found, mended_fork, resource_fork, salvage_listing};
 use fork_bytes::fault::WriteFault;
-use fork_mend::salvage_listing;
-use fork_mend::warning::{Warning, warnings};
+use fork_list::letters::Letters;
 use fork_salvage::{Fault, all_faults, first_fault};
 use mac_base::resource::ResType;
-use mac_text::letters::Letters;
 use std::alloc::{AllocError, Global};
 
 /// What is told of a file: a text, and whether its fork is damaged.

@@ -2,7 +2,7 @@
 use Rattle.std.specs.Prelude.{◌≡◌, ◌<◌, ◌≤◌, length, IfSome, FitsSigned, Ok}
 use Rattle.std.specs.List.{AllByRecursion}
 use Rattle.std.specs.Int.{w16}
-use Rattle.mac_text.specs.Roman.{AreBytes}
+use Rattle.fork_list.specs.Roman.{AreBytes}
 use Rattle.fork_bytes.specs.Rows.{Row}
 use Rattle.fork_bytes.specs.declared.table.Table.{Table}
 use Rattle.fork_rez.specs.Text.{text_of}

@@ -49,7 +49,8 @@ if_there None one other = other
 abbrev pub is_blank : ℕ → Bool
 is_blank byte = byte == 32 || (byte == 9 || (byte == 10 || byte == 13))
 
--- where a text is after a byte between two words, if the byte is of blanks or a comment: `/*` to `*/`, or `//` to the line's end
+-- where a text is after a byte between two words, if the byte is of blanks or a comment: `/*` to `*/`, or `//` to the
+-- line's end
 abbrev pub skipping : Skipping → ℕ → Option Skipping
 skipping Between byte = if is_blank byte then Some Between else if byte == 47 then Some Slash else None
 skipping Slash byte = if byte == 42 then Some Block else if byte == 47 then Some Line else None

@@ -1,5 +1,5 @@
-//! Resources as text: `data` statements of Rez, the resource compiler of the Macintosh Programmer's Workshop, as its DeRez writes them, and
-//! the table of resources that such a text says.
+//! Resources as text: `data` statements of Rez, the resource compiler of the Macintosh Programmer's Workshop, as its
+//! DeRez writes them, and the table of resources that such a text says.
 #![tactic(auto)]
 
 mod attribute;

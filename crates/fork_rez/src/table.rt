@@ -148,10 +148,10 @@ fn line_at(text: &[u8], left: usize) -> usize
     1 + before.iter().filter(|byte| **byte == b'\n').count()
 }
 
-/// The table that a text of `data` statements says, with blanks and comments anywhere between words. Data are strings in hexadecimal
-/// digits, `$"4869"`, or in letters, `"Hi"`, one after the other. A byte in letters that isn't printable ASCII is `\0x` and two digits.
-/// The comment with the map's bytes begins the text, if there is one. A text is refused at the first place that isn't such a text, with
-/// its line; the other error is that the host has no memory.
+/// The table that a text of `data` statements says, with blanks and comments anywhere between words. Data are strings
+/// in hexadecimal digits, `$"4869"`, or in letters, `"Hi"`, one after the other. A byte in letters that isn't printable
+/// ASCII is `\0x` and two digits. The comment with the map's bytes begins the text, if there is one. A text is refused
+/// at the first place that isn't such a text, with its line; the other error is that the host has no memory.
 pub fn rez(alloc: Global, text: &[u8]) -> Result<Made, RezFault>
     ensures { Answers result (table_of text.now) }
 {

@@ -11,10 +11,9 @@ use crate::blanks::MAP_WORD;
 use crate::quoted::is_printable;
 use bitflags::Flags;
 use fork_bytes::table::{Row, Table};
-use fork_list::is_chosen;
+use fork_list::{hexadecimal_digit, is_chosen};
 use mac_base::name::Name;
 use mac_base::resource::ResType;
-use mac_text::hexadecimal_digit;
 use std::alloc::{AllocError, Global};
 
 /// The bits of attributes that have no word.
@@ -147,7 +146,8 @@ fn push_shown(out: &mut Vec<u8>, bytes: &[u8]) -> Result<(), AllocError>
     Ok(())
 }
 
-/// How many blanks stand between the digits of so many bytes and their comment: all comments of full lines begin in one column.
+/// How many blanks stand between the digits of so many bytes and their comment: all comments of full lines begin in one
+/// column.
 fn gap_of(count: usize) -> usize
     requires { count ≤ 16 }
     ensures { result ≡ gap_of count }
@@ -282,9 +282,9 @@ fn push_map(out: &mut Vec<u8>, bytes: &[u8]) -> Result<(), AllocError>
     Ok(())
 }
 
-/// The text of a table's resources of these types, or of all where none are named: a `data` statement for each, as DeRez writes them, all
-/// in ASCII. The 240 extra bytes and the map's attributes stand in a first comment, unless all are 0. The only error is that the host has
-/// no memory.
+/// The text of a table's resources of these types, or of all where none are named: a `data` statement for each, as
+/// DeRez writes them, all in ASCII. The 240 extra bytes and the map's attributes stand in a first comment, unless all
+/// are 0. The only error is that the host has no memory.
 pub fn derez(alloc: Global, kinds: &[ResType], table: &Table) -> Result<Vec<u8>, AllocError>
     ensures { IfOk result (λ text. text.items ≡ text_of (chosen kinds.now table.now)) }
 {

@@ -4,7 +4,7 @@ use Rattle.std.proofs.lemmas.List.{length-drop, length-take-le, take-take, drop-
 use Rattle.std.proofs.lemmas.Bool.{cases_lt}
 use Rattle.fork_bytes.specs.declared.layout.Header.{Header}
 use Rattle.fork_bytes.specs.Fork.{header_of, extra_of}
-use Rattle.fork_reader.proofs.Placing.{number_in_part}
+use Rattle.fork_bytes.proofs.Placing.{number_in_part}
 
 headers : (a b c d e f g h : ℕ) → a ≡ e → b ≡ f → c ≡ g → d ≡ h →
     (let header : Header = record { data_offset = a; map_offset = b; data_length = c; map_length = d } in header)

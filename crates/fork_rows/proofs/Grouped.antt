@@ -5,7 +5,7 @@ use Rattle.fork_bytes.specs.Rows.{MapRow}
 use Rattle.fork_bytes.specs.Fork.{map_rows, row_with, HasTypes}
 use Rattle.fork_bytes.specs.Written.{types_of, counted_before}
 use Rattle.fork_bytes.proofs.Grouped.{map_grouped}
-use Rattle.fork_reader.specs.Reading.{PlacedRow, row_at}
+use Rattle.fork_bytes.specs.Reading.{PlacedRow, row_at}
 use Rattle.mac_base.specs.declared.resource.Resource.{Resource}
 use Rattle.fork_rows.specs.Opening.{kinds_in, AreGrouped}
 

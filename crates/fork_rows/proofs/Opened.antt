@@ -9,10 +9,10 @@ use Rattle.fork_bytes.specs.Rows.{MapRow}
 use Rattle.fork_bytes.specs.Fork.{bytes_at, header_of, data_of, map_of, map_rows, extra_of, attributes_of, HasPartsWithin, HasData, StandsForWithin, RefusesWithin}
 use Rattle.fork_disk.specs.declared.store.ForkStore.{Ghosts}
 use Rattle.fork_disk.specs.Stores.{OnlyReads}
-use Rattle.fork_reader.specs.Reading.{PlacedRow, placed_row, placed_rows, row_at, IsMapWithin, IsWithin, FaultsAt, AreFewBytesWithin}
-use Rattle.fork_reader.proofs.Faults.{places_refuse, bytes_refuse, is_fork}
-use Rattle.fork_reader.proofs.Placing.{few_from_placed, few_to_placed, rows_are_within}
-use Rattle.fork_reader.proofs.Whole.{parts_of_fork, map_is, stands}
+use Rattle.fork_bytes.specs.Reading.{PlacedRow, placed_row, placed_rows, row_at, IsMapWithin, IsWithin, FaultsAt, AreFewBytesWithin}
+use Rattle.fork_bytes.proofs.Faults.{places_refuse, bytes_refuse, is_fork}
+use Rattle.fork_bytes.proofs.Placing.{few_from_placed, few_to_placed, rows_are_within}
+use Rattle.fork_bytes.proofs.Whole.{parts_of_fork, map_is, stands}
 use Rattle.fork_rows.specs.declared.fault.OpenFault.{OpenFault}
 use Rattle.fork_rows.specs.declared.fault.OpenFault.TheVariants.{Fork, Device}
 use Rattle.fork_rows.specs.declared.table.PlacedTable.{PlacedTable}

@@ -13,7 +13,7 @@ use Rattle.fork_disk.specs.declared.faults.RecoverFault.TheVariants as recover
 use Rattle.fork_disk.specs.declared.store.ForkStore.{Ghosts}
 use Rattle.fork_disk.specs.Disk.{Rose}
 use Rattle.fork_disk.specs.Stores.{OnlyReads}
-use Rattle.fork_reader.specs.Reading.{PlacedRow, placed_rows, row_at, IsWithin, FaultsAt}
+use Rattle.fork_bytes.specs.Reading.{PlacedRow, placed_rows, row_at, IsWithin, FaultsAt}
 use Rattle.mac_base.specs.declared.resource.Resource.{Resource}
 use Rattle.fork_rows.specs.declared.fault.OpenFault.{OpenFault}
 use Rattle.fork_rows.specs.declared.fault.OpenFault.TheVariants.{Fork, Device}

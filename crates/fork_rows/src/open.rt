@@ -3,7 +3,7 @@
 ghost use Rattle.std.specs.Prelude.{◌≤◌, length, IfOk};
 ghost use Rattle.std.specs.List.{AllByRecursion};
 ghost use Rattle.fork_bytes.specs.Fork.{max_rows};
-ghost use Rattle.fork_reader.specs.Reading.{AreFewBytes, AreFewBytesWithin};
+ghost use Rattle.fork_bytes.specs.Reading.{AreFewBytes, AreFewBytesWithin};
 ghost use Rattle.fork_rows.specs.Opening.{Reads, OpensAs, OpensAsWithin, EndsBy, FitsInFork, AreGrouped, CountsDevice};
 
 use crate::fault::OpenFault;
@@ -11,15 +11,15 @@ use crate::part::{find_rows, read_front, read_part};
 use crate::table::{PlacedRows, PlacedTable};
 use fork_bytes::fault::ForkFault;
 use fork_bytes::layout::Limits;
+use fork_bytes::{HEADER_LENGTH, check_bytes, check_parts, read_attributes, read_map};
 use fork_disk::store::ForkStore;
-use fork_reader::{HEADER_LENGTH, check_bytes, check_parts, read_attributes, read_map};
 use std::alloc::Global;
 
-/// The resources of a fork within these limits, with the places of their bytes. These aren't read: the device is asked for the fork's
-/// length, for its first 256 bytes, for its map, and for four bytes for each resource. A fault of the bytes is EndOfFile exactly where
-/// there are fewer than 16, and else BadMap of the first condition that doesn't hold; it comes as soon as what was read shows it.
-/// HostFull comes where the host has no memory for the table, and Device where the device failed, which it has counted. The bytes are
-/// as before in any case.
+/// The resources of a fork within these limits, with the places of their bytes. These aren't read: the device is asked
+/// for the fork's length, for its first 256 bytes, for its map, and for four bytes for each resource. A fault of the
+/// bytes is EndOfFile exactly where there are fewer than 16, and else BadMap of the first condition that doesn't hold;
+/// it comes as soon as what was read shows it. HostFull comes where the host has no memory for the table, and Device
+/// where the device failed, which it has counted. The bytes are as before in any case.
 pub fn read_rows_within<S: ForkStore>(
     alloc: Global,
     store: &mut S,

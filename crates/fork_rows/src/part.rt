@@ -3,16 +3,16 @@
 ghost use Rattle.std.specs.Prelude.{◌≡◌, ◌<◌, ◌≤◌, ◌+◌, ◌^◌, ◌⊎◌, length, map, IfOk, IfErr, MatchResult};
 ghost use Rattle.fork_bytes.specs.Fork.{bytes_at, header_of, data_of, extra_of, HasData};
 ghost use Rattle.std.specs.List.{AllByRecursion};
-ghost use Rattle.fork_reader.specs.Reading.{placed_row, HasDatum};
+ghost use Rattle.fork_bytes.specs.Reading.{placed_row, HasDatum};
 ghost use Rattle.fork_rows.specs.Opening.{IsReadyWith, Reads, HasHeader, EndsBy, FaultsIn, CountsDevice, kinds_in};
 
 use crate::fault::OpenFault;
 use byteorder::{BigEndian, ByteOrder};
 use fork_bytes::fault::{Condition, ForkFault};
 use fork_bytes::layout::{Header, MapRow};
+use fork_bytes::place::PlacedRow;
+use fork_bytes::{HEADER_LENGTH, extra_bytes, length_place, place_row, read_header};
 use fork_disk::store::ForkStore;
-use fork_reader::place::PlacedRow;
-use fork_reader::{HEADER_LENGTH, extra_bytes, length_place, place_row, read_header};
 use std::alloc::Global;
 
 /// How many bytes the header and the extra bytes have.

@@ -2,7 +2,7 @@
 
 ghost use Rattle.std.specs.Prelude.{◌≡◌};
 
-use fork_reader::place::PlacedRow;
+use fork_bytes::place::PlacedRow;
 use std::marker::Model;
 
 /// Resources with the places of their bytes, in the order of the map. A contract sees the list.
@@ -13,7 +13,7 @@ pub struct PlacedRows {
 
 impl Model for PlacedRows {
     ghost use Rattle.std.specs.Prelude.{List};
-    ghost use Rattle.fork_reader.specs.Reading.{PlacedRow};
+    ghost use Rattle.fork_bytes.specs.Reading.{PlacedRow};
 
     ghost Value = { List PlacedRow };
 

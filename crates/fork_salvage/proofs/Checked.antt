@@ -6,7 +6,7 @@ use Rattle.std.specs.List.{flat_map}
 use Rattle.std.proofs.lemmas.Bool.{cond-true, cond-false}
 use Rattle.std.proofs.lemmas.List.{append-nil}
 use Rattle.fork_bytes.specs.Fork.{places, Reference, format_limits}
-use Rattle.fork_reader.proofs.Lists as lists
+use Rattle.fork_bytes.proofs.Lists as lists
 use Rattle.fork_salvage.specs.declared.entry.Types.{Types}
 use Rattle.fork_salvage.specs.declared.place.Span.{Span}
 use Rattle.fork_salvage.specs.declared.fault.Fault.{Fault}

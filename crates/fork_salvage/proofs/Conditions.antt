@@ -10,8 +10,8 @@ use Rattle.fork_bytes.specs.declared.fault.ForkFault.{ForkFault}
 use Rattle.fork_bytes.specs.declared.fault.ForkFault.TheVariants.{EndOfFile, BadMap, HostFull}
 use Rattle.fork_bytes.specs.Rows.{MapRow}
 use Rattle.fork_bytes.specs.Fork.{map_of, data_of, map_row, datum_length, places, type_list, type_count, TypeEntry, entry_at, entries_of, Reference, references_in, references_of, HasTypes, HoldsWithin, IsForkWithin, rank, RefusesWithin, format_limits}
-use Rattle.fork_reader.specs.Reading.{HasDatum}
-use Rattle.fork_reader.proofs.Lists.{Ends, all_both, last_ends}
+use Rattle.fork_bytes.specs.Reading.{HasDatum}
+use Rattle.fork_bytes.proofs.Lists.{Ends, all_both, last_ends}
 use Rattle.fork_salvage.specs.declared.plan.Plan.{Plan}
 use Rattle.fork_salvage.specs.declared.fault.Fault.{Fault}
 use Rattle.fork_salvage.specs.declared.fault.Fault.TheVariants as fault

@@ -2,7 +2,7 @@
 use Rattle.std.proofs.Common.{◌≡◌, ℕ, zero, suc, ◌+◌, ◌-◌, ◌<◌, ◌≤◌, ◌&&◌, Bool, true, false, List, [], ◌∷◌, ◌++◌, refl, sym, ap, ◌∙◌, arith}
 use Rattle.std.specs.List.{flat_map, list_all}
 use Rattle.fork_bytes.specs.Fork.{Reference}
-use Rattle.fork_reader.proofs.Lists as lists
+use Rattle.fork_bytes.proofs.Lists as lists
 use Rattle.fork_salvage.specs.declared.entry.ReferenceList.{ReferenceList}
 use Rattle.fork_salvage.specs.declared.plan.Plan.{Plan}
 use Rattle.fork_salvage.specs.declared.cursor.Cursor.{Cursor}

@@ -5,7 +5,7 @@ use Rattle.std.proofs.lemmas.Bool.{cases_lt, lt-ltb}
 use Rattle.std.proofs.lemmas.List.{append_assoc}
 use Rattle.std.proofs.lemmas.List.Sums.{sum_by_push}
 use Rattle.fork_bytes.specs.Fork.{header_of, map_of, data_of, datum_length, references_of, Reference, HasReferences, format_limits}
-use Rattle.fork_reader.proofs.Lists.{Ends}
+use Rattle.fork_bytes.proofs.Lists.{Ends}
 use Rattle.fork_salvage.specs.declared.place.Gap.{Gap}
 use Rattle.fork_salvage.specs.declared.place.Span.{Span}
 use Rattle.fork_salvage.specs.declared.plan.Plan.{Plan}

@@ -3,8 +3,8 @@ use Rattle.std.proofs.Common.{◌≡◌, ℕ, zero, suc, ◌+◌, ◌-◌, ◌*�
 use Rattle.std.specs.List.{flat_map, AllByRecursion}
 use Rattle.std.proofs.lemmas.List.{append_assoc, length-append}
 use Rattle.fork_bytes.specs.Fork.{Reference, places, references_in, references_of, entry_at, map_of, type_list, type_count, HasReferences}
-use Rattle.fork_reader.proofs.Lists as lists
-use Rattle.fork_reader.proofs.Placing.{all_push, length-part}
+use Rattle.fork_bytes.proofs.Lists as lists
+use Rattle.fork_bytes.proofs.Placing.{all_push, length-part}
 use Rattle.fork_salvage.specs.declared.entry.ReferenceList.{ReferenceList}
 use Rattle.fork_salvage.specs.declared.plan.Plan.{Plan}
 use Rattle.fork_salvage.specs.declared.cursor.Cursor.{Cursor}

@@ -6,8 +6,8 @@ use Rattle.std.proofs.lemmas.List.{append-nil}
 use Rattle.fork_bytes.specs.declared.fault.Condition.TheVariants.{Parts, Types, References, Names, Places}
 use Rattle.fork_bytes.specs.Rows.{Row}
 use Rattle.fork_bytes.specs.Fork.{number_at, bytes_at, header_of, map_of, data_of, map_row, row_with, name_place, name_at, name_list, datum_length, references_of, Reference, HasPartsWithin, IsForkWithin, format_limits}
-use Rattle.fork_reader.specs.Reading.{HasName, HasDatum}
-use Rattle.fork_reader.proofs.Placing.{bytes_in_part, length-part, length-data}
+use Rattle.fork_bytes.specs.Reading.{HasName, HasDatum}
+use Rattle.fork_bytes.proofs.Placing.{bytes_in_part, length-part, length-data}
 use Rattle.fork_salvage.specs.declared.plan.Plan.{Plan}
 use Rattle.fork_salvage.specs.declared.reference.FoundName.{FoundName}
 use Rattle.fork_salvage.specs.declared.reference.FoundName.TheVariants.{Unnamed, Named, Outside}

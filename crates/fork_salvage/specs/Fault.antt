@@ -6,7 +6,7 @@ use Rattle.fork_bytes.specs.declared.fault.Condition.TheVariants as of
 use Rattle.fork_bytes.specs.declared.fault.ForkFault.{ForkFault}
 use Rattle.fork_bytes.specs.declared.fault.ForkFault.TheVariants.{EndOfFile, BadMap}
 use Rattle.fork_bytes.specs.Fork.{number_at, bytes_at, header_of, map_of, data_of, type_list, name_list, type_count, Reference, entry_at, references_of, map_row, datum_length, format_limits}
-use Rattle.fork_reader.specs.Reading.{HasName, HasDatum}
+use Rattle.fork_bytes.specs.Reading.{HasName, HasDatum}
 use Rattle.fork_salvage.specs.declared.place.Gap.{Gap}
 use Rattle.fork_salvage.specs.declared.fault.BadRow.{BadRow}
 use Rattle.fork_salvage.specs.declared.fault.BadList.{BadList}

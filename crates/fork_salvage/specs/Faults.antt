@@ -100,7 +100,8 @@ rows_faults fork plan most = flat_map (row_faults fork plan) (take most (referen
 abbrev pub count_fault : List ℕ → Option Fault
 count_fault fork = let count = length (references_of (map_of fork)) in if nat_lt format_limits.rows count then Some (fault.RowCount count) else None
 
--- the faults of the lists of a map that lies within the fork, as its type list does: at most 4,194,304 references are looked at
+-- the faults of the lists of a map that lies within the fork, as its type list does: at most 4,194,304 references are
+-- looked at
 abbrev pub lists_faults : List ℕ → Plan → List Fault
 lists_faults fork plan =
     entries_faults plan.map (map_in fork plan) plan.types 0 ++ option_to_list (count_fault fork) ++ rows_faults fork plan format_limits.rows

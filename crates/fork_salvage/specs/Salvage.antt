@@ -50,7 +50,8 @@ abbrev pub end_before : List ℕ → Types → ℕ → ℕ
 end_before resource_map types i =
     if i == 0 then types.place + 2 + 8 * types.count else list_end (told_list resource_map types (i - 1))
 
--- where the list after that of an entry begins; after the last it is the name list, whose place is told from the map's start
+-- where the list after that of an entry begins; after the last it is the name list, whose place is told from the map's
+-- start
 abbrev pub next_start : List ℕ → Types → ℕ → ℕ
 next_start resource_map types i =
     if nat_lt (i + 1) types.count then (told_list resource_map types (i + 1)).start else name_list resource_map
@@ -73,7 +74,8 @@ bytes_found fork plan at = let resource_map = map_in fork plan in
     if nat_lt (length resource_map) (at + 12) then Err (loss.Reference (record { place = plan.map.start + at; wanted = 12; left = length resource_map - at }))
     else datum_found fork plan (number_at 3 (at + 5) resource_map)
 
--- the name of the reference at a place of the map: where its bytes stand in the fork, unless it has none or ends outside
+-- the name of the reference at a place of the map: where its bytes stand in the fork, unless it has none or ends
+-- outside
 abbrev pub name_found : List ℕ → Plan → ℕ → FoundName
 name_found fork plan at =
     let resource_map = map_in fork plan in let offset = number_at 2 (at + 2) resource_map in
@@ -96,7 +98,8 @@ is_inside (Outside place) = false
 abbrev pub is_whole : List ℕ → Plan → ReferenceList → Bool
 is_whole fork plan list = list_all (λ (r : Reference). has_bytes fork plan r.place) (references_at list)
 
--- the list of an entry in the room between the lists beside it: of as many references as are told, or as many as have room
+-- the list of an entry in the room between the lists beside it: of as many references as are told, or as many as have
+-- room
 abbrev pub list_in_room : ReferenceList → ℕ → ℕ → ReferenceList
 list_in_room told room next =
     if room + 12 * told.count == next then record told { start = room }
@@ -155,7 +158,8 @@ may_be_told fork = let plan = told_plan fork in
 abbrev pub is_copy : List ℕ → ℕ → Bool
 is_copy fork at = let parts = parts_at at fork in (parts.map.start == at) && lies_within (length fork) parts
 
--- the parts of a fork: its header's, or those with the map after the data or the data before the map; the first that lie within it
+-- the parts of a fork: its header's, or those with the map after the data or the data before the map; the first that
+-- lie within it
 abbrev pub parts_beside : ℕ → Parts → Parts
 parts_beside fork_length own =
     let map_after = record own { map = record { start = own.«data».start + own.«data».length; length = own.map.length } } in
@@ -164,8 +168,8 @@ parts_beside fork_length own =
     else (if lies_within fork_length map_after then map_after
     else (if lies_within fork_length data_before then data_before else own))
 
--- the parts of a damaged fork: by a copy of the header at the map, or at the end of the data; else by its own header; of fewer than 16 bytes
--- there are none
+-- the parts of a damaged fork: by a copy of the header at the map, or at the end of the data; else by its own header;
+-- of fewer than 16 bytes there are none
 abbrev pub mended_parts : List ℕ → Parts
 mended_parts fork =
     let own = parts_at 0 fork in let after = own.«data».start + own.«data».length in
@@ -253,7 +257,8 @@ item_with fork plan reference (Err cause) = Lost (lost_row fork plan reference c
 abbrev pub item_of : List ℕ → Plan → Reference → Item
 item_of fork plan reference = item_with fork plan reference (bytes_found fork plan reference.place)
 
--- runs of a length and so many bytes, each right after the one before, as far as they lie within the fork; so many at most
+-- runs of a length and so many bytes, each right after the one before, as far as they lie within the fork; so many at
+-- most
 abbrev pub runs : ℕ → ℕ → List ℕ → List Item
 runs zero at fork = []
 runs (suc most) at fork = let count = number_at 4 at fork in

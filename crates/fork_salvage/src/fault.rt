@@ -5,9 +5,9 @@ ghost use Rattle.fork_salvage.specs.Fault.{refusal_of};
 
 use crate::place::Gap;
 use fork_bytes::fault::{Condition, ForkFault};
+use fork_list::Quoted;
+use fork_list::letters::Letters;
 use mac_base::resource::ResType;
-use mac_text::Quoted;
-use mac_text::letters::Letters;
 use std::fmt;
 
 /// A type that stands twice in the type list, and where in the fork its two entries stand.
@@ -25,7 +25,8 @@ pub struct BadList {
     pub gap: Gap,
 }
 
-/// A resource of which something ends outside: its type and id, where its reference stands in the fork, and what is missing.
+/// A resource of which something ends outside: its type and id, where its reference stands in the fork, and what is
+/// missing.
 #[derive(Clone, Copy, Debug, PartialEq, Eq)]
 pub struct BadRow {
     pub kind: ResType,
@@ -68,7 +69,7 @@ pub enum Fault {
 }
 
 impl Fault {
-    /// What `fork_reader::read_fork_within` says of it.
+    /// What `fork_bytes::read_fork_within` says of it.
     pub fn refusal(&self) -> ForkFault
         ensures { result ≡ refusal_of self.now }
     {

@@ -5,7 +5,7 @@ ghost use Rattle.std.specs.List.{AllByRecursion};
 ghost use Rattle.fork_bytes.specs.Fork.{number_at, header_of, map_of, name_list, references_of, HasPartsWithin, HasReferences, HoldsWithin, IsForkWithin, RefusesWithin, format_limits};
 ghost use Rattle.fork_bytes.specs.declared.fault.Condition.TheVariants as condition;
 ghost use Rattle.fork_bytes.specs.declared.fault.ForkFault.TheVariants.{BadMap};
-ghost use Rattle.fork_reader.specs.Reading.{HasName};
+ghost use Rattle.fork_bytes.specs.Reading.{HasName};
 ghost use Rattle.fork_salvage.specs.Plans.{IsTold, IsTypes, reference_of};
 ghost use Rattle.fork_salvage.specs.Salvage.{parts_at, map_in, told_list};
 ghost use Rattle.fork_salvage.specs.Faults.{count_fault};
@@ -304,8 +304,9 @@ fn find_fault(fork: &[u8], plan: &Plan) -> Option<Fault>
     find_sum(fork, plan)
 }
 
-/// The first fault of a fork, in the order of the reader's conditions and at the least place, or None exactly where the bytes are a
-/// fork within the format's limits. Its condition is the first that doesn't hold, as `fork_reader::read_fork_within` says it.
+/// The first fault of a fork, in the order of the reader's conditions and at the least place, or None exactly where the
+/// bytes are a fork within the format's limits. Its condition is the first that doesn't hold, as
+/// `fork_bytes::read_fork_within` says it.
 #[tactic(auto, using(crate::proofs::Conditions::refuses_at, crate::proofs::Order::below_types))]
 pub fn first_fault(fork: &[u8]) -> Option<Fault>
     ensures fault { IfSome result (IsFault fork.now) }

@@ -17,8 +17,8 @@ pub(crate) const MAP_HEADER_LENGTH: usize = 28;
 /// Where the type list mostly stands in a map.
 const USUAL_PLACE: usize = 28;
 
-/// How a fork is read: where its map and its data are taken to stand, its type list in the map, and whether lists of references that
-/// aren't whole are looked for between the lists beside them.
+/// How a fork is read: where its map and its data are taken to stand, its type list in the map, and whether lists of
+/// references that aren't whole are looked for between the lists beside them.
 #[derive(Clone, Copy)]
 pub(crate) struct Plan {
     pub(crate) map: Span,
@@ -115,8 +115,8 @@ fn copy_at(fork: &[u8], at: usize) -> Option<Parts>
     }
 }
 
-/// The first of these that lie within a fork of so many bytes, or else a header's parts: they themselves, with the map after the
-/// data, or with the data before the map.
+/// The first of these that lie within a fork of so many bytes, or else a header's parts: they themselves, with the map
+/// after the data, or with the data before the map.
 fn parts_beside(fork_length: usize, own: Parts) -> Parts
     requires { (own.map.start < 2 ^ 32) × (own.map.length < 2 ^ 32) × (own.data.start < 2 ^ 32) × (own.data.length < 2 ^ 32) }
     ensures { result ≡ parts_beside fork_length own }
@@ -174,7 +174,8 @@ fn mended_parts(fork: &[u8]) -> Parts
     parts_beside(fork.len(), own)
 }
 
-/// The parts, as far as they lie within a fork of so many bytes: the map goes on to its end, and the data at least to the map.
+/// The parts, as far as they lie within a fork of so many bytes: the map goes on to its end, and the data at least to
+/// the map.
 fn stretched(fork_length: usize, parts: Parts) -> Parts
     requires { parts.data.start + parts.data.length < 2 ^ 64 }
     ensures parts { result ≡ stretched fork_length parts }

@@ -66,8 +66,8 @@ impl<'a> Model for Salvage<'a> {
 }
 
 impl<'a> Salvage<'a> {
-    /// All that can be read of a fork, and what can't be, in the map's order: an item for each reference. Where no type is found in a
-    /// damaged fork, the runs of its data.
+    /// All that can be read of a fork, and what can't be, in the map's order: an item for each reference. Where no type
+    /// is found in a damaged fork, the runs of its data.
     pub fn new(fork: &'a [u8]) -> Salvage<'a>
         ensures { result ≡ items fork.now }
     {

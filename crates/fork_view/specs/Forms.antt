@@ -1,8 +1,8 @@
 -- In which forms a resource can be shown.
 use Rattle.std.specs.Prelude.{ℕ, ◌||◌, Bool, List, codes, bytes_eq, Option, option_map, option_and_then}
 use Rattle.fork_bytes.specs.Rows.{Row}
-use Rattle.mac_pictures.specs.Formats.{format_of, picture_of}
-use Rattle.mac_pictures.specs.Png.{png_of}
+use Rattle.fork_view.specs.Formats.{format_of, picture_of}
+use Rattle.fork_view.specs.Png.{png_of}
 
 -- resources of a type that are texts
 abbrev pub is_text : List ℕ → Bool

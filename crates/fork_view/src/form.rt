@@ -3,11 +3,11 @@
 ghost use Rattle.std.specs.Prelude.{◌≡◌, IfOk, false, option_map, string_bytes};
 ghost use Rattle.fork_view.specs.Forms.{is_text, picture_file};
 
+use crate::{format_of, picture_of, png_file};
 use fork_bytes::table::Row;
-use mac_pictures::{format_of, picture_of, png_file};
-use mac_text::char_of;
-use mac_text::strings::{string_of, strings_of};
-use mac_text::version::{Stage, Version, version_of};
+use fork_list::char_of;
+use fork_list::strings::{string_of, strings_of};
+use fork_list::version::{Stage, Version, version_of};
 use std::alloc::{AllocError, Global};
 
 /// How many bytes a line of hexadecimal digits shows.
@@ -86,8 +86,8 @@ pub(crate) fn is_text(row: &Row) -> bool
     matches!(&row.kind.bytes(), b"STR " | b"STR#" | b"TEXT" | b"vers")
 }
 
-/// Adds a resource as text: its strings, its version, or all its bytes as MacRoman. False where it ends before its strings do, and
-/// nothing is added.
+/// Adds a resource as text: its strings, its version, or all its bytes as MacRoman. False where it ends before its
+/// strings do, and nothing is added.
 pub(crate) fn push_text(alloc: Global, text: &mut String, row: &Row) -> Result<bool, AllocError>
     ensures { IfOk result (λ is_shown. is_shown ≡ false → string_bytes text.new ≡ string_bytes text.old) }
 {

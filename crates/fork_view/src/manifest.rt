@@ -4,10 +4,10 @@ use bitflags::Flags;
 use fork_answer::name_of_container;
 use fork_bytes::table::{Row, Table};
 use fork_folder::files::File;
+use fork_list::{hexadecimal_digit, text_of};
 use mac_files::bin_hex::{is_bin_hex, read_bin_hex};
 use mac_files::contents::{Dates, FinderInfo};
 use mac_files::{container_of, read_contents};
-use mac_text::{hexadecimal_digit, text_of};
 use serde::Serialize;
 use std::alloc::{AllocError, Global};
 
@@ -22,8 +22,8 @@ struct Resource {
     file: String,
 }
 
-/// What the folder is unpacked from: a container with what it tells of the file, and all of the fork but its resources' bytes. The
-/// dates count seconds as the container does.
+/// What the folder is unpacked from: a container with what it tells of the file, and all of the fork but its resources'
+/// bytes. The dates count seconds as the container does.
 #[derive(Debug, Drop, Serialize)]
 pub struct Manifest {
     container: Option<&'static str>,

@@ -116,7 +116,8 @@ fn write_files(rt: &HostRuntime, folder: &str, files: &[Unpacked<'_>]) -> Result
     Ok(())
 }
 
-/// Writes the resources of a table to a new folder or an empty one, and at last `resources.json`: where that is, all is there.
+/// Writes the resources of a table to a new folder or an empty one, and at last `resources.json`: where that is, all is
+/// there.
 pub fn unpack(
     rt: &HostRuntime,
     unpacking: &Unpacking<'_>,

@@ -6,9 +6,9 @@ ghost use Rattle.fork_view.specs.Sights.{ShowsChosen, ShowsRow, ShowsRows};
 use crate::form::{is_text, png_of, push_hex, push_text};
 use fork_bytes::table::Row;
 use fork_list::find::Wanted;
+use fork_list::letters::Letters;
 use fork_list::{KindText, NamePart, find_row};
 use mac_base::resource::ResType;
-use mac_text::letters::Letters;
 use std::alloc::{AllocError, Global};
 use thiserror::Error;
 

@@ -1,6 +1,6 @@
 -- The types that words name.
 use Rattle.std.specs.Prelude.{◌≡◌, ◌⊎◌, ℕ, List, [], ◌∷◌}
-use Rattle.mac_text.specs.Roman.{AreBytes, roman_text}
+use Rattle.fork_list.specs.Roman.{AreBytes, roman_text}
 use Rattle.fork_list.specs.Kind.{ShowsKind}
 use Rattle.fork_words.specs.declared.asked.NotAsked.{NotAsked}
 use Rattle.fork_words.specs.declared.asked.NotAsked.TheVariants as not_asked

@@ -41,7 +41,8 @@ Exit status:
   3  a file holds no resource fork, or a damaged one
   4  a file can't be read, or the output can't be written";
 
-/// The commands, in the order of the help. A line has a name; what the command does; and what its own help tells, if that is more.
+/// The commands, in the order of the help. A line has a name; what the command does; and what its own help tells, if
+/// that is more.
 const COMMANDS: &str =
     "ls;Lists resources;Lists resources: a line for each, with its type, its id, how many bytes it has, its attributes, and its name in double quotes
 get;Writes the bytes of a resource;
@@ -60,10 +61,10 @@ derez;Writes resources as a text that rez reads;
 rez;Writes a fork of a text that derez wrote;
 convert;Writes a file in another container;Writes a file in another container. What this can't hold is told, and the file isn't written, unless --lossy leaves it out";
 
-/// The words of the commands, options and then operands in their order. A line has the commands of a word; its name; its letter and
-/// its long form, if it is an option; what the help calls its value, if it has one; its marks; a word beside which it can't stand; and
-/// its help. The marks: a `required` word; a value `each` time that it stands, or `many` values; values that may be negative `numbers`,
-/// or begin with `-`.
+/// The words of the commands, options and then operands in their order. A line has the commands of a word; its name;
+/// its letter and its long form, if it is an option; what the help calls its value, if it has one; its marks; a word
+/// beside which it can't stand; and its help. The marks: a `required` word; a value `each` time that it stands, or
+/// `many` values; values that may be negative `numbers`, or begin with `-`.
 const WORDS: &str =
     "ls unpack derez;type;t;type;TYPE;each;;Only resources of this type, as ls shows it (STR is 'STR '); it may stand several times
 ls;types;;types;;;;Lists types: a line for each, with how many resources it has

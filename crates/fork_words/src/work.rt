@@ -184,7 +184,8 @@ fn pack<'a>(matches: &ArgMatches<'a>) -> Work<'a>
 /// How many letters a type has.
 const KIND_LENGTH: usize = 4;
 
-/// Where a changed file goes, where it is one that can be changed: what is read from the standard input is written elsewhere.
+/// Where a changed file goes, where it is one that can be changed: what is read from the standard input is written
+/// elsewhere.
 fn changed_target<'a>(
     matches: &ArgMatches<'a>,
     file: &'a str,

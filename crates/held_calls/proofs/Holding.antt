@@ -9,8 +9,8 @@ use Rattle.std.proofs.lemmas.Map.Views.{any-filter_same}
 use Rattle.std.proofs.lemmas.Cmp.{nat_eq_equiv}
 use Rattle.std.proofs.lemmas.Map.Made.{length-le_from_is_member}
 use Rattle.zone_laws.proofs.Tables.{eqb_same, eqb_swap}
-use Rattle.call_laws.proofs.Refusals.{first_passed, passed-NotLent, passed as passed_test}
-use Rattle.call_laws.proofs.SoundCalls.{length-written}
+use Rattle.zone_laws.proofs.Refusals.{first_passed, passed-NotLent, passed as passed_test}
+use Rattle.zone_laws.proofs.SoundCalls.{length-written}
 use Rattle.held_calls.proofs.Places.{held_bytes-behind}
 use Rattle.mac_base.specs.declared.error.OsErr.TheVariants.{ParamErr}
 use Rattle.mac_base.specs.HandleTable.{is_lent, is_locked, is_pointer, bytes_of}
@@ -19,10 +19,10 @@ use Rattle.mac_base.specs.Heap.{Heap}
 use Rattle.mac_base.specs.Loans.{lent_out, may_be_lent, most_loans, owners, returned}
 use Rattle.mac_base.specs.ZoneState.{ZoneState, with_heap, written}
 use Rattle.linked_zone.specs.Loans.{IsLoanOf, KeepsLoans, KeepsOtherLoans}
-use Rattle.mac_calls.specs.declared.loan_call.LoanCall.TheVariants.{Lend, LentPeek, LentPoke, Return}
-use Rattle.mac_calls.specs.declared.reply.Results.TheVariants.{Nothing}
-use Rattle.mac_calls.specs.Loans.{Loans, held_bytes, loan_refusal, with_held, without_loan}
-use Rattle.mac_calls.specs.Tests.{IsBlock, NotEmpty, NotLent, MayBeLent, first_refusal}
+use Rattle.mac_base.specs.declared.loan_call.LoanCall.TheVariants.{Lend, LentPeek, LentPoke, Return}
+use Rattle.mac_base.specs.declared.reply.Results.TheVariants.{Nothing}
+use Rattle.mac_base.specs.LoanStep.{Loans, held_bytes, loan_refusal, with_held, without_loan}
+use Rattle.mac_base.specs.Tests.{IsBlock, NotEmpty, NotLent, MayBeLent, first_refusal}
 use Rattle.raw_region.specs.State.{Loan}
 use Rattle.held_calls.specs.Holding.{Holds, EachIsLoan, EachOnce, is_held, loans_of, LoanSteps, TakenOut, held_written, loan_written, IsOnLoan, IsWindow}
 use Rattle.held_calls.specs.declared.window.Window.{Window}

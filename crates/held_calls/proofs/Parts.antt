@@ -5,13 +5,13 @@ use borrow.Rule.Slice.PartMut.{post_of}
 use Rattle.mac_base.specs.declared.error.OsErr.{OsErr}
 use Rattle.mac_base.specs.HandleTable.{bytes_of}
 use Rattle.mac_base.specs.ZoneState.{ZoneState, with_contents}
-use Rattle.mac_calls.specs.declared.memory_call.MemoryCall.{MemoryCall}
-use Rattle.mac_calls.specs.declared.memory_call.MemoryCall.TheVariants.{Poke, Peek}
-use Rattle.mac_calls.specs.declared.reply.Results.TheVariants.{Nothing, Bytes}
-use Rattle.mac_calls.specs.ExactStep.{step_unless}
-use Rattle.mac_calls.specs.RequestRun.{RequestRun}
-use Rattle.mac_calls.specs.Tests.{refusal}
-use Rattle.call_laws.proofs.Steps.{step-refused, step-Peek, step-Poke}
+use Rattle.mac_base.specs.declared.memory_call.MemoryCall.{MemoryCall}
+use Rattle.mac_base.specs.declared.memory_call.MemoryCall.TheVariants.{Poke, Peek}
+use Rattle.mac_base.specs.declared.reply.Results.TheVariants.{Nothing, Bytes}
+use Rattle.mac_base.specs.ExactStep.{step_unless}
+use Rattle.mac_base.specs.RequestRun.{RequestRun}
+use Rattle.mac_base.specs.Tests.{refusal}
+use Rattle.zone_laws.proofs.Steps.{step-refused, step-Peek, step-Poke}
 use Rattle.mem_calls.proofs.Brought.{block_written}
 use Rattle.held_calls.specs.Making.{MemorySteps}
 

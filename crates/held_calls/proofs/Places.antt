@@ -9,7 +9,7 @@ use Rattle.std.proofs.lemmas.Bool.{cases_lt}
 use Rattle.std.proofs.lemmas.List.{append-nil, drop-drop, length-take-le, take-append-drop, take_all, take_more}
 use borrow.Rule.Slice.PartMut.{post_of, put_mid}
 use Rattle.mac_base.specs.ZoneState.{written}
-use Rattle.mac_calls.specs.Loans.{held_bytes}
+use Rattle.mac_base.specs.LoanStep.{held_bytes}
 use Rattle.raw_region.specs.Bytes.{written as raw_written}
 use Rattle.raw_region.specs.State.{Loan, with_loan}
 use Rattle.zone_laws.proofs.Tables.{eqb_same}

@@ -5,8 +5,8 @@ use Rattle.std.proofs.lemmas.List.{append-nil, take_more}
 use Rattle.std.proofs.lemmas.List.Elements.{filter_map-append}
 use Rattle.mac_base.specs.declared.error.OsErr.{OsErr}
 use Rattle.mac_base.specs.declared.releasing.ReleasingCall.{ReleasingCall}
-use Rattle.mac_calls.specs.declared.grow_zone.Asked.{Asked}
-use Rattle.mac_calls.specs.GrowZone.{Answer, Ask, answered, answers_in, may_note, new_ask, noted}
+use Rattle.mac_base.specs.declared.grow_zone.Asked.{Asked}
+use Rattle.mac_base.specs.GrowZone.{Answer, Ask, answered, answers_in, may_note, new_ask, noted}
 use Rattle.held_calls.specs.Answers.{taken}
 use Rattle.mem_calls.proofs.Carrying.{may_note-last}
 

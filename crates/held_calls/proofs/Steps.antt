@@ -3,12 +3,12 @@ use Rattle.std.proofs.Common.{◌≡◌, List, ◌++◌, sym, ap, ◌∙◌, inl
 use Rattle.std.proofs.lemmas.List.{append-nil}
 use Rattle.mac_base.specs.HeadKind.{Shape}
 use Rattle.mac_base.specs.Heap.{Heap}
-use Rattle.mac_calls.specs.declared.memory_call.MemoryCall.{MemoryCall}
-use Rattle.mac_calls.specs.ExactStep.{IsExactStep, StepEnd, exact_step}
-use Rattle.mac_calls.specs.GrowZone.{Answer, Ask, answers_in}
-use Rattle.mac_calls.specs.Outcomes.{Outcome}
-use Rattle.call_laws.proofs.RunAnswers.{all_answered}
-use Rattle.call_laws.proofs.StepAnswers.{exact-framed_all, step_left}
+use Rattle.mac_base.specs.declared.memory_call.MemoryCall.{MemoryCall}
+use Rattle.mac_base.specs.ExactStep.{IsExactStep, StepEnd, exact_step}
+use Rattle.mac_base.specs.GrowZone.{Answer, Ask, answers_in}
+use Rattle.mac_base.specs.Outcomes.{Outcome}
+use Rattle.zone_laws.proofs.RunAnswers.{all_answered}
+use Rattle.zone_laws.proofs.StepAnswers.{exact-framed_all, step_left}
 use Rattle.held_calls.specs.Answers.{OutOfAnswers, taken}
 
 -- the call does just what it does with the answers that it took, and leaves the others

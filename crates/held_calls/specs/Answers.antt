@@ -1,7 +1,7 @@
 -- The answers of the grow-zone procedure that wait for a call, and what the last call asked.
 use Rattle.std.specs.Prelude.{◌≡◌, ◌⊎◌, ◌≤◌, ◌++◌, List, [], ◌∷◌, length, Option, Some, None, IsTrue, is_some, ⊤}
 use Rattle.std.specs.List.{list_all}
-use Rattle.mac_calls.specs.GrowZone.{Answer, Ask, answers_in}
+use Rattle.mac_base.specs.GrowZone.{Answer, Ask, answers_in}
 
 -- the answers that are left, and the asks of the last call
 pub record Queue : Type 0 where

@@ -5,9 +5,9 @@ use Rattle.std.specs.Option.{option_to_list}
 use Rattle.mac_base.specs.HandleTable.{is_lent}
 use Rattle.mac_base.specs.ZoneState.{ZoneState, written}
 use Rattle.linked_zone.specs.Loans.{IsLoanOf}
-use Rattle.mac_calls.specs.declared.loan_call.LoanCall.{LoanCall}
-use Rattle.mac_calls.specs.Loans.{Loans, LoanStep, held_bytes}
-use Rattle.mac_calls.specs.Outcomes.{Outcome}
+use Rattle.mac_base.specs.declared.loan_call.LoanCall.{LoanCall}
+use Rattle.mac_base.specs.LoanStep.{Loans, LoanStep, held_bytes}
+use Rattle.mac_base.specs.Outcomes.{Outcome}
 use Rattle.raw_region.specs.State.{Loan}
 use denote.RawPtr.{◌+ₚ◌}
 use Rattle.held_calls.specs.declared.loans.Held.{Held}

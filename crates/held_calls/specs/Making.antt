@@ -2,16 +2,16 @@
 use Rattle.std.specs.Prelude.{◌≡◌, Bool, true, false, not, ◌&&◌, List, is_some}
 use Rattle.mac_base.specs.HandleTable.{HandleTable}
 use Rattle.mac_base.specs.ZoneState.{ZoneState}
-use Rattle.mac_calls.specs.declared.memory_call.MemoryCall.{MemoryCall}
-use Rattle.mac_calls.specs.declared.memory_call.MemoryCall.TheVariants as memory_call
-use Rattle.mac_calls.specs.Effect.{request_of}
-use Rattle.mac_calls.specs.ExactStep.{IsExactStep}
-use Rattle.mac_calls.specs.GrowZone.{Ask}
-use Rattle.mac_calls.specs.MemoryStep.{MemoryStep}
-use Rattle.mac_calls.specs.Outcomes.{Outcome}
+use Rattle.mac_base.specs.declared.memory_call.MemoryCall.{MemoryCall}
+use Rattle.mac_base.specs.declared.memory_call.MemoryCall.TheVariants as memory_call
+use Rattle.mac_base.specs.Effect.{request_of}
+use Rattle.mac_base.specs.ExactStep.{IsExactStep}
+use Rattle.mac_base.specs.GrowZone.{Ask}
+use Rattle.mac_base.specs.MemoryStep.{MemoryStep}
+use Rattle.mac_base.specs.Outcomes.{Outcome}
 
--- From the old zone, the call with these asks may have this outcome and leave the new zone: it is a memory step, and just that
--- which is made where the procedure gives the answers that it gave.
+-- From the old zone, the call with these asks may have this outcome and leave the new zone: it is a memory step, and
+-- just that which is made where the procedure gives the answers that it gave.
 abbrev pub MemorySteps : ZoneState → MemoryCall → List Ask → Outcome → ZoneState → Type 0
 MemorySteps old call asks outcome new = MemoryStep old.shape old.heap call asks outcome new.heap × IsExactStep old.shape old.heap call asks outcome new.heap × (new.shape ≡ old.shape)
 

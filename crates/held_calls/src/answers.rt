@@ -2,14 +2,14 @@
 
 ghost use Rattle.std.specs.Prelude.{◌≡◌, ◌≤◌, ◌<◌, ◌++◌, ◌∷◌, [], length, IfOk, IfSome, IfNone, IsTrue};
 ghost use Rattle.std_alloc.specs.VecDeque.{deque_capacity};
-ghost use Rattle.mac_calls.specs.GrowZone.{answered, may_note, new_ask, noted};
+ghost use Rattle.mac_base.specs.GrowZone.{answered, may_note, new_ask, noted};
 ghost use Rattle.held_calls.specs.Answers.{taken};
 
 use arrayvec::ArrayVec;
 use mac_base::error::{HostFull, OsErr};
 use mac_base::handle::Handle;
 use mac_base::releasing::ReleasingCall;
-use mac_calls::{Answer, Asked, GrowZone};
+use mac_base::{Answer, Asked, GrowZone};
 use std::alloc::Global;
 use std::collections::VecDeque;
 use std::marker::Model;
@@ -69,7 +69,7 @@ pub struct MadeAsk {
 }
 
 impl Model for MadeAsk {
-    ghost use Rattle.mac_calls.specs.GrowZone.{Ask};
+    ghost use Rattle.mac_base.specs.GrowZone.{Ask};
     ghost use Rattle.held_calls.specs.Answers.{HasFewCalls};
 
     ghost Value = { Ask };

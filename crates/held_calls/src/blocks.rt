@@ -3,12 +3,12 @@
 ghost use Rattle.std.specs.Prelude.{◌≡◌, IfOk, []};
 ghost use Rattle.mac_base.specs.BlockReport.{reports_from};
 ghost use Rattle.mac_base.specs.ZoneMap.{address_behind};
-ghost use Rattle.mac_calls.specs.declared.memory_call.MemoryCall.TheVariants as call;
+ghost use Rattle.mac_base.specs.declared.memory_call.MemoryCall.TheVariants as call;
 ghost use Rattle.held_calls.specs.Making.{MemorySteps};
 
 use mac_base::block::{Block, Entry};
 use mac_base::error::HostFull;
-use mac_calls::{BlockList, Outcome, Results};
+use mac_base::{BlockList, Outcome, Results};
 use mem_calls::MemoryManager;
 use std::alloc::Global;
 

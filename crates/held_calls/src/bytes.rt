@@ -6,15 +6,15 @@ ghost use Rattle.mac_base.specs.BlockStatus.{status_of};
 ghost use Rattle.mac_base.specs.declared.block.Status.{Status};
 ghost use Rattle.mac_base.specs.HandleTable.{bytes_of};
 ghost use Rattle.linked_zone.specs.Loans.{KeepsLoans};
-ghost use Rattle.mac_calls.specs.declared.memory_call.MemoryCall.TheVariants as call;
-ghost use Rattle.mac_calls.specs.declared.reply.Results.TheVariants as results;
-ghost use Rattle.mac_calls.specs.Tests.{refusal};
+ghost use Rattle.mac_base.specs.declared.memory_call.MemoryCall.TheVariants as call;
+ghost use Rattle.mac_base.specs.declared.reply.Results.TheVariants as results;
+ghost use Rattle.mac_base.specs.Tests.{refusal};
 ghost use Rattle.held_calls.specs.Making.{MemorySteps};
 
 use mac_base::block::Status;
 use mac_base::bytes::Bytes;
 use mac_base::error::{HostFull, OsErr};
-use mac_calls::{Outcome, Results};
+use mac_base::{Outcome, Results};
 use mem_calls::MemoryManager;
 use std::alloc::Global;
 

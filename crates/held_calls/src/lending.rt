@@ -3,16 +3,16 @@
 ghost use Rattle.std.specs.Prelude.{◌≡◌, ◌+◌, ◌≤◌, ◌∷◌, [], length, IfOk};
 ghost use Rattle.std.specs.Result.{result_err};
 ghost use Rattle.mac_base.specs.ZoneState.{with_heap};
-ghost use Rattle.mac_calls.specs.declared.loan_call.LoanCall.TheVariants as call;
-ghost use Rattle.mac_calls.specs.Loans.{all_returned, held_bytes, loan_refusal};
-ghost use Rattle.mac_calls.specs.Tests.{IsBlock, first_refusal};
+ghost use Rattle.mac_base.specs.declared.loan_call.LoanCall.TheVariants as call;
+ghost use Rattle.mac_base.specs.LoanStep.{all_returned, held_bytes, loan_refusal};
+ghost use Rattle.mac_base.specs.Tests.{IsBlock, first_refusal};
 ghost use Rattle.held_calls.specs.Holding.{Holds, IsWindow, LoanSteps, loans_of};
 
 use crate::loans::{Held, Loans};
 use crate::window::Window;
 use mac_base::block::Status;
 use mac_base::error::OsErr;
-use mac_calls::{Outcome, Results};
+use mac_base::{Outcome, Results};
 use mem_calls::MemoryManager;
 
 /// Lend: lends a nonrelocatable block or that of a locked handle.

@@ -45,7 +45,7 @@ impl Drop for Loans {
 impl Loans {
     ghost use Rattle.std.specs.List.{list_any};
     ghost use Rattle.std.specs.Prelude.{◌≡◌, ◌==◌, ℕ, ◌+◌, ◌<◌, ◌≤◌, [], ◌∷◌, ◌++◌, length, is_some, IfSome, IfNone, IsFalse};
-    ghost use Rattle.mac_calls.specs.Loans.{held_bytes};
+    ghost use Rattle.mac_base.specs.LoanStep.{held_bytes};
     ghost use Rattle.held_calls.specs.Holding.{blocks_of, is_held, held_written, loans_of, IsOnLoan, TakenOut};
 
     /// No loans.

@@ -2,9 +2,9 @@
 
 ghost use Rattle.std.specs.Prelude.{◌≡◌, ◌||◌, not, None, Ok, IfOk, IfSome, IfNone, OnErr, IsTrue, is_some, []};
 ghost use Rattle.linked_zone.specs.Loans.{KeepsLoans};
-ghost use Rattle.mac_calls.specs.declared.reply.Results.TheVariants.{TwoNumbers};
-ghost use Rattle.mac_calls.specs.Outcomes.{handle_outcome, pointer_outcome, address_outcome, number_outcome, done_outcome};
-ghost use Rattle.mac_calls.specs.Tests.{refusal};
+ghost use Rattle.mac_base.specs.declared.reply.Results.TheVariants.{TwoNumbers};
+ghost use Rattle.mac_base.specs.Outcomes.{handle_outcome, pointer_outcome, address_outcome, number_outcome, done_outcome};
+ghost use Rattle.mac_base.specs.Tests.{refusal};
 ghost use Rattle.held_calls.specs.Making.{MemorySteps, copies, fills, is_on_zone, is_quiet};
 
 use crate::blocks::zone_map;
@@ -12,7 +12,7 @@ use crate::bytes::{peek_copy, poke};
 use mac_base::error::{HostFull, OsErr};
 use mac_base::handle::{Handle, Ptr};
 use mac_base::purge_space::PurgeSpace;
-use mac_calls::{GrowZone, MemoryCall, Outcome, Results};
+use mac_base::{GrowZone, MemoryCall, Outcome, Results};
 use mem_calls::MemoryManager;
 use std::alloc::Global;
 

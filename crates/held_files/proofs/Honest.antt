@@ -16,18 +16,18 @@ use Rattle.linked_zone.specs.Loans.{KeepsLoans}
 use Rattle.mac_base.specs.ZoneState.{ZoneState}
 use Rattle.mac_base.specs.declared.error.HostFull.{HostFull}
 use Rattle.mac_base.specs.declared.error.OsErr.TheVariants.{MemFullErr}
-use Rattle.mac_calls.specs.GrowZone.{Answer, Ask}
-use Rattle.mac_calls.specs.Loans.{Loans}
-use Rattle.mac_calls.specs.Outcomes.{Outcome}
-use Rattle.mac_calls.specs.declared.resource_call.ResourceCall.{ResourceCall}
-use Rattle.res_calls.proofs.Answering.{all_answered, answered_before, honest_step}
+use Rattle.mac_base.specs.GrowZone.{Answer, Ask}
+use Rattle.mac_base.specs.LoanStep.{Loans}
+use Rattle.mac_base.specs.Outcomes.{Outcome}
+use Rattle.mac_base.specs.declared.resource_call.ResourceCall.{ResourceCall}
+use Rattle.res_update.proofs.Answering.{all_answered, answered_before, honest_step}
 use Rattle.fork_disk.specs.Disk.{Rose}
-use Rattle.res_calls.specs.Answered.{IsAnswered, file_of_work}
-use Rattle.res_calls.specs.Device.{device_works, read_truly}
-use Rattle.res_calls.specs.Files.{ResState}
-use Rattle.res_calls.specs.Steps.{IsSaved, ReadsBack, update_in, work_of, Memory as MayStep}
-use Rattle.res_calls.specs.Tests.{resource_refusal}
-use Rattle.res_calls.specs.Updates.{Update}
+use Rattle.res_update.specs.Answered.{IsAnswered, file_of_work}
+use Rattle.res_update.specs.Device.{device_works, read_truly}
+use Rattle.res_update.specs.Files.{ResState}
+use Rattle.res_update.specs.Steps.{IsSaved, ReadsBack, update_in, work_of, Memory as MayStep}
+use Rattle.res_update.specs.Tests.{resource_refusal}
+use Rattle.res_update.specs.Updates.{Update}
 use Rattle.res_files.specs.FilesOn.{FailedAt, FilesOn, HonestAt, NoneFailed, failures_at}
 use Rattle.res_manager.specs.Steps.{ResourceSteps, state_of, takes_memory}
 use Rattle.toolbox.specs.Steps.{StepsFrom}

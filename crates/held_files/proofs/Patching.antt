@@ -7,16 +7,16 @@ use Rattle.held_files.specs.Making.{FailsAt}
 use Rattle.held_files.specs.Patching.{PatchesOnForks}
 use Rattle.held_zone.specs.State.{State}
 use Rattle.mac_base.specs.declared.error.OsErr.TheVariants.{MemFullErr}
-use Rattle.res_calls.proofs.Answering.{all_answered}
-use Rattle.res_calls.specs.declared.partial_end.PartialEnd.{PartialEnd}
-use Rattle.res_calls.specs.declared.partial_end.PartialEnd.TheVariants.{Done, InMemory, OutOfBounds, Refused}
-use Rattle.res_calls.specs.declared.patching_call.PatchingCall.{PatchingCall}
-use Rattle.res_calls.specs.Answered.{IsAnswered, answered_disks}
-use Rattle.res_calls.specs.Device.{Device, Works, FailsBefore, FailsWriting, Disk, DiskRelations, LeaveRelation, device_works, read_truly}
-use Rattle.res_calls.specs.Files.{ResState, ResourceEnd, disk_of}
-use Rattle.res_calls.specs.Patching.{PatchStepBy, Patches, UpdatesBy, WritesBy, patch_asked, patch_update, update_asked}
-use Rattle.res_calls.specs.Steps.{IsSaved, LeavesDisk, Memory}
-use Rattle.res_calls.specs.Updates.{Update, fits_fork}
+use Rattle.res_update.proofs.Answering.{all_answered}
+use Rattle.res_update.specs.declared.partial_end.PartialEnd.{PartialEnd}
+use Rattle.res_update.specs.declared.partial_end.PartialEnd.TheVariants.{Done, InMemory, OutOfBounds, Refused}
+use Rattle.res_update.specs.declared.patching_call.PatchingCall.{PatchingCall}
+use Rattle.res_update.specs.Answered.{IsAnswered, answered_disks}
+use Rattle.res_update.specs.Device.{Device, Works, FailsBefore, FailsWriting, Disk, DiskRelations, LeaveRelation, device_works, read_truly}
+use Rattle.res_update.specs.Files.{ResState, ResourceEnd, disk_of}
+use Rattle.res_update.specs.Patching.{PatchStepBy, Patches, UpdatesBy, WritesBy, patch_asked, patch_update, update_asked}
+use Rattle.res_update.specs.Steps.{IsSaved, LeavesDisk, Memory}
+use Rattle.res_update.specs.Updates.{Update, fits_fork}
 use Rattle.res_files.specs.FilesOn.{FailedAt, FilesOn, NoneFailed}
 use Rattle.res_manager.specs.Patching.{OnWritten, PatchesOn}
 use Rattle.res_manager.specs.Steps.{state_of}

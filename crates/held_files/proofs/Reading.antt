@@ -6,13 +6,13 @@ use Rattle.held_files.specs.Making.{FailsAt}
 use Rattle.held_files.specs.Partial.{ReadsOnForks}
 use Rattle.held_zone.specs.State.{State}
 use Rattle.mac_base.specs.HandleTable.{is_full}
-use Rattle.res_calls.proofs.Answering.{all_answered}
-use Rattle.res_calls.specs.declared.partial_end.PartialEnd.{PartialEnd}
-use Rattle.res_calls.specs.declared.partial_end.PartialEnd.TheVariants.{Done, InMemory, OutOfBounds, Refused}
-use Rattle.res_calls.specs.Answered.{IsAnswered}
-use Rattle.res_calls.specs.Changes.{Files}
-use Rattle.res_calls.specs.Files.{ResState}
-use Rattle.res_calls.specs.Partial.{ReadsData, ReadsPart, data_at, part_asked}
+use Rattle.res_update.proofs.Answering.{all_answered}
+use Rattle.res_update.specs.declared.partial_end.PartialEnd.{PartialEnd}
+use Rattle.res_update.specs.declared.partial_end.PartialEnd.TheVariants.{Done, InMemory, OutOfBounds, Refused}
+use Rattle.res_update.specs.Answered.{IsAnswered}
+use Rattle.res_update.specs.Changes.{Files}
+use Rattle.res_update.specs.Files.{ResState}
+use Rattle.res_update.specs.Partial.{ReadsData, ReadsPart, data_at, part_asked}
 use Rattle.res_files.specs.FilesOn.{FailedAt, FilesOn, NoneFailed}
 use Rattle.res_manager.specs.Partial.{ReadsPartOn}
 use Rattle.res_manager.specs.Steps.{state_of}

@@ -9,12 +9,12 @@ use Rattle.held_files.specs.Making.{FailsAt, SeeksOnForks}
 use Rattle.held_zone.specs.State.{State}
 use Rattle.linked_zone.specs.Loans.{KeepsLoans}
 use Rattle.mac_base.specs.declared.error.OsErr.{OsErr}
-use Rattle.mac_calls.specs.Outcomes.{Outcome}
-use Rattle.res_calls.proofs.Seeking.{honest_found}
-use Rattle.res_calls.specs.Device.{device_works}
-use Rattle.res_calls.specs.Sought.{sought}
-use Rattle.res_calls.specs.Steps.{Memory as MayStep}
-use Rattle.res_calls.specs.declared.seeking_call.SeekingCall.{SeekingCall}
+use Rattle.mac_base.specs.Outcomes.{Outcome}
+use Rattle.res_update.proofs.Seeking.{honest_found}
+use Rattle.res_update.specs.Device.{device_works}
+use Rattle.res_update.specs.Sought.{sought}
+use Rattle.res_update.specs.Steps.{Memory as MayStep}
+use Rattle.res_update.specs.declared.seeking_call.SeekingCall.{SeekingCall}
 use Rattle.res_files.specs.FilesOn.{FailedAt, FilesOn, NoneFailed}
 use Rattle.res_manager.specs.Steps.{SoughtSteps, state_of}
 use Rattle.res_table.specs.declared.chain.RowPlace.{RowPlace}

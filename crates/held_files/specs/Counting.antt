@@ -4,9 +4,9 @@ use Rattle.held_files.specs.Forks.{ForksState}
 use Rattle.held_files.specs.Told.{kind_told}
 use Rattle.held_zone.specs.State.{State}
 use Rattle.held_zone.specs.Told.{code_told, number_told}
-use Rattle.mac_calls.specs.Outcomes.{Outcome}
-use Rattle.res_calls.specs.Counted.{counted}
-use Rattle.res_calls.specs.declared.counting_call.CountingCall.{CountingCall}
+use Rattle.mac_base.specs.Outcomes.{Outcome}
+use Rattle.res_update.specs.Counted.{counted}
+use Rattle.res_update.specs.declared.counting_call.CountingCall.{CountingCall}
 
 -- what the files tell, where there are files and a zone
 abbrev pub counted_on : Option State → Option ForksState → CountingCall → Option Outcome

@@ -3,8 +3,8 @@ use Rattle.std.specs.List.{range_with_len}
 use Rattle.std.specs.Prelude.{◌≡◌, ℕ, ◌-◌, not, Bool, List, [], find, map, replicate, set, slice_get, true, Option, None, if◌then◌else◌, nat_le, ◌&&◌}
 use Rattle.fork_disk.specs.declared.mem_disk.MemDisk.{MemDisk}
 use Rattle.fork_disk.specs.declared.store.PlainStore.{PlainStore}
-use Rattle.res_calls.specs.Changes.{Files, handles_forgotten}
-use Rattle.res_calls.specs.Device.{Disk}
+use Rattle.res_update.specs.Changes.{Files, handles_forgotten}
+use Rattle.res_update.specs.Device.{Disk}
 use Rattle.res_files.specs.FilesOn.{FilesOn}
 use Rattle.res_files.specs.Standing.{most_files}
 use Rattle.res_table.specs.OpenFiles.{is_open, no_files}

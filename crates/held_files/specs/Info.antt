@@ -4,11 +4,11 @@ use Rattle.held_files.specs.Forks.{ForksState}
 use Rattle.held_zone.specs.Told.{code_told, no_zone}
 use Rattle.mac_base.specs.declared.error.OsErr.{OsErr}
 use Rattle.mac_base.specs.declared.error.OsErr.TheVariants.{MemFullErr}
-use Rattle.mac_calls.specs.Outcomes.{done_outcome}
-use Rattle.res_calls.specs.Info.{info_changed, info_refusal}
+use Rattle.mac_base.specs.Outcomes.{done_outcome}
+use Rattle.res_update.specs.Info.{info_changed, info_refusal}
 
--- The call ends so, and leaves these files: the resource has the id and the name, or the call is refused. Where the host has no memory for
--- a call that isn't refused, the answer is memFullErr, and nothing has changed.
+-- The call ends so, and leaves these files: the resource has the id and the name, or the call is refused. Where the
+-- host has no memory for a call that isn't refused, the answer is memFullErr, and nothing has changed.
 abbrev pub SetsInfo : ℕ → ℤ → Option (List ℕ) → ForksState → Result ⊤ OsErr → ForksState → Type 0
 SetsInfo h id name old done new = MatchOption (info_refusal h name old.files)
     (((done ≡ Ok tt) × (new ≡ record old { files = info_changed h id name old.files })) ⊎ ((done ≡ Err MemFullErr) × (new ≡ old)))

@@ -6,16 +6,16 @@ use Rattle.fork_disk.specs.Fork.{IsPartly}
 use Rattle.held_zone.specs.State.{State, with_no_asks}
 use Rattle.held_zone.specs.Told.{StaysLent}
 use Rattle.mac_base.specs.declared.error.OsErr.TheVariants.{MemFullErr}
-use Rattle.mac_calls.specs.GrowZone.{answers_in}
-use Rattle.mac_calls.specs.Outcomes.{Outcome}
-use Rattle.mac_calls.specs.declared.resource_call.ResourceCall.{ResourceCall}
-use Rattle.res_calls.specs.Answered.{file_of_work}
-use Rattle.res_calls.specs.Device.{Device, device_works, read_truly}
-use Rattle.res_calls.specs.Files.{ResState}
-use Rattle.res_calls.specs.Sought.{FoundStepBy, sought}
-use Rattle.res_calls.specs.Steps.{ReadsBack, ResourceStepBy, work_of}
-use Rattle.res_calls.specs.Tests.{resource_refusal}
-use Rattle.res_calls.specs.declared.seeking_call.SeekingCall.{SeekingCall}
+use Rattle.mac_base.specs.GrowZone.{answers_in}
+use Rattle.mac_base.specs.Outcomes.{Outcome}
+use Rattle.mac_base.specs.declared.resource_call.ResourceCall.{ResourceCall}
+use Rattle.res_update.specs.Answered.{file_of_work}
+use Rattle.res_update.specs.Device.{Device, device_works, read_truly}
+use Rattle.res_update.specs.Files.{ResState}
+use Rattle.res_update.specs.Sought.{FoundStepBy, sought}
+use Rattle.res_update.specs.Steps.{ReadsBack, ResourceStepBy, work_of}
+use Rattle.res_update.specs.Tests.{resource_refusal}
+use Rattle.res_update.specs.declared.seeking_call.SeekingCall.{SeekingCall}
 use Rattle.res_manager.specs.Steps.{takes_memory}
 use Rattle.toolbox.specs.Steps.{StepsFrom}
 use Rattle.held_files.specs.Forks.{ForksState, SameForks}
@@ -44,9 +44,9 @@ pub record StepsOnForks (old : State) (old_files : ForksState) (call : ResourceC
   pub waiting : new.waiting ≡ old.waiting
   pub lent : StaysLent old.zone new.zone
 
--- From a zone and files, a call that seeks a resource otherwise than by its id ends so and leaves these: where it finds one, that is got
--- just as GetResource gets it. The answers that are left, the devices, what is lent and what waits are as for other calls; it takes no
--- memory of the host.
+-- From a zone and files, a call that seeks a resource otherwise than by its id ends so and leaves these: where it finds
+-- one, that is got just as GetResource gets it. The answers that are left, the devices, what is lent and what waits are
+-- as for other calls; it takes no memory of the host.
 pub record SeeksOnForks (old : State) (old_files : ForksState) (call : SeekingCall) (outcome : Outcome) (new : State) (new_files : ForksState) : Type 0 where
   pub device : Device
   pub step : FoundStepBy (StepsFrom old.left new.left) (read_truly IsPartly) (sought call old_files.files) device (resource_state old old_files) new.asks

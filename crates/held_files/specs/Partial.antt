@@ -4,11 +4,11 @@ use Rattle.held_files.specs.Forks.{ForksState, SameForks}
 use Rattle.held_files.specs.Making.{FailsAt}
 use Rattle.held_zone.specs.State.{State}
 use Rattle.mac_base.specs.HandleTable.{is_full}
-use Rattle.res_calls.specs.declared.partial_end.PartialEnd.{PartialEnd}
-use Rattle.res_calls.specs.Partial.{ReadsPart, part_asked}
+use Rattle.res_update.specs.declared.partial_end.PartialEnd.{PartialEnd}
+use Rattle.res_update.specs.Partial.{ReadsPart, part_asked}
 
--- A call for as many bytes as there were before it, from an offset on of the resource with a handle, ends so and leaves these: they are the
--- fork's where it read them. The files and their forks stay.
+-- A call for as many bytes as there were before it, from an offset on of the resource with a handle, ends so and leaves
+-- these: they are the fork's where it read them. The files and their forks stay.
 abbrev pub ReadsOnForks : State → ForksState → ℕ → ℕ → List ℕ → List ℕ → PartialEnd → ForksState → Type 0
 ReadsOnForks zone old h at before after end new = SameForks old new × ReadsPart (λ k. ⊤) (new.failures ≡ old.failures) (λ k. FailsAt k old.failures new.failures)
     (is_full zone.zone.heap.table h) at before after old.files (part_asked h at (length before) old.files) end

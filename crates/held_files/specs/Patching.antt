@@ -5,26 +5,26 @@ use Rattle.held_files.specs.Forks.{ForksState}
 use Rattle.held_files.specs.Making.{FailsAt, resource_state}
 use Rattle.held_zone.specs.State.{State}
 use Rattle.mac_base.specs.declared.error.OsErr.TheVariants.{MemFullErr}
-use Rattle.res_calls.specs.Device.{Device, device_works, read_truly}
-use Rattle.res_calls.specs.Patching.{PatchStepBy, patch_asked, patch_update}
-use Rattle.res_calls.specs.Steps.{IsSaved}
-use Rattle.res_calls.specs.declared.partial_end.PartialEnd.{PartialEnd}
-use Rattle.res_calls.specs.declared.partial_end.PartialEnd.TheVariants.{Refused}
-use Rattle.res_calls.specs.declared.patching_call.PatchingCall.{PatchingCall}
+use Rattle.res_update.specs.Device.{Device, device_works, read_truly}
+use Rattle.res_update.specs.Patching.{PatchStepBy, patch_asked, patch_update}
+use Rattle.res_update.specs.Steps.{IsSaved}
+use Rattle.res_update.specs.declared.partial_end.PartialEnd.{PartialEnd}
+use Rattle.res_update.specs.declared.partial_end.PartialEnd.TheVariants.{Refused}
+use Rattle.res_update.specs.declared.patching_call.PatchingCall.{PatchingCall}
 use Rattle.res_manager.specs.Patching.{OnWritten}
 use Rattle.res_table.specs.declared.chain.RowPlace.{RowPlace}
 
--- Over a zone, which stays, and files, a call whose resource is at this place ends so and leaves these files, just as the Resource Manager
--- makes it. A device is memory, which fails only where the host has none for a longer fork. A file that was written reads back as the table
--- that was saved.
+-- Over a zone, which stays, and files, a call whose resource is at this place ends so and leaves these files, just as
+-- the Resource Manager makes it. A device is memory, which fails only where the host has none for a longer fork. A file
+-- that was written reads back as the table that was saved.
 pub record PatchesFork (zone : State) (old : ForksState) (p : RowPlace) (call : PatchingCall) (end : PartialEnd) (new : ForksState) : Type 0 where
   pub device : Device
   pub step : PatchStepBy (read_truly IsPartly) p device call (resource_state zone old) end (resource_state zone new)
   pub cause : MatchBool (device_works device) (new.failures ≡ old.failures) (FailsAt p.file old.failures new.failures)
   pub reads_back : OnWritten end (IsSaved (λ k. ⊤) (patch_update call old.files p) (resource_state zone new))
 
--- The same of a call by its place, or by how it ends before any work. Where the host has no memory for its work, the answer is memFullErr. In
--- both of these cases the files stay.
+-- The same of a call by its place, or by how it ends before any work. Where the host has no memory for its work, the
+-- answer is memFullErr. In both of these cases the files stay.
 abbrev pub PatchesOnForks : State → ForksState → PatchingCall → Result RowPlace PartialEnd → PartialEnd → ForksState → Type 0
 PatchesOnForks zone old call (Ok p) end new = PatchesFork zone old p call end new ⊎ ((end ≡ Refused MemFullErr) × (new ≡ old))
 PatchesOnForks zone old call (Err refusal) end new = (end ≡ refusal) × (new ≡ old)

@@ -6,16 +6,16 @@ use Rattle.held_files.specs.Making.{MakesResource, SeeksOnForks}
 use Rattle.held_zone.specs.State.{State}
 use Rattle.held_zone.specs.Told.{Makes, code_told, no_zone, number_told}
 use Rattle.mac_base.specs.Codes.{minus}
-use Rattle.mac_calls.specs.Outcomes.{Outcome}
-use Rattle.mac_calls.specs.Released.{disposed_in, disposed_of}
-use Rattle.mac_calls.specs.declared.reply.ResourceInfo.{ResourceInfo}
-use Rattle.mac_calls.specs.declared.reply.Results.TheVariants.{Info, Kind}
+use Rattle.mac_base.specs.Outcomes.{Outcome}
+use Rattle.mac_base.specs.Released.{disposed_in, disposed_of}
+use Rattle.mac_base.specs.declared.reply.ResourceInfo.{ResourceInfo}
+use Rattle.mac_base.specs.declared.reply.Results.TheVariants.{Info, Kind}
 use Rattle.held_files.specs.declared.told.MrInfo.{MrInfo}
-use Rattle.mac_calls.specs.declared.memory_call.MemoryCall.TheVariants.{DisposeHandle}
-use Rattle.mac_calls.specs.declared.resource_call.ResourceCall.TheVariants.{GetResInfo, OpenResFile}
-use Rattle.res_calls.specs.Device.{Disk}
-use Rattle.res_calls.specs.declared.seeking_call.SeekingCall.{SeekingCall}
-use Rattle.mac_calls.specs.declared.resource_call.ResourceCall.{ResourceCall}
+use Rattle.mac_base.specs.declared.memory_call.MemoryCall.TheVariants.{DisposeHandle}
+use Rattle.mac_base.specs.declared.resource_call.ResourceCall.TheVariants.{GetResInfo, OpenResFile}
+use Rattle.res_update.specs.Device.{Disk}
+use Rattle.res_update.specs.declared.seeking_call.SeekingCall.{SeekingCall}
+use Rattle.mac_base.specs.declared.resource_call.ResourceCall.{ResourceCall}
 
 -- The call is made, where there are a zone and files; else there is no outcome, and both stay.
 abbrev pub ResourceCalled : Option State → Option ForksState → ResourceCall → Option Outcome → Option State → Option ForksState → Type 0
@@ -33,7 +33,8 @@ abbrev pub ResourceToldNumber : Option State → Option ForksState → ResourceC
 ResourceToldNumber old old_files call code before number new new_files =
     (outcome : Option Outcome) × (code ≡ code_told outcome) × (number ≡ number_told before outcome) × ResourceCalled old old_files call outcome new new_files
 
--- A call that seeks a resource otherwise than by its id is made, where there are a zone and files; else there is no outcome, and both stay.
+-- A call that seeks a resource otherwise than by its id is made, where there are a zone and files; else there is no
+-- outcome, and both stay.
 abbrev pub ResourceSought : Option State → Option ForksState → SeekingCall → Option Outcome → Option State → Option ForksState → Type 0
 ResourceSought (Some old) (Some old_files) call (Some outcome) (Some new) (Some new_files) = SeeksOnForks old old_files call outcome new new_files
 ResourceSought (Some old) None call None new new_files = (new ≡ Some old) × (new_files ≡ None)

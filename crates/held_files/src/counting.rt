@@ -7,8 +7,8 @@ use crate::held::MrFiles;
 use crate::told::kind;
 use held_zone::told;
 use held_zone::zone::MhZone;
-use mac_calls::Outcome;
-use res_calls::CountingCall;
+use mac_base::Outcome;
+use res_update::CountingCall;
 use std::alloc::Global;
 
 impl MrFiles {

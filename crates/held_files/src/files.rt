@@ -2,7 +2,7 @@
 
 ghost use Rattle.std.specs.Prelude.{◌≡◌, ◌≤◌, [], ◌∷◌, length, map, option_copied, IfOk, IfSome, IsFalse};
 ghost use Rattle.held_files.specs.Forks.{empty_forks, fork_in, fork_of_number, free_number, HasFork};
-ghost use Rattle.mac_calls.specs.Released.{disposed_by, disposed_in};
+ghost use Rattle.mac_base.specs.Released.{disposed_by, disposed_in};
 ghost use Rattle.res_files.specs.Standing.{most_files};
 ghost use Rattle.res_table.specs.OpenFiles.{is_open};
 
@@ -14,14 +14,14 @@ use held_zone::told;
 use mac_base::error::{HostFull, OsErr};
 use mac_base::handle::Handle;
 use mac_base::releasing::ReleasingCall;
-use mac_calls::{MemoryCall, Outcome, ResourceCall};
-use res_calls::{CountingCall, PartialEnd, PatchingCall, SeekingCall};
+use mac_base::{MemoryCall, Outcome, ResourceCall};
 use res_files::{MOST_FILES, ResourceFiles};
+use res_update::{CountingCall, PartialEnd, PatchingCall, SeekingCall};
 use std::alloc::Global;
 use std::marker::Model;
 
-/// Resource files, `MOST_FILES` at most, with their forks in memory. A contract sees the open files, whether calls load what
-/// they get, and the forks.
+/// Resource files, `MOST_FILES` at most, with their forks in memory. A contract sees the open files, whether calls load
+/// what they get, and the forks.
 pub struct ForkFiles {
     files: ResourceFiles<PlainStore<MemDisk>>,
 }
@@ -232,7 +232,8 @@ impl ForkFiles {
         made
     }
 
-    /// Makes a call that seeks a resource otherwise than by its id; one that finds no room takes the answers that are left.
+    /// Makes a call that seeks a resource otherwise than by its id; one that finds no room takes the answers that are
+    /// left.
     pub fn seek(&mut self, session: &mut Session, call: &SeekingCall<'_>) -> Outcome
         ensures { SeeksOnForks session.old self.old call.now result session.new self.new }
     {
@@ -249,7 +250,8 @@ impl ForkFiles {
 impl ForkFiles {
     ghost use Rattle.held_files.specs.Info.{SetsInfo};
 
-    /// SetResInfo: a resource gets this id, and this name where one is given. Where the host has no memory for it, it is memFullErr.
+    /// SetResInfo: a resource gets this id, and this name where one is given. Where the host has no memory for it, it
+    /// is memFullErr.
     pub fn set_info(
         &mut self,
         alloc: Global,
@@ -267,7 +269,7 @@ impl ForkFiles {
 }
 
 impl ForkFiles {
-    ghost use Rattle.res_calls.specs.Counted.{counted};
+    ghost use Rattle.res_update.specs.Counted.{counted};
 
     /// Makes a call that tells what all open files have together.
     pub fn count(&self, call: CountingCall) -> Outcome
@@ -280,7 +282,8 @@ impl ForkFiles {
 impl ForkFiles {
     ghost use Rattle.held_files.specs.Partial.{ReadsOnForks};
 
-    /// ReadPartialResource: reads as many bytes as the buffer holds of those that a resource has in its fork, from an offset on.
+    /// ReadPartialResource: reads as many bytes as the buffer holds of those that a resource has in its fork, from an
+    /// offset on.
     pub fn read_partial(
         &mut self,
         session: &Session,
@@ -296,10 +299,10 @@ impl ForkFiles {
 
 impl ForkFiles {
     ghost use Rattle.held_files.specs.Patching.{PatchesOnForks};
-    ghost use Rattle.res_calls.specs.Patching.{patch_asked};
+    ghost use Rattle.res_update.specs.Patching.{patch_asked};
 
-    /// Makes a call that changes the bytes that a resource has in its fork, which is written at once. Where the host has no memory for
-    /// it, it is memFullErr.
+    /// Makes a call that changes the bytes that a resource has in its fork, which is written at once. Where the host
+    /// has no memory for it, it is memFullErr.
     pub fn patch(&mut self, alloc: Global, session: &Session, call: &PatchingCall<'_>) -> PartialEnd
         ensures { PatchesOnForks session.now self.old call.now (patch_asked call.now self.old.files) result self.new }
     {

@@ -6,12 +6,12 @@ ghost use Rattle.held_files.specs.Patching.{PatchCalled};
 use crate::held::MrFiles;
 use held_zone::zone::MhZone;
 use mac_base::handle::Handle;
-use res_calls::{PartialEnd, PatchingCall};
+use res_update::{PartialEnd, PatchingCall};
 use std::alloc::Global;
 
 impl MrFiles {
-    /// Reads as many bytes as the buffer holds of those that a resource has in its fork, from an offset on, where there are files and a
-    /// zone.
+    /// Reads as many bytes as the buffer holds of those that a resource has in its fork, from an offset on, where there
+    /// are files and a zone.
     pub fn read_partial(
         &mut self,
         alloc: Global,

@@ -5,7 +5,7 @@ ghost use Rattle.held_zone.specs.Told.{code_told};
 ghost use Rattle.held_files.specs.Told.{info_told, kind_told, shown_info};
 
 use held_zone::told;
-use mac_calls::{Outcome, ResourceInfo, Results};
+use mac_base::{Outcome, ResourceInfo, Results};
 
 /// What a resource is called: its type as a number, its id, and how many bytes its name has: 0 where it has none.
 #[repr(C)]

@@ -1,4 +1,5 @@
--- A zone that fell asleep wakes as it was in the bytes that it left: what was lent is lent again, with the bytes that C left.
+-- A zone that fell asleep wakes as it was in the bytes that it left: what was lent is lent again, with the bytes that C
+-- left.
 use Rattle.std.proofs.Common.{◌≡◌, ◌∙◌, ℕ, ◌&&◌, ◌||◌, ◌==◌, not, Bool, true, false, cond, nat_lt, List, [], ◌∷◌, length, map, Option, Some, None, refl, sym, ap}
 use Rattle.std.specs.Prelude.{filter, is_some}
 use Rattle.std.specs.List.{list_all, list_any}
@@ -11,14 +12,14 @@ use Rattle.mac_base.specs.Heap.{Heap, with_table}
 use Rattle.mac_base.specs.Loans.{LoansAreFixed, LoansFit, most_loans, owners, returned, with_lent}
 use Rattle.mac_base.specs.Sound.{Sound}
 use Rattle.mac_base.specs.ZoneState.{ZoneState}
-use Rattle.mac_calls.specs.declared.loan_call.LoanCall.TheVariants.{Lend}
-use Rattle.mac_calls.specs.GrowZone.{Answer, Ask}
-use Rattle.mac_calls.specs.Loans.{Loans, all_returned, loan_refusal}
-use Rattle.mac_calls.specs.Tests.{unless_passed}
+use Rattle.mac_base.specs.declared.loan_call.LoanCall.TheVariants.{Lend}
+use Rattle.mac_base.specs.GrowZone.{Answer, Ask}
+use Rattle.mac_base.specs.LoanStep.{Loans, all_returned, loan_refusal}
+use Rattle.mac_base.specs.Tests.{unless_passed}
 use Rattle.zone_laws.proofs.Lent.{fixed-block}
 use Rattle.zone_laws.proofs.SoundWritten.{refilled_block}
 use Rattle.zone_laws.proofs.Tables.{by_number, eqb_swap, live_at-with_live_same, with_live_agrees}
-use Rattle.gap_laws.proofs.SuitsNil.{nil-no_handle, nil-no_pointer}
+use Rattle.zone_laws.proofs.SuitsNil.{nil-no_handle, nil-no_pointer}
 use Rattle.raw_region.specs.State.{State as Region}
 use Rattle.held_calls.specs.declared.loans.Held.{Held}
 use Rattle.held_calls.specs.Holding.{EachOnce, Holds, is_held, loans_of}

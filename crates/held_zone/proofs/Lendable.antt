@@ -13,7 +13,7 @@ use Rattle.mac_base.specs.Loans.{most_loans}
 use Rattle.mac_base.specs.ZoneMap.{is_named, sizes}
 use Rattle.mac_base.specs.Sound.{Sound}
 use Rattle.mac_base.specs.ZoneState.{ZoneState}
-use Rattle.mac_calls.specs.Tests.{NotEmpty, IsBlock, NotLent, MayBeLent, unless_passed}
+use Rattle.mac_base.specs.Tests.{NotEmpty, IsBlock, NotLent, MayBeLent, unless_passed}
 use Rattle.zone_laws.proofs.SuitsNamed.{named_once}
 use denote.Enum.Bare.{sameb}
 use Rattle.linked_zone.specs.contracts.Agreement.{the_type as agreement_type}
@@ -21,7 +21,7 @@ use Rattle.linked_zone.specs.declared.Agreement.{Agreement}
 use Rattle.linked_zone.specs.declared.Agreement.TheVariants.{Damaged, FlagsChanged, Same}
 use Rattle.linked_zone.specs.Structure.{Agrees, HasStructure, SameFlags, shown}
 use Rattle.linked_zone.proofs.Shown.{shown-full, shown-handle, shown-pointer}
-use Rattle.call_laws.proofs.Refusals.{first_passed, passed-NotEmpty}
+use Rattle.zone_laws.proofs.Refusals.{first_passed, passed-NotEmpty}
 use Rattle.held_zone.specs.Asleep.{CanBeLent, each_once, is_lendable}
 use Rattle.held_zone.proofs.LentAgain.{lendable}
 

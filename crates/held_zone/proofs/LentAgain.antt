@@ -16,14 +16,14 @@ use Rattle.mac_base.specs.Heap.{Heap}
 use Rattle.mac_base.specs.Loans.{lent_out, may_be_lent, most_loans, owner_of, owners}
 use Rattle.mac_base.specs.ZoneMap.{ZoneMap, is_named, sizes}
 use Rattle.mac_base.specs.ZoneState.{ZoneState, with_heap}
-use Rattle.mac_calls.specs.declared.loan_call.LoanCall.TheVariants.{Lend}
-use Rattle.mac_calls.specs.declared.reply.Results.TheVariants.{Nothing}
-use Rattle.mac_calls.specs.Loans.{Loans, LoanStepUnless, loan_refusal}
-use Rattle.mac_calls.specs.Outcomes.{Outcome}
-use Rattle.mac_calls.specs.Tests.{IsBlock, MayBeLent, NotEmpty, NotLent}
+use Rattle.mac_base.specs.declared.loan_call.LoanCall.TheVariants.{Lend}
+use Rattle.mac_base.specs.declared.reply.Results.TheVariants.{Nothing}
+use Rattle.mac_base.specs.LoanStep.{Loans, LoanStepUnless, loan_refusal}
+use Rattle.mac_base.specs.Outcomes.{Outcome}
+use Rattle.mac_base.specs.Tests.{IsBlock, MayBeLent, NotEmpty, NotLent}
 use Rattle.zone_laws.proofs.Lent.{lent-filtered}
 use Rattle.zone_laws.proofs.Tables.{eqb_same}
-use Rattle.call_laws.proofs.Refusals.{first_passed, passed as passed_test}
+use Rattle.zone_laws.proofs.Refusals.{first_passed, passed as passed_test}
 use Rattle.held_calls.specs.Holding as holding
 use Rattle.held_calls.specs.Holding.{LoanSteps, is_held, loans_of}
 use Rattle.held_calls.specs.declared.loans.Held.{Held}

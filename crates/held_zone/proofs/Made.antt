@@ -3,11 +3,11 @@ use Rattle.std.proofs.Common.{◌≡◌, ◌∙◌, ℕ, List, [], Option, Some,
 use Rattle.std.specs.Prelude.{IfNone, IfSome, IsTrue, is_some}
 use Rattle.mac_base.specs.ZoneState.{Memory, ZoneState}
 use Rattle.linked_zone.specs.Loans.{KeepsLoans}
-use Rattle.mac_calls.specs.declared.memory_call.MemoryCall.{MemoryCall}
-use Rattle.mac_calls.specs.GrowZone.{Answer, Ask}
-use Rattle.mac_calls.specs.Loans.{Loans}
-use Rattle.mac_calls.specs.Outcomes.{Outcome}
-use Rattle.call_laws.proofs.LentSteps.{step_keeps_lent}
+use Rattle.mac_base.specs.declared.memory_call.MemoryCall.{MemoryCall}
+use Rattle.mac_base.specs.GrowZone.{Answer, Ask}
+use Rattle.mac_base.specs.LoanStep.{Loans}
+use Rattle.mac_base.specs.Outcomes.{Outcome}
+use Rattle.zone_laws.proofs.LentSteps.{step_keeps_lent}
 use Rattle.held_calls.specs.Answers.{OutOfAnswers, taken}
 use Rattle.held_calls.specs.Making.{MemorySteps}
 use Rattle.held_calls.proofs.Steps.{exact-queued}

@@ -26,7 +26,8 @@ restored_same old image new sound none possible long is made =
     let before : IsZoneOf sizes image old = record { sizes_are = refl; sound = sound; nothing_lent = none; bytes = is } in
     one_zone sizes possible all new old (zone-in sizes image new long within made) (zone-in sizes image old long within before)
 
--- bytes have the structure of the zone that is attached in them, and it is awake in them with the contents and flags that it had
+-- bytes have the structure of the zone that is attached in them, and it is awake in them with the contents and flags
+-- that it had
 pub attached_wakes : (sizes : ZoneSizes) (r : Region) (s : State) → IsZoneIn sizes r.bytes s.zone → IsIdle s
     → HasStructure s.zone r.bytes × (awake_in r s ≡ record s { zone = record s.zone { memory = woken_in s.zone.memory r.name } })
 attached_wakes sizes r s zone idle =

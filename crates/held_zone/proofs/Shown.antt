@@ -2,7 +2,7 @@
 use Rattle.std.proofs.Common.{◌≡◌, ℕ, List, Some, Ok, Err, refl}
 use Rattle.std.specs.Prelude.{OnErr, Result}
 use Rattle.mac_base.specs.declared.error.OsErr.{OsErr}
-use Rattle.mac_calls.specs.Outcomes.{done_outcome}
+use Rattle.mac_base.specs.Outcomes.{done_outcome}
 use Rattle.held_zone.specs.Told.{bytes_told, code_told, shown_outcome}
 
 -- the code is that of a call without results

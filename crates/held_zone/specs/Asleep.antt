@@ -8,8 +8,8 @@ use Rattle.mac_base.specs.Heap.{Heap, with_table}
 use Rattle.mac_base.specs.Loans.{most_loans, owners, with_lent}
 use Rattle.mac_base.specs.ZoneMap.{is_named, sizes}
 use Rattle.mac_base.specs.ZoneState.{ZoneState, with_heap, woken_in}
-use Rattle.mac_calls.specs.declared.loan_call.LoanCall.TheVariants.{Lend}
-use Rattle.mac_calls.specs.Loans.{Loans, all_returned, loan_refusal}
+use Rattle.mac_base.specs.declared.loan_call.LoanCall.TheVariants.{Lend}
+use Rattle.mac_base.specs.LoanStep.{Loans, all_returned, loan_refusal}
 use Rattle.linked_zone.specs.Parts.{ContentsStay, OthersStay}
 use Rattle.linked_zone.specs.Structure.{DifferInContents, HasStructure, IsIn, SameFlags, shown}
 use Rattle.raw_region.specs.State.{State as Region}
@@ -27,7 +27,8 @@ abbrev pub each_once : List ℕ → Bool
 each_once [] = true
 each_once (x ∷ xs) = not (list_any (λ y. y == x) xs) && each_once xs
 
--- a zone sleeps: nothing of it is lent, it is in memory of its own, and each block that waits to be lent again waits once
+-- a zone sleeps: nothing of it is lent, it is in memory of its own, and each block that waits to be lent again waits
+-- once
 pub record IsAsleep (s : State) : Type 0 where
   pub nothing_lent : s.zone.heap.table.lent ≡ []
   pub own : s.zone.memory.kept ≡ None
@@ -56,8 +57,8 @@ pub record CanBeLent (z : ZoneState) (xs : List ℕ) : Type 0 where
 abbrev pub all_lendable : State → List ℕ → Bool
 all_lendable s bytes = list_all (is_lendable (shown s.zone bytes)) s.waiting
 
--- the zone awake in a region that has its structure: with the contents and flags that the region's bytes have, and with the
--- blocks lent that waited
+-- the zone awake in a region that has its structure: with the contents and flags that the region's bytes have, and with
+-- the blocks lent that waited
 abbrev pub awake_in : Region → State → State
 awake_in r s =
     let z = shown s.zone r.bytes in
@@ -83,9 +84,9 @@ pub record IsInRegion (s : State) (r : Region) : Type 0 where
 abbrev pub all_back : State → State
 all_back s = record s { zone = with_heap (all_returned s.loans s.zone.heap) s.zone; loans = [] }
 
--- the new zone is the old one asleep, once all that was lent came back: it differs in the contents of blocks, which nobody
--- reads, and is in the memory again that was kept as its record. The region has its structure, and what the region's bytes
--- show of it is that zone. The blocks that were lent wait to be lent again
+-- the new zone is the old one asleep, once all that was lent came back: it differs in the contents of blocks, which
+-- nobody reads, and is in the memory again that was kept as its record. The region has its structure, and what the
+-- region's bytes show of it is that zone. The blocks that were lent wait to be lent again
 pub record FallsAsleep (old : State) (r : Region) (new : State) : Type 0 where
   pub zone : DifferInContents (all_back old).zone new.zone
   pub structure : HasStructure new.zone r.bytes
@@ -106,14 +107,14 @@ with_loans (loan ∷ loans) t = with_loans loans (with_bytes loan.0 loan.1 t)
 abbrev pub as_left : State → State
 as_left s = record s { zone = with_heap (with_table (with_loans s.loans s.zone.heap.table) s.zone.heap) s.zone }
 
--- a zone that fell asleep wakes in the bytes that it left, and nothing refuses it there: what waits may be lent. It is as it
--- was then, with the same blocks lent in the same order, and with the bytes that C left in them
+-- a zone that fell asleep wakes in the bytes that it left, and nothing refuses it there: what waits may be lent. It is
+-- as it was then, with the same blocks lent in the same order, and with the bytes that C left in them
 pub record WakesAsBefore (old : State) (r : Region) (new : State) : Type 0 where
   pub may : IsTrue (all_lendable new r.bytes)
   pub awake : awake_in r new ≡ as_left old
 
--- a region has the structure of a zone, with the zone's flags, and is the one that was given: all other bytes are as they
--- were, and so are the contents that they have for handles and pointers
+-- a region has the structure of a zone, with the zone's flags, and is the one that was given: all other bytes are as
+-- they were, and so are the contents that they have for handles and pointers
 pub record IsSettled (s : State) (given r : Region) : Type 0 where
   pub structure : HasStructure s.zone r.bytes
   pub flags : SameFlags s.zone r.bytes

@@ -7,7 +7,8 @@ use Rattle.linked_zone.specs.Image.{IsImage}
 use Rattle.linked_zone.specs.Sizes.{sizes_of}
 use Rattle.held_zone.specs.State.{State}
 
--- these are the bytes of a zone of these sizes, from its start to the end of its last block: a sound one, of which nothing is lent
+-- these are the bytes of a zone of these sizes, from its start to the end of its last block: a sound one, of which
+-- nothing is lent
 pub record IsZoneOf (sizes : ZoneSizes) (image : List ℕ) (z : ZoneState) : Type 0 where
   pub sizes_are : sizes_of z ≡ sizes
   pub sound : Sound z.shape z.heap

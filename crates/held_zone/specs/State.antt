@@ -5,12 +5,12 @@ use Rattle.mac_base.specs.declared.error.OsErr.TheVariants.{ParamErr}
 use Rattle.mac_base.specs.Heap.{new_heap}
 use Rattle.mac_base.specs.ZoneSizes.{ZoneSizes, shape_of}
 use Rattle.mac_base.specs.ZoneState.{ZoneState}
-use Rattle.mac_calls.specs.GrowZone.{Answer, Ask}
-use Rattle.mac_calls.specs.Loans.{Loans}
+use Rattle.mac_base.specs.GrowZone.{Answer, Ask}
+use Rattle.mac_base.specs.LoanStep.{Loans}
 
 -- the zone, the blocks that are lent with the bytes that C has of them, the answers that the grow-zone procedure has
--- left, what the last call asked, and the blocks that wait while the zone sleeps to be lent again, in the order in which they
--- were lent
+-- left, what the last call asked, and the blocks that wait while the zone sleeps to be lent again, in the order in
+-- which they were lent
 pub record State : Type 0 where
   pub zone : ZoneState
   pub loans : Loans
@@ -30,6 +30,7 @@ with_no_asks s = record s { asks = [] }
 abbrev pub queue_refusal : State → Option OsErr
 queue_refusal s = if nat_lt (length s.left) 16 then None else Some ParamErr
 
--- a new zone of these sizes: nothing is lent, no answer and no block waits, nothing was asked, and it is in memory of its own
+-- a new zone of these sizes: nothing is lent, no answer and no block waits, nothing was asked, and it is in memory of
+-- its own
 abbrev pub IsNew : ZoneSizes → State → Type 0
 IsNew sizes new = (new.zone.shape ≡ shape_of sizes) × (new.zone.heap ≡ new_heap (shape_of sizes) sizes.size) × (new.loans ≡ []) × (new.left ≡ []) × (new.asks ≡ []) × (new.waiting ≡ []) × (new.zone.memory.kept ≡ None)

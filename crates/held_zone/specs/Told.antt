@@ -6,14 +6,14 @@ use Rattle.held_calls.specs.declared.window.Window.{Window}
 use Rattle.held_calls.specs.Holding.{IsWindow}
 use Rattle.linked_zone.specs.Loans.{KeepsLoans}
 use Rattle.mac_base.specs.ZoneState.{ZoneState}
-use Rattle.mac_calls.specs.declared.loan_call.LoanCall.{LoanCall}
-use Rattle.mac_calls.specs.declared.loan_call.LoanCall.TheVariants.{LentPeek, Return}
-use Rattle.mac_calls.specs.declared.memory_call.MemoryCall.{MemoryCall}
-use Rattle.mac_calls.specs.declared.reply.Results.{Results}
-use Rattle.mac_calls.specs.declared.reply.Results.TheVariants.{Handle, Pointer, Address, Number, TwoNumbers, Bytes}
-use Rattle.mac_calls.specs.ExactStep.{exact_step}
-use Rattle.mac_calls.specs.Loans.{Loans, LoanStep, loan_refusal}
-use Rattle.mac_calls.specs.Outcomes.{Outcome}
+use Rattle.mac_base.specs.declared.loan_call.LoanCall.{LoanCall}
+use Rattle.mac_base.specs.declared.loan_call.LoanCall.TheVariants.{LentPeek, Return}
+use Rattle.mac_base.specs.declared.memory_call.MemoryCall.{MemoryCall}
+use Rattle.mac_base.specs.declared.reply.Results.{Results}
+use Rattle.mac_base.specs.declared.reply.Results.TheVariants.{Handle, Pointer, Address, Number, TwoNumbers, Bytes}
+use Rattle.mac_base.specs.ExactStep.{exact_step}
+use Rattle.mac_base.specs.LoanStep.{Loans, LoanStep, loan_refusal}
+use Rattle.mac_base.specs.Outcomes.{Outcome}
 use Rattle.held_zone.specs.State.{State, with_no_asks}
 
 -- the code by which C is told that there is no zone: paramErr
@@ -68,12 +68,14 @@ shows _ = false
 pub record StaysLent (old new : ZoneState) : Type 0 where
   pub keeps : KeepsLoans old new
 
--- From a state, the call ends so and leaves this one: just as the Memory Manager makes it, where the procedure gives the answers that are left, first in, first out. What is lent stays where it is, and what waits to be lent waits on.
+-- From a state, the call ends so and leaves this one: just as the Memory Manager makes it, where the procedure gives
+-- the answers that are left, first in, first out. What is lent stays where it is, and what waits to be lent waits on.
 abbrev pub Makes : State → MemoryCall → Outcome → State → Type 0
 Makes old call outcome new = (exact_step old.zone.shape old.left old.zone.heap call ≡ record { outcome = outcome; heap = new.zone.heap; asks = new.asks; left = new.left })
     × (new.zone.shape ≡ old.zone.shape) × (new.loans ≡ old.loans) × (new.waiting ≡ old.waiting) × StaysLent old.zone new.zone
 
--- The same for a call on a block that is lent or is to be lent, which asks nothing. The zone stays where it is in the memory of the host.
+-- The same for a call on a block that is lent or is to be lent, which asks nothing. The zone stays where it is in the
+-- memory of the host.
 abbrev pub MakesLoan : State → LoanCall → Outcome → State → Type 0
 MakesLoan old call outcome new = LoanStep old.zone.shape old.loans old.zone.heap call outcome new.loans new.zone.heap
     × (new.zone.shape ≡ old.zone.shape) × (new.zone.memory ≡ old.zone.memory) × (new.left ≡ old.left) × (new.asks ≡ []) × (new.waiting ≡ old.waiting)
@@ -114,12 +116,14 @@ LoanTold old call code new = (outcome : Option Outcome) × (code ≡ code_told o
 abbrev pub LoanToldBytes : Option State → LoanCall → ℤ → List ℕ → List ℕ → Option State → Type 0
 LoanToldBytes old call code before bytes new = (outcome : Option Outcome) × (code ≡ code_told outcome) × (bytes ≡ bytes_told before outcome) × LoanCalled old call outcome new
 
--- the window is on the bytes that C has of x, unless the call is refused: then there is the refusal's code, and what was there stays
+-- the window is on the bytes that C has of x, unless the call is refused: then there is the refusal's code, and what
+-- was there stays
 abbrev pub ShowsWindow : Option OsErr → ZoneState → Loans → ℕ → ℤ → Window → Window → Type 0
 ShowsWindow None zone loans x code before window = (code ≡ pos 0) × IsWindow zone loans x window
 ShowsWindow (Some refusal) zone loans x code before window = (code ≡ code_of refusal) × (window ≡ before)
 
--- C is shown the window on the bytes that it has of a block, unless it is refused as a Return of the block is. All stays but what was asked.
+-- C is shown the window on the bytes that it has of a block, unless it is refused as a Return of the block is. All
+-- stays but what was asked.
 abbrev pub WindowTold : Option State → ℕ → ℤ → Window → Window → Option State → Type 0
 WindowTold None block code before window new = (code ≡ no_zone) × (window ≡ before) × (new ≡ None)
 WindowTold (Some old) block code before window new = ShowsWindow (loan_refusal old.zone.shape old.zone.heap (Return block)) old.zone old.loans block code before window × (new ≡ Some (with_no_asks old))

@@ -32,8 +32,8 @@ pub(crate) fn lend_all(memory: &mut MemoryManager, loans: &mut Loans, blocks: &[
     }
 }
 
-/// Whether blocks may each be lent in the zone that bytes show. The bytes have the structure of the zone, and agree with it
-/// so.
+/// Whether blocks may each be lent in the zone that bytes show. The bytes have the structure of the zone, and agree
+/// with it so.
 pub(crate) fn all_lendable(
     memory: &MemoryManager,
     bytes: &[u8],

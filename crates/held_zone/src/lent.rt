@@ -2,8 +2,8 @@
 
 ghost use Rattle.std.specs.Prelude.{◌≡◌, length, OnErr};
 ghost use Rattle.held_calls.specs.Holding.{Holds, loans_of};
-ghost use Rattle.mac_calls.specs.declared.loan_call.LoanCall.TheVariants as loan_call;
-ghost use Rattle.mac_calls.specs.Loans.{LoanStep};
+ghost use Rattle.mac_base.specs.declared.loan_call.LoanCall.TheVariants as loan_call;
+ghost use Rattle.mac_base.specs.LoanStep.{LoanStep};
 ghost use Rattle.held_zone.specs.Told.{shown_outcome};
 
 use held_calls::lending;

@@ -10,7 +10,7 @@ use held_calls::window::Window;
 use held_calls::{bytes, lending, making};
 use mac_base::error::{HostFull, OsErr};
 use mac_base::zone_spec::ZoneSpec;
-use mac_calls::{Answer, LoanCall, MemoryCall, Outcome};
+use mac_base::{Answer, LoanCall, MemoryCall, Outcome};
 use mem_calls::MemoryManager;
 use std::alloc::Global;
 use std::marker::Model;
@@ -59,9 +59,9 @@ impl Drop for Session {
 impl Session {
     ghost use Rattle.std.specs.Prelude.{◌++◌, ◌∷◌, not, length, is_some, IfOk, IfSome, IfNone, OnOk, OnErr};
     ghost use Rattle.std.specs.Result.{result_err};
-    ghost use Rattle.mac_calls.specs.declared.loan_call.LoanCall.TheVariants as loan_call;
-    ghost use Rattle.mac_calls.specs.declared.memory_call.MemoryCall.TheVariants as call;
-    ghost use Rattle.mac_calls.specs.Loans.{loan_refusal};
+    ghost use Rattle.mac_base.specs.declared.loan_call.LoanCall.TheVariants as loan_call;
+    ghost use Rattle.mac_base.specs.declared.memory_call.MemoryCall.TheVariants as call;
+    ghost use Rattle.mac_base.specs.LoanStep.{loan_refusal};
     ghost use Rattle.held_calls.specs.Making.{copies};
     ghost use Rattle.held_calls.specs.Holding.{IsWindow};
     ghost use Rattle.held_zone.specs.Asleep.{IsAsleep};

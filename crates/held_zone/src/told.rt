@@ -1,11 +1,11 @@
 //! What C is told of a call.
 
 ghost use Rattle.std.specs.Prelude.{◌≡◌, Some};
-ghost use Rattle.mac_calls.specs.Outcomes.{done_outcome};
+ghost use Rattle.mac_base.specs.Outcomes.{done_outcome};
 ghost use Rattle.held_zone.specs.Told.{code_told, number_in, number_told, numbers_in, numbers_told};
 
 use mac_base::error::{NO_ERR, OsErr};
-use mac_calls::{Outcome, Results};
+use mac_base::{Outcome, Results};
 
 /// There is no zone: paramErr.
 pub const NO_ZONE: i16 = -50;

@@ -39,8 +39,8 @@ impl Session {
         self.memory.linked().spec().limit() as usize
     }
 
-    /// Writes the structure of the zone into a region as long as its limit, and gives the region back. No other byte of it
-    /// changes.
+    /// Writes the structure of the zone into a region as long as its limit, and gives the region back. No other byte of
+    /// it changes.
     pub fn settle(&self, mut region: Region) -> Region
         requires whole { region.lent ≡ [] }
         requires long { length region.bytes ≡ self.now.zone.shape.limit }
@@ -53,9 +53,9 @@ impl Session {
         region
     }
 
-    /// Wakes the zone, which sleeps, in a region whose bytes have its structure, and lends the blocks again that wait for
-    /// it. Where one of them is no pointer's and no locked handle's in these bytes, or they haven't the structure, it sleeps
-    /// on, and the region comes back.
+    /// Wakes the zone, which sleeps, in a region whose bytes have its structure, and lends the blocks again that wait
+    /// for it. Where one of them is no pointer's and no locked handle's in these bytes, or they haven't the structure,
+    /// it sleeps on, and the region comes back.
     pub fn wake(&mut self, region: Region) -> Result<(), NotAwake>
         requires asleep { IsAsleep self.old }
         requires whole { region.lent ≡ [] }
@@ -66,8 +66,8 @@ impl Session {
     }
 
     /// Wakes the zone as `wake` does, where the region's bytes differ only in these ranges from bytes with the zone's
-    /// structure and flags. Only the zone's header and the blocks that have one of these bytes are compared; where flags
-    /// differ, more master blocks are read.
+    /// structure and flags. Only the zone's header and the blocks that have one of these bytes are compared; where
+    /// flags differ, more master blocks are read.
     pub fn wake_written(&mut self, region: Region, written: &[Written]) -> Result<(), NotAwake>
         requires asleep { IsAsleep self.old }
         requires whole { region.lent ≡ [] }
@@ -100,8 +100,8 @@ impl Session {
         Ok(())
     }
 
-    /// Tests that the blocks that wait may be lent in the zone that bytes show, if any wait. Returns whether it is known
-    /// that the bytes have the zone's structure and flags.
+    /// Tests that the blocks that wait may be lent in the zone that bytes show, if any wait. Returns whether it is
+    /// known that the bytes have the zone's structure and flags.
     fn test_waiting(&self, bytes: &[u8], written: Option<&[Written]>) -> Result<bool, WhyAsleep>
         requires asleep { IsAsleep self.now }
         requires told { IfSome written (λ ranges. DifferIn self.now.zone bytes.now ranges.now) }
@@ -123,9 +123,9 @@ impl Session {
         Ok(agreement == Agreement::Same)
     }
 
-    /// Puts the zone to sleep, which is awake in bytes of the host, and gives these back. What is lent comes back first,
-    /// and waits to be lent again. Where these bytes stay as they are, the zone wakes in them as it was: nothing refuses it,
-    /// the same blocks are lent in the same order, and each has the bytes that C left in it.
+    /// Puts the zone to sleep, which is awake in bytes of the host, and gives these back. What is lent comes back
+    /// first, and waits to be lent again. Where these bytes stay as they are, the zone wakes in them as it was: nothing
+    /// refuses it, the same blocks are lent in the same order, and each has the bytes that C left in it.
     pub fn sleep(&mut self) -> Result<Region, OsErr>
         ensures region { IfOk result (λ region. IsInRegion (all_back self.old) region) }
         ensures asleep { IfOk result (λ region. FallsAsleep self.old region self.new) }

@@ -9,7 +9,7 @@ use crate::parked::Parked;
 use crate::session::Session;
 use crate::told;
 pub use held_calls::window::Window;
-use mac_calls::{LoanCall, MemoryCall, Outcome};
+use mac_base::{LoanCall, MemoryCall, Outcome};
 use std::alloc::Global;
 use std::marker::Model;
 use std::{mem, ptr};

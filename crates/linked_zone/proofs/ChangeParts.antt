@@ -1,4 +1,5 @@
--- What the changes of a zone have in common: what a master pointer rests on, where slots lie, and when a zone still fits.
+-- What the changes of a zone have in common: what a master pointer rests on, where slots lie, and when a zone still
+-- fits.
 use Rattle.std.proofs.Common.{◌≡◌, ℕ, ◌+◌, ◌≤◌, true, false, cond, eqb, List, [], ◌∷◌, length, map, flat_map, refl, ap, sym, ◌∙◌, arith, IsTrue, Contains, subst, inl, inr}
 use Rattle.std.specs.Prelude.{slice_index}
 use Rattle.std.specs.Ordering.{nat_cmp}

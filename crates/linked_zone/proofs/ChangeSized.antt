@@ -1,4 +1,5 @@
--- What a zone is once the block of a handle or a pointer has another size where it stands, and its owner another number of bytes.
+-- What a zone is once the block of a handle or a pointer has another size where it stands, and its owner another number
+-- of bytes.
 use Rattle.std.proofs.Common.{◌≡◌, ℕ, suc, ◌+◌, ◌-◌, ◌≤◌, Bool, true, false, cond, List, [], ◌∷◌, ◌++◌, length, map, Some, None, Option, refl, ap, sym, ◌∙◌, arith, ne_eqb, length-append, append_assoc, ◌==◌, ◌||◌, ◌⊎◌, inl, inr}
 use Rattle.std.specs.Prelude.{slice_index}
 use Rattle.std.specs.List.{filter, list_all}

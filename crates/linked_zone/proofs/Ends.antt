@@ -70,7 +70,8 @@ module _ (z : ZoneState) (heap : Heap) (x : Exchanged z.heap.map heap.map) where
   pub parts-place : (at : ℕ) → at ≡ address_behind z.shape x.before → at ≡ records.address_behind z.shape (lower (owners_of z) z.shape x.before)
   parts-place at is = is ∙ records-place o z.shape x.before
 
-  -- with another middle part they are those of the new map, for owners who say the same in slots and have the same before and behind
+  -- with another middle part they are those of the new map, for owners who say the same in slots and have the same
+  -- before and behind
   pub parts-after : (n : ZoneRecords) (front : ℕ) (q : Owners) → SameSlots (owners_of z) q z.shape (address_behind z.shape []) x.before
       → SameSlots (owners_of z) q z.shape ((address_behind z.shape [] + total_size x.before) + total_size x.left) x.behind → SameNamed (owners_of z) q x.before → SameNamed (owners_of z) q x.behind
       → n ≡ record { memory = z.memory; shape = z.shape; front = front; blocks = lower (owners_of z) z.shape x.before ++ (middle q z.shape x.before x.right ++ upper (owners_of z) z.shape x.before x.left x.behind) }

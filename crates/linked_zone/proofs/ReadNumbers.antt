@@ -1,4 +1,5 @@
--- The numbers that the blocks of a map can have, in order: those of slots and of pointers. A table is read off at each of them.
+-- The numbers that the blocks of a map can have, in order: those of slots and of pointers. A table is read off at each
+-- of them.
 use Rattle.std.proofs.Common.{◌≡◌, ◌≢◌, ℕ, zero, suc, ◌+◌, ◌*◌, ◌<◌, ◌≤◌, Bool, true, false, not, ◌&&◌, ◌||◌, nat_le, nat_lt, cond, eqb, List, [], ◌∷◌, ◌++◌, flat_map, Option, Some, None, refl, ap, sym, ◌∙◌, subst, arith, Contains, inl, inr}
 use Rattle.std.specs.Prelude.{⊤}
 use Rattle.std.specs.List.{list_all}

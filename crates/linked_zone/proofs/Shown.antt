@@ -1,5 +1,5 @@
--- What bytes show of a zone: its blocks are those that the bytes show, and handles, pointers and blocks find each other as
--- before.
+-- What bytes show of a zone: its blocks are those that the bytes show, and handles, pointers and blocks find each other
+-- as before.
 use Rattle.std.proofs.Common.{◌≡◌, ℕ, zero, suc, ◌+◌, ◌-◌, true, false, ◌&&◌, cond, List, [], ◌∷◌, ◌++◌, length, map, Option, Some, None, refl, ap, sym, ◌∙◌, subst, arith, append_assoc}
 use Rattle.std.specs.Ordering.{nat_cmp, eq_by_cmp, is_lt}
 use Rattle.std.specs.FinMap.{find, is_sorted}

@@ -4,8 +4,8 @@ use Rattle.mac_base.specs.HandleTable.{has_block, is_lent, bytes_of, with_bytes}
 use Rattle.mac_base.specs.Heap.{with_table}
 use Rattle.mac_base.specs.ZoneState.{ZoneState, with_heap, written}
 
--- n bytes of one handle or pointer, from a place among them on, can be copied over as many of another: both have so many, and
--- neither is lent. It may be the same
+-- n bytes of one handle or pointer, from a place among them on, can be copied over as many of another: both have so
+-- many, and neither is lent. It may be the same
 pub record CanCopy (z : ZoneState) (from start to offset n : ℕ) : Type 0 where
   pub source : IsTrue (has_block z.heap.table from)
   pub target : IsTrue (has_block z.heap.table to)

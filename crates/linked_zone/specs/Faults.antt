@@ -5,8 +5,8 @@ use Rattle.zone_records.specs.declared.structure.Part.{Part}
 use Rattle.linked_zone.specs.Parts.{IsInPart}
 use Rattle.linked_zone.specs.Structure.{HasStructure}
 
--- up to an offset bytes begin as some that have a zone's structure, and none that have it begin as they do up to the byte
--- there and with it. This byte is in a part of the structure
+-- up to an offset bytes begin as some that have a zone's structure, and none that have it begin as they do up to the
+-- byte there and with it. This byte is in a part of the structure
 pub record IsFirstFault (z : ZoneState) (bytes : List ℕ) (at : ℕ) (part : Part) : Type 0 where
   pub inside : IsInPart z at part
   pub right : List ℕ

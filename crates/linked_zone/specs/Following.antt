@@ -51,8 +51,8 @@ owners_saying said z = record {
   lent = (owners_of z).lent;
 }
 
--- the blocks are those of a zone, but the slots of the handles whose blocks stand from an address up to another, each of which can
--- be moved, may say other places
+-- the blocks are those of a zone, but the slots of the handles whose blocks stand from an address up to another, each
+-- of which can be moved, may say other places
 pub record Misplaced (r : ZoneRecords) (start end : ℕ) : Type 0 where
   pub zone : ZoneState
   pub before : ZoneMap

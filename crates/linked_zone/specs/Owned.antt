@@ -26,8 +26,8 @@ abbrev pub header_flags : HeadKind → Flags → Flags
 header_flags Bits24 flags = no_flags
 header_flags Bits32 flags = flags
 
--- what is written for the owners of blocks: what each slot says, the flags in the header of each handle's block, the bytes of
--- each handle and pointer, and whether these are lent
+-- what is written for the owners of blocks: what each slot says, the flags in the header of each handle's block, the
+-- bytes of each handle and pointer, and whether these are lent
 pub record Owners : Type 0 where
   pub slot : ℕ → Slot
   pub flags : ℕ → Flags

@@ -74,8 +74,8 @@ state_in z = let start = address_behind z.shape [] in let all = all_slots z.shap
 abbrev pub state_of_field : Inside → ZoneState
 state_of_field z = state_in z.records
 
--- the blocks are those of the zone that they stand for; sizes are possible, slots can say addresses, and none is 0; the zone
--- begins at a multiple of four
+-- the blocks are those of the zone that they stand for; sizes are possible, slots can say addresses, and none is 0; the
+-- zone begins at a multiple of four
 pub record StandsAsRead (z : Inside) : Type 0 where
   pub blocks : z.records ≡ records_of (state_in z.records)
   pub fits : Fits (state_in z.records)

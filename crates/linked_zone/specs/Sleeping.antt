@@ -3,7 +3,8 @@ use Rattle.std.specs.Prelude.{◌≡◌, ℕ, List, Some, None}
 use Rattle.mac_base.specs.ZoneState.{ZoneState}
 use Rattle.linked_zone.specs.Structure.{HasStructure, SameFlags, shown}
 
--- the new zone is the old one asleep: in memory of its own, whose bytes have its structure and say the flags of its handles
+-- the new zone is the old one asleep: in memory of its own, whose bytes have its structure and say the flags of its
+-- handles
 pub record FallsAsleep (old new : ZoneState) : Type 0 where
   pub kept : old.memory.kept ≡ Some new.memory.region
   pub bytes : List ℕ

@@ -1,5 +1,5 @@
--- The structure of a zone: all that its bytes say but contents, and but flags in 24-bit master pointers. What bytes with
--- this structure say of the rest.
+-- The structure of a zone: all that its bytes say but contents, and but flags in 24-bit master pointers. What bytes
+-- with this structure say of the rest.
 use Rattle.std.specs.Prelude.{◌≡◌, ℕ, ◌+◌, ◌-◌, ◌≤◌, ◌<◌, List, length, take, map, IsTrue}
 use Rattle.mac_base.specs.declared.block.Flags.{Flags}
 use Rattle.mac_base.specs.HandleTable.{Live, EmptyHandle, FullHandle, Pointer, HandleTable, zeros, flags_of, is_full}

@@ -41,8 +41,8 @@ impl LinkedZone {
         self.records.set_front(slot);
     }
 
-    /// Grows the zone to its limit: the bytes up to there are a free block behind the last. Where the zone is as large as its
-    /// limit nothing changes.
+    /// Grows the zone to its limit: the bytes up to there are a free block behind the last. Where the zone is as large
+    /// as its limit nothing changes.
     pub fn extend(&mut self)
         ensures { self.new ≡ extended self.old }
     {
@@ -66,8 +66,8 @@ impl LinkedZone {
         self.records.merge(at);
     }
 
-    /// The block at an address changes places with those behind it up to an address, each of a handle or free. Every handle
-    /// has the same bytes and flags. The bytes turn in one rotation, however many blocks there are.
+    /// The block at an address changes places with those behind it up to an address, each of a handle or free. Every
+    /// handle has the same bytes and flags. The bytes turn in one rotation, however many blocks there are.
     pub fn carry(&mut self, at: u32, end: u32)
         requires { ParcelAt self.old at end }
         ensures { (parcel : ParcelAt self.old at end) → self.new ≡ carried_up self.old parcel }
@@ -76,8 +76,8 @@ impl LinkedZone {
         follow_run(&mut self.records, at, end);
     }
 
-    /// The block at an address changes places with those before it, which begin at `start`, each of a handle or free. Every handle
-    /// has the same bytes and flags.
+    /// The block at an address changes places with those before it, which begin at `start`, each of a handle or free.
+    /// Every handle has the same bytes and flags.
     pub fn sink(&mut self, start: u32, at: u32)
         requires { ParcelUpTo self.old start at }
         ensures { (parcel : ParcelUpTo self.old start at) → self.new ≡ sunk self.old parcel }

@@ -1,4 +1,5 @@
-//! Where a handle's flags stand: in its slot in a zone of 24-bit blocks, and in its block's header in one of 32-bit blocks.
+//! Where a handle's flags stand: in its slot in a zone of 24-bit blocks, and in its block's header in one of 32-bit
+//! blocks.
 
 ghost use Rattle.std.specs.Prelude.{◌≡◌};
 ghost use Rattle.zone_records.specs.Places.{HandleBlockAt};

@@ -1,5 +1,5 @@
-//! A zone's structure compared with other bytes and written to them, and a zone that wakes in bytes with the same structure
-//! and falls asleep again.
+//! A zone's structure compared with other bytes and written to them, and a zone that wakes in bytes with the same
+//! structure and falls asleep again.
 
 use crate::zone::LinkedZone;
 use mac_base::block::Flags;
@@ -33,8 +33,8 @@ impl LinkedZone {
         Some((Handle::new(at), flags))
     }
 
-    /// How bytes agree with the zone, where they differ only in these ranges from bytes with the zone's structure and flags. No
-    /// other byte is looked at.
+    /// How bytes agree with the zone, where they differ only in these ranges from bytes with the zone's structure and
+    /// flags. No other byte is looked at.
     pub fn agreement_in(&self, bytes: &[u8], written: &[Written]) -> Agreement
         requires told { DifferIn self.now bytes.now written.now }
         ensures { Agrees self.now bytes.now result }
@@ -49,8 +49,8 @@ impl LinkedZone {
         self.records.is_awake()
     }
 
-    /// Wakes the zone, which sleeps, in a region with the same structure and the same flags: it is in this region's bytes
-    /// from then on. The region that it was in becomes the record of its structure.
+    /// Wakes the zone, which sleeps, in a region with the same structure and the same flags: it is in this region's
+    /// bytes from then on. The region that it was in becomes the record of its structure.
     pub fn wake(&mut self, region: Region)
         requires nothing_lent { self.old.heap.table.lent ≡ [] }
         requires asleep { self.old.memory.kept ≡ None }
@@ -62,8 +62,8 @@ impl LinkedZone {
         self.records.wake(region);
     }
 
-    /// Puts the zone to sleep: it is in its record from then on. Returns the region that it was in, or None where it isn't
-    /// awake, and nothing has changed.
+    /// Puts the zone to sleep: it is in its record from then on. Returns the region that it was in, or None where it
+    /// isn't awake, and nothing has changed.
     pub fn sleep(&mut self) -> Option<Region>
         requires nothing_lent { self.old.heap.table.lent ≡ [] }
         ensures asleep { IfSome result (λ region. FallsAsleep self.old self.new) }
@@ -75,8 +75,8 @@ impl LinkedZone {
         self.records.sleep()
     }
 
-    /// Writes the zone's structure, its headers and master pointers, among as many other bytes as its limit. No other of
-    /// these changes, so the contents of handles and pointers stay.
+    /// Writes the zone's structure, its headers and master pointers, among as many other bytes as its limit. No other
+    /// of these changes, so the contents of handles and pointers stay.
     pub fn write_structure(&self, bytes: &mut [u8])
         requires whole { length bytes.old ≡ self.now.shape.limit }
         ensures same { HasStructure self.now bytes.new }
@@ -87,8 +87,8 @@ impl LinkedZone {
         self.records.write_structure(bytes);
     }
 
-    /// The first of as many bytes as the zone's limit that isn't as its structure calls for, and the part of the structure
-    /// that it is in. None where they have the structure.
+    /// The first of as many bytes as the zone's limit that isn't as its structure calls for, and the part of the
+    /// structure that it is in. None where they have the structure.
     pub fn first_fault(&self, bytes: &[u8]) -> Option<(u32, Part)>
         requires nothing_lent { self.now.heap.table.lent ≡ [] }
         requires whole { length bytes.now ≡ self.now.shape.limit }

@@ -10,7 +10,8 @@ use std::marker::Model;
 use zone_records::{Records, Slot};
 
 /// A zone with its handles and pointers. Contracts see its shape, its handle table, its zone map and its free slots in
-/// the order in which they are given. Free neighbours need not be joined. After `create` no call takes memory of the host.
+/// the order in which they are given. Free neighbours need not be joined. After `create` no call takes memory of the
+/// host.
 pub struct LinkedZone {
     pub(crate) records: Records,
 }
@@ -69,8 +70,8 @@ impl LinkedZone {
         })
     }
 
-    /// Where the zone lies, how large it is now and how far it may grow. Handles, pointers, blocks, slots and loans fit each
-    /// other, and all sizes are possible.
+    /// Where the zone lies, how large it is now and how far it may grow. Handles, pointers, blocks, slots and loans fit
+    /// each other, and all sizes are possible.
     pub fn spec(&self) -> ZoneSpec
         ensures sizes { result ≡ sizes_of self.now }
         ensures loans { LoansFit self.now.heap }

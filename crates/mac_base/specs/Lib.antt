@@ -21,3 +21,13 @@ pub mod Trial
 pub mod Attempt
 pub mod Purging
 pub mod Reports
+pub mod Tests
+pub mod GrowZone
+pub mod Released
+pub mod ExactRequest
+pub mod Outcomes
+pub mod Effect
+pub mod ExactStep
+pub mod RequestRun
+pub mod MemoryStep
+pub mod LoanStep

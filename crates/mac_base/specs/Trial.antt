@@ -27,19 +27,22 @@ pub record Preparation : Type 0 where
 abbrev pub prepared_by : Shape → Preparation → Heap → Heap
 prepared_by s p heap = with_all_emptied p.purges (if p.grows then grown s heap else heap)
 
--- A trial may prepare so: the zone grows only where the request doesn't fit, and handles are purged only where it doesn't fit in the zone grown to its limit, once it has grown so.
+-- A trial may prepare so: the zone grows only where the request doesn't fit, and handles are purged only where it
+-- doesn't fit in the zone grown to its limit, once it has grown so.
 pub record MayPrepare (s : Shape) (protected : List ℕ) (r : Request) (heap : Heap) (p : Preparation) : Type 0 where
   pub grows_at_need : IsTrue p.grows → IsFalse (fits s heap.table r heap.map)
   pub purges_at_need : (p.purges ≡ []) ⊎ IsFalse (fits s heap.table r (at_limit s heap.map))
   pub purges_at_limit : (p.purges ≡ []) ⊎ (zone_header + total_size (prepared_by s p heap).map ≡ s.limit)
   pub purges_candidates : (h : ℕ) → Contains p.purges h → Contains (candidates heap.table protected r heap.map) h
 
--- whether a block stays while a new relocatable one is placed: each where a free block serves, else those that are fixed
+-- whether a block stays while a new relocatable one is placed: each where a free block serves, else those that are
+-- fixed
 abbrev pub stays_for : HandleTable → ℕ → ZoneMap → Kind → Bool
 stays_for t k m kind = if nat_le k (largest_free m) then not (is_free kind) else is_fixed t kind
 
--- How the map may change where a request is served and gives the number x: without the block that was asked for, the new
--- map is a rearrangement of the old. A handle whose block is replaced keeps no place, so its old block counts as free.
+-- How the map may change where a request is served and gives the number x: without the block that was asked for, the
+-- new map is a rearrangement of the old. A handle whose block is replaced keeps no place, so its old block counts as
+-- free.
 abbrev pub MapServed : Shape → HandleTable → ℕ → Request → ℕ → ZoneMap → ZoneMap → Type 0
 MapServed s t k (NewBlock n) x old new = Rearranged s (stays_for t k old) old (released x new)
 MapServed s t k NewEmpty x old new = new ≡ old

@@ -40,8 +40,8 @@ ArePossible z = AreWithin 0x4000_0000 (address_end z.heads) z.base z.size z.limi
 abbrev pub AreUsual : ZoneSizes → Type 0
 AreUsual z = AreWithin 0x10_0000 0x100_0000 z.base z.size z.limit
 
--- the conditions in the order in which they are tested, for zones with this largest limit and this highest end, each with the fault
--- that stands for it
+-- the conditions in the order in which they are tested, for zones with this largest limit and this highest end, each
+-- with the fault that stands for it
 abbrev pub conditions : ℕ → ℕ → ℕ → ℕ → ℕ → List (Bool × BadSpec)
 conditions most end base size limit =
     (base % 4 == 0, UnevenBase base)

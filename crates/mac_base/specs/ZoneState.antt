@@ -5,8 +5,8 @@ use Rattle.mac_base.specs.HandleTable.{with_bytes, bytes_of}
 use Rattle.mac_base.specs.Heap.{Heap, with_table}
 use denote.RawPtr.{Ptr}
 
--- which memory of the host a zone is in, named as a loan of one of its blocks names it; and, while it is awake there, in bytes of others, the
--- memory that it slept in, which is kept as the record of its structure
+-- which memory of the host a zone is in, named as a loan of one of its blocks names it; and, while it is awake there,
+-- in bytes of others, the memory that it slept in, which is kept as the record of its structure
 pub record Memory : Type 0 where
   pub region : Ptr
   pub kept : Option Ptr

@@ -10,8 +10,8 @@ use std::sync::ArcSlice;
 /// The most bytes that a name has.
 pub const MAX_NAME: usize = 255;
 
-/// The name of a resource: at most 255 bytes. It is a part of bytes that it may share with other names, as those of the map of a
-/// fork. A contract sees the list.
+/// The name of a resource: at most 255 bytes. It is a part of bytes that it may share with other names, as those of the
+/// map of a fork. A contract sees the list.
 #[derive(Drop)]
 pub struct Name {
     shared: ArcSlice<u8>,
@@ -28,7 +28,8 @@ impl Model for Name {
 }
 
 impl Name {
-    /// The name of a copy of these bytes, or None where they are more than 255. The only error is that the host has no memory.
+    /// The name of a copy of these bytes, or None where they are more than 255. The only error is that the host has no
+    /// memory.
     pub fn new(alloc: Global, bytes: &[u8]) -> Result<Option<Name>, AllocError>
         ensures name { IfOk result (λ found. IfSome found (λ name. name ≡ bytes.now)) }
         ensures long { IfOk result (λ found. IfNone found (255 < length bytes.now)) }
@@ -43,8 +44,8 @@ impl Name {
         }))
     }
 
-    /// The name that is a part of these bytes, which it shares: so many, from a place on. The only error is that no count tells how
-    /// many names share them.
+    /// The name that is a part of these bytes, which it shares: so many, from a place on. The only error is that no
+    /// count tells how many names share them.
     pub fn part(shared: &ArcSlice<u8>, start: u32, count: u8) -> Result<Name, AllocError>
         requires { start + count ≤ length (arc_slice_items shared.now) }
         ensures { IfOk result (λ name. name ≡ take count (drop start (arc_slice_items shared.now))) }
@@ -69,7 +70,8 @@ impl Name {
 impl Clone for Name {
     ghost is_clone = { λ name copy. copy ≡ name };
 
-    /// The same name once more, which shares the bytes. The only error is that no count tells how many names share them.
+    /// The same name once more, which shares the bytes. The only error is that no count tells how many names share
+    /// them.
     fn clone(&self) -> Result<Name, AllocError> {
         Name::part(&self.shared, self.start, self.count)
     }

@@ -2,8 +2,8 @@
 
 use crate::handle::Handle;
 
-/// A request for room in the zone. Sizes are bytes of contents. A block that gets another size is given by its number, which
-/// is that of a handle or a pointer (Inside Macintosh: Memory, chapter 1, "How Heap Space Is Allocated").
+/// A request for room in the zone. Sizes are bytes of contents. A block that gets another size is given by its number,
+/// which is that of a handle or a pointer (Inside Macintosh: Memory, chapter 1, "How Heap Space Is Allocated").
 #[derive(Clone, Copy)]
 pub enum Request {
     /// A new handle with a block of so many bytes.

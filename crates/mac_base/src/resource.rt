@@ -39,8 +39,8 @@ impl ResType {
     }
 }
 
-/// The attributes of a resource (Inside Macintosh: More Macintosh Toolbox, chapter 1). The two bits without a name are kept as
-/// they stand.
+/// The attributes of a resource (Inside Macintosh: More Macintosh Toolbox, chapter 1). The two bits without a name are
+/// kept as they stand.
 #[derive(Clone, Copy, Debug, PartialEq, Eq)]
 pub struct ResAttrs(u8);
 
@@ -78,8 +78,8 @@ impl Flags for ResAttrs {
     }
 }
 
-/// A resource as a file has it. The datum is its bytes, or says where they are (Inside Macintosh: More Macintosh Toolbox,
-/// chapter 1).
+/// A resource as a file has it. The datum is its bytes, or says where they are (Inside Macintosh: More Macintosh
+/// Toolbox, chapter 1).
 #[derive(Drop)]
 pub struct Resource<D> {
     pub kind: ResType,

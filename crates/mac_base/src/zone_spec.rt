@@ -131,8 +131,8 @@ impl ZoneSpec {
         ZoneSpec::with_kind(base, size, limit, HeadKind::Bits24)
     }
 
-    /// A zone that begins at `base`, has `size` bytes, may grow to `limit` bytes, and has blocks of this kind. The sizes
-    /// are refused where a condition doesn't hold, by the first one in the order of `BadSpec`.
+    /// A zone that begins at `base`, has `size` bytes, may grow to `limit` bytes, and has blocks of this kind. The
+    /// sizes are refused where a condition doesn't hold, by the first one in the order of `BadSpec`.
     #[tactic(auto, using(crate::proofs::Reach::usual_possible))]
     pub fn with_kind(base: u32, size: u32, limit: u32, heads: HeadKind) -> Result<ZoneSpec, BadSpec>
         ensures possible { IsOk result ↔ AreUsual (record { heads = heads; base = base; size = size; limit = limit }) }

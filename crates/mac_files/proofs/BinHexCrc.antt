@@ -1,5 +1,5 @@
--- The CRC of RFC 1741, in which each byte comes in at the low end and two zero bytes at last, is that in which each comes in at the
--- high end.
+-- The CRC of RFC 1741, in which each byte comes in at the low end and two zero bytes at last, is that in which each
+-- comes in at the high end.
 use Rattle.std.proofs.Common.{◌≡◌, ℕ, zero, suc, ◌+◌, ◌-◌, ◌*◌, ◌<◌, ◌≤◌, List, [], ◌∷◌, get_or, fold, bit_xor, refl, sym, ap, subst, ◌∙◌, inl, inr, add-zero, zero-add, arith}
 use Rattle.std.specs.Fn.{iterate}
 use Rattle.std.proofs.lemmas.Bool.{cases_lt, le-ltb, lt-ltb}

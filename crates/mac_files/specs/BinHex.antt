@@ -20,7 +20,8 @@ use Rattle.mac_files.specs.declared.bin_hex.fault.BinHexFault.TheVariants.{NoTex
 abbrev pub is_line_end : ℕ → Bool
 is_line_end c = (c == 13) || (c == 10)
 
--- the first place at which a line begins with a mark, in characters from an offset on; the flag says whether a line begins there
+-- the first place at which a line begins with a mark, in characters from an offset on; the flag says whether a line
+-- begins there
 unfoldable pub line_from : List ℕ → Bool → ℕ → List ℕ → Option ℕ
 line_from mark begins at [] = None
 line_from mark begins at (c ∷ cs) =
@@ -40,8 +41,8 @@ colon_of text = let from = unwrap_or (comment_of text) 0 in line_from (58 ∷ []
 
 -- What is read.
 
--- values, each with the offset in the text of the character that completes it; and how they end: at the offset of the closing
--- colon, or by a fault
+-- values, each with the offset in the text of the character that completes it; and how they end: at the offset of the
+-- closing colon, or by a fault
 pub record Reading : Type 0 where
   pub values : List Placed
   pub ending : Result ℕ BinHexFault
@@ -110,7 +111,8 @@ abbrev pub without_count : Placed → Result ℕ BinHexFault → Reading
 without_count b (Ok at) = ends (Err (NoCount b.at))
 without_count b (Err fault) = ends (Err fault)
 
--- what bytes stand for, by the byte before them: $90 and 0 stand for a byte $90, $90 and n for n - 1 more of the byte before
+-- what bytes stand for, by the byte before them: $90 and 0 stand for a byte $90, $90 and n for n - 1 more of the byte
+-- before
 unfoldable pub expanded : Option ℕ → List Placed → Result ℕ BinHexFault → Reading
 expanded last [] ending = ends ending
 expanded last (b ∷ []) ending =

@@ -11,7 +11,8 @@ use Rattle.mac_files.specs.Apple.{apple_contents}
 use Rattle.mac_files.specs.MacBinary.{version_of, mac_binary_contents}
 use Rattle.mac_files.specs.Faults.{apple_fault, mac_binary_fault}
 
--- the file begins with the header of a resource fork: two offsets and two lengths, all below 2^24, and the map has its 28 bytes
+-- the file begins with the header of a resource fork: two offsets and two lengths, all below 2^24, and the map has its
+-- 28 bytes
 unfoldable pub is_fork_header : List ℕ → Bool
 is_fork_header file = nat_le 16 (length file) && (slice_index file 0 == 0) && (slice_index file 4 == 0) && (slice_index file 8 == 0)
     && (slice_index file 12 == 0) && nat_le 28 (big_from 12 4 file)
@@ -24,7 +25,8 @@ container_of file =
     else if starts_with nat_eq file (0 ∷ 5 ∷ 22 ∷ 7 ∷ []) then Some AppleDouble
     else option_map MacBinary (version_of file)
 
--- the header of a fork whose data and map lie within a file of so many bytes; one of its bytes is zero, as none of a text is
+-- the header of a fork whose data and map lie within a file of so many bytes; one of its bytes is zero, as none of a
+-- text is
 unfoldable pub has_fork_parts : ℕ → List ℕ → Bool
 has_fork_parts size front = nat_le 16 (length front) && list_any (λ byte. byte == 0) (take 16 front)
     && nat_le (big_from 0 4 front + big_from 8 4 front) size && nat_le (big_from 4 4 front + big_from 12 4 front) size && nat_le 28 (big_from 12 4 front)

@@ -9,7 +9,8 @@ use Rattle.mac_files.specs.declared.contents.FinderInfo.{FinderInfo}
 use Rattle.mac_files.specs.declared.contents.Contents.{Contents}
 use Rattle.mac_files.specs.Parts.{has_bytes, lies_within}
 
--- what all versions have: a header of 128 bytes with zeros at 0, 74 and 82, and a name of 1 to 63 bytes, whose length is at 1
+-- what all versions have: a header of 128 bytes with zeros at 0, 74 and 82, and a name of 1 to 63 bytes, whose length
+-- is at 1
 unfoldable pub has_form : List ℕ → Bool
 has_form file = nat_le 128 (length file) && (slice_index file 0 == 0) && (slice_index file 74 == 0) && (slice_index file 82 == 0)
     && nat_le 1 (slice_index file 1) && nat_le (slice_index file 1) 63

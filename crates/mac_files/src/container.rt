@@ -35,7 +35,8 @@ const APPLE_SINGLE: &[u8; 4] = b"\x00\x05\x16\x00";
 
 const APPLE_DOUBLE: &[u8; 4] = b"\x00\x05\x16\x07";
 
-/// Whether the file begins with the header of a resource fork: no offset and no length reaches 2^24, and the map has its 28 bytes.
+/// Whether the file begins with the header of a resource fork: no offset and no length reaches 2^24, and the map has
+/// its 28 bytes.
 #[tactic(auto, unfolding(crate::specs::Containers::is_fork_header))]
 fn is_fork_header(file: &[u8]) -> bool
     ensures { result ≡ is_fork_header file.now }
@@ -48,8 +49,8 @@ fn is_fork_header(file: &[u8]) -> bool
         && read_four(file, 12) >= 28
 }
 
-/// Whether a file of so many bytes begins with the header of a fork whose data and map lie within it. No text does, since a byte of the
-/// header is zero.
+/// Whether a file of so many bytes begins with the header of a fork whose data and map lie within it. No text does,
+/// since a byte of the header is zero.
 #[tactic(auto, unfolding(crate::specs::Containers::has_fork_parts))]
 pub(crate) fn has_fork_parts(size: usize, front: &[u8]) -> bool
     ensures { result ≡ has_fork_parts size front.now }
@@ -61,7 +62,8 @@ pub(crate) fn has_fork_parts(size: usize, front: &[u8]) -> bool
         && read_four(front, 12) >= 28
 }
 
-/// The container that the bytes of a file are known as, or None. A file that begins with the header of a resource fork is Raw.
+/// The container that the bytes of a file are known as, or None. A file that begins with the header of a resource fork
+/// is Raw.
 pub fn container_of(file: &[u8]) -> Option<Container>
     ensures { result ≡ container_of file.now }
 {
@@ -76,7 +78,8 @@ pub fn container_of(file: &[u8]) -> Option<Container>
     }
 }
 
-/// Whether a file of so many bytes is a resource fork and nothing else, by its first 128 bytes, or all where it has fewer.
+/// Whether a file of so many bytes is a resource fork and nothing else, by its first 128 bytes, or all where it has
+/// fewer.
 pub fn is_raw(size: usize, front: &[u8]) -> bool
     ensures { result ≡ is_raw_by size front.now }
 {

@@ -13,8 +13,8 @@ pub struct FinderInfo {
     pub flags: u16,
 }
 
-/// When a file was made and last changed, in seconds as the container counts them: MacBinary from the beginning of 1904, AppleSingle
-/// and AppleDouble with a sign from the beginning of 2000.
+/// When a file was made and last changed, in seconds as the container counts them: MacBinary from the beginning of
+/// 1904, AppleSingle and AppleDouble with a sign from the beginning of 2000.
 #[derive(Clone, Copy, Debug, PartialEq, Eq)]
 pub struct Dates {
     pub created: u32,

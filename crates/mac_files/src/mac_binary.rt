@@ -1,5 +1,5 @@
-//! MacBinary: a header, a second header that later versions may have, the data fork and the resource fork. Each begins at a
-//! multiple of 128.
+//! MacBinary: a header, a second header that later versions may have, the data fork and the resource fork. Each begins
+//! at a multiple of 128.
 
 ghost use Rattle.std.specs.Prelude.{◌≡◌, ◌==◌, ◌≤◌, ◌<◌, ◌+◌, ◌^◌, length, IfOk, IfSome, OnOk, true};
 ghost use Rattle.std.specs.List.{list_all};

@@ -32,8 +32,8 @@ fn read_raw(file: &[u8]) -> Contents
     }
 }
 
-/// What a file tells that is read as this container: where its forks are, and more. An error comes exactly where the container has
-/// a fault, and is the first. The places of the forks, the name and the comment lie within the file.
+/// What a file tells that is read as this container: where its forks are, and more. An error comes exactly where the
+/// container has a fault, and is the first. The places of the forks, the name and the comment lie within the file.
 pub fn read_contents(container: Container, file: &[u8]) -> Result<Contents, ContainerFault>
     ensures fault { result_err result ≡ fault_of container file.now }
     ensures contents { IfOk result (λ contents. contents ≡ contents_of container file.now) }
@@ -46,8 +46,8 @@ pub fn read_contents(container: Container, file: &[u8]) -> Result<Contents, Cont
     }
 }
 
-/// The bytes of the resource fork in a file that is read as this container, or None if it has none. An error comes exactly where the
-/// container has a fault, and is the first.
+/// The bytes of the resource fork in a file that is read as this container, or None if it has none. An error comes
+/// exactly where the container has a fault, and is the first.
 pub fn fork_in(container: Container, file: &[u8]) -> Result<Option<&[u8]>, ContainerFault>
     ensures fault { result_err result ≡ fault_of container file.now }
     ensures fork { IfOk result (λ fork. option_copied fork ≡ fork_in container file.now) }
@@ -56,8 +56,8 @@ pub fn fork_in(container: Container, file: &[u8]) -> Result<Option<&[u8]>, Conta
     Ok(contents.resource_fork.map(|part| part.bytes(file)))
 }
 
-/// The bytes of the data fork in a file that is read as this container, or None if it has none. An error comes exactly where the
-/// container has a fault, and is the first.
+/// The bytes of the data fork in a file that is read as this container, or None if it has none. An error comes exactly
+/// where the container has a fault, and is the first.
 pub fn data_in(container: Container, file: &[u8]) -> Result<Option<&[u8]>, ContainerFault>
     ensures fault { result_err result ≡ fault_of container file.now }
     ensures fork { IfOk result (λ fork. option_copied fork ≡ data_in container file.now) }

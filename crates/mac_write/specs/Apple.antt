@@ -1,5 +1,5 @@
--- AppleSingle or AppleDouble with another resource fork: its entry has the new fork's bytes, every other entry and all that lies
--- between the entries are as they were.
+-- AppleSingle or AppleDouble with another resource fork: its entry has the new fork's bytes, every other entry and all
+-- that lies between the entries are as they were.
 use Rattle.std.specs.Prelude.{ℕ, ◌+◌, ◌-◌, ◌==◌, nat_le, nat_lt, not, Bool, ◌&&◌, ◌||◌, if◌then◌else◌, List, [], ◌∷◌, ◌++◌, length, map, take, drop, find, slice_range, Option, None, Some, is_some, option_map, unwrap_or}
 use Rattle.std.specs.List.{flat_map}
 use Rattle.std.specs.Option.{option_or}

@@ -43,8 +43,8 @@ pub record IsFile (file : Parts) : Type 0 where
   pub creator_length : length file.finder.creator ≡ 4
   pub flags : file.finder.flags < 2 ^ 16
 
--- a date of AppleSingle, which counts from the beginning of 2000 with a sign, in seconds from the beginning of 1904; the least one
--- and 0 are dates that aren't known
+-- a date of AppleSingle, which counts from the beginning of 2000 with a sign, in seconds from the beginning of 1904;
+-- the least one and 0 are dates that aren't known
 abbrev pub mac_date : ℕ → ℕ
 mac_date date =
     if date == 0x80000000 then 0 else if nat_lt date 0x80000000 then date + 3029529600 else date - 1265437696

@@ -35,7 +35,8 @@ head last count = 0 ∷ 5 ∷ 22 ∷ last ∷ [] ++ (big_bytes 4 0x20000 ++ (rep
 abbrev pub place : ℕ → ℕ → ℕ → List ℕ
 place id at count = big_bytes 4 id ++ (big_bytes 4 at ++ big_bytes 4 count)
 
--- the entries of the name, the comment, the dates and what the Finder knows, whose bytes follow each other from a place on
+-- the entries of the name, the comment, the dates and what the Finder knows, whose bytes follow each other from a place
+-- on
 abbrev pub told_places : ℕ → Parts → List ℕ
 told_places at file =
     let comment = at + length file.name in let dates = comment + length file.comment in
@@ -60,8 +61,9 @@ single_text file =
 
 -- MacBinary III.
 
--- the first 124 bytes of the header: the name, type, creator and flags; the lengths of both forks, the dates, the length of the
--- comment; the low byte of the flags, the signature, and the versions that wrote it and are needed to read it
+-- the first 124 bytes of the header: the name, type, creator and flags; the lengths of both forks, the dates, the
+-- length of the comment; the low byte of the flags, the signature, and the versions that wrote it and are needed to
+-- read it
 abbrev pub binary_head : Parts → List ℕ
 binary_head file = 0 ∷ length file.name ∷ [] ++ (filled 63 file.name
     ++ (file.finder.kind ++ (file.finder.creator ++ ((file.finder.flags / 256) ∷ [] ++ (replicate 9 0

@@ -38,8 +38,8 @@ pub record IsReadAsText (file : Parts) (bytes : List ℕ) : Type 0 where
   pub known : is_bin_hex bytes ≡ true
   pub told : bin_hex_of bytes ≡ Ok (hex_file file)
 
--- A file that is written in a container is read as what the container holds of it. A file of nothing but a fork is known by this fork
--- alone.
+-- A file that is written in a container is read as what the container holds of it. A file of nothing but a fork is
+-- known by this fork alone.
 abbrev pub IsReadAgain : Target → Parts → List ℕ → Type 0
 IsReadAgain target.Raw file new = (is_fork_header file.resource_fork ≡ true → container_of new ≡ Some Raw) × (parts_of Raw new ≡ held target.Raw file)
 IsReadAgain target.AppleDouble file new = IsReadAs AppleDouble (held target.AppleDouble file) new

@@ -82,7 +82,8 @@ fn push_place(new: &mut Vec<u8>, id: u32, at: usize, count: usize) -> Result<usi
     Ok(at + count)
 }
 
-/// Adds the entries of the name, the comment, the dates and what the Finder knows, and gives the place after their bytes.
+/// Adds the entries of the name, the comment, the dates and what the Finder knows, and gives the place after their
+/// bytes.
 fn push_told_places(new: &mut Vec<u8>, at: usize, file: &MacFile) -> Result<usize, AllocError>
     requires { at + told_length (view file.now) < 2 ^ 32 }
     ensures places { OnOk result (new.new.items ≡ new.old.items ++ told_places at (view file.now)) }

@@ -28,9 +28,9 @@ fn raw_fork(alloc: Global, fork: &[u8]) -> Result<Vec<u8>, AllocError>
     Ok(new)
 }
 
-/// The file with these bytes as its resource fork, in the place of its own. All else in it stays as it is: the data fork, the name,
-/// what the Finder knows and the dates; every other entry of AppleSingle and AppleDouble; MacBinary's comment. A refusal comes
-/// exactly where it is defined, but for HostFull.
+/// The file with these bytes as its resource fork, in the place of its own. All else in it stays as it is: the data
+/// fork, the name, what the Finder knows and the dates; every other entry of AppleSingle and AppleDouble; MacBinary's
+/// comment. A refusal comes exactly where it is defined, but for HostFull.
 pub fn with_fork(
     alloc: Global,
     container: Container,
@@ -49,8 +49,8 @@ pub fn with_fork(
     }
 }
 
-/// The file of a BinHex text with these bytes as its resource fork, as a BinHex text of its own: what comes before the text and after
-/// it isn't in this one. A refusal comes exactly where it is defined, but for HostFull.
+/// The file of a BinHex text with these bytes as its resource fork, as a BinHex text of its own: what comes before the
+/// text and after it isn't in this one. A refusal comes exactly where it is defined, but for HostFull.
 pub fn text_with_fork(alloc: Global, file: &BinHexFile, fork: &[u8]) -> Result<Vec<u8>, Refusal>
     ensures file { IfOk result (λ new. bin_hex_of new.items ≡ Ok (record (bin_hex_view file.now) { resource_fork = fork.now })) }
     ensures known { IfOk result (λ new. (container_of new.items ≡ None) × (is_bin_hex new.items ≡ true)) }

@@ -77,7 +77,8 @@ fn told_bytes(part: Option<Part>, file: &[u8]) -> &[u8]
     }
 }
 
-/// What a file is that is read as this container. An error comes exactly where the container has a fault, and is the first.
+/// What a file is that is read as this container. An error comes exactly where the container has a fault, and is the
+/// first.
 pub fn parts_of(container: Container, file: &[u8]) -> Result<MacFile<'_>, ContainerFault>
     ensures fault { result_err result ≡ fault_of container file.now }
     ensures parts { IfOk result (λ parts. view parts ≡ parts_of container file.now) }

@@ -13,15 +13,15 @@ pub enum Refusal {
     /// The file is damaged: the first fault.
     #[error("{0}")]
     Damaged(ContainerFault),
-    /// An entry of AppleSingle or AppleDouble has bytes in the header or in the list, or shares some with the resource fork: the
-    /// first in the list.
+    /// An entry of AppleSingle or AppleDouble has bytes in the header or in the list, or shares some with the resource
+    /// fork: the first in the list.
     #[error("entry {id}, listed at offset {at}, shares bytes with the list or the resource fork", id = .0.id, at = .0.at)]
     Overlap(Entry),
     /// The list of AppleSingle or AppleDouble has 65,535 entries, and none of a resource fork.
     #[error("the list of entries is full, and none of them is a resource fork")]
     ListFull,
-    /// So many bytes are more than the container's numbers can count: of the fork in MacBinary, of the whole file in AppleSingle and
-    /// AppleDouble.
+    /// So many bytes are more than the container's numbers can count: of the fork in MacBinary, of the whole file in
+    /// AppleSingle and AppleDouble.
     #[error("{length} bytes are too many: the container counts {most} at most")]
     TooLong { length: usize, most: usize },
     /// MacBinary needs a name.

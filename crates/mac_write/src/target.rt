@@ -30,8 +30,8 @@ pub enum Target {
     BinHex,
 }
 
-/// The file in a container. A refusal comes exactly where it is defined, but for HostFull. What is written is read again as all of the
-/// file that the container holds.
+/// The file in a container. A refusal comes exactly where it is defined, but for HostFull. What is written is read
+/// again as all of the file that the container holds.
 pub fn write_file(alloc: Global, target: Target, file: &MacFile) -> Result<Vec<u8>, Refusal>
     ensures file { IfOk result (λ new. new.items ≡ text_of target (view file.now)) }
     ensures refusal { Refuses (result_err result) (unwritten target (view file.now)) }

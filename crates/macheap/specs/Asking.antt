@@ -17,8 +17,8 @@ use Rattle.macheap.specs.Options.{faults, allows_large, forks_of, heads_of, jour
 abbrev pub Match : List Text → Type 0
 Match words = (faults words ≡ []) × (length (forks_of words) ≤ most_files) × FitForks (journals_of words) (forks_of words)
 
--- the words match the options, and give these numbers: the zone's first address, its size in bytes, the size that it may grow to,
--- which is its own where none is given, and the mode
+-- the words match the options, and give these numbers: the zone's first address, its size in bytes, the size that it
+-- may grow to, which is its own where none is given, and the mode
 pub record GivesNumbers (words : List Text) (base size limit mode : ℕ) : Type 0 where
   pub matched : Match words
   pub size_given : IsNumberOf (value_of (codes "zone") words) 4096 size
@@ -36,7 +36,8 @@ abbrev pub zone_fault : Bool → HeadKind → ℕ → ℕ → ℕ → Option Bad
 zone_fault true heads base size limit = first_large_fault heads base size limit
 zone_fault false heads base size limit = first_fault base size limit
 
--- the words ask for a run on a zone of these sizes, of blocks as the mode has them, over the files of these names, with these journals
+-- the words ask for a run on a zone of these sizes, of blocks as the mode has them, over the files of these names, with
+-- these journals
 pub record AsksForRun (words : List Text) (sizes : ZoneSizes) (forks journals : List Text) : Type 0 where
   pub base : ℕ
   pub size : ℕ
@@ -86,7 +87,8 @@ abbrev pub GivesNoZone : List Text → BadSpec → Type 0
 GivesNoZone words fault = (base : ℕ) × (size : ℕ) × (limit : ℕ) × (mode : ℕ) × (heads : HeadKind)
     × GivesNumbers words base size limit mode × (heads_of mode ≡ Some heads) × (zone_fault (allows_large words) heads base size limit ≡ Some fault)
 
--- What the words ask for, or why they ask for nothing; what is shown or told of it is of that kind. Want of memory may come at any time.
+-- What the words ask for, or why they ask for nothing; what is shown or told of it is of that kind. Want of memory may
+-- come at any time.
 abbrev pub Asks : List Text → Result Asked NotAsked → Type 0
 Asks words (Ok (Run sizes files)) = AsksForRun words sizes (map (λ name. name.now) files.forks.items) (map (λ name. name.now) files.journals.items)
 Asks words (Ok (Help text)) = AsksForHelp words × (kind_of text ≡ DisplayHelp)
@@ -98,7 +100,8 @@ Asks words (Err (Mode mode)) = GivesNoMode words mode
 Asks words (Err (Spec fault)) = GivesNoZone words fault
 Asks words (Err HostFull) = Unit {0}
 
--- what an error of this kind means: a question for help, want of memory, or words that don't match; the error is handed on
+-- what an error of this kind means: a question for help, want of memory, or words that don't match; the error is handed
+-- on
 abbrev pub MeansNoRun : ErrorKind → Result Asked NotAsked → Type 0
 MeansNoRun kind (Ok (Run sizes files)) = ⊥
 MeansNoRun kind (Ok (Help text)) = (kind ≡ DisplayHelp) × (kind_of text ≡ kind)

@@ -11,7 +11,8 @@ most_files = 8
 abbrev pub FitForks : {A B : Type 0} → List A → List B → Type 0
 FitForks journals forks = length journals ≢ 0 → length journals ≡ length forks
 
--- why a run isn't over these files: they are too many, their journals don't fit, or the host has no memory for their names
+-- why a run isn't over these files: they are too many, their journals don't fit, or the host has no memory for their
+-- names
 abbrev pub NotNamed : {A B : Type 0} → List A → List B → NotAsked → Type 0
 NotNamed forks journals TooManyForks = most_files < length forks
 NotNamed forks journals OtherJournals = ¬ FitForks journals forks

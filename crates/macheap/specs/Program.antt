@@ -30,8 +30,8 @@ Because Finished read_failed write_failed = ⊤
 Because NoMemory read_failed write_failed = ⊤
 Because (ScriptFault line wrong) read_failed write_failed = ⊤
 
--- What the program told: its status, what it wrote to its output and to its messages, that it made no call on the latter, and that a write
--- of the one or the other failed.
+-- What the program told: its status, what it wrote to its output and to its messages, that it made no call on the
+-- latter, and that a write of the one or the other failed.
 pub record Told : Type 1 where
   pub status : ℕ
   pub written : List ℕ
@@ -59,8 +59,8 @@ Tells contents notes output output_now messages messages_now status So = (writte
       tell_failed = RoseByOne messages.failures messages_now.failures;
     })
 
--- With its three streams and this status the program did so. The input is the bytes that the reader tells; of one that doesn't tell, those
--- that it gave.
+-- With its three streams and this status the program did so. The input is the bytes that the reader tells; of one that
+-- doesn't tell, those that it gave.
 abbrev pub Did : {R W M : Type 0} → (R → Option (List ℕ)) → (W → Option (List ℕ)) → (M → Option (List ℕ)) → Counting R → Counting R → Counting W → Counting W → Counting M → Counting M → ℕ → (Done → Type 0) → Type 0
 Did remaining contents notes input input_now output output_now messages messages_now status So = (given : List ℕ) × Gave remaining input given input_now
     × Tells contents notes output output_now messages messages_now status (λ told. So (record {
@@ -82,7 +82,8 @@ TellsNoMemory told = (told.status ≡ 1) × Wrote no_memory_text told.write_fail
 abbrev pub about_text : List ℕ
 about_text = codes "Runs the script of standard input on a new heap zone, and writes each call's reply\n\n"
 
--- With this status a help text was written, which begins so; or a proper front of it, since a write failed; or that the host has no memory.
+-- With this status a help text was written, which begins so; or a proper front of it, since a write failed; or that the
+-- host has no memory.
 pub data HelpEnds (write_failed : Type 0) (status : ℕ) (written : List ℕ) : Type 0 where
   shown : (options : List ℕ) → status ≡ 0 → written ≡ about_text ++ options → HelpEnds write_failed status written
   cut : (options : List ℕ) → status ≡ 1 → IsProperFront written (about_text ++ options) → write_failed → HelpEnds write_failed status written
@@ -154,8 +155,8 @@ pub record Parts (F S J : Type 0) : Type 1 where
   pub plain : ℕ → F → S → Type 0
   pub pairs : ℕ → F → F → J → Type 0
 
--- A run on a zone of these sizes over the files of these names, of which these were asked for, ended so: each fork alone, or each with its
--- journal. Or one of the files can't be opened, or the host has no memory for the stores.
+-- A run on a zone of these sizes over the files of these names, of which these were asked for, ended so: each fork
+-- alone, or each with its journal. Or one of the files can't be opened, or the host has no memory for the stores.
 pub data RunEnds {F S J : Type 0} (parts : Parts F S J) (sizes : ZoneSizes) (forks journals : List Text) (openings : List (Opening F)) (done : Done) : Type 0 where
   over_plain : (stores : List S) → journals ≡ [] → ArePlain parts.store parts.plain forks openings stores → RunsOver parts.store sizes stores done → RunEnds parts sizes forks journals openings done
   over_journalled : (stores : List J) → journals ≢ [] → AreJournalled parts.pairs (forks ++ journals) openings stores → RunsOver parts.with_journal sizes stores done → RunEnds parts sizes forks journals openings done
@@ -171,7 +172,8 @@ abbrev pub Answers : {F S J : Type 0} → Parts F S J → Asked → List (Openin
 Answers parts (Run sizes files) openings done = RunEnds parts sizes (map (λ name. name.now) files.forks.items) (map (λ name. name.now) files.journals.items) openings done
 Answers parts (Help text) openings done = AsksForNothing openings done × ShowsHelp done.told
 
--- the words are bad, name too many files, or journals that don't fit them, or give numbers of which there is no mode or no zone
+-- the words are bad, name too many files, or journals that don't fit them, or give numbers of which there is no mode or
+-- no zone
 abbrev pub AreBad : List Text → Type 0
 AreBad words = DontMatch words ⊎ (NamesTooMany words ⊎ (JournalsDontFit words ⊎ (((option : Text) × GivesNoNumber words option) ⊎ (((mode : ℕ) × GivesNoMode words mode) ⊎ ((fault : BadSpec) × GivesNoZone words fault)))))
 

@@ -30,7 +30,8 @@ pub record IsEmpty {S : Type 0} (store : Ghosts S) (s : S) : Type 0 where
   pub ready : store.is_ready s
   pub honest : store.is_honest s
 
--- these are the stores of the forks in these files, of which the first store has this number, and each other one the next
+-- these are the stores of the forks in these files, of which the first store has this number, and each other one the
+-- next
 abbrev pub AreOn : {F S : Type 0} → (ℕ → F → S → Type 0) → ℕ → List F → List S → Type 0
 AreOn plain from [] [] = ⊤
 AreOn plain from (file ∷ files) (s ∷ stores) = plain from file s × AreOn plain (suc from) files stores

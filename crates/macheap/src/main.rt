@@ -1,4 +1,5 @@
-//! Runs a script of calls on a heap zone: `macheap [--zone N] [--limit N] [--base N] [--mode 24|32] [--fork FILE].. [--journal FILE].. < script`.
+//! Runs a script of calls on a heap zone: `macheap [--zone N] [--limit N] [--base N] [--mode 24|32] [--fork FILE]..
+//! [--journal FILE].. < script`.
 #![tactic(auto)]
 
 mod asked;

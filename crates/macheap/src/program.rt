@@ -39,9 +39,10 @@ struct WrongLine {
 }
 
 /// Does what the words ask for, of which the first is the program's name, and gives the exit status. A run reads its
-/// script from `input` and writes to `output`, over the stores of the files that `opener` opens; what is wrong with the words or
-/// the files is written to `messages`. Where files have journals, what the run leaves after a crash is what their stores promise of
-/// each call: the opening of each file recovers it, and an update is there as a whole or not at all.
+/// script from `input` and writes to `output`, over the stores of the files that `opener` opens; what is wrong with the
+/// words or the files is written to `messages`. Where files have journals, what the run leaves after a crash is what
+/// their stores promise of each call: the opening of each file recovers it, and an update is there as a whole or not at
+/// all.
 pub fn program<
     T: AsStr,
     F: Drop,

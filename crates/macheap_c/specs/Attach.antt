@@ -11,13 +11,14 @@ use Rattle.held_zone.specs.Attaching.{IsIdle, IsZoneOf}
 use Rattle.held_zone.specs.State.{State}
 use Rattle.macheap_c.specs.Guest.{damaged}
 
--- the code by which C is told why no zone is made: memFullErr where the host has no memory, memSCErr where the bytes are those of none
+-- the code by which C is told why no zone is made: memFullErr where the host has no memory, memSCErr where the bytes
+-- are those of none
 abbrev pub code_of_why : WhyNot → ℤ
 code_of_why HostFull = minus 108
 code_of_why NotZone = damaged
 
--- there is a zone that is such a one, and nothing else; or none, since the host has no memory (memFullErr), or since no zone is
--- such a one (memSCErr)
+-- there is a zone that is such a one, and nothing else; or none, since the host has no memory (memFullErr), or since no
+-- zone is such a one (memSCErr)
 abbrev pub Finds : (ZoneState → Type 0) → ℤ → Option State → Type 0
 Finds Is code (Some new) = (code ≡ pos 0) × Is new.zone × IsIdle new
 Finds Is code None = (code ≡ minus 108) ⊎ ((code ≡ damaged) × ((z : ZoneState) → Is z → ⊥))
@@ -27,14 +28,15 @@ abbrev pub FindsWhere : Bool → (ZoneState → Type 0) → ℤ → Option State
 FindsWhere true Is code new = Finds Is code new
 FindsWhere false Is code new = (code ≡ minus 50) × (new ≡ None)
 
--- The zone that is in bytes, as many as its limit, is made asleep where none sleeps. The bytes are as they were. Else the answer
--- is paramErr, and all stays.
+-- The zone that is in bytes, as many as its limit, is made asleep where none sleeps. The bytes are as they were. Else
+-- the answer is paramErr, and all stays.
 abbrev pub IsAttached : Option State → Option ZoneSizes → Option Region → ℤ → Option State → Option Region → Type 0
 IsAttached None (Some sizes) (Some region) code asleep memory =
     FindsWhere (length region.bytes == sizes.limit) (IsZoneIn sizes region.bytes) code asleep × (memory ≡ Some region)
 IsAttached old sizes region code asleep memory = (code ≡ minus 50) × (asleep ≡ old) × (memory ≡ region)
 
--- The zone of which these are the bytes, as many as its size, is made where there is none. Else the answer is paramErr, and all stays.
+-- The zone of which these are the bytes, as many as its size, is made where there is none. Else the answer is paramErr,
+-- and all stays.
 abbrev pub IsMadeOf : Option State → Option ZoneSizes → List ℕ → ℤ → Option State → Type 0
 IsMadeOf None (Some sizes) image code zone = FindsWhere (length image == sizes.size) (IsZoneOf sizes image) code zone
 IsMadeOf old sizes image code zone = (code ≡ minus 50) × (zone ≡ old)

@@ -6,7 +6,7 @@ use Rattle.mac_base.specs.Codes.{code_of, minus}
 use Rattle.mac_base.specs.declared.error.OsErr.{OsErr}
 use Rattle.mac_base.specs.declared.releasing.ReleasingCall.{ReleasingCall}
 use Rattle.mac_base.specs.declared.releasing.ReleasingCall.TheVariants.{DisposesHandle, DisposesPtr, Empties}
-use Rattle.mac_calls.specs.GrowZone.{Answer, Ask}
+use Rattle.mac_base.specs.GrowZone.{Answer, Ask}
 use Rattle.macheap_c.specs.declared.growing.MhAnswer.{MhAnswer}
 use Rattle.macheap_c.specs.declared.growing.MhAsk.{MhAsk}
 use Rattle.macheap_c.specs.declared.growing.MhCarried.{MhCarried}
@@ -48,7 +48,8 @@ abbrev pub AnswerTold : Option State → MhAnswer → ℤ → Option State → T
 AnswerTold None answer code new = (code ≡ no_zone) × (new ≡ None)
 AnswerTold (Some old) answer code new = IsQueued old (answer_of answer) code new
 
--- an ask as C is shown it: what was needed, whether it was answered and by which value, and how many calls were carried out
+-- an ask as C is shown it: what was needed, whether it was answered and by which value, and how many calls were carried
+-- out
 abbrev pub shown_ask : Ask → MhAsk
 shown_ask a = record { needed = a.needed; answered = option_map_or (λ (answer : Answer). 1) a.answer 0; value = option_map_or (λ (answer : Answer). answer.value) a.answer 0; carried = length a.carried }
 

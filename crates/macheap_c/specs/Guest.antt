@@ -16,7 +16,8 @@ use Rattle.held_zone.specs.State.{State, IsNew}
 abbrev pub damaged : ℤ
 damaged = minus 116
 
--- the code by which C is told why a zone sleeps on: memLockedErr where a block that is lent isn't locked in the bytes any more
+-- the code by which C is told why a zone sleeps on: memLockedErr where a block that is lent isn't locked in the bytes
+-- any more
 abbrev pub code_asleep : WhyAsleep → ℤ
 code_asleep Damaged = damaged
 code_asleep Unlocked = minus 117
@@ -25,7 +26,8 @@ code_asleep Unlocked = minus 117
 abbrev pub Refused : Option State → Option State → Option Region → ℤ → Option State → Option State → Option Region → Type 0
 Refused zone asleep memory code new_zone new_asleep new_memory = (code ≡ minus 50) × (new_zone ≡ zone) × (new_asleep ≡ asleep) × (new_memory ≡ memory)
 
--- a zone wakes in bytes that have its structure, with what is lent, and the bytes are gone then; or it sleeps on, and they are as they were
+-- a zone wakes in bytes that have its structure, with what is lent, and the bytes are gone then; or it sleeps on, and
+-- they are as they were
 abbrev pub WakesIn : State → Region → ℤ → Option State → Option State → Option Region → Type 0
 WakesIn old region code zone asleep memory =
     (HasStructure old.zone region.bytes × IsTrue (all_lendable old region.bytes) × (code ≡ pos 0) × (zone ≡ Some (awake_in region old)) × (asleep ≡ None) × (memory ≡ None))
@@ -41,14 +43,14 @@ abbrev pub IsWoken : Option State → Option State → Option Region → ℤ →
 IsWoken None (Some old) (Some region) code zone asleep memory = WakesWhere (length region.bytes == old.zone.shape.limit) old region code zone asleep memory
 IsWoken old_zone old_asleep old_memory code zone asleep memory = Refused old_zone old_asleep old_memory code zone asleep memory
 
--- What the host promises of a zone that sleeps, where bytes are there for it, as many as its limit: they differ only in these ranges from
--- bytes with its structure and its flags.
+-- What the host promises of a zone that sleeps, where bytes are there for it, as many as its limit: they differ only in
+-- these ranges from bytes with its structure and its flags.
 abbrev pub IsTold : Option State → Option Region → List Written → Type 0
 IsTold (Some old) (Some region) ranges = length region.bytes ≡ old.zone.shape.limit → DifferIn old.zone region.bytes ranges
 IsTold old region ranges = ⊤
 
--- the zone sleeps, and the bytes in which it was are there again, with what C left in the blocks that were lent. It wakes in
--- them as it was
+-- the zone sleeps, and the bytes in which it was are there again, with what C left in the blocks that were lent. It
+-- wakes in them as it was
 abbrev pub SleepsOutOf : State → Option State → Option Region → Type 0
 SleepsOutOf old (Some new) (Some region) = FallsAsleep old region new × IsInRegion (all_back old) region × WakesAsBefore old region new
 SleepsOutOf old _ _ = ⊥

@@ -29,7 +29,8 @@ large_with (Some heads) base size limit = faultless (Some heads) (first_large_fa
 abbrev pub large_sizes_of : ℕ → ℕ → ℕ → ℕ → Option ZoneSizes
 large_sizes_of mode base size limit = large_with (heads_of mode) base size limit
 
--- There is a new zone of these sizes; or none, since there are no such zones (paramErr), or the host has no memory (memFullErr).
+-- There is a new zone of these sizes; or none, since there are no such zones (paramErr), or the host has no memory
+-- (memFullErr).
 abbrev pub Begins : Option ZoneSizes → ℤ → Option State → Type 0
 Begins None code new = (code ≡ minus 50) × (new ≡ None)
 Begins (Some sizes) code None = code ≡ minus 108

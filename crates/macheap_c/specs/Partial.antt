@@ -6,11 +6,12 @@ use Rattle.held_files.specs.Patching.{PatchCalled}
 use Rattle.held_zone.specs.State.{State}
 use Rattle.held_zone.specs.Told.{no_zone}
 use Rattle.mac_base.specs.Codes.{code_of, minus}
-use Rattle.res_calls.specs.declared.partial_end.PartialEnd.{PartialEnd}
-use Rattle.res_calls.specs.declared.partial_end.PartialEnd.TheVariants.{Done, InMemory, OutOfBounds, Refused}
-use Rattle.res_calls.specs.declared.patching_call.PatchingCall.{PatchingCall}
+use Rattle.res_update.specs.declared.partial_end.PartialEnd.{PartialEnd}
+use Rattle.res_update.specs.declared.partial_end.PartialEnd.TheVariants.{Done, InMemory, OutOfBounds, Refused}
+use Rattle.res_update.specs.declared.patching_call.PatchingCall.{PatchingCall}
 
--- the code of its end: resourceInMemory and inputOutOfBounds have their own; and where there are no zone or no files, paramErr
+-- the code of its end: resourceInMemory and inputOutOfBounds have their own; and where there are no zone or no files,
+-- paramErr
 abbrev pub part_code : Option PartialEnd → ℤ
 part_code None = no_zone
 part_code (Some Done) = pos 0

@@ -3,13 +3,13 @@
 ghost use Rattle.std.specs.Int.{to_be_bytes, w32};
 ghost use Rattle.held_files.specs.Counting.{CountedTold, CountedToldKind};
 ghost use Rattle.held_files.specs.Told.{SoughtTold};
-ghost use Rattle.res_calls.specs.declared.counting_call.CountingCall.TheVariants as counting;
-ghost use Rattle.res_calls.specs.declared.seeking_call.SeekingCall.TheVariants as seeking;
+ghost use Rattle.res_update.specs.declared.counting_call.CountingCall.TheVariants as counting;
+ghost use Rattle.res_update.specs.declared.seeking_call.SeekingCall.TheVariants as seeking;
 
 use crate::resources::kind_of;
 use held_files::held::MrFiles;
 use held_zone::zone::MhZone;
-use res_calls::{CountingCall, SeekingCall};
+use res_update::{CountingCall, SeekingCall};
 use std::alloc::Global;
 
 /// CountTypes: how many types all open files have. One that several have counts once.

@@ -1,12 +1,12 @@
 //! The calls that bring bytes of C into a block: they copy from outside the zone.
 
 ghost use Rattle.std.specs.Prelude.{◌≡◌};
-ghost use Rattle.mac_calls.specs.declared.memory_call.MemoryCall.TheVariants as call;
+ghost use Rattle.mac_base.specs.declared.memory_call.MemoryCall.TheVariants as call;
 ghost use Rattle.held_zone.specs.Told.{Told, ToldNumber};
 
 use held_zone::zone::MhZone;
 use mac_base::handle::Handle;
-use mac_calls::{MemoryCall, Span};
+use mac_base::{MemoryCall, Span};
 use std::alloc::Global;
 
 /// PtrToHand from outside the zone: a new handle whose block has these bytes.

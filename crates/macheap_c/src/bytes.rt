@@ -1,8 +1,8 @@
 //! The calls that show C bytes: copies, or a window.
 
 ghost use Rattle.std.specs.Prelude.{◌≡◌, length};
-ghost use Rattle.mac_calls.specs.declared.loan_call.LoanCall.TheVariants as loan_call;
-ghost use Rattle.mac_calls.specs.declared.memory_call.MemoryCall.TheVariants as call;
+ghost use Rattle.mac_base.specs.declared.loan_call.LoanCall.TheVariants as loan_call;
+ghost use Rattle.mac_base.specs.declared.memory_call.MemoryCall.TheVariants as call;
 ghost use Rattle.held_zone.specs.Told.{LoanToldBytes, ToldBytes, WindowTold};
 
 use held_zone::told::{self, NO_ZONE};

@@ -1,13 +1,13 @@
 //! The calls that show C no bytes: each is made of its operands, and what it answers is written for C.
 
 ghost use Rattle.std.specs.Prelude.{◌≡◌};
-ghost use Rattle.mac_calls.specs.declared.loan_call.LoanCall.TheVariants as loan_call;
-ghost use Rattle.mac_calls.specs.declared.memory_call.MemoryCall.TheVariants as call;
+ghost use Rattle.mac_base.specs.declared.loan_call.LoanCall.TheVariants as loan_call;
+ghost use Rattle.mac_base.specs.declared.memory_call.MemoryCall.TheVariants as call;
 ghost use Rattle.held_zone.specs.Told.{LoanTold, Told, ToldNumber, ToldNumbers};
 
 use held_zone::zone::MhZone;
 use mac_base::handle::{Handle, Ptr};
-use mac_calls::{LoanCall, MemoryCall, Span};
+use mac_base::{LoanCall, MemoryCall, Span};
 use std::alloc::Global;
 
 /// NewHandle: a new relocatable block of `size` zero bytes.
@@ -450,8 +450,8 @@ pub extern "C" fn mh_poke(
     )
 }
 
-/// Lend: C has the bytes of a pointer's or a locked handle's block, until it gives them back. The block stays where it is,
-/// and calls that would read, write, free, resize or unlock it are refused.
+/// Lend: C has the bytes of a pointer's or a locked handle's block, until it gives them back. The block stays where it
+/// is, and calls that would read, write, free, resize or unlock it are refused.
 #[unsafe(no_mangle)]
 pub extern "C" fn mh_lend(alloc: Global, zone: &mut MhZone, block: u32) -> i16
     ensures { LoanTold zone.old.held.session (loan_call.Lend block) result zone.new.held.session }

@@ -15,9 +15,9 @@ use linked_zone::Part;
 use mac_base::error::{NO_ERR, OsErr};
 use std::alloc::Global;
 
-/// Writes the structure of the zone that sleeps into its bytes again: they have it then, with the flags that handles had
-/// when the zone fell asleep, and no other byte has changed. paramErr where no zone sleeps, and where the bytes aren't as
-/// many as its limit.
+/// Writes the structure of the zone that sleeps into its bytes again: they have it then, with the flags that handles
+/// had when the zone fell asleep, and no other byte has changed. paramErr where no zone sleeps, and where the bytes
+/// aren't as many as its limit.
 #[unsafe(no_mangle)]
 pub extern "C" fn mh_repair(alloc: Global, asleep: &mut MhAsleep, memory: &mut MhMemory) -> i16
     ensures { IsRepaired asleep.old.zone.held.session (region_of memory.old.host) result asleep.new.zone.held.session (region_of memory.new.host) }
@@ -45,8 +45,8 @@ fn repair(session: &Session, memory: &mut MhMemory) -> i16
     NO_ERR
 }
 
-/// The first byte that isn't as the structure of a zone calls for: its offset from the zone's start, and the part of the
-/// structure that it is in (1 the zone's header, 2 a block's, 3 a master pointer).
+/// The first byte that isn't as the structure of a zone calls for: its offset from the zone's start, and the part of
+/// the structure that it is in (1 the zone's header, 2 a block's, 3 a master pointer).
 #[repr(C)]
 #[derive(Clone, Copy)]
 pub struct MhFault {
@@ -54,8 +54,8 @@ pub struct MhFault {
     pub part: u32,
 }
 
-/// Looks for the first byte that isn't as the structure of the zone that sleeps calls for. No byte changes. paramErr where
-/// no zone sleeps, and where the bytes aren't as many as its limit.
+/// Looks for the first byte that isn't as the structure of the zone that sleeps calls for. No byte changes. paramErr
+/// where no zone sleeps, and where the bytes aren't as many as its limit.
 #[unsafe(no_mangle)]
 pub extern "C" fn mh_check(
     alloc: Global,

@@ -2,16 +2,16 @@
 
 ghost use Rattle.std.specs.Prelude.{◌≡◌, option_map};
 ghost use Rattle.std.specs.List.{list_all, slice_get};
-ghost use Rattle.mac_calls.specs.GrowZone.{Ask};
+ghost use Rattle.mac_base.specs.GrowZone.{Ask};
 ghost use Rattle.macheap_c.specs.Growing.{AnswerTold, IsShown, answer_of, ask_at, asks_made, carried_at, carried_for, is_known, release_of, shown_ask, shown_carried};
 
 use held_calls::answers::{Carried, MadeAsk};
 use held_zone::told::{self, NO_ZONE};
 use held_zone::zone::MhZone;
+use mac_base::Answer;
 use mac_base::error::{NO_ERR, OsErr};
 use mac_base::handle::{Handle, Ptr};
 use mac_base::releasing::ReleasingCall;
-use mac_calls::Answer;
 use std::alloc::Global;
 
 /// The kind of a call DisposeHandle of an answer.

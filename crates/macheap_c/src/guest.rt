@@ -89,9 +89,9 @@ fn make(alloc: Global, asleep: &mut MhAsleep, memory: &mut MhMemory, spec: ZoneS
     }
 }
 
-/// Wakes the zone that sleeps in bytes that have its structure: it has the contents and flags that they have, what is lent
-/// is lent again, and the bytes are gone. Else the zone sleeps on, and no byte has changed; memLockedErr where they have
-/// the structure, and a handle that is lent isn't locked any more.
+/// Wakes the zone that sleeps in bytes that have its structure: it has the contents and flags that they have, what is
+/// lent is lent again, and the bytes are gone. Else the zone sleeps on, and no byte has changed; memLockedErr where
+/// they have the structure, and a handle that is lent isn't locked any more.
 #[unsafe(no_mangle)]
 pub extern "C" fn mh_wake(
     alloc: Global,
@@ -105,8 +105,8 @@ pub extern "C" fn mh_wake(
 }
 
 /// Wakes the zone that sleeps as `mh_wake` does, and compares only the zone's header and the blocks that have a byte of
-/// those that the host says were written. WHO CALLS IT PROMISES THAT SINCE THE ZONE FELL ASLEEP, OR WAS MADE, ATTACHED OR
-/// REPAIRED IN ITS SLEEP, NO BYTE WAS WRITTEN BUT IN THESE RANGES. WHERE ONE WAS WRITTEN ELSEWHERE THE LIBRARY'S
+/// those that the host says were written. WHO CALLS IT PROMISES THAT SINCE THE ZONE FELL ASLEEP, OR WAS MADE, ATTACHED
+/// OR REPAIRED IN ITS SLEEP, NO BYTE WAS WRITTEN BUT IN THESE RANGES. WHERE ONE WAS WRITTEN ELSEWHERE THE LIBRARY'S
 /// BEHAVIOUR IS UNDEFINED. No ranges at all say that nothing was written.
 #[unsafe(no_mangle)]
 pub extern "C" fn mh_wake_written(

@@ -27,8 +27,8 @@ pub extern "C" fn mh_image_size(alloc: Global, zone: &mut MhZone, size: &mut usi
     code
 }
 
-/// Copies these bytes: the zone's header, and its blocks with their headers, master pointers and contents. paramErr where C has room
-/// for more bytes or fewer, memLockedErr where a block is lent.
+/// Copies these bytes: the zone's header, and its blocks with their headers, master pointers and contents. paramErr
+/// where C has room for more bytes or fewer, memLockedErr where a block is lent.
 #[unsafe(no_mangle)]
 pub extern "C" fn mh_image(alloc: Global, zone: &mut MhZone, bytes: &mut [u8]) -> i16
     ensures { ImageTold (sized (length bytes.old)) zone.old.held.session result bytes.old bytes.new zone.new.held.session }

@@ -11,7 +11,8 @@ use mac_base::error::{NO_ERR, OsErr};
 use mac_base::zone_spec::ZoneSpec;
 use std::alloc::Global;
 
-/// Makes a zone that begins at `base`, has `size` bytes, may grow to `limit` bytes, and has the blocks of a mode, 24 or 32.
+/// Makes a zone that begins at `base`, has `size` bytes, may grow to `limit` bytes, and has the blocks of a mode, 24 or
+/// 32.
 #[unsafe(no_mangle)]
 pub extern "C" fn mh_make_zone(
     alloc: Global,

@@ -1,14 +1,14 @@
 //! Resources by their names.
 
 ghost use Rattle.std.specs.Int.{to_be_bytes, w32};
-ghost use Rattle.res_calls.specs.declared.seeking_call.SeekingCall.TheVariants as seeking;
+ghost use Rattle.res_update.specs.declared.seeking_call.SeekingCall.TheVariants as seeking;
 ghost use Rattle.held_files.specs.Told.{SoughtTold};
 
 use crate::resources::kind_of;
 use held_files::held::MrFiles;
 use held_zone::zone::MhZone;
-use mac_calls::Span;
-use res_calls::SeekingCall;
+use mac_base::Span;
+use res_update::SeekingCall;
 use std::alloc::Global;
 
 /// GetNamedResource: the handle of the first resource of a type with a name, loaded, from the current file on.

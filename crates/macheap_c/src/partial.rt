@@ -2,21 +2,22 @@
 
 ghost use Rattle.std.specs.Prelude.{◌≡◌};
 ghost use Rattle.macheap_c.specs.Partial.{PartTold, PatchTold, part_code};
-ghost use Rattle.res_calls.specs.declared.patching_call.PatchingCall.TheVariants.{SetResourceSize, WritePartialResource};
+ghost use Rattle.res_update.specs.declared.patching_call.PatchingCall.TheVariants.{SetResourceSize, WritePartialResource};
 
 use held_files::held::MrFiles;
 use held_zone::told::NO_ZONE;
 use held_zone::zone::MhZone;
+use mac_base::Span;
 use mac_base::error::NO_ERR;
 use mac_base::handle::Handle;
-use mac_calls::Span;
-use res_calls::{PartialEnd, PatchingCall};
+use res_update::{PartialEnd, PatchingCall};
 use std::alloc::Global;
 
 /// resourceInMemory: the bytes were read or written, and the resource is in memory, where it may have others.
 const RESOURCE_IN_MEMORY: i16 = -188;
 
-/// inputOutOfBounds: the resource doesn't have all these bytes in its fork, or it ends there before the first that is to be written.
+/// inputOutOfBounds: the resource doesn't have all these bytes in its fork, or it ends there before the first that is
+/// to be written.
 const INPUT_OUT_OF_BOUNDS: i16 = -190;
 
 /// The code of the end of a call, if it was made.
@@ -32,8 +33,8 @@ fn part_code(end: Option<PartialEnd>) -> i16
     }
 }
 
-/// ReadPartialResource: copies `bytes.len()` bytes that a resource has in its fork, from an offset on, to C, whether or not it is in
-/// memory. resourceInMemory says that they were copied and that it is.
+/// ReadPartialResource: copies `bytes.len()` bytes that a resource has in its fork, from an offset on, to C, whether or
+/// not it is in memory. resourceInMemory says that they were copied and that it is.
 #[unsafe(no_mangle)]
 pub extern "C" fn mr_read_partial_resource(
     alloc: Global,
@@ -48,7 +49,8 @@ pub extern "C" fn mr_read_partial_resource(
     part_code(files.read_partial(alloc, zone, Handle::new(handle), offset, bytes))
 }
 
-/// SetResourceSize: how many bytes a resource has in its fork, which is written at once: the first of those that it had, and then zeros.
+/// SetResourceSize: how many bytes a resource has in its fork, which is written at once: the first of those that it
+/// had, and then zeros.
 #[unsafe(no_mangle)]
 pub extern "C" fn mr_set_resource_size(
     alloc: Global,
@@ -63,8 +65,8 @@ pub extern "C" fn mr_set_resource_size(
     part_code(files.patch(alloc, zone, &call))
 }
 
-/// WritePartialResource: writes these bytes over those that a resource has in its fork, from an offset on, at once, whether or not it is
-/// in memory. resourceInMemory says that they were written and that it is.
+/// WritePartialResource: writes these bytes over those that a resource has in its fork, from an offset on, at once,
+/// whether or not it is in memory. resourceInMemory says that they were written and that it is.
 #[unsafe(no_mangle)]
 pub extern "C" fn mr_write_partial_resource(
     alloc: Global,

@@ -2,11 +2,11 @@
 
 ghost use Rattle.std.specs.Prelude.{◌≡◌, Some};
 ghost use Rattle.std.specs.Int.{to_be_bytes, w32};
-ghost use Rattle.mac_calls.specs.declared.resource_call.ChangingCall.TheVariants as changing;
-ghost use Rattle.mac_calls.specs.declared.resource_call.GettingCall.TheVariants as getting;
-ghost use Rattle.mac_calls.specs.declared.resource_call.LookingCall.TheVariants as looking;
-ghost use Rattle.mac_calls.specs.declared.resource_call.ResourceCall.TheVariants.{AddResource, Changing, Getting, Looking, Writing};
-ghost use Rattle.mac_calls.specs.declared.resource_call.WritingCall.TheVariants as writing;
+ghost use Rattle.mac_base.specs.declared.resource_call.ChangingCall.TheVariants as changing;
+ghost use Rattle.mac_base.specs.declared.resource_call.GettingCall.TheVariants as getting;
+ghost use Rattle.mac_base.specs.declared.resource_call.LookingCall.TheVariants as looking;
+ghost use Rattle.mac_base.specs.declared.resource_call.ResourceCall.TheVariants.{AddResource, Changing, Getting, Looking, Writing};
+ghost use Rattle.mac_base.specs.declared.resource_call.WritingCall.TheVariants as writing;
 ghost use Rattle.held_files.specs.Told.{InfoTold, ResourceTold, ResourceToldKind, ResourceToldNumber, name_given};
 
 use held_files::held::MrFiles;
@@ -14,7 +14,7 @@ use held_files::told::MrInfo;
 use held_zone::zone::MhZone;
 use mac_base::handle::Handle;
 use mac_base::resource::ResType;
-use mac_calls::{ChangingCall, GettingCall, LookingCall, ResourceCall, Span, WritingCall};
+use mac_base::{ChangingCall, GettingCall, LookingCall, ResourceCall, Span, WritingCall};
 use std::alloc::Global;
 
 /// The resource type that a number is: its four bytes, the highest first.

@@ -4,7 +4,7 @@ use Rattle.mac_base.specs.HeadKind.{Shape}
 use Rattle.mac_base.specs.Heap.{Heap}
 use Rattle.mac_base.specs.ZoneState.{ZoneState}
 use Rattle.mac_base.specs.declared.request.Request.{Request}
-use Rattle.mac_calls.specs.GrowZone.{Ask}
+use Rattle.mac_base.specs.GrowZone.{Ask}
 use Rattle.zone_heap.specs.Attempts.{CanAsk}
 use Rattle.zone_heap.specs.Purge.{is_protected}
 use Rattle.mem_calls.specs.Requesting.{IsTrial, IsTurn, calls_in}

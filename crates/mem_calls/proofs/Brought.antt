@@ -16,7 +16,7 @@ use Rattle.mac_base.specs.Loans.{LoansAreFixed}
 use Rattle.mac_base.specs.Request.{is_among}
 use Rattle.mac_base.specs.Sound.{Sound}
 use Rattle.mac_base.specs.ZoneState.{ZoneState, overwritten, with_contents, with_heap, written}
-use Rattle.mac_calls.specs.GrowZone.{Ask}
+use Rattle.mac_base.specs.GrowZone.{Ask}
 use Rattle.zone_laws.proofs.Lent.{lent-apart}
 use Rattle.zone_laws.proofs.Tables.{eqb_same, with_live_agrees}
 use Rattle.linked_zone.specs.Loans.{KeepsLoans}

@@ -7,8 +7,8 @@ use Rattle.mac_base.specs.Heap.{Heap}
 use Rattle.mac_base.specs.declared.releasing.ReleasingCall.{ReleasingCall}
 use Rattle.mac_base.specs.Releasing.{operand_of, heap_released}
 use Rattle.mac_base.specs.Request.{is_among}
-use Rattle.mac_calls.specs.GrowZone.{Answer, Ask, new_ask, noted, may_note, Carried, memory_call, heap_unless, carried_once, carried_from}
-use Rattle.mac_calls.specs.Tests.{refusal}
+use Rattle.mac_base.specs.GrowZone.{Answer, Ask, new_ask, noted, may_note, Carried, memory_call, heap_unless, carried_once, carried_from}
+use Rattle.mac_base.specs.Tests.{refusal}
 use Rattle.mem_calls.specs.Requesting.{IsNewlyAnswered, with_carried}
 
 -- where no call was carried out

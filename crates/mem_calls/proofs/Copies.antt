@@ -19,7 +19,7 @@ use Rattle.mac_base.specs.declared.request.Request.{Request}
 use Rattle.mac_base.specs.declared.request.Request.TheVariants.{NewBlock, Resize}
 use Rattle.mac_base.specs.Request.{is_among}
 use Rattle.mac_base.specs.ZoneState.{ZoneState, written}
-use Rattle.mac_calls.specs.GrowZone.{Ask}
+use Rattle.mac_base.specs.GrowZone.{Ask}
 use Rattle.zone_laws.proofs.SoundWritten.{refilled_block}
 use Rattle.zone_laws.proofs.Tables.{eqb_same, live_at-with_live_same, with_live_agrees}
 use Rattle.zone_heap.proofs.Writing.{full-has_block, full-here}

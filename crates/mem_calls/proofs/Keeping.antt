@@ -16,9 +16,9 @@ use Rattle.mac_base.specs.Releasing.{operand_of, heap_released}
 use Rattle.mac_base.specs.declared.request.Request.{Request}
 use Rattle.mac_base.specs.declared.request.Request.TheVariants.{NewBlock, NewEmpty, NewPointer, NewMaster, Reserve, Resize, Replace}
 use Rattle.mac_base.specs.Request.{fits, candidates, candidates_in, blocks_to_purge, purged_until, is_among, makes_handle}
-use Rattle.mac_calls.specs.ExactRequest.{prepared}
-use Rattle.mac_calls.specs.GrowZone.{Carried, memory_call, heap_unless, carried_once, carried_from, carried_out}
-use Rattle.mac_calls.specs.Tests.{refusal}
+use Rattle.mac_base.specs.ExactRequest.{prepared}
+use Rattle.mac_base.specs.GrowZone.{Carried, memory_call, heap_unless, carried_once, carried_from, carried_out}
+use Rattle.mac_base.specs.Tests.{refusal}
 use Rattle.zone_heap.specs.Attempts.{is_ready, lacks_slot}
 use Rattle.zone_heap.specs.Purge.{is_protected}
 use Rattle.zone_laws.proofs.Tables.{with_live_agrees, without_agrees}

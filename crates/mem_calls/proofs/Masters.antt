@@ -9,9 +9,9 @@ use Rattle.mac_base.specs.Heap.{Heap, front_slot, has_none}
 use Rattle.mac_base.specs.declared.request.Request.{Request}
 use Rattle.mac_base.specs.declared.request.Request.TheVariants.{NewMaster}
 use Rattle.mac_base.specs.Serve.{serve}
-use Rattle.mac_calls.specs.GrowZone.{Answer, Ask, answers_in, most_answers, carried_out}
-use Rattle.mac_calls.specs.ExactRequest.{Ending, unserved, served_or, after_ask, asked, prepared, request_run}
-use Rattle.mac_calls.specs.ExactStep.{behind_master}
+use Rattle.mac_base.specs.GrowZone.{Answer, Ask, answers_in, most_answers, carried_out}
+use Rattle.mac_base.specs.ExactRequest.{Ending, unserved, served_or, after_ask, asked, prepared, request_run}
+use Rattle.mac_base.specs.ExactStep.{behind_master}
 use Rattle.zone_heap.specs.Attempts.{lacks_slot}
 use Rattle.mac_base.specs.Request.{makes_handle}
 use Rattle.mem_calls.specs.Requesting.{MayAskMore, IsRun, IsCallRun, call_run, given_or_full}

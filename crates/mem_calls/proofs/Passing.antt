@@ -5,8 +5,8 @@ use Rattle.mac_base.specs.declared.error.OsErr.{OsErr}
 use Rattle.mac_base.specs.Heap.{Heap}
 use Rattle.mac_base.specs.declared.error.OsErr.TheVariants.{MemPurErr, ParamErr}
 use Rattle.mac_base.specs.HeadKind.{Shape, max_size}
-use Rattle.mac_calls.specs.Tests.{Test, IsBlock, IsHandle, IsPointer, NotEmpty, NotLent, NotLocked, IsSize, IsWithin, refused_by, first_refusal, refusal, unless_passed}
-use Rattle.mac_calls.specs.declared.memory_call.MemoryCall.TheVariants.{BlockMove, ReallocateHandle, SetHandleSize, SetPtrSize}
+use Rattle.mac_base.specs.Tests.{Test, IsBlock, IsHandle, IsPointer, NotEmpty, NotLent, NotLocked, IsSize, IsWithin, refused_by, first_refusal, refusal, unless_passed}
+use Rattle.mac_base.specs.declared.memory_call.MemoryCall.TheVariants.{BlockMove, ReallocateHandle, SetHandleSize, SetPtrSize}
 
 or_or : (a b c : Option OsErr) → option_or a (option_or b c) ≡ option_or (option_or a b) c
 or_or None b c = refl

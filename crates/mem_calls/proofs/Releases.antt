@@ -8,9 +8,9 @@ use Rattle.mac_base.specs.HeadKind.{Shape}
 use Rattle.mac_base.specs.Heap.{Heap}
 use Rattle.mac_base.specs.ZoneState.{ZoneState}
 use Rattle.mac_base.specs.declared.releasing.ReleasingCall.{ReleasingCall}
-use Rattle.mac_calls.specs.GrowZone.{memory_call}
-use Rattle.mac_calls.specs.Tests.{IsHandle, NotLent, NotLocked, first_refusal, refusal}
-use Rattle.mac_calls.specs.declared.memory_call.MemoryCall.TheVariants.{EmptyHandle}
+use Rattle.mac_base.specs.GrowZone.{memory_call}
+use Rattle.mac_base.specs.Tests.{IsHandle, NotLent, NotLocked, first_refusal, refusal}
+use Rattle.mac_base.specs.declared.memory_call.MemoryCall.TheVariants.{EmptyHandle}
 use Rattle.mem_calls.specs.Releasing.{EndsRelease}
 use Rattle.mem_calls.proofs.Passing.{refused-first, refused-later}
 

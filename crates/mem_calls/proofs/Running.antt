@@ -6,8 +6,8 @@ use Rattle.std.proofs.lemmas.List.Folds.{list_all-append}
 use Rattle.mac_base.specs.HeadKind.{Shape}
 use Rattle.mac_base.specs.Heap.{Heap}
 use Rattle.mac_base.specs.declared.request.Request.{Request}
-use Rattle.mac_calls.specs.GrowZone.{Answer, Ask, carried_out}
-use Rattle.mac_calls.specs.ExactRequest.{Ending, unserved, after_ask, asked, request_run}
+use Rattle.mac_base.specs.GrowZone.{Answer, Ask, carried_out}
+use Rattle.mac_base.specs.ExactRequest.{Ending, unserved, after_ask, asked, request_run}
 use Rattle.mem_calls.specs.Requesting.{IsTurn, MayAskMore, calls_in, is_worth}
 
 -- the ending where the first trial fails and the first answer is this

@@ -10,15 +10,15 @@ use Rattle.mac_base.specs.Sound.{Sound}
 use Rattle.mac_base.specs.declared.request.Request.{Request}
 use Rattle.mac_base.specs.declared.request.Request.TheVariants.{NewMaster}
 use Rattle.mac_base.specs.Request.{makes_handle}
-use Rattle.mac_calls.specs.ExactRequest.{Ending, request_run}
-use Rattle.mac_calls.specs.ExactStep.{behind_master}
-use Rattle.mac_calls.specs.GrowZone.{Answer, Ask, answers_in, most_answers}
-use Rattle.gap_laws.proofs.SoundServed.{MayServe}
-use Rattle.call_laws.proofs.LentSteps.{LoansKept, NewHere, loans-fixed, new-here, ran-lent, run-kept}
-use Rattle.call_laws.proofs.RunPermitted.{Gives, Grants, Guards, grants-behind, run-facts}
-use Rattle.call_laws.proofs.RunTables.{Ran}
-use Rattle.call_laws.proofs.StepPermitted.{may_serve-from, operand-handle, slot-free, makes-first}
-use Rattle.call_laws.proofs.StepRequests.{HasOperand}
+use Rattle.mac_base.specs.ExactRequest.{Ending, request_run}
+use Rattle.mac_base.specs.ExactStep.{behind_master}
+use Rattle.mac_base.specs.GrowZone.{Answer, Ask, answers_in, most_answers}
+use Rattle.zone_laws.proofs.SoundServed.{MayServe}
+use Rattle.zone_laws.proofs.LentSteps.{LoansKept, NewHere, loans-fixed, new-here, ran-lent, run-kept}
+use Rattle.zone_laws.proofs.RunPermitted.{Gives, Grants, Guards, grants-behind, run-facts}
+use Rattle.zone_laws.proofs.RunTables.{Ran}
+use Rattle.zone_laws.proofs.StepPermitted.{may_serve-from, operand-handle, slot-free, makes-first}
+use Rattle.zone_laws.proofs.StepRequests.{HasOperand}
 use Rattle.zone_heap.specs.Attempts.{lacks_slot}
 use Rattle.mem_calls.specs.Requesting.{IsCallRun, call_run, given_or_full}
 

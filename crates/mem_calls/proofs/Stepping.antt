@@ -10,17 +10,17 @@ use Rattle.mac_base.specs.Sound.{Sound}
 use Rattle.mac_base.specs.ZoneState.{ZoneState}
 use Rattle.mac_base.specs.declared.request.Request.{Request}
 use Rattle.mac_base.specs.declared.request.Request.TheVariants.{NewMaster}
-use Rattle.mac_calls.specs.declared.memory_call.MemoryCall.{MemoryCall}
-use Rattle.mac_calls.specs.Tests.{refusal, protected_by}
-use Rattle.mac_calls.specs.GrowZone.{Answer, Ask, answers_in, most_answers}
-use Rattle.mac_calls.specs.ExactRequest.{Ending, request_run}
-use Rattle.mac_calls.specs.ExactStep.{StepEnd, rearranged, quiet_outcome, request_end, behind_master, request_step, step_asking, step_unless, IsExactStep}
-use Rattle.mac_calls.specs.Effect.{request_of, table_copied, effect_of}
-use Rattle.mac_calls.specs.declared.reply.Results.TheVariants.{Handle, Pointer, Nothing}
-use Rattle.mac_calls.specs.Outcomes.{Outcome, done_outcome, given_results, handle_outcome, pointer_outcome}
-use Rattle.mac_calls.specs.MemoryStep.{MemoryStep, StepUnless}
-use Rattle.mac_calls.specs.RequestRun.{RequestRun}
-use Rattle.call_laws.proofs.StepPermitted.{exact-permitted}
+use Rattle.mac_base.specs.declared.memory_call.MemoryCall.{MemoryCall}
+use Rattle.mac_base.specs.Tests.{refusal, protected_by}
+use Rattle.mac_base.specs.GrowZone.{Answer, Ask, answers_in, most_answers}
+use Rattle.mac_base.specs.ExactRequest.{Ending, request_run}
+use Rattle.mac_base.specs.ExactStep.{StepEnd, rearranged, quiet_outcome, request_end, behind_master, request_step, step_asking, step_unless, IsExactStep}
+use Rattle.mac_base.specs.Effect.{request_of, table_copied, effect_of}
+use Rattle.mac_base.specs.declared.reply.Results.TheVariants.{Handle, Pointer, Nothing}
+use Rattle.mac_base.specs.Outcomes.{Outcome, done_outcome, given_results, handle_outcome, pointer_outcome}
+use Rattle.mac_base.specs.MemoryStep.{MemoryStep, StepUnless}
+use Rattle.mac_base.specs.RequestRun.{RequestRun}
+use Rattle.zone_laws.proofs.StepPermitted.{exact-permitted}
 use Rattle.zone_heap.specs.Attempts.{lacks_slot}
 use Rattle.mem_calls.specs.Requesting.{IsCallRun, IsCopyRun, block_given, call_run, done, filled, given_or_full}
 

@@ -10,7 +10,7 @@ use Rattle.mac_base.specs.Heap.{Heap}
 use Rattle.mac_base.specs.ZoneState.{ZoneState}
 use Rattle.mac_base.specs.declared.releasing.ReleasingCall.{ReleasingCall}
 use Rattle.linked_zone.specs.Loans.{KeepsLoans}
-use Rattle.mac_calls.specs.GrowZone.{Answer, Ask, Carried, may_note, carried_once, carried_out}
+use Rattle.mac_base.specs.GrowZone.{Answer, Ask, Carried, may_note, carried_once, carried_out}
 use Rattle.mem_calls.specs.Requesting.{IsNewlyAnswered, with_carried}
 use Rattle.mem_calls.proofs.Carrying.{uncarried, carried-none, carried-more, carried_once-more, carried_from-last, carried_from-few, may_note-carried}
 

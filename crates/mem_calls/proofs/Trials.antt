@@ -7,7 +7,7 @@ use Rattle.mac_base.specs.Purging.{purged}
 use Rattle.mac_base.specs.declared.request.Request.{Request}
 use Rattle.mac_base.specs.Request.{fits}
 use Rattle.mac_base.specs.ZoneState.{ZoneState, with_heap}
-use Rattle.mac_calls.specs.ExactRequest.{prepared}
+use Rattle.mac_base.specs.ExactRequest.{prepared}
 use Rattle.zone_heap.specs.Attempts.{CanAsk, lacks_slot}
 use Rattle.zone_heap.specs.Purge.{is_protected}
 use Rattle.mem_calls.specs.Requesting.{EndsAttempt}

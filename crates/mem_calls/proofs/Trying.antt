@@ -13,10 +13,10 @@ use Rattle.mac_base.specs.declared.request.Request.TheVariants.{NewBlock, NewEmp
 use Rattle.mac_base.specs.Request.{fits, candidates}
 use Rattle.mac_base.specs.Serve.{serve}
 use Rattle.mac_base.specs.Sound.{Sound}
-use Rattle.mac_calls.specs.ExactRequest.{prepared}
+use Rattle.mac_base.specs.ExactRequest.{prepared}
 use Rattle.zone_heap.specs.Attempts.{is_ready, lacks_slot}
-use Rattle.gap_laws.proofs.ServedRequests.{MayAsk, serve-fits, front_slot-not_live}
-use Rattle.gap_laws.proofs.Emptied.{purged_until-none}
+use Rattle.zone_laws.proofs.ServedRequests.{MayAsk, serve-fits, front_slot-not_live}
+use Rattle.zone_laws.proofs.Emptied.{purged_until-none}
 use Rattle.zone_laws.proofs.PlacedParts.{option_map-Some}
 
 some_free : (xs : List ℕ) → has_none xs ≡ false → 0 < length xs

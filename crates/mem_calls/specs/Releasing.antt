@@ -4,8 +4,8 @@ use Rattle.mac_base.specs.declared.error.OsErr.{OsErr}
 use Rattle.mac_base.specs.ZoneState.{ZoneState}
 use Rattle.mac_base.specs.declared.releasing.ReleasingCall.{ReleasingCall}
 use Rattle.mac_base.specs.Releasing.{heap_released}
-use Rattle.mac_calls.specs.GrowZone.{memory_call}
-use Rattle.mac_calls.specs.Tests.{refusal}
+use Rattle.mac_base.specs.GrowZone.{memory_call}
+use Rattle.mac_base.specs.Tests.{refusal}
 
 -- the call is done, or refused, and then nothing has changed
 abbrev pub EndsRelease : ReleasingCall → ZoneState → Result (Unit {0}) OsErr → ZoneState → Type 0

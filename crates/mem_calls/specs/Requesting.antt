@@ -13,9 +13,9 @@ use Rattle.mac_base.specs.declared.releasing.ReleasingCall.{ReleasingCall}
 use Rattle.mac_base.specs.declared.request.Request.{Request}
 use Rattle.mac_base.specs.declared.request.Request.TheVariants.{NewMaster, Resize}
 use Rattle.mac_base.specs.Request.{fits}
-use Rattle.mac_calls.specs.GrowZone.{Answer, Ask, new_ask, answers_in, most_answers, carried_out}
-use Rattle.mac_calls.specs.ExactRequest.{Ending, asked, prepared, request_run}
-use Rattle.mac_calls.specs.ExactStep.{behind_master}
+use Rattle.mac_base.specs.GrowZone.{Answer, Ask, new_ask, answers_in, most_answers, carried_out}
+use Rattle.mac_base.specs.ExactRequest.{Ending, asked, prepared, request_run}
+use Rattle.mac_base.specs.ExactStep.{behind_master}
 use Rattle.zone_heap.specs.Attempts.{lacks_slot}
 
 -- an attempt where a slot is free for a new handle: it gives a number just where the request fits

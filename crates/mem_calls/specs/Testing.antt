@@ -2,7 +2,7 @@
 use Rattle.std.specs.Prelude.{◌≡◌, ℕ, nat_le, List, Option, Some, None, Result, MatchResult}
 use Rattle.mac_base.specs.declared.error.OsErr.{OsErr}
 use Rattle.mac_base.specs.declared.error.OsErr.TheVariants.{ParamErr}
-use Rattle.mac_calls.specs.Tests.{Test, first_refusal, unless_passed}
+use Rattle.mac_base.specs.Tests.{Test, first_refusal, unless_passed}
 use Rattle.mac_base.specs.HeadKind.{max_size}
 use Rattle.mac_base.specs.ZoneState.{ZoneState}
 

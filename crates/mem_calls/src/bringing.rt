@@ -1,4 +1,5 @@
-//! The calls that bring bytes from outside the zone into a block: as PtrToHand, PtrToXHand and PtrAndHand do from a pointer.
+//! The calls that bring bytes from outside the zone into a block: as PtrToHand, PtrToXHand and PtrAndHand do from a
+//! pointer.
 
 ghost use Rattle.std.specs.Prelude.{◌≡◌, ℕ, ◌+◌, ◌≤◌, [], ◌∷◌, ◌++◌, length, take, OnOk, Result};
 ghost use Rattle.mac_base.specs.BlockStatus.{status_of};
@@ -11,20 +12,20 @@ ghost use Rattle.mac_base.specs.declared.request.Request.TheVariants.{NewBlock, 
 ghost use Rattle.mem_calls.specs.Requesting.{IsCopyRun, done};
 ghost use Rattle.mem_calls.specs.Testing.{Tests, TestsSize};
 ghost use Rattle.linked_zone.specs.Loans.{KeepsLoans};
-ghost use Rattle.mac_calls.specs.declared.memory_call.MemoryCall.TheVariants as call;
-ghost use Rattle.mac_calls.specs.MemoryStep.{MemoryStep};
-ghost use Rattle.mac_calls.specs.ExactStep.{IsExactStep};
-ghost use Rattle.mac_calls.specs.Outcomes.{handle_outcome, done_outcome};
-ghost use Rattle.mac_calls.specs.Tests.{IsHandle, NotEmpty, NotLent, IsSize};
+ghost use Rattle.mac_base.specs.declared.memory_call.MemoryCall.TheVariants as call;
+ghost use Rattle.mac_base.specs.MemoryStep.{MemoryStep};
+ghost use Rattle.mac_base.specs.ExactStep.{IsExactStep};
+ghost use Rattle.mac_base.specs.Outcomes.{handle_outcome, done_outcome};
+ghost use Rattle.mac_base.specs.Tests.{IsHandle, NotEmpty, NotLent, IsSize};
 
 use crate::manager::MemoryManager;
 use crate::operands::{MOST_LOANS, test_full_here};
 use crate::request::request;
+use mac_base::GrowZone;
 use mac_base::error::OsErr;
 use mac_base::handle::Handle;
 use mac_base::request::Request;
 use mac_base::size::MAX_SIZE;
-use mac_calls::GrowZone;
 use zone_heap::Zone;
 
 /// Tests how many bytes a call brings: paramErr where they are over 8,388,608.
@@ -38,8 +39,8 @@ fn test_count(bytes: &[u8]) -> Result<(), OsErr>
     Ok(())
 }
 
-/// Tests the operands of a call that brings bytes for a handle's block: nilHandleErr where the handle is 0 or empty, memWZErr
-/// where it isn't live, memLockedErr where it is lent, paramErr where the bytes are over 8,388,608.
+/// Tests the operands of a call that brings bytes for a handle's block: nilHandleErr where the handle is 0 or empty,
+/// memWZErr where it isn't live, memLockedErr where it is lent, paramErr where the bytes are over 8,388,608.
 fn test_handle_for(zone: &Zone, handle: Handle, bytes: &[u8]) -> Result<(), OsErr>
     ensures tests { Tests zone.now (IsHandle handle ∷ NotEmpty handle ∷ NotLent handle ∷ IsSize (length bytes.now) ∷ []) result }
     ensures few { OnOk result (length bytes.now ≤ 0x80_0000) }
@@ -111,9 +112,9 @@ fn bring_behind<G: GrowZone>(
 }
 
 impl MemoryManager {
-    /// PtrToHand of bytes from outside the zone: a new handle, without flags, whose block has them. It is placed, and the zone
-    /// grows, purges and asks, as for NewHandle. paramErr where they are over 8,388,608; memFullErr where there is no room or no
-    /// master pointer (Inside Macintosh: Memory, Manipulating Blocks of Memory).
+    /// PtrToHand of bytes from outside the zone: a new handle, without flags, whose block has them. It is placed, and
+    /// the zone grows, purges and asks, as for NewHandle. paramErr where they are over 8,388,608; memFullErr where
+    /// there is no room or no master pointer (Inside Macintosh: Memory, Manipulating Blocks of Memory).
     pub fn new_handle_of<G: GrowZone>(
         &mut self,
         bytes: &[u8],
@@ -130,10 +131,10 @@ impl MemoryManager {
         bring_new(&mut self.zone, bytes, procedure)
     }
 
-    /// PtrToXHand of bytes from outside the zone: gives the handle these in place of its own. Its block grows or shrinks as under
-    /// SetHandleSize, and keeps its flags; it isn't purged. nilHandleErr where the handle is 0 or empty, memWZErr where it isn't
-    /// live, memLockedErr where it is lent, paramErr where the bytes are over 8,388,608; memFullErr where there is no room (Inside
-    /// Macintosh: Memory, Manipulating Blocks of Memory).
+    /// PtrToXHand of bytes from outside the zone: gives the handle these in place of its own. Its block grows or
+    /// shrinks as under SetHandleSize, and keeps its flags; it isn't purged. nilHandleErr where the handle is 0 or
+    /// empty, memWZErr where it isn't live, memLockedErr where it is lent, paramErr where the bytes are over 8,388,608;
+    /// memFullErr where there is no room (Inside Macintosh: Memory, Manipulating Blocks of Memory).
     pub fn set_handle_to<G: GrowZone>(
         &mut self,
         handle: Handle,
@@ -153,7 +154,8 @@ impl MemoryManager {
     }
 
     /// PtrAndHand of bytes from outside the zone: appends these to those of the handle's block. The codes are those of
-    /// `set_handle_to`; memFullErr where there is no room, too (Inside Macintosh: Memory, Manipulating Blocks of Memory).
+    /// `set_handle_to`; memFullErr where there is no room, too (Inside Macintosh: Memory, Manipulating Blocks of
+    /// Memory).
     pub fn append<G: GrowZone>(
         &mut self,
         handle: Handle,

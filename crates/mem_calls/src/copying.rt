@@ -8,20 +8,20 @@ ghost use Rattle.mac_base.specs.declared.block.Status.{Status};
 ghost use Rattle.mac_base.specs.declared.request.Request.TheVariants.{NewBlock, Resize};
 ghost use Rattle.mem_calls.specs.Requesting.{IsCopyRun, done};
 ghost use Rattle.linked_zone.specs.Loans.{KeepsLoans};
-ghost use Rattle.mac_calls.specs.declared.memory_call.MemoryCall.TheVariants as call;
-ghost use Rattle.mac_calls.specs.MemoryStep.{MemoryStep};
-ghost use Rattle.mac_calls.specs.ExactStep.{IsExactStep};
-ghost use Rattle.mac_calls.specs.Outcomes.{handle_outcome, done_outcome};
+ghost use Rattle.mac_base.specs.declared.memory_call.MemoryCall.TheVariants as call;
+ghost use Rattle.mac_base.specs.MemoryStep.{MemoryStep};
+ghost use Rattle.mac_base.specs.ExactStep.{IsExactStep};
+ghost use Rattle.mac_base.specs.Outcomes.{handle_outcome, done_outcome};
 
 use crate::manager::MemoryManager;
 use crate::operands::{
     MOST_LOANS, test_block_here, test_full_here, test_pointer_for, test_pointer_here, test_within,
 };
 use crate::request::request;
+use mac_base::GrowZone;
 use mac_base::error::OsErr;
 use mac_base::handle::{Handle, Ptr};
 use mac_base::request::Request;
-use mac_calls::GrowZone;
 use zone_heap::Zone;
 
 /// Makes a new handle whose block has the first `count` bytes of another block, which isn't purged for it.
@@ -50,8 +50,8 @@ fn copy_to_new<G: GrowZone>(
     Ok(Handle::new(new))
 }
 
-/// Gives a block the first `count` bytes of another behind `offset` of its own, and no more. It may be the other; neither is
-/// purged for it.
+/// Gives a block the first `count` bytes of another behind `offset` of its own, and no more. It may be the other;
+/// neither is purged for it.
 fn copy_behind<G: GrowZone>(
     zone: &mut Zone,
     from: u32,
@@ -83,10 +83,10 @@ fn copy_behind<G: GrowZone>(
 }
 
 impl MemoryManager {
-    /// HandToHand: a new handle, without flags, whose block has the bytes of this one's. It is placed, and the zone grows, purges (but
-    /// not this handle) and asks, as for NewHandle. nilHandleErr where the handle is 0 or empty, memWZErr where it isn't live,
-    /// memLockedErr where it is lent; memFullErr where there is no room or no master pointer (Inside Macintosh: Memory, Manipulating
-    /// Blocks of Memory).
+    /// HandToHand: a new handle, without flags, whose block has the bytes of this one's. It is placed, and the zone
+    /// grows, purges (but not this handle) and asks, as for NewHandle. nilHandleErr where the handle is 0 or empty,
+    /// memWZErr where it isn't live, memLockedErr where it is lent; memFullErr where there is no room or no master
+    /// pointer (Inside Macintosh: Memory, Manipulating Blocks of Memory).
     pub fn hand_to_hand<G: GrowZone>(
         &mut self,
         handle: Handle,
@@ -105,9 +105,10 @@ impl MemoryManager {
         copy_to_new(&mut self.zone, block, count, procedure)
     }
 
-    /// PtrToHand: a new handle whose block has the first `count` bytes of the pointer's. It is placed, and the zone grows, purges and
-    /// asks, as for NewHandle. memWZErr where the pointer isn't live, memLockedErr where it is lent, paramErr where it has fewer bytes;
-    /// memFullErr where there is no room or no master pointer (Inside Macintosh: Memory, Manipulating Blocks of Memory).
+    /// PtrToHand: a new handle whose block has the first `count` bytes of the pointer's. It is placed, and the zone
+    /// grows, purges and asks, as for NewHandle. memWZErr where the pointer isn't live, memLockedErr where it is lent,
+    /// paramErr where it has fewer bytes; memFullErr where there is no room or no master pointer (Inside Macintosh:
+    /// Memory, Manipulating Blocks of Memory).
     pub fn ptr_to_hand<G: GrowZone>(
         &mut self,
         pointer: Ptr,
@@ -127,10 +128,11 @@ impl MemoryManager {
         copy_to_new(&mut self.zone, block, count, procedure)
     }
 
-    /// PtrToXHand: gives the handle the first `count` bytes of the pointer's block in place of its own. Its block grows or shrinks as
-    /// under SetHandleSize, and keeps its flags; neither operand is purged. memWZErr where the pointer or the handle isn't live,
-    /// memLockedErr where one of them is lent, nilHandleErr where the handle is 0 or empty, paramErr where the pointer has fewer bytes;
-    /// memFullErr where there is no room (Inside Macintosh: Memory, Manipulating Blocks of Memory).
+    /// PtrToXHand: gives the handle the first `count` bytes of the pointer's block in place of its own. Its block grows
+    /// or shrinks as under SetHandleSize, and keeps its flags; neither operand is purged. memWZErr where the pointer or
+    /// the handle isn't live, memLockedErr where one of them is lent, nilHandleErr where the handle is 0 or empty,
+    /// paramErr where the pointer has fewer bytes; memFullErr where there is no room (Inside Macintosh: Memory,
+    /// Manipulating Blocks of Memory).
     pub fn ptr_to_xhand<G: GrowZone>(
         &mut self,
         pointer: Ptr,
@@ -151,8 +153,9 @@ impl MemoryManager {
         copy_behind(&mut self.zone, from, count, to, 0, procedure)
     }
 
-    /// PtrAndHand: appends the first `count` bytes of the pointer's block to those of the handle's. The codes are those of
-    /// PtrToXHand; memFullErr where the result is too long, too (Inside Macintosh: Memory, Manipulating Blocks of Memory).
+    /// PtrAndHand: appends the first `count` bytes of the pointer's block to those of the handle's. The codes are those
+    /// of PtrToXHand; memFullErr where the result is too long, too (Inside Macintosh: Memory, Manipulating Blocks of
+    /// Memory).
     pub fn ptr_and_hand<G: GrowZone>(
         &mut self,
         pointer: Ptr,
@@ -174,10 +177,10 @@ impl MemoryManager {
         copy_behind(&mut self.zone, from, count, to, length, procedure)
     }
 
-    /// HandAndHand: appends the bytes of the first handle's block to those of the second's. It may be one handle: then its bytes
-    /// stand there twice. Neither is purged. For each of them in turn nilHandleErr where it is 0 or empty, memWZErr where it isn't live,
-    /// memLockedErr where it is lent; memFullErr where there is no room, or the result is too long (Inside Macintosh: Memory,
-    /// Manipulating Blocks of Memory).
+    /// HandAndHand: appends the bytes of the first handle's block to those of the second's. It may be one handle: then
+    /// its bytes stand there twice. Neither is purged. For each of them in turn nilHandleErr where it is 0 or empty,
+    /// memWZErr where it isn't live, memLockedErr where it is lent; memFullErr where there is no room, or the result is
+    /// too long (Inside Macintosh: Memory, Manipulating Blocks of Memory).
     pub fn hand_and_hand<G: GrowZone>(
         &mut self,
         one: Handle,
@@ -200,10 +203,10 @@ impl MemoryManager {
         copy_behind(&mut self.zone, from, count, to, length, procedure)
     }
 
-    /// BlockMove: `count` bytes of a block, from `start` on, over those from `offset` on of another. It may be the same, whose bytes
-    /// move as if they were copied aside first. For each of the blocks in turn nilHandleErr where it is 0 or an empty handle, memWZErr
-    /// where it is no live handle or pointer, memLockedErr where it is lent; then paramErr where one of them has fewer bytes (Inside
-    /// Macintosh: Memory, Manipulating Blocks of Memory).
+    /// BlockMove: `count` bytes of a block, from `start` on, over those from `offset` on of another. It may be the
+    /// same, whose bytes move as if they were copied aside first. For each of the blocks in turn nilHandleErr where it
+    /// is 0 or an empty handle, memWZErr where it is no live handle or pointer, memLockedErr where it is lent; then
+    /// paramErr where one of them has fewer bytes (Inside Macintosh: Memory, Manipulating Blocks of Memory).
     pub fn block_move(
         &mut self,
         from: u32,

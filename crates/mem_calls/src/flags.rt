@@ -2,10 +2,10 @@
 
 ghost use Rattle.std.specs.Prelude.{◌≡◌, []};
 ghost use Rattle.linked_zone.specs.Loans.{KeepsLoans};
-ghost use Rattle.mac_calls.specs.declared.memory_call.MemoryCall.TheVariants as call;
-ghost use Rattle.mac_calls.specs.MemoryStep.{MemoryStep};
-ghost use Rattle.mac_calls.specs.ExactStep.{IsExactStep};
-ghost use Rattle.mac_calls.specs.Outcomes.{number_outcome, done_outcome};
+ghost use Rattle.mac_base.specs.declared.memory_call.MemoryCall.TheVariants as call;
+ghost use Rattle.mac_base.specs.MemoryStep.{MemoryStep};
+ghost use Rattle.mac_base.specs.ExactStep.{IsExactStep};
+ghost use Rattle.mac_base.specs.Outcomes.{number_outcome, done_outcome};
 
 use crate::manager::MemoryManager;
 use crate::operands::{handle_flags, is_lent, test_full, test_here};
@@ -14,8 +14,8 @@ use mac_base::error::OsErr;
 use mac_base::handle::Handle;
 
 impl MemoryManager {
-    /// HLock: the block stays where it is while it is locked. nilHandleErr where the handle is 0 or empty, memWZErr where it
-    /// isn't live (Inside Macintosh: Memory, Setting the Properties of Relocatable Blocks).
+    /// HLock: the block stays where it is while it is locked. nilHandleErr where the handle is 0 or empty, memWZErr
+    /// where it isn't live (Inside Macintosh: Memory, Setting the Properties of Relocatable Blocks).
     pub fn hlock(&mut self, handle: Handle) -> Result<(), OsErr>
         ensures exact { IsExactStep self.old.shape self.old.heap (call.HLock handle) [] (done_outcome result) self.new.heap }
         ensures step { MemoryStep self.old.shape self.old.heap (call.HLock handle) [] (done_outcome result) self.new.heap }
@@ -28,8 +28,8 @@ impl MemoryManager {
         Ok(())
     }
 
-    /// HUnlock: the block may be moved again. nilHandleErr where the handle is 0 or empty, memWZErr where it isn't live,
-    /// memLockedErr where it is lent (Inside Macintosh: Memory, Setting the Properties of Relocatable Blocks).
+    /// HUnlock: the block may be moved again. nilHandleErr where the handle is 0 or empty, memWZErr where it isn't
+    /// live, memLockedErr where it is lent (Inside Macintosh: Memory, Setting the Properties of Relocatable Blocks).
     pub fn hunlock(&mut self, handle: Handle) -> Result<(), OsErr>
         ensures exact { IsExactStep self.old.shape self.old.heap (call.HUnlock handle) [] (done_outcome result) self.new.heap }
         ensures step { MemoryStep self.old.shape self.old.heap (call.HUnlock handle) [] (done_outcome result) self.new.heap }
@@ -43,8 +43,8 @@ impl MemoryManager {
         Ok(())
     }
 
-    /// HPurge: the block may be purged where it isn't locked. nilHandleErr where the handle is 0 or empty, memWZErr where
-    /// it isn't live (Inside Macintosh: Memory, Setting the Properties of Relocatable Blocks).
+    /// HPurge: the block may be purged where it isn't locked. nilHandleErr where the handle is 0 or empty, memWZErr
+    /// where it isn't live (Inside Macintosh: Memory, Setting the Properties of Relocatable Blocks).
     pub fn hpurge(&mut self, handle: Handle) -> Result<(), OsErr>
         ensures exact { IsExactStep self.old.shape self.old.heap (call.HPurge handle) [] (done_outcome result) self.new.heap }
         ensures step { MemoryStep self.old.shape self.old.heap (call.HPurge handle) [] (done_outcome result) self.new.heap }
@@ -71,8 +71,8 @@ impl MemoryManager {
         Ok(())
     }
 
-    /// HSetRBit: the block has the contents of a resource. nilHandleErr where the handle is 0 or empty, memWZErr where it
-    /// isn't live (Inside Macintosh: Memory, Setting the Properties of Relocatable Blocks).
+    /// HSetRBit: the block has the contents of a resource. nilHandleErr where the handle is 0 or empty, memWZErr where
+    /// it isn't live (Inside Macintosh: Memory, Setting the Properties of Relocatable Blocks).
     pub fn hset_rbit(&mut self, handle: Handle) -> Result<(), OsErr>
         ensures exact { IsExactStep self.old.shape self.old.heap (call.HSetRBit handle) [] (done_outcome result) self.new.heap }
         ensures step { MemoryStep self.old.shape self.old.heap (call.HSetRBit handle) [] (done_outcome result) self.new.heap }
@@ -110,9 +110,9 @@ impl MemoryManager {
         Ok(state_of(flags))
     }
 
-    /// HSetState: sets the three flags as HGetState gives them; other bits say nothing. nilHandleErr where the handle is
-    /// 0 or empty, memWZErr where it isn't live, paramErr where `state` is over 255, memLockedErr where it is lent and
-    /// `state` lacks the lock (Inside Macintosh: Memory, Setting the Properties of Relocatable Blocks).
+    /// HSetState: sets the three flags as HGetState gives them; other bits say nothing. nilHandleErr where the handle
+    /// is 0 or empty, memWZErr where it isn't live, paramErr where `state` is over 255, memLockedErr where it is lent
+    /// and `state` lacks the lock (Inside Macintosh: Memory, Setting the Properties of Relocatable Blocks).
     pub fn hset_state(&mut self, handle: Handle, state: u32) -> Result<(), OsErr>
         ensures exact { IsExactStep self.old.shape self.old.heap (call.HSetState handle state) [] (done_outcome result) self.new.heap }
         ensures step { MemoryStep self.old.shape self.old.heap (call.HSetState handle state) [] (done_outcome result) self.new.heap }

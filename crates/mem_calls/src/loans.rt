@@ -7,8 +7,8 @@ ghost use Rattle.mac_base.specs.HandleTable.{bytes_of, has_block, is_locked, is_
 ghost use Rattle.mac_base.specs.Loans.{LoansAreFixed, LoansFit, lent_out, may_be_lent, returned};
 ghost use Rattle.mac_base.specs.ZoneState.{with_heap};
 ghost use Rattle.linked_zone.specs.Loans.{IsLoanOf, KeepsLoans, KeepsOtherLoans};
-ghost use Rattle.mac_calls.specs.declared.loan_call.LoanCall.TheVariants as loan_call;
-ghost use Rattle.mac_calls.specs.Loans.{loan_refusal};
+ghost use Rattle.mac_base.specs.declared.loan_call.LoanCall.TheVariants as loan_call;
+ghost use Rattle.mac_base.specs.LoanStep.{loan_refusal};
 
 use crate::manager::MemoryManager;
 use crate::operands::MOST_LOANS;
@@ -18,11 +18,11 @@ use mac_base::handle::{Handle, Ptr};
 use raw_region::Lent;
 
 impl MemoryManager {
-    /// Lends the bytes of a nonrelocatable block or of that of a locked handle: who has the loan reads and writes them. Until
-    /// they come back the block keeps its address, the zone reads and writes none of its bytes, and each call that would read,
-    /// write, free, resize or unlock it is refused with memLockedErr. nilHandleErr where the number is 0 or an empty handle,
-    /// memWZErr where it isn't live, memLockedErr where it is lent, paramErr where it is an unlocked handle or where eight
-    /// blocks are lent.
+    /// Lends the bytes of a nonrelocatable block or of that of a locked handle: who has the loan reads and writes them.
+    /// Until they come back the block keeps its address, the zone reads and writes none of its bytes, and each call
+    /// that would read, write, free, resize or unlock it is refused with memLockedErr. nilHandleErr where the number is
+    /// 0 or an empty handle, memWZErr where it isn't live, memLockedErr where it is lent, paramErr where it is an
+    /// unlocked handle or where eight blocks are lent.
     pub fn lend(&mut self, block: u32) -> Result<Lent, OsErr>
         ensures refusal { result_err result ≡ loan_refusal self.old.shape self.old.heap (loan_call.Lend block) }
         ensures unchanged { OnErr result (self.new ≡ self.old) }
@@ -35,7 +35,8 @@ impl MemoryManager {
         Ok(self.zone.lend(block))
     }
 
-    /// Takes back the bytes of a block that is lent, as the holder of the loan left them. The block stands where it did.
+    /// Takes back the bytes of a block that is lent, as the holder of the loan left them. The block stands where it
+    /// did.
     pub fn give_back(&mut self, block: u32, loan: Lent)
         requires { IsLoanOf self.old block loan }
         ensures zone { self.new ≡ with_heap (returned block loan.bytes self.old.heap) self.old }
@@ -53,9 +54,9 @@ impl MemoryManager {
         self.zone.lent_count()
     }
 
-    /// Tests that a number may be lent: a pointer or a locked handle, while there is a loan left. nilHandleErr where it is 0 or
-    /// an empty handle, memWZErr where it isn't live, memLockedErr where it is lent, paramErr where it is an unlocked handle or
-    /// where eight blocks are lent.
+    /// Tests that a number may be lent: a pointer or a locked handle, while there is a loan left. nilHandleErr where it
+    /// is 0 or an empty handle, memWZErr where it isn't live, memLockedErr where it is lent, paramErr where it is an
+    /// unlocked handle or where eight blocks are lent.
     fn test_loan(&self, block: u32) -> Result<(), OsErr>
         ensures refusal { result_err result ≡ loan_refusal self.now.shape self.now.heap (loan_call.Lend block) }
         ensures full { OnOk result (status_of self.now.heap.table block ≡ Status.Full) }

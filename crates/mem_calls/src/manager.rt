@@ -8,8 +8,8 @@ use std::alloc::Global;
 use std::marker::Model;
 use zone_heap::Zone;
 
-/// The Memory Manager with its zone. Contracts see the zone's shape and its heap. Only `create` takes host memory, and can
-/// be refused it.
+/// The Memory Manager with its zone. Contracts see the zone's shape and its heap. Only `create` takes host memory, and
+/// can be refused it.
 pub struct MemoryManager {
     pub(crate) zone: Zone,
 }
@@ -121,8 +121,8 @@ impl MemoryManager {
         self.zone.linked().entry(at)
     }
 
-    /// The bytes of the zone, from its start to the end of its last block: its header, and its blocks with their headers, master
-    /// pointers and contents. memLockedErr where a block is lent, whose bytes aren't the zone's.
+    /// The bytes of the zone, from its start to the end of its last block: its header, and its blocks with their
+    /// headers, master pointers and contents. memLockedErr where a block is lent, whose bytes aren't the zone's.
     pub fn image(&self) -> Result<&[u8], OsErr>
         ensures image { IfOk result (λ image. IsImage self.now image.now) }
         ensures nothing_lent { IfOk result (λ image. length self.now.heap.table.lent ≡ 0) }

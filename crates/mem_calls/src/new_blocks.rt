@@ -2,27 +2,28 @@
 
 ghost use Rattle.std.specs.Prelude.{◌≡◌, []};
 ghost use Rattle.linked_zone.specs.Loans.{KeepsLoans};
-ghost use Rattle.mac_calls.specs.declared.memory_call.MemoryCall.TheVariants as call;
-ghost use Rattle.mac_calls.specs.MemoryStep.{MemoryStep};
-ghost use Rattle.mac_calls.specs.ExactStep.{IsExactStep};
-ghost use Rattle.mac_calls.specs.Outcomes.{handle_outcome, pointer_outcome, done_outcome};
+ghost use Rattle.mac_base.specs.declared.memory_call.MemoryCall.TheVariants as call;
+ghost use Rattle.mac_base.specs.MemoryStep.{MemoryStep};
+ghost use Rattle.mac_base.specs.ExactStep.{IsExactStep};
+ghost use Rattle.mac_base.specs.Outcomes.{handle_outcome, pointer_outcome, done_outcome};
 
 use crate::manager::MemoryManager;
 use crate::operands::test_size;
 use crate::releasing::release;
 use crate::request::request;
+use mac_base::GrowZone;
 use mac_base::error::OsErr;
 use mac_base::handle::{Handle, Ptr};
 use mac_base::releasing::ReleasingCall;
 use mac_base::request::Request;
-use mac_calls::GrowZone;
 
 impl MemoryManager {
-    /// NewHandle: a new relocatable block of `size` zero bytes without flags. It takes the lowest free block that has room, or the
-    /// room of the lowest gap whose blocks have moved down. Where none has room, the zone grows to its limit, as few handles are purged
-    /// as serve, and then the grow-zone procedure is asked, 16 times at most. Where no slot is free, a new master block comes first.
-    /// paramErr where `size` is over 8,388,608; memFullErr where there is no room (Inside Macintosh: Memory, Allocating and Releasing
-    /// Relocatable Blocks of Memory, and How Heap Space Is Allocated).
+    /// NewHandle: a new relocatable block of `size` zero bytes without flags. It takes the lowest free block that has
+    /// room, or the room of the lowest gap whose blocks have moved down. Where none has room, the zone grows to its
+    /// limit, as few handles are purged as serve, and then the grow-zone procedure is asked, 16 times at most. Where no
+    /// slot is free, a new master block comes first. paramErr where `size` is over 8,388,608; memFullErr where there is
+    /// no room (Inside Macintosh: Memory, Allocating and Releasing Relocatable Blocks of Memory, and How Heap Space Is
+    /// Allocated).
     pub fn new_handle<G: GrowZone>(&mut self, size: u32, procedure: &mut G) -> Result<Handle, OsErr>
         requires { G.asks procedure.old ≡ [] }
         ensures exact { IsExactStep self.old.shape self.old.heap (call.NewHandle size) (G.asks procedure.new) (handle_outcome result) self.new.heap }
@@ -35,9 +36,9 @@ impl MemoryManager {
         request(&mut self.zone, &Request::NewBlock(size), &[], procedure).map(Handle::new)
     }
 
-    /// NewEmptyHandle: a new handle without a block. Where no slot is free, a new master block comes first, for which the zone may
-    /// move, grow and purge, and ask the grow-zone procedure, as for NewHandle. memFullErr where there is no room for it (Inside
-    /// Macintosh: Memory, Allocating and Releasing Relocatable Blocks of Memory).
+    /// NewEmptyHandle: a new handle without a block. Where no slot is free, a new master block comes first, for which
+    /// the zone may move, grow and purge, and ask the grow-zone procedure, as for NewHandle. memFullErr where there is
+    /// no room for it (Inside Macintosh: Memory, Allocating and Releasing Relocatable Blocks of Memory).
     pub fn new_empty_handle<G: GrowZone>(&mut self, procedure: &mut G) -> Result<Handle, OsErr>
         requires { G.asks procedure.old ≡ [] }
         ensures exact { IsExactStep self.old.shape self.old.heap call.NewEmptyHandle (G.asks procedure.new) (handle_outcome result) self.new.heap }
@@ -49,10 +50,10 @@ impl MemoryManager {
         request(&mut self.zone, &Request::NewEmpty, &[], procedure).map(Handle::new)
     }
 
-    /// NewPtr: a new nonrelocatable block of `size` zero bytes, at the start of the lowest gap with room: the relocatable blocks there
-    /// move up. Where none has room, the zone grows and purges, and asks the grow-zone procedure, as for NewHandle. paramErr where
-    /// `size` is over 8,388,608; memFullErr where there is no room (Inside Macintosh: Memory, Allocating and Releasing Nonrelocatable
-    /// Blocks of Memory, and How Heap Space Is Allocated).
+    /// NewPtr: a new nonrelocatable block of `size` zero bytes, at the start of the lowest gap with room: the
+    /// relocatable blocks there move up. Where none has room, the zone grows and purges, and asks the grow-zone
+    /// procedure, as for NewHandle. paramErr where `size` is over 8,388,608; memFullErr where there is no room (Inside
+    /// Macintosh: Memory, Allocating and Releasing Nonrelocatable Blocks of Memory, and How Heap Space Is Allocated).
     pub fn new_ptr<G: GrowZone>(&mut self, size: u32, procedure: &mut G) -> Result<Ptr, OsErr>
         requires { G.asks procedure.old ≡ [] }
         ensures exact { IsExactStep self.old.shape self.old.heap (call.NewPtr size) (G.asks procedure.new) (pointer_outcome result) self.new.heap }
@@ -77,8 +78,8 @@ impl MemoryManager {
         release(&mut self.zone, ReleasingCall::DisposesHandle(handle))
     }
 
-    /// DisposePtr: the pointer's block is free. memWZErr where the pointer isn't live, memLockedErr where it is lent (Inside
-    /// Macintosh: Memory, Allocating and Releasing Nonrelocatable Blocks of Memory).
+    /// DisposePtr: the pointer's block is free. memWZErr where the pointer isn't live, memLockedErr where it is lent
+    /// (Inside Macintosh: Memory, Allocating and Releasing Nonrelocatable Blocks of Memory).
     pub fn dispose_ptr(&mut self, pointer: Ptr) -> Result<(), OsErr>
         ensures exact { IsExactStep self.old.shape self.old.heap (call.DisposePtr pointer) [] (done_outcome result) self.new.heap }
         ensures step { MemoryStep self.old.shape self.old.heap (call.DisposePtr pointer) [] (done_outcome result) self.new.heap }

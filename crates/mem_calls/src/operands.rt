@@ -2,7 +2,7 @@
 
 ghost use Rattle.std.specs.Prelude.{◌≡◌, ◌∷◌, [], ◌||◌, not, IfOk, OnOk, IsTrue};
 ghost use Rattle.mac_base.specs.HandleTable.{flags_of, has_block, is_handle, is_lent, is_locked};
-ghost use Rattle.mac_calls.specs.Tests.{IsHandle, IsPointer, IsBlock, NotEmpty, NotLent, NotLocked, IsSize, IsWithin};
+ghost use Rattle.mac_base.specs.Tests.{IsHandle, IsPointer, IsBlock, NotEmpty, NotLent, NotLocked, IsSize, IsWithin};
 ghost use Rattle.mac_base.specs.declared.error.OsErr.TheVariants.{MemLockedErr, MemPurErr};
 ghost use Rattle.mem_calls.specs.Testing.{Tests, TestsSize};
 
@@ -28,8 +28,8 @@ pub(crate) fn test_handle(zone: &Zone, handle: Handle) -> Result<(), OsErr>
     Ok(())
 }
 
-/// Tests that a handle is live and has a block: nilHandleErr where it is 0 or empty, memWZErr where it is another number
-/// that isn't live.
+/// Tests that a handle is live and has a block: nilHandleErr where it is 0 or empty, memWZErr where it is another
+/// number that isn't live.
 pub(crate) fn test_full(zone: &Zone, handle: Handle) -> Result<(), OsErr>
     ensures { Tests zone.now (IsHandle handle ∷ NotEmpty handle ∷ []) result }
 {
@@ -103,8 +103,8 @@ pub(crate) fn test_unlocked(zone: &Zone, handle: Handle) -> Result<(), OsErr>
     Ok(())
 }
 
-/// The flags of a handle whose block may move: nilHandleErr where it is 0 or empty, memWZErr where it is another number that
-/// isn't live, memLockedErr where it is locked.
+/// The flags of a handle whose block may move: nilHandleErr where it is 0 or empty, memWZErr where it is another number
+/// that isn't live, memLockedErr where it is locked.
 pub(crate) fn test_movable(zone: &Zone, handle: Handle) -> Result<Flags, OsErr>
     ensures refusal { Tests zone.now (IsHandle handle ∷ NotEmpty handle ∷ NotLocked MemLockedErr handle ∷ []) result }
     ensures value { IfOk result (λ flags. flags ≡ flags_of zone.now.heap.table handle) }
@@ -134,8 +134,8 @@ pub(crate) fn test_size(size: u32) -> Result<(), OsErr>
     Ok(())
 }
 
-/// Tests that a handle is live, has a block and isn't lent: nilHandleErr where it is 0 or empty, memWZErr where it is another
-/// number that isn't live, memLockedErr where it is lent.
+/// Tests that a handle is live, has a block and isn't lent: nilHandleErr where it is 0 or empty, memWZErr where it is
+/// another number that isn't live, memLockedErr where it is lent.
 pub(crate) fn test_full_here(zone: &Zone, handle: Handle) -> Result<(), OsErr>
     ensures { Tests zone.now (IsHandle handle ∷ NotEmpty handle ∷ NotLent handle ∷ []) result }
 {
@@ -151,8 +151,8 @@ pub(crate) fn test_pointer_here(zone: &Zone, pointer: Ptr) -> Result<(), OsErr>
     test_here(zone, pointer.number())
 }
 
-/// Tests that a number is a live handle or pointer, has a block and isn't lent: nilHandleErr where it is 0 or an empty handle,
-/// memWZErr where it is another number that isn't live, memLockedErr where it is lent.
+/// Tests that a number is a live handle or pointer, has a block and isn't lent: nilHandleErr where it is 0 or an empty
+/// handle, memWZErr where it is another number that isn't live, memLockedErr where it is lent.
 pub(crate) fn test_block_here(zone: &Zone, block: u32) -> Result<(), OsErr>
     ensures { Tests zone.now (IsBlock block ∷ NotEmpty block ∷ NotLent block ∷ []) result }
 {
@@ -181,9 +181,9 @@ pub(crate) fn test_within(zone: &Zone, block: u32, start: u32, count: u32) -> Re
     Ok(())
 }
 
-/// Tests the operands of a call that takes the first `count` bytes of a pointer's block for a handle's: memWZErr where the
-/// pointer or the handle isn't live, memLockedErr where one of them is lent, nilHandleErr where the handle is 0 or empty, paramErr
-/// where the pointer has fewer bytes.
+/// Tests the operands of a call that takes the first `count` bytes of a pointer's block for a handle's: memWZErr where
+/// the pointer or the handle isn't live, memLockedErr where one of them is lent, nilHandleErr where the handle is 0 or
+/// empty, paramErr where the pointer has fewer bytes.
 pub(crate) fn test_pointer_for(
     zone: &Zone,
     pointer: Ptr,

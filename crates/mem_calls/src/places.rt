@@ -2,10 +2,10 @@
 
 ghost use Rattle.std.specs.Prelude.{◌≡◌, []};
 ghost use Rattle.linked_zone.specs.Loans.{KeepsLoans};
-ghost use Rattle.mac_calls.specs.declared.memory_call.MemoryCall.TheVariants as call;
-ghost use Rattle.mac_calls.specs.MemoryStep.{MemoryStep};
-ghost use Rattle.mac_calls.specs.ExactStep.{IsExactStep};
-ghost use Rattle.mac_calls.specs.Outcomes.{handle_outcome, address_outcome, done_outcome};
+ghost use Rattle.mac_base.specs.declared.memory_call.MemoryCall.TheVariants as call;
+ghost use Rattle.mac_base.specs.MemoryStep.{MemoryStep};
+ghost use Rattle.mac_base.specs.ExactStep.{IsExactStep};
+ghost use Rattle.mac_base.specs.Outcomes.{handle_outcome, address_outcome, done_outcome};
 
 use crate::manager::MemoryManager;
 use crate::operands::{test_full, test_movable};
@@ -24,8 +24,9 @@ impl MemoryManager {
         Ok(self.zone.contents_address(handle))
     }
 
-    /// MoveHHi: the handle's block moves to the high end of its gap. nilHandleErr where the handle is 0 or empty, memWZErr where it
-    /// isn't live, memLockedErr where it is locked (Inside Macintosh: Memory, Managing Relocatable Blocks).
+    /// MoveHHi: the handle's block moves to the high end of its gap. nilHandleErr where the handle is 0 or empty,
+    /// memWZErr where it isn't live, memLockedErr where it is locked (Inside Macintosh: Memory, Managing Relocatable
+    /// Blocks).
     pub fn move_hhi(&mut self, handle: Handle) -> Result<(), OsErr>
         ensures exact { IsExactStep self.old.shape self.old.heap (call.MoveHHi handle) [] (done_outcome result) self.new.heap }
         ensures step { MemoryStep self.old.shape self.old.heap (call.MoveHHi handle) [] (done_outcome result) self.new.heap }
@@ -39,8 +40,8 @@ impl MemoryManager {
         Ok(())
     }
 
-    /// HLockHi: MoveHHi, and then HLock; refused as MoveHHi is (Inside Macintosh: Memory, Setting the Properties of Relocatable
-    /// Blocks).
+    /// HLockHi: MoveHHi, and then HLock; refused as MoveHHi is (Inside Macintosh: Memory, Setting the Properties of
+    /// Relocatable Blocks).
     pub fn hlock_hi(&mut self, handle: Handle) -> Result<(), OsErr>
         ensures exact { IsExactStep self.old.shape self.old.heap (call.HLockHi handle) [] (done_outcome result) self.new.heap }
         ensures step { MemoryStep self.old.shape self.old.heap (call.HLockHi handle) [] (done_outcome result) self.new.heap }
@@ -56,8 +57,8 @@ impl MemoryManager {
         Ok(())
     }
 
-    /// RecoverHandle: the handle whose block's contents begin at an address. memBCErr where no handle's do (Inside Macintosh:
-    /// Memory, Managing Relocatable Blocks).
+    /// RecoverHandle: the handle whose block's contents begin at an address. memBCErr where no handle's do (Inside
+    /// Macintosh: Memory, Managing Relocatable Blocks).
     pub fn recover_handle(&self, address: u32) -> Result<Handle, OsErr>
         ensures exact { IsExactStep self.now.shape self.now.heap (call.RecoverHandle address) [] (handle_outcome result) self.now.heap }
         ensures step { MemoryStep self.now.shape self.now.heap (call.RecoverHandle address) [] (handle_outcome result) self.now.heap }

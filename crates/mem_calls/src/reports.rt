@@ -1,11 +1,11 @@
 //! The calls that tell how much room there is.
 
 ghost use Rattle.std.specs.Prelude.{◌≡◌, []};
-ghost use Rattle.mac_calls.specs.declared.memory_call.MemoryCall.TheVariants as call;
-ghost use Rattle.mac_calls.specs.MemoryStep.{MemoryStep};
-ghost use Rattle.mac_calls.specs.ExactStep.{IsExactStep};
+ghost use Rattle.mac_base.specs.declared.memory_call.MemoryCall.TheVariants as call;
+ghost use Rattle.mac_base.specs.MemoryStep.{MemoryStep};
+ghost use Rattle.mac_base.specs.ExactStep.{IsExactStep};
 ghost use Rattle.std.specs.Prelude.{Ok};
-ghost use Rattle.mac_calls.specs.declared.reply.Results.TheVariants.{Number, TwoNumbers};
+ghost use Rattle.mac_base.specs.declared.reply.Results.TheVariants.{Number, TwoNumbers};
 
 use crate::manager::MemoryManager;
 use mac_base::purge_space::PurgeSpace;
@@ -19,8 +19,8 @@ impl MemoryManager {
         self.zone.linked().free_bytes()
     }
 
-    /// MaxBlock: the most free bytes that moving blocks would bring together (Inside Macintosh: Memory, Assessing Memory
-    /// Conditions).
+    /// MaxBlock: the most free bytes that moving blocks would bring together (Inside Macintosh: Memory, Assessing
+    /// Memory Conditions).
     ///
     /// It is counted once, until the zone changes.
     pub fn max_block(&mut self) -> u32

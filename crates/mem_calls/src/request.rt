@@ -4,7 +4,7 @@ ghost use Rattle.std.specs.Prelude.{◌≡◌, ◌≤◌, IsTrue, IsFalse, []};
 ghost use Rattle.linked_zone.specs.Loans.{KeepsLoans};
 ghost use Rattle.mac_base.specs.Sound.{Sound};
 ghost use Rattle.mac_base.specs.Request.{is_among, length_asked};
-ghost use Rattle.mac_calls.specs.GrowZone.{may_ask, may_note, carried_once, carried_out};
+ghost use Rattle.mac_base.specs.GrowZone.{may_ask, may_note, carried_once, carried_out};
 ghost use Rattle.zone_heap.specs.Attempts.{CanAsk, lacks_slot, most_asked};
 ghost use Rattle.zone_heap.specs.Purge.{is_protected};
 ghost use Rattle.mem_calls.specs.Requesting.{EndsAttempt, IsTrial, IsNewlyAnswered, IsTurn, MayAskMore, IsRun, IsCallRun, given_or_full, with_carried};
@@ -14,7 +14,7 @@ use mac_base::error::OsErr;
 use mac_base::releasing::ReleasingCall;
 use mac_base::request::Request;
 use mac_base::size::{MASTER_LENGTH, need_for};
-use mac_calls::{Answer, GrowZone};
+use mac_base::{Answer, GrowZone};
 use zone_heap::Zone;
 
 /// The answers that the grow-zone procedure may give in one call.
@@ -48,8 +48,8 @@ fn attempt(zone: &mut Zone, request: &Request) -> Option<u32>
     }
 }
 
-/// One trial of a request: in the zone as it is, or else once it has grown to its limit, or else once as few handles are
-/// purged as serve, and all that may be where none do.
+/// One trial of a request: in the zone as it is, or else once it has grown to its limit, or else once as few handles
+/// are purged as serve, and all that may be where none do.
 fn trial(zone: &mut Zone, request: &Request, protected: &[u32]) -> Option<u32>
     requires ready { CanAsk zone.old request.now }
     requires protects { IsTrue (is_protected protected.now request.now) }
@@ -116,8 +116,8 @@ fn carry_out<G: GrowZone>(zone: &mut Zone, answer: &Answer, protected: &[u32], p
     }
 }
 
-/// Asks the procedure for the bytes that a request needs, and carries out the calls of its answer. Whether another trial
-/// may find room.
+/// Asks the procedure for the bytes that a request needs, and carries out the calls of its answer. Whether another
+/// trial may find room.
 fn turn<G: GrowZone>(
     zone: &mut Zone,
     request: &Request,
@@ -141,8 +141,8 @@ fn turn<G: GrowZone>(
     }
 }
 
-/// Runs a request: trials, and turns of the procedure between them while it may still answer. It counts the answers down, and
-/// calls itself behind each turn: 17 deep at most, since a call begins with 16 answers.
+/// Runs a request: trials, and turns of the procedure between them while it may still answer. It counts the answers
+/// down, and calls itself behind each turn: 17 deep at most, since a call begins with 16 answers.
 fn run<G: GrowZone>(
     zone: &mut Zone,
     request: &Request,
@@ -189,8 +189,8 @@ fn given_or_full(given: Option<u32>) -> Result<u32, OsErr>
     }
 }
 
-/// Runs the request of a call, behind one for a master block where it is for a new handle and no slot is free. In both the
-/// grow-zone procedure may answer 16 times at most.
+/// Runs the request of a call, behind one for a master block where it is for a new handle and no slot is free. In both
+/// the grow-zone procedure may answer 16 times at most.
 pub(crate) fn request<G: GrowZone>(
     zone: &mut Zone,
     request: &Request,

@@ -2,27 +2,28 @@
 
 ghost use Rattle.std.specs.Prelude.{◌≡◌, []};
 ghost use Rattle.linked_zone.specs.Loans.{KeepsLoans};
-ghost use Rattle.mac_calls.specs.declared.memory_call.MemoryCall.TheVariants as call;
-ghost use Rattle.mac_calls.specs.MemoryStep.{MemoryStep};
-ghost use Rattle.mac_calls.specs.ExactStep.{IsExactStep};
-ghost use Rattle.mac_calls.specs.Outcomes.{number_outcome, done_outcome};
+ghost use Rattle.mac_base.specs.declared.memory_call.MemoryCall.TheVariants as call;
+ghost use Rattle.mac_base.specs.MemoryStep.{MemoryStep};
+ghost use Rattle.mac_base.specs.ExactStep.{IsExactStep};
+ghost use Rattle.mac_base.specs.Outcomes.{number_outcome, done_outcome};
 
 use crate::manager::MemoryManager;
 use crate::operands::{
     test_full, test_handle_here, test_new_size, test_pointer, test_size, test_unlocked,
 };
 use crate::request::request;
+use mac_base::GrowZone;
 use mac_base::error::OsErr;
 use mac_base::handle::{Handle, Ptr};
 use mac_base::request::Request;
-use mac_calls::GrowZone;
 
 impl MemoryManager {
-    /// SetHandleSize: gives the handle's block `size` bytes; bytes that are added are zero. It stays where it is where it can; else
-    /// the blocks of its gap make way, or it gets a new place, unless it is locked. Where there is no room, the zone grows and purges,
-    /// but not this handle, and asks the grow-zone procedure, as for NewHandle. nilHandleErr where the handle is 0 or empty, memWZErr
-    /// where it isn't live, memLockedErr where it is lent, paramErr where `size` is over 8,388,608, memFullErr where there is no room
-    /// (Inside Macintosh: Memory, Changing the Sizes of Relocatable and Nonrelocatable Blocks).
+    /// SetHandleSize: gives the handle's block `size` bytes; bytes that are added are zero. It stays where it is where
+    /// it can; else the blocks of its gap make way, or it gets a new place, unless it is locked. Where there is no
+    /// room, the zone grows and purges, but not this handle, and asks the grow-zone procedure, as for NewHandle.
+    /// nilHandleErr where the handle is 0 or empty, memWZErr where it isn't live, memLockedErr where it is lent,
+    /// paramErr where `size` is over 8,388,608, memFullErr where there is no room (Inside Macintosh: Memory, Changing
+    /// the Sizes of Relocatable and Nonrelocatable Blocks).
     pub fn set_handle_size<G: GrowZone>(
         &mut self,
         handle: Handle,
@@ -58,10 +59,11 @@ impl MemoryManager {
         Ok(self.zone.linked().length(handle.number()))
     }
 
-    /// SetPtrSize: gives the pointer's block `size` bytes where it is; bytes that are added are zero. The relocatable blocks of the gap
-    /// right behind it make way; where there is no room, the zone grows and purges there, and asks the grow-zone procedure, as for
-    /// NewHandle. memWZErr where the pointer isn't live, memLockedErr where it is lent, paramErr where `size` is over 8,388,608,
-    /// memFullErr where there is no room (Inside Macintosh: Memory, Changing the Sizes of Relocatable and Nonrelocatable Blocks).
+    /// SetPtrSize: gives the pointer's block `size` bytes where it is; bytes that are added are zero. The relocatable
+    /// blocks of the gap right behind it make way; where there is no room, the zone grows and purges there, and asks
+    /// the grow-zone procedure, as for NewHandle. memWZErr where the pointer isn't live, memLockedErr where it is lent,
+    /// paramErr where `size` is over 8,388,608, memFullErr where there is no room (Inside Macintosh: Memory, Changing
+    /// the Sizes of Relocatable and Nonrelocatable Blocks).
     pub fn set_ptr_size<G: GrowZone>(
         &mut self,
         pointer: Ptr,
@@ -97,11 +99,12 @@ impl MemoryManager {
         Ok(self.zone.linked().length(pointer.number()))
     }
 
-    /// ReallocateHandle: a new block of `size` zero bytes for the handle, without flags, in place of the one that it has, which
-    /// counts as free for it. The handle may be empty. Where there is no room, the zone grows and purges, and asks the grow-zone procedure,
-    /// as for NewHandle; a refused one keeps block, bytes and flags. nilHandleErr where the handle is 0, memWZErr where it isn't live,
-    /// memLockedErr where it is lent, memPurErr where it is locked, paramErr where `size` is over 8,388,608, memFullErr where there is no
-    /// room (Inside Macintosh: Memory, Managing Relocatable Blocks).
+    /// ReallocateHandle: a new block of `size` zero bytes for the handle, without flags, in place of the one that it
+    /// has, which counts as free for it. The handle may be empty. Where there is no room, the zone grows and purges,
+    /// and asks the grow-zone procedure, as for NewHandle; a refused one keeps block, bytes and flags. nilHandleErr
+    /// where the handle is 0, memWZErr where it isn't live, memLockedErr where it is lent, memPurErr where it is
+    /// locked, paramErr where `size` is over 8,388,608, memFullErr where there is no room (Inside Macintosh: Memory,
+    /// Managing Relocatable Blocks).
     pub fn reallocate_handle<G: GrowZone>(
         &mut self,
         handle: Handle,

@@ -1,6 +1,6 @@
-//! A zone that sleeps and wakes. While it sleeps it is in a region of its own, whose structure is right and whose contents
-//! nobody reads. Awake it is in bytes with the same structure, whatever their contents, and that region is the record of
-//! its structure.
+//! A zone that sleeps and wakes. While it sleeps it is in a region of its own, whose structure is right and whose
+//! contents nobody reads. Awake it is in bytes with the same structure, whatever their contents, and that region is the
+//! record of its structure.
 
 use crate::manager::MemoryManager;
 use linked_zone::{Agreement, Written};
@@ -14,9 +14,9 @@ impl MemoryManager {
     ghost use Rattle.linked_zone.specs.Structure.{Agrees, DifferInContents, HasStructure, IsIn, shown};
     ghost use Rattle.linked_zone.specs.Written.{DifferIn};
 
-    /// Wakes the zone, which sleeps, in a region whose bytes have its structure: it is in these bytes from then on, with the
-    /// contents and flags that they have. If the bytes haven't the zone's structure, it returns the region again, and the
-    /// zone sleeps on as it was.
+    /// Wakes the zone, which sleeps, in a region whose bytes have its structure: it is in these bytes from then on,
+    /// with the contents and flags that they have. If the bytes haven't the zone's structure, it returns the region
+    /// again, and the zone sleeps on as it was.
     pub fn wake(&mut self, region: Region) -> Result<(), Region>
         requires nothing_lent { self.old.heap.table.lent ≡ [] }
         requires asleep { self.old.memory.kept ≡ None }
@@ -30,8 +30,8 @@ impl MemoryManager {
     }
 
     /// Wakes the zone as `wake` does, where the region's bytes differ only in these ranges from bytes with the zone's
-    /// structure and flags. Only the zone's header and the blocks that have one of these bytes are compared; where flags
-    /// differ, more master blocks are read.
+    /// structure and flags. Only the zone's header and the blocks that have one of these bytes are compared; where
+    /// flags differ, more master blocks are read.
     pub fn wake_written(&mut self, region: Region, written: &[Written]) -> Result<(), Region>
         requires nothing_lent { self.old.heap.table.lent ≡ [] }
         requires asleep { self.old.memory.kept ≡ None }
@@ -62,8 +62,8 @@ impl MemoryManager {
         Ok(())
     }
 
-    /// Puts the zone to sleep, and returns the region that it was in. Where its bytes stay as they are, the zone wakes in it
-    /// as it was. None where the zone isn't awake, and nothing has changed.
+    /// Puts the zone to sleep, and returns the region that it was in. Where its bytes stay as they are, the zone wakes
+    /// in it as it was. None where the zone isn't awake, and nothing has changed.
     pub fn sleep(&mut self) -> Option<Region>
         requires nothing_lent { self.old.heap.table.lent ≡ [] }
         ensures kept { IfSome result (λ region. self.old.memory.kept ≡ Some self.new.memory.region) }

@@ -5,12 +5,12 @@ use Rattle.mac_base.specs.BlockStatus.{status_of}
 use Rattle.mac_base.specs.HandleTable.{HandleTable, Live, EmptyHandle, FullHandle, Pointer, bytes_of, flags_of, is_locked, live_at, live_flags, live_full, live_handle, live_pointer, refilled, with_bytes}
 use Rattle.mac_base.specs.HeadKind.{Shape}
 use Rattle.mac_base.specs.Heap.{Heap}
-use Rattle.mac_calls.specs.declared.memory_call.MemoryCall.TheVariants.{HLock}
-use Rattle.mac_calls.specs.declared.reply.Results.TheVariants.{Nothing}
-use Rattle.mac_calls.specs.MemoryStep.{MemoryStep, StepUnless}
-use Rattle.mac_calls.specs.RequestRun.{RequestRun}
+use Rattle.mac_base.specs.declared.memory_call.MemoryCall.TheVariants.{HLock}
+use Rattle.mac_base.specs.declared.reply.Results.TheVariants.{Nothing}
+use Rattle.mac_base.specs.MemoryStep.{MemoryStep, StepUnless}
+use Rattle.mac_base.specs.RequestRun.{RequestRun}
 use Rattle.zone_laws.proofs.Tables.{live_at-with_live_same}
-use Rattle.call_laws.proofs.RunTables.{passed-ok}
+use Rattle.zone_laws.proofs.RunTables.{passed-ok}
 
 -- an HLock that isn't refused locks
 pub locked_by : (s : Shape) (old new : Heap) (h : ℕ) → MemoryStep s old (HLock h) [] (Ok Nothing) new → is_locked new.table h ≡ true

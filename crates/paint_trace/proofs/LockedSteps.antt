@@ -9,17 +9,17 @@ use Rattle.mac_base.specs.HandleTable.{HandleTable, Live, EmptyHandle, FullHandl
 use Rattle.mac_base.specs.HeadKind.{Shape}
 use Rattle.mac_base.specs.Heap.{Heap, every_slot_live}
 use Rattle.mac_base.specs.Sound.{Sound}
-use Rattle.mac_calls.specs.declared.memory_call.MemoryCall.{MemoryCall}
-use Rattle.mac_calls.specs.declared.reply.Results.TheVariants as results
-use Rattle.mac_calls.specs.Effect.{request_of}
-use Rattle.mac_calls.specs.GrowZone.{Ask, answers_in, asked_in_vain}
-use Rattle.mac_calls.specs.MemoryStep.{MemoryStep, StepAsking, StepUnless}
-use Rattle.mac_calls.specs.Outcomes.{Outcome}
-use Rattle.mac_calls.specs.RequestRun.{RequestRun}
-use Rattle.mac_calls.specs.Tests.{protected_by, refusal}
+use Rattle.mac_base.specs.declared.memory_call.MemoryCall.{MemoryCall}
+use Rattle.mac_base.specs.declared.reply.Results.TheVariants as results
+use Rattle.mac_base.specs.Effect.{request_of}
+use Rattle.mac_base.specs.GrowZone.{Ask, answers_in, asked_in_vain}
+use Rattle.mac_base.specs.MemoryStep.{MemoryStep, StepAsking, StepUnless}
+use Rattle.mac_base.specs.Outcomes.{Outcome}
+use Rattle.mac_base.specs.RequestRun.{RequestRun}
+use Rattle.mac_base.specs.Tests.{protected_by, refusal}
 use Rattle.zone_laws.proofs.Tables.{with_live_agrees, without_agrees}
-use Rattle.gap_laws.proofs.SuitsNil.{nil-no_handle}
-use Rattle.call_laws.proofs.RunTables.{Releases, request-asked}
+use Rattle.zone_laws.proofs.SuitsNil.{nil-no_handle}
+use Rattle.zone_laws.proofs.RunTables.{Releases, request-asked}
 use Rattle.paint_trace.specs.declared.trace.Action.{Action}
 use Rattle.paint_trace.specs.declared.trace.Action.TheVariants as action
 use Rattle.mac_base.specs.declared.releasing.ReleasingCall.{ReleasingCall}

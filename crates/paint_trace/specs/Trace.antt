@@ -2,11 +2,11 @@
 use Rattle.std.specs.Prelude.{◌≡◌, ◌≢◌, ℕ, List, [], ◌∷◌, ◌++◌, Option, Some, None, Result, Ok, IsTrue, slice_index}
 use Rattle.mac_base.specs.declared.error.OsErr.{OsErr}
 use Rattle.mac_base.specs.HandleTable.{HandleTable, is_locked, live_at}
-use Rattle.mac_calls.specs.declared.memory_call.MemoryCall.{MemoryCall}
-use Rattle.mac_calls.specs.declared.memory_call.MemoryCall.TheVariants as memory_call
-use Rattle.mac_calls.specs.declared.reply.Results.TheVariants as results
-use Rattle.mac_calls.specs.GrowZone.{Answer, Ask, asked_in_vain}
-use Rattle.mac_calls.specs.Outcomes.{Outcome, done_outcome}
+use Rattle.mac_base.specs.declared.memory_call.MemoryCall.{MemoryCall}
+use Rattle.mac_base.specs.declared.memory_call.MemoryCall.TheVariants as memory_call
+use Rattle.mac_base.specs.declared.reply.Results.TheVariants as results
+use Rattle.mac_base.specs.GrowZone.{Answer, Ask, asked_in_vain}
+use Rattle.mac_base.specs.Outcomes.{Outcome, done_outcome}
 use Rattle.mac_base.specs.declared.releasing.ReleasingCall.{ReleasingCall}
 use Rattle.paint_trace.specs.declared.procedure.Carried.{Carried}
 use Rattle.paint_trace.specs.declared.procedure.Procedure.{Procedure}
@@ -58,7 +58,8 @@ outcome_of h step result = done_outcome result
 abbrev pub IsOther : List ℕ → ℕ → Type 0
 IsOther handles h = (block : ℕ) → slice_index handles block ≢ h
 
--- each handle that was locked, and is none of these, is as it was, with its flags and its bytes; and it is none of the new ones
+-- each handle that was locked, and is none of these, is as it was, with its flags and its bytes; and it is none of the
+-- new ones
 abbrev pub KeepsOthers : List ℕ → HandleTable → List ℕ → HandleTable → Type 0
 KeepsOthers handles old new_handles new = (h : ℕ) → IsTrue (is_locked old h) → IsOther handles h → (live_at new h ≡ live_at old h) × IsOther new_handles h
 

@@ -5,7 +5,7 @@ ghost use Rattle.paint_trace.specs.Trace.{asks_of, source_of};
 
 use mac_base::error::OsErr;
 use mac_base::releasing::ReleasingCall;
-use mac_calls::{Answer, GrowZone};
+use mac_base::{Answer, GrowZone};
 
 /// A call of an answer that was carried out, and the code of its refusal, if it was refused.
 #[derive(Clone, Copy)]
@@ -14,9 +14,9 @@ pub(crate) struct Carried {
     code: Option<OsErr>,
 }
 
-/// A grow-zone procedure that gives up a block which the program keeps for that, its memory cushion, and nothing else (Inside
-/// Macintosh: Memory, chapter 1, "Low-Memory Conditions"). Without one it is asked in vain. A call of the Memory Manager begins with a
-/// procedure that wasn't asked yet.
+/// A grow-zone procedure that gives up a block which the program keeps for that, its memory cushion, and nothing else
+/// (Inside Macintosh: Memory, chapter 1, "Low-Memory Conditions"). Without one it is asked in vain. A call of the
+/// Memory Manager begins with a procedure that wasn't asked yet.
 #[derive(Clone, Copy)]
 pub(crate) struct Procedure {
     /// The call that gives the cushion up, if there is one.

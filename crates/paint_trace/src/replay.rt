@@ -1,7 +1,7 @@
 //! A trace, replayed on the Memory Manager.
 
 ghost use Rattle.std.specs.Prelude.{◌≡◌, ◌<◌, [], slice_index};
-ghost use Rattle.mac_calls.specs.MemoryStep.{MemoryStep};
+ghost use Rattle.mac_base.specs.MemoryStep.{MemoryStep};
 ghost use Rattle.paint_trace.specs.Trace.{KeepsLocked, KeepsOthers, asks_of, call_of, outcome_of};
 
 use crate::procedure::Procedure;
@@ -56,8 +56,8 @@ fn make(
     }
 }
 
-/// Makes all steps of a trace, up to the first line that is none. What was locked before keeps its bytes: the trace has no handle of it,
-/// and what is locked isn't purged for another's sake.
+/// Makes all steps of a trace, up to the first line that is none. What was locked before keeps its bytes: the trace has
+/// no handle of it, and what is locked isn't purged for another's sake.
 pub(crate) fn replay(memory: &mut MemoryManager, trace: &str) -> Result<Replayed, BadLine>
     requires nothing_lent { memory.old.heap.table.lent ≡ [] }
     ensures nothing_lent { memory.new.heap.table.lent ≡ [] }

@@ -18,7 +18,8 @@ pub record MovedDown (xs ys : List ℕ) (to gap place : ℕ) : Type 0 where
   pub zeros : (j : ℕ) → to ≤ j → place ≤ j + gap → j < place → get_or ys j 0 ≡ 0
   pub behind : (j : ℕ) → place ≤ j → get_or ys j 0 ≡ get_or xs j 0
 
--- those of xs from `place` on have moved up by `gap`, as far as this is before `end`, and 0 stands in all other places up to there
+-- those of xs from `place` on have moved up by `gap`, as far as this is before `end`, and 0 stands in all other places
+-- up to there
 pub record MovedUp (xs ys : List ℕ) (end gap place : ℕ) : Type 0 where
   pub len : length ys ≡ length xs
   pub below : (j : ℕ) → j < place → get_or ys j 0 ≡ get_or xs j 0

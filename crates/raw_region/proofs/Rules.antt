@@ -1,4 +1,5 @@
--- The lemmas that answer most goals of a caller: name `raw_region::proofs::Rules::upkeep` in a `#[tactic(auto, using(..))]`.
+-- The lemmas that answer most goals of a caller: name `raw_region::proofs::Rules::upkeep` in a `#[tactic(auto,
+-- using(..))]`.
 use Rattle.raw_region.specs.Bytes.{length-written}
 use Rattle.raw_region.proofs.Free.{free_within}
 use Rattle.raw_region.proofs.Laws.{length-is_part}

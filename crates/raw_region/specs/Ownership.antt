@@ -1,5 +1,5 @@
--- What raw bytes own, and what a `&` to them holds. A function says which of the bytes are here: nothing is owned at the
--- others. A place is a block b and an offset o in it.
+-- What raw bytes own, and what a `&` to them holds. A function says which of the bytes are here: nothing is owned at
+-- the others. A place is a block b and an offset o in it.
 use Rattle.std.specs.Prelude.{ℕ, suc, ◌+◌, ◌-◌, Bool, true, false, List, [], ◌∷◌, replicate}
 use mir.Syntax.{Ty, w8, ty_int, ty_array}
 use base.Fraction.{full_share}

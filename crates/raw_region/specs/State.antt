@@ -8,8 +8,8 @@ use Rattle.raw_region.specs.Span.{Span, covers, is_here}
 abbrev pub Name : Type 0
 Name = Ptr
 
--- a region: its bytes by offset, and the ranges that are lent. At a lent offset stands the byte that was there when it was
--- lent, and no call can read it
+-- a region: its bytes by offset, and the ranges that are lent. At a lent offset stands the byte that was there when it
+-- was lent, and no call can read it
 pub record State : Type 0 where
   pub name : Name
   pub bytes : List ℕ

@@ -8,7 +8,7 @@ use Rattle.std.proofs.lemmas.List.{length-map}
 use Rattle.std.proofs.lemmas.List.Quantifiers.{position-Some}
 use Rattle.std.proofs.lemmas.Option.{same_Some, slice_get-get_or}
 use Rattle.fork_bytes.specs.Fork.{max_rows}
-use Rattle.fork_reader.specs.declared.place.Place.{Place}
+use Rattle.fork_bytes.specs.declared.place.Place.{Place}
 use Rattle.res_table.specs.declared.row.Row.{Row}
 use Rattle.res_table.specs.declared.chain.ResourceTable.{ResourceTable}
 use Rattle.res_table.specs.declared.chain.OpenFile.{OpenFile}
@@ -17,7 +17,7 @@ use Rattle.res_table.specs.Names.{is_named}
 use Rattle.res_table.specs.AllFiles.{all_rows, ith_place}
 use Rattle.res_table.specs.Rows.{has_handle, is_of_type, is_resource, indexes_from, index_of_ith, count_of_type}
 use Rattle.res_table.specs.OpenFiles.{OpenFiles, is_numbered, is_open, table_in, table_of, place_in, earliest_place, latest_place, searched, place_of_resource, place_of_handle, place_here, place_of_name, name_here, row_at}
-use Rattle.res_calls.specs.Changes.{Files, FileRow, FileTable, rows_of, rows_in, current_rows}
+use Rattle.res_update.specs.Changes.{Files, FileRow, FileTable, rows_of, rows_in, current_rows}
 use Rattle.res_update.specs.Placed.{row_on}
 use Rattle.res_files.specs.FilesOn.{FilesOn}
 use Rattle.res_files.specs.Standing.{fork_at, files_on, StandsOn, AreApart, StandOn, placed_rows_of}

@@ -13,15 +13,15 @@ use Rattle.fork_bytes.specs.Laws.{IsGrouped}
 use Rattle.fork_bytes.specs.Rows as fork
 use Rattle.fork_bytes.specs.Written.{types_of, counted_before}
 use Rattle.fork_bytes.proofs.Grouped.{Apart, Distinct, counted, distinct_at, distinct_from}
-use Rattle.fork_reader.specs.declared.place.Place.{Place}
-use Rattle.fork_reader.specs.Reading.{PlacedRow, row_at}
+use Rattle.fork_bytes.specs.declared.place.Place.{Place}
+use Rattle.fork_bytes.specs.Reading.{PlacedRow, row_at}
 use Rattle.fork_rows.specs.Opening.{kinds_in, AreGrouped}
 use Rattle.fork_rows.proofs.Grouped.{same_types}
 use Rattle.res_table.specs.declared.row.Row.{Row}
 use Rattle.res_table.specs.declared.chain.ResourceTable.{ResourceTable}
 use Rattle.res_table.specs.Rows.{is_of_type, has_handle, with_handle, changed_at, removed_at, added, forgotten, opened_row}
 use Rattle.res_table.specs.Saved.{bare}
-use Rattle.res_calls.specs.Changes.{saved_table}
+use Rattle.res_update.specs.Changes.{saved_table}
 use Rattle.res_update.specs.declared.selection.Selection.{Selection}
 use Rattle.res_update.specs.Drafts.{is_selected, rows_with}
 use Rattle.res_update.specs.Placed.{table_on}

@@ -1,12 +1,12 @@
 -- Files with the same places: they differ in the bytes of their rows alone, and not in how many these are.
 use Rattle.std.proofs.Common.{◌≡◌, refl, sym, ap, ◌∙◌, ℕ, Bool, true, false, List, [], ◌∷◌, map, IsTrue}
 use Rattle.mac_base.specs.HandleTable.{zeros}
-use Rattle.fork_reader.specs.declared.place.Place.{Place}
+use Rattle.fork_bytes.specs.declared.place.Place.{Place}
 use Rattle.res_table.specs.declared.row.Row.{Row}
 use Rattle.res_table.specs.declared.chain.OpenFile.{OpenFile}
 use Rattle.res_table.specs.OpenFiles.{OpenFiles}
-use Rattle.res_calls.specs.Answered.{known_row, known_file, known_files}
-use Rattle.res_calls.specs.Changes.{Files, FileRow}
+use Rattle.res_update.specs.Answered.{known_row, known_file, known_files}
+use Rattle.res_update.specs.Changes.{Files, FileRow}
 use Rattle.res_update.specs.Placed.{row_on, rows_on}
 use Rattle.res_update.proofs.PlaceBytes.{length-on}
 use Rattle.res_files.specs.Standing.{fork_at, file_on, files_on}

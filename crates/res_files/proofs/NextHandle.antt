@@ -4,11 +4,11 @@ use Rattle.std.specs.Option.{option_map, option_map_or}
 use Rattle.std.proofs.lemmas.List.{length-map, length-drop, take_all}
 use Rattle.std.proofs.lemmas.List.Elements.{All-cons, All-nil, All-head, All-tail}
 use Rattle.std.proofs.lemmas.Option.{same_Some}
-use Rattle.fork_reader.specs.declared.place.Place.{Place}
+use Rattle.fork_bytes.specs.declared.place.Place.{Place}
 use Rattle.res_table.specs.declared.row.Row.{Row}
 use Rattle.res_table.specs.declared.chain.ResourceTable.{ResourceTable}
 use Rattle.res_table.specs.OpenFiles.{OpenFiles, table_of}
-use Rattle.res_calls.specs.Changes.{FileRow, FileTable, rows_of, rows_in}
+use Rattle.res_update.specs.Changes.{FileRow, FileTable, rows_of, rows_in}
 use Rattle.res_files.specs.FilesOn.{FilesOn}
 use Rattle.res_files.proofs.Mapped.{mapped_row, mapped_rows, mapped_table, table-mapped, drop-mapped, append-mapped}
 use Rattle.res_files.proofs.On.{seen, bytes_in, asked}

@@ -5,15 +5,15 @@ use Rattle.std.specs.Option.{option_map, option_map_or, option_and_then}
 use Rattle.std.proofs.lemmas.Bool.{leb-true}
 use Rattle.std.proofs.lemmas.List.{length-map}
 use Rattle.fork_bytes.specs.Fork.{max_rows}
-use Rattle.fork_reader.specs.declared.place.Place.{Place}
+use Rattle.fork_bytes.specs.declared.place.Place.{Place}
 use Rattle.res_table.specs.declared.row.Row.{Row}
 use Rattle.res_table.specs.declared.chain.ResourceTable.{ResourceTable}
 use Rattle.res_table.specs.declared.chain.RowPlace.{RowPlace}
 use Rattle.res_table.specs.Rows.{added, changed_at, ith, index_of_ith}
 use Rattle.res_table.specs.Saved.{bare, saved_row}
 use Rattle.res_table.specs.OpenFiles.{OpenFiles, is_open, row_at, rows_changed, table_of}
-use Rattle.res_calls.specs.Changes.{Files, FileRow, FileTable, row_changed, rows_of, current_rows, rows_in}
-use Rattle.res_calls.specs.Fitting.{rows_fit}
+use Rattle.res_update.specs.Changes.{Files, FileRow, FileTable, row_changed, rows_of, current_rows, rows_in}
+use Rattle.res_update.specs.Fitting.{rows_fit}
 use Rattle.res_update.specs.Placed.{bytes_on, row_on}
 use Rattle.res_update.proofs.PlaceBytes.{length-on}
 use Rattle.res_files.specs.FilesOn.{FilesOn, Shows}

@@ -9,15 +9,15 @@ use Rattle.mac_base.specs.declared.error.OsErr.{OsErr}
 use Rattle.mac_base.specs.declared.error.OsErr.TheVariants.{IoErr}
 use Rattle.fork_disk.specs.declared.store.ForkStore.{Ghosts}
 use Rattle.fork_disk.specs.Disk.{Rose}
-use Rattle.fork_reader.specs.declared.place.Place.{Place}
+use Rattle.fork_bytes.specs.declared.place.Place.{Place}
 use Rattle.fork_rows.specs.declared.fault.OpenFault.{OpenFault}
 use Rattle.fork_rows.specs.Opening.{CountsFault}
 use Rattle.res_table.specs.declared.chain.ResourceTable.{ResourceTable}
 use Rattle.res_table.specs.declared.chain.OpenFile.{OpenFile}
 use Rattle.res_table.specs.OpenFiles.{OpenFiles, is_open, file_opened}
-use Rattle.res_calls.specs.Answered.{IsOpening}
-use Rattle.res_calls.specs.Changes.{Files, FileTable}
-use Rattle.res_calls.specs.Device.{Reads}
+use Rattle.res_update.specs.Answered.{IsOpening}
+use Rattle.res_update.specs.Changes.{Files, FileTable}
+use Rattle.res_update.specs.Device.{Reads}
 use Rattle.res_update.specs.Placed.{table_on, AreInside, Holds}
 use Rattle.res_files.specs.FilesOn.{FilesOn, FailedAt, HonestAt, NoneFailed, fork_of}
 use Rattle.res_files.specs.Opening.{RefusesFile, MayRead, code_of}

@@ -4,10 +4,10 @@ use Rattle.std.specs.Prelude.{IsFalse}
 use Rattle.std.specs.List.{list_any, AllByRecursion}
 use Rattle.std.proofs.lemmas.Bool.{eq-eqb}
 use Rattle.std.proofs.lemmas.List.{length-set}
-use Rattle.fork_reader.specs.declared.place.Place.{Place}
+use Rattle.fork_bytes.specs.declared.place.Place.{Place}
 use Rattle.res_table.specs.declared.chain.OpenFile.{OpenFile}
 use Rattle.res_table.specs.OpenFiles.{OpenFiles, is_numbered, is_open}
-use Rattle.res_calls.specs.Changes.{Files}
+use Rattle.res_update.specs.Changes.{Files}
 use Rattle.res_update.specs.Placed.{Holds}
 use Rattle.res_files.specs.FilesOn.{FilesOn}
 use Rattle.res_files.specs.Standing.{files_on, StandsOn, StandOn, most_files}

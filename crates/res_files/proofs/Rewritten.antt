@@ -16,15 +16,15 @@ use Rattle.fork_disk.specs.Crash.{AlwaysFinds, FoundBeforeOr}
 use Rattle.fork_disk.specs.Disk.{Rose}
 use Rattle.fork_disk.specs.declared.store.ReplaceFault.{ReplaceFault}
 use Rattle.fork_disk.specs.declared.store.ReplaceFault.TheVariants.{BeforeFirstWrite, Later}
-use Rattle.fork_reader.specs.declared.place.Place.{Place}
+use Rattle.fork_bytes.specs.declared.place.Place.{Place}
 use Rattle.res_table.specs.declared.row.Row.{Row}
 use Rattle.res_table.specs.declared.chain.ResourceTable.{ResourceTable}
 use Rattle.res_table.specs.declared.chain.OpenFile.{OpenFile}
 use Rattle.res_table.specs.Rows.{is_changed}
 use Rattle.res_table.specs.OpenFiles.{OpenFiles, is_open, table_of, rows_changed, without, last_number, is_current, file_closed}
-use Rattle.res_calls.specs.Answered.{AnswersFor, known_files}
-use Rattle.res_calls.specs.Changes.{Files, FileRow, FileTable, rows_of, rows_in, saved_table}
-use Rattle.res_calls.specs.Tests.{is_lent_row}
+use Rattle.res_update.specs.Answered.{AnswersFor, known_files}
+use Rattle.res_update.specs.Changes.{Files, FileRow, FileTable, rows_of, rows_in, saved_table}
+use Rattle.res_update.specs.Tests.{is_lent_row}
 use Rattle.res_update.specs.declared.fault.UpdateFault.{UpdateFault}
 use Rattle.res_update.specs.declared.fault.UpdateFault.TheVariants.{TooBig, HostFull, Device}
 use Rattle.res_update.specs.declared.selection.Selection.{Selection}

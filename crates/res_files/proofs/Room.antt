@@ -10,7 +10,7 @@ use Rattle.std.proofs.lemmas.List.Sums.{sum_by-cons, sum_by-insert}
 use Rattle.std.proofs.lemmas.List.{length-map, length-drop, take_all, append-nil}
 use Rattle.fork_bytes.specs.Fork.{max_rows}
 use Rattle.fork_bytes.specs.Written.{counted_before, name_text, names_offset}
-use Rattle.fork_reader.specs.declared.place.Place.{Place}
+use Rattle.fork_bytes.specs.declared.place.Place.{Place}
 use Rattle.mac_base.specs.declared.resource.Resource.{Resource}
 use Rattle.res_table.specs.declared.row.Row.{Row}
 use Rattle.res_table.specs.Rows.{is_of_type, added, name_size, names_size, ith, indexes_from, index_of_ith, count_of_type}
@@ -18,7 +18,7 @@ use Rattle.res_table.specs.Behind.{end_of_type}
 use Rattle.res_table.specs.Saved.{bare, saved_row, row_types}
 use Rattle.res_table.proofs.Adding.{up_to_last, last-is, insert-at-end}
 use Rattle.res_table.proofs.Types.{first_kind, one_before}
-use Rattle.res_calls.specs.Fitting.{rows_fit, names_fit}
+use Rattle.res_update.specs.Fitting.{rows_fit, names_fit}
 use Rattle.res_files.proofs.Mapped.{mapped_row, mapped_rows, bare-mapped, added-mapped}
 use Rattle.res_files.proofs.Stands.{long_added}
 

@@ -5,11 +5,11 @@ use Rattle.std.proofs.lemmas.List.{drop-drop, drop-take, take-take}
 use Rattle.std.proofs.Math.Seq.{take-length}
 use Rattle.std.proofs.lemmas.Option.{IfSome_then, slice_get-map, slice_get_read}
 use Rattle.fork_bytes.specs.Fork.{bytes_at}
-use Rattle.fork_reader.specs.declared.place.Place.{Place}
+use Rattle.fork_bytes.specs.declared.place.Place.{Place}
 use Rattle.res_table.specs.declared.row.Row.{Row}
 use Rattle.res_table.specs.declared.chain.RowPlace.{RowPlace}
 use Rattle.res_table.specs.OpenFiles.{OpenFiles, row_at}
-use Rattle.res_calls.specs.Changes.{FileRow}
+use Rattle.res_update.specs.Changes.{FileRow}
 use Rattle.res_update.specs.Placed.{bytes_on, row_on, IsInside}
 use Rattle.res_update.proofs.PlaceBytes.{on-inside}
 use Rattle.res_files.specs.FilesOn.{FilesOn}

@@ -15,8 +15,8 @@ use Rattle.fork_disk.specs.Stores.{OnlyReads}
 use Rattle.fork_bytes.specs.Fork.{max_rows, StandsFor}
 use Rattle.fork_bytes.specs.Rows as fork
 use Rattle.fork_bytes.specs.declared.fault.ForkFault.TheVariants as bytes
-use Rattle.fork_reader.specs.declared.place.Place.{Place}
-use Rattle.fork_reader.specs.Reading.{PlacedRow, row_at, IsWithin}
+use Rattle.fork_bytes.specs.declared.place.Place.{Place}
+use Rattle.fork_bytes.specs.Reading.{PlacedRow, row_at, IsWithin}
 use Rattle.fork_rows.specs.declared.fault.OpenFault.{OpenFault}
 use Rattle.fork_rows.specs.declared.fault.OpenFault.TheVariants.{Fork, Device}
 use Rattle.fork_rows.specs.declared.table.PlacedTable.{PlacedTable}
@@ -24,10 +24,10 @@ use Rattle.fork_rows.specs.Opening.{FitsInFork, AreGrouped, filled, RefusesToOpe
 use Rattle.res_table.specs.declared.chain.ResourceTable.{ResourceTable}
 use Rattle.res_table.specs.declared.row.Row.{Row}
 use Rattle.res_table.specs.Rows.{opened_row}
-use Rattle.res_calls.specs.Answered.{IsOpening}
-use Rattle.res_calls.specs.Changes.{FileRow, FileTable}
-use Rattle.res_calls.specs.Device.{Reads}
-use Rattle.res_calls.specs.Device as device
+use Rattle.res_update.specs.Answered.{IsOpening}
+use Rattle.res_update.specs.Changes.{FileRow, FileTable}
+use Rattle.res_update.specs.Device.{Reads}
+use Rattle.res_update.specs.Device as device
 use Rattle.res_update.specs.Placed.{bytes_on, row_on, rows_on, table_on, AreInside, IsInside, IsNear}
 use Rattle.res_update.proofs.PlaceBytes.{on-inside}
 use Rattle.res_files.specs.Opening.{RefusesFile, code_of}

@@ -4,11 +4,11 @@ use Rattle.std.specs.Prelude.{if◌then◌else◌}
 use Rattle.std.specs.Option.{option_map_or}
 use Rattle.std.proofs.lemmas.Bool.{ne_eqb, eq-eqb}
 use Rattle.mac_base.specs.HandleTable.{HandleTable}
-use Rattle.fork_reader.specs.declared.place.Place.{Place}
+use Rattle.fork_bytes.specs.declared.place.Place.{Place}
 use Rattle.res_table.specs.declared.row.Row.{Row}
 use Rattle.res_table.specs.Rows.{is_changed, changed_at}
-use Rattle.res_calls.specs.Changes.{FileRow}
-use Rattle.res_calls.specs.Updates.{updated_row, updated_if_changed}
+use Rattle.res_update.specs.Changes.{FileRow}
+use Rattle.res_update.specs.Updates.{updated_row, updated_if_changed}
 use Rattle.res_update.specs.declared.selection.Selection.TheVariants.{AllChanged, RowAt}
 use Rattle.res_update.specs.Placed.{bytes_on, row_on, rows_on}
 use Rattle.res_files.specs.Updating.{row_placed, rows_placed}

@@ -4,9 +4,9 @@ use Rattle.std.specs.Option.{option_map_or}
 use Rattle.std.proofs.lemmas.Option.{slice_get-map}
 use Rattle.std.proofs.Math.Seq.{map-set_same}
 use Rattle.fork_disk.specs.Disk.{Rose}
-use Rattle.fork_reader.specs.declared.place.Place.{Place}
+use Rattle.fork_bytes.specs.declared.place.Place.{Place}
 use Rattle.res_table.specs.OpenFiles.{OpenFiles}
-use Rattle.res_calls.specs.Answered.{AnswersFor, known_files}
+use Rattle.res_update.specs.Answered.{AnswersFor, known_files}
 use Rattle.res_files.specs.FilesOn.{FilesOn, HonestAt, NoneFailed, failures_at}
 use Rattle.res_files.specs.Standing.{fork_at, files_on, StandOn}
 use Rattle.res_files.proofs.Known.{same_known}

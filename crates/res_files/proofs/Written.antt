@@ -5,12 +5,12 @@ use Rattle.std.specs.List.{list_any, AllByRecursion}
 use Rattle.std.specs.Option.{option_map}
 use Rattle.std.proofs.lemmas.Bool.{eqb-true, eqb-false}
 use Rattle.std.proofs.lemmas.List.{length-set}
-use Rattle.fork_reader.specs.declared.place.Place.{Place}
+use Rattle.fork_bytes.specs.declared.place.Place.{Place}
 use Rattle.res_table.specs.declared.row.Row.{Row}
 use Rattle.res_table.specs.declared.chain.ResourceTable.{ResourceTable}
 use Rattle.res_table.specs.declared.chain.OpenFile.{OpenFile}
 use Rattle.res_table.specs.OpenFiles.{is_numbered, table_in, with_rows, changed_file, without}
-use Rattle.res_calls.specs.Changes.{FileRow}
+use Rattle.res_update.specs.Changes.{FileRow}
 use Rattle.res_update.specs.Placed.{rows_on, Holds}
 use Rattle.res_files.specs.Standing.{fork_at, file_on, AreSmall, StandsOn, AreApart}
 use Rattle.res_files.proofs.Stores.{get_other, new_set}

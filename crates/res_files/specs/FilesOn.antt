@@ -2,11 +2,12 @@
 use Rattle.std.specs.Prelude.{◌≡◌, ℕ, ◌-◌, ◌<◌, Bool, List, [], length, map, slice_get, IfSome}
 use Rattle.std.specs.Option.{option_map_or}
 use Rattle.fork_disk.specs.Disk.{Rose}
-use Rattle.fork_reader.specs.declared.place.Place.{Place}
+use Rattle.fork_bytes.specs.declared.place.Place.{Place}
 use Rattle.res_table.specs.declared.row.Row.{Row}
-use Rattle.res_calls.specs.Changes.{Files, FileRow}
+use Rattle.res_update.specs.Changes.{Files, FileRow}
 
--- the open files with the bytes that their rows have on the disk, whether calls load what they get, and the stores in the order of numbers
+-- the open files with the bytes that their rows have on the disk, whether calls load what they get, and the stores in
+-- the order of numbers
 pub record FilesOn (S : Type 0) : Type 0 where
   pub files : Files
   pub loads : Bool

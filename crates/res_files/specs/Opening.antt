@@ -6,9 +6,9 @@ use Rattle.mac_base.specs.declared.error.OsErr.TheVariants.{EofErr, MapReadErr, 
 use Rattle.fork_bytes.specs.declared.fault.ForkFault.TheVariants as fork
 use Rattle.fork_rows.specs.declared.fault.OpenFault.{OpenFault}
 use Rattle.fork_rows.specs.declared.fault.OpenFault.TheVariants.{Fork, Device}
-use Rattle.res_calls.specs.Answered.{IsOpening}
-use Rattle.res_calls.specs.Changes.{FileTable}
-use Rattle.res_calls.specs.Device.{Reads}
+use Rattle.res_update.specs.Answered.{IsOpening}
+use Rattle.res_update.specs.Changes.{FileTable}
+use Rattle.res_update.specs.Device.{Reads}
 
 -- what a fault says of the bytes of a file that is to be opened
 abbrev pub RefusesFile : List ℕ → OpenFault → Type 0

@@ -4,13 +4,13 @@ use Rattle.std.specs.List.{list_any, AllByRecursion}
 use Rattle.std.specs.Option.{option_map_or}
 use Rattle.fork_bytes.specs.Fork.{max_rows}
 use Rattle.fork_bytes.specs.Laws.{IsGrouped}
-use Rattle.fork_reader.specs.declared.place.Place.{Place}
+use Rattle.fork_bytes.specs.declared.place.Place.{Place}
 use Rattle.res_table.specs.declared.row.Row.{Row}
 use Rattle.res_table.specs.declared.chain.ResourceTable.{ResourceTable}
 use Rattle.res_table.specs.declared.chain.OpenFile.{OpenFile}
 use Rattle.res_table.specs.OpenFiles.{OpenFiles, is_numbered, is_open, table_of}
 use Rattle.res_table.specs.Saved.{bare}
-use Rattle.res_calls.specs.Changes.{Files}
+use Rattle.res_update.specs.Changes.{Files}
 use Rattle.res_update.specs.Placed.{table_on, AreNear, Holds}
 
 -- the fork of a number, where these are the forks in the order of numbers

@@ -1,4 +1,5 @@
--- What a call does to the stores of the resource files, of each store whose device is honest after it. It was so before.
+-- What a call does to the stores of the resource files, of each store whose device is honest after it. It was so
+-- before.
 use Rattle.std.specs.Prelude.{◌≡◌, ℕ, List, Result, ⊤, IfOk, IfErr, OnOk, IfSome, IsErrOf, Ok}
 use Rattle.mac_base.specs.declared.error.HostFull.{HostFull}
 use Rattle.mac_base.specs.declared.error.OsErr.{OsErr}
@@ -7,12 +8,12 @@ use Rattle.fork_bytes.specs.Written.{written}
 use Rattle.fork_disk.specs.declared.store.ForkStore.{Ghosts}
 use Rattle.fork_disk.specs.declared.store.ReplaceFault.TheVariants.{BeforeFirstWrite, Later}
 use Rattle.fork_disk.specs.Crash.{AlwaysFinds, Finds, FoundBeforeOr}
-use Rattle.fork_reader.specs.declared.place.Place.{Place}
+use Rattle.fork_bytes.specs.declared.place.Place.{Place}
 use Rattle.fork_rows.specs.declared.fault.OpenFault.{OpenFault}
 use Rattle.res_table.specs.declared.chain.ResourceTable.{ResourceTable}
 use Rattle.res_table.specs.OpenFiles.{table_of}
-use Rattle.res_calls.specs.Changes.{Files, FileTable, saved_table}
-use Rattle.res_calls.specs.Device.{Reads}
+use Rattle.res_update.specs.Changes.{Files, FileTable, saved_table}
+use Rattle.res_update.specs.Device.{Reads}
 use Rattle.res_update.specs.declared.fault.UpdateFault.{UpdateFault}
 use Rattle.res_update.specs.declared.fault.UpdateFault.TheVariants.{Device}
 use Rattle.res_update.specs.Placed.{table_on, AreInside}
@@ -20,7 +21,8 @@ use Rattle.res_files.specs.Crash.{history_of}
 use Rattle.res_files.specs.FilesOn.{HonestAt, fork_of}
 use Rattle.res_files.specs.Opening.{RefusesFile}
 
--- The table of a fork is read once its store was made ready. The fork is the same, and a start finds what it might have found before.
+-- The table of a fork is read once its store was made ready. The fork is the same, and a start finds what it might have
+-- found before.
 pub record ReadsTable {S : Type 0} (store : Ghosts S) (old new : S) (result : Result (ResourceTable Place) OpenFault) : Type 0 where
   pub honest : store.is_honest old
   pub same : store.fork new ≡ store.fork old
@@ -31,7 +33,8 @@ pub record ReadsTable {S : Type 0} (store : Ghosts S) (old new : S) (result : Re
   pub inside : IfOk result (λ table. AreInside (store.fork old) table.rows)
   pub refuses : IfErr result (RefusesFile (store.fork old))
 
--- The store of the file of a number is read at most: its device was honest, the fork is the same, and nothing happened to the device.
+-- The store of the file of a number is read at most: its device was honest, the fork is the same, and nothing happened
+-- to the device.
 pub record KeepsStore {S : Type 0} (store : Ghosts S) (number : ℕ) (old new : List S) : Type 0 where
   pub honest : HonestAt store.is_honest old number
   pub fork : fork_of store.fork number new ≡ fork_of store.fork number old
@@ -45,16 +48,16 @@ KeepsStores store old new = (k : ℕ) → HonestAt store.is_honest new k → Kee
 abbrev pub FindsAsRead : {S : Type 0} → Ghosts S → ℕ → List S → Type 0
 FindsAsRead store number stores = store.has_journal → Finds store.may_find (λ found. found ≡ fork_of store.fork number stores) (history_of store.history number stores)
 
--- The file of a number is opened, or can't be, where its device is honest. Whenever a crash comes, a start finds a fork that it might have
--- found before.
+-- The file of a number is opened, or can't be, where its device is honest. Whenever a crash comes, a start finds a fork
+-- that it might have found before.
 pub record OpensStore {S : Type 0} (store : Ghosts S) (number : ℕ) (old new : List S) (result : Result (Result ⊤ OsErr) HostFull) : Type 0 where
   pub honest : HonestAt store.is_honest old number
   pub fork : fork_of store.fork number new ≡ fork_of store.fork number old
   pub any_moment : AlwaysFinds store.may_find (store.may_find (history_of store.history number old)) (history_of store.history number old) (history_of store.history number new)
   pub settled : IfOk result (λ done. OnOk done (FindsAsRead store number new))
 
--- The file of a number is written as the table that this makes of its own, and is read as it, where its device is honest. Whenever a crash
--- comes, a start finds a fork that it might have found before, or the new one.
+-- The file of a number is written as the table that this makes of its own, and is read as it, where its device is
+-- honest. Whenever a crash comes, a start finds a fork that it might have found before, or the new one.
 pub record UpdatesStore {S T : Type 0} (store : Ghosts S) (number : ℕ) (updated : FileTable → FileTable) (files : Files) (old new : List S) (result : Result T UpdateFault) : Type 0 where
   pub honest : HonestAt store.is_honest old number
   pub replaced : OnOk result (IfSome (table_of number files) (λ table. fork_of store.fork number new ≡ written (saved_table (updated table))))

@@ -1,6 +1,6 @@
 -- The rows of a file that was written anew.
 use Rattle.std.specs.Prelude.{ℕ, ◌+◌, Bool, List, [], ◌∷◌, if◌then◌else◌}
-use Rattle.fork_reader.specs.declared.place.Place.{Place}
+use Rattle.fork_bytes.specs.declared.place.Place.{Place}
 use Rattle.res_table.specs.declared.row.Row.{Row}
 use Rattle.res_table.specs.Attributes.{unmarked}
 use Rattle.res_table.specs.Rows.{with_attributes, with_datum}

@@ -4,13 +4,13 @@ ghost use Rattle.std.specs.Prelude.{◌≡◌, IsTrue, IsSome, OnOk, OnErr};
 ghost use Rattle.res_table.specs.OpenFiles.{is_open, row_at, rows_changed, handle_forgotten, file_used, file_closed};
 ghost use Rattle.res_table.specs.Rows.{removed_at, added, with_handle, with_attributes};
 ghost use Rattle.res_table.specs.Saved.{bare};
-ghost use Rattle.res_calls.specs.Changes.{rows_of, row_changed};
-ghost use Rattle.res_calls.specs.Fitting.{rows_fit};
-ghost use Rattle.res_calls.specs.Updates.{new_row};
+ghost use Rattle.res_update.specs.Changes.{rows_of, row_changed};
+ghost use Rattle.res_update.specs.Fitting.{rows_fit};
+ghost use Rattle.res_update.specs.Updates.{new_row};
 
 use crate::files::ResourceFiles;
+use fork_bytes::place::Place;
 use fork_disk::store::ForkStore;
-use fork_reader::place::Place;
 use mac_base::error::HostFull;
 use mac_base::handle::Handle;
 use mac_base::name::Name;
@@ -49,8 +49,8 @@ impl<S: ForkStore> ResourceFiles<S> {
         self.chain.remove(place);
     }
 
-    /// Adds a row to the file of a number, which is open: changed, without bytes on the disk, and with this handle. Without host
-    /// memory nothing is changed.
+    /// Adds a row to the file of a number, which is open: changed, without bytes on the disk, and with this handle.
+    /// Without host memory nothing is changed.
     pub fn add(
         &mut self,
         number: u8,

@@ -3,7 +3,7 @@
 ghost use Rattle.std.specs.Prelude.{◌≡◌, [], IfSome, IfNone};
 ghost use Rattle.res_files.specs.Standing.{placed_rows};
 
-use fork_reader::place::Place;
+use fork_bytes::place::Place;
 use res_table::chain::Chain;
 use res_table::rows::Rows;
 

@@ -4,8 +4,8 @@ ghost use Rattle.std.specs.Prelude.{◌≡◌, ℕ, ◌≤◌, length, true, IsT
 ghost use Rattle.res_table.specs.OpenFiles.{no_files, is_open};
 ghost use Rattle.res_files.specs.Standing.{most_files};
 
+use fork_bytes::place::Place;
 use fork_disk::store::ForkStore;
-use fork_reader::place::Place;
 use res_table::chain::Chain;
 use std::alloc::Global;
 use std::marker::Model;
@@ -13,8 +13,8 @@ use std::marker::Model;
 /// There are at most this many resource files, open or not: their numbers are a `u8`, from 1 on.
 pub const MOST_FILES: usize = 255;
 
-/// The resource files of a run: a store for each, and the open ones. Contracts see the open files with the bytes that their
-/// resources have on the disk, whether calls load what they get, and the stores.
+/// The resource files of a run: a store for each, and the open ones. Contracts see the open files with the bytes that
+/// their resources have on the disk, whether calls load what they get, and the stores.
 pub struct ResourceFiles<S: ForkStore> {
     pub(crate) alloc: Global,
     pub(crate) chain: Chain<Place>,

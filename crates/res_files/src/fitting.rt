@@ -4,20 +4,20 @@ ghost use Rattle.std.specs.Prelude.{◌≡◌, ◌+◌, ◌-◌, ◌≤◌, ◌�
 ghost use Rattle.std.specs.Option.{option_copied, option_map_or};
 ghost use Rattle.fork_bytes.specs.Fork.{max_rows};
 ghost use Rattle.fork_bytes.specs.Written.{name_text};
-ghost use Rattle.fork_reader.specs.declared.place.Place.{Place};
+ghost use Rattle.fork_bytes.specs.declared.place.Place.{Place};
 ghost use Rattle.mac_base.specs.declared.resource.Resource.{Resource};
 ghost use Rattle.res_table.specs.declared.row.Row.{Row};
 ghost use Rattle.res_table.specs.Behind.{end_of_type};
 ghost use Rattle.res_table.specs.Rows.{added, names_size};
 ghost use Rattle.res_table.specs.Saved.{bare, row_types};
-ghost use Rattle.res_calls.specs.Changes.{FileRow, current_rows};
-ghost use Rattle.res_calls.specs.Fitting.{rows_fit, names_fit};
+ghost use Rattle.res_update.specs.Changes.{FileRow, current_rows};
+ghost use Rattle.res_update.specs.Fitting.{rows_fit, names_fit};
 
 use crate::current::current_rows;
 use crate::files::ResourceFiles;
 use fork_bytes::layout::MAX_ROWS;
+use fork_bytes::place::Place;
 use fork_disk::store::ForkStore;
-use fork_reader::place::Place;
 use mac_base::resource::ResType;
 use res_table::row::Row;
 use res_table::rows::Rows;
@@ -77,7 +77,8 @@ fn behind(start: usize, name: Option<&[u8]>) -> Option<usize>
     Some(start + 1 + name.len())
 }
 
-/// The offset behind the names of the rows between two indexes, where the first is to stand at this one, if two bytes hold each.
+/// The offset behind the names of the rows between two indexes, where the first is to stand at this one, if two bytes
+/// hold each.
 fn names_end(rows: &Rows<Place>, from: usize, to: usize, start: usize) -> Option<usize>
     requires order { from ≤ to }
     requires within { to ≤ length rows.now }

@@ -2,11 +2,11 @@
 
 ghost use Rattle.std.specs.Prelude.{◌≡◌, ◌+◌, ◌≤◌, ◌++◌, ◌∷◌, true, List, length, drop, All, IfSome, IfNone, Some, None};
 ghost use Rattle.res_table.specs.declared.row.Row.{Row};
-ghost use Rattle.fork_reader.specs.declared.place.Place.{Place};
+ghost use Rattle.fork_bytes.specs.declared.place.Place.{Place};
 ghost use Rattle.std.specs.List.{list_any};
 ghost use Rattle.res_files.specs.Handles.{counts_among, is_among};
 
-use fork_reader::place::Place;
+use fork_bytes::place::Place;
 use mac_base::handle::Handle;
 use res_table::rows::Rows;
 
@@ -51,8 +51,8 @@ fn has_changed_row(rows: &Rows<Place>, handles: &[u32]) -> bool
     false
 }
 
-/// Whether there is a row that counts and has one of these handles: each counts, or just a changed one. The rows of a handle are found
-/// without going through the others.
+/// Whether there is a row that counts and has one of these handles: each counts, or just a changed one. The rows of a
+/// handle are found without going through the others.
 pub(crate) fn has_row_among(rows: &Rows<Place>, handles: &[u32], just_changed: bool) -> bool
     ensures { result ≡ list_any (counts_among just_changed handles.now) rows.now }
 {

@@ -3,7 +3,7 @@
 ghost use Rattle.std.specs.Prelude.{◌≡◌, IsSome, OnOk, OnErr};
 ghost use Rattle.res_table.specs.Info.{with_info};
 ghost use Rattle.res_table.specs.OpenFiles.{row_at};
-ghost use Rattle.res_calls.specs.Changes.{row_changed};
+ghost use Rattle.res_update.specs.Changes.{row_changed};
 
 use crate::files::ResourceFiles;
 use fork_disk::store::ForkStore;

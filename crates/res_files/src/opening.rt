@@ -2,7 +2,7 @@
 
 ghost use Rattle.std.specs.Prelude.{◌≡◌, ◌≤◌, ◌⊎◌, length, IsFalse, IfOk, IfErr, OnOk, OnErr, Ok, Err};
 ghost use Rattle.res_table.specs.OpenFiles.{is_open, file_opened};
-ghost use Rattle.res_calls.specs.Changes.{FileTable};
+ghost use Rattle.res_update.specs.Changes.{FileTable};
 ghost use Rattle.res_files.specs.FilesOn.{fork_of, FailedAt, HonestAt, NoneFailed};
 ghost use Rattle.res_files.specs.Crash.{OthersStay};
 ghost use Rattle.res_files.specs.Opening.{MayRead};
@@ -14,9 +14,9 @@ use fork_disk::store::ForkStore;
 use mac_base::error::{HostFull, OsErr};
 
 impl<S: ForkStore> ResourceFiles<S> {
-    /// Opens the file of a number, which isn't open, behind the others, and makes it the current one. Without bytes it has no resources.
-    /// The code is eofErr where there are fewer than 16, mapReadErr where they are no fork, and ioErr where the device failed; then, and
-    /// without host memory, no file is opened.
+    /// Opens the file of a number, which isn't open, behind the others, and makes it the current one. Without bytes it
+    /// has no resources. The code is eofErr where there are fewer than 16, mapReadErr where they are no fork, and ioErr
+    /// where the device failed; then, and without host memory, no file is opened.
     pub fn open(&mut self, number: u8) -> Result<Result<(), OsErr>, HostFull>
         requires there { (1 ≤ number) × (number ≤ length self.old.stores) }
         requires closed { IsFalse (is_open number self.old.files) }

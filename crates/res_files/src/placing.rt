@@ -8,7 +8,7 @@ ghost use Rattle.res_update.specs.Drafts.{is_selected};
 ghost use Rattle.res_files.specs.Standing.{placed_rows_of};
 ghost use Rattle.res_files.specs.Updating.{row_placed, rows_placed};
 
-use fork_reader::place::Place;
+use fork_bytes::place::Place;
 use mac_base::resource::ResAttrs;
 use res_table::attributes::unmarked;
 use res_table::chain::{Chain, RowPlace};
@@ -30,7 +30,8 @@ fn saved_attributes(selection: Selection, index: usize, row: &Row<Place>) -> Res
     }
 }
 
-/// Gives the row at a place of the chain, if there is one, its place in the new fork. If it was selected, it is no longer changed.
+/// Gives the row at a place of the chain, if there is one, its place in the new fork. If it was selected, it is no
+/// longer changed.
 fn place_row(chain: &mut Chain<Place>, at: RowPlace, selection: Selection, place: Place)
     ensures { chain.new ≡ rows_changed at.file (changed_at at.index (λ row. row_placed (is_selected selection at.index row) place row)) chain.old }
 {

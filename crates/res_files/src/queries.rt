@@ -5,8 +5,8 @@ ghost use Rattle.std.specs.Option.{option_and_then, IsSomeAnd};
 ghost use Rattle.fork_bytes.specs.Fork.{max_rows};
 ghost use Rattle.res_table.specs.OpenFiles.{is_open, place_of_resource, place_here, place_of_handle, place_of_name, name_here, row_at};
 ghost use Rattle.res_table.specs.Rows.{count_of_type, unique_id, ith, index_of_ith};
-ghost use Rattle.res_calls.specs.Changes.{FileRow, current_rows, rows_of};
-ghost use Rattle.res_calls.specs.Files.{current_types};
+ghost use Rattle.res_update.specs.Changes.{FileRow, current_rows, rows_of};
+ghost use Rattle.res_update.specs.Files.{current_types};
 ghost use Rattle.res_files.specs.FilesOn.{Shows};
 ghost use Rattle.res_files.specs.Handles.{counts_among};
 ghost use Rattle.std.specs.List.{list_any};
@@ -14,8 +14,8 @@ ghost use Rattle.std.specs.List.{list_any};
 use crate::current::current_rows;
 use crate::files::ResourceFiles;
 use crate::handles::{has_row_among, next_handle};
+use fork_bytes::place::Place;
 use fork_disk::store::ForkStore;
-use fork_reader::place::Place;
 use mac_base::handle::Handle;
 use mac_base::resource::ResType;
 use res_table::chain::RowPlace;
@@ -40,7 +40,8 @@ impl<S: ForkStore> ResourceFiles<S> {
         self.chain.is_open(number)
     }
 
-    /// Where the resource of a type and an id stands: in the current file, or else in the latest before it that has one.
+    /// Where the resource of a type and an id stands: in the current file, or else in the latest before it that has
+    /// one.
     pub fn find(&self, kind: ResType, id: i16) -> Option<RowPlace>
         ensures value { result ≡ place_of_resource kind id self.now.files }
         ensures there { IfSome result (λ place. IsSome (row_at place self.now.files)) }
@@ -56,7 +57,8 @@ impl<S: ForkStore> ResourceFiles<S> {
         self.chain.find_here(kind, id)
     }
 
-    /// Where the first row of a type and a name stands: in the current file, or else in the latest before it that has one.
+    /// Where the first row of a type and a name stands: in the current file, or else in the latest before it that has
+    /// one.
     pub fn find_named(&self, kind: ResType, name: &[u8]) -> Option<RowPlace>
         ensures value { result ≡ place_of_name kind name.now self.now.files }
         ensures there { IfSome result (λ place. IsSome (row_at place self.now.files)) }
@@ -159,7 +161,8 @@ impl<S: ForkStore> ResourceFiles<S> {
         }
     }
 
-    /// Whether there is a row of the file of a number that has one of these handles; where just the changed rows count, one of them.
+    /// Whether there is a row of the file of a number that has one of these handles; where just the changed rows count,
+    /// one of them.
     pub fn has_row_among(&self, number: u8, handles: &[u32], just_changed: bool) -> bool
         ensures { result ≡ list_any (counts_among just_changed handles.now) (rows_of number self.now.files) }
     {

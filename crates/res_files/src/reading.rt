@@ -3,7 +3,7 @@
 ghost use Rattle.std.specs.Prelude.{◌≡◌, ◌+◌, ◌<◌, ◌≤◌, length, IfSome, MatchResult, OnErr, OnOk};
 ghost use Rattle.fork_disk.specs.Disk.{bytes_at};
 ghost use Rattle.res_table.specs.OpenFiles.{row_at};
-ghost use Rattle.res_calls.specs.Answered.{AnswersFor};
+ghost use Rattle.res_update.specs.Answered.{AnswersFor};
 ghost use Rattle.res_files.specs.FilesOn.{FailedAt, HonestAt, NoneFailed};
 ghost use Rattle.res_files.specs.Stores.{KeepsStores};
 
@@ -13,8 +13,8 @@ use fork_disk::store::ForkStore;
 use res_table::chain::RowPlace;
 
 impl<S: ForkStore> ResourceFiles<S> {
-    /// Reads the bytes that the row at a place has on the disk: none are read where it has none. After a fault the buffer holds any
-    /// bytes.
+    /// Reads the bytes that the row at a place has on the disk: none are read where it has none. After a fault the
+    /// buffer holds any bytes.
     pub fn read(&mut self, place: RowPlace, buffer: &mut [u8]) -> Result<(), DiskFault>
         requires long { IfSome (row_at place self.old.files) (λ r. length buffer.old ≡ length r.resource.datum) }
         ensures reads { HonestAt S.is_honest self.new.stores place.file → OnOk result (IfSome (row_at place self.old.files) (λ r. buffer.new ≡ r.resource.datum)) }
@@ -29,8 +29,8 @@ impl<S: ForkStore> ResourceFiles<S> {
         self.read_part(place, 0, buffer)
     }
 
-    /// Reads as many bytes as the buffer holds of those that the row at a place has on the disk, from an offset on: none are read into
-    /// an empty buffer. After a fault the buffer holds any bytes.
+    /// Reads as many bytes as the buffer holds of those that the row at a place has on the disk, from an offset on:
+    /// none are read into an empty buffer. After a fault the buffer holds any bytes.
     pub fn read_part(
         &mut self,
         place: RowPlace,

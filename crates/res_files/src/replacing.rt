@@ -16,7 +16,8 @@ impl<S: ForkStore> ResourceFiles<S> {
         &self.stores[number as usize - 1]
     }
 
-    /// Puts another store in the place of that of the file of a number, which isn't open, and hands out the one that was there.
+    /// Puts another store in the place of that of the file of a number, which isn't open, and hands out the one that
+    /// was there.
     pub fn replace_store(&mut self, number: u8, store: S) -> S
         requires there { (1 ≤ number) × (number ≤ length self.old.stores) }
         requires closed { IsFalse (is_open number self.old.files) }

@@ -2,15 +2,15 @@
 
 ghost use Rattle.std.specs.Prelude.{◌≡◌, ℕ, List, IfOk, Ok};
 ghost use Rattle.fork_rows.specs.Opening.{CountsDevice};
-ghost use Rattle.res_calls.specs.Answered.{IsOpening};
+ghost use Rattle.res_update.specs.Answered.{IsOpening};
 ghost use Rattle.res_update.specs.Placed.{table_on};
 ghost use Rattle.res_files.specs.Opening.{code_of};
 ghost use Rattle.res_files.specs.Standing.{AreSmall};
 ghost use Rattle.res_files.specs.Stores.{ReadsTable};
 
 use fork_bytes::fault::ForkFault;
+use fork_bytes::place::Place;
 use fork_disk::store::ForkStore;
-use fork_reader::place::Place;
 use fork_rows::fault::OpenFault;
 use fork_rows::read_rows;
 use mac_base::error::{HostFull, OsErr};

@@ -2,9 +2,9 @@
 
 ghost use Rattle.std.specs.Prelude.{◌≡◌, ◌↔◌, length, IsTrue, IsFalse, OnOk, IfSome, IsErrOf};
 ghost use Rattle.res_table.specs.OpenFiles.{is_open, rows_changed, file_closed, table_of};
-ghost use Rattle.res_calls.specs.Answered.{AnswersFor};
-ghost use Rattle.res_calls.specs.Changes.{rows_of};
-ghost use Rattle.res_calls.specs.Updates.{fits_fork};
+ghost use Rattle.res_update.specs.Answered.{AnswersFor};
+ghost use Rattle.res_update.specs.Changes.{rows_of};
+ghost use Rattle.res_update.specs.Updates.{fits_fork};
 ghost use Rattle.res_update.specs.Selected.{updated, reads_lent};
 ghost use Rattle.res_files.specs.FilesOn.{FailedAt, HonestAt, NoneFailed};
 ghost use Rattle.res_files.specs.Crash.{OthersStay};
@@ -12,8 +12,8 @@ ghost use Rattle.res_files.specs.Stores.{UpdatesStore};
 
 use crate::files::ResourceFiles;
 use crate::placing::place_rows;
+use fork_bytes::place::Place;
 use fork_disk::store::{ForkStore, ReplaceFault};
-use fork_reader::place::Place;
 use res_table::chain::Chain;
 use res_update::contents::Contents;
 use res_update::fault::UpdateFault;
@@ -35,10 +35,10 @@ fn close_file(chain: &mut Chain<Place>, number: u8)
 }
 
 impl<S: ForkStore> ResourceFiles<S> {
-    /// Writes the file of a number anew, which is open. The selected rows have the bytes of their handles then, and are no longer
-    /// changed; all others keep what they have on the disk. The new fork stands for the table: it is read as it.
-    /// TooBig comes exactly where no fork holds the table. Where the device failed behind the first write, the file is closed; in any
-    /// other case of an error nothing is changed.
+    /// Writes the file of a number anew, which is open. The selected rows have the bytes of their handles then, and are
+    /// no longer changed; all others keep what they have on the disk. The new fork stands for the table: it is read as
+    /// it. TooBig comes exactly where no fork holds the table. Where the device failed behind the first write, the file
+    /// is closed; in any other case of an error nothing is changed.
     pub fn update<C: Contents>(
         &mut self,
         number: u8,

@@ -2,20 +2,20 @@
 use Rattle.std.proofs.Common.{◌≡◌, ℕ, false, List, Option, Some, None, Ok, Err, refl, ap, sym, subst, ◌∙◌}
 use Rattle.std.specs.Prelude.{OnOk}
 use Rattle.std.specs.Option.{option_map_or, option_or}
-use Rattle.mac_calls.specs.declared.resource_call.ResourceCall.{ResourceCall}
-use Rattle.mac_calls.specs.declared.resource_call.ResourceCall.TheVariants.{Getting, Writing}
-use Rattle.mac_calls.specs.declared.resource_call.GettingCall.{GettingCall}
-use Rattle.mac_calls.specs.declared.resource_call.WritingCall.TheVariants.{WriteResource}
-use Rattle.mac_calls.specs.Outcomes.{Outcome}
+use Rattle.mac_base.specs.declared.resource_call.ResourceCall.{ResourceCall}
+use Rattle.mac_base.specs.declared.resource_call.ResourceCall.TheVariants.{Getting, Writing}
+use Rattle.mac_base.specs.declared.resource_call.GettingCall.{GettingCall}
+use Rattle.mac_base.specs.declared.resource_call.WritingCall.TheVariants.{WriteResource}
+use Rattle.mac_base.specs.Outcomes.{Outcome}
 use Rattle.fork_disk.specs.declared.store.ForkStore.{Ghosts}
 use Rattle.res_table.specs.declared.chain.RowPlace.{RowPlace}
-use Rattle.res_calls.specs.Files.{ResState}
-use Rattle.res_calls.specs.Loads.{row_wanted}
-use Rattle.res_calls.specs.Steps.{Work, Gets, Quiet, updating, work_of, IsSaved, ReadsBack, update_in}
-use Rattle.res_calls.specs.Tests.{first_refused_for, resource_refusal}
-use Rattle.res_calls.specs.Updates.{Update, can_be_made, row_passes, row_update}
+use Rattle.res_update.specs.Files.{ResState}
+use Rattle.res_update.specs.Loads.{row_wanted}
+use Rattle.res_update.specs.Steps.{Work, Gets, Quiet, updating, work_of, IsSaved, ReadsBack, update_in}
+use Rattle.res_update.specs.Tests.{first_refused_for, resource_refusal}
+use Rattle.res_update.specs.Updates.{Update, can_be_made, row_passes, row_update}
 use Rattle.mac_base.specs.declared.error.OsErr.TheVariants.{DskFulErr}
-use Rattle.mac_calls.specs.Tests.{unless_passed}
+use Rattle.mac_base.specs.Tests.{unless_passed}
 use Rattle.res_table.specs.Rows.{is_changed}
 use Rattle.res_manager.specs.Crash.{IsSettled, file_settled}
 use Rattle.res_manager.specs.Tests.{early_tests}

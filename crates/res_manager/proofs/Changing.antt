@@ -2,8 +2,8 @@
 use Rattle.std.proofs.Common.{◌≡◌, ℕ, Bool, true, false, cond, List, [], ◌∷◌, Option, Some, set, slice_get, find, option_map, option_and_then, refl, sym, ap, subst, ◌∙◌}
 use Rattle.std.specs.Option.{option_map_or}
 use Rattle.mac_base.specs.declared.resource.ResAttrs.{ResAttrs}
-use Rattle.res_calls.specs.Changes.{Files, FileRow, FileTable, row_changed}
-use Rattle.res_calls.specs.Quiet.{attributes_changed}
+use Rattle.res_update.specs.Changes.{Files, FileRow, FileTable, row_changed}
+use Rattle.res_update.specs.Quiet.{attributes_changed}
 use Rattle.res_files.specs.FilesOn.{FilesOn}
 use Rattle.res_table.specs.declared.chain.OpenFile.{OpenFile}
 use Rattle.res_table.specs.declared.chain.RowPlace.{RowPlace}

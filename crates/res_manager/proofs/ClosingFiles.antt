@@ -5,17 +5,17 @@ use Rattle.std.specs.Result.{is_err}
 use Rattle.mac_base.specs.ZoneState.{ZoneState}
 use Rattle.mac_base.specs.declared.error.OsErr.{OsErr}
 use Rattle.mac_base.specs.declared.error.OsErr.TheVariants.{DskFulErr, IoErr}
-use Rattle.mac_calls.specs.declared.resource_call.ResourceCall.TheVariants.{Writing}
-use Rattle.mac_calls.specs.declared.resource_call.WritingCall.TheVariants.{UpdateResFile, CloseResFile}
-use Rattle.mac_calls.specs.Outcomes.{Outcome}
+use Rattle.mac_base.specs.declared.resource_call.ResourceCall.TheVariants.{Writing}
+use Rattle.mac_base.specs.declared.resource_call.WritingCall.TheVariants.{UpdateResFile, CloseResFile}
+use Rattle.mac_base.specs.Outcomes.{Outcome}
 use Rattle.res_table.specs.OpenFiles.{file_closed}
-use Rattle.res_calls.specs.Changes.{rows_of}
+use Rattle.res_update.specs.Changes.{rows_of}
 use Rattle.fork_disk.specs.declared.store.ForkStore.{Ghosts}
-use Rattle.res_calls.specs.Answered.{IsAnswered}
-use Rattle.res_calls.specs.Device.{Device, device_works}
-use Rattle.res_calls.specs.Device as device
-use Rattle.res_calls.specs.Files.{ResState, ResourceEnd}
-use Rattle.res_calls.specs.Updates.{Update, behind_update, disposed, fits_fork, handles_of, update_end}
+use Rattle.res_update.specs.Answered.{IsAnswered}
+use Rattle.res_update.specs.Device.{Device, device_works}
+use Rattle.res_update.specs.Device as device
+use Rattle.res_update.specs.Files.{ResState, ResourceEnd}
+use Rattle.res_update.specs.Updates.{Update, behind_update, disposed, fits_fork, handles_of, update_end}
 use Rattle.res_files.specs.FilesOn.{FailedAt, FilesOn, HonestAt, NoneFailed}
 use Rattle.res_manager.specs.Ends.{IsUnwritten, Writes, WritesFile}
 use Rattle.res_manager.specs.Steps.{state_of}

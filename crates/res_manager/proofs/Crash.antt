@@ -4,16 +4,16 @@ use Rattle.std.specs.Prelude.{IfOk, OnOk, OnErr, IfSome}
 use Rattle.std.specs.Option.{option_map_or}
 use Rattle.std.proofs.lemmas.Bool.Decides.{eqb_tells}
 use Rattle.mac_base.specs.ZoneState.{ZoneState}
-use Rattle.mac_calls.specs.declared.resource_call.ResourceCall.{ResourceCall}
-use Rattle.mac_calls.specs.declared.resource_call.ResourceCall.TheVariants.{OpenResFile}
-use Rattle.mac_calls.specs.Outcomes.{Outcome}
+use Rattle.mac_base.specs.declared.resource_call.ResourceCall.{ResourceCall}
+use Rattle.mac_base.specs.declared.resource_call.ResourceCall.TheVariants.{OpenResFile}
+use Rattle.mac_base.specs.Outcomes.{Outcome}
 use Rattle.fork_bytes.specs.Written.{written}
 use Rattle.fork_disk.specs.declared.store.ForkStore.{Ghosts}
 use Rattle.fork_disk.specs.Crash.{AlwaysFinds, FoundBeforeOr, at_first, and_then}
-use Rattle.res_calls.specs.Changes.{FileTable, Files, saved_table}
-use Rattle.res_calls.specs.Files.{ResState}
-use Rattle.res_calls.specs.Steps.{Work, Quiet, Opens, IsSaved, ReadsBack, work_of, update_in}
-use Rattle.res_calls.specs.Updates.{Update, update_of}
+use Rattle.res_update.specs.Changes.{FileTable, Files, saved_table}
+use Rattle.res_update.specs.Files.{ResState}
+use Rattle.res_update.specs.Steps.{Work, Quiet, Opens, IsSaved, ReadsBack, work_of, update_in}
+use Rattle.res_update.specs.Updates.{Update, update_of}
 use Rattle.res_files.specs.Crash.{history_of, OthersStay}
 use Rattle.res_files.specs.FilesOn.{FilesOn, HonestAt}
 use Rattle.res_files.specs.Stores.{UpdatesStore}

@@ -13,18 +13,18 @@ use Rattle.mac_base.specs.FlagState.{state_locks}
 use Rattle.mac_base.specs.HandleTable.{Live, FullHandle, bytes_of, live_at, live_bytes, is_lent, no_flags, refilled, with_bytes, with_live}
 use Rattle.std.proofs.lemmas.List.{length-replicate}
 use Rattle.mac_base.specs.Heap.{Heap, with_table}
-use Rattle.mac_calls.specs.declared.memory_call.MemoryCall.{MemoryCall}
-use Rattle.mac_calls.specs.declared.memory_call.MemoryCall.TheVariants.{HSetState}
-use Rattle.mac_calls.specs.Effect.{request_of, effect_of}
-use Rattle.mac_calls.specs.ExactStep.{IsExactStep, StepEnd, step_unless, step_asking, rearranged}
-use Rattle.mac_calls.specs.GrowZone.{Ask, answers_in}
-use Rattle.mac_calls.specs.Outcomes.{Outcome}
-use Rattle.mac_calls.specs.Tests.{refusal}
+use Rattle.mac_base.specs.declared.memory_call.MemoryCall.{MemoryCall}
+use Rattle.mac_base.specs.declared.memory_call.MemoryCall.TheVariants.{HSetState}
+use Rattle.mac_base.specs.Effect.{request_of, effect_of}
+use Rattle.mac_base.specs.ExactStep.{IsExactStep, StepEnd, step_unless, step_asking, rearranged}
+use Rattle.mac_base.specs.GrowZone.{Ask, answers_in}
+use Rattle.mac_base.specs.Outcomes.{Outcome}
+use Rattle.mac_base.specs.Tests.{refusal}
 use Rattle.mac_base.specs.ZoneMap.{released}
 use Rattle.mac_base.specs.ZoneState.{ZoneState, overwritten, with_contents}
 use Rattle.linked_zone.specs.Loans.{KeepsLoans}
 use Rattle.zone_laws.proofs.Tables.{eqb_same, live_at-with_live_same, with_live_agrees}
-use Rattle.res_calls.specs.Changes.{FileRow}
+use Rattle.res_update.specs.Changes.{FileRow}
 use Rattle.res_manager.specs.Loading.{AreAnswered, IsFilled, IsPlaced}
 
 same_cmp : (k : ℕ) → nat_cmp k k ≡ Equal

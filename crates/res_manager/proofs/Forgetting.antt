@@ -6,7 +6,7 @@ use Rattle.res_table.specs.declared.chain.OpenFile.{OpenFile}
 use Rattle.res_table.specs.declared.chain.RowPlace.{RowPlace}
 use Rattle.res_table.specs.OpenFiles.{file_forgotten, handle_forgotten, is_numbered, row_at, table_in}
 use Rattle.res_table.specs.Rows.{forgetting, forgotten, has_handle, with_handle}
-use Rattle.res_calls.specs.Changes.{FileRow, FileTable, Files, handles_forgotten}
+use Rattle.res_update.specs.Changes.{FileRow, FileTable, Files, handles_forgotten}
 
 -- the resource of a row
 abbrev resource_of : FileRow → Resource (List ℕ)

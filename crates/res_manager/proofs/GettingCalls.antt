@@ -3,20 +3,20 @@ use Rattle.std.proofs.Common.{◌≡◌, ℕ, Bool, List, Option, Some, None, Re
 use Rattle.std.specs.Option.{IsSomeAnd, option_map_or}
 use Rattle.mac_base.specs.declared.error.OsErr.{OsErr}
 use Rattle.mac_base.specs.ZoneState.{ZoneState}
-use Rattle.mac_calls.specs.declared.resource_call.ResourceCall.{ResourceCall}
-use Rattle.mac_calls.specs.declared.resource_call.ResourceCall.TheVariants.{Getting}
-use Rattle.mac_calls.specs.declared.resource_call.GettingCall.{GettingCall}
-use Rattle.mac_calls.specs.GrowZone.{Ask}
-use Rattle.res_calls.specs.Files.{ResState, ResourceEnd}
-use Rattle.res_calls.specs.Loads.{loads_bytes, row_wanted}
-use Rattle.res_calls.specs.Steps.{StepsUnless, Work, Gets, Quiet, work_of, Memory}
-use Rattle.res_calls.specs.Steps as steps
-use Rattle.res_calls.specs.Tests.{resource_refusal}
+use Rattle.mac_base.specs.declared.resource_call.ResourceCall.{ResourceCall}
+use Rattle.mac_base.specs.declared.resource_call.ResourceCall.TheVariants.{Getting}
+use Rattle.mac_base.specs.declared.resource_call.GettingCall.{GettingCall}
+use Rattle.mac_base.specs.GrowZone.{Ask}
+use Rattle.res_update.specs.Files.{ResState, ResourceEnd}
+use Rattle.res_update.specs.Loads.{loads_bytes, row_wanted}
+use Rattle.res_update.specs.Steps.{StepsUnless, Work, Gets, Quiet, work_of, Memory}
+use Rattle.res_update.specs.Steps as steps
+use Rattle.res_update.specs.Tests.{resource_refusal}
 use Rattle.res_files.specs.FilesOn.{FailedAt, FilesOn, HonestAt, NoneFailed}
 use Rattle.fork_disk.specs.declared.store.ForkStore.{Ghosts}
-use Rattle.res_calls.specs.Answered.{answered_disks, file_of_work}
-use Rattle.res_calls.proofs.Answering.{none, none_honest}
-use Rattle.res_calls.specs.Device.{device_works}
+use Rattle.res_update.specs.Answered.{answered_disks, file_of_work}
+use Rattle.res_update.proofs.Answering.{none, none_honest}
+use Rattle.res_update.specs.Device.{device_works}
 use Rattle.std.specs.Prelude.{MatchBool}
 use Rattle.res_table.specs.declared.chain.RowPlace.{RowPlace}
 use Rattle.res_manager.specs.Loading.{LoadSteps, loaded_outcome}

@@ -4,8 +4,8 @@ use Rattle.std.specs.Prelude.{◌==◌, ◌||◌, ◌&&◌, not, is_some, unwrap
 use Rattle.std.specs.Option.{option_map_or}
 use Rattle.std.proofs.lemmas.Bool.Decides.{nat_tests}
 use Rattle.std.proofs.lemmas.List.{length-map}
-use Rattle.mac_calls.specs.declared.memory_call.MemoryCall.{MemoryCall}
-use Rattle.mac_calls.specs.declared.memory_call.MemoryCall.TheVariants as memory_call
+use Rattle.mac_base.specs.declared.memory_call.MemoryCall.{MemoryCall}
+use Rattle.mac_base.specs.declared.memory_call.MemoryCall.TheVariants as memory_call
 use Rattle.res_files.proofs.PlacedRows.{row_changed_there}
 use Rattle.mac_base.specs.declared.error.OsErr.{OsErr}
 use Rattle.mac_base.specs.declared.error.OsErr.TheVariants.{IoErr}
@@ -14,26 +14,26 @@ use Rattle.mac_base.specs.HandleTable.{HandleTable, is_full}
 use Rattle.mac_base.specs.Heap.{Heap, with_emptied}
 use Rattle.mac_base.specs.Releasing.{heap_released}
 use Rattle.mac_base.specs.ZoneState.{ZoneState}
-use Rattle.mac_calls.specs.declared.resource_call.ResourceCall.{ResourceCall}
-use Rattle.mac_calls.specs.declared.reply.Results.TheVariants.{Handle}
-use Rattle.mac_calls.specs.GrowZone.{Ask}
-use Rattle.mac_calls.specs.Outcomes.{Outcome}
+use Rattle.mac_base.specs.declared.resource_call.ResourceCall.{ResourceCall}
+use Rattle.mac_base.specs.declared.reply.Results.TheVariants.{Handle}
+use Rattle.mac_base.specs.GrowZone.{Ask}
+use Rattle.mac_base.specs.Outcomes.{Outcome}
 use Rattle.mac_base.specs.declared.resource.ResAttrs.{ResAttrs}
 use Rattle.mac_base.specs.declared.resource.Resource.{Resource}
 use Rattle.res_table.specs.declared.chain.RowPlace.{RowPlace}
 use Rattle.res_table.specs.OpenFiles.{row_at}
 use Rattle.res_table.specs.Rows.{with_datum, with_handle}
-use Rattle.res_calls.specs.Changes.{FileRow, Files, handles_forgotten, row_changed}
-use Rattle.res_calls.specs.Answered.{AnswersFor, AreHonest, IsAnswered, answered_disks, known_bytes, known_files}
-use Rattle.res_calls.specs.Device.{Device, DiskRelations, Works as Working, FailsBefore}
-use Rattle.res_calls.specs.Files.{ResState, ResourceEnd, disk_of, refused_with, with_heap, with_files}
-use Rattle.res_calls.specs.Loads.{found_end, loads_bytes, placing, loaded, unloaded, loaded_results, read_fails, load_end, placed_end}
-use Rattle.mac_calls.specs.Released.{disposed_in}
-use Rattle.res_calls.specs.Steps.{GetsPlace, GetsRow, behind_memory, Memory}
+use Rattle.res_update.specs.Changes.{FileRow, Files, handles_forgotten, row_changed}
+use Rattle.res_update.specs.Answered.{AnswersFor, AreHonest, IsAnswered, answered_disks, known_bytes, known_files}
+use Rattle.res_update.specs.Device.{Device, DiskRelations, Works as Working, FailsBefore}
+use Rattle.res_update.specs.Files.{ResState, ResourceEnd, disk_of, refused_with, with_heap, with_files}
+use Rattle.res_update.specs.Loads.{found_end, loads_bytes, placing, loaded, unloaded, loaded_results, read_fails, load_end, placed_end}
+use Rattle.mac_base.specs.Released.{disposed_in}
+use Rattle.res_update.specs.Steps.{GetsPlace, GetsRow, behind_memory, Memory}
 use Rattle.fork_disk.specs.declared.store.ForkStore.{Ghosts}
 use Rattle.res_files.specs.FilesOn.{FailedAt, FilesOn, HonestAt, fork_of}
 use Rattle.res_manager.specs.Loading.{AreAnswered, HasBytes, LoadSteps, LoadsTo, flags_for, handle_placed, loaded_outcome, loaded_with, place_call}
-use Rattle.res_calls.proofs.Answering.{itself, none, none_honest}
+use Rattle.res_update.proofs.Answering.{itself, none, none_honest}
 use Rattle.res_manager.proofs.Known.{answered-parts, answers-back, blank-there, known-datum, known-forgotten, known-handle, known-same}
 use Rattle.res_manager.proofs.OpenedFiles.{disk-fork}
 use Rattle.res_manager.proofs.Forgetting.{row_forgotten}

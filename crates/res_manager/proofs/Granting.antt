@@ -8,14 +8,14 @@ use Rattle.mac_base.specs.Heap.{Heap, table_granted, every_slot_live}
 use Rattle.mac_base.specs.Trial.{prepared_by}
 use Rattle.mac_base.specs.declared.request.Request.{Request}
 use Rattle.mac_base.specs.Request.{makes_handle}
-use Rattle.mac_calls.specs.declared.memory_call.MemoryCall.{MemoryCall}
-use Rattle.mac_calls.specs.declared.reply.Results.{Results}
-use Rattle.mac_calls.specs.Effect.{request_of, table_copied}
-use Rattle.mac_calls.specs.GrowZone.{Ask, Answer, carried_out, most_answers}
-use Rattle.mac_calls.specs.MemoryStep.{MemoryStep, StepUnless, StepAsking, RequestStep, BehindMaster, EndsRequest}
-use Rattle.mac_calls.specs.Outcomes.{Outcome, given_results}
-use Rattle.mac_calls.specs.RequestRun.{RequestRun, EndsUnserved}
-use Rattle.mac_calls.specs.Tests.{refusal, protected_by}
+use Rattle.mac_base.specs.declared.memory_call.MemoryCall.{MemoryCall}
+use Rattle.mac_base.specs.declared.reply.Results.{Results}
+use Rattle.mac_base.specs.Effect.{request_of, table_copied}
+use Rattle.mac_base.specs.GrowZone.{Ask, Answer, carried_out, most_answers}
+use Rattle.mac_base.specs.MemoryStep.{MemoryStep, StepUnless, StepAsking, RequestStep, BehindMaster, EndsRequest}
+use Rattle.mac_base.specs.Outcomes.{Outcome, given_results}
+use Rattle.mac_base.specs.RequestRun.{RequestRun, EndsUnserved}
+use Rattle.mac_base.specs.Tests.{refusal, protected_by}
 
 -- the heap has what a request gives as x, over some table
 abbrev pub Granted : Request → ℕ → Heap → Type 0

@@ -8,12 +8,12 @@ use Rattle.std.proofs.lemmas.List.Elements.{All-head, All-tail}
 use Rattle.mac_base.specs.HandleTable.{HandleTable, is_lent}
 use Rattle.mac_base.specs.HeadKind.{Shape}
 use Rattle.mac_base.specs.Heap.{Heap}
-use Rattle.mac_calls.specs.declared.memory_call.MemoryCall.TheVariants.{DisposeHandle}
-use Rattle.mac_calls.specs.ExactStep.{IsExactStep, StepEnd}
-use Rattle.mac_calls.specs.Outcomes.{Outcome}
-use Rattle.res_calls.specs.Changes.{FileRow}
-use Rattle.res_calls.specs.Tests.{is_lent_row}
-use Rattle.res_calls.specs.Updates.{disposed, handles_of}
+use Rattle.mac_base.specs.declared.memory_call.MemoryCall.TheVariants.{DisposeHandle}
+use Rattle.mac_base.specs.ExactStep.{IsExactStep, StepEnd}
+use Rattle.mac_base.specs.Outcomes.{Outcome}
+use Rattle.res_update.specs.Changes.{FileRow}
+use Rattle.res_update.specs.Tests.{is_lent_row}
+use Rattle.res_update.specs.Updates.{disposed, handles_of}
 use Rattle.res_files.specs.Handles.{is_among}
 
 -- the handles of a row and of others, where the row has none

@@ -4,24 +4,24 @@ use Rattle.std.specs.Prelude.{if◌then◌else◌, option_map}
 use Rattle.std.specs.List.{cons_option}
 use Rattle.std.specs.Option.{option_map_or, option_and_then}
 use Rattle.mac_base.specs.HandleTable.{zeros}
-use Rattle.mac_calls.specs.declared.resource_call.ResourceCall.TheVariants.{Getting, Writing}
-use Rattle.mac_calls.specs.declared.resource_call.GettingCall.{GettingCall}
-use Rattle.mac_calls.specs.declared.resource_call.GettingCall.TheVariants.{GetResource, Get1Resource, GetIndResource, LoadResource}
-use Rattle.mac_calls.specs.declared.resource_call.WritingCall.TheVariants.{CloseResFile}
+use Rattle.mac_base.specs.declared.resource_call.ResourceCall.TheVariants.{Getting, Writing}
+use Rattle.mac_base.specs.declared.resource_call.GettingCall.{GettingCall}
+use Rattle.mac_base.specs.declared.resource_call.GettingCall.TheVariants.{GetResource, Get1Resource, GetIndResource, LoadResource}
+use Rattle.mac_base.specs.declared.resource_call.WritingCall.TheVariants.{CloseResFile}
 use Rattle.res_table.specs.declared.chain.OpenFile.{OpenFile}
 use Rattle.res_table.specs.declared.chain.RowPlace.{RowPlace}
 use Rattle.res_table.specs.Rows.{changed_at, index_of_ith, with_datum, with_handle}
 use Rattle.res_table.specs.OpenFiles.{changed_file, file_closed, handle_forgotten, is_numbered, place_here, place_of_handle, place_of_resource, row_at, table_of, with_rows}
-use Rattle.res_calls.specs.Answered.{AnswersFor, IsAnswered, known_bytes, known_disks, known_files, known_row, known_state, known_table}
-use Rattle.res_calls.proofs.Answering.{none}
-use Rattle.res_calls.specs.Changes.{FileRow, FileTable, Files, current_rows, handles_forgotten, row_changed, rows_in, rows_of}
-use Rattle.res_calls.specs.Device.{Disk}
-use Rattle.res_calls.specs.Files.{ResState, disk_of, with_files, with_heap}
-use Rattle.res_calls.specs.Updates.{behind_update, disposed, handles_of}
+use Rattle.res_update.specs.Answered.{AnswersFor, IsAnswered, known_bytes, known_disks, known_files, known_row, known_state, known_table}
+use Rattle.res_update.proofs.Answering.{none}
+use Rattle.res_update.specs.Changes.{FileRow, FileTable, Files, current_rows, handles_forgotten, row_changed, rows_in, rows_of}
+use Rattle.res_update.specs.Device.{Disk}
+use Rattle.res_update.specs.Files.{ResState, disk_of, with_files, with_heap}
+use Rattle.res_update.specs.Updates.{behind_update, disposed, handles_of}
 use Rattle.mac_base.specs.HeadKind.{Shape}
 use Rattle.mac_base.specs.Heap.{Heap}
-use Rattle.res_calls.specs.Loads.{row_wanted}
-use Rattle.res_calls.specs.Tests.{resource_refusal}
+use Rattle.res_update.specs.Loads.{row_wanted}
+use Rattle.res_update.specs.Tests.{resource_refusal}
 use Rattle.res_files.proofs.Mapped.{changed-mapped, changed_at-mapped, closed-mapped, handle-mapped, handle_forgotten-mapped, here-mapped, index_of_ith-mapped, mapped_row, resource-mapped, row-mapped, table-mapped}
 use Rattle.res_manager.proofs.Changing.{changed_same}
 

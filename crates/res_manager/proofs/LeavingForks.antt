@@ -6,13 +6,13 @@ use Rattle.mac_base.specs.HandleTable.{HandleTable}
 use Rattle.mac_base.specs.ZoneState.{ZoneState}
 use Rattle.mac_base.specs.declared.error.HostFull.{HostFull}
 use Rattle.mac_base.specs.declared.error.OsErr.{OsErr}
-use Rattle.mac_calls.specs.declared.resource_call.ResourceCall.{ResourceCall}
-use Rattle.mac_calls.specs.Outcomes.{Outcome}
+use Rattle.mac_base.specs.declared.resource_call.ResourceCall.{ResourceCall}
+use Rattle.mac_base.specs.Outcomes.{Outcome}
 use Rattle.fork_disk.specs.declared.store.ForkStore.{Ghosts}
 use Rattle.res_table.specs.OpenFiles.{is_open}
-use Rattle.res_calls.specs.Changes.{FileTable, Files}
-use Rattle.res_calls.specs.Steps.{IsSaved, update_in, work_of}
-use Rattle.res_calls.specs.Updates.{Update, update_of}
+use Rattle.res_update.specs.Changes.{FileTable, Files}
+use Rattle.res_update.specs.Steps.{IsSaved, update_in, work_of}
+use Rattle.res_update.specs.Updates.{Update, update_of}
 use Rattle.res_update.specs.Selected.{updated}
 use Rattle.res_update.specs.declared.fault.UpdateFault.{UpdateFault}
 use Rattle.res_update.specs.declared.selection.Selection.{Selection}

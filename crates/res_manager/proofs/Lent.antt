@@ -4,16 +4,16 @@ use Rattle.mac_base.specs.declared.error.OsErr.{OsErr}
 use Rattle.mac_base.specs.HeadKind.{Shape}
 use Rattle.mac_base.specs.Heap.{Heap}
 use Rattle.mac_base.specs.ZoneState.{ZoneState}
-use Rattle.mac_calls.specs.declared.memory_call.MemoryCall.{MemoryCall}
-use Rattle.mac_calls.specs.declared.memory_call.MemoryCall.TheVariants.{DisposeHandle}
-use Rattle.mac_calls.specs.ExactStep.{step_unless, exact_step}
-use Rattle.mac_calls.specs.GrowZone.{Ask}
-use Rattle.mac_calls.specs.Outcomes.{Outcome}
-use Rattle.mac_calls.specs.Tests.{refusal}
-use Rattle.call_laws.proofs.LentSteps.{step_keeps_lent}
-use Rattle.res_calls.specs.Updates.{disposed}
+use Rattle.mac_base.specs.declared.memory_call.MemoryCall.{MemoryCall}
+use Rattle.mac_base.specs.declared.memory_call.MemoryCall.TheVariants.{DisposeHandle}
+use Rattle.mac_base.specs.ExactStep.{step_unless, exact_step}
+use Rattle.mac_base.specs.GrowZone.{Ask}
+use Rattle.mac_base.specs.Outcomes.{Outcome}
+use Rattle.mac_base.specs.Tests.{refusal}
+use Rattle.zone_laws.proofs.LentSteps.{step_keeps_lent}
+use Rattle.res_update.specs.Updates.{disposed}
 use Rattle.res_manager.specs.Loading.{place_call}
-use Rattle.res_calls.specs.Steps.{Memory}
+use Rattle.res_update.specs.Steps.{Memory}
 
 -- a call keeps what is lent where it does so when it isn't refused
 unless_refused : (s : Shape) (heap : Heap) (c : MemoryCall) (o : Option OsErr) → (step_unless s [] heap c None).heap.table.lent ≡ heap.table.lent → (step_unless s [] heap c o).heap.table.lent ≡ heap.table.lent

@@ -10,8 +10,8 @@ use Rattle.std.proofs.lemmas.List.Elements.{filter_map-append}
 use Rattle.std.proofs.lemmas.Grind.{flat_map-append}
 use Rattle.mac_base.specs.declared.error.OsErr.{OsErr}
 use Rattle.mac_base.specs.declared.releasing.ReleasingCall.{ReleasingCall}
-use Rattle.mac_calls.specs.GrowZone.{Ask, Answer, may_ask, may_note, new_ask, noted, most_answers}
-use Rattle.mac_calls.specs.Released.{disposed_by, disposed_in}
+use Rattle.mac_base.specs.GrowZone.{Ask, Answer, may_ask, may_note, new_ask, noted, most_answers}
+use Rattle.mac_base.specs.Released.{disposed_by, disposed_in}
 use Rattle.res_manager.specs.Watching.{Notes, has_few_calls}
 
 each-behind : (asks : List Ask) (ask : Ask) → list_all has_few_calls asks ≡ true → has_few_calls ask ≡ true → list_all has_few_calls (asks ++ ask ∷ []) ≡ true

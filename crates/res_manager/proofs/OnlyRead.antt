@@ -3,7 +3,7 @@ use Rattle.std.proofs.Common.{◌≡◌, length, refl, sym, ◌∙◌}
 use Rattle.std.proofs.lemmas.List.{length-map}
 use Rattle.fork_disk.specs.declared.store.ForkStore.{Ghosts}
 use Rattle.mac_base.specs.ZoneState.{ZoneState}
-use Rattle.res_calls.specs.Answered.{AnswersFor, IsAnswered}
+use Rattle.res_update.specs.Answered.{AnswersFor, IsAnswered}
 use Rattle.res_files.specs.FilesOn.{FilesOn, HonestAt}
 use Rattle.res_files.specs.Stores.{KeepsStores}
 use Rattle.res_manager.proofs.Known.{answered-parts}

@@ -6,13 +6,13 @@ use Rattle.res_files.proofs.Stores.{fork_or}
 use Rattle.mac_base.specs.declared.error.OsErr.{OsErr}
 use Rattle.mac_base.specs.declared.error.OsErr.TheVariants.{IoErr}
 use Rattle.mac_base.specs.ZoneState.{ZoneState}
-use Rattle.mac_calls.specs.declared.reply.Results.TheVariants.{Number}
-use Rattle.res_calls.specs.Changes.{FileTable, Files}
+use Rattle.mac_base.specs.declared.reply.Results.TheVariants.{Number}
+use Rattle.res_update.specs.Changes.{FileTable, Files}
 use Rattle.fork_disk.specs.declared.store.ForkStore.{Ghosts}
-use Rattle.res_calls.specs.Answered.{IsAnswered, IsOpening, answered_disks, known_files}
-use Rattle.res_calls.specs.Device.{Disk, Reads}
-use Rattle.res_calls.specs.Device as device
-use Rattle.res_calls.specs.Files.{ResState, disk_of, with_files}
+use Rattle.res_update.specs.Answered.{IsAnswered, IsOpening, answered_disks, known_files}
+use Rattle.res_update.specs.Device.{Disk, Reads}
+use Rattle.res_update.specs.Device as device
+use Rattle.res_update.specs.Files.{ResState, disk_of, with_files}
 use Rattle.res_files.specs.FilesOn.{FailedAt, FilesOn, HonestAt, NoneFailed, fork_of}
 use Rattle.res_files.specs.Opening.{MayRead}
 use Rattle.res_table.specs.OpenFiles.{file_opened}

@@ -8,10 +8,10 @@ use Rattle.std.proofs.Math.Nat.{min-eq_left, min-eq_right, min-le_left, min-le_r
 use Rattle.std.specs.Option.{option_map_or}
 use Rattle.fork_disk.specs.Disk.{bytes_at, put_at}
 use Rattle.mac_base.specs.HandleTable.{resized, zeros}
-use Rattle.res_calls.specs.Changes.{FileRow}
-use Rattle.res_calls.specs.Patching.{begins_within, patched_bytes}
-use Rattle.res_calls.specs.declared.patching_call.PatchingCall.{PatchingCall}
-use Rattle.res_calls.specs.declared.patching_call.PatchingCall.TheVariants.{SetResourceSize, WritePartialResource}
+use Rattle.res_update.specs.Changes.{FileRow}
+use Rattle.res_update.specs.Patching.{begins_within, patched_bytes}
+use Rattle.res_update.specs.declared.patching_call.PatchingCall.{PatchingCall}
+use Rattle.res_update.specs.declared.patching_call.PatchingCall.TheVariants.{SetResourceSize, WritePartialResource}
 use Rattle.res_manager.specs.Patching.{put_over}
 
 -- as many as there were, of which the first were read

@@ -10,21 +10,21 @@ use Rattle.fork_disk.specs.Disk.{Rose}
 use Rattle.fork_disk.specs.declared.store.ForkStore.{Ghosts}
 use Rattle.mac_base.specs.ZoneState.{ZoneState}
 use Rattle.mac_base.specs.declared.error.OsErr.TheVariants.{DskFulErr, IoErr}
-use Rattle.mac_calls.specs.Outcomes.{Outcome}
-use Rattle.mac_calls.specs.declared.resource_call.ResourceCall.TheVariants.{Writing}
-use Rattle.mac_calls.specs.declared.resource_call.WritingCall.TheVariants.{UpdateResFile}
+use Rattle.mac_base.specs.Outcomes.{Outcome}
+use Rattle.mac_base.specs.declared.resource_call.ResourceCall.TheVariants.{Writing}
+use Rattle.mac_base.specs.declared.resource_call.WritingCall.TheVariants.{UpdateResFile}
 use Rattle.res_table.specs.declared.chain.RowPlace.{RowPlace}
 use Rattle.res_table.specs.Rows.{changed_at, with_datum}
-use Rattle.res_calls.specs.declared.patching_call.PatchingCall.{PatchingCall}
-use Rattle.res_calls.specs.Answered.{AnswersFor, answered_disks}
-use Rattle.res_calls.specs.Changes.{FileRow, FileTable, Files, row_changed, saved_table, with_changed_rows}
-use Rattle.res_calls.specs.Device.{Device, Works, FailsBefore, FailsWriting, device_works}
-use Rattle.res_calls.specs.Files.{ResState}
-use Rattle.res_calls.specs.Partial.{data_at}
-use Rattle.res_calls.specs.Patching.{UpdatesBy, WritesBy, patch_update, patched_bytes, patched_row}
-use Rattle.res_calls.specs.Steps.{IsSaved}
-use Rattle.res_calls.specs.Updates.{Update, fits_fork}
-use Rattle.res_calls.proofs.Answering.{answered_back, itself}
+use Rattle.res_update.specs.declared.patching_call.PatchingCall.{PatchingCall}
+use Rattle.res_update.specs.Answered.{AnswersFor, answered_disks}
+use Rattle.res_update.specs.Changes.{FileRow, FileTable, Files, row_changed, saved_table, with_changed_rows}
+use Rattle.res_update.specs.Device.{Device, Works, FailsBefore, FailsWriting, device_works}
+use Rattle.res_update.specs.Files.{ResState}
+use Rattle.res_update.specs.Partial.{data_at}
+use Rattle.res_update.specs.Patching.{UpdatesBy, WritesBy, patch_update, patched_bytes, patched_row}
+use Rattle.res_update.specs.Steps.{IsSaved}
+use Rattle.res_update.specs.Updates.{Update, fits_fork}
+use Rattle.res_update.proofs.Answering.{answered_back, itself}
 use Rattle.res_files.specs.Crash.{history_of}
 use Rattle.res_files.specs.FilesOn.{FailedAt, FilesOn, HonestAt, NoneFailed, WereHonest, failures_at}
 use Rattle.res_files.specs.Stores.{KeepsStores}

@@ -14,17 +14,17 @@ use Rattle.mac_base.specs.ZoneState.{ZoneState}
 use Rattle.mac_base.specs.HandleTable.{HandleTable, bytes_of}
 use Rattle.mac_base.specs.declared.error.OsErr.TheVariants.{DskFulErr, IoErr}
 use Rattle.mac_base.specs.declared.resource.ResAttrs.{ResAttrs}
-use Rattle.mac_calls.specs.declared.resource_call.ResourceCall.TheVariants.{Writing}
-use Rattle.mac_calls.specs.declared.resource_call.WritingCall.TheVariants.{UpdateResFile}
-use Rattle.mac_calls.specs.declared.reply.Results.TheVariants.{Nothing}
-use Rattle.mac_calls.specs.Outcomes.{Outcome}
+use Rattle.mac_base.specs.declared.resource_call.ResourceCall.TheVariants.{Writing}
+use Rattle.mac_base.specs.declared.resource_call.WritingCall.TheVariants.{UpdateResFile}
+use Rattle.mac_base.specs.declared.reply.Results.TheVariants.{Nothing}
+use Rattle.mac_base.specs.Outcomes.{Outcome}
 use Rattle.res_table.specs.declared.chain.RowPlace.{RowPlace}
 use Rattle.res_table.specs.OpenFiles.{file_closed, row_at, table_of}
 use Rattle.res_table.specs.Rows.{changed_at, with_attributes, with_datum}
-use Rattle.res_calls.specs.Answered.{AnswersFor}
-use Rattle.res_calls.specs.Changes.{FileRow, FileTable, Files, row_changed, saved_table, with_changed_rows}
-use Rattle.res_calls.specs.Steps.{IsSaved}
-use Rattle.res_calls.specs.Updates.{Update, fits_fork}
+use Rattle.res_update.specs.Answered.{AnswersFor}
+use Rattle.res_update.specs.Changes.{FileRow, FileTable, Files, row_changed, saved_table, with_changed_rows}
+use Rattle.res_update.specs.Steps.{IsSaved}
+use Rattle.res_update.specs.Updates.{Update, fits_fork}
 use Rattle.res_files.specs.Crash.{OthersStay, history_of}
 use Rattle.res_files.specs.FilesOn.{FailedAt, FilesOn, HonestAt, NoneFailed, fork_of}
 use Rattle.res_files.specs.Stores.{UpdatesStore}

@@ -1,5 +1,5 @@
--- A row that gets other bytes in its file: by an update that takes them as if they were its handle's, and takes off its mark, and by its old
--- attributes, which are given back.
+-- A row that gets other bytes in its file: by an update that takes them as if they were its handle's, and takes off its
+-- mark, and by its old attributes, which are given back.
 use Rattle.std.proofs.Common.{◌≡◌, ◌∙◌, ℕ, cond, None, List, [], map, set, slice_get, Option, Some, IsSome, Bool, refl, sym, ap, subst}
 use Rattle.std.specs.Prelude.{nat_le, ◌&&◌, length}
 use Rattle.std.specs.Option.{option_map_or}
@@ -15,10 +15,10 @@ use Rattle.res_table.specs.Attributes.{unmarked}
 use Rattle.res_table.specs.OpenFiles.{row_at, rows_changed, table_of}
 use Rattle.res_table.specs.Rows.{changed_at, contents, with_attributes, with_datum}
 use Rattle.res_table.specs.Saved.{saved_row}
-use Rattle.res_calls.specs.Answered.{AnswersFor, known_files}
-use Rattle.res_calls.specs.Changes.{FileRow, FileTable, Files, row_changed, saved_table, with_changed_rows}
-use Rattle.res_calls.specs.Fitting.{rows_fit}
-use Rattle.res_calls.specs.Updates.{fits_fork, updated_row}
+use Rattle.res_update.specs.Answered.{AnswersFor, known_files}
+use Rattle.res_update.specs.Changes.{FileRow, FileTable, Files, row_changed, saved_table, with_changed_rows}
+use Rattle.res_update.specs.Fitting.{rows_fit}
+use Rattle.res_update.specs.Updates.{fits_fork, updated_row}
 use Rattle.res_update.specs.Selected.{updated}
 use Rattle.res_update.specs.declared.selection.Selection.TheVariants.{RowAt}
 use Rattle.res_update.proofs.Saving.{unmarked_twice}
@@ -26,7 +26,7 @@ use Rattle.res_files.proofs.Mapped.{set-mapped}
 use Rattle.res_files.proofs.PlacedRows.{row_changed_there, row_changed_twice, same_changed}
 use Rattle.res_manager.specs.Patching.{live_alone}
 use Rattle.res_manager.proofs.Known.{blank-there, known-changed}
-use Rattle.res_calls.proofs.Answering.{none, none_honest}
+use Rattle.res_update.proofs.Answering.{none, none_honest}
 
 -- the handle that is live alone has these bytes
 pub alone : (h : ℕ) (bytes : List ℕ) → bytes_of (live_alone h bytes) h ≡ bytes

@@ -10,27 +10,27 @@ use Rattle.fork_bytes.proofs.Steps.{length-data}
 use Rattle.fork_disk.specs.declared.store.ForkStore.{Ghosts}
 use Rattle.mac_base.specs.ZoneState.{ZoneState}
 use Rattle.mac_base.specs.declared.error.OsErr.TheVariants.{DskFulErr}
-use Rattle.mac_calls.specs.Outcomes.{Outcome}
-use Rattle.mac_calls.specs.declared.resource_call.ResourceCall.TheVariants.{Writing}
-use Rattle.mac_calls.specs.declared.resource_call.WritingCall.TheVariants.{UpdateResFile}
+use Rattle.mac_base.specs.Outcomes.{Outcome}
+use Rattle.mac_base.specs.declared.resource_call.ResourceCall.TheVariants.{Writing}
+use Rattle.mac_base.specs.declared.resource_call.WritingCall.TheVariants.{UpdateResFile}
 use Rattle.res_table.specs.declared.chain.OpenFile.{OpenFile}
 use Rattle.res_table.specs.declared.chain.RowPlace.{RowPlace}
 use Rattle.res_table.specs.OpenFiles.{file_closed, is_numbered, row_at, rows_changed, table_in, table_of, with_rows}
 use Rattle.res_table.specs.Rows.{changed_at, with_datum}
 use Rattle.res_table.specs.Saved.{saved_row, saved_rows}
-use Rattle.res_calls.specs.declared.patching_call.PatchingCall.{PatchingCall}
-use Rattle.res_calls.specs.Answered.{AnswersFor, IsAnswered, answered_disks, known_bytes, known_disks, known_files, known_row, known_state, known_table}
-use Rattle.res_calls.specs.Changes.{FileRow, FileTable, Files, row_changed, saved_table, with_changed_rows}
-use Rattle.res_calls.specs.Device.{Device, Works, FailsBefore, FailsWriting, Disk, device_works}
-use Rattle.res_calls.specs.Files.{ResState, ResourceEnd, with_files}
-use Rattle.res_calls.specs.Fitting.{rows_fit}
-use Rattle.res_calls.specs.Partial.{data_at}
-use Rattle.res_calls.specs.Patching.{UpdatesBy, WritesBy, patch_update, patched_bytes, patched_row}
-use Rattle.res_calls.specs.Updates.{Update, fits_fork, update_end, update_of}
+use Rattle.res_update.specs.declared.patching_call.PatchingCall.{PatchingCall}
+use Rattle.res_update.specs.Answered.{AnswersFor, IsAnswered, answered_disks, known_bytes, known_disks, known_files, known_row, known_state, known_table}
+use Rattle.res_update.specs.Changes.{FileRow, FileTable, Files, row_changed, saved_table, with_changed_rows}
+use Rattle.res_update.specs.Device.{Device, Works, FailsBefore, FailsWriting, Disk, device_works}
+use Rattle.res_update.specs.Files.{ResState, ResourceEnd, with_files}
+use Rattle.res_update.specs.Fitting.{rows_fit}
+use Rattle.res_update.specs.Partial.{data_at}
+use Rattle.res_update.specs.Patching.{UpdatesBy, WritesBy, patch_update, patched_bytes, patched_row}
+use Rattle.res_update.specs.Updates.{Update, fits_fork, update_end, update_of}
 use Rattle.res_files.specs.FilesOn.{FailedAt, FilesOn, HonestAt, NoneFailed}
 use Rattle.res_files.proofs.Mapped.{closed-mapped, rows_changed-mapped, row-mapped, table-mapped}
 use Rattle.res_files.proofs.PlacedRows.{changed_twice, table_changed}
-use Rattle.res_calls.proofs.Answering.{all_rows, none, none_honest, only, only_honest, only_is}
+use Rattle.res_update.proofs.Answering.{all_rows, none, none_honest, only, only_honest, only_is}
 use Rattle.res_manager.specs.Ends.{IsUnwritten, Writes, WritesFile}
 use Rattle.res_manager.specs.Patching.{HasHandle, PatchesAt, update_with}
 use Rattle.res_manager.specs.Steps.{state_of}

@@ -6,17 +6,17 @@ use Rattle.mac_base.specs.HandleTable.{is_full}
 use Rattle.mac_base.specs.Heap.{Heap}
 use Rattle.mac_base.specs.ZoneState.{ZoneState}
 use Rattle.mac_base.specs.declared.error.HostFull.{HostFull}
-use Rattle.mac_calls.specs.Outcomes.{Outcome}
+use Rattle.mac_base.specs.Outcomes.{Outcome}
 use Rattle.res_table.specs.declared.chain.RowPlace.{RowPlace}
-use Rattle.res_calls.specs.declared.partial_end.PartialEnd.{PartialEnd}
-use Rattle.res_calls.specs.declared.partial_end.PartialEnd.TheVariants.{Done, InMemory, OutOfBounds, Refused}
-use Rattle.res_calls.specs.declared.patching_call.PatchingCall.{PatchingCall}
+use Rattle.res_update.specs.declared.partial_end.PartialEnd.{PartialEnd}
+use Rattle.res_update.specs.declared.partial_end.PartialEnd.TheVariants.{Done, InMemory, OutOfBounds, Refused}
+use Rattle.res_update.specs.declared.patching_call.PatchingCall.{PatchingCall}
 use Rattle.res_table.specs.Rows.{changed_at}
-use Rattle.res_calls.specs.Changes.{with_changed_rows}
-use Rattle.res_calls.specs.Files.{ResState}
-use Rattle.res_calls.specs.Patching.{Patches, end_by, end_of_patch, handle_patched, patch_asked, patch_update, patched_row, update_asked}
-use Rattle.res_calls.specs.Updates.{Update}
-use Rattle.res_calls.proofs.Answering.{none, none_honest}
+use Rattle.res_update.specs.Changes.{with_changed_rows}
+use Rattle.res_update.specs.Files.{ResState}
+use Rattle.res_update.specs.Patching.{Patches, end_by, end_of_patch, handle_patched, patch_asked, patch_update, patched_row, update_asked}
+use Rattle.res_update.specs.Updates.{Update}
+use Rattle.res_update.proofs.Answering.{none, none_honest}
 use Rattle.res_files.specs.FilesOn.{FailedAt, FilesOn, HonestAt, NoneFailed}
 use Rattle.res_files.specs.Stores.{KeepsStores}
 use Rattle.res_manager.specs.Crash.{IsSettled, SavesFork}

@@ -15,14 +15,14 @@ use Rattle.mac_base.specs.Sound.{Sound}
 use Rattle.mac_base.specs.ZoneMap.{address_behind}
 use Rattle.mac_base.specs.ZoneState.{ZoneState}
 use Rattle.mac_base.specs.declared.request.Request.TheVariants.{NewBlock, Replace}
-use Rattle.mac_calls.specs.declared.memory_call.MemoryCall.TheVariants.{NewHandle, ReallocateHandle, HGetState}
-use Rattle.mac_calls.specs.declared.reply.Results.{Results}
-use Rattle.mac_calls.specs.declared.reply.Results.TheVariants.{Handle, Nothing}
-use Rattle.mac_calls.specs.GrowZone.{Ask}
-use Rattle.mac_calls.specs.MemoryStep.{MemoryStep, StepUnless}
-use Rattle.mac_calls.specs.Outcomes.{done_outcome, handle_outcome, number_outcome}
-use Rattle.mac_calls.specs.RequestRun.{RequestRun}
-use Rattle.mac_calls.specs.Tests.{refusal}
+use Rattle.mac_base.specs.declared.memory_call.MemoryCall.TheVariants.{NewHandle, ReallocateHandle, HGetState}
+use Rattle.mac_base.specs.declared.reply.Results.{Results}
+use Rattle.mac_base.specs.declared.reply.Results.TheVariants.{Handle, Nothing}
+use Rattle.mac_base.specs.GrowZone.{Ask}
+use Rattle.mac_base.specs.MemoryStep.{MemoryStep, StepUnless}
+use Rattle.mac_base.specs.Outcomes.{done_outcome, handle_outcome, number_outcome}
+use Rattle.mac_base.specs.RequestRun.{RequestRun}
+use Rattle.mac_base.specs.Tests.{refusal}
 use Rattle.zone_laws.proofs.SlotPlaces.{slots_at-above}
 use Rattle.zone_laws.proofs.SlotOwners.{rooms-suits}
 use Rattle.zone_laws.proofs.Tables.{live_at-with_live_same}

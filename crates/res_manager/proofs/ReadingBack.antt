@@ -2,17 +2,17 @@
 use Rattle.std.proofs.Common.{◌≡◌, ◌∙◌, ℕ, List, Option, Some, None, option_map, sym, ap, subst}
 use Rattle.std.specs.Prelude.{IfSome, OnOk}
 use Rattle.mac_base.specs.ZoneState.{ZoneState}
-use Rattle.mac_calls.specs.declared.resource_call.ResourceCall.{ResourceCall}
-use Rattle.mac_calls.specs.Outcomes.{Outcome}
+use Rattle.mac_base.specs.declared.resource_call.ResourceCall.{ResourceCall}
+use Rattle.mac_base.specs.Outcomes.{Outcome}
 use Rattle.fork_bytes.specs.Fork.{StandsFor}
 use Rattle.res_table.specs.OpenFiles.{table_of}
-use Rattle.res_calls.specs.Changes.{FileTable, Files, saved_table}
-use Rattle.res_calls.specs.Device.{Disk}
-use Rattle.res_calls.specs.Files.{ResState}
-use Rattle.res_calls.specs.Updates.{Update, update_of}
+use Rattle.res_update.specs.Changes.{FileTable, Files, saved_table}
+use Rattle.res_update.specs.Device.{Disk}
+use Rattle.res_update.specs.Files.{ResState}
+use Rattle.res_update.specs.Updates.{Update, update_of}
 use Rattle.res_files.specs.FilesOn.{FilesOn, fork_of}
 use Rattle.res_manager.specs.Steps.{state_of}
-use Rattle.res_calls.specs.Steps.{IsSaved, ReadsBack, update_in}
+use Rattle.res_update.specs.Steps.{IsSaved, ReadsBack, update_in}
 use Rattle.res_manager.proofs.OpenedFiles.{disk-fork}
 use Rattle.res_manager.proofs.UpdatingCalls.{Makes}
 

@@ -3,11 +3,11 @@ use Rattle.std.proofs.Common.{◌≡◌, List, [], ◌∷◌, ◌++◌, Option, 
 use Rattle.std.proofs.lemmas.List.{append-nil}
 use Rattle.std.specs.Option.{option_or}
 use Rattle.mac_base.specs.declared.error.OsErr.{OsErr}
-use Rattle.mac_calls.specs.declared.resource_call.ResourceCall.{ResourceCall}
-use Rattle.mac_calls.specs.declared.resource_call.ResourceCall.TheVariants.{Writing}
-use Rattle.mac_calls.specs.declared.resource_call.WritingCall.TheVariants.{WriteResource, UpdateResFile, CloseResFile}
-use Rattle.res_calls.specs.Files.{ResState}
-use Rattle.res_calls.specs.Tests.{ResourceTest, first_refused_for, refused_for, resource_refusal, resource_tests}
+use Rattle.mac_base.specs.declared.resource_call.ResourceCall.{ResourceCall}
+use Rattle.mac_base.specs.declared.resource_call.ResourceCall.TheVariants.{Writing}
+use Rattle.mac_base.specs.declared.resource_call.WritingCall.TheVariants.{WriteResource, UpdateResFile, CloseResFile}
+use Rattle.res_update.specs.Files.{ResState}
+use Rattle.res_update.specs.Tests.{ResourceTest, first_refused_for, refused_for, resource_refusal, resource_tests}
 use Rattle.res_manager.specs.Tests.{early_tests, late_tests}
 
 or_or : (a b c : Option OsErr) → option_or a (option_or b c) ≡ option_or (option_or a b) c

@@ -2,7 +2,7 @@
 use Rattle.std.proofs.Common.{◌≡◌, ℕ, Bool, true, false, cond, ◌||◌, List, [], ◌∷◌, find, Option, Some, None, slice_get, option_map, option_and_then, refl}
 use Rattle.std.specs.Prelude.{IsTrue, IsSomeAnd}
 use Rattle.std.specs.List.{list_any}
-use Rattle.res_calls.specs.Changes.{Files, FileRow, FileTable}
+use Rattle.res_update.specs.Changes.{Files, FileRow, FileTable}
 use Rattle.res_table.specs.declared.chain.OpenFile.{OpenFile}
 use Rattle.res_table.specs.declared.chain.RowPlace.{RowPlace}
 use Rattle.res_table.specs.OpenFiles.{is_numbered, is_open, row_at, table_in, table_of}

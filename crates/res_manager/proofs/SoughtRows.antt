@@ -2,19 +2,19 @@
 use Rattle.std.proofs.Common.{◌≡◌, ℕ, Bool, List, [], Option, Some, None, Result, Ok, Err, pos, refl, sym, ap, subst, ◌∙◌}
 use Rattle.mac_base.specs.declared.error.OsErr.{OsErr}
 use Rattle.mac_base.specs.ZoneState.{ZoneState}
-use Rattle.mac_calls.specs.declared.resource_call.ResourceCall.{ResourceCall}
-use Rattle.mac_calls.specs.declared.resource_call.ResourceCall.TheVariants.{Getting}
-use Rattle.mac_calls.specs.declared.resource_call.GettingCall.TheVariants.{GetResource}
-use Rattle.mac_calls.specs.GrowZone.{Ask}
-use Rattle.mac_calls.specs.Outcomes.{Outcome}
-use Rattle.res_calls.specs.Answered.{answered_disks}
-use Rattle.res_calls.specs.Changes.{FileRow}
-use Rattle.res_calls.specs.Device as device
-use Rattle.res_calls.specs.Files.{ResState}
-use Rattle.res_calls.specs.Loads.{loads_bytes}
-use Rattle.res_calls.specs.Sought.{AnswersSought, GetsIt, getting_it}
-use Rattle.res_calls.specs.Steps.{GetsPlace, Memory}
-use Rattle.res_calls.proofs.Answering.{itself, none, none_honest}
+use Rattle.mac_base.specs.declared.resource_call.ResourceCall.{ResourceCall}
+use Rattle.mac_base.specs.declared.resource_call.ResourceCall.TheVariants.{Getting}
+use Rattle.mac_base.specs.declared.resource_call.GettingCall.TheVariants.{GetResource}
+use Rattle.mac_base.specs.GrowZone.{Ask}
+use Rattle.mac_base.specs.Outcomes.{Outcome}
+use Rattle.res_update.specs.Answered.{answered_disks}
+use Rattle.res_update.specs.Changes.{FileRow}
+use Rattle.res_update.specs.Device as device
+use Rattle.res_update.specs.Files.{ResState}
+use Rattle.res_update.specs.Loads.{loads_bytes}
+use Rattle.res_update.specs.Sought.{AnswersSought, GetsIt, getting_it}
+use Rattle.res_update.specs.Steps.{GetsPlace, Memory}
+use Rattle.res_update.proofs.Answering.{itself, none, none_honest}
 use Rattle.res_files.specs.FilesOn.{FailedAt, FilesOn, HonestAt, NoneFailed}
 use Rattle.res_table.specs.declared.chain.RowPlace.{RowPlace}
 use Rattle.res_table.specs.OpenFiles.{row_at}

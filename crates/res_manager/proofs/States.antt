@@ -4,16 +4,16 @@ use Rattle.std.specs.Option.{option_map_or}
 use Rattle.mac_base.specs.HeadKind.{Shape}
 use Rattle.mac_base.specs.Heap.{Heap}
 use Rattle.mac_base.specs.ZoneState.{ZoneState}
-use Rattle.mac_calls.specs.declared.memory_call.MemoryCall.TheVariants.{HSetRBit}
-use Rattle.mac_calls.specs.declared.reply.Results.TheVariants.{Nothing}
-use Rattle.mac_calls.specs.declared.resource_call.ResourceCall.TheVariants.{AddResource}
-use Rattle.mac_calls.specs.ExactStep.{IsExactStep, StepEnd}
-use Rattle.mac_calls.specs.Outcomes.{Outcome}
-use Rattle.res_calls.specs.Changes.{Files}
-use Rattle.res_calls.specs.Device.{Disk}
-use Rattle.res_calls.specs.Files.{ResState, ResourceEnd}
-use Rattle.res_calls.specs.Quiet.{quiet_state}
-use Rattle.res_calls.specs.Updates.{new_row}
+use Rattle.mac_base.specs.declared.memory_call.MemoryCall.TheVariants.{HSetRBit}
+use Rattle.mac_base.specs.declared.reply.Results.TheVariants.{Nothing}
+use Rattle.mac_base.specs.declared.resource_call.ResourceCall.TheVariants.{AddResource}
+use Rattle.mac_base.specs.ExactStep.{IsExactStep, StepEnd}
+use Rattle.mac_base.specs.Outcomes.{Outcome}
+use Rattle.res_update.specs.Changes.{Files}
+use Rattle.res_update.specs.Device.{Disk}
+use Rattle.res_update.specs.Files.{ResState, ResourceEnd}
+use Rattle.res_update.specs.Quiet.{quiet_state}
+use Rattle.res_update.specs.Updates.{new_row}
 use Rattle.res_files.specs.FilesOn.{FilesOn}
 use Rattle.res_table.specs.OpenFiles.{rows_changed}
 use Rattle.res_table.specs.Rows.{added}

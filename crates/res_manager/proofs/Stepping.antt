@@ -5,29 +5,29 @@ use Rattle.std.specs.Option.{IsSomeAnd}
 use Rattle.mac_base.specs.declared.error.OsErr.{OsErr}
 use Rattle.mac_base.specs.declared.error.OsErr.TheVariants.{DskFulErr}
 use Rattle.mac_base.specs.ZoneState.{ZoneState}
-use Rattle.mac_calls.specs.declared.resource_call.ResourceCall.{ResourceCall}
-use Rattle.mac_calls.specs.declared.resource_call.ResourceCall.TheVariants.{OpenResFile}
-use Rattle.mac_calls.specs.GrowZone.{Ask}
-use Rattle.mac_calls.specs.Outcomes.{Outcome, done_outcome}
-use Rattle.mac_calls.specs.declared.reply.Results.{Results}
-use Rattle.mac_calls.specs.declared.reply.Results.TheVariants.{Nothing}
-use Rattle.mac_calls.specs.Tests.{unless_passed}
+use Rattle.mac_base.specs.declared.resource_call.ResourceCall.{ResourceCall}
+use Rattle.mac_base.specs.declared.resource_call.ResourceCall.TheVariants.{OpenResFile}
+use Rattle.mac_base.specs.GrowZone.{Ask}
+use Rattle.mac_base.specs.Outcomes.{Outcome, done_outcome}
+use Rattle.mac_base.specs.declared.reply.Results.{Results}
+use Rattle.mac_base.specs.declared.reply.Results.TheVariants.{Nothing}
+use Rattle.mac_base.specs.Tests.{unless_passed}
 use Rattle.fork_disk.specs.declared.store.ForkStore.{Ghosts}
-use Rattle.res_calls.specs.Answered.{answered_disks, file_of_work}
-use Rattle.res_calls.specs.Device.{device_works}
-use Rattle.res_calls.specs.Device as device
-use Rattle.res_calls.specs.Quiet.{quiet_results, quiet_state}
-use Rattle.res_calls.specs.Files.{ResState, ResourceEnd, refused_with}
-use Rattle.res_calls.specs.Steps.{StepsUnless, Work, Quiet, Opens, Updates, work_of, Memory}
-use Rattle.res_calls.specs.Steps as steps
-use Rattle.res_calls.specs.Tests.{resource_refusal, first_refused_for}
-use Rattle.res_calls.specs.Updates.{Update, fits_fork}
+use Rattle.res_update.specs.Answered.{answered_disks, file_of_work}
+use Rattle.res_update.specs.Device.{device_works}
+use Rattle.res_update.specs.Device as device
+use Rattle.res_update.specs.Quiet.{quiet_results, quiet_state}
+use Rattle.res_update.specs.Files.{ResState, ResourceEnd, refused_with}
+use Rattle.res_update.specs.Steps.{StepsUnless, Work, Quiet, Opens, Updates, work_of, Memory}
+use Rattle.res_update.specs.Steps as steps
+use Rattle.res_update.specs.Tests.{resource_refusal, first_refused_for}
+use Rattle.res_update.specs.Updates.{Update, fits_fork}
 use Rattle.res_files.specs.FilesOn.{FailedAt, FilesOn, HonestAt, NoneFailed}
 use Rattle.res_table.specs.OpenFiles.{is_open}
 use Rattle.res_manager.specs.Ends.{EndsQuietly, EndsTested, IsUnwritten, OpensFile, Writes, WritesFile}
 use Rattle.res_manager.specs.Steps.{ResourceSteps, state_of}
 use Rattle.res_manager.specs.Tests.{Tests, early_tests, late_tests}
-use Rattle.res_calls.proofs.Answering.{before_itself, itself}
+use Rattle.res_update.proofs.Answering.{before_itself, itself}
 use Rattle.res_manager.proofs.Refusals.{passed-early, refused-early}
 
 -- what holds of what is given

@@ -6,17 +6,17 @@ use Rattle.std.specs.Option.{option_or, option_map_or}
 use Rattle.mac_base.specs.declared.error.OsErr.{OsErr}
 use Rattle.mac_base.specs.declared.error.OsErr.TheVariants.{DskFulErr, MemLockedErr}
 use Rattle.mac_base.specs.ZoneState.{ZoneState}
-use Rattle.mac_calls.specs.declared.resource_call.ResourceCall.{ResourceCall}
-use Rattle.mac_calls.specs.declared.resource_call.ResourceCall.TheVariants.{Writing}
-use Rattle.mac_calls.specs.declared.resource_call.WritingCall.TheVariants.{WriteResource, UpdateResFile, CloseResFile}
-use Rattle.mac_calls.specs.Outcomes.{Outcome}
-use Rattle.mac_calls.specs.Tests.{unless_passed}
-use Rattle.res_calls.specs.Changes.{FileRow, FileTable, Files, rows_of}
-use Rattle.res_calls.specs.Files.{ResState, file_named}
+use Rattle.mac_base.specs.declared.resource_call.ResourceCall.{ResourceCall}
+use Rattle.mac_base.specs.declared.resource_call.ResourceCall.TheVariants.{Writing}
+use Rattle.mac_base.specs.declared.resource_call.WritingCall.TheVariants.{WriteResource, UpdateResFile, CloseResFile}
+use Rattle.mac_base.specs.Outcomes.{Outcome}
+use Rattle.mac_base.specs.Tests.{unless_passed}
+use Rattle.res_update.specs.Changes.{FileRow, FileTable, Files, rows_of}
+use Rattle.res_update.specs.Files.{ResState, file_named}
 use Rattle.fork_disk.specs.declared.store.ForkStore.{Ghosts}
-use Rattle.res_calls.specs.Steps.{Updates, updating, work_of}
-use Rattle.res_calls.specs.Tests.{resource_refusal, first_refused_for, refused_for, is_lent_row, rows_named, IsOpen, AllUnlent, HasFile}
-use Rattle.res_calls.specs.Updates.{Update, can_be_made, file_update, fits_fork, row_passes, row_update, update_of, updated_at}
+use Rattle.res_update.specs.Steps.{Updates, updating, work_of}
+use Rattle.res_update.specs.Tests.{resource_refusal, first_refused_for, refused_for, is_lent_row, rows_named, IsOpen, AllUnlent, HasFile}
+use Rattle.res_update.specs.Updates.{Update, can_be_made, file_update, fits_fork, row_passes, row_update, update_of, updated_at}
 use Rattle.res_files.specs.FilesOn.{FilesOn}
 use Rattle.res_table.specs.declared.chain.OpenFile.{OpenFile}
 use Rattle.res_table.specs.declared.chain.RowPlace.{RowPlace}

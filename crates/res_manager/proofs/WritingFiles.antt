@@ -9,18 +9,18 @@ use Rattle.mac_base.specs.ZoneState.{ZoneState}
 use Rattle.mac_base.specs.declared.error.OsErr.TheVariants.{DskFulErr, IoErr}
 use Rattle.fork_disk.specs.declared.store.ReplaceFault.{ReplaceFault}
 use Rattle.fork_disk.specs.declared.store.ReplaceFault.TheVariants.{BeforeFirstWrite, Later}
-use Rattle.mac_calls.specs.declared.resource_call.ResourceCall.{ResourceCall}
-use Rattle.mac_calls.specs.declared.resource_call.ResourceCall.TheVariants.{Writing}
-use Rattle.mac_calls.specs.declared.resource_call.WritingCall.TheVariants.{UpdateResFile}
-use Rattle.mac_calls.specs.declared.reply.Results.TheVariants.{Nothing}
-use Rattle.mac_calls.specs.Outcomes.{Outcome}
-use Rattle.res_calls.specs.Changes.{FileTable, Files, saved_table}
+use Rattle.mac_base.specs.declared.resource_call.ResourceCall.{ResourceCall}
+use Rattle.mac_base.specs.declared.resource_call.ResourceCall.TheVariants.{Writing}
+use Rattle.mac_base.specs.declared.resource_call.WritingCall.TheVariants.{UpdateResFile}
+use Rattle.mac_base.specs.declared.reply.Results.TheVariants.{Nothing}
+use Rattle.mac_base.specs.Outcomes.{Outcome}
+use Rattle.res_update.specs.Changes.{FileTable, Files, saved_table}
 use Rattle.fork_disk.specs.declared.store.ForkStore.{Ghosts}
-use Rattle.res_calls.specs.Answered.{AnswersFor, IsAnswered, known_files}
-use Rattle.res_calls.specs.Device.{Device, Disk}
-use Rattle.res_calls.specs.Device as device
-use Rattle.res_calls.specs.Files.{ResState, with_disk, with_files}
-use Rattle.res_calls.specs.Updates.{Update, behind_update, fits_fork, update_end, update_of}
+use Rattle.res_update.specs.Answered.{AnswersFor, IsAnswered, known_files}
+use Rattle.res_update.specs.Device.{Device, Disk}
+use Rattle.res_update.specs.Device as device
+use Rattle.res_update.specs.Files.{ResState, with_disk, with_files}
+use Rattle.res_update.specs.Updates.{Update, behind_update, fits_fork, update_end, update_of}
 use Rattle.res_files.specs.FilesOn.{FailedAt, FilesOn, HonestAt, NoneFailed, fork_of}
 use Rattle.res_table.specs.OpenFiles.{file_closed, rows_changed, table_of}
 use Rattle.res_manager.specs.Ends.{IsUnwritten, Writes, WritesFile}

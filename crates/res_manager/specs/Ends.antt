@@ -3,16 +3,16 @@ use Rattle.std.specs.Prelude.{◌≡◌, ℕ, List, Result, Ok, MatchBool, Match
 use Rattle.mac_base.specs.declared.error.OsErr.{OsErr}
 use Rattle.mac_base.specs.declared.error.OsErr.TheVariants.{DskFulErr}
 use Rattle.mac_base.specs.ZoneState.{ZoneState}
-use Rattle.mac_calls.specs.declared.resource_call.ResourceCall.{ResourceCall}
-use Rattle.mac_calls.specs.declared.reply.Results.TheVariants.{Nothing}
-use Rattle.mac_calls.specs.Outcomes.{Outcome}
-use Rattle.res_calls.specs.Changes.{FileTable}
-use Rattle.res_calls.specs.Device.{Device, ReadsBy, device_works}
-use Rattle.res_calls.specs.Answered.{IsAnswered, answered_disks}
-use Rattle.res_calls.specs.Files.{ResState, disk_of, refused_with}
-use Rattle.res_calls.specs.Quiet.{quiet_end}
-use Rattle.res_calls.specs.Steps.{LeavesDisk, opened_end, Memory}
-use Rattle.res_calls.specs.Updates.{Update, fits_fork, update_end}
+use Rattle.mac_base.specs.declared.resource_call.ResourceCall.{ResourceCall}
+use Rattle.mac_base.specs.declared.reply.Results.TheVariants.{Nothing}
+use Rattle.mac_base.specs.Outcomes.{Outcome}
+use Rattle.res_update.specs.Changes.{FileTable}
+use Rattle.res_update.specs.Device.{Device, ReadsBy, device_works}
+use Rattle.res_update.specs.Answered.{IsAnswered, answered_disks}
+use Rattle.res_update.specs.Files.{ResState, disk_of, refused_with}
+use Rattle.res_update.specs.Quiet.{quiet_end}
+use Rattle.res_update.specs.Steps.{LeavesDisk, opened_end, Memory}
+use Rattle.res_update.specs.Updates.{Update, fits_fork, update_end}
 use Rattle.fork_disk.specs.declared.store.ForkStore.{Ghosts}
 use Rattle.res_files.specs.FilesOn.{FailedAt, FilesOn, HonestAt, NoneFailed}
 use Rattle.res_manager.specs.Steps.{state_of}
@@ -22,12 +22,14 @@ use Rattle.res_manager.specs.Tests.{Tests, early_tests}
 abbrev pub EndsQuietly : {S : Type 0} → (S → List ℕ) → ZoneState → FilesOn S → ResourceCall → Outcome → ZoneState → FilesOn S → Type 0
 EndsQuietly fork old old_files call outcome new new_files = quiet_end call (state_of fork old old_files) ≡ record { outcome = outcome; state = state_of fork new new_files }
 
--- such a call is refused by the first early test that it doesn't pass, and leaves all as it was; else it ends so, and gives nothing
+-- such a call is refused by the first early test that it doesn't pass, and leaves all as it was; else it ends so, and
+-- gives nothing
 abbrev pub EndsTested : {S : Type 0} → (S → List ℕ) → ZoneState → FilesOn S → ResourceCall → Result ⊤ OsErr → ZoneState → FilesOn S → Type 0
 EndsTested fork old old_files call done new new_files = Tests (state_of fork old old_files) (early_tests call) done
     × MatchResult done (λ _. EndsQuietly fork old old_files call (Ok Nothing) new new_files) (λ _. (new ≡ old) × (new_files ≡ old_files))
 
--- What a call that makes an update does to the disk and leaves, where its fork holds what is written: a device may fail.
+-- What a call that makes an update does to the disk and leaves, where its fork holds what is written: a device may
+-- fail.
 pub record Writes {S : Type 0} (store : Ghosts S) (old : ZoneState) (old_files : FilesOn S) (call : ResourceCall) (u : Update) (outcome : Outcome) (new : ZoneState) (new_files : FilesOn S) : Type 0 where
   pub device : Device
   pub after : ResState

@@ -6,23 +6,23 @@ use Rattle.mac_base.specs.HandleTable.{Live, FullHandle, live_at, is_lent, no_fl
 use Rattle.mac_base.specs.Heap.{Heap, with_table}
 use Rattle.mac_base.specs.Releasing.{heap_released}
 use Rattle.mac_base.specs.ZoneState.{ZoneState}
-use Rattle.mac_calls.specs.declared.memory_call.MemoryCall.{MemoryCall}
-use Rattle.mac_calls.specs.declared.memory_call.MemoryCall.TheVariants as memory_call
-use Rattle.mac_calls.specs.declared.reply.Results.TheVariants as results
-use Rattle.mac_calls.specs.declared.resource_call.ResourceCall.{ResourceCall}
-use Rattle.mac_calls.specs.GrowZone.{Ask}
-use Rattle.mac_calls.specs.Outcomes.{Outcome}
+use Rattle.mac_base.specs.declared.memory_call.MemoryCall.{MemoryCall}
+use Rattle.mac_base.specs.declared.memory_call.MemoryCall.TheVariants as memory_call
+use Rattle.mac_base.specs.declared.reply.Results.TheVariants as results
+use Rattle.mac_base.specs.declared.resource_call.ResourceCall.{ResourceCall}
+use Rattle.mac_base.specs.GrowZone.{Ask}
+use Rattle.mac_base.specs.Outcomes.{Outcome}
 use Rattle.res_table.specs.declared.chain.RowPlace.{RowPlace}
 use Rattle.res_table.specs.OpenFiles.{row_at}
 use Rattle.mac_base.specs.declared.block.Flags.{Flags}
 use Rattle.mac_base.specs.declared.resource.ResAttrs.{ResAttrs}
-use Rattle.res_calls.specs.Attributes.{has_bit, res_locked, res_purgeable}
-use Rattle.res_calls.specs.Changes.{FileRow}
-use Rattle.res_calls.specs.Device.{Device, DiskRelations, device_works}
-use Rattle.res_calls.specs.Files.{ResState}
-use Rattle.res_calls.specs.Answered.{IsAnswered, answered_disks}
-use Rattle.res_calls.specs.Loads.{loads_bytes, loaded_results}
-use Rattle.res_calls.specs.Steps.{GetsPlace, Memory}
+use Rattle.res_update.specs.Attributes.{has_bit, res_locked, res_purgeable}
+use Rattle.res_update.specs.Changes.{FileRow}
+use Rattle.res_update.specs.Device.{Device, DiskRelations, device_works}
+use Rattle.res_update.specs.Files.{ResState}
+use Rattle.res_update.specs.Answered.{IsAnswered, answered_disks}
+use Rattle.res_update.specs.Loads.{loads_bytes, loaded_results}
+use Rattle.res_update.specs.Steps.{GetsPlace, Memory}
 use Rattle.fork_disk.specs.declared.store.ForkStore.{Ghosts}
 use Rattle.res_files.specs.FilesOn.{FailedAt, FilesOn, HonestAt, NoneFailed}
 use Rattle.res_manager.specs.Steps.{state_of}
@@ -32,7 +32,8 @@ abbrev pub loaded_outcome : ResourceCall → Result ℕ OsErr → Outcome
 loaded_outcome call (Ok h) = Ok (loaded_results call h)
 loaded_outcome call (Err code) = Err code
 
--- From the old state, each call that gets or loads the row at a place, and loads its bytes or not, may ask so, end so and leave the new one.
+-- From the old state, each call that gets or loads the row at a place, and loads its bytes or not, may ask so, end so
+-- and leave the new one.
 abbrev pub LoadsTo : (ℕ → DiskRelations) → Device → ResState → RowPlace → Bool → List Ask → Result ℕ OsErr → ResState → Type 0
 LoadsTo disks device old place loads asks result new = (call : ResourceCall) → loads_bytes old call ≡ loads
     → GetsPlace Memory disks device old call asks (record { outcome = loaded_outcome call result; state = new }) place (row_at place old.files)
@@ -69,8 +70,8 @@ pub record IsPlaced (heap : Heap) (h n : ℕ) : Type 0 where
 abbrev pub HasBytes : ℕ → Option FileRow → Type 0
 HasBytes n row = IfSome row (λ r. n ≡ length r.resource.datum)
 
--- The heap has a handle's block with these bytes, without flags and not lent, and is else as it was: with anything given to the handle,
--- and with the handle gone, the two heaps are the same.
+-- The heap has a handle's block with these bytes, without flags and not lent, and is else as it was: with anything
+-- given to the handle, and with the handle gone, the two heaps are the same.
 pub record IsFilled (h : ℕ) (bytes : List ℕ) (old new : Heap) : Type 0 where
   pub some : (h == 0) ≡ false
   pub block : live_at new.table h ≡ Some (FullHandle no_flags bytes)

@@ -2,23 +2,23 @@
 use Rattle.std.specs.Prelude.{◌≡◌, ℕ, ◌+◌, nat_le, Bool, true, List, length, Option, Some, Result, IfOk, IsSomeAnd, MatchBool, OnErr, option_map, ⊤}
 use Rattle.mac_base.specs.HandleTable.{HandleTable, FullHandle, new_table, no_flags, with_live}
 use Rattle.mac_base.specs.ZoneState.{ZoneState}
-use Rattle.mac_calls.specs.Outcomes.{Outcome}
+use Rattle.mac_base.specs.Outcomes.{Outcome}
 use Rattle.fork_disk.specs.Disk.{put_at}
 use Rattle.fork_disk.specs.declared.store.ForkStore.{Ghosts}
 use Rattle.res_table.specs.declared.chain.RowPlace.{RowPlace}
 use Rattle.res_table.specs.OpenFiles.{row_at}
 use Rattle.res_table.specs.Rows.{changed_at, with_datum}
-use Rattle.res_calls.specs.declared.partial_end.PartialEnd.{PartialEnd}
-use Rattle.res_calls.specs.declared.partial_end.PartialEnd.TheVariants.{Done, InMemory, OutOfBounds, Refused}
-use Rattle.res_calls.specs.declared.patching_call.PatchingCall.{PatchingCall}
-use Rattle.res_calls.specs.declared.patching_call.PatchingCall.TheVariants.{SetResourceSize, WritePartialResource}
-use Rattle.res_calls.specs.Answered.{IsAnswered, answered_disks}
-use Rattle.res_calls.specs.Changes.{Files, with_changed_rows}
-use Rattle.res_calls.specs.Device.{Device, device_works}
-use Rattle.res_calls.specs.Files.{ResState}
-use Rattle.res_calls.specs.Patching.{Patches, UpdatesBy, patch_asked, patch_update, patched_bytes, update_asked}
-use Rattle.res_calls.specs.Steps.{IsSaved}
-use Rattle.res_calls.specs.Updates.{Update, update_of}
+use Rattle.res_update.specs.declared.partial_end.PartialEnd.{PartialEnd}
+use Rattle.res_update.specs.declared.partial_end.PartialEnd.TheVariants.{Done, InMemory, OutOfBounds, Refused}
+use Rattle.res_update.specs.declared.patching_call.PatchingCall.{PatchingCall}
+use Rattle.res_update.specs.declared.patching_call.PatchingCall.TheVariants.{SetResourceSize, WritePartialResource}
+use Rattle.res_update.specs.Answered.{IsAnswered, answered_disks}
+use Rattle.res_update.specs.Changes.{Files, with_changed_rows}
+use Rattle.res_update.specs.Device.{Device, device_works}
+use Rattle.res_update.specs.Files.{ResState}
+use Rattle.res_update.specs.Patching.{Patches, UpdatesBy, patch_asked, patch_update, patched_bytes, update_asked}
+use Rattle.res_update.specs.Steps.{IsSaved}
+use Rattle.res_update.specs.Updates.{Update, update_of}
 use Rattle.res_files.specs.FilesOn.{FailedAt, FilesOn, HonestAt, NoneFailed, WereHonest}
 use Rattle.res_files.specs.Stores.{KeepsStores}
 use Rattle.res_manager.specs.Crash.{CrashLeaves, IsSettled}
@@ -36,9 +36,10 @@ OnWritten InMemory P = P
 OnWritten OutOfBounds P = ⊤
 OnWritten (Refused code) P = ⊤
 
--- What such a call leaves by the update that it makes, if it makes one: a device that is honest after it was so before. Whenever a crash
--- comes, each file is found as before the call, or as the call saves it; where it wrote, its file reads back as it was saved, and is found as
--- it is read. Where the host had no memory for it, the stores were read at most.
+-- What such a call leaves by the update that it makes, if it makes one: a device that is honest after it was so before.
+-- Whenever a crash comes, each file is found as before the call, or as the call saves it; where it wrote, its file
+-- reads back as it was saved, and is found as it is read. Where the host had no memory for it, the stores were read at
+-- most.
 pub record LeavesPatched {S E : Type 0} (store : Ghosts S) (zone : ZoneState) (old : FilesOn S) (update : Option Update) (result : Result PartialEnd E) (new : FilesOn S) : Type 0 where
   pub honest : WereHonest store.is_honest old.stores new.stores
   pub any_moment : CrashLeaves store update old.stores new.stores
@@ -54,7 +55,8 @@ LeavesPatch store zone old call result new = LeavesPatched store zone old (updat
 abbrev pub live_alone : ℕ → List ℕ → HandleTable
 live_alone h bytes = with_live h (FullHandle no_flags bytes) new_table
 
--- bytes that a call makes of those that a device answered for a resource's own: as many, and where the device is honest, these
+-- bytes that a call makes of those that a device answered for a resource's own: as many, and where the device is
+-- honest, these
 pub record MakesOf (honest : Type 0) (call : PatchingCall) (own bytes : List ℕ) : Type 0 where
   pub read : List ℕ
   pub long : length read ≡ length own
@@ -69,7 +71,8 @@ update_with bytes p files = update_of p.file (with_changed_rows (changed_at p.in
 abbrev pub HasHandle : RowPlace → ℕ → Files → Type 0
 HasHandle p h files = IsSomeAnd (row_at p files) (λ r. r.handle ≡ Some h)
 
--- How an update of the resource at a place goes for a call, by what the devices answered: with this outcome, and it leaves these files.
+-- How an update of the resource at a place goes for a call, by what the devices answered: with this outcome, and it
+-- leaves these files.
 pub record PatchesAt {S : Type 0} (store : Ghosts S) (zone : ZoneState) (old : FilesOn S) (p : RowPlace) (call : PatchingCall) (outcome : Outcome) (new : FilesOn S) : Type 0 where
   pub device : Device
   pub before : ResState

@@ -4,12 +4,12 @@ use Rattle.std.specs.List.{list_any}
 use Rattle.mac_base.specs.HandleTable.{HandleTable, is_lent}
 use Rattle.mac_base.specs.declared.error.OsErr.{OsErr}
 use Rattle.mac_base.specs.declared.error.OsErr.TheVariants.{ResNotFound}
-use Rattle.mac_calls.specs.declared.resource_call.ResourceCall.{ResourceCall}
-use Rattle.mac_calls.specs.declared.resource_call.ResourceCall.TheVariants.{Writing}
-use Rattle.mac_calls.specs.declared.resource_call.WritingCall.TheVariants.{WriteResource, UpdateResFile, CloseResFile}
+use Rattle.mac_base.specs.declared.resource_call.ResourceCall.{ResourceCall}
+use Rattle.mac_base.specs.declared.resource_call.ResourceCall.TheVariants.{Writing}
+use Rattle.mac_base.specs.declared.resource_call.WritingCall.TheVariants.{WriteResource, UpdateResFile, CloseResFile}
 use Rattle.mem_calls.specs.Testing.{Answers}
-use Rattle.res_calls.specs.Files.{ResState}
-use Rattle.res_calls.specs.Tests.{ResourceTest, HasFile, IsOpen, HasRow, UnlentChanged, ChangedUnlent, AllUnlent, CanWriteRow, CanWriteFile, first_refused_for, resource_tests}
+use Rattle.res_update.specs.Files.{ResState}
+use Rattle.res_update.specs.Tests.{ResourceTest, HasFile, IsOpen, HasRow, UnlentChanged, ChangedUnlent, AllUnlent, CanWriteRow, CanWriteFile, first_refused_for, resource_tests}
 
 -- the tests of a call but that of what is written
 abbrev pub early_tests : ResourceCall → List ResourceTest

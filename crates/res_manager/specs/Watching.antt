@@ -2,8 +2,8 @@
 use Rattle.std.specs.Prelude.{◌≡◌, ℕ, ◌≤◌, nat_le, Bool, true, ◌&&◌, List, [], ◌∷◌, length, IsTrue}
 use Rattle.std.specs.List.{list_all}
 use Rattle.std.specs.Option.{option_map_or}
-use Rattle.mac_calls.specs.GrowZone.{Ask, Answer, most_answers}
-use Rattle.mac_calls.specs.Released.{disposed_in}
+use Rattle.mac_base.specs.GrowZone.{Ask, Answer, most_answers}
+use Rattle.mac_base.specs.Released.{disposed_in}
 
 -- whether an ask's answer has 8 calls at most, and no more were carried out
 abbrev pub has_few_calls : Ask → Bool

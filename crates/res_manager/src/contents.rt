@@ -20,7 +20,8 @@ enum Source<'a> {
     Alone(Handle, &'a [u8]),
 }
 
-/// The bytes behind handles, of which a contract sees the handle table. They have one type, so that an update is compiled once.
+/// The bytes behind handles, of which a contract sees the handle table. They have one type, so that an update is
+/// compiled once.
 #[derive(Drop)]
 pub(crate) struct Behind<'a> {
     source: Source<'a>,

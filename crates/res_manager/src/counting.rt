@@ -1,13 +1,13 @@
 //! The calls that tell what all open files have together.
 
 ghost use Rattle.std.specs.Prelude.{◌≡◌};
-ghost use Rattle.res_calls.specs.Counted.{counted, told_of_all};
+ghost use Rattle.res_update.specs.Counted.{counted, told_of_all};
 
 use fork_disk::store::ForkStore;
 use mac_base::error::OsErr;
-use mac_calls::{Outcome, Results};
-use res_calls::CountingCall;
+use mac_base::{Outcome, Results};
 use res_files::ResourceFiles;
+use res_update::CountingCall;
 
 /// Makes a call that tells what all open files have together. resFNotFound where no file is open.
 pub fn count<S: ForkStore>(files: &ResourceFiles<S>, call: CountingCall) -> Outcome

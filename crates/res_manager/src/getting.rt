@@ -2,9 +2,9 @@
 
 ghost use Rattle.std.specs.Prelude.{◌≡◌, [], Some, IsSome, IfOk, length};
 ghost use Rattle.linked_zone.specs.Loans.{KeepsLoans};
-ghost use Rattle.mac_calls.specs.declared.resource_call.ResourceCall.TheVariants.{Getting};
-ghost use Rattle.res_calls.specs.Files.{ResState};
-ghost use Rattle.res_calls.specs.Loads.{loaded_results, loads_bytes, row_wanted};
+ghost use Rattle.mac_base.specs.declared.resource_call.ResourceCall.TheVariants.{Getting};
+ghost use Rattle.res_update.specs.Files.{ResState};
+ghost use Rattle.res_update.specs.Loads.{loaded_results, loads_bytes, row_wanted};
 ghost use Rattle.res_files.specs.Stores.{KeepsStores};
 ghost use Rattle.res_manager.specs.Steps.{ResourceSteps};
 ghost use Rattle.res_manager.specs.Tests.{Tests, early_tests};
@@ -15,7 +15,7 @@ use crate::tests::{test_file, test_id, test_row};
 use fork_disk::store::ForkStore;
 use mac_base::error::OsErr;
 use mac_base::handle::Handle;
-use mac_calls::{GettingCall, GrowZone, Outcome, Results};
+use mac_base::{GettingCall, GrowZone, Outcome, Results};
 use mem_calls::MemoryManager;
 use res_files::ResourceFiles;
 use res_table::chain::RowPlace;

@@ -3,7 +3,7 @@
 ghost use Rattle.std.specs.Prelude.{◌≡◌, nat_le, length, option_copied, IfOk, IsSome, IsTrue, OnErr, OnOk, None, Some};
 ghost use Rattle.std.specs.Option.{option_map_or};
 ghost use Rattle.mem_calls.specs.Testing.{Answers};
-ghost use Rattle.res_calls.specs.Info.{info_changed, info_refusal};
+ghost use Rattle.res_update.specs.Info.{info_changed, info_refusal};
 ghost use Rattle.res_table.specs.OpenFiles.{place_of_handle, row_at};
 
 use crate::quiet::copy_if_named;
@@ -16,9 +16,9 @@ use res_files::ResourceFiles;
 use res_table::chain::RowPlace;
 use std::alloc::Global;
 
-/// SetResInfo: a resource gets this id, and this name where one is given. Its file has both with the next update, whether or not the
-/// resource was changed (Inside Macintosh: More Macintosh Toolbox, chapter 1, "Getting and Setting Resource Information"). The name is
-/// copied into host memory; without it nothing is changed.
+/// SetResInfo: a resource gets this id, and this name where one is given. Its file has both with the next update,
+/// whether or not the resource was changed (Inside Macintosh: More Macintosh Toolbox, chapter 1, "Getting and Setting
+/// Resource Information"). The name is copied into host memory; without it nothing is changed.
 pub fn set_info<S: ForkStore>(
     files: &mut ResourceFiles<S>,
     alloc: Global,
@@ -41,8 +41,8 @@ pub fn set_info<S: ForkStore>(
     Ok(Ok(()))
 }
 
-/// The place of the row that gets the name. Some file is open, some row has the handle and isn't protected, and the name has at most 255
-/// bytes; or the call is refused.
+/// The place of the row that gets the name. Some file is open, some row has the handle and isn't protected, and the
+/// name has at most 255 bytes; or the call is refused.
 fn test_info<S: ForkStore>(
     files: &ResourceFiles<S>,
     handle: Handle,

@@ -6,32 +6,32 @@ ghost use Rattle.mac_base.specs.declared.releasing.ReleasingCall.TheVariants.{Di
 ghost use Rattle.mac_base.specs.HandleTable.{is_full, with_flags};
 ghost use Rattle.mac_base.specs.Heap.{with_table, with_emptied};
 ghost use Rattle.mac_base.specs.Releasing.{heap_released};
-ghost use Rattle.mac_calls.specs.Outcomes.{Outcome};
-ghost use Rattle.res_calls.specs.Changes.{handles_forgotten, row_changed};
-ghost use Rattle.mac_calls.specs.Released.{disposed_in};
+ghost use Rattle.mac_base.specs.Outcomes.{Outcome};
+ghost use Rattle.res_update.specs.Changes.{handles_forgotten, row_changed};
+ghost use Rattle.mac_base.specs.Released.{disposed_in};
 ghost use Rattle.res_files.specs.FilesOn.{FailedAt, HonestAt, NoneFailed};
 ghost use Rattle.res_files.specs.Stores.{KeepsStores};
-ghost use Rattle.res_calls.specs.Answered.{AnswersFor};
+ghost use Rattle.res_update.specs.Answered.{AnswersFor};
 ghost use Rattle.res_table.specs.OpenFiles.{row_at};
 ghost use Rattle.res_table.specs.Rows.{with_handle};
 ghost use Rattle.res_manager.specs.Loading.{LoadSteps, AreAnswered, IsPlaced, IsFilled, HasBytes, flags_for, loaded_with, place_call, handle_placed};
-ghost use Rattle.res_calls.specs.Steps.{Memory};
+ghost use Rattle.res_update.specs.Steps.{Memory};
 
 use crate::watch::Watched;
 use bitflags::Flags;
 use fork_disk::store::ForkStore;
-use mac_base::block;
 use mac_base::error::OsErr;
 use mac_base::handle::Handle;
 use mac_base::resource::ResAttrs;
-use mac_calls::GrowZone;
+use mac_base::{GrowZone, block};
 use mem_calls::{MemoryManager, state_of};
 use res_files::ResourceFiles;
 use res_table::chain::RowPlace;
 
-/// The handle of the row at a place. Where its bytes are to be loaded and aren't, they come into a block that is made for them, with
-/// the flags that the row's attributes say; else a row without a handle gets an empty one. Each refusal of the Memory Manager is
-/// answered, and ioErr where the device failed: then the row has the handle that it had, empty, or none.
+/// The handle of the row at a place. Where its bytes are to be loaded and aren't, they come into a block that is made
+/// for them, with the flags that the row's attributes say; else a row without a handle gets an empty one. Each refusal
+/// of the Memory Manager is answered, and ioErr where the device failed: then the row has the handle that it had,
+/// empty, or none.
 pub(crate) fn get_row<S: ForkStore, G: GrowZone>(
     files: &mut ResourceFiles<S>,
     memory: &mut MemoryManager,
@@ -93,7 +93,8 @@ fn serves(memory: &MemoryManager, handle: Handle, loads: bool) -> bool
     !loads || memory.hget_state(handle).is_ok()
 }
 
-/// Makes the place for a row's bytes, under the row's own handle or a new one, and the rows forget what answers dispose of.
+/// Makes the place for a row's bytes, under the row's own handle or a new one, and the rows forget what answers dispose
+/// of.
 fn make_place<S: ForkStore, G: GrowZone>(
     files: &mut ResourceFiles<S>,
     memory: &mut MemoryManager,
@@ -138,14 +139,15 @@ fn request_place<G: GrowZone>(
         None if loads => memory.new_handle(size, procedure),
         None => memory.new_empty_handle(procedure),
     };
-    // The count of loans says that each is a pointer's or a locked handle's, the address of the first block that the heap is sound.
+    // The count of loans says that each is a pointer's or a locked handle's, the address of the first block that the
+    // heap is sound.
     prove!(memory.lent_count() <= 8);
     prove!(memory.first_block() > 0);
     made
 }
 
-/// Loads the bytes of the row at a place into the block that was made for them, with these attributes' flags. After a fault the place is
-/// undone.
+/// Loads the bytes of the row at a place into the block that was made for them, with these attributes' flags. After a
+/// fault the place is undone.
 fn load_bytes<S: ForkStore>(
     files: &mut ResourceFiles<S>,
     memory: &mut MemoryManager,

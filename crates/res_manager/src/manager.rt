@@ -2,10 +2,10 @@
 
 ghost use Rattle.std.specs.Prelude.{◌≡◌, [], None, length, IsTrue, IfOk, OnErr};
 ghost use Rattle.linked_zone.specs.Loans.{KeepsLoans};
-ghost use Rattle.res_calls.specs.Answered.{IsAnswered};
-ghost use Rattle.res_calls.specs.Tests.{resource_refusal};
-ghost use Rattle.mac_calls.specs.Outcomes.{done_outcome};
-ghost use Rattle.mac_calls.specs.declared.resource_call.ResourceCall.TheVariants.{OpenResFile};
+ghost use Rattle.res_update.specs.Answered.{IsAnswered};
+ghost use Rattle.res_update.specs.Tests.{resource_refusal};
+ghost use Rattle.mac_base.specs.Outcomes.{done_outcome};
+ghost use Rattle.mac_base.specs.declared.resource_call.ResourceCall.TheVariants.{OpenResFile};
 ghost use Rattle.res_files.specs.FilesOn.{HonestAt};
 ghost use Rattle.res_manager.specs.Crash.{LeavesForks};
 ghost use Rattle.res_manager.specs.Steps.{ResourceSteps, state_of, takes_memory};
@@ -18,15 +18,16 @@ use crate::tests::test_number;
 use crate::updating::update;
 use fork_disk::store::ForkStore;
 use mac_base::error::{HostFull, OsErr};
-use mac_calls::{GrowZone, Outcome, ResourceCall, Results};
+use mac_base::{GrowZone, Outcome, ResourceCall, Results};
 use mem_calls::MemoryManager;
 use res_files::{MOST_FILES, ResourceFiles};
 use std::alloc::Global;
 
-/// Makes a call of the Resource Manager. One that loads a resource makes its place by a call of the Memory Manager, which asks the
-/// grow-zone procedure where it finds no room. The blocks that are lent are told in any order. HostFull comes only where the call isn't refused, from calls that take host memory for
-/// a row, a name, a fork or a table, and before any device call of an update; then neither zone nor files have changed. A file that
-/// was updated with success reads back as the table that was saved.
+/// Makes a call of the Resource Manager. One that loads a resource makes its place by a call of the Memory Manager,
+/// which asks the grow-zone procedure where it finds no room. The blocks that are lent are told in any order. HostFull
+/// comes only where the call isn't refused, from calls that take host memory for a row, a name, a fork or a table, and
+/// before any device call of an update; then neither zone nor files have changed. A file that was updated with success
+/// reads back as the table that was saved.
 pub fn make<S: ForkStore, G: GrowZone>(
     files: &mut ResourceFiles<S>,
     memory: &mut MemoryManager,

@@ -8,7 +8,7 @@ ghost use Rattle.res_table.specs.OpenFiles.{is_open};
 
 use fork_disk::store::ForkStore;
 use mac_base::error::HostFull;
-use mac_calls::{Outcome, Results};
+use mac_base::{Outcome, Results};
 use res_files::ResourceFiles;
 
 /// Opens the file of a number, which isn't open.

@@ -2,8 +2,8 @@
 
 ghost use Rattle.std.specs.Prelude.{◌≡◌, ◌+◌, ◌≤◌, nat_le, length, IfOk, IfSome};
 ghost use Rattle.mac_base.specs.HandleTable.{is_full};
-ghost use Rattle.res_calls.specs.Answered.{IsAnswered};
-ghost use Rattle.res_calls.specs.Partial.{data_at, end_of_part, part_asked};
+ghost use Rattle.res_update.specs.Answered.{IsAnswered};
+ghost use Rattle.res_update.specs.Partial.{data_at, end_of_part, part_asked};
 ghost use Rattle.res_files.specs.FilesOn.{HonestAt};
 ghost use Rattle.res_files.specs.Stores.{KeepsStores};
 ghost use Rattle.res_manager.specs.Partial.{ReadsPartOn};
@@ -15,13 +15,13 @@ use fork_disk::store::ForkStore;
 use mac_base::error::OsErr;
 use mac_base::handle::Handle;
 use mem_calls::MemoryManager;
-use res_calls::PartialEnd;
 use res_files::ResourceFiles;
 use res_table::chain::RowPlace;
+use res_update::PartialEnd;
 
-/// ReadPartialResource: reads as many bytes as the buffer holds of those that a resource has in its file, from an offset on, whether or
-/// not it is in memory (Inside Macintosh: More Macintosh Toolbox, chapter 1, "Reading and Writing Partial Resources"). Where it reads none
-/// the buffer stays; after ioErr it holds any bytes.
+/// ReadPartialResource: reads as many bytes as the buffer holds of those that a resource has in its file, from an
+/// offset on, whether or not it is in memory (Inside Macintosh: More Macintosh Toolbox, chapter 1, "Reading and Writing
+/// Partial Resources"). Where it reads none the buffer stays; after ioErr it holds any bytes.
 pub fn read_partial<S: ForkStore>(
     files: &mut ResourceFiles<S>,
     memory: &MemoryManager,

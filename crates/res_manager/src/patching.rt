@@ -4,12 +4,12 @@ ghost use Rattle.std.specs.Prelude.{◌≡◌, ◌≤◌, List, ℕ, length, IfO
 ghost use Rattle.fork_bytes.specs.Fork.{max_fork};
 ghost use Rattle.mac_base.specs.HandleTable.{is_full, zeros};
 ghost use Rattle.mac_base.specs.ZoneState.{ZoneState};
-ghost use Rattle.mac_calls.specs.declared.resource_call.ResourceCall.TheVariants.{Writing};
-ghost use Rattle.mac_calls.specs.declared.resource_call.WritingCall.TheVariants.{UpdateResFile};
-ghost use Rattle.res_calls.specs.Answered.{AnswersFor, IsAnswered};
-ghost use Rattle.res_calls.specs.Partial.{data_at};
-ghost use Rattle.res_calls.specs.Patching.{begins_within, end_by, end_of_patch, handle_patched, patch_asked, patch_update, patched_bytes};
-ghost use Rattle.res_calls.specs.Updates.{Update};
+ghost use Rattle.mac_base.specs.declared.resource_call.ResourceCall.TheVariants.{Writing};
+ghost use Rattle.mac_base.specs.declared.resource_call.WritingCall.TheVariants.{UpdateResFile};
+ghost use Rattle.res_update.specs.Answered.{AnswersFor, IsAnswered};
+ghost use Rattle.res_update.specs.Partial.{data_at};
+ghost use Rattle.res_update.specs.Patching.{begins_within, end_by, end_of_patch, handle_patched, patch_asked, patch_update, patched_bytes};
+ghost use Rattle.res_update.specs.Updates.{Update};
 ghost use Rattle.res_files.specs.FilesOn.{FailedAt, HonestAt, NoneFailed};
 ghost use Rattle.res_files.specs.Stores.{KeepsStores};
 ghost use Rattle.res_manager.specs.Crash.{SavesFork};
@@ -26,20 +26,20 @@ use fork_disk::disk::DiskFault;
 use fork_disk::store::ForkStore;
 use mac_base::error::{HostFull, OsErr};
 use mac_base::handle::Handle;
-use mac_calls::{Outcome, Results};
+use mac_base::{Outcome, Results};
 use mem_calls::MemoryManager;
-use res_calls::{PartialEnd, PatchingCall};
 use res_files::ResourceFiles;
 use res_table::chain::RowPlace;
 use res_update::fault::UpdateFault;
 use res_update::selection::Selection;
+use res_update::{PartialEnd, PatchingCall};
 use std::alloc::Global;
 
-/// Makes a call that changes the bytes that a resource has in its file, which is written at once. Those that it has in memory, its
-/// attributes, and the zone stay. resFNotFound where no file is open, resNotFound where no resource has the handle, inputOutOfBounds
-/// where bytes are to be written from past its end on, and dskFulErr where no fork can hold the file then: so far nothing has
-/// changed. ioErr where the device failed: after the first write the file is closed. HostFull comes only where none of the first
-/// three does, and before the first write; then nothing has changed.
+/// Makes a call that changes the bytes that a resource has in its file, which is written at once. Those that it has in
+/// memory, its attributes, and the zone stay. resFNotFound where no file is open, resNotFound where no resource has the
+/// handle, inputOutOfBounds where bytes are to be written from past its end on, and dskFulErr where no fork can hold
+/// the file then: so far nothing has changed. ioErr where the device failed: after the first write the file is closed.
+/// HostFull comes only where none of the first three does, and before the first write; then nothing has changed.
 pub fn patch<S: ForkStore>(
     files: &mut ResourceFiles<S>,
     memory: &MemoryManager,
@@ -158,8 +158,8 @@ fn patch_at<S: ForkStore>(
     }
 }
 
-/// Reads the bytes that the resource at a place has in its file, and makes of them those that it has then. As many zeros are there
-/// before it.
+/// Reads the bytes that the resource at a place has in its file, and makes of them those that it has then. As many
+/// zeros are there before it.
 fn read_patched<S: ForkStore>(
     files: &mut ResourceFiles<S>,
     place: RowPlace,

@@ -4,12 +4,12 @@ ghost use Rattle.std.specs.Prelude.{◌≡◌, length, nat_le, option_copied, If
 ghost use Rattle.std.specs.Option.{option_map_or};
 ghost use Rattle.linked_zone.specs.Loans.{KeepsLoans};
 ghost use Rattle.mac_base.specs.ZoneState.{ZoneState};
-ghost use Rattle.mac_calls.specs.declared.resource_call.ResourceCall.TheVariants.{Looking, Changing, AddResource, GetResInfo};
-ghost use Rattle.mac_calls.specs.declared.resource_call.ChangingCall.TheVariants.{ReleaseResource, DetachResource, RemoveResource, ChangedResource, SetResAttrs};
-ghost use Rattle.res_calls.specs.Attributes.{marked, replaced_attributes};
-ghost use Rattle.res_calls.specs.Changes.{FileRow};
-ghost use Rattle.res_calls.specs.Files.{ResState};
-ghost use Rattle.res_calls.specs.Quiet.{quiet_results};
+ghost use Rattle.mac_base.specs.declared.resource_call.ResourceCall.TheVariants.{Looking, Changing, AddResource, GetResInfo};
+ghost use Rattle.mac_base.specs.declared.resource_call.ChangingCall.TheVariants.{ReleaseResource, DetachResource, RemoveResource, ChangedResource, SetResAttrs};
+ghost use Rattle.res_update.specs.Attributes.{marked, replaced_attributes};
+ghost use Rattle.res_update.specs.Changes.{FileRow};
+ghost use Rattle.res_update.specs.Files.{ResState};
+ghost use Rattle.res_update.specs.Quiet.{quiet_results};
 ghost use Rattle.res_manager.specs.Steps.{state_of};
 ghost use Rattle.res_table.specs.OpenFiles.{row_at};
 ghost use Rattle.res_manager.specs.Tests.{Passes, Tests, early_tests};
@@ -26,7 +26,7 @@ use mac_base::error::{HostFull, OsErr};
 use mac_base::handle::Handle;
 use mac_base::name::Name;
 use mac_base::resource::{ResAttrs, ResType};
-use mac_calls::{ChangingCall, LookingCall, Outcome, ResourceInfo, Results};
+use mac_base::{ChangingCall, LookingCall, Outcome, ResourceInfo, Results};
 use mem_calls::MemoryManager;
 use res_files::ResourceFiles;
 use res_table::attributes::unmarked;
@@ -256,8 +256,8 @@ fn replaced_attributes(new: u8, old: ResAttrs) -> ResAttrs
     }
 }
 
-/// AddResource: the handle's block is a new resource of the current file, to be written by its next update. The name is copied into
-/// host memory; without it nothing is changed.
+/// AddResource: the handle's block is a new resource of the current file, to be written by its next update. The name is
+/// copied into host memory; without it nothing is changed.
 pub(crate) fn add<S: ForkStore>(
     files: &mut ResourceFiles<S>,
     memory: &mut MemoryManager,

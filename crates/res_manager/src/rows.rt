@@ -1,15 +1,15 @@
 //! The rows of handles.
 
 ghost use Rattle.std.specs.Prelude.{◌≡◌, [], ◌∷◌, IfSome, IfNone, IfOk, Some, None};
-ghost use Rattle.res_calls.specs.Changes.{FileRow, row_of_handle};
-ghost use Rattle.res_calls.specs.Files.{ResState};
-ghost use Rattle.res_calls.specs.Tests.{HasFile, HasRow};
+ghost use Rattle.res_update.specs.Changes.{FileRow, row_of_handle};
+ghost use Rattle.res_update.specs.Files.{ResState};
+ghost use Rattle.res_update.specs.Tests.{HasFile, HasRow};
 ghost use Rattle.res_files.specs.FilesOn.{Shows};
 ghost use Rattle.res_manager.specs.Tests.{Tests};
 
 use crate::tests::test_row;
+use fork_bytes::place::Place;
 use fork_disk::store::ForkStore;
-use fork_reader::place::Place;
 use mac_base::error::OsErr;
 use mac_base::handle::Handle;
 use res_files::ResourceFiles;

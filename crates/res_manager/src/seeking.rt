@@ -2,7 +2,7 @@
 
 ghost use Rattle.std.specs.Prelude.{◌≡◌, [], IfOk, IfSome, IsSome, length};
 ghost use Rattle.linked_zone.specs.Loans.{KeepsLoans};
-ghost use Rattle.res_calls.specs.Sought.{place_sought, sought};
+ghost use Rattle.res_update.specs.Sought.{place_sought, sought};
 ghost use Rattle.res_files.specs.Stores.{KeepsStores};
 ghost use Rattle.res_manager.specs.Steps.{SoughtSteps};
 ghost use Rattle.res_table.specs.OpenFiles.{row_at};
@@ -10,14 +10,15 @@ ghost use Rattle.res_table.specs.OpenFiles.{row_at};
 use crate::load::get_row;
 use fork_disk::store::ForkStore;
 use mac_base::error::OsErr;
-use mac_calls::{GrowZone, Outcome, Results};
+use mac_base::{GrowZone, Outcome, Results};
 use mem_calls::MemoryManager;
-use res_calls::SeekingCall;
 use res_files::ResourceFiles;
 use res_table::chain::RowPlace;
+use res_update::SeekingCall;
 
-/// Makes a call that seeks a resource otherwise than by its id: where there is one, it is loaded as GetResource loads, in which the
-/// grow-zone procedure may be asked for room. resFNotFound where no file is open, and resNotFound where none has such a resource.
+/// Makes a call that seeks a resource otherwise than by its id: where there is one, it is loaded as GetResource loads,
+/// in which the grow-zone procedure may be asked for room. resFNotFound where no file is open, and resNotFound where
+/// none has such a resource.
 pub fn seek<S: ForkStore, G: GrowZone>(
     files: &mut ResourceFiles<S>,
     memory: &mut MemoryManager,

@@ -4,15 +4,15 @@ ghost use Rattle.std.specs.Prelude.{◌≡◌, ◌&&◌, ◌||◌, not, true, fa
 ghost use Rattle.std.specs.List.{list_any};
 ghost use Rattle.std.specs.Option.{option_map_or, option_or};
 ghost use Rattle.mac_base.specs.HandleTable.{HandleTable, is_full, is_lent};
-ghost use Rattle.mac_calls.specs.Tests.{unless_passed};
-ghost use Rattle.mac_calls.specs.declared.resource_call.ResourceCall.TheVariants.{Writing, AddResource};
-ghost use Rattle.mac_calls.specs.declared.resource_call.WritingCall.TheVariants.{WriteResource, UpdateResFile, CloseResFile};
+ghost use Rattle.mac_base.specs.Tests.{unless_passed};
+ghost use Rattle.mac_base.specs.declared.resource_call.ResourceCall.TheVariants.{Writing, AddResource};
+ghost use Rattle.mac_base.specs.declared.resource_call.WritingCall.TheVariants.{WriteResource, UpdateResFile, CloseResFile};
 ghost use Rattle.mem_calls.specs.Testing.{Answers};
-ghost use Rattle.res_calls.specs.Changes.{rows_of};
-ghost use Rattle.res_calls.specs.Files.{file_named};
-ghost use Rattle.res_calls.specs.Attributes.{has_bit, res_protected};
-ghost use Rattle.res_calls.specs.Tests.{is_id, may_be_added, is_lent_row};
-ghost use Rattle.res_calls.specs.Updates.{new_row, row_passes};
+ghost use Rattle.res_update.specs.Changes.{rows_of};
+ghost use Rattle.res_update.specs.Files.{file_named};
+ghost use Rattle.res_update.specs.Attributes.{has_bit, res_protected};
+ghost use Rattle.res_update.specs.Tests.{is_id, may_be_added, is_lent_row};
+ghost use Rattle.res_update.specs.Updates.{new_row, row_passes};
 ghost use Rattle.res_table.specs.Attributes.{res_changed};
 ghost use Rattle.res_table.specs.OpenFiles.{is_open, place_of_handle, row_at};
 ghost use Rattle.res_table.specs.Rows.{is_changed};
@@ -49,7 +49,8 @@ pub(crate) fn test_file<S: ForkStore>(files: &ResourceFiles<S>) -> Result<u8, Os
     files.current().ok_or(OsErr::ResFNotFound)
 }
 
-/// The place of the row with a handle. Some file is open, or the call is refused; where no row has the handle, with a code.
+/// The place of the row with a handle. Some file is open, or the call is refused; where no row has the handle, with a
+/// code.
 pub(crate) fn test_row<S: ForkStore>(
     files: &ResourceFiles<S>,
     handle: Handle,
@@ -100,8 +101,8 @@ pub(crate) fn test_open<S: ForkStore>(
     Ok(number)
 }
 
-/// The number of the file that an update writes. Some file is open, this one is, and the handle of no changed row is lent; or the
-/// call is refused.
+/// The number of the file that an update writes. Some file is open, this one is, and the handle of no changed row is
+/// lent; or the call is refused.
 pub(crate) fn test_changed<S: ForkStore>(
     files: &ResourceFiles<S>,
     memory: &MemoryManager,
@@ -121,8 +122,8 @@ pub(crate) fn test_changed<S: ForkStore>(
     Ok(number)
 }
 
-/// The number of the file that is closed. Some file is open, this one is, and the handle of none of its rows is lent; or the call is
-/// refused.
+/// The number of the file that is closed. Some file is open, this one is, and the handle of none of its rows is lent;
+/// or the call is refused.
 pub(crate) fn test_closing<S: ForkStore>(
     files: &ResourceFiles<S>,
     memory: &MemoryManager,
@@ -142,8 +143,8 @@ pub(crate) fn test_closing<S: ForkStore>(
     Ok(number)
 }
 
-/// The place of the row that WriteResource writes, if it is changed. Some file is open, some row has the handle, and it isn't lent
-/// where its row is changed; or the call is refused.
+/// The place of the row that WriteResource writes, if it is changed. Some file is open, some row has the handle, and it
+/// isn't lent where its row is changed; or the call is refused.
 pub(crate) fn test_written<S: ForkStore>(
     files: &ResourceFiles<S>,
     memory: &MemoryManager,
@@ -162,8 +163,8 @@ pub(crate) fn test_written<S: ForkStore>(
     Ok(Some(place))
 }
 
-/// The number of the current file, and the id of the resource that AddResource makes of a handle's block. Some file is open, the id is
-/// a possible one, and the file has room for the resource; or the call is refused.
+/// The number of the current file, and the id of the resource that AddResource makes of a handle's block. Some file is
+/// open, the id is a possible one, and the file has room for the resource; or the call is refused.
 pub(crate) fn test_adding<S: ForkStore>(
     files: &ResourceFiles<S>,
     memory: &MemoryManager,
@@ -182,7 +183,8 @@ pub(crate) fn test_adding<S: ForkStore>(
     Ok((number, id))
 }
 
-/// Whether the handle of some row of a file is among the blocks that are lent, or where just the changed rows count, of one of these.
+/// Whether the handle of some row of a file is among the blocks that are lent, or where just the changed rows count, of
+/// one of these.
 fn has_lent_row<S: ForkStore>(
     files: &ResourceFiles<S>,
     lent: &[u32],
@@ -253,8 +255,8 @@ pub(crate) fn is_full(memory: &MemoryManager, handle: Handle) -> bool
     }
 }
 
-/// Whether a handle can become a resource of the current file: it has a block and is no resource, and the file has room for one
-/// more of this type and name.
+/// Whether a handle can become a resource of the current file: it has a block and is no resource, and the file has room
+/// for one more of this type and name.
 fn may_be_added<S: ForkStore>(
     files: &ResourceFiles<S>,
     memory: &MemoryManager,

@@ -2,11 +2,11 @@
 
 ghost use Rattle.std.specs.Prelude.{◌≡◌, [], IfOk, OnErr, IsTrue, IsFalse, Some, None, length};
 ghost use Rattle.linked_zone.specs.Loans.{KeepsLoans};
-ghost use Rattle.mac_calls.specs.declared.resource_call.ResourceCall.TheVariants.{Writing};
-ghost use Rattle.mac_calls.specs.declared.resource_call.WritingCall.TheVariants.{WriteResource, UpdateResFile, CloseResFile};
-ghost use Rattle.res_calls.specs.Changes.{rows_of};
-ghost use Rattle.res_calls.specs.Tests.{resource_refusal};
-ghost use Rattle.res_calls.specs.Updates.{Update, disposed, fits_fork, handles_of, update_of};
+ghost use Rattle.mac_base.specs.declared.resource_call.ResourceCall.TheVariants.{Writing};
+ghost use Rattle.mac_base.specs.declared.resource_call.WritingCall.TheVariants.{WriteResource, UpdateResFile, CloseResFile};
+ghost use Rattle.res_update.specs.Changes.{rows_of};
+ghost use Rattle.res_update.specs.Tests.{resource_refusal};
+ghost use Rattle.res_update.specs.Updates.{Update, disposed, fits_fork, handles_of, update_of};
 ghost use Rattle.res_manager.specs.Crash.{LeavesForks, SavesFork};
 ghost use Rattle.res_manager.specs.Ends.{WritesFile};
 ghost use Rattle.res_manager.specs.Steps.{ResourceSteps, state_of, takes_memory};
@@ -19,7 +19,7 @@ use crate::tests::{test_changed, test_closing, test_written};
 use fork_disk::store::ForkStore;
 use mac_base::error::{HostFull, OsErr};
 use mac_base::handle::Handle;
-use mac_calls::{Outcome, Results, WritingCall};
+use mac_base::{Outcome, Results, WritingCall};
 use mem_calls::MemoryManager;
 use res_files::ResourceFiles;
 use res_update::fault::UpdateFault;
@@ -107,8 +107,8 @@ fn close<S: ForkStore>(
     Ok(outcome)
 }
 
-/// Writes a file anew. The selected rows have the bytes of their handles then, and are no longer changed. After a fault behind the
-/// first write the file is closed.
+/// Writes a file anew. The selected rows have the bytes of their handles then, and are no longer changed. After a fault
+/// behind the first write the file is closed.
 fn write_file<S: ForkStore>(
     files: &mut ResourceFiles<S>,
     memory: &MemoryManager,

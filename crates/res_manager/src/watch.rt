@@ -2,8 +2,8 @@
 
 ghost use Rattle.std.specs.Prelude.{◌≡◌, ◌≤◌, [], ◌∷◌, ◌++◌, length, IsTrue, IfSome};
 ghost use Rattle.std.specs.List.{list_all};
-ghost use Rattle.mac_calls.specs.GrowZone.{may_ask, may_note, new_ask, noted};
-ghost use Rattle.mac_calls.specs.Released.{disposed_by, disposed_in};
+ghost use Rattle.mac_base.specs.GrowZone.{may_ask, may_note, new_ask, noted};
+ghost use Rattle.mac_base.specs.Released.{disposed_by, disposed_in};
 ghost use Rattle.res_manager.specs.Watching.{Notes, has_few_calls, named_source};
 
 use arrayvec::ArrayVec;
@@ -11,11 +11,11 @@ use fork_disk::store::ForkStore;
 use mac_base::error::OsErr;
 use mac_base::handle::Handle;
 use mac_base::releasing::ReleasingCall;
-use mac_calls::{Answer, GrowZone};
+use mac_base::{Answer, GrowZone};
 use res_files::ResourceFiles;
 
-/// A grow-zone procedure under watch: it answers as the one that is borrowed, and the handles are noted of which its answers dispose.
-/// One call of the Memory Manager asks at most 16 times, for 8 calls each.
+/// A grow-zone procedure under watch: it answers as the one that is borrowed, and the handles are noted of which its
+/// answers dispose. One call of the Memory Manager asks at most 16 times, for 8 calls each.
 #[derive(Drop)]
 pub struct Watched<'a, G: GrowZone> {
     procedure: &'a mut G,
@@ -26,7 +26,7 @@ pub struct Watched<'a, G: GrowZone> {
 }
 
 impl<'a, G: GrowZone> Watched<'a, G> {
-    ghost use Rattle.res_calls.specs.Changes.{handles_forgotten};
+    ghost use Rattle.res_update.specs.Changes.{handles_forgotten};
 
     /// A procedure under watch that the running call hasn't asked yet.
     pub fn new(procedure: &'a mut G) -> Watched<'a, G>

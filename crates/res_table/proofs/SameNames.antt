@@ -5,7 +5,8 @@ use Rattle.res_table.specs.declared.chain.ResourceTable.{ResourceTable}
 use Rattle.res_table.specs.Names.{capital, is_same_name}
 use Rattle.res_table.specs.OpenFiles.{OpenFiles, name_here, place_of_name}
 
--- letters of the two cases are the same: of a to z, and of those with marks that have capitals (ä and Ä are $8A and $80)
+-- letters of the two cases are the same: of a to z, and of those with marks that have capitals (ä and Ä are $8A and
+-- $80)
 letters : map capital (0x61 ∷ 0x7A ∷ 0x88 ∷ 0x8A ∷ 0x8B ∷ 0x8C ∷ 0x8D ∷ 0x8E ∷ 0x96 ∷ 0x9A ∷ 0x9B ∷ 0x9F ∷ 0xBE ∷ 0xBF ∷ 0xCF ∷ [])
     ≡ 0x41 ∷ 0x5A ∷ 0xCB ∷ 0x80 ∷ 0xCC ∷ 0x81 ∷ 0x82 ∷ 0x83 ∷ 0x84 ∷ 0x85 ∷ 0xCD ∷ 0x86 ∷ 0xAE ∷ 0xAF ∷ 0xCE ∷ []
 letters = refl

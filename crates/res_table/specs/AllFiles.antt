@@ -12,8 +12,8 @@ abbrev pub all_rows : {D : Type 0} → List (OpenFile D) → List (Row D)
 all_rows [] = []
 all_rows (f ∷ fs) = all_rows fs ++ f.table.rows
 
--- where the i-th resource of a type stands, counted from 1: in a later file, if the later ones have so many, or else in this one, by what
--- is left of the index
+-- where the i-th resource of a type stands, counted from 1: in a later file, if the later ones have so many, or else in
+-- this one, by what is left of the index
 abbrev pub ith_place : {D : Type 0} → List ℕ → ℕ → List (OpenFile D) → Option RowPlace
 ith_place kind i [] = None
 ith_place kind i (f ∷ fs) =

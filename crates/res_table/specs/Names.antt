@@ -1,5 +1,5 @@
--- Names of resources, compared as the Macintosh compares them: letters that differ only in case are the same, and those that differ in
--- their diacritical marks aren't.
+-- Names of resources, compared as the Macintosh compares them: letters that differ only in case are the same, and those
+-- that differ in their diacritical marks aren't.
 use Rattle.std.specs.Prelude.{ℕ, Bool, false, ◌==◌, ◌&&◌, List, slice_index}
 use Rattle.std.specs.Cmp.Lexicographic.{pointwise}
 use Rattle.std.specs.Option.{option_map_or}

@@ -34,8 +34,8 @@ pub struct RowPlace {
     pub index: usize,
 }
 
-/// The open files, in the order of opening, and the number of the current one, if one is open (Inside Macintosh: More Macintosh
-/// Toolbox, chapter 1, "The Resource File Search Order"). A contract sees the list and the number.
+/// The open files, in the order of opening, and the number of the current one, if one is open (Inside Macintosh: More
+/// Macintosh Toolbox, chapter 1, "The Resource File Search Order"). A contract sees the list and the number.
 #[derive(Drop)]
 pub struct Chain<D> {
     files: Vec<OpenFile<D>>,
@@ -94,7 +94,8 @@ impl<D> Chain<D> {
         self.files.iter().any(|file| file.number == number)
     }
 
-    /// Adds a file behind the others and makes it the current one (OpenResFile). Without host memory nothing is changed.
+    /// Adds a file behind the others and makes it the current one (OpenResFile). Without host memory nothing is
+    /// changed.
     pub fn open(&mut self, number: u8, table: ResourceTable<D>) -> Result<(), HostFull>
     where
         D: Drop,
@@ -145,8 +146,8 @@ impl<D> Chain<D> {
         None
     }
 
-    /// Where the first row of a type and a name stands: in the current file, or else in the latest before it that has one
-    /// (GetNamedResource).
+    /// Where the first row of a type and a name stands: in the current file, or else in the latest before it that has
+    /// one (GetNamedResource).
     pub fn find_named(&self, kind: ResType, name: &[u8]) -> Option<RowPlace>
         ensures { result ≡ place_of_name kind name.now self.now }
     {
@@ -208,8 +209,8 @@ impl<D> Chain<D> {
         self.current == Some(number)
     }
 
-    /// Takes the file of a number out of the chain, and gives back its table, or None where it isn't open (CloseResFile). Where it
-    /// was the current file, the latest of the others is.
+    /// Takes the file of a number out of the chain, and gives back its table, or None where it isn't open
+    /// (CloseResFile). Where it was the current file, the latest of the others is.
     pub fn close(&mut self, number: u8) -> Option<ResourceTable<D>>
         ensures table { result ≡ table_of number self.old }
         ensures closed { self.new ≡ file_closed number self.old }
@@ -354,8 +355,8 @@ impl<D> Chain<D> {
         Some(self.files[at].table.rows.remove(place.index))
     }
 
-    /// Adds a row to the file of a number, which has fewer than 8,192, behind the last of its type, or last where there is none. Without
-    /// host memory nothing is changed.
+    /// Adds a row to the file of a number, which has fewer than 8,192, behind the last of its type, or last where there
+    /// is none. Without host memory nothing is changed.
     pub fn add(&mut self, number: u8, row: Row<D>) -> Result<(), HostFull>
     where
         D: Drop,
@@ -381,8 +382,8 @@ impl<D> Chain<D> {
     ghost use Rattle.res_table.specs.OpenFiles.{row_at, rows_changed, table_of};
     ghost use Rattle.res_table.specs.Rows.{changed_at};
 
-    /// Gives the row at a place, in a file of at most 8,192, this id, and this name where one is given. Without host memory nothing is
-    /// changed.
+    /// Gives the row at a place, in a file of at most 8,192, this id, and this name where one is given. Without host
+    /// memory nothing is changed.
     pub fn set_info(&mut self, place: RowPlace, id: i16, name: Option<Name>) -> Result<(), HostFull>
         requires there { IsSome (row_at place self.old) }
         requires few { IfSome (table_of place.file self.old) (λ table. length table.rows ≤ max_rows) }

@@ -155,8 +155,9 @@ fn rank(pairs: &[Pair], pair: Pair) -> usize
     rank_by_halving(pairs, pair)
 }
 
-/// The rows that have a key, in the order of keys, and among those with the same key in the order of rows. So a row is found where
-/// its key says that it should stand, or else by halving. A contract sees the pairs, and how many there is room for.
+/// The rows that have a key, in the order of keys, and among those with the same key in the order of rows. So a row is
+/// found where its key says that it should stand, or else by halving. A contract sees the pairs, and how many there is
+/// room for.
 #[derive(Drop)]
 pub struct Keyed {
     pairs: Vec<Pair>,

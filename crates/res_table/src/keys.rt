@@ -26,7 +26,8 @@ fn number_of(kind: ResType) -> u32
     u32::from_be_bytes(kind.bytes())
 }
 
-/// The key of a type and an id: the four bytes of the type, and behind them the two of the id. Both can be read from it again.
+/// The key of a type and an id: the four bytes of the type, and behind them the two of the id. Both can be read from it
+/// again.
 pub fn key_of_resource(kind: ResType, id: i16) -> u64
     ensures key { result ≡ key_of_resource kind id }
     ensures kind { to_be_bytes w32 (result / 65536) ≡ kind }

@@ -108,12 +108,13 @@ pub fn ith_type(types: &[TypeCount], i: usize) -> Option<ResType>
     Some(types[i - 1].kind)
 }
 
-/// The types of rows, in order: each with how many rows of it stand together. So what is asked of a type doesn't go through the rows.
-/// A contract sees these runs, and how many there is room for.
+/// The types of rows, in order: each with how many rows of it stand together. So what is asked of a type doesn't go
+/// through the rows. A contract sees these runs, and how many there is room for.
 #[derive(Drop)]
 pub struct Kinds {
     runs: Vec<TypeCount>,
-    /// It was seen that no run is of the type of the run before it: so it is while the rows of each type stand together.
+    /// It was seen that no run is of the type of the run before it: so it is while the rows of each type stand
+    /// together.
     seen: bool,
 }
 

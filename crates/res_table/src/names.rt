@@ -3,9 +3,9 @@
 ghost use Rattle.std.specs.Prelude.{◌≡◌};
 ghost use Rattle.res_table.specs.Names.{capital, is_same_name};
 
-/// The capital of each byte of MacRoman, by EqualString's rule where it ignores case and minds diacritical marks (Inside
-/// Macintosh: Text, chapter 5): of a to z, and of the letters à ã ä å æ ç é ñ ö õ ø œ ü, which had capitals in the first
-/// Macintosh's characters. Every other byte is its own, as á and ÿ are, whose capitals came later.
+/// The capital of each byte of MacRoman, by EqualString's rule where it ignores case and minds diacritical marks
+/// (Inside Macintosh: Text, chapter 5): of a to z, and of the letters à ã ä å æ ç é ñ ö õ ø œ ü, which had capitals in
+/// the first Macintosh's characters. Every other byte is its own, as á and ÿ are, whose capitals came later.
 pub const CAPITALS: [u8; 256] = [
     0x00, 0x01, 0x02, 0x03, 0x04, 0x05, 0x06, 0x07, 0x08, 0x09, 0x0A, 0x0B, 0x0C, 0x0D, 0x0E, 0x0F,
     0x10, 0x11, 0x12, 0x13, 0x14, 0x15, 0x16, 0x17, 0x18, 0x19, 0x1A, 0x1B, 0x1C, 0x1D, 0x1E, 0x1F,

@@ -22,9 +22,10 @@ const MAX_ID: u64 = 32_767;
 /// How many ids a type may have.
 const IDS: u64 = 65_536;
 
-/// The rows of an open file, in order. A contract sees the list. A row is found by its handle, or by its type and id, without going
-/// through the rows, what is asked of a type goes through the runs of rows of one type alone, and the size of the names is kept. So are
-/// the handles of changed rows, since an update that is too big goes over them at each try.
+/// The rows of an open file, in order. A contract sees the list. A row is found by its handle, or by its type and id,
+/// without going through the rows, what is asked of a type goes through the runs of rows of one type alone, and the
+/// size of the names is kept. So are the handles of changed rows, since an update that is too big goes over them at
+/// each try.
 #[derive(Drop)]
 pub struct Rows<D> {
     rows: Vec<Row<D>>,
@@ -74,8 +75,8 @@ impl<D> Rows<D> {
         }
     }
 
-    /// The rows of resources that were read, at most 8,192: none has a handle, and none is changed. The only error is that the host
-    /// has no memory.
+    /// The rows of resources that were read, at most 8,192: none has a handle, and none is changed. The only error is
+    /// that the host has no memory.
     pub fn opened(alloc: Global, resources: Vec<Resource<D>>) -> Result<Rows<D>, HostFull>
     where
         D: Drop,
@@ -211,8 +212,8 @@ impl<D> Rows<D> {
         self.kinds.end(kind, self.rows.len())
     }
 
-    /// Adds a row behind the last of its type, or last where there is none, to fewer than 8,192. Without host memory nothing is
-    /// changed.
+    /// Adds a row behind the last of its type, or last where there is none, to fewer than 8,192. Without host memory
+    /// nothing is changed.
     pub fn add(&mut self, row: Row<D>) -> Result<(), HostFull>
     where
         D: Drop,
@@ -282,8 +283,8 @@ impl<D> Rows<D> {
         self.names
     }
 
-    /// For each row its handle, where it is changed. So an update goes over the rows that it writes without reading them. Each row's
-    /// type has four bytes.
+    /// For each row its handle, where it is changed. So an update goes over the rows that it writes without reading
+    /// them. Each row's type has four bytes.
     pub fn changed_handles(&self) -> &[Option<Handle>]
         ensures handles { result.now ≡ map changed_handle self.now }
         ensures four { AllByRecursion (λ r. length r.resource.kind ≡ 4) self.now }
@@ -328,7 +329,8 @@ impl<D> Rows<D> {
         None
     }
 
-    /// The least id from 128 on that no row of a type has (UniqueID): at most 8,320, since there are at most 8,192 rows.
+    /// The least id from 128 on that no row of a type has (UniqueID): at most 8,320, since there are at most 8,192
+    /// rows.
     pub fn unique_id(&self, kind: ResType) -> i16
         requires { length self.now ≤ max_rows }
         ensures { result ≡ pos (unique_id kind self.now) }
@@ -363,8 +365,8 @@ impl<D> Rows<D> {
         }
     }
 
-    /// Whether the table of these rows fits a fork: there are at most 8,192, and two bytes hold each offset in the map. The rows are
-    /// gone through only where their names together have more bytes than the largest offset of a name.
+    /// Whether the table of these rows fits a fork: there are at most 8,192, and two bytes hold each offset in the map.
+    /// The rows are gone through only where their names together have more bytes than the largest offset of a name.
     pub fn fits(&self) -> bool
         ensures { IsTrue result ↔ RowsFit self.now }
     {
@@ -385,7 +387,8 @@ impl<D> Rows<D> {
     ghost use Rattle.res_table.specs.Info.{with_info};
     ghost use Rattle.res_table.specs.Rows.{changed_at};
 
-    /// Gives the row at an index, of at most 8,192, this id, and this name where one is given. Without host memory nothing is changed.
+    /// Gives the row at an index, of at most 8,192, this id, and this name where one is given. Without host memory
+    /// nothing is changed.
     pub fn set_info(&mut self, index: usize, id: i16, name: Option<Name>) -> Result<(), HostFull>
         requires within { index < length self.old }
         requires few { length self.old ≤ max_rows }

@@ -1,3 +1,7 @@
+pub mod Answering
+pub mod Seeking
+mod Running
+mod Worked
 pub mod PlaceBytes
 pub mod Selecting
 pub mod Saving

@@ -12,11 +12,11 @@ use Rattle.fork_bytes.specs.Fork.{max_fork, max_rows}
 use Rattle.fork_bytes.specs.Written.{types_of, counted_before, types_text, names_offset, data_text, name_text, names_text, references_text, header_for, map_header_text, front_text, map_text, written, NamesFit}
 use Rattle.fork_bytes.proofs.Lengths.{AreFour, length-written}
 use Rattle.fork_bytes.proofs.Steps.{length-data}
-use Rattle.fork_reader.specs.declared.place.Place.{Place}
+use Rattle.fork_bytes.specs.declared.place.Place.{Place}
 use Rattle.res_table.specs.declared.row.Row.{Row}
 use Rattle.res_table.specs.Saved.{saved_row, bare, RowsFit}
 use Rattle.res_table.proofs.Bare as bare
-use Rattle.res_calls.specs.Fitting.{rows_fit, names_fit}
+use Rattle.res_update.specs.Fitting.{rows_fit, names_fit}
 use Rattle.res_update.specs.Drafts.{rows_with, fits_as_fork, HasKind}
 use Rattle.res_update.proofs.Selecting.{drop_here}
 use Rattle.res_update.proofs.Shaping.{same_types, same_count, same_offset, same_fit}

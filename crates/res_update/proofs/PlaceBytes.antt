@@ -2,7 +2,7 @@
 use Rattle.std.proofs.Common.{◌≡◌, arith, ℕ, ◌+◌, List, ◌++◌, length, drop, replicate}
 use Rattle.std.proofs.lemmas.List.{length-append, length-replicate, length-drop, length-take-le, take-append-le}
 use Rattle.fork_bytes.specs.Fork.{bytes_at}
-use Rattle.fork_reader.specs.declared.place.Place.{Place}
+use Rattle.fork_bytes.specs.declared.place.Place.{Place}
 use Rattle.res_update.specs.Placed.{bytes_on, IsInside}
 
 -- they are as many as the place says

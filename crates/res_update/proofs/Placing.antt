@@ -14,12 +14,12 @@ use Rattle.fork_bytes.proofs.Steps.{length-data, length-big_bytes}
 use Rattle.fork_disk.specs.declared.update.Kept.{Kept}
 use Rattle.fork_disk.specs.Disk.{put_at}
 use Rattle.fork_disk.specs.Fork.{gathered}
-use Rattle.fork_reader.specs.declared.place.Place.{Place}
+use Rattle.fork_bytes.specs.declared.place.Place.{Place}
 use Rattle.res_table.specs.declared.row.Row.{Row}
 use Rattle.res_table.specs.declared.chain.ResourceTable.{ResourceTable}
 use Rattle.res_table.specs.Saved.{saved_row}
-use Rattle.res_calls.specs.Changes.{FileRow, saved_table}
-use Rattle.res_calls.specs.Updates.{fits_fork}
+use Rattle.res_update.specs.Changes.{FileRow, saved_table}
+use Rattle.res_update.specs.Updates.{fits_fork}
 use Rattle.res_update.specs.declared.selection.Selection.{Selection}
 use Rattle.res_update.specs.Drafts.{is_selected, row_bytes, draft_bytes, rows_with, draft_table, fits_as_fork, new_places, kept_ranges, IsDraft}
 use Rattle.res_update.specs.Placed.{bytes_on, table_on, AreInside, IsInside, IsNear}

@@ -7,10 +7,10 @@ use Rattle.fork_bytes.specs.declared.table.Table.{Table}
 use Rattle.fork_bytes.specs.Fork.{max_fork, max_rows, StandsFor}
 use Rattle.fork_bytes.specs.Laws.{IsRow, IsGrouped, IsTable, IsReadAgain}
 use Rattle.fork_bytes.specs.Written.{written, NamesFit, Fits}
-use Rattle.fork_reader.specs.declared.place.Place.{Place}
+use Rattle.fork_bytes.specs.declared.place.Place.{Place}
 use Rattle.res_table.specs.declared.row.Row.{Row}
 use Rattle.res_table.specs.declared.chain.ResourceTable.{ResourceTable}
-use Rattle.res_calls.specs.Changes.{saved_table}
+use Rattle.res_update.specs.Changes.{saved_table}
 use Rattle.res_update.specs.declared.selection.Selection.{Selection}
 use Rattle.res_update.specs.Drafts.{draft_bytes, draft_table, rows_with}
 use Rattle.res_update.specs.Placed.{table_on}

@@ -8,15 +8,15 @@ use Rattle.std.proofs.lemmas.Nat.{and_assoc}
 use Rattle.mac_base.specs.HandleTable.{HandleTable}
 use Rattle.fork_bytes.specs.Rows as forks
 use Rattle.fork_bytes.specs.declared.table.Table.{Table}
-use Rattle.fork_reader.specs.declared.place.Place.{Place}
+use Rattle.fork_bytes.specs.declared.place.Place.{Place}
 use Rattle.mac_base.specs.declared.resource.ResAttrs.{ResAttrs}
 use Rattle.res_table.specs.declared.row.Row.{Row}
 use Rattle.res_table.specs.declared.chain.ResourceTable.{ResourceTable}
 use Rattle.res_table.specs.Rows.{is_changed, contents, changed_at}
 use Rattle.res_table.specs.Attributes.{unmarked}
 use Rattle.res_table.specs.Saved.{saved_row, saved_rows}
-use Rattle.res_calls.specs.Changes.{FileRow, saved_table}
-use Rattle.res_calls.specs.Updates.{updated_row, updated_if_changed}
+use Rattle.res_update.specs.Changes.{FileRow, saved_table}
+use Rattle.res_update.specs.Updates.{updated_row, updated_if_changed}
 use Rattle.res_update.specs.declared.selection.Selection.{Selection}
 use Rattle.res_update.specs.declared.selection.Selection.TheVariants.{AllChanged, RowAt}
 use Rattle.res_update.specs.Drafts.{is_selected, rows_with}

@@ -9,11 +9,11 @@ use Rattle.std.proofs.lemmas.List.Folds.{list_any_at}
 use Rattle.std.proofs.lemmas.Option.{slice_get_within, get_or_from_slice_get}
 use Rattle.mac_base.specs.HandleTable.{HandleTable}
 use Rattle.fork_bytes.specs.Rows as forks
-use Rattle.fork_reader.specs.declared.place.Place.{Place}
+use Rattle.fork_bytes.specs.declared.place.Place.{Place}
 use Rattle.res_table.specs.declared.row.Row.{Row}
 use Rattle.res_table.specs.Rows.{is_changed}
 use Rattle.res_table.specs.Saved.{saved_row}
-use Rattle.res_calls.specs.Tests.{is_lent_row}
+use Rattle.res_update.specs.Tests.{is_lent_row}
 use Rattle.res_update.specs.declared.selection.Selection.{Selection}
 use Rattle.res_update.specs.declared.selection.Selection.TheVariants.{AllChanged, RowAt}
 use Rattle.res_update.specs.Drafts.{is_selected, rows_with}

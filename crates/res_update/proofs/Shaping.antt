@@ -12,11 +12,11 @@ use Rattle.fork_bytes.specs.Rows as forks
 use Rattle.fork_bytes.specs.Fork.{max_fork}
 use Rattle.fork_bytes.specs.Written.{types_of, counted_before, count_bytes, entries_text, types_text, names_offset, datum, data_text, name_text, names_text, reference_text, references_text, header_for, header_text, map_header_text, front_text, map_text, written}
 use Rattle.fork_bytes.proofs.Steps.{length-data, length-big_bytes}
-use Rattle.fork_reader.specs.declared.place.Place.{Place}
+use Rattle.fork_bytes.specs.declared.place.Place.{Place}
 use Rattle.res_table.specs.declared.row.Row.{Row}
 use Rattle.res_table.specs.declared.chain.ResourceTable.{ResourceTable}
 use Rattle.res_table.specs.Saved.{saved_row}
-use Rattle.res_calls.specs.Fitting.{rows_fit, names_fit}
+use Rattle.res_update.specs.Fitting.{rows_fit, names_fit}
 use Rattle.res_update.specs.declared.selection.Selection.{Selection}
 use Rattle.res_update.specs.Drafts.{is_selected, row_bytes, draft_bytes, rows_with, fits_as_fork, new_places}
 use Rattle.res_update.proofs.PlaceBytes.{length-on}

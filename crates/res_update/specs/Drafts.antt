@@ -6,12 +6,12 @@ use Rattle.fork_bytes.specs.Fork.{max_fork}
 use Rattle.fork_bytes.specs.Rows as fork
 use Rattle.fork_bytes.specs.Written.{written}
 use Rattle.fork_disk.specs.declared.update.Kept.{Kept}
-use Rattle.fork_reader.specs.declared.place.Place.{Place}
+use Rattle.fork_bytes.specs.declared.place.Place.{Place}
 use Rattle.res_table.specs.declared.row.Row.{Row}
 use Rattle.res_table.specs.declared.chain.ResourceTable.{ResourceTable}
 use Rattle.res_table.specs.Rows.{is_changed, contents}
 use Rattle.res_table.specs.Saved.{saved_row}
-use Rattle.res_calls.specs.Fitting.{rows_fit}
+use Rattle.res_update.specs.Fitting.{rows_fit}
 use Rattle.res_update.specs.declared.draft.Part.{Part}
 use Rattle.res_update.specs.declared.draft.Part.TheVariants.{Held, Zeros}
 use Rattle.res_update.specs.declared.selection.Selection.{Selection}
@@ -52,12 +52,14 @@ fits_as_fork table = rows_fit table.rows && nat_le (length (written table)) max_
 abbrev pub HasKind : Row Place → Type 0
 HasKind r = length r.resource.kind ≡ 4
 
--- where the bytes of rows stand in a fork, each behind four bytes of length, where the data of the first stand at this offset
+-- where the bytes of rows stand in a fork, each behind four bytes of length, where the data of the first stand at this
+-- offset
 abbrev pub new_places : ℕ → List fork.Row → List Place
 new_places at [] = []
 new_places at (row ∷ rows) = record { offset = at + 4; length = length row.datum } ∷ new_places (at + 4 + length row.datum) rows
 
--- what a new fork keeps of the old one: the bytes of the rows that aren't selected, from their old places to the new ones
+-- what a new fork keeps of the old one: the bytes of the rows that aren't selected, from their old places to the new
+-- ones
 abbrev pub kept_ranges : Selection → ℕ → List (Row Place) → List Place → List Kept
 kept_ranges selection at [] places = []
 kept_ranges selection at (r ∷ rows) [] = []

@@ -1,10 +1,10 @@
 -- Rows that keep where their bytes stand in the fork, and the same rows with these bytes.
 use Rattle.std.specs.Prelude.{ℕ, ◌+◌, ◌≤◌, ◌++◌, List, length, take, drop, replicate, map, All}
-use Rattle.fork_reader.specs.declared.place.Place.{Place}
+use Rattle.fork_bytes.specs.declared.place.Place.{Place}
 use Rattle.fork_bytes.specs.Fork.{max_fork}
 use Rattle.res_table.specs.declared.row.Row.{Row}
 use Rattle.res_table.specs.declared.chain.ResourceTable.{ResourceTable}
-use Rattle.res_calls.specs.Changes.{FileRow, FileTable}
+use Rattle.res_update.specs.Changes.{FileRow, FileTable}
 
 -- the bytes at a place of a fork; where the fork ends before the place does, zeros follow
 abbrev pub bytes_on : List ℕ → Place → List ℕ

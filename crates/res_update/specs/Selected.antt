@@ -6,9 +6,9 @@ use Rattle.fork_disk.specs.Disk.{Rose}
 use Rattle.mac_base.specs.HandleTable.{HandleTable}
 use Rattle.res_table.specs.declared.row.Row.{Row}
 use Rattle.res_table.specs.Rows.{is_changed}
-use Rattle.res_calls.specs.Changes.{FileTable}
-use Rattle.res_calls.specs.Tests.{is_lent_row}
-use Rattle.res_calls.specs.Updates.{updated_table, updated_at}
+use Rattle.res_update.specs.Changes.{FileTable}
+use Rattle.res_update.specs.Tests.{is_lent_row}
+use Rattle.res_update.specs.Updates.{updated_table, updated_at}
 use Rattle.res_update.specs.declared.selection.Selection.{Selection}
 use Rattle.res_update.specs.declared.selection.Selection.TheVariants.{AllChanged, RowAt}
 use Rattle.res_update.specs.declared.fault.UpdateFault.{UpdateFault}

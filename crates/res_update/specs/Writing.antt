@@ -7,8 +7,8 @@ use Rattle.fork_bytes.specs.Written.{written}
 use Rattle.fork_disk.specs.declared.store.ForkStore.{Ghosts}
 use Rattle.fork_disk.specs.declared.store.ReplaceFault.TheVariants.{BeforeFirstWrite, Later}
 use Rattle.fork_disk.specs.Stores.{Replaces}
-use Rattle.fork_reader.specs.declared.place.Place.{Place}
-use Rattle.res_calls.specs.Changes.{FileTable, saved_table}
+use Rattle.fork_bytes.specs.declared.place.Place.{Place}
+use Rattle.res_update.specs.Changes.{FileTable, saved_table}
 use Rattle.res_update.specs.declared.fault.UpdateFault.{UpdateFault}
 use Rattle.res_update.specs.declared.fault.UpdateFault.TheVariants.{Device}
 use Rattle.res_update.specs.Placed.{IsInside}

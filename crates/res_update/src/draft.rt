@@ -3,14 +3,14 @@
 ghost use Rattle.std.specs.Prelude.{◌≡◌, length, true, IfOk, IsFalse};
 ghost use Rattle.res_table.specs.Rows.{contents};
 ghost use Rattle.res_table.specs.Saved.{saved_row};
-ghost use Rattle.res_calls.specs.Tests.{is_lent_row};
+ghost use Rattle.res_update.specs.Tests.{is_lent_row};
 ghost use Rattle.res_update.specs.Drafts.{row_bytes, rows_with, draft_bytes};
 ghost use Rattle.res_update.specs.Selected.{reads_lent};
 
 use crate::contents::Contents;
 use crate::selection::Selection;
 use fork_bytes::datum::Datum;
-use fork_reader::place::Place;
+use fork_bytes::place::Place;
 use mac_base::error::HostFull;
 use mac_base::name::Name;
 use mac_base::resource::Resource;
@@ -29,8 +29,8 @@ enum Part<'a> {
     Zeros(u32),
 }
 
-/// The bytes of a row in the draft, which take no memory of their own: they are made where they are written. A contract sees the
-/// list.
+/// The bytes of a row in the draft, which take no memory of their own: they are made where they are written. A contract
+/// sees the list.
 #[derive(Drop)]
 pub(crate) struct DraftBytes<'a> {
     part: Part<'a>,

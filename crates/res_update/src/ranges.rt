@@ -8,8 +8,8 @@ ghost use Rattle.res_update.specs.Drafts.{new_places, kept_ranges};
 use crate::draft::DraftRow;
 use crate::selection::Selection;
 use fork_bytes::datum::Datum;
+use fork_bytes::place::Place;
 use fork_disk::update::Kept;
-use fork_reader::place::Place;
 use mac_base::error::HostFull;
 use res_table::rows::Rows;
 use std::alloc::Global;
@@ -35,7 +35,8 @@ pub(crate) fn new_places<'a>(alloc: Global, rows: &[DraftRow<'a>]) -> Result<Vec
     Ok(places)
 }
 
-/// The bytes that the new fork keeps of the old one: those of the rows that aren't selected, from their old places to their new ones.
+/// The bytes that the new fork keeps of the old one: those of the rows that aren't selected, from their old places to
+/// their new ones.
 pub(crate) fn kept_ranges(
     alloc: Global,
     rows: &Rows<Place>,

@@ -3,7 +3,7 @@
 ghost use Rattle.std.specs.Prelude.{◌≡◌};
 ghost use Rattle.res_update.specs.Drafts.{is_selected};
 
-use fork_reader::place::Place;
+use fork_bytes::place::Place;
 use res_table::row::Row;
 
 /// The rows whose bytes an update takes from their handles. All others keep theirs.

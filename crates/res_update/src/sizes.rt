@@ -11,13 +11,14 @@ use crate::contents::Contents;
 use crate::draft::known;
 use crate::selection::Selection;
 use fork_bytes::layout::MAX_FORK;
-use fork_reader::place::Place;
+use fork_bytes::place::Place;
 use mac_base::handle::Handle;
 use res_table::chain::ResourceTable;
 use res_table::row::Row;
 use res_table::rows::Rows;
 
-/// How many bytes a row has in the new fork: those of its handle where the update takes them, and else as many as it had.
+/// How many bytes a row has in the new fork: those of its handle where the update takes them, and else as many as it
+/// had.
 fn row_length<C: Contents>(row: &Row<Place>, selected: bool, contents: &C) -> u32
     ensures { result ≡ length (row_bytes (C.table contents.now) selected row.now) }
 {
@@ -30,8 +31,8 @@ fn row_length<C: Contents>(row: &Row<Place>, selected: bool, contents: &C) -> u3
     }
 }
 
-/// How many bytes the row at an index has in the new fork, where this is its handle if it is changed. Such a row isn't looked at by an
-/// update of all that are changed.
+/// How many bytes the row at an index has in the new fork, where this is its handle if it is changed. Such a row isn't
+/// looked at by an update of all that are changed.
 fn length_at<C: Contents>(
     rows: &Rows<Place>,
     index: usize,
@@ -51,8 +52,9 @@ fn length_at<C: Contents>(
     }
 }
 
-/// How many bytes the data and the name list have together, or None where that is more than a fork has. That each type has four
-/// bytes comes with it. (A script may ask this of thousands of rows at each line, so none of them is compared with the limit.)
+/// How many bytes the data and the name list have together, or None where that is more than a fork has. That each type
+/// has four bytes comes with it. (A script may ask this of thousands of rows at each line, so none of them is compared
+/// with the limit.)
 fn text_length<C: Contents>(rows: &Rows<Place>, selection: Selection, contents: &C) -> Option<usize>
     requires { length rows.now ≤ max_rows }
     ensures some { IfSome result (λ n. n ≡ length (data_text (rows_with (draft_bytes (C.table contents.now) selection) 0 rows.now))

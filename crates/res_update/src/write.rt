@@ -4,8 +4,8 @@ ghost use Rattle.std.specs.Prelude.{◌≡◌, ◌≤◌, ◌↔◌, length, map
 ghost use Rattle.fork_bytes.specs.Fork.{max_rows};
 ghost use Rattle.fork_bytes.specs.Laws.{AreBytes, IsGrouped, IsTable};
 ghost use Rattle.fork_bytes.specs.Written.{written, Fits};
-ghost use Rattle.res_calls.specs.Changes.{saved_table};
-ghost use Rattle.res_calls.specs.Updates.{fits_fork};
+ghost use Rattle.res_update.specs.Changes.{saved_table};
+ghost use Rattle.res_update.specs.Updates.{fits_fork};
 ghost use Rattle.res_update.specs.Drafts.{draft_table, IsDraft};
 ghost use Rattle.res_update.specs.Placed.{table_on, bytes_on, AreNear, Holds, IsNear};
 ghost use Rattle.res_update.specs.Selected.{updated, reads_lent, CountsUpdate};
@@ -17,16 +17,16 @@ use crate::fault::UpdateFault;
 use crate::ranges::{kept_ranges, new_places};
 use crate::selection::Selection;
 use crate::sizes::fits;
+use fork_bytes::place::Place;
 use fork_bytes::{fork_laws, write_rows};
 use fork_disk::store::ForkStore;
 use fork_disk::update::{Kept, update};
-use fork_reader::place::Place;
 use mac_base::error::HostFull;
 use res_table::chain::ResourceTable;
 use std::alloc::Global;
 
-/// What an update needs of the host's memory: the new fork without the bytes that it keeps of the old one, where these stand, and
-/// where the bytes of each row stand in the new fork.
+/// What an update needs of the host's memory: the new fork without the bytes that it keeps of the old one, where these
+/// stand, and where the bytes of each row stand in the new fork.
 #[derive(Drop)]
 struct Draft {
     fork: Vec<u8>,
@@ -66,10 +66,11 @@ fn make_draft<C: Contents>(
     Ok(Draft { fork, kept, places })
 }
 
-/// Writes the fork of a table in which the selected rows have the bytes of their handles and all others those at their places in the
-/// old fork, and answers where the bytes of each row stand then. All that the new fork keeps is read before the first write. TooBig
-/// comes exactly where no fork holds the table, and HostFull where the host has no memory for it; the device is not asked then. Where
-/// the rows of each type stand together, the new fork stands for the table: it is read as it.
+/// Writes the fork of a table in which the selected rows have the bytes of their handles and all others those at their
+/// places in the old fork, and answers where the bytes of each row stand then. All that the new fork keeps is read
+/// before the first write. TooBig comes exactly where no fork holds the table, and HostFull where the host has no
+/// memory for it; the device is not asked then. Where the rows of each type stand together, the new fork stands for the
+/// table: it is read as it.
 pub fn write_table<S: ForkStore, C: Contents>(
     alloc: Global,
     store: &mut S,

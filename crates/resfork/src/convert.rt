@@ -9,11 +9,11 @@ use crate::message::{DONE, Problem};
 use crate::{INPUT, fork_found, read, read_whole, table_found};
 use fork_answer::Failure;
 use fork_edit::convert::{Loss, NotConverted, Rewritten, Transfer, converted, file_of, holds_data};
+use fork_list::byte_of;
 use fork_report::Refusal;
 use mac_files::bin_hex::is_bin_hex;
 use mac_files::container::{Container, Version};
 use mac_files::container_of;
-use mac_text::byte_of;
 use mac_write::Target as Kind;
 use mac_write::mac_file::MacFile;
 use std::alloc::{AllocError, Global};
@@ -39,7 +39,8 @@ fn place_of(bytes: &[u8]) -> Place {
     }
 }
 
-/// The name that a path gives a file: its last part, without "._" and the last extension, as far as MacRoman has its characters.
+/// The name that a path gives a file: its last part, without "._" and the last extension, as far as MacRoman has its
+/// characters.
 fn name_of_path(alloc: Global, path: &str) -> Result<Vec<u8>, AllocError> {
     let last = match path.rsplit_once("/") {
         Some((_, last)) => last,

@@ -322,7 +322,8 @@ impl TableUse for Unpacking<'_> {
     }
 }
 
-/// The bytes of the file of this name, or of the standard input. A change of it that was cut short is finished or undone first.
+/// The bytes of the file of this name, or of the standard input. A change of it that was cut short is finished or
+/// undone first.
 fn read(rt: &HostRuntime, file: &str) -> Result<Vec<u8>, Problem> {
     if file != INPUT {
         settled(rt, file)?;
@@ -360,7 +361,8 @@ fn tell(rt: &HostRuntime, text: clap::Error) -> u8
     }
 }
 
-/// Tells that the words can't be read: they are no text, or the host has no memory for them. The result is the exit status.
+/// Tells that the words can't be read: they are no text, or the host has no memory for them. The result is the exit
+/// status.
 fn tell_no_words(rt: &HostRuntime, error: &io::Error) -> u8
     ensures { result ≤ CANT_GO_ON }
 {

@@ -27,8 +27,8 @@ fn file_of<W: World>(rt: &HostRuntime, name: &str) -> Option<PlainStore<FileDisk
     })
 }
 
-/// Writes what is asked for of the file of this name. None where it isn't a resource fork and nothing else, where it is damaged, and
-/// where something is in the way: all of it has to be read then.
+/// Writes what is asked for of the file of this name. None where it isn't a resource fork and nothing else, where it is
+/// damaged, and where something is in the way: all of it has to be read then.
 pub fn answer_by_parts<W: World, O: Write>(
     rt: &HostRuntime,
     request: &Request,

@@ -5,7 +5,7 @@ use Rattle.mac_base.specs.HandleTable.{no_flags}
 use Rattle.mac_base.specs.declared.error.OsErr.TheVariants.{MemFullErr, NilHandleErr, MapReadErr}
 use Rattle.mac_base.specs.ZoneMap.{block}
 use Rattle.mac_base.specs.declared.block.Kind.TheVariants.{Free, Master, Ptr, Rel}
-use Rattle.mac_calls.specs.declared.reply.Results.TheVariants.{Handle, Pointer, Address, Number, TwoNumbers, Code, Blocks, Kind, Info}
+use Rattle.mac_base.specs.declared.reply.Results.TheVariants.{Handle, Pointer, Address, Number, TwoNumbers, Code, Blocks, Kind, Info}
 use Rattle.script_lang.specs.declared.table.CallName.TheVariants as name
 use Rattle.script_lang.specs.declared.table.NumberName.TheVariants.{Handle as OnHandle, ResourceHandle, NewHandle, NewPtr, GetIndType, OpenResFile}
 use Rattle.script_lang.specs.declared.table.HandleName.TheVariants.{HGetState, Deref}

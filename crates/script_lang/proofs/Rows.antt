@@ -1,12 +1,12 @@
 -- Worked examples of calls with values, computed.
 use Rattle.std.proofs.Common.{◌≡◌, refl, [], ◌∷◌, codes, pos, negsuc, None, Some}
 use Rattle.mac_base.specs.declared.releasing.ReleasingCall.TheVariants.{DisposesHandle, DisposesPtr, Empties}
-use Rattle.mac_calls.specs.declared.call.Call.{Call}
-use Rattle.mac_calls.specs.declared.call.Call.TheVariants.{Memory, Resource}
-use Rattle.mac_calls.specs.declared.memory_call.MemoryCall.TheVariants.{Poke as PokeBlock}
-use Rattle.mac_calls.specs.declared.resource_call.ResourceCall.TheVariants.{Getting, Writing, AddResource}
-use Rattle.mac_calls.specs.declared.resource_call.GettingCall.TheVariants as getting
-use Rattle.mac_calls.specs.declared.resource_call.WritingCall.TheVariants as writing
+use Rattle.mac_base.specs.declared.call.Call.{Call}
+use Rattle.mac_base.specs.declared.call.Call.TheVariants.{Memory, Resource}
+use Rattle.mac_base.specs.declared.memory_call.MemoryCall.TheVariants.{Poke as PokeBlock}
+use Rattle.mac_base.specs.declared.resource_call.ResourceCall.TheVariants.{Getting, Writing, AddResource}
+use Rattle.mac_base.specs.declared.resource_call.GettingCall.TheVariants as getting
+use Rattle.mac_base.specs.declared.resource_call.WritingCall.TheVariants as writing
 use Rattle.script_lang.specs.declared.line.IdOperand.TheVariants as id
 use Rattle.script_lang.specs.declared.line.NamedCall.{NamedCall}
 use Rattle.script_lang.specs.declared.line.NamedCall.TheVariants as named

@@ -2,7 +2,7 @@
 use Rattle.std.specs.Prelude.{ℕ, map}
 use Rattle.mac_base.specs.declared.releasing.ReleasingCall.{ReleasingCall}
 use Rattle.mac_base.specs.declared.releasing.ReleasingCall.TheVariants.{DisposesHandle, DisposesPtr, Empties}
-use Rattle.mac_calls.specs.GrowZone.{Answer}
+use Rattle.mac_base.specs.GrowZone.{Answer}
 use Rattle.script_lang.specs.declared.line.ReleasingName.{ReleasingName}
 use Rattle.script_lang.specs.declared.line.ReleasingName.TheVariants.{DisposeHandle, DisposePtr, EmptyHandle}
 use Rattle.script_lang.specs.declared.line.WrittenAnswer.{WrittenAnswer}

@@ -1,14 +1,14 @@
 -- The calls that lines make, with the values that variables have.
 use Rattle.std.specs.Prelude.{ℕ, ℤ, pos, List, Option, option_map}
-use Rattle.mac_calls.specs.declared.call.Call.{Call}
-use Rattle.mac_calls.specs.declared.call.Call.TheVariants.{Memory, Loan, Resource, MemError, ResError}
-use Rattle.mac_calls.specs.declared.loan_call.LoanCall.TheVariants as loan
-use Rattle.mac_calls.specs.declared.memory_call.MemoryCall.TheVariants as memory
-use Rattle.mac_calls.specs.declared.resource_call.ResourceCall.TheVariants.{Getting, Looking, Changing, Writing, OpenResFile, AddResource, GetResInfo}
-use Rattle.mac_calls.specs.declared.resource_call.GettingCall.TheVariants.{GetResource, Get1Resource, GetIndResource, LoadResource}
-use Rattle.mac_calls.specs.declared.resource_call.LookingCall.TheVariants.{GetResAttrs, SizeResource, HomeResFile, UniqueID, CountTypes, CountResources, GetIndType, CurResFile}
-use Rattle.mac_calls.specs.declared.resource_call.ChangingCall.TheVariants.{ReleaseResource, DetachResource, RemoveResource, ChangedResource, SetResAttrs, SetResLoad, UseResFile}
-use Rattle.mac_calls.specs.declared.resource_call.WritingCall.TheVariants.{WriteResource, UpdateResFile, CloseResFile}
+use Rattle.mac_base.specs.declared.call.Call.{Call}
+use Rattle.mac_base.specs.declared.call.Call.TheVariants.{Memory, Loan, Resource, MemError, ResError}
+use Rattle.mac_base.specs.declared.loan_call.LoanCall.TheVariants as loan
+use Rattle.mac_base.specs.declared.memory_call.MemoryCall.TheVariants as memory
+use Rattle.mac_base.specs.declared.resource_call.ResourceCall.TheVariants.{Getting, Looking, Changing, Writing, OpenResFile, AddResource, GetResInfo}
+use Rattle.mac_base.specs.declared.resource_call.GettingCall.TheVariants.{GetResource, Get1Resource, GetIndResource, LoadResource}
+use Rattle.mac_base.specs.declared.resource_call.LookingCall.TheVariants.{GetResAttrs, SizeResource, HomeResFile, UniqueID, CountTypes, CountResources, GetIndType, CurResFile}
+use Rattle.mac_base.specs.declared.resource_call.ChangingCall.TheVariants.{ReleaseResource, DetachResource, RemoveResource, ChangedResource, SetResAttrs, SetResLoad, UseResFile}
+use Rattle.mac_base.specs.declared.resource_call.WritingCall.TheVariants.{WriteResource, UpdateResFile, CloseResFile}
 use Rattle.script_lang.specs.declared.line.CallLine.{CallLine}
 use Rattle.script_lang.specs.declared.line.IdOperand.{IdOperand}
 use Rattle.script_lang.specs.declared.line.IdOperand.TheVariants as id_operand

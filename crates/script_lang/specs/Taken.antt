@@ -1,8 +1,8 @@
 -- What a variable takes that a reply is assigned to.
 use Rattle.std.specs.Prelude.{ℕ, ◌-◌, ◌^◌, min, length, Result, Ok}
 use Rattle.mac_base.specs.declared.error.OsErr.{OsErr}
-use Rattle.mac_calls.specs.declared.reply.Results.{Results}
-use Rattle.mac_calls.specs.declared.reply.Results.TheVariants as results
+use Rattle.mac_base.specs.declared.reply.Results.{Results}
+use Rattle.mac_base.specs.declared.reply.Results.TheVariants as results
 
 -- The first result as a number: the number of blocks where a call shows blocks, and 0 after a refusal or where there
 -- is no number.

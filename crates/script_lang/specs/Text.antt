@@ -9,11 +9,11 @@ use Rattle.mac_base.specs.declared.block.Kind.{Kind}
 use Rattle.mac_base.specs.declared.block.Kind.TheVariants.{Free, Master, Ptr, Rel}
 use Rattle.mac_base.specs.declared.error.OsErr.{OsErr}
 use Rattle.mac_base.specs.Codes.{code_of}
-use Rattle.mac_calls.specs.declared.grow_zone.Asked.{Asked}
-use Rattle.mac_calls.specs.declared.reply.Results.{Results}
-use Rattle.mac_calls.specs.declared.reply.Results.TheVariants as results
-use Rattle.mac_calls.specs.declared.reply.ResourceInfo.{ResourceInfo}
-use Rattle.mac_calls.specs.declared.reply.Reply.{Reply}
+use Rattle.mac_base.specs.declared.grow_zone.Asked.{Asked}
+use Rattle.mac_base.specs.declared.reply.Results.{Results}
+use Rattle.mac_base.specs.declared.reply.Results.TheVariants as results
+use Rattle.mac_base.specs.declared.reply.ResourceInfo.{ResourceInfo}
+use Rattle.mac_base.specs.declared.reply.Reply.{Reply}
 use Rattle.script_lang.specs.declared.table.CallName.{CallName}
 use Rattle.script_lang.specs.Table.{signature}
 

@@ -6,9 +6,9 @@ ghost use Rattle.script_lang.specs.Answers.{releasing_with, answer_with};
 use crate::call::number_of;
 use crate::line::{AnswerLine, ReleasingName, WrittenCall};
 use crate::vars::Vars;
+use mac_base::Answer;
 use mac_base::handle::{Handle, Ptr};
 use mac_base::releasing::ReleasingCall;
-use mac_calls::Answer;
 
 /// A call of an answer, with the value that its operand has now.
 fn releasing_call(written: &WrittenCall, vars: &Vars) -> ReleasingCall

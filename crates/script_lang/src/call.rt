@@ -1,8 +1,8 @@
 //! The calls that lines make.
 
 ghost use Rattle.std.specs.Prelude.{◌≡◌};
-ghost use Rattle.mac_calls.specs.declared.call.Call.TheVariants.{Resource};
-ghost use Rattle.mac_calls.specs.declared.resource_call.ResourceCall.TheVariants.{Getting, Looking, Changing, Writing};
+ghost use Rattle.mac_base.specs.declared.call.Call.TheVariants.{Resource};
+ghost use Rattle.mac_base.specs.declared.resource_call.ResourceCall.TheVariants.{Getting, Looking, Changing, Writing};
 ghost use Rattle.script_lang.specs.declared.line.NamedCall.TheVariants.{BlockMove, AddResource};
 ghost use Rattle.script_lang.specs.Resolving as calls;
 
@@ -14,7 +14,7 @@ use crate::table::{
 use crate::vars::Vars;
 use mac_base::handle::{Handle, Ptr};
 use mac_base::resource::ResType;
-use mac_calls::{
+use mac_base::{
     Call, ChangingCall, GettingCall, LoanCall, LookingCall, MemoryCall, ResourceCall, Span,
     WritingCall,
 };

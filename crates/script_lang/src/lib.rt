@@ -1,5 +1,5 @@
-//! What the lines of a script say: the calls that they make by name, and the answers that they queue; the variables of a script, the
-//! values that they take, and the calls and answers that lines make with them; and the text of replies.
+//! What the lines of a script say: the calls that they make by name, and the answers that they queue; the variables of
+//! a script, the values that they take, and the calls and answers that lines make with them; and the text of replies.
 #![tactic(auto)]
 
 mod answer;

@@ -4,12 +4,12 @@ use crate::table::{
     BytesName, CallName, FileName, KindName, NumberName, PlainName, ResourceName, ThreeNumbersName,
     TwoNumbersName,
 };
+use mac_base::Span;
 use mac_base::resource::ResType;
-use mac_calls::Span;
 use std::marker::Model;
 
-/// The name of a variable. A contract sees its place among the names of a script, in order of first assignment. A script
-/// has no more lines than there are places.
+/// The name of a variable. A contract sees its place among the names of a script, in order of first assignment. A
+/// script has no more lines than there are places.
 #[derive(Clone, Copy)]
 pub struct Name(u16);
 

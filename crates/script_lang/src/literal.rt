@@ -67,8 +67,8 @@ pub(crate) fn push_address(text: &mut Vec<u8>, address: u32) -> Result<(), HostF
     Ok(())
 }
 
-/// Whether all bytes stand for themselves between these quotes. Each byte takes a largest and an `or`, so that a compiler can do sixteen
-/// at once.
+/// Whether all bytes stand for themselves between these quotes. Each byte takes a largest and an `or`, so that a
+/// compiler can do sixteen at once.
 fn are_plain(quote: u8, bytes: &[u8]) -> bool
     ensures { result ≡ list_all (texts.is_plain quote) bytes.now }
 {

@@ -11,7 +11,7 @@ use crate::table::CallName;
 use mac_base::block::{Block, Flags, Kind};
 use mac_base::error::{HostFull, NO_ERR, OsErr};
 use mac_base::name::Name;
-use mac_calls::{Asked, Reply, ResourceInfo, Results};
+use mac_base::{Asked, Reply, ResourceInfo, Results};
 use std::alloc::Global;
 
 /// The last line of a run for which the host had no memory.
@@ -184,8 +184,9 @@ fn push_asked(text: &mut Vec<u8>, asked: &[Asked]) -> Result<(), HostFull>
     Ok(())
 }
 
-/// Adds what the reply to a line's call prints: the line's number, the call's name, its results and its code, a line for
-/// each block that the call shows, and a line for each time that it asked the grow-zone procedure and had an answer.
+/// Adds what the reply to a line's call prints: the line's number, the call's name, its results and its code, a line
+/// for each block that the call shows, and a line for each time that it asked the grow-zone procedure and had an
+/// answer.
 pub(crate) fn render(
     text: &mut Vec<u8>,
     number: u32,

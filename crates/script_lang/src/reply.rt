@@ -3,7 +3,7 @@
 use crate::printing::render;
 use crate::table::CallName;
 use mac_base::error::HostFull;
-use mac_calls::{Asked, Reply};
+use mac_base::{Asked, Reply};
 use std::alloc::Global;
 use std::marker::Model;
 
@@ -54,8 +54,8 @@ impl ReplyText {
         &self.bytes
     }
 
-    /// Puts what the reply to a line's call prints in the place of what was there. The only error is that the host has no memory
-    /// for a text of more than 1024 bytes.
+    /// Puts what the reply to a line's call prints in the place of what was there. The only error is that the host has
+    /// no memory for a text of more than 1024 bytes.
     pub fn put(
         &mut self,
         number: u32,

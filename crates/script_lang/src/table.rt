@@ -151,7 +151,8 @@ pub enum CallName {
     File(FileName),
 }
 
-/// How a call is written, and whether a line may assign its first result, which is a number, a handle or an address then.
+/// How a call is written, and whether a line may assign its first result, which is a number, a handle or an address
+/// then.
 #[derive(Clone, Copy)]
 pub struct Signature {
     /// The call's name, in ASCII.
@@ -159,8 +160,8 @@ pub struct Signature {
     pub is_assignable: bool,
 }
 
-/// The table of calls: how each is written, and whether it gives a first result that a line may assign, or does without. A search
-/// goes from the top, so those that scripts make most come first.
+/// The table of calls: how each is written, and whether it gives a first result that a line may assign, or does
+/// without. A search goes from the top, so those that scripts make most come first.
 macro_rules! table_of_calls {
     ($make:ident $($given:tt)*) => {
         $make! {

@@ -3,7 +3,7 @@
 ghost use Rattle.std.specs.Prelude.{◌≡◌};
 ghost use Rattle.script_lang.specs.Taken.{first_number};
 
-use mac_calls::{Reply, Results};
+use mac_base::{Reply, Results};
 
 /// What a variable takes that a reply is assigned to: the first result as a number, the number of blocks where the
 /// call shows blocks, and 0 where it was refused or gives a code, bytes, a type, what a resource is called, or nothing.

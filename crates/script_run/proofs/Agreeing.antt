@@ -2,18 +2,18 @@
 use Rattle.std.proofs.Common.{◌≡◌, ℕ, ◌-◌, List, [], ◌∷◌, ◌++◌, Option, Some, None, refl, ap, sym, subst, ◌∙◌}
 use Rattle.std.specs.Prelude.{MatchBool, ⊤}
 use Rattle.std.specs.Option.{IsSomeAnd}
-use Rattle.mac_calls.specs.declared.call.Call.{Call}
-use Rattle.mac_calls.specs.declared.call.Call.TheVariants.{Memory as MemoryCalls, Loan, Resource, MemError, ResError}
-use Rattle.mac_calls.specs.declared.resource_call.ResourceCall.{ResourceCall}
-use Rattle.mac_calls.specs.declared.resource_call.ResourceCall.TheVariants.{OpenResFile}
-use Rattle.mac_calls.specs.GrowZone.{Answer as GivenAnswer, Ask, answered}
-use Rattle.mac_calls.specs.Outcomes.{Outcome}
+use Rattle.mac_base.specs.declared.call.Call.{Call}
+use Rattle.mac_base.specs.declared.call.Call.TheVariants.{Memory as MemoryCalls, Loan, Resource, MemError, ResError}
+use Rattle.mac_base.specs.declared.resource_call.ResourceCall.{ResourceCall}
+use Rattle.mac_base.specs.declared.resource_call.ResourceCall.TheVariants.{OpenResFile}
+use Rattle.mac_base.specs.GrowZone.{Answer as GivenAnswer, Ask, answered}
+use Rattle.mac_base.specs.Outcomes.{Outcome}
 use Rattle.fork_disk.specs.declared.store.ForkStore.{Ghosts}
-use Rattle.res_calls.specs.Answered.{file_of_work}
-use Rattle.res_calls.specs.Device.{Device, Disk, Works, FailsBefore, FailsWriting, device_works, read_truly}
-use Rattle.res_calls.proofs.Answering.{honest_step}
-use Rattle.res_calls.specs.Files.{ResourceEnd}
-use Rattle.res_calls.specs.Steps.{MemoryRelation, ResourceStepBy, work_of, Memory as MayStep}
+use Rattle.res_update.specs.Answered.{file_of_work}
+use Rattle.res_update.specs.Device.{Device, Disk, Works, FailsBefore, FailsWriting, device_works, read_truly}
+use Rattle.res_update.proofs.Answering.{honest_step}
+use Rattle.res_update.specs.Files.{ResourceEnd}
+use Rattle.res_update.specs.Steps.{MemoryRelation, ResourceStepBy, work_of, Memory as MayStep}
 use Rattle.res_files.specs.FilesOn.{FailedAt, NoneFailed, SomeFailed}
 use Rattle.toolbox.specs.Headline.{tools_of}
 use Rattle.toolbox.specs.Steps.{Gives, LeavesAnswers, ResourceGives, StepsFrom, refused_after, resource_refused_after}
@@ -34,7 +34,7 @@ use Rattle.script_run.specs.Exact.{DevicesWorked, LinesWorked, RunsAgree}
 use Rattle.script_run.specs.Line.{OpensFirst, StatementDoes, assigned, opening_text, start_of}
 use Rattle.script_run.specs.Run.{AreRun}
 use Rattle.script_run.proofs.Honest.{before-lines, each-honest}
-use Rattle.res_laws.proofs.Functional.{Before, Ended, EndsSo, GoesSo, any-memory, ends-agree}
+use Rattle.toolbox.proofs.Functional.{Before, Ended, EndsSo, GoesSo, any-memory, ends-agree}
 
 -- what a run goes on with
 record Seen : Type 0 where

@@ -2,24 +2,24 @@
 use Rattle.std.proofs.Common.{◌≡◌, ◌∙◌, ℕ, ◌-◌, ◌≤◌, slice_get, unwrap_or, List, Option, Some, None, Result, Ok, Err, Bool, true, false, refl, sym, ap, subst, inl}
 use Rattle.std.specs.Prelude.{[], OnOk, OnErr, if◌then◌else◌}
 use Rattle.mac_base.specs.declared.error.OsErr.{OsErr}
-use Rattle.mac_calls.specs.declared.call.Call.{Call}
-use Rattle.mac_calls.specs.declared.call.Call.TheVariants.{Memory, Loan, Resource, MemError, ResError}
-use Rattle.mac_calls.specs.declared.resource_call.ResourceCall.TheVariants as call
-use Rattle.mac_calls.specs.GrowZone.{Ask}
-use Rattle.mac_calls.specs.Outcomes.{Outcome}
+use Rattle.mac_base.specs.declared.call.Call.{Call}
+use Rattle.mac_base.specs.declared.call.Call.TheVariants.{Memory, Loan, Resource, MemError, ResError}
+use Rattle.mac_base.specs.declared.resource_call.ResourceCall.TheVariants as call
+use Rattle.mac_base.specs.GrowZone.{Ask}
+use Rattle.mac_base.specs.Outcomes.{Outcome}
 use Rattle.fork_disk.specs.declared.store.ForkStore.{Ghosts}
 use Rattle.fork_disk.specs.Crash.{at_first}
 use Rattle.res_table.specs.OpenFiles.{is_open}
-use Rattle.res_calls.specs.Changes.{FileTable}
-use Rattle.res_calls.specs.Device.{Device, Disk, DiskRelations}
-use Rattle.res_calls.specs.Answered.{IsAnswered, answered_disks}
-use Rattle.res_calls.proofs.Answering.{disk_answered}
+use Rattle.res_update.specs.Changes.{FileTable}
+use Rattle.res_update.specs.Device.{Device, Disk, DiskRelations}
+use Rattle.res_update.specs.Answered.{IsAnswered, answered_disks}
+use Rattle.res_update.proofs.Answering.{disk_answered}
 use Rattle.res_files.specs.FilesOn.{fork_of}
 use Rattle.res_files.proofs.Stores.{fork_or}
-use Rattle.res_calls.specs.Files.{ResState, ResourceEnd, disk_of}
-use Rattle.res_calls.specs.Steps.{MemoryRelation, Opens, Quiet, ResourceStepBy, StepsUnless, Works, opened_end, work_of, Memory as MayStep, update_in}
-use Rattle.res_calls.specs.Tests.{resource_refusal}
-use Rattle.res_calls.specs.Updates.{Update}
+use Rattle.res_update.specs.Files.{ResState, ResourceEnd, disk_of}
+use Rattle.res_update.specs.Steps.{MemoryRelation, Opens, Quiet, ResourceStepBy, StepsUnless, Works, opened_end, work_of, Memory as MayStep, update_in}
+use Rattle.res_update.specs.Tests.{resource_refusal}
+use Rattle.res_update.specs.Updates.{Update}
 use Rattle.res_manager.specs.Crash.{CrashLeaves}
 use Rattle.toolbox.specs.Steps.{Gives, Unchanged}
 use Rattle.toolbox.specs.ToolState.{IsHonest, ToolState, resource_state}

@@ -1,10 +1,10 @@
 -- What a start finds after a crash that comes anywhere in the run of a script.
 use Rattle.std.proofs.Common.{◌≡◌, ℕ, List, [], ◌∷◌, refl, subst, sym}
-use Rattle.mac_calls.specs.declared.call.Call.TheVariants.{Resource}
-use Rattle.mac_calls.specs.declared.resource_call.ResourceCall.TheVariants.{OpenResFile}
-use Rattle.mac_calls.specs.Outcomes.{Outcome}
+use Rattle.mac_base.specs.declared.call.Call.TheVariants.{Resource}
+use Rattle.mac_base.specs.declared.resource_call.ResourceCall.TheVariants.{OpenResFile}
+use Rattle.mac_base.specs.Outcomes.{Outcome}
 use Rattle.fork_disk.specs.declared.store.ForkStore.{Ghosts}
-use Rattle.res_laws.specs.Tools.{Called}
+use Rattle.toolbox.specs.Tools.{Called}
 use Rattle.toolbox.specs.Headline.{Stepped, calls_of, left_by}
 use Rattle.toolbox.specs.Recovery.{AreGiven}
 use Rattle.toolbox.specs.ToolState.{ToolState}

@@ -1,8 +1,8 @@
 -- The lines of a script print the replies of a run of calls.
 use Rattle.std.proofs.Common.{ℕ, List, [], ◌∷◌, refl, subst}
-use Rattle.mac_calls.specs.declared.call.Call.TheVariants.{Resource}
-use Rattle.mac_calls.specs.declared.resource_call.ResourceCall.TheVariants.{OpenResFile}
-use Rattle.mac_calls.specs.Outcomes.{Outcome}
+use Rattle.mac_base.specs.declared.call.Call.TheVariants.{Resource}
+use Rattle.mac_base.specs.declared.resource_call.ResourceCall.TheVariants.{OpenResFile}
+use Rattle.mac_base.specs.Outcomes.{Outcome}
 use Rattle.fork_disk.specs.declared.store.ForkStore.{Ghosts}
 use Rattle.toolbox.specs.Headline.{tools_of}
 use Rattle.toolbox.specs.ToolState.{IsHonest}
@@ -16,8 +16,8 @@ use Rattle.script_run.specs.declared.machine.Machine.{Machine}
 use Rattle.script_run.specs.Line.{StatementDoes, start_of}
 use Rattle.script_run.specs.Run.{AreRun}
 use Rattle.script_run.proofs.Honest.{before-lines}
-use Rattle.res_laws.specs.Tools.{Called, IsToolRun, Tools}
-use Rattle.res_laws.proofs.Tools.{tools-show}
+use Rattle.toolbox.specs.Tools.{Called, IsToolRun, Tools}
+use Rattle.toolbox.proofs.Tools.{tools-show}
 use Rattle.script_run.specs.Headline.{PrintReplies, PrintsReply, RunShows}
 
 module _ {S : Type 0} (store : Ghosts S) (honest : ℕ → Type 0) where

@@ -27,7 +27,8 @@ abbrev pub passed_by : {E : Type 0} → Result ℕ E → List ℕ → List ℕ
 passed_by (Ok n) buffer = take n buffer
 passed_by (Err e) buffer = []
 
--- the count rose by one, so one call failed, and no other was made after it that might have failed as well; at its last value it stays
+-- the count rose by one, so one call failed, and no other was made after it that might have failed as well; at its last
+-- value it stays
 abbrev pub RoseByOne : ℕ → ℕ → Type 0
 RoseByOne before now = now ≡ counted true before
 

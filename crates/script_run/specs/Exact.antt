@@ -29,8 +29,8 @@ RunWorked store start lines [] new run = ⊤
 abbrev pub IsWorkingRun : {S : Type 0} → Ghosts S → Machine S → List Line → List (List ℕ) → Machine S → Type 0
 IsWorkingRun store start lines texts new = (run : IsRun store start lines texts new) × RunWorked store start lines texts new run
 
--- Two runs of the same lines, with the same sizes of the zone and the same forks, print the same texts and leave the same zone, loans,
--- files and forks, where all devices worked and those of the stores that they leave are honest.
+-- Two runs of the same lines, with the same sizes of the zone and the same forks, print the same texts and leave the
+-- same zone, loans, files and forks, where all devices worked and those of the stores that they leave are honest.
 abbrev pub RunsAgree : {S : Type 0} → Ghosts S → Type 0
 RunsAgree {S = S} store = (sizes : ZoneSizes) (one other : List S) (lines : List Line) (texts other_texts : List (List ℕ)) (last other_last : Machine S)
     → All store.is_honest last.toolbox.resources.stores → All store.is_honest other_last.toolbox.resources.stores → map store.fork one ≡ map store.fork other

@@ -1,9 +1,9 @@
 -- What the lines of a script print, told of the calls that were made.
 use Rattle.std.specs.Prelude.{◌≡◌, ℕ, List, [], ◌∷◌}
 use Rattle.mac_base.specs.ZoneSizes.{ArePossible, ZoneSizes}
-use Rattle.mac_calls.specs.declared.call.Call.TheVariants.{Resource}
-use Rattle.mac_calls.specs.declared.resource_call.ResourceCall.TheVariants.{OpenResFile}
-use Rattle.mac_calls.specs.GrowZone.{answered}
+use Rattle.mac_base.specs.declared.call.Call.TheVariants.{Resource}
+use Rattle.mac_base.specs.declared.resource_call.ResourceCall.TheVariants.{OpenResFile}
+use Rattle.mac_base.specs.GrowZone.{answered}
 use Rattle.fork_disk.specs.declared.store.ForkStore.{Ghosts}
 use Rattle.toolbox.specs.Headline.{tools_of}
 use Rattle.toolbox.specs.ToolState.{IsHonest}
@@ -18,10 +18,11 @@ use Rattle.script_lang.specs.Resolving.{call_of}
 use Rattle.script_lang.specs.Variables.{Variables}
 use Rattle.script_run.specs.Line.{assigned, opening_text, start_of}
 use Rattle.script_run.specs.Run.{IsRun}
-use Rattle.res_laws.specs.Tools.{Called, Headline, IsToolRun}
+use Rattle.toolbox.specs.Tools.{Called, Headline, IsToolRun}
 
--- With these variables, a statement makes the first of these calls and prints its reply, with the asks that had an answer; then the rest goes
--- on with the others, where the reply's first number is assigned. An answer is no call, and prints nothing.
+-- With these variables, a statement makes the first of these calls and prints its reply, with the asks that had an
+-- answer; then the rest goes on with the others, where the reply's first number is assigned. An answer is no call, and
+-- prints nothing.
 abbrev pub PrintsReply : Variables → ℕ → Statement → List ℕ → List Called → (Variables → List Called → Type 0) → Type 0
 PrintsReply variables number (CallStatement line) text (called ∷ later) Rest = (called.call ≡ call_of variables line)
     × (text ≡ reply_text number (name_of line.call) (record { outcome = called.outcome }) (answered called.asks))
@@ -42,8 +43,8 @@ PrintAllReplies lines (text ∷ texts) (opening ∷ calls) = (opening.call ≡ R
 PrintAllReplies lines [] calls = ⊥
 PrintAllReplies lines (text ∷ texts) [] = ⊥
 
--- Whatever the lines of a script print is the replies of calls that were made, and this is what is promised of these calls: of the zone for
--- any stores, and of each fork where the device of its store is honest, as they leave it.
+-- Whatever the lines of a script print is the replies of calls that were made, and this is what is promised of these
+-- calls: of the zone for any stores, and of each fork where the device of its store is honest, as they leave it.
 abbrev pub RunShows : {S : Type 0} → Ghosts S → Type 0
 RunShows {S = S} store = (sizes : ZoneSizes) (stores : List S) (lines : List Line) (texts : List (List ℕ)) (last : Machine S)
     → ArePossible sizes → IsRun store (start_of sizes stores) lines texts last

@@ -2,14 +2,14 @@
 use Rattle.std.specs.Prelude.{◌≡◌, ◌<◌, ◌≤◌, ◌⊎◌, ℕ, IsTrue, true, List, [], ◌∷◌, ◌++◌, length, Option, None, Some, Ok, Err}
 use Rattle.mac_base.specs.Heap.{new_heap}
 use Rattle.mac_base.specs.ZoneSizes.{ZoneSizes, shape_of}
-use Rattle.mac_calls.specs.declared.call.Call.TheVariants.{Resource}
-use Rattle.mac_calls.specs.declared.reply.Reply.{Reply}
-use Rattle.mac_calls.specs.declared.resource_call.ResourceCall.TheVariants.{OpenResFile}
+use Rattle.mac_base.specs.declared.call.Call.TheVariants.{Resource}
+use Rattle.mac_base.specs.declared.reply.Reply.{Reply}
+use Rattle.mac_base.specs.declared.resource_call.ResourceCall.TheVariants.{OpenResFile}
 use Rattle.script_lang.specs.declared.table.CallName.TheVariants as call_name
 use Rattle.script_lang.specs.declared.table.NumberName.TheVariants as number_name
 use Rattle.script_lang.specs.Lines.{name_of}
-use Rattle.mac_calls.specs.GrowZone.{Ask, answered}
-use Rattle.mac_calls.specs.Outcomes.{Outcome}
+use Rattle.mac_base.specs.GrowZone.{Ask, answered}
+use Rattle.mac_base.specs.Outcomes.{Outcome}
 use Rattle.fork_disk.specs.declared.store.ForkStore.{Ghosts}
 use Rattle.res_files.specs.FilesOn.{HonestAt, WereHonest, fork_of}
 use Rattle.res_manager.specs.Crash.{CrashLeaves}
@@ -64,8 +64,9 @@ abbrev pub assigned : Option ℕ → ℕ → Variables → Variables
 assigned None value variables = variables
 assigned (Some name) value variables = with_value variables name value
 
--- From old, the call of the line of this number may print this text and leave new: it is a step of the toolbox with some asks, which leaves
--- the answers that these asks did not take, its first number is assigned, and its reply is printed with the asks that had an answer.
+-- From old, the call of the line of this number may print this text and leave new: it is a step of the toolbox with
+-- some asks, which leaves the answers that these asks did not take, its first number is assigned, and its reply is
+-- printed with the asks that had an answer.
 abbrev pub CallDoes : {S : Type 0} → Ghosts S → Machine S → ℕ → CallLine → List ℕ → Machine S → Type 0
 CallDoes store old number line text new = (reply : Reply)
     × (asks : List Ask)
@@ -74,7 +75,8 @@ CallDoes store old number line text new = (reply : Reply)
     × (new.variables ≡ assigned line.assigned (first_number reply.outcome) old.variables)
     × (text ≡ reply_text number (name_of line.call) reply (answered asks))
 
--- From old, an answer prints nothing and leaves new: it is queued behind the others, with the values that its operands have.
+-- From old, an answer prints nothing and leaves new: it is queued behind the others, with the values that its operands
+-- have.
 abbrev pub AnswerDoes : {S : Type 0} → Machine S → WrittenAnswer → List ℕ → Machine S → Type 0
 AnswerDoes old line text new = (text ≡ [])
     × (new.toolbox ≡ old.toolbox)
@@ -90,8 +92,8 @@ StatementDoes store old number (Answer line) text new = AnswerDoes old line text
 abbrev pub LineDoes : {S : Type 0} → Ghosts S → Machine S → Line → List ℕ → Machine S → Type 0
 LineDoes store old line text new = StatementDoes store old line.number line.statement text new
 
--- There are as many stores, and of each whose device is honest, it was so before, and the fork is the same, also as a start finds it after a
--- crash.
+-- There are as many stores, and of each whose device is honest, it was so before, and the fork is the same, also as a
+-- start finds it after a crash.
 abbrev pub SameForks : {S : Type 0} → Ghosts S → List S → List S → Type 0
 SameForks store old new = WereHonest store.is_honest old new × (length new ≡ length old)
     × ((k : ℕ) → 1 ≤ k → HonestAt store.is_honest new k → fork_of store.fork k new ≡ fork_of store.fork k old) × CrashLeaves store None old new
@@ -101,14 +103,16 @@ abbrev pub IsUnmade : {S : Type 0} → Ghosts S → Machine S → CallLine → M
 IsUnmade store old line new = let call = call_of old.variables line in
     Unchanged store old.toolbox call new.toolbox × IsTrue (takes_memory store old.toolbox call)
 
--- From old, the call of the line of this number is made, and leaves new; but its reply has more bytes than there is room for.
+-- From old, the call of the line of this number is made, and leaves new; but its reply has more bytes than there is
+-- room for.
 abbrev pub IsTooLong : {S : Type 0} → Ghosts S → Machine S → ℕ → CallLine → Machine S → Type 0
 IsTooLong store old number line new = (reply : Reply)
     × (asks : List Ask)
     × Steps store old.toolbox (call_of old.variables line) asks reply.outcome new.toolbox
     × (reply_room < length (reply_text number (name_of line.call) reply (answered asks)))
 
--- From old, host memory ends at what the line of this number says: its call isn't made, or its reply is too long; or its answer isn't queued.
+-- From old, host memory ends at what the line of this number says: its call isn't made, or its reply is too long; or
+-- its answer isn't queued.
 abbrev pub StopsAt : {S : Type 0} → Ghosts S → Machine S → ℕ → Statement → Machine S → Type 0
 StopsAt store old number (Call line) new = IsUnmade store old line new ⊎ IsTooLong store old number line new
 StopsAt store old number (Answer line) new = new.toolbox ≡ old.toolbox

@@ -10,9 +10,9 @@ use Rattle.script_run.specs.Headline.{PrintAllReplies}
 use Rattle.script_run.specs.Line.{start_of}
 use Rattle.script_run.specs.Run.{IsRun}
 
--- The lines of a script make calls and print their replies, and this is promised of crashes in these calls, where the stores have
--- journals: of each file whose device is honest. Each reply is written before the next line is run: so it says what a
--- start may find once a reply was written.
+-- The lines of a script make calls and print their replies, and this is promised of crashes in these calls, where the
+-- stores have journals: of each file whose device is honest. Each reply is written before the next line is run: so it
+-- says what a start may find once a reply was written.
 abbrev pub RunRecovers : {S : Type 0} → Ghosts S → Type 0
 RunRecovers {S = S} store = (sizes : ZoneSizes) (stores : List S) (lines : List Line) (texts : List (List ℕ)) (last : Machine S)
     → store.has_journal → IsRun store (start_of sizes stores) lines texts last

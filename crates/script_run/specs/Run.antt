@@ -18,7 +18,8 @@ AreRun {S = S} store old (line ∷ lines) (text ∷ texts) new = (mid : Machine 
 AreRun store old [] (text ∷ texts) new = ⊥
 AreRun store old (line ∷ lines) [] new = ⊥
 
--- From start, file 1 is opened, which may print the first of these texts, and then the lines may print one each and leave new.
+-- From start, file 1 is opened, which may print the first of these texts, and then the lines may print one each and
+-- leave new.
 abbrev pub IsRun : {S : Type 0} → Ghosts S → Machine S → List Line → List (List ℕ) → Machine S → Type 0
 IsRun store start lines [] new = ⊥
 IsRun {S = S} store start lines (text ∷ texts) new = (opened : Machine S) × OpensFirst store start text opened × AreRun store opened lines texts new
@@ -27,7 +28,8 @@ IsRun {S = S} store start lines (text ∷ texts) new = (opened : Machine S) × O
 abbrev pub stores_of : {S : Type 0} → Machine S → List S
 stores_of machine = machine.toolbox.resources.stores
 
--- A run as far as it came: from start, file 1 was opened and the first lines of the script were run, which print these texts and leave last.
+-- A run as far as it came: from start, file 1 was opened and the first lines of the script were run, which print these
+-- texts and leave last.
 pub record Ran {S : Type 0} (store : Ghosts S) (start : Machine S) (input : List ℕ) : Type 0 where
   pub lines : List Line
   pub rest : List Line
@@ -59,8 +61,8 @@ IsProperFront front whole = (rest : List ℕ) × (whole ≡ front ++ rest) × (r
 abbrev pub IsCut : List (List ℕ) → List ℕ → Type 0
 IsCut texts written = (whole : List (List ℕ)) × (last : List ℕ) × (front : List ℕ) × (texts ≡ whole ++ last ∷ []) × IsProperFront front last × (written ≡ concat whole ++ front)
 
--- A run from start on this input ends so, having written this, and leaves these stores: all texts were written, or a write failed at the
--- last one that was made.
+-- A run from start on this input ends so, having written this, and leaves these stores: all texts were written, or a
+-- write failed at the last one that was made.
 abbrev pub Ends : {S : Type 0} → Ghosts S → Machine S → List ℕ → RunEnd → List ℕ → List S → Type 0
 Ends store start input WriteFault written left = (end : RunEnd) × (texts : List (List ℕ)) × Makes store start input end texts left × IsCut texts written
 Ends store start input end written left = (texts : List (List ℕ)) × Makes store start input end texts left × (written ≡ concat texts)

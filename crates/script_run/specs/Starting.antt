@@ -10,7 +10,8 @@ use Rattle.script_run.specs.declared.reading.NoScript.TheVariants as why
 use Rattle.script_run.specs.declared.ready.Ready.{Ready}
 use Rattle.script_run.specs.Run.{Tells, no_memory_text}
 
--- why no line of the input is run: this one is the first that is none, or 0 for too many bytes; a read failed, or the host had no memory
+-- why no line of the input is run: this one is the first that is none, or 0 for too many bytes; a read failed, or the
+-- host had no memory
 abbrev pub IsNoScript : List ℕ → NoScript → Type 0
 IsNoScript input (why.BadLine number wrong) = IsFaultAt input number
 IsNoScript input other = ⊤

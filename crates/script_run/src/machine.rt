@@ -9,7 +9,7 @@ ghost use Rattle.script_run.specs.Line.{start_of, assigned, CallDoes, IsTooLong,
 use fork_disk::store::ForkStore;
 use mac_base::error::HostFull;
 use mac_base::zone_spec::ZoneSpec;
-use mac_calls::{Outcome, Reply};
+use mac_base::{Outcome, Reply};
 use mem_calls::MemoryManager;
 use res_files::ResourceFiles;
 use script_lang::{
@@ -83,7 +83,8 @@ impl<S: ForkStore> Machine<S> {
         }
     }
 
-    /// Makes the call of the line of this number, assigns its first result, and puts what it prints in place of the text.
+    /// Makes the call of the line of this number, assigns its first result, and puts what it prints in place of the
+    /// text.
     fn run_call(
         &mut self,
         number: u32,

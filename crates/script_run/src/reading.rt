@@ -18,7 +18,8 @@ pub enum NoScript {
     HostFull,
     /// The reader failed.
     ReadFault,
-    /// The first line that is none, and what is wrong with it. It is 0 where there are more bytes than a script may have.
+    /// The first line that is none, and what is wrong with it. It is 0 where there are more bytes than a script may
+    /// have.
     BadLine(u32, Wrong),
 }
 

@@ -27,8 +27,8 @@ use script_text::Wrong;
 use std::alloc::Global;
 use std::io::{Read, Write};
 
-/// Runs the script that the reader gives on a new zone and the resource files of some stores, and writes each reply when it is made.
-/// The first file is opened before the first line. The stores come back.
+/// Runs the script that the reader gives on a new zone and the resource files of some stores, and writes each reply
+/// when it is made. The first file is opened before the first line. The stores come back.
 pub fn run<S: ForkStore, R: Read, W: Write>(
     alloc: Global,
     reader: &mut Counted<R>,
@@ -37,21 +37,21 @@ pub fn run<S: ForkStore, R: Read, W: Write>(
     stores: Vec<S>,
 ) -> (RunEnd, Vec<S>)
     requires { length stores.items ≤ most_files }
-    // The input is the bytes that the reader tells; of one that doesn't tell, those that it gave. What was written is what the input's
-    // lines print from a new zone on, as far as the run came, and the stores are as they left them.
+    // The input is the bytes that the reader tells; of one that doesn't tell, those that it gave. What was written is
+    // what the input's lines print from a new zone on, as far as the run came, and the stores are as they left them.
     ensures ends { (given : List ℕ) × (written : List ℕ) × Gave R.remaining reader.old given reader.new × Took W.contents writer.old written writer.new
         × Ends S.ForkStore (start_of spec stores.items) (unwrap_or (R.remaining reader.old.inner) given) result.0 written result.1.items }
 
-    // Whatever lines print is the replies of calls over which every handle and pointer shows the bytes last put there, pointers and
-    // locked handles stay where they are, and blocks are lost and memFullErr is given only where they may.
+    // Whatever lines print is the replies of calls over which every handle and pointer shows the bytes last put there,
+    // pointers and locked handles stay where they are, and blocks are lost and memFullErr is given only where they may.
     ensures headline { RunShows S.ForkStore }
 
-    // Where stores have journals, a crash at any moment leaves each file so that the next start finds it as before an update that was
-    // running, or as that saves it, and never older than an update that succeeded.
+    // Where stores have journals, a crash at any moment leaves each file so that the next start finds it as before an
+    // update that was running, or as that saves it, and never older than an update that succeeded.
     ensures recovers { RunRecovers S.ForkStore }
 
-    // Two runs of the same lines, with the same sizes of the zone and the same forks, print the same and leave the same zone, loans, files
-    // and forks, where no device failed.
+    // Two runs of the same lines, with the same sizes of the zone and the same forks, print the same and leave the same
+    // zone, loans, files and forks, where no device failed.
     ensures exact { RunsAgree S.ForkStore }
 
     // A read that failed ends the run with ReadFault, which comes of nothing else; and so with a write.

@@ -6,8 +6,8 @@ use std::alloc::{AllocError, Global};
 use std::process::Abort;
 use std::test::Fail;
 
-/// The second of two resources loses its byte. Six calls open the file, and the seventh loads; an update reads the first resource's byte, and
-/// then it writes, cuts and syncs.
+/// The second of two resources loses its byte. Six calls open the file, and the seventh loads; an update reads the
+/// first resource's byte, and then it writes, cuts and syncs.
 const SCRIPT: &str = "\
 h = GetIndResource 'TEXT' 2
 SetHandleSize h 0
@@ -18,8 +18,8 @@ GetHandleSize h
 CurResFile
 ";
 
-/// Numbers of calls, up to which they fail from the first one on, in the next words the fork that stands then; and what is printed. The last row
-/// is behind all calls.
+/// Numbers of calls, up to which they fail from the first one on, in the next words the fork that stands then; and what
+/// is printed. The last row is behind all calls.
 const RUNS: &str = "\
 1 6 old
 0 OpenResFile -36

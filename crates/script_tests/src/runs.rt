@@ -16,8 +16,8 @@ use std::test::Fail;
 /// A fork on a disk of which one call may fail.
 type TestStore = PlainStore<FailAt<MemDisk>>;
 
-/// How the streams of a run go: the script, how many bytes a read gives and a write takes at most, for how many bytes there is room, and
-/// whether the reader and the writer fail once there is no more.
+/// How the streams of a run go: the script, how many bytes a read gives and a write takes at most, for how many bytes
+/// there is room, and whether the reader and the writer fail once there is no more.
 #[derive(Clone, Copy)]
 pub(crate) struct Plan<'a> {
     pub(crate) script: &'a [u8],

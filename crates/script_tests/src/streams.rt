@@ -12,8 +12,8 @@ const SHORT: (&[u8], &[u8]) = (
     b"1 NewHandle $0010003C 0\n2 Poke 0\n3 Peek \"Hi\" 0\n",
 );
 
-/// Runs of that script: how many bytes a read gives and a write takes at most, for how many bytes there is room, who fails once
-/// there is no more, and how the run ends.
+/// Runs of that script: how many bytes a read gives and a write takes at most, for how many bytes there is room, who
+/// fails once there is no more, and how the run ends.
 const RUNS: &str = "\
 1 1 48 none finished
 7 5 48 writer finished

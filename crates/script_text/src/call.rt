@@ -10,9 +10,9 @@ use crate::names::Names;
 use crate::operand::{bytes_of, id_or_variable, number_or_variable, type_of};
 use crate::token::Token;
 use bumpalo::Bump;
+use mac_base::Span;
 use mac_base::error::HostFull;
 use mac_base::resource::ResType;
-use mac_calls::Span;
 use script_lang::{
     BytesName, CallName, FileName, IdOperand, KindName, NamedCall, NumberName, NumberOperand,
     PlainName, ResourceName, ThreeNumbersName, TwoNumbersName,

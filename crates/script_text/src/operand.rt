@@ -13,9 +13,9 @@ use crate::names::Names;
 use crate::token::Token;
 use bumpalo::Bump;
 use bumpalo::collections::into_bump_slice;
+use mac_base::Span;
 use mac_base::error::HostFull;
 use mac_base::resource::ResType;
-use mac_calls::Span;
 use script_lang::{IdOperand, Name, NumberOperand};
 
 /// The number of digits in a base, if it has at most 32 bits.

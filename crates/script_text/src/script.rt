@@ -83,8 +83,8 @@ fn first_line(text: &[u8]) -> Option<(&[u8], &[u8])>
     }
 }
 
-/// Adds the line of this number to those before it, where these names have been assigned: none, if its text says nothing.
-/// The tokens are memory to be used again.
+/// Adds the line of this number to those before it, where these names have been assigned: none, if its text says
+/// nothing. The tokens are memory to be used again.
 fn add_line<'a>(
     arena: &'a Bump,
     number: u32,
@@ -112,8 +112,8 @@ fn add_line<'a>(
 }
 
 /// The lines of a script that say something. The text is a script exactly where each of its lines makes a call, queues
-/// an answer or says nothing; a fault names the first that does none of them. The lines show bytes of the text; others stand in the
-/// arena.
+/// an answer or says nothing; a fault names the first that does none of them. The lines show bytes of the text; others
+/// stand in the arena.
 pub fn parse_script<'a>(
     alloc: Global,
     arena: &'a Bump,

@@ -195,12 +195,12 @@ fn first_token(line: &[u8]) -> Result<Option<(Token<'_>, &[u8])>, NotAToken>
     token_at(after_blanks(line))
 }
 
-/// No line that makes a call or queues an answer has more tokens: `gz`, a value, and eight calls, each with a name, an operand and
-/// a mark.
+/// No line that makes a call or queues an answer has more tokens: `gz`, a value, and eight calls, each with a name, an
+/// operand and a mark.
 pub(crate) const MAX_TOKENS: usize = 26;
 
-/// Puts the tokens of a line in place of other tokens, and says whether the line has no bytes that are none, and no more tokens than
-/// a line that says something. So the longest line takes no more memory than any other.
+/// Puts the tokens of a line in place of other tokens, and says whether the line has no bytes that are none, and no
+/// more tokens than a line that says something. So the longest line takes no more memory than any other.
 pub fn read_tokens<'a>(line: &'a [u8], read: &mut Vec<Token<'a>>) -> Result<bool, HostFull>
     ensures { IfOk result (λ is_read. MatchBool is_read
         (tokens.AreTokens line.now (map view read.new.items)) (tokens.HasNoFewTokens line.now)) }

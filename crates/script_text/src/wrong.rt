@@ -1,4 +1,5 @@
-//! What is wrong with a line that is none. The words are for a reader: what they say is tested, and no clause speaks of it.
+//! What is wrong with a line that is none. The words are for a reader: what they say is tested, and no clause speaks of
+//! it.
 
 use crate::names::Names;
 use crate::operand::{

@@ -2,20 +2,20 @@
 use Rattle.std.proofs.Common.{◌≡◌, ℕ, List, [], ◌∷◌, map, ap, subst, ◌∙◌}
 use Rattle.mac_base.specs.HeadKind.{Shape}
 use Rattle.mac_base.specs.Heap.{Heap}
-use Rattle.mac_calls.specs.declared.call.Call.{Call}
-use Rattle.mac_calls.specs.declared.call.Call.TheVariants.{Memory as MemoryCalls, Loan, Resource, MemError, ResError}
-use Rattle.mac_calls.specs.GrowZone.{Ask}
-use Rattle.mac_calls.specs.Loans.{Loans}
-use Rattle.mac_calls.specs.Outcomes.{Outcome}
-use Rattle.mac_calls.specs.Released.{disposed_of}
+use Rattle.mac_base.specs.declared.call.Call.{Call}
+use Rattle.mac_base.specs.declared.call.Call.TheVariants.{Memory as MemoryCalls, Loan, Resource, MemError, ResError}
+use Rattle.mac_base.specs.GrowZone.{Ask}
+use Rattle.mac_base.specs.LoanStep.{Loans}
+use Rattle.mac_base.specs.Outcomes.{Outcome}
+use Rattle.mac_base.specs.Released.{disposed_of}
 use Rattle.fork_disk.specs.declared.store.ForkStore.{Ghosts}
-use Rattle.call_laws.specs.Act.{Moment}
-use Rattle.res_calls.specs.Files.{ResState}
-use Rattle.res_calls.specs.Steps.{Memory as MayStep}
-use Rattle.res_calls.proofs.Answering.{fewer_honest, reads_fewer}
+use Rattle.zone_laws.specs.Act.{Moment}
+use Rattle.res_update.specs.Files.{ResState}
+use Rattle.res_update.specs.Steps.{Memory as MayStep}
+use Rattle.res_update.proofs.Answering.{fewer_honest, reads_fewer}
 use Rattle.res_files.specs.FilesOn.{FailedAt, FilesOn, HonestAt, NoneFailed}
-use Rattle.res_laws.specs.Tools.{IsToolRun, ToolDoes}
-use Rattle.res_laws.proofs.Tools.{tools-show}
+use Rattle.toolbox.specs.Tools.{IsToolRun, ToolDoes}
+use Rattle.toolbox.proofs.Tools.{tools-show}
 use Rattle.toolbox.specs.Headline.{AreSteps, Stepped, ToolboxShows, calls_of, left_by, tools_of}
 use Rattle.toolbox.specs.Steps.{Gives}
 use Rattle.toolbox.specs.ToolState.{IsHonest, ToolState, resource_state, without_handles}

@@ -4,10 +4,10 @@ use Rattle.std.specs.Prelude.{IfOk, OnErr, Result, Ok, Err}
 use Rattle.mac_base.specs.declared.error.HostFull.{HostFull}
 use Rattle.mac_base.specs.ZoneState.{ZoneState}
 use Rattle.linked_zone.specs.Loans.{KeepsLoans}
-use Rattle.mac_calls.specs.declared.memory_call.MemoryCall.{MemoryCall}
-use Rattle.mac_calls.specs.GrowZone.{Ask}
-use Rattle.mac_calls.specs.Outcomes.{Outcome}
-use Rattle.call_laws.proofs.LentSteps.{step_keeps_lent}
+use Rattle.mac_base.specs.declared.memory_call.MemoryCall.{MemoryCall}
+use Rattle.mac_base.specs.GrowZone.{Ask}
+use Rattle.mac_base.specs.Outcomes.{Outcome}
+use Rattle.zone_laws.proofs.LentSteps.{step_keeps_lent}
 use Rattle.held_calls.specs.Holding.{Holds}
 use Rattle.held_calls.specs.declared.loans.Held.{Held}
 use Rattle.held_calls.proofs.Holding.{Holds-kept}

@@ -1,3 +1,7 @@
+pub mod Acts
+pub mod Forks
+pub mod Functional
+pub mod Tools
 pub mod Lent
 pub mod Queued
 pub mod Resources

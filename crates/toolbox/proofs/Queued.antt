@@ -2,17 +2,17 @@
 use Rattle.std.proofs.Common.{◌≡◌, List, [], ap, sym, ◌∙◌, Ok, Err}
 use Rattle.std.specs.Prelude.{IfOk, Result}
 use Rattle.mac_base.specs.declared.error.HostFull.{HostFull}
-use Rattle.mac_calls.specs.declared.call.Call.{Call}
-use Rattle.mac_calls.specs.declared.call.Call.TheVariants.{Memory, Loan, Resource, MemError, ResError}
-use Rattle.mac_calls.specs.declared.reply.Reply.{Reply}
-use Rattle.mac_calls.specs.declared.resource_call.ResourceCall.{ResourceCall}
-use Rattle.mac_calls.specs.GrowZone.{Answer, Ask}
-use Rattle.mac_calls.specs.Outcomes.{Outcome}
+use Rattle.mac_base.specs.declared.call.Call.{Call}
+use Rattle.mac_base.specs.declared.call.Call.TheVariants.{Memory, Loan, Resource, MemError, ResError}
+use Rattle.mac_base.specs.declared.reply.Reply.{Reply}
+use Rattle.mac_base.specs.declared.resource_call.ResourceCall.{ResourceCall}
+use Rattle.mac_base.specs.GrowZone.{Answer, Ask}
+use Rattle.mac_base.specs.Outcomes.{Outcome}
 use Rattle.fork_disk.specs.declared.store.ForkStore.{Ghosts}
 use Rattle.held_calls.specs.Answers.{OutOfAnswers, taken}
 use Rattle.held_calls.proofs.Steps.{exact-queued}
-use Rattle.res_calls.specs.Answered.{answered_disks}
-use Rattle.res_calls.specs.Steps.{Memory as MayStep}
+use Rattle.res_update.specs.Answered.{answered_disks}
+use Rattle.res_update.specs.Steps.{Memory as MayStep}
 use Rattle.toolbox.specs.Steps.{LeavesAnswers, ResourceGives, Steps, StepsFrom}
 use Rattle.toolbox.specs.ToolState.{IsHonest, ToolState}
 use Rattle.toolbox.proofs.Resources.{step_by}
@@ -21,8 +21,8 @@ use Rattle.toolbox.proofs.Resources.{step_by}
 nothing_taken : (answers left : List Answer) (asks : List Ask) → asks ≡ [] → taken asks left ≡ answers → left ≡ answers
 nothing_taken answers left asks none took = ap (λ (none : List Ask). taken none left) (sym none) ∙ took
 
--- a call of the Resource Manager does from a queue what it may do, where its call of the Memory Manager does just what it does with
--- the answers that it took
+-- a call of the Resource Manager does from a queue what it may do, where its call of the Memory Manager does just what
+-- it does with the answers that it took
 gives_from_queue : {S : Type 0} (store : Ghosts S) (old new : ToolState S) (call : ResourceCall) (outcome : Outcome) (answers left : List Answer) (asks : List Ask) → taken asks left ≡ answers → OutOfAnswers asks left
     → ResourceGives store MayStep old call asks outcome new → ResourceGives store (StepsFrom answers left) old call asks outcome new
 gives_from_queue store old new call outcome answers left asks took out gives = record {

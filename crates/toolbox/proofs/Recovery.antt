@@ -5,27 +5,27 @@ use Rattle.std.proofs.lemmas.Bool.{false≢true}
 use Rattle.res_files.proofs.Stores.{fork_or}
 use Rattle.std.specs.Prelude.{IfSome, IsOk}
 use Rattle.mac_base.specs.declared.error.OsErr.{OsErr}
-use Rattle.mac_calls.specs.declared.call.Call.{Call}
-use Rattle.mac_calls.specs.declared.call.Call.TheVariants.{Memory as MemoryCalls, Loan, Resource, MemError, ResError}
-use Rattle.mac_calls.specs.declared.resource_call.ResourceCall.{ResourceCall}
-use Rattle.mac_calls.specs.declared.resource_call.ResourceCall.TheVariants.{Getting, Writing}
-use Rattle.mac_calls.specs.declared.resource_call.WritingCall.TheVariants.{CloseResFile}
-use Rattle.mac_calls.specs.GrowZone.{Ask}
-use Rattle.mac_calls.specs.Outcomes.{Outcome}
+use Rattle.mac_base.specs.declared.call.Call.{Call}
+use Rattle.mac_base.specs.declared.call.Call.TheVariants.{Memory as MemoryCalls, Loan, Resource, MemError, ResError}
+use Rattle.mac_base.specs.declared.resource_call.ResourceCall.{ResourceCall}
+use Rattle.mac_base.specs.declared.resource_call.ResourceCall.TheVariants.{Getting, Writing}
+use Rattle.mac_base.specs.declared.resource_call.WritingCall.TheVariants.{CloseResFile}
+use Rattle.mac_base.specs.GrowZone.{Ask}
+use Rattle.mac_base.specs.Outcomes.{Outcome}
 use Rattle.fork_bytes.specs.declared.table.Table.{Table}
 use Rattle.fork_bytes.specs.Fork.{StandsFor}
 use Rattle.fork_bytes.specs.Written.{written}
 use Rattle.fork_disk.specs.declared.store.ForkStore.{Ghosts}
 use Rattle.fork_disk.specs.Crash.{AlwaysFinds, Finds, at_first, and_then}
-use Rattle.res_calls.specs.Changes.{saved_table}
-use Rattle.res_calls.specs.Device.{Device, Disk, DiskRelations, LeaveRelation}
-use Rattle.res_calls.specs.Device as device
-use Rattle.res_calls.specs.Files.{ResState, ResourceEnd, disk_of, with_disk, with_files}
-use Rattle.res_calls.specs.Steps.{Gets, IsSaved, MemoryRelation, Memory as MayStep, Opens, Quiet, ResourceStepBy, StepsUnless, Updates, Work, Works, update_in, work_of}
-use Rattle.res_calls.specs.Tests.{resource_refusal}
-use Rattle.res_calls.specs.Updates.{Update, behind_update, update_end}
-use Rattle.res_calls.specs.Answered.{WasAnswered, answered_disks}
-use Rattle.res_calls.proofs.Answering.{disk_answered, gets_none}
+use Rattle.res_update.specs.Changes.{saved_table}
+use Rattle.res_update.specs.Device.{Device, Disk, DiskRelations, LeaveRelation}
+use Rattle.res_update.specs.Device as device
+use Rattle.res_update.specs.Files.{ResState, ResourceEnd, disk_of, with_disk, with_files}
+use Rattle.res_update.specs.Steps.{Gets, IsSaved, MemoryRelation, Memory as MayStep, Opens, Quiet, ResourceStepBy, StepsUnless, Updates, Work, Works, update_in, work_of}
+use Rattle.res_update.specs.Tests.{resource_refusal}
+use Rattle.res_update.specs.Updates.{Update, behind_update, update_end}
+use Rattle.res_update.specs.Answered.{WasAnswered, answered_disks}
+use Rattle.res_update.proofs.Answering.{disk_answered, gets_none}
 use Rattle.res_files.specs.Crash.{history_of}
 use Rattle.res_files.specs.FilesOn.{FilesOn, fork_of}
 use Rattle.res_table.specs.OpenFiles.{rows_changed}

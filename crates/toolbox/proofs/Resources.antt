@@ -6,23 +6,23 @@ use Rattle.mac_base.specs.declared.error.OsErr.{OsErr}
 use Rattle.mac_base.specs.HeadKind.{Shape}
 use Rattle.mac_base.specs.Heap.{Heap}
 use Rattle.mac_base.specs.ZoneState.{ZoneState}
-use Rattle.mac_calls.specs.declared.memory_call.MemoryCall.{MemoryCall}
-use Rattle.mac_calls.specs.declared.call.Call.{Call}
-use Rattle.mac_calls.specs.declared.call.Call.TheVariants.{Memory, Loan, Resource, MemError, ResError}
-use Rattle.mac_calls.specs.Loans.{Loans}
-use Rattle.mac_calls.specs.declared.resource_call.ResourceCall.{ResourceCall}
-use Rattle.mac_calls.specs.declared.resource_call.ResourceCall.TheVariants.{OpenResFile}
-use Rattle.mac_calls.specs.GrowZone.{Ask}
-use Rattle.mac_calls.specs.Outcomes.{Outcome}
+use Rattle.mac_base.specs.declared.memory_call.MemoryCall.{MemoryCall}
+use Rattle.mac_base.specs.declared.call.Call.{Call}
+use Rattle.mac_base.specs.declared.call.Call.TheVariants.{Memory, Loan, Resource, MemError, ResError}
+use Rattle.mac_base.specs.LoanStep.{Loans}
+use Rattle.mac_base.specs.declared.resource_call.ResourceCall.{ResourceCall}
+use Rattle.mac_base.specs.declared.resource_call.ResourceCall.TheVariants.{OpenResFile}
+use Rattle.mac_base.specs.GrowZone.{Ask}
+use Rattle.mac_base.specs.Outcomes.{Outcome}
 use Rattle.res_table.specs.declared.chain.RowPlace.{RowPlace}
 use Rattle.res_table.specs.OpenFiles.{is_open, row_at}
-use Rattle.res_calls.specs.Changes.{FileRow}
-use Rattle.res_calls.specs.Answered.{IsAnswered, answered_disks}
-use Rattle.res_calls.specs.Device.{Device, DiskRelations}
-use Rattle.res_calls.specs.Files.{ResState, ResourceEnd}
-use Rattle.res_calls.specs.Loads.{loads_bytes, placing}
-use Rattle.res_calls.specs.Steps.{GetsPlace, GetsRow, Gets, MemoryRelation, Opens, Quiet, ResourceStepBy, StepsUnless, Updates, Work, Works, work_of, Memory as MayStep, ReadsBack, update_in}
-use Rattle.res_calls.specs.Tests.{resource_refusal}
+use Rattle.res_update.specs.Changes.{FileRow}
+use Rattle.res_update.specs.Answered.{IsAnswered, answered_disks}
+use Rattle.res_update.specs.Device.{Device, DiskRelations}
+use Rattle.res_update.specs.Files.{ResState, ResourceEnd}
+use Rattle.res_update.specs.Loads.{loads_bytes, placing}
+use Rattle.res_update.specs.Steps.{GetsPlace, GetsRow, Gets, MemoryRelation, Opens, Quiet, ResourceStepBy, StepsUnless, Updates, Work, Works, work_of, Memory as MayStep, ReadsBack, update_in}
+use Rattle.res_update.specs.Tests.{resource_refusal}
 use Rattle.res_files.specs.FilesOn.{FilesOn, WereHonest}
 use Rattle.res_manager.specs.Crash.{CrashLeaves, IsSettled, file_settled}
 use Rattle.fork_disk.specs.declared.store.ForkStore.{Ghosts}

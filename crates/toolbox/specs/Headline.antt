@@ -2,12 +2,12 @@
 use Rattle.std.specs.Prelude.{◌≡◌, List, [], ◌∷◌, map, ⊤}
 use Rattle.mac_base.specs.Heap.{new_heap}
 use Rattle.mac_base.specs.ZoneSizes.{ArePossible, ZoneSizes, shape_of}
-use Rattle.mac_calls.specs.declared.call.Call.{Call}
-use Rattle.mac_calls.specs.GrowZone.{Ask}
-use Rattle.mac_calls.specs.Outcomes.{Outcome}
+use Rattle.mac_base.specs.declared.call.Call.{Call}
+use Rattle.mac_base.specs.GrowZone.{Ask}
+use Rattle.mac_base.specs.Outcomes.{Outcome}
 use Rattle.fork_disk.specs.declared.store.ForkStore.{Ghosts}
 use Rattle.res_table.specs.OpenFiles.{no_files}
-use Rattle.res_laws.specs.Tools.{Called, Headline, IsToolRun, Tools}
+use Rattle.toolbox.specs.Tools.{Called, Headline, IsToolRun, Tools}
 use Rattle.toolbox.specs.Steps.{Steps}
 use Rattle.toolbox.specs.ToolState.{IsHonest, ToolState, resource_state}
 
@@ -43,8 +43,8 @@ pub record IsNew {S : Type 0} (sizes : ZoneSizes) (t : ToolState S) : Type 0 whe
   pub loans : t.loans ≡ []
   pub files : t.resources.files ≡ no_files
 
--- This is promised of the calls that are made of a toolbox over a new zone: of the zone for any stores, and of each fork where the device of
--- its store is honest, as the calls leave it.
+-- This is promised of the calls that are made of a toolbox over a new zone: of the zone for any stores, and of each
+-- fork where the device of its store is honest, as the calls leave it.
 abbrev pub ToolboxShows : {S : Type 0} → Ghosts S → Type 0
 ToolboxShows {S = S} store = (sizes : ZoneSizes) (start : ToolState S) (steps : List (Stepped S)) → ArePossible sizes → IsNew sizes start → AreSteps store start steps
     → (let honest = IsHonest store (left_by start steps) in IsToolRun honest (tools_of store start) (calls_of store steps) × Headline honest (tools_of store start) (calls_of store steps))

@@ -1,13 +1,13 @@
 -- What is promised of crashes that come anywhere in a run of calls.
 use Rattle.std.specs.Prelude.{◌≡◌, ◌≤◌, ◌⊎◌, ℕ, List, [], ◌∷◌, ◌++◌, IsOk, ⊤}
 use Rattle.std.specs.Option.{IsSomeAnd}
-use Rattle.mac_calls.specs.declared.call.Call.{Call}
-use Rattle.mac_calls.specs.declared.call.Call.TheVariants.{Resource}
+use Rattle.mac_base.specs.declared.call.Call.{Call}
+use Rattle.mac_base.specs.declared.call.Call.TheVariants.{Resource}
 use Rattle.fork_bytes.specs.Written.{written}
 use Rattle.fork_disk.specs.declared.store.ForkStore.{Ghosts}
 use Rattle.fork_disk.specs.Crash.{AlwaysFinds}
-use Rattle.res_calls.specs.Changes.{saved_table}
-use Rattle.res_calls.specs.Steps.{Opens, Quiet, Work, update_in, work_of}
+use Rattle.res_update.specs.Changes.{saved_table}
+use Rattle.res_update.specs.Steps.{Opens, Quiet, Work, update_in, work_of}
 use Rattle.res_files.specs.Crash.{history_of}
 use Rattle.res_files.specs.FilesOn.{fork_of}
 use Rattle.toolbox.specs.Headline.{Stepped, left_by}
@@ -18,8 +18,8 @@ use Rattle.toolbox.specs.ToolState.{IsHonest, ToolState, resource_state}
 abbrev pub MayFind : {S : Type 0} → Ghosts S → ToolState S → ℕ → List ℕ → Type 0
 MayFind store now number found = store.may_find (history_of store.history number now.resources.stores) found
 
--- Whenever a crash comes from the one moment to the other, also within a call, each fork that the next start may find as that file
--- has P.
+-- Whenever a crash comes from the one moment to the other, also within a call, each fork that the next start may find
+-- as that file has P.
 abbrev pub AlwaysFindsFile : {S : Type 0} → Ghosts S → ℕ → (List ℕ → Type 0) → ToolState S → ToolState S → Type 0
 AlwaysFindsFile store number P from to = AlwaysFinds store.may_find P
     (history_of store.history number from.resources.stores) (history_of store.history number to.resources.stores)
@@ -39,14 +39,16 @@ abbrev pub SavedIn : {S : Type 0} → Ghosts S → ToolState S → List (Stepped
 SavedIn store old [] number fork = ⊥
 SavedIn store old (step ∷ later) number fork = Saves store old step.call number fork ⊎ SavedIn store step.left later number fork
 
--- the call succeeded, and the file of this number is this fork from then on: the call saved it, or opened the file and read it
+-- the call succeeded, and the file of this number is this fork from then on: the call saved it, or opened the file and
+-- read it
 abbrev pub Settles : {S : Type 0} → Ghosts S → ToolState S → Stepped S → ℕ → List ℕ → Type 0
 Settles store old step number fork = IsOk step.outcome × (Saves store old step.call number fork
     ⊎ ((work_by store old step.call ≡ Opens number) × (fork ≡ fork_of store.fork number step.left.resources.stores)))
 
 -- What is promised of crashes in these calls, of the file of each number whose device is honest, as the calls leave it.
 pub record Recovers {S : Type 0} (store : Ghosts S) (start : ToolState S) (steps : List (Stepped S)) : Type 0 where
-  -- Whenever a crash comes, the next start finds what it might have found at an earlier moment, or what an update since then saves.
+  -- Whenever a crash comes, the next start finds what it might have found at an earlier moment, or what an update since
+  -- then saves.
   pub any_moment : (first part later : List (Stepped S)) (number : ℕ) → steps ≡ first ++ (part ++ later) → 1 ≤ number
       → IsHonest store (left_by start steps) number → (let from = left_by start first in AlwaysFindsFile store number
       (λ found. MayFind store from number found ⊎ SavedIn store from part number found) from (left_by from part))

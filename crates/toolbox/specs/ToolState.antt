@@ -3,15 +3,15 @@ use Rattle.std.specs.Prelude.{ℕ, List, map, Option}
 use Rattle.mac_base.specs.declared.error.OsErr.{OsErr}
 use Rattle.mac_base.specs.HeadKind.{Shape}
 use Rattle.mac_base.specs.Heap.{Heap}
-use Rattle.mac_calls.specs.Loans.{Loans}
+use Rattle.mac_base.specs.LoanStep.{Loans}
 use Rattle.fork_disk.specs.declared.store.ForkStore.{Ghosts}
-use Rattle.res_calls.specs.Changes.{handles_forgotten}
-use Rattle.res_calls.specs.Files.{ResState}
+use Rattle.res_update.specs.Changes.{handles_forgotten}
+use Rattle.res_update.specs.Files.{ResState}
 use Rattle.res_files.specs.FilesOn.{FilesOn, HonestAt}
 
--- where the zone lies, its heap, the blocks that are lent with what was written to them, and the code of the last call of the
--- Memory Manager or on a loan; the resource files with their stores, and the code of the last call of the Resource Manager. There
--- is no code where that call succeeded, or where there was none
+-- where the zone lies, its heap, the blocks that are lent with what was written to them, and the code of the last call
+-- of the Memory Manager or on a loan; the resource files with their stores, and the code of the last call of the
+-- Resource Manager. There is no code where that call succeeded, or where there was none
 pub record ToolState (S : Type 0) : Type 0 where
   pub shape : Shape
   pub heap : Heap
@@ -24,8 +24,8 @@ pub record ToolState (S : Type 0) : Type 0 where
 abbrev pub resource_state : {S : Type 0} → Ghosts S → ToolState S → ResState
 resource_state store t = record { shape = t.shape; heap = t.heap; files = t.resources.files; loads = t.resources.loads; disks = map store.fork t.resources.stores }
 
--- The device of the file of a number returns what was written, and nobody else writes it: what is said of the bytes of a file rests on the
--- honesty of its own device.
+-- The device of the file of a number returns what was written, and nobody else writes it: what is said of the bytes of
+-- a file rests on the honesty of its own device.
 abbrev pub IsHonest : {S : Type 0} → Ghosts S → ToolState S → ℕ → Type 0
 IsHonest store t = HonestAt store.is_honest t.resources.stores
 

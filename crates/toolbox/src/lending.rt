@@ -2,15 +2,15 @@
 
 ghost use Rattle.std.specs.Prelude.{◌≡◌, None, IfOk, OnErr, IsTrue};
 ghost use Rattle.held_calls.specs.Holding.{Holds, LoanSteps};
-ghost use Rattle.mac_calls.specs.declared.loan_call.LoanCall.TheVariants as call;
-ghost use Rattle.mac_calls.specs.Loans.{loan_refusal};
+ghost use Rattle.mac_base.specs.declared.loan_call.LoanCall.TheVariants as call;
+ghost use Rattle.mac_base.specs.LoanStep.{loan_refusal};
 ghost use Rattle.toolbox.specs.Steps.{shows};
 
 use held_calls::lending;
 use held_calls::loans::Loans;
 use mac_base::bytes::Bytes;
 use mac_base::error::HostFull;
-use mac_calls::{LoanCall, Outcome, Results};
+use mac_base::{LoanCall, Outcome, Results};
 use mem_calls::MemoryManager;
 use std::alloc::Global;
 

@@ -1,8 +1,8 @@
 //! The toolbox: one call, one reply.
 
 ghost use Rattle.std.specs.Prelude.{◌≡◌, [], None, IfOk, OnErr, IsTrue};
-ghost use Rattle.mac_calls.specs.Tests.{refusal};
-ghost use Rattle.mac_calls.specs.Released.{disposed_itself};
+ghost use Rattle.mac_base.specs.Tests.{refusal};
+ghost use Rattle.mac_base.specs.Released.{disposed_itself};
 ghost use Rattle.held_calls.specs.Making.{copies};
 ghost use Rattle.toolbox.specs.Steps.{refused_after, resource_refused_after};
 
@@ -13,7 +13,7 @@ use held_calls::loans::Loans;
 use held_calls::making;
 use mac_base::error::{HostFull, OsErr};
 use mac_base::handle::Handle;
-use mac_calls::{Call, GrowZone, MemoryCall, Outcome, Reply, ResourceCall, Results};
+use mac_base::{Call, GrowZone, MemoryCall, Outcome, Reply, ResourceCall, Results};
 use mem_calls::MemoryManager;
 use res_files::ResourceFiles;
 use res_manager::watch::Watched;
@@ -23,8 +23,9 @@ use std::marker::Model;
 /// The number of the file that is opened first.
 const FIRST_FILE: u32 = 1;
 
-/// The toolbox over one zone and some resource files, which holds the script's loans. Contracts see where the zone lies, its heap,
-/// the loans with the bytes that their holder has, the resource files with their stores, and the codes of the last calls.
+/// The toolbox over one zone and some resource files, which holds the script's loans. Contracts see where the zone
+/// lies, its heap, the loans with the bytes that their holder has, the resource files with their stores, and the codes
+/// of the last calls.
 pub struct Toolbox<S: ForkStore> {
     alloc: Global,
     memory: MemoryManager,
@@ -46,14 +47,15 @@ impl<S: ForkStore> Model for Toolbox<S> {
 }
 
 impl<S: ForkStore> Toolbox<S> {
-    ghost use Rattle.mac_calls.specs.declared.call.Call.TheVariants.{Memory, Resource};
-    ghost use Rattle.mac_calls.specs.declared.resource_call.ResourceCall.TheVariants.{OpenResFile};
-    ghost use Rattle.mac_calls.specs.Loans.{all_returned};
+    ghost use Rattle.mac_base.specs.declared.call.Call.TheVariants.{Memory, Resource};
+    ghost use Rattle.mac_base.specs.declared.resource_call.ResourceCall.TheVariants.{OpenResFile};
+    ghost use Rattle.mac_base.specs.LoanStep.{all_returned};
     ghost use Rattle.toolbox.specs.Headline.{ToolboxShows};
     ghost use Rattle.toolbox.specs.Recovery.{ToolboxRecovers};
     ghost use Rattle.toolbox.specs.Steps.{Gives, LeavesAnswers, Steps, Unchanged, refusal_of, takes_memory};
 
-    /// The toolbox over this memory, of which nothing is lent, and these resource files. What takes host memory takes it of `alloc`.
+    /// The toolbox over this memory, of which nothing is lent, and these resource files. What takes host memory takes
+    /// it of `alloc`.
     pub fn open(alloc: Global, memory: MemoryManager, files: ResourceFiles<S>) -> Toolbox<S>
         requires { memory.heap.table.lent ≡ [] }
         ensures { result ≡ record { shape = memory.shape; heap = memory.heap; loans = []; refused = None; resources = files; resource_refused = None } }
@@ -81,12 +83,12 @@ impl<S: ForkStore> Toolbox<S> {
         self.outcome(&call, &mut no_answers)
     }
 
-    /// Makes one call; one that finds no room asks the procedure. A call that is refused for its operands changes nothing in the
-    /// zone nor in the loans, and its reply has the code. Over all calls that are made so, every handle and pointer shows the bytes
-    /// last put there, and so on (`headline`), and where stores have journals, a crash leaves each file as before an update or after
-    /// it (`recovers`). MemError gives the code of the last call of the Memory Manager or on a loan, ResError that of the last call
-    /// of the Resource Manager. `HostFull` comes only from calls that take host memory, and only where the call isn't refused; then
-    /// nothing has changed.
+    /// Makes one call; one that finds no room asks the procedure. A call that is refused for its operands changes
+    /// nothing in the zone nor in the loans, and its reply has the code. Over all calls that are made so, every handle
+    /// and pointer shows the bytes last put there, and so on (`headline`), and where stores have journals, a crash
+    /// leaves each file as before an update or after it (`recovers`). MemError gives the code of the last call of the
+    /// Memory Manager or on a loan, ResError that of the last call of the Resource Manager. `HostFull` comes only from
+    /// calls that take host memory, and only where the call isn't refused; then nothing has changed.
     pub fn step<G: GrowZone>(
         &mut self,
         call: &Call<'_>,
@@ -190,8 +192,8 @@ impl<S: ForkStore> Toolbox<S> {
         )
     }
 
-    /// Makes one call as `step` does, where the procedure gives the answers that are queued, first in, first out; with none left
-    /// there is no procedure. Where it is `HostFull`, no answer was taken.
+    /// Makes one call as `step` does, where the procedure gives the answers that are queued, first in, first out; with
+    /// none left there is no procedure. Where it is `HostFull`, no answer was taken.
     pub fn step_queued(
         &mut self,
         call: &Call<'_>,
@@ -211,8 +213,8 @@ impl<S: ForkStore> Toolbox<S> {
         reply
     }
 
-    /// Gives back the loans that are left, first to last, and hands out the memory, of which nothing is lent then, and the resource
-    /// files. What isn't written stays unwritten.
+    /// Gives back the loans that are left, first to last, and hands out the memory, of which nothing is lent then, and
+    /// the resource files. What isn't written stays unwritten.
     pub fn finish(self) -> (MemoryManager, ResourceFiles<S>)
         ensures heap { result.0.heap ≡ all_returned self.loans self.heap }
         ensures shape { result.0.shape ≡ self.shape }

@@ -17,7 +17,7 @@ use Rattle.zone_laws.proofs.Fitting.{begins_free-cleared, is_some-lowest_gap, si
 use Rattle.zone_laws.proofs.GapParts.{lowest_gap-is}
 use Rattle.zone_laws.proofs.Placing.{has_free-is}
 use Rattle.linked_zone.specs.Places.{LowestAt}
-use Rattle.zone_gaps.specs.Gaps.{with_gap}
+use Rattle.zone_heap.specs.Gaps.{with_gap}
 use Rattle.zone_heap.specs.Attempts.{IsServed, IsRefused, SoundZone, lacks_slot}
 use Rattle.zone_heap.specs.declared.shortage.Shortage.TheVariants.{NoRoom}
 use Rattle.zone_heap.specs.Room.{IsCleared, IsOpened, LacksRoom}

@@ -20,8 +20,8 @@ use Rattle.zone_index.proofs.SomeBytes.{no_bytes, total_size-push}
 use Rattle.zone_laws.proofs.GapApart.{sizes_possible}
 use Rattle.zone_laws.proofs.GapParts.{gap_behind-is}
 use Rattle.zone_laws.proofs.Maps.{total_size-append}
-use Rattle.zone_gaps.specs.Gaps.{IsGapOf}
-use Rattle.zone_gaps.specs.declared.gap.FoundGap.{FoundGap}
+use Rattle.zone_heap.specs.Gaps.{IsGapOf}
+use Rattle.zone_heap.specs.declared.gap.FoundGap.{FoundGap}
 use Rattle.zone_heap.specs.Purge.{BlocksAt, unprotected}
 
 -- blocks that may not be purged add none

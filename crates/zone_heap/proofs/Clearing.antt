@@ -1,4 +1,5 @@
--- The lowest gap with room is cleared, or arranged down: what the zone is then, and where its lowest free block with room stands.
+-- The lowest gap with room is cleared, or arranged down: what the zone is then, and where its lowest free block with
+-- room stands.
 use Rattle.std.proofs.Common.{◌≡◌, ℕ, ◌+◌, ◌<◌, ◌≤◌, true, false, not, cond, [], ◌∷◌, ◌++◌, Some, refl, ap, sym, ◌∙◌, subst, append-nil, append_assoc, arith}
 use Rattle.std.specs.Prelude.{nat_le, option_map, option_and_then}
 use Rattle.std.specs.Option.{option_or}
@@ -17,14 +18,14 @@ use Rattle.zone_laws.proofs.Arranging.{IsArrangement, down-IsArrangement, up-IsA
 use Rattle.zone_laws.proofs.Fitting.{free_block-some}
 use Rattle.zone_laws.proofs.GapParts.{IsGap, lowest_gap-is}
 use Rattle.zone_laws.proofs.Maps.{total_size-append}
-use Rattle.gap_laws.proofs.RearrangedSuits.{Sound-arranged}
+use Rattle.zone_laws.proofs.RearrangedSuits.{Sound-arranged}
 use Rattle.linked_zone.specs.Changes.{with_map}
 use Rattle.linked_zone.specs.Fit.{HasSizes}
 use Rattle.linked_zone.specs.Places.{EntryAt, LowestAt}
 use Rattle.zone_index.specs.Gaps.{IsLowestGap}
-use Rattle.zone_gaps.specs.Gaps.{GapAt, GapBetween, GapFrom, with_gap}
-use Rattle.zone_gaps.proofs.Laws.{gap_from}
-use Rattle.zone_gaps.proofs.Squeezing.{map_from, rest_from, start_from, none_before}
+use Rattle.zone_heap.specs.Gaps.{GapAt, GapBetween, GapFrom, with_gap}
+use Rattle.zone_heap.proofs.Laws.{gap_from}
+use Rattle.zone_heap.proofs.Squeezing.{map_from, rest_from, start_from, none_before}
 use Rattle.zone_heap.specs.Attempts.{SoundZone}
 use Rattle.zone_heap.specs.Room.{IsCleared, IsOpened}
 use Rattle.zone_heap.proofs.Finding.{NoneHas, before_none, used_none, used_begins}

@@ -10,9 +10,9 @@ use Rattle.mac_base.specs.HandleTable.{HandleTable}
 use Rattle.mac_base.specs.Sound.{Sound}
 use Rattle.mac_base.specs.ZoneMap.{ZoneMap, largest_free}
 use Rattle.mac_base.specs.ZoneState.{ZoneState}
-use Rattle.gap_laws.proofs.RearrangingAll.{Sound-compacted, Sound-all_down, Sound-moved_high}
+use Rattle.zone_laws.proofs.RearrangingAll.{Sound-compacted, Sound-all_down, Sound-moved_high}
 use Rattle.linked_zone.specs.Changes.{with_map}
-use Rattle.zone_gaps.specs.Gaps.{Settled}
+use Rattle.zone_heap.specs.Gaps.{Settled}
 use Rattle.zone_heap.specs.Attempts.{SoundZone}
 use Rattle.zone_heap.specs.Squeezed.{squeezed}
 

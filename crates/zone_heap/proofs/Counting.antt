@@ -20,7 +20,7 @@ use Rattle.zone_laws.proofs.NamedPlace.{At, At-from, first_named, size_of-At}
 use Rattle.zone_laws.proofs.Owners.{nothing_passes}
 use Rattle.zone_laws.proofs.SuitsNamed.{named_once, stays-fixed}
 use Rattle.zone_laws.proofs.Tables.{eqb_same, handle_no_pointer}
-use Rattle.gap_laws.proofs.FittingResize.{one_size, some_named}
+use Rattle.zone_laws.proofs.FittingResize.{one_size, some_named}
 use Rattle.linked_zone.specs.Changes.{freed}
 use Rattle.zone_index.specs.Gaps.{IsLowestGap}
 use Rattle.zone_heap.specs.Attempts.{SoundZone}

@@ -21,7 +21,7 @@ use Rattle.zone_laws.proofs.ReleasedBlocks.{marked-none}
 use Rattle.zone_laws.proofs.SoundReleased.{sound-disposed}
 use Rattle.zone_laws.proofs.SuitsNamed.{length-sizes_of}
 use Rattle.zone_laws.proofs.Tables.{by_number, handle_no_pointer, live_at-with_live, live_at-with_live_same, in_order-with_live, with_live_agrees, without_agrees, tested}
-use Rattle.gap_laws.proofs.FixesSame.{FixesSame}
+use Rattle.zone_laws.proofs.FixesSame.{FixesSame}
 use Rattle.linked_zone.specs.Changes.{given_back}
 use Rattle.zone_heap.proofs.Twice.{without-with_live}
 

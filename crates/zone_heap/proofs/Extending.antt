@@ -11,7 +11,7 @@ use Rattle.mac_base.specs.ZoneState.{ZoneState, with_heap}
 use Rattle.zone_laws.proofs.Fitting.{free_block-some}
 use Rattle.zone_laws.proofs.Joined.{joined-apart}
 use Rattle.zone_laws.proofs.Lent.{KeepsLent, contents_of-same}
-use Rattle.gap_laws.proofs.SoundGrown.{addresses-at_limit, or_rest}
+use Rattle.zone_laws.proofs.SoundGrown.{addresses-at_limit, or_rest}
 use Rattle.linked_zone.specs.Changes.{extended, with_map}
 use Rattle.linked_zone.proofs.ChangeExtended.{passes-behind}
 use Rattle.zone_heap.specs.Joins.{NewlyFree}

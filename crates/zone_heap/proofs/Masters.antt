@@ -15,7 +15,7 @@ use Rattle.zone_laws.proofs.Lent.{KeepsLent, contents_of-same}
 use Rattle.zone_laws.proofs.Maps.{total_size-append}
 use Rattle.zone_laws.proofs.Placing.{TakenAt}
 use Rattle.zone_laws.proofs.SuitsTaken.{addresses-untaken}
-use Rattle.gap_laws.proofs.SoundMaster.{sound-master_taken}
+use Rattle.zone_laws.proofs.SoundMaster.{sound-master_taken}
 use Rattle.linked_zone.specs.Changes.{with_master}
 use Rattle.linked_zone.specs.Places.{FreeAt, RoomFor}
 use Rattle.zone_heap.specs.Joins.{CanTake, with_front}

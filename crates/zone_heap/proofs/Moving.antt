@@ -32,10 +32,10 @@ use Rattle.zone_laws.proofs.SuitsReleased.{addresses-released}
 use Rattle.zone_laws.proofs.SuitsTaken.{addresses-untaken, free_apart-kept}
 use Rattle.zone_laws.proofs.Tables.{eqb_same, eqb_swap, full_handle, with_live_agrees}
 use Rattle.zone_laws.proofs.Taken.{free_apart-behind, need-is_size, sizes-taken}
-use Rattle.gap_laws.proofs.FittingResize.{one_size}
-use Rattle.gap_laws.proofs.SoundMoved.{sound-resized_elsewhere}
-use Rattle.gap_laws.proofs.SuitsNil.{named_none-nil, nil-no_handle, nil-no_pointer}
-use Rattle.gap_laws.proofs.SuitsRestored.{free_apart-renamed, sizes_possible-renamed}
+use Rattle.zone_laws.proofs.FittingResize.{one_size}
+use Rattle.zone_laws.proofs.SoundMoved.{sound-resized_elsewhere}
+use Rattle.zone_laws.proofs.SuitsNil.{named_none-nil, nil-no_handle, nil-no_pointer}
+use Rattle.zone_laws.proofs.SuitsRestored.{free_apart-renamed, sizes_possible-renamed}
 use Rattle.linked_zone.specs.Changes.{freed, relocated, with_map}
 use Rattle.linked_zone.specs.Loans.{KeepsLoans}
 use Rattle.linked_zone.specs.Places.{BlockOf, FreeAt, RoomFor}
@@ -48,7 +48,7 @@ use Rattle.zone_heap.proofs.Clearing.{opened_taken}
 use Rattle.zone_heap.proofs.Loans.{keeps-both, keeps-loans}
 use Rattle.zone_heap.proofs.Releasing.{freed-At, free_apart-front}
 use Rattle.zone_heap.proofs.Taking.{front_size, front_rest, taken-parts, front-has_length, all-there}
-use Rattle.zone_gaps.proofs.Owning.{heads}
+use Rattle.zone_heap.proofs.Owning.{heads}
 
 -- a block, put under another handle if it is under one
 abbrev put_under : ℕ → ℕ → Entry → Entry

@@ -9,7 +9,7 @@ use Rattle.mac_base.specs.HeadKind.{Shape, smallest_block}
 use Rattle.mac_base.specs.ZoneMap.{ZoneMap, total_size}
 use Rattle.mac_base.specs.Suits.{is_block_size}
 use Rattle.zone_laws.proofs.Taken.{head-below_smallest}
-use Rattle.zone_gaps.proofs.Owning.{heads as same_head}
+use Rattle.zone_heap.proofs.Owning.{heads as same_head}
 
 -- whether each block has bytes
 abbrev pub all_large : ZoneMap → Bool

@@ -24,9 +24,9 @@ use Rattle.zone_laws.proofs.Owners.{no_pointer_block}
 use Rattle.zone_laws.proofs.SlotPlaces.{Contains-here}
 use Rattle.zone_laws.proofs.SuitsNamed.{full-no_pointer, length-handle_blocks}
 use Rattle.zone_laws.proofs.Tables.{by_number, eqb_same, with_live_agrees}
-use Rattle.gap_laws.proofs.Emptied.{IsCandidate, candidate-is, keeps-unlocked, none_pass, purged_until-none}
-use Rattle.gap_laws.proofs.FixesSame.{blocks_to_purge-same, fits-same}
-use Rattle.gap_laws.proofs.PurgeBlocks.{blocks_to_purge-is, purge_blocks, purge_blocks-filter, purge_handles, purge_handles-used, run, run_behind, used-released}
+use Rattle.zone_laws.proofs.Emptied.{IsCandidate, candidate-is, keeps-unlocked, none_pass, purged_until-none}
+use Rattle.zone_laws.proofs.FixesSame.{blocks_to_purge-same, fits-same}
+use Rattle.zone_laws.proofs.PurgeBlocks.{blocks_to_purge-is, purge_blocks, purge_blocks-filter, purge_handles, purge_handles-used, run, run_behind, used-released}
 use Rattle.linked_zone.specs.Loans.{KeepsLoans}
 use Rattle.zone_heap.specs.Attempts.{CanAsk, SoundZone, is_ready}
 use Rattle.zone_heap.specs.Purge.{is_protected}

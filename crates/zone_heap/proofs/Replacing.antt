@@ -20,8 +20,8 @@ use Rattle.zone_laws.proofs.Lent.{KeepsLent, keeps-others}
 use Rattle.zone_laws.proofs.Placing.{TakenAt}
 use Rattle.zone_laws.proofs.SuitsTaken.{addresses-untaken}
 use Rattle.zone_laws.proofs.Tables.{eqb_swap, live_at-with_live_same, with_live_agrees}
-use Rattle.gap_laws.proofs.FixesSame.{gaps-same}
-use Rattle.gap_laws.proofs.SoundServed.{sound-attempted, loans_fixed-attempted}
+use Rattle.zone_laws.proofs.FixesSame.{gaps-same}
+use Rattle.zone_laws.proofs.SoundServed.{sound-attempted, loans_fixed-attempted}
 use Rattle.linked_zone.specs.Changes.{pointed}
 use Rattle.linked_zone.specs.Loans.{KeepsLoans}
 use Rattle.linked_zone.specs.Places.{RoomFor}

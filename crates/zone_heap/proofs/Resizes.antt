@@ -14,7 +14,7 @@ use Rattle.mac_base.specs.Serve.{gives, placed_relocatable, renamed, resized_blo
 use Rattle.mac_base.specs.ZoneMap.{ZoneMap, released}
 use Rattle.mac_base.specs.ZoneState.{ZoneState}
 use Rattle.zone_laws.proofs.PlacedParts.{option_map-Some}
-use Rattle.gap_laws.proofs.ServedRequests.{serve-no_room}
+use Rattle.zone_laws.proofs.ServedRequests.{serve-no_room}
 use Rattle.linked_zone.specs.Changes.{with_map}
 use Rattle.zone_heap.specs.Attempts.{CanAsk, IsRefused, IsServed, SoundZone}
 use Rattle.zone_heap.specs.declared.shortage.Shortage.{Shortage}

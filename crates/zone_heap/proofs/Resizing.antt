@@ -20,15 +20,15 @@ use Rattle.zone_laws.proofs.GapParts.{gap_behind-is, own_gap-is}
 use Rattle.zone_laws.proofs.Lent.{fixed-kept}
 use Rattle.zone_laws.proofs.OpenedGap.{is_some-resized_in_place}
 use Rattle.zone_laws.proofs.SuitsNamed.{named_once}
-use Rattle.gap_laws.proofs.FittingResize.{is_some-resized_in_gap}
-use Rattle.gap_laws.proofs.RearrangedSuits.{Sound-arranged}
+use Rattle.zone_laws.proofs.FittingResize.{is_some-resized_in_gap}
+use Rattle.zone_laws.proofs.RearrangedSuits.{Sound-arranged}
 use Rattle.linked_zone.specs.Changes.{with_map}
 use Rattle.linked_zone.specs.Loans.{KeepsLoans}
 use Rattle.zone_index.specs.Gaps.{GapAt as IndexedGap}
-use Rattle.zone_gaps.specs.declared.gap.FoundGap.{FoundGap}
-use Rattle.zone_gaps.specs.Gaps.{GapAt, GapBetween, IsGapOf, opened_after}
-use Rattle.zone_gaps.proofs.Laws.{find-contains}
-use Rattle.zone_gaps.proofs.Rooms.{gap_indexed}
+use Rattle.zone_heap.specs.declared.gap.FoundGap.{FoundGap}
+use Rattle.zone_heap.specs.Gaps.{GapAt, GapBetween, IsGapOf, opened_after}
+use Rattle.zone_heap.proofs.Laws.{find-contains}
+use Rattle.zone_heap.proofs.Rooms.{gap_indexed}
 use Rattle.zone_heap.specs.Attempts.{SoundZone}
 use Rattle.zone_heap.specs.Placed.{resized_there}
 use Rattle.zone_heap.specs.Resized.{way_made}

@@ -1,4 +1,5 @@
--- A block that gets another size where it stands: the one block of a handle or a pointer, the front of it that is held, and the sound heap then.
+-- A block that gets another size where it stands: the one block of a handle or a pointer, the front of it that is held,
+-- and the sound heap then.
 use Rattle.std.proofs.Common.{◌≡◌, ℕ, ◌+◌, ◌-◌, ◌<◌, ◌≤◌, Bool, true, false, cond, List, [], ◌∷◌, ◌++◌, length, Some, refl, ap, sym, ◌∙◌, arith, subst, length-append, IsTrue, inl, inr}
 use Rattle.std.specs.Prelude.{◌==◌, ◌⊎◌, nat_lt, option_map}
 use Rattle.std.specs.List.{list_all}

@@ -17,13 +17,15 @@ pub record SoundZone (z : ZoneState) : Type 0 where
   pub sound : Sound z.shape z.heap
   pub fixed : LoansAreFixed z.heap
 
--- whether what a request is for is there: a block that gets another size is not lent, a handle whose block is replaced not locked either
+-- whether what a request is for is there: a block that gets another size is not lent, a handle whose block is replaced
+-- not locked either
 abbrev pub is_ready : HandleTable → Request → Bool
 is_ready t (Resize x n) = has_block t x && not (is_lent t x)
 is_ready t (Replace h n) = is_handle t h && (not (is_locked t h) && not (is_lent t h))
 is_ready t _ = true
 
--- the most bytes that are asked for: where one block is appended to another those of both, each of a zone of 1 GB at most
+-- the most bytes that are asked for: where one block is appended to another those of both, each of a zone of 1 GB at
+-- most
 abbrev pub most_asked : ℕ
 most_asked = 0x8000_0000
 

@@ -1,3 +1,5 @@
+pub mod Gaps
+pub mod Runs
 pub mod Joins
 pub mod WritingBack
 pub mod Placed

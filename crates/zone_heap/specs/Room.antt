@@ -7,7 +7,7 @@ use Rattle.mac_base.specs.ZoneMap.{ZoneMap, address_behind}
 use Rattle.mac_base.specs.ZoneState.{ZoneState}
 use Rattle.linked_zone.specs.Changes.{with_map}
 use Rattle.linked_zone.specs.Places.{LowestAt}
-use Rattle.zone_gaps.specs.Gaps.{with_gap}
+use Rattle.zone_heap.specs.Gaps.{with_gap}
 
 -- no gap has room for k bytes, and nothing has changed
 abbrev pub LacksRoom : ℕ → ZoneState → ZoneState → Type 0

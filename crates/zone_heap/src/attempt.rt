@@ -12,9 +12,9 @@ impl Zone {
     ghost use Rattle.linked_zone.specs.Loans.{KeepsLoans};
     ghost use Rattle.zone_heap.specs.Attempts.{Attempts, CanAsk};
 
-    /// Makes one attempt to serve a request in the zone as it is: blocks move where they must. Gives the number of the new
-    /// handle or pointer, or of the block that the request is for; of a master block the address of its first slot, and 0
-    /// for a reservation.
+    /// Makes one attempt to serve a request in the zone as it is: blocks move where they must. Gives the number of the
+    /// new handle or pointer, or of the block that the request is for; of a master block the address of its first slot,
+    /// and 0 for a reservation.
     pub fn attempt(&mut self, request: Request) -> Result<u32, Shortage>
         requires { CanAsk self.old request }
         ensures sound { Sound self.old.shape self.old.heap }

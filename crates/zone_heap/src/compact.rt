@@ -1,9 +1,9 @@
 //! Blocks moved on a program's own demand, and the handle of a block by its address.
 
 use crate::zone::Zone;
+use crate::{raise, squeeze_all_down, squeeze_down};
 use mac_base::block::Kind;
 use mac_base::handle::Handle;
-use zone_gaps::{raise, squeeze_all_down, squeeze_down};
 use zone_index::IndexedZone;
 
 impl Zone {
@@ -15,8 +15,8 @@ impl Zone {
     ghost use Rattle.mac_base.specs.ZoneState.{with_heap};
     ghost use Rattle.linked_zone.specs.Loans.{KeepsLoans};
 
-    /// The size of the largest free block, and 0 where none is free. It is what MaxMem and CompactMem report of a zone (Inside
-    /// Macintosh: Memory, "Freeing Memory").
+    /// The size of the largest free block, and 0 where none is free. It is what MaxMem and CompactMem report of a zone
+    /// (Inside Macintosh: Memory, "Freeing Memory").
     pub fn largest_free(&mut self) -> u32
         ensures zone { self.new ≡ self.old }
         ensures largest { result ≡ largest_free self.old.heap.map }
@@ -49,8 +49,8 @@ impl Zone {
         squeeze_all_down(&mut self.pointers);
     }
 
-    /// MoveHHi: the block of an unlocked handle is moved to the high end of its gap, and the other blocks of the gap down
-    /// (Inside Macintosh: Memory, "Managing Relocatable Blocks").
+    /// MoveHHi: the block of an unlocked handle is moved to the high end of its gap, and the other blocks of the gap
+    /// down (Inside Macintosh: Memory, "Managing Relocatable Blocks").
     pub fn move_high(&mut self, handle: Handle)
         requires full { IsTrue (is_full self.old.heap.table handle) }
         requires unlocked { IsFalse (is_locked self.old.heap.table handle) }
@@ -81,10 +81,11 @@ ghost use Rattle.std.specs.Prelude.{◌≡◌, ◌<◌};
 ghost use Rattle.mac_base.specs.ZoneMap.{handle_of};
 ghost use Rattle.linked_zone.specs.Changes.{with_map as zone_with_map};
 ghost use Rattle.linked_zone.specs.Loans.{KeepsLoans};
-ghost use Rattle.zone_gaps.specs.Gaps.{Settled};
+ghost use Rattle.zone_heap.specs.Gaps.{Settled};
 ghost use Rattle.zone_heap.specs.Squeezed.{squeezed};
 
-/// Moves the blocks of the lowest gap with at least `needed` free bytes down, or those of all gaps where none has so many.
+/// Moves the blocks of the lowest gap with at least `needed` free bytes down, or those of all gaps where none has so
+/// many.
 fn squeeze(pointers: &mut IndexedZone, needed: u32)
     requires some { 0 < needed }
     requires settled { Settled pointers.old }

@@ -10,8 +10,9 @@ impl Zone {
     ghost use Rattle.linked_zone.specs.Copying.{copied};
     ghost use Rattle.linked_zone.specs.Loans.{KeepsLoans};
 
-    /// Copies `count` bytes of a handle or a pointer, from `start` on, over those from `offset` on of another. It may be the
-    /// same, whose bytes are then those before the call (Inside Macintosh: Memory, "Manipulating Blocks of Memory").
+    /// Copies `count` bytes of a handle or a pointer, from `start` on, over those from `offset` on of another. It may
+    /// be the same, whose bytes are then those before the call (Inside Macintosh: Memory, "Manipulating Blocks of
+    /// Memory").
     pub fn copy(&mut self, from: u32, start: u32, to: u32, offset: u32, count: u32)
         requires source { status_of self.old.heap.table from ≡ Status.Full }
         requires target { status_of self.old.heap.table to ≡ Status.Full }

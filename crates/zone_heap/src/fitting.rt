@@ -12,7 +12,8 @@ use mac_base::request::Request;
 use mac_base::size::{MASTER_LENGTH, need_for};
 use zone_index::IndexedZone;
 
-/// Whether a request fits in the zone as it is, by moving blocks alone. The block of a handle that is to be replaced counts as free.
+/// Whether a request fits in the zone as it is, by moving blocks alone. The block of a handle that is to be replaced
+/// counts as free.
 pub(crate) fn fits(zone: &mut IndexedZone, request: &Request) -> bool
     requires sound { SoundZone zone.old }
     requires ready { CanAsk zone.old request.now }
@@ -31,7 +32,8 @@ pub(crate) fn fits(zone: &mut IndexedZone, request: &Request) -> bool
     }
 }
 
-/// Whether a block can be made `needed` bytes long: with the free bytes of the gap in which it can grow, or in a new place.
+/// Whether a block can be made `needed` bytes long: with the free bytes of the gap in which it can grow, or in a new
+/// place.
 fn can_grow(zone: &mut IndexedZone, block: u32, needed: u32) -> bool
     requires some { 0 < needed }
     requires sound { SoundZone zone.old }

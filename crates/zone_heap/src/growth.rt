@@ -18,9 +18,9 @@ impl Zone {
         spec.limit() - spec.size()
     }
 
-    /// Grows the zone to its limit: the bytes up to there are free, and joined to a free block right before them. Where the
-    /// zone is as large as its limit nothing changes. It is what MaxApplZone does, and the first step of each request that
-    /// finds no room (Inside Macintosh: Memory, "Setting Up the Application Heap").
+    /// Grows the zone to its limit: the bytes up to there are free, and joined to a free block right before them. Where
+    /// the zone is as large as its limit nothing changes. It is what MaxApplZone does, and the first step of each
+    /// request that finds no room (Inside Macintosh: Memory, "Setting Up the Application Heap").
     pub fn extend(&mut self)
         ensures zone { self.new ≡ with_heap (grown self.old.shape self.old.heap) self.old }
         ensures loans { KeepsLoans self.old self.new }

@@ -8,13 +8,13 @@ ghost use Rattle.zone_heap.specs.Room.{IsCleared, IsOpened, LacksRoom};
 
 use crate::shortage::Shortage;
 use crate::zone::cut;
+use crate::{squeeze_down, squeeze_up};
 use mac_base::handle::{Handle, Ptr};
 use mac_base::size::{MASTER_LENGTH, need_for};
-use zone_gaps::{squeeze_down, squeeze_up};
 use zone_index::IndexedZone;
 
-/// A new handle with `length` bytes of zero: in the lowest free block that has room, or else in the lowest gap with room,
-/// arranged down.
+/// A new handle with `length` bytes of zero: in the lowest free block that has room, or else in the lowest gap with
+/// room, arranged down.
 pub(crate) fn new_block(zone: &mut IndexedZone, length: u32) -> Result<Handle, Shortage>
     requires size { length ≤ most_asked }
     requires sound { SoundZone zone.old }
@@ -98,8 +98,8 @@ pub(crate) fn reserve(zone: &mut IndexedZone, length: u32) -> Result<(), Shortag
     }
 }
 
-/// The address of a free block of at least `needed` bytes for a relocatable block: the lowest, or where there is none that
-/// of the lowest gap with room, arranged down.
+/// The address of a free block of at least `needed` bytes for a relocatable block: the lowest, or where there is none
+/// that of the lowest gap with room, arranged down.
 pub(crate) fn open_lowest(zone: &mut IndexedZone, needed: u32) -> Option<u32>
     requires some { 0 < needed }
     requires sound { SoundZone zone.old }

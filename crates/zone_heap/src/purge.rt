@@ -15,17 +15,18 @@ ghost use Rattle.zone_heap.specs.Purge.{is_protected, BlocksAt, unprotected};
 use crate::fitting::fits;
 use crate::size::stays;
 use crate::zone::{Zone, empty};
+use crate::{gap_behind, zone_end};
 use mac_base::block::Kind;
 use mac_base::handle::Handle;
 use mac_base::request::Request;
 use mac_base::size::ZONE_HEADER;
-use zone_gaps::{gap_behind, zone_end};
 use zone_index::IndexedZone;
 
 impl Zone {
-    /// Purges for a request that doesn't fit: relocatable blocks that are unlocked, purgeable and not protected are purged, in
-    /// order of address, until it does. No more are purged than that takes, and all where it never does; a purged block's
-    /// handle is empty. Gives whether the request fits then (Inside Macintosh: Memory, "Freeing Memory").
+    /// Purges for a request that doesn't fit: relocatable blocks that are unlocked, purgeable and not protected are
+    /// purged, in order of address, until it does. No more are purged than that takes, and all where it never does; a
+    /// purged block's handle is empty. Gives whether the request fits then (Inside Macintosh: Memory, "Freeing
+    /// Memory").
     pub fn purge_for(&mut self, request: Request, protected: &[u32]) -> bool
         requires ready { CanAsk self.old request }
         requires protects { IsTrue (is_protected protected.now request) }
@@ -44,8 +45,8 @@ impl Zone {
         true
     }
 
-    /// Purges relocatable blocks that are unlocked and purgeable, in order of address, until `needed` bytes are free in one
-    /// block, and no more than that takes. Gives whether so many are (Inside Macintosh: Memory, "PurgeMem").
+    /// Purges relocatable blocks that are unlocked and purgeable, in order of address, until `needed` bytes are free in
+    /// one block, and no more than that takes. Gives whether so many are (Inside Macintosh: Memory, "PurgeMem").
     pub fn purge_to(&mut self, needed: u32) -> bool
         ensures sound { Sound self.old.shape self.old.heap }
         ensures zone { self.new ≡ with_heap (purged_for needed self.old.heap) self.old }
@@ -73,8 +74,8 @@ impl Zone {
     }
 }
 
-/// The lowest handle that may be purged for a request, if there is one. Where the block of a number stays and is to grow, it is
-/// one of those in the gap right after it.
+/// The lowest handle that may be purged for a request, if there is one. Where the block of a number stays and is to
+/// grow, it is one of those in the gap right after it.
 fn next_for(zone: &IndexedZone, request: &Request, protected: &[u32]) -> Option<Handle>
     requires sound { SoundZone zone.now }
     requires ready { CanAsk zone.now request.now }
@@ -98,8 +99,8 @@ fn next_in_zone(zone: &IndexedZone, protected: &[u32]) -> Option<Handle>
     next_between(zone, start, zone_end(linked), protected)
 }
 
-/// The lowest handle that may be purged and has its block between two addresses, if there is one. Of the other blocks only
-/// those of protected handles are read.
+/// The lowest handle that may be purged and has its block between two addresses, if there is one. Of the other blocks
+/// only those of protected handles are read.
 fn next_between(zone: &IndexedZone, start: u32, end: u32, protected: &[u32]) -> Option<Handle>
     requires blocks { BlocksAt zone.now start end }
     ensures { (blocks : BlocksAt zone.now start end) → result ≡ slice_get (candidates_in zone.now.heap.table protected.now blocks.blocks) 0 }

@@ -7,8 +7,8 @@ impl Zone {
     ghost use Rattle.std.specs.Prelude.{◌≡◌};
     ghost use Rattle.mac_base.specs.Reports.{largest_room, purge_space, largest_purge_space};
 
-    /// MaxBlock: the most free bytes that moving blocks would bring together, in one gap (Inside Macintosh: Memory, "Assessing Memory
-    /// Conditions").
+    /// MaxBlock: the most free bytes that moving blocks would bring together, in one gap (Inside Macintosh: Memory,
+    /// "Assessing Memory Conditions").
     ///
     /// The sums of the zone's pages are remembered: only those of pages that have changed are made again.
     pub fn largest_room(&mut self) -> u32
@@ -18,8 +18,8 @@ impl Zone {
         self.pointers.sums().room
     }
 
-    /// PurgeSpace: the bytes that would be free if all blocks that may be purged were (Inside Macintosh: Memory, "Assessing
-    /// Memory Conditions").
+    /// PurgeSpace: the bytes that would be free if all blocks that may be purged were (Inside Macintosh: Memory,
+    /// "Assessing Memory Conditions").
     ///
     /// The sums of the zone's pages are remembered: only those of pages that have changed are made again.
     pub fn purge_space(&mut self) -> PurgeSpace

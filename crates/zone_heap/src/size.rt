@@ -8,7 +8,7 @@ ghost use Rattle.mac_base.specs.Request.{gap_to_grow, room_of, size_of, stays};
 ghost use Rattle.mac_base.specs.Serve.{resized_in_gap, resized_in_place};
 ghost use Rattle.linked_zone.specs.Changes.{with_map};
 ghost use Rattle.linked_zone.specs.Loans.{KeepsLoans};
-ghost use Rattle.zone_gaps.specs.Gaps.{IsGapOf};
+ghost use Rattle.zone_heap.specs.Gaps.{IsGapOf};
 ghost use Rattle.zone_heap.specs.Attempts.{CanAsk, IsRefused, IsServed, SoundZone, most_asked};
 ghost use Rattle.zone_heap.specs.Placed.{resized_there};
 ghost use Rattle.zone_heap.specs.Resized.{resized_away, way_made};
@@ -17,16 +17,16 @@ ghost use Rattle.zone_heap.specs.declared.shortage.Shortage.TheVariants.{NoRoom}
 use crate::place::open_lowest;
 use crate::shortage::Shortage;
 use crate::zone::{cut, free_behind, front, join, shrink};
+use crate::{FoundGap, gap_behind, open_after, own_gap, squeeze_up};
 use linked_zone::LinkedZone;
 use mac_base::handle::{Handle, Ptr};
 use mac_base::size::need_for;
 use mac_base::zone_spec::LARGEST_LIMIT;
-use zone_gaps::{FoundGap, gap_behind, open_after, own_gap, squeeze_up};
 use zone_index::IndexedZone;
 
-/// Gives the block of a handle or a pointer `length` bytes: where it is; or else once the other blocks of the gap in which
-/// it can grow have made way for it; or else, if it may move, in a new place. Bytes that were in it stay, as far as they
-/// go, and those that are added are zero. Where it doesn't fit, nothing has changed.
+/// Gives the block of a handle or a pointer `length` bytes: where it is; or else once the other blocks of the gap in
+/// which it can grow have made way for it; or else, if it may move, in a new place. Bytes that were in it stay, as far
+/// as they go, and those that are added are zero. Where it doesn't fit, nothing has changed.
 pub(crate) fn resize_block(zone: &mut IndexedZone, block: u32, length: u32) -> Result<(), Shortage>
     requires ready { CanAsk zone.old (Resize block length) }
     requires sound { SoundZone zone.old }
@@ -65,8 +65,9 @@ fn fits_there(zone: &LinkedZone, block: u32, length: u32) -> bool
     need_for(spec.heads(), length) <= zone.entry_at(at).size + free_behind(zone, at)
 }
 
-/// Gives a block `length` bytes where it is: its own, or with them those of the free block right behind it. What is over
-/// is free where it makes a block. Bytes that were in it stay, as far as they go, and those that are added are zero.
+/// Gives a block `length` bytes where it is: its own, or with them those of the free block right behind it. What is
+/// over is free where it makes a block. Bytes that were in it stay, as far as they go, and those that are added are
+/// zero.
 fn resize_there(zone: &mut IndexedZone, block: u32, length: u32)
     requires sound { SoundZone zone.old }
     requires block { IsTrue (has_block zone.old.heap.table block) }
@@ -122,8 +123,8 @@ pub(crate) fn grows_to(zone: &mut IndexedZone, gap: FoundGap, block: u32, needed
     zone.has_room_at(gap.start, needed - size)
 }
 
-/// Lets the other blocks of its gap make way for a block, so that the free bytes of the gap stand right behind it, where
-/// it can then have `length` bytes. Else nothing has changed.
+/// Lets the other blocks of its gap make way for a block, so that the free bytes of the gap stand right behind it,
+/// where it can then have `length` bytes. Else nothing has changed.
 fn make_way(zone: &mut IndexedZone, block: u32, length: u32) -> bool
     requires sound { SoundZone zone.old }
     requires block { IsTrue (has_block zone.old.heap.table block) }

@@ -19,8 +19,8 @@ impl Zone {
         self.pointers.linked()
     }
 
-    /// Wakes the zone, which sleeps, in a region with the same structure and the same flags: it is in this region's bytes
-    /// from then on. The region that it was in becomes the record of its structure.
+    /// Wakes the zone, which sleeps, in a region with the same structure and the same flags: it is in this region's
+    /// bytes from then on. The region that it was in becomes the record of its structure.
     pub fn wake(&mut self, region: Region)
         requires nothing_lent { self.old.heap.table.lent ≡ [] }
         requires asleep { self.old.memory.kept ≡ None }
@@ -32,8 +32,8 @@ impl Zone {
         self.pointers.wake(region);
     }
 
-    /// Puts the zone to sleep: it is in its record from then on. Returns the region that it was in, or None where it isn't
-    /// awake, and nothing has changed. What the zone showed is a sound heap.
+    /// Puts the zone to sleep: it is in its record from then on. Returns the region that it was in, or None where it
+    /// isn't awake, and nothing has changed. What the zone showed is a sound heap.
     pub fn sleep(&mut self) -> Option<Region>
         requires nothing_lent { self.old.heap.table.lent ≡ [] }
         ensures asleep { IfSome result (λ region. FallsAsleep self.old self.new) }

@@ -80,8 +80,8 @@ impl Zone {
         linked.lent_count()
     }
 
-    /// Lends the bytes of a pointer or a locked handle: who has the loan reads and writes them, until it comes back. Till then
-    /// the block keeps its address, and the zone reads and writes none of its bytes.
+    /// Lends the bytes of a pointer or a locked handle: who has the loan reads and writes them, until it comes back.
+    /// Till then the block keeps its address, and the zone reads and writes none of its bytes.
     pub fn lend(&mut self, block: u32) -> Lent
         requires full { status_of self.old.heap.table block ≡ Status.Full }
         requires fixed { IsTrue (may_be_lent self.old.heap.table block) }
@@ -237,7 +237,8 @@ pub(crate) fn join(pointers: &mut IndexedZone, at: u32)
     }
 }
 
-/// Empties a live handle: its block, if it has one, is free and joined to its free neighbours, and its slot stays its own.
+/// Empties a live handle: its block, if it has one, is free and joined to its free neighbours, and its slot stays its
+/// own.
 pub(crate) fn empty(pointers: &mut IndexedZone, handle: Handle)
     requires sound { SoundZone pointers.old }
     requires live { IsTrue (is_handle pointers.old.heap.table handle) }
@@ -282,8 +283,8 @@ pub(crate) fn front(pointers: &LinkedZone, whole: u32, needed: u32) -> u32
     }
 }
 
-/// Gives the owner of a block `length` bytes, which need `needed` bytes of the block. What is over is free where it makes
-/// a block, and joined to the free block behind it.
+/// Gives the owner of a block `length` bytes, which need `needed` bytes of the block. What is over is free where it
+/// makes a block, and joined to the free block behind it.
 pub(crate) fn shrink(pointers: &mut IndexedZone, block: u32, needed: u32, length: u32)
     requires sound { Sound pointers.old.shape pointers.old.heap }
     requires block { IsTrue (has_block pointers.old.heap.table block) }

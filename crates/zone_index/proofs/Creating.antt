@@ -4,7 +4,7 @@ use Rattle.std.specs.Prelude.{false}
 use Rattle.std.proofs.lemmas.Bool.{false≢true}
 use Rattle.std.proofs.Math.ListN.{length-replicate}
 use Rattle.mac_base.specs.ZoneState.{ZoneState}
-use Rattle.block_sums.specs.Span.{no_span, heavy}
+use Rattle.sum_tree.specs.Span.{no_span, heavy}
 use Rattle.sum_tree.specs.Stale.{Stored}
 use Rattle.zone_index.specs.declared.leaves.LeafSums.{LeafSums}
 use Rattle.zone_index.specs.Free.{summing_largest}

@@ -1,4 +1,5 @@
--- Changes in which other blocks stand in place of some, and none of them passes a test that didn't before, keep marks right.
+-- Changes in which other blocks stand in place of some, and none of them passes a test that didn't before, keep marks
+-- right.
 use Rattle.std.proofs.Common.{◌≡◌, ℕ, ◌+◌, ◌-◌, Bool, true, false, not, List, [], ◌∷◌, ◌++◌, refl, ap, sym, ◌∙◌, subst, append_assoc, inl, inr, arith}
 use Rattle.std.specs.Prelude.{◌==◌, if◌then◌else◌}
 use Rattle.std.proofs.lemmas.Bool.{and_from, and_parts, false≢true, not-true}

@@ -1,7 +1,7 @@
 -- The largest of free blocks.
 use Rattle.std.proofs.Common.{◌≡◌, [], ◌∷◌, refl, ap, arith}
 use Rattle.std.specs.Prelude.{⊤}
-use Rattle.block_sums.specs.Largest.{largest_laws, of_size}
+use Rattle.sum_tree.specs.Largest.{largest_laws, of_size}
 use Rattle.mac_base.specs.HandleTable.{HandleTable}
 use Rattle.mac_base.specs.ZoneMap.{ZoneMap, largest_free}
 use Rattle.zone_index.specs.Free.{largest_of, summing_largest}

@@ -4,8 +4,8 @@ use Rattle.std.specs.Prelude.{◌&&◌, max, nat_le, IsFalse}
 use Rattle.std.specs.List.{list_all}
 use Rattle.std.proofs.lemmas.Bool.{and_from, and_parts, not-true}
 use Rattle.std.proofs.lemmas.Bool.Decides.{nat_tests}
-use Rattle.block_sums.specs.declared.largest.Largest.{Largest}
-use Rattle.block_sums.specs.Largest.{larger, no_block, of_size}
+use Rattle.sum_tree.specs.declared.largest.Largest.{Largest}
+use Rattle.sum_tree.specs.Largest.{larger, no_block, of_size}
 use Rattle.mac_base.specs.declared.block.Entry.{Entry}
 use Rattle.mac_base.specs.declared.block.Kind.TheVariants.{Free}
 use Rattle.mac_base.specs.HandleTable.{HandleTable}

@@ -3,9 +3,9 @@ use Rattle.std.proofs.Common.{◌≡◌, ℕ, zero, suc, ◌+◌, ◌*◌, ◌<�
 use Rattle.mac_base.specs.HeadKind.{zone_header}
 use Rattle.mac_base.specs.ZoneMap.{total_size}
 use Rattle.mac_base.specs.ZoneState.{ZoneState}
-use Rattle.block_sums.specs.declared.span.Span.{Span}
-use Rattle.block_sums.specs.Span.{no_span, joined, heavy, SpanFits}
-use Rattle.block_sums.proofs.Mixed.{leaves-light, light-fits, mixtures-fit, total-light}
+use Rattle.sum_tree.specs.declared.span.Span.{Span}
+use Rattle.sum_tree.specs.Span.{no_span, joined, heavy, SpanFits}
+use Rattle.sum_tree.proofs.Mixed.{leaves-light, light-fits, mixtures-fit, total-light}
 use Rattle.sum_tree.specs.Monoids.{total}
 use Rattle.sum_tree.specs.Stale.{AllRight, MixturesFit, Stored}
 use Rattle.zone_index.specs.declared.weight.Weight.{Weight}

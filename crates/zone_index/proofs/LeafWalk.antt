@@ -12,8 +12,8 @@ use Rattle.zone_laws.proofs.GapApart.{sizes_possible}
 use Rattle.zone_laws.proofs.Maps.{total_size-append}
 use Rattle.linked_zone.specs.Fit.{HasSizes}
 use Rattle.linked_zone.specs.Places.{EntryAt, FirstFrom, NoneFrom}
-use Rattle.block_sums.specs.declared.span.Span.{Span}
-use Rattle.block_sums.specs.Span.{no_span, joined, span_laws, SpanFits}
+use Rattle.sum_tree.specs.declared.span.Span.{Span}
+use Rattle.sum_tree.specs.Span.{no_span, joined, span_laws, SpanFits}
 use Rattle.zone_index.specs.Weights.{weigh, weights}
 use Rattle.zone_index.specs.Pages.{begun}
 use Rattle.zone_index.specs.Walk.{AllBelow}

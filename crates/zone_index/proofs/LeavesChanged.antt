@@ -8,8 +8,8 @@ use Rattle.mac_base.specs.ZoneState.{ZoneState, with_heap}
 use Rattle.linked_zone.specs.Changes.{carried_up, cut_in_two, enlarged, extended, held_there, joined_pair, relocated, sunk}
 use Rattle.linked_zone.specs.Fit.{Fits}
 use Rattle.linked_zone.specs.Places.{BlockOf, CanCut, CanGrow, CanHold, FreeAt, FreePair, ParcelAt, ParcelUpTo}
-use Rattle.block_sums.specs.declared.span.Span.{Span}
-use Rattle.block_sums.specs.Span.{heavy}
+use Rattle.sum_tree.specs.declared.span.Span.{Span}
+use Rattle.sum_tree.specs.Span.{heavy}
 use Rattle.zone_index.specs.declared.leaves.LeafSums.{LeafSums}
 use Rattle.zone_index.specs.Free.{summing_largest}
 use Rattle.zone_index.specs.Leaves.{AreSums, leaf, leaf_count}

@@ -11,8 +11,8 @@ use Rattle.zone_laws.proofs.GapApart.{sizes_possible}
 use Rattle.zone_laws.proofs.Maps.{total_size-append}
 use Rattle.linked_zone.specs.Fit.{HasSizes}
 use Rattle.linked_zone.specs.Places.{EntryAt, FirstFrom, NoneFrom}
-use Rattle.block_sums.specs.declared.span.Span.{Span}
-use Rattle.block_sums.specs.Span.{no_span, joined, most_in, SpanFits}
+use Rattle.sum_tree.specs.declared.span.Span.{Span}
+use Rattle.sum_tree.specs.Span.{no_span, joined, most_in, SpanFits}
 use Rattle.sum_tree.specs.Monoids.{total}
 use Rattle.sum_tree.specs.Rows.{IsFirst}
 use Rattle.sum_tree.specs.Stale.{Stored}

@@ -5,7 +5,7 @@ use Rattle.mac_base.specs.HeadKind.{Shape, zone_header}
 use Rattle.mac_base.specs.Heap.{Heap}
 use Rattle.mac_base.specs.ZoneState.{ZoneState}
 use Rattle.linked_zone.specs.Structure.{DifferInContents}
-use Rattle.block_sums.specs.Span.{heavy}
+use Rattle.sum_tree.specs.Span.{heavy}
 use Rattle.sum_tree.specs.Stale.{Stored}
 use Rattle.zone_index.specs.declared.leaves.LeafSums.{LeafSums}
 use Rattle.zone_index.specs.declared.lengths.Lengths.{Lengths}

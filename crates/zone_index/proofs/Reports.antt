@@ -7,7 +7,7 @@ use Rattle.mac_base.specs.Suits.{Coherent}
 use Rattle.mac_base.specs.ZoneMap.{ZoneMap}
 use Rattle.zone_index.specs.declared.sums.Sums.{Sums}
 use Rattle.zone_index.specs.declared.weight.Weight.{Weight}
-use Rattle.block_sums.specs.Span.{most_in}
+use Rattle.sum_tree.specs.Span.{most_in}
 use Rattle.zone_index.specs.Spans.{IsSum}
 use Rattle.zone_index.specs.Weights.{weights}
 use Rattle.zone_index.proofs.Space.{purge_space-is, largest_purge_space-is}

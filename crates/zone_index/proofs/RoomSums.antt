@@ -5,9 +5,9 @@ use Rattle.mac_base.specs.Gap.{is_fixed}
 use Rattle.mac_base.specs.HandleTable.{HandleTable}
 use Rattle.mac_base.specs.Reports.{largest_room}
 use Rattle.mac_base.specs.ZoneMap.{ZoneMap, free_bytes, free_size, total_size}
-use Rattle.block_sums.specs.declared.span.Span.TheVariants.{Whole}
-use Rattle.block_sums.specs.Span.{joined, span_laws, most_in, parts, weight, heavy, SpanFits}
-use Rattle.block_sums.proofs.Mixed.{light-fits, total-light}
+use Rattle.sum_tree.specs.declared.span.Span.TheVariants.{Whole}
+use Rattle.sum_tree.specs.Span.{joined, span_laws, most_in, parts, weight, heavy, SpanFits}
+use Rattle.sum_tree.proofs.Mixed.{light-fits, total-light}
 use Rattle.zone_index.specs.declared.weight.Weight.{Weight}
 use Rattle.zone_index.specs.Weights.{most, weigh, weights}
 use Rattle.zone_index.specs.Spans.{IsSpan}

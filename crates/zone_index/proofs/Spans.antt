@@ -7,9 +7,9 @@ use Rattle.mac_base.specs.HandleTable.{HandleTable}
 use Rattle.mac_base.specs.ZoneMap.{ZoneMap, total_size, free_size, is_free}
 use Rattle.zone_index.specs.declared.order.Order.{Order}
 use Rattle.zone_index.specs.declared.order.Passed.{Passed}
-use Rattle.block_sums.specs.declared.span.Span.{Span}
-use Rattle.block_sums.specs.declared.span.Span.TheVariants.{Whole, Parted}
-use Rattle.block_sums.specs.Span.{joined, most_in, parts}
+use Rattle.sum_tree.specs.declared.span.Span.{Span}
+use Rattle.sum_tree.specs.declared.span.Span.TheVariants.{Whole, Parted}
+use Rattle.sum_tree.specs.Span.{joined, most_in, parts}
 use Rattle.zone_index.specs.declared.sums.Sums.{Sums}
 use Rattle.zone_index.specs.declared.weight.Weight.{Weight}
 use Rattle.zone_index.specs.Weights.{is_space, space_size, weigh, weights, bytes_of, space_of, in_order, most}

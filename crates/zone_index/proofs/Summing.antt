@@ -5,7 +5,7 @@ use Rattle.mac_base.specs.HandleTable.{HandleTable}
 use Rattle.mac_base.specs.HeadKind.{zone_header}
 use Rattle.mac_base.specs.ZoneMap.{ZoneMap, total_size}
 use Rattle.mac_base.specs.ZoneState.{ZoneState}
-use Rattle.block_sums.proofs.Leaves.{sum-leaves}
+use Rattle.sum_tree.proofs.Leaves.{sum-leaves}
 use Rattle.sum_tree.specs.Monoids.{MonoidLaws, total, sum_of}
 use Rattle.sum_tree.specs.Stale.{Stored}
 use Rattle.sum_tree.proofs.Totals.{sum-all, total-append}

@@ -1,8 +1,8 @@
 -- The largest free blocks, by the sums of the blocks that begin in each leaf of a zone.
 use Rattle.std.specs.Prelude.{ℕ, ◌-◌, ◌<◌, ◌≤◌, List}
-use Rattle.block_sums.specs.declared.largest.Largest.{Largest}
-use Rattle.block_sums.specs.Largest.{no_block, larger, of_size}
-use Rattle.block_sums.specs.Leaves.{begun}
+use Rattle.sum_tree.specs.declared.largest.Largest.{Largest}
+use Rattle.sum_tree.specs.Largest.{no_block, larger, of_size}
+use Rattle.sum_tree.specs.Leaves.{begun}
 use Rattle.mac_base.specs.HeadKind.{zone_header}
 use Rattle.mac_base.specs.ZoneState.{ZoneState}
 use Rattle.zone_index.specs.declared.weight.Weight.{Weight}

@@ -1,8 +1,8 @@
 -- All that is kept of the leaves of a zone.
 use Rattle.std.specs.Prelude.{◌≡◌, ℕ, ◌<◌, IsTrue, false, length}
 use Rattle.std.proofs.Common.{get_or}
-use Rattle.block_sums.specs.Largest.{no_block}
-use Rattle.block_sums.specs.Span.{no_span}
+use Rattle.sum_tree.specs.Largest.{no_block}
+use Rattle.sum_tree.specs.Span.{no_span}
 use Rattle.mac_base.specs.HeadKind.{Shape}
 use Rattle.mac_base.specs.ZoneState.{ZoneState}
 use Rattle.linked_zone.specs.Places.{SplitAt}

@@ -1,7 +1,7 @@
 -- Sums of the blocks that begin in each leaf of a zone. A leaf has 256 bytes.
 use Rattle.std.specs.Prelude.{◌≡◌, ℕ, ◌+◌, ◌-◌, ◌/◌, ◌<◌, ◌≤◌, ◌⊎◌, IsTrue, true, false, List, ◌++◌, map, length, replicate}
 use Rattle.std.proofs.Common.{get_or}
-use Rattle.block_sums.specs.Leaves.{leaf_sum}
+use Rattle.sum_tree.specs.Leaves.{leaf_sum}
 use Rattle.sum_tree.specs.Monoids.{total}
 use Rattle.sum_tree.specs.Stale.{Stored, AreRight, AllRight}
 use Rattle.mac_base.specs.HeadKind.{Shape, zone_header}

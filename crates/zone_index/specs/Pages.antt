@@ -1,6 +1,6 @@
 -- The pages of a zone, and what is remembered of them. A page has the blocks that begin in it.
 use Rattle.std.specs.Prelude.{◌≡◌, ℕ, ◌+◌, ◌-◌, ◌*◌, ◌/◌, ◌<◌, ◌≤◌, ◌⊎◌, List, length, Option, Some}
-use Rattle.block_sums.specs.Leaves.{begun as begun_of}
+use Rattle.sum_tree.specs.Leaves.{begun as begun_of}
 use Rattle.std.specs.List.{slice_get}
 use Rattle.mac_base.specs.HeadKind.{Shape, zone_header}
 use Rattle.mac_base.specs.ZoneState.{ZoneState}

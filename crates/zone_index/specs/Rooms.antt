@@ -1,8 +1,8 @@
 -- What gaps have of free bytes, by the sums of the blocks that begin in each leaf of a zone.
 use Rattle.std.specs.Prelude.{◌≡◌, ℕ, ◌-◌, ◌<◌, ◌≤◌, List, [], ◌∷◌, ◌++◌}
-use Rattle.block_sums.specs.declared.span.Span.{Span}
-use Rattle.block_sums.specs.Span.{no_span, joined, heavy, most_in}
-use Rattle.block_sums.specs.Leaves.{begun}
+use Rattle.sum_tree.specs.declared.span.Span.{Span}
+use Rattle.sum_tree.specs.Span.{no_span, joined, heavy, most_in}
+use Rattle.sum_tree.specs.Leaves.{begun}
 use Rattle.sum_tree.specs.Stale.{Stored}
 use Rattle.mac_base.specs.HeadKind.{zone_header}
 use Rattle.mac_base.specs.ZoneState.{ZoneState}

@@ -2,9 +2,9 @@
 use Rattle.std.specs.Prelude.{◌≡◌, ℕ, ◌+◌, ◌≤◌, max, nat_lt, Bool, true, ◌&&◌, List, ◌++◌, if◌then◌else◌}
 use Rattle.zone_index.specs.declared.order.Order.{Order}
 use Rattle.zone_index.specs.declared.order.Passed.{Passed}
-use Rattle.block_sums.specs.declared.span.Span.{Span}
-use Rattle.block_sums.specs.declared.span.Span.TheVariants.{Whole, Parted}
-use Rattle.block_sums.specs.Span.{joined, most_in, parts}
+use Rattle.sum_tree.specs.declared.span.Span.{Span}
+use Rattle.sum_tree.specs.declared.span.Span.TheVariants.{Whole, Parted}
+use Rattle.sum_tree.specs.Span.{joined, most_in, parts}
 use Rattle.zone_index.specs.declared.sums.Sums.{Sums}
 use Rattle.zone_index.specs.declared.weight.Weight.{Weight}
 use Rattle.zone_index.specs.Weights.{bytes_of, space_of, in_order, most}

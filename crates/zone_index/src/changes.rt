@@ -1,5 +1,5 @@
-//! The changes of a zone. Each keeps the index right: it turns the marks of the blocks that it changes, notes that the sums
-//! of their leaves are stale, forgets those of their pages, and notes how many bytes a handle has then.
+//! The changes of a zone. Each keeps the index right: it turns the marks of the blocks that it changes, notes that the
+//! sums of their leaves are stale, forgets those of their pages, and notes how many bytes a handle has then.
 
 use crate::leaves::pass;
 use crate::marking::{carry, sink};
@@ -44,8 +44,8 @@ impl IndexedZone {
         self.zone.release(handle);
     }
 
-    /// Grows the zone to its limit: the bytes up to there are a free block behind the last. Where the zone is as large as its
-    /// limit nothing changes.
+    /// Grows the zone to its limit: the bytes up to there are a free block behind the last. Where the zone is as large
+    /// as its limit nothing changes.
     pub fn extend(&mut self)
         ensures { self.new ≡ extended self.old }
     {
@@ -91,8 +91,8 @@ impl IndexedZone {
         self.zone.merge(at);
     }
 
-    /// The block at an address changes places with those behind it up to an address, each of a handle or free. Every handle
-    /// has the same bytes and flags. The bytes turn in one rotation, however many blocks there are.
+    /// The block at an address changes places with those behind it up to an address, each of a handle or free. Every
+    /// handle has the same bytes and flags. The bytes turn in one rotation, however many blocks there are.
     pub fn carry(&mut self, at: u32, end: u32)
         requires parcel { ParcelAt self.old at end }
         requires loose { (parcel : ParcelAt self.old at end) → IsTrue (none_fixed self.old.heap.table (parcel.here ∷ parcel.blocks)) }
@@ -118,8 +118,8 @@ impl IndexedZone {
         self.zone.carry(at, end);
     }
 
-    /// The block at an address changes places with those before it, which begin at `start`, each of a handle or free. Every handle
-    /// has the same bytes and flags.
+    /// The block at an address changes places with those before it, which begin at `start`, each of a handle or free.
+    /// Every handle has the same bytes and flags.
     pub fn sink(&mut self, start: u32, at: u32)
         requires parcel { ParcelUpTo self.old start at }
         requires loose { (parcel : ParcelUpTo self.old start at) → IsTrue (none_fixed self.old.heap.table (parcel.blocks ++ parcel.here ∷ [])) }
@@ -324,8 +324,8 @@ impl IndexedZone {
         self.zone.contents_mut(block)
     }
 
-    /// Copies `count` bytes of a handle or a pointer, from `start` on, over those from `offset` on of another. It may be the
-    /// same, whose bytes are then those before the call.
+    /// Copies `count` bytes of a handle or a pointer, from `start` on, over those from `offset` on of another. It may
+    /// be the same, whose bytes are then those before the call.
     pub fn copy(&mut self, from: u32, start: u32, to: u32, offset: u32, count: u32)
         requires { CanCopy self.old from start to offset count }
         ensures { self.new ≡ copied from start to offset count self.old }

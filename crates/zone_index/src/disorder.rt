@@ -16,9 +16,9 @@ impl IndexedZone {
     ghost use Rattle.zone_index.specs.Disorder.{FirstOutOfOrder};
     ghost use Rattle.zone_index.specs.Weights.{in_order, weights};
 
-    /// The address of the first block that can be moved down, if there is one: right before it stands a free block, and it isn't
-    /// fixed. Of the pages below only those are gone through that changed since they were last looked at, and the one in which it
-    /// is found.
+    /// The address of the first block that can be moved down, if there is one: right before it stands a free block, and
+    /// it isn't fixed. Of the pages below only those are gone through that changed since they were last looked at, and
+    /// the one in which it is found.
     pub fn first_out_of_order(&mut self) -> Option<u32>
         ensures zone { self.new ≡ self.old }
         ensures first { MatchOption result (IsTrue (in_order false (weights self.old.heap.table self.old.heap.map))) (λ at. FirstOutOfOrder self.old at) }
@@ -49,7 +49,8 @@ fn first_by_pages(zone: &LinkedZone, pages: &mut Pages) -> Option<u32>
     None
 }
 
-/// The first block that is out of order, where those below an address are in order and the last of them is free, or not.
+/// The first block that is out of order, where those below an address are in order and the last of them is free, or
+/// not.
 fn first_from(zone: &LinkedZone, from: u32, free: bool) -> Option<u32>
     requires { OrderedTo zone.now from free }
     ensures { MatchOption result (IsTrue (in_order false (weights zone.now.heap.table zone.now.heap.map))) (λ at. FirstOutOfOrder zone.now at) }

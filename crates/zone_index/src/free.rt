@@ -1,4 +1,5 @@
-//! Free blocks: the lowest that is large enough, and the largest, by the sums of the blocks that begin in each leaf of a zone.
+//! Free blocks: the lowest that is large enough, and the largest, by the sums of the blocks that begin in each leaf of
+//! a zone.
 
 ghost use Rattle.std.specs.Prelude.{◌≡◌, ◌<◌, not, IfNone, IfSome, IsTrue};
 ghost use Rattle.std.specs.List.{list_all};
@@ -10,14 +11,13 @@ ghost use Rattle.zone_index.specs.Leaves.{AllFresh, AreSums, leaf_count};
 use crate::gap::large_first;
 use crate::leaves::LEAF_SIZE;
 use crate::zone::IndexedZone;
-use block_sums::{HasBlock, Largest};
 use linked_zone::LinkedZone;
-use sum_tree::{Monoid, Source, StaleTree};
+use sum_tree::{HasBlock, Largest, Monoid, Source, StaleTree};
 
 impl IndexedZone {
-    /// The lowest free block of at least `needed` bytes, its header among them. Where the zone's lowest free block has so many, that
-    /// is it. Else only the free blocks of those leaves are looked at that changed since they were last asked for, and those of the
-    /// leaf that has it.
+    /// The lowest free block of at least `needed` bytes, its header among them. Where the zone's lowest free block has
+    /// so many, that is it. Else only the free blocks of those leaves are looked at that changed since they were last
+    /// asked for, and those of the leaf that has it.
     pub fn lowest_free(&mut self, needed: u32) -> Option<u32>
         requires some { 0 < needed }
         ensures zone { self.new ≡ self.old }

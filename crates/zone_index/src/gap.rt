@@ -12,16 +12,15 @@ ghost use Rattle.zone_index.specs.Rooms.{AreFresh};
 use crate::fixed::{gap_end, gap_start};
 use crate::rooms::{freshen, most_room, reached};
 use crate::zone::IndexedZone;
-use block_sums::Span;
 use linked_zone::LinkedZone;
 use mac_base::size::ZONE_HEADER;
 use place_numbers::Bits;
-use sum_tree::StaleTree;
+use sum_tree::{Span, StaleTree};
 
 impl IndexedZone {
-    /// The address of the first free block of the lowest gap with at least `needed` free bytes, if there is one. Where the zone's lowest
-    /// free block has so many, that is it. Else of the blocks only those are read whose leaves changed since they were last asked for,
-    /// and those of the leaf with which the gap has so many bytes.
+    /// The address of the first free block of the lowest gap with at least `needed` free bytes, if there is one. Where
+    /// the zone's lowest free block has so many, that is it. Else of the blocks only those are read whose leaves
+    /// changed since they were last asked for, and those of the leaf with which the gap has so many bytes.
     pub fn lowest_gap(&mut self, needed: u32) -> Option<u32>
         requires some { 0 < needed }
         ensures zone { self.new ≡ self.old }
@@ -37,7 +36,8 @@ impl IndexedZone {
         lowest_by_sums(&self.zone, &self.marks, &self.leaves.rooms, needed)
     }
 
-    /// Whether the gap that begins at an address has at least `needed` free bytes. Where no gap has, none of its blocks is looked at.
+    /// Whether the gap that begins at an address has at least `needed` free bytes. Where no gap has, none of its blocks
+    /// is looked at.
     pub fn has_room_at(&mut self, start: u32, needed: u32) -> bool
         requires gap { GapAt self.old start }
         ensures zone { self.new ≡ self.old }

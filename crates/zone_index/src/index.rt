@@ -54,8 +54,8 @@ impl Index {
         })
     }
 
-    /// The zone with this index, which knew nothing of it: its blocks are marked, and the rest is found where it is asked
-    /// for.
+    /// The zone with this index, which knew nothing of it: its blocks are marked, and the rest is found where it is
+    /// asked for.
     pub(crate) fn beside(self, zone: LinkedZone) -> IndexedZone
         requires { IsBlank zone.shape.limit self }
         ensures { result ≡ zone }

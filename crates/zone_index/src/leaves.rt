@@ -1,14 +1,14 @@
-//! What is kept of each leaf of a zone. A change of the zone makes the sums of a few leaves stale, and a question makes them anew.
+//! What is kept of each leaf of a zone. A change of the zone makes the sums of a few leaves stale, and a question makes
+//! them anew.
 
 ghost use Rattle.std.specs.Prelude.{IsTrue};
 ghost use Rattle.linked_zone.specs.Places.{SplitAt};
 ghost use Rattle.zone_index.specs.Leaves.{IsUsed};
 ghost use Rattle.zone_index.specs.LeafSums.{LeavesPassed, SameSums};
 
-use block_sums::{Largest, Span};
 use linked_zone::LinkedZone;
 use std::alloc::{AllocError, Global};
-use sum_tree::StaleTree;
+use sum_tree::{Largest, Span, StaleTree};
 
 /// The bytes of a leaf.
 pub const LEAF_SIZE: u32 = 0x100;

@@ -6,7 +6,8 @@ ghost use Rattle.zone_index.specs.Lengths.{IsNoted, Tells, TellsNothing, TellsSa
 use std::alloc::{AllocError, Global};
 use std::marker::Model;
 
-/// How many bytes a handle has, if that is remembered, in two bytes: 65,535 or more never are. A contract sees the number, or none.
+/// How many bytes a handle has, if that is remembered, in two bytes: 65,535 or more never are. A contract sees the
+/// number, or none.
 #[derive(Clone, Copy)]
 struct Remembered(
     /// One more than the number, or 0 for none.
@@ -96,8 +97,8 @@ impl Lengths {
         }
     }
 
-    /// Remembers how many bytes a number has, if its place is one of those that there are and the length isn't too large for it.
-    /// Else nothing is remembered of the number.
+    /// Remembers how many bytes a number has, if its place is one of those that there are and the length isn't too
+    /// large for it. Else nothing is remembered of the number.
     pub(crate) fn note(&mut self, block: u32, length: u32)
         ensures { IsNoted block length self.old self.new }
     {

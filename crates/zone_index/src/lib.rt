@@ -1,6 +1,6 @@
-//! A zone with its index: it finds the lowest gap with room, where a gap begins and ends, the lowest free block that is large enough,
-//! which blocks may be purged and which can be moved down, what room it has, and how many bytes a handle has, without going through its
-//! blocks.
+//! A zone with its index: it finds the lowest gap with room, where a gap begins and ends, the lowest free block that is
+//! large enough, which blocks may be purged and which can be moved down, what room it has, and how many bytes a handle
+//! has, without going through its blocks.
 #![tactic(auto)]
 
 mod adopting;

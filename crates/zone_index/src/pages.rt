@@ -24,8 +24,8 @@ pub fn page_of(base: u32, at: u32) -> usize
     ((at - base) / PAGE_SIZE) as usize
 }
 
-/// What is remembered of each page. A contract sees a list: of each page its sums, or none. After `create` no call takes memory of the
-/// host.
+/// What is remembered of each page. A contract sees a list: of each page its sums, or none. After `create` no call
+/// takes memory of the host.
 #[derive(Drop)]
 pub struct Pages {
     sums: Vec<Option<Sums>>,

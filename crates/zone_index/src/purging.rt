@@ -19,8 +19,8 @@ impl IndexedZone {
     ghost use Rattle.linked_zone.specs.Places.{SplitAt};
     ghost use Rattle.zone_index.specs.Purging.{FirstPurgeable, none_purgeable};
 
-    /// The address of the first block from an address on that may be purged, if there is one: that of a handle that is purgeable and
-    /// not locked. Besides such blocks at most those are read that were so once.
+    /// The address of the first block from an address on that may be purged, if there is one: that of a handle that is
+    /// purgeable and not locked. Besides such blocks at most those are read that were so once.
     pub fn next_purgeable(&self, from: u32) -> Option<u32>
         requires { SplitAt self.now from }
         ensures next { IfSome result (λ at. (split : SplitAt self.now from) → FirstPurgeable self.now.heap.table split.behind from at) }

@@ -7,9 +7,8 @@ ghost use Rattle.zone_index.specs.Rooms.{AreFresh, AreRooms, Reaches, SumsBelow,
 
 use crate::leaves::LEAF_SIZE;
 use crate::weight::{Weight, weigh};
-use block_sums::{HasRoom, Span};
 use linked_zone::LinkedZone;
-use sum_tree::{Monoid, Source, StaleTree};
+use sum_tree::{HasRoom, Monoid, Source, Span, StaleTree};
 
 /// A zone, from whose blocks the sums are made.
 #[derive(Drop)]

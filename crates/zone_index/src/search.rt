@@ -69,8 +69,8 @@ pub(crate) fn passes_at<T: BlockTest>(zone: &LinkedZone, at: u32) -> bool
     }
 }
 
-/// The address of the first block from an address on that passes, if there is one. Besides such blocks at most those are read that
-/// passed once.
+/// The address of the first block from an address on that passes, if there is one. Besides such blocks at most those
+/// are read that passed once.
 pub(crate) fn next_passing<T: BlockTest>(zone: &LinkedZone, marks: &Bits, from: u32) -> Option<u32>
     requires split { SplitAt zone.now from }
     requires marked { AreMarked T.test zone.now marks.now }

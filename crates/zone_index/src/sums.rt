@@ -2,8 +2,7 @@
 
 use crate::order::Order;
 use crate::weight::Weight;
-use block_sums::Span;
-use sum_tree::Monoid;
+use sum_tree::{Monoid, Span};
 
 /// The sums of a zone's blocks.
 #[derive(Clone, Copy, Debug, PartialEq, Eq)]

@@ -10,8 +10,8 @@ impl IndexedZone {
     ghost use Rattle.linked_zone.specs.Sleeping.{FallsAsleep};
     ghost use Rattle.linked_zone.specs.Structure.{HasStructure, IsIn, SameFlags, shown};
 
-    /// Wakes the zone, which sleeps, in a region with the same structure and the same flags: it is in this region's bytes
-    /// from then on. The region that it was in becomes the record of its structure.
+    /// Wakes the zone, which sleeps, in a region with the same structure and the same flags: it is in this region's
+    /// bytes from then on. The region that it was in becomes the record of its structure.
     pub fn wake(&mut self, region: Region)
         requires sound { Sound self.old.shape self.old.heap }
         requires nothing_lent { self.old.heap.table.lent ≡ [] }
@@ -24,8 +24,8 @@ impl IndexedZone {
         self.zone.wake(region);
     }
 
-    /// Puts the zone to sleep: it is in its record from then on. Returns the region that it was in, or None where it isn't
-    /// awake, and nothing has changed.
+    /// Puts the zone to sleep: it is in its record from then on. Returns the region that it was in, or None where it
+    /// isn't awake, and nothing has changed.
     pub fn sleep(&mut self) -> Option<Region>
         requires sound { Sound self.old.shape self.old.heap }
         requires nothing_lent { self.old.heap.table.lent ≡ [] }

@@ -7,7 +7,6 @@ use crate::lengths::Lengths;
 use crate::pages::{Pages, page_of, page_sums};
 use crate::rooms::{freshen, most_room};
 use crate::sums::{Sums, ZoneSums};
-use block_sums::Span;
 use linked_zone::LinkedZone;
 use mac_base::error::HostFull;
 use mac_base::handle::Handle;
@@ -16,14 +15,14 @@ use mac_base::zone_spec::ZoneSpec;
 use place_numbers::Bits;
 use std::alloc::Global;
 use std::marker::Model;
-use sum_tree::StaleTree;
+use sum_tree::{Span, StaleTree};
 
-/// A zone with its index. Contracts see its shape, its handle table, its zone map and its free slots in the order in which they are
-/// given. After `create` and `adopt` no call takes memory of the host.
+/// A zone with its index. Contracts see its shape, its handle table, its zone map and its free slots in the order in
+/// which they are given. After `create` and `adopt` no call takes memory of the host.
 pub struct IndexedZone {
     pub(crate) zone: LinkedZone,
-    /// A mark at each fixed block: master blocks, nonrelocatable blocks and those of locked handles. There is room for one at each
-    /// four bytes of the zone. One may stand where no fixed block does.
+    /// A mark at each fixed block: master blocks, nonrelocatable blocks and those of locked handles. There is room for
+    /// one at each four bytes of the zone. One may stand where no fixed block does.
     pub(crate) marks: Bits,
     /// The same of the blocks that may be purged.
     pub(crate) purgeable: Bits,
@@ -119,8 +118,8 @@ impl IndexedZone {
         gap_start(&self.zone, &self.marks, end)
     }
 
-    /// What the zone has room for: the sums over its leaves and pages, of which only those are gone through that changed since they
-    /// were last asked for.
+    /// What the zone has room for: the sums over its leaves and pages, of which only those are gone through that
+    /// changed since they were last asked for.
     pub fn sums(&mut self) -> ZoneSums
         ensures zone { self.new ≡ self.old }
         ensures space { result.space ≡ purge_space self.old.heap.table self.old.heap.map }
@@ -141,8 +140,8 @@ impl IndexedZone {
         }
     }
 
-    /// How many bytes a handle has, asked of the zone. This stands apart, so that the way of those that are remembered is short: a
-    /// script may ask for thousands of them at each line.
+    /// How many bytes a handle has, asked of the zone. This stands apart, so that the way of those that are remembered
+    /// is short: a script may ask for thousands of them at each line.
     #[cold]
     #[inline(never)]
     fn asked_length(&self, handle: Handle) -> u32

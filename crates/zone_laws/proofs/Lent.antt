@@ -74,7 +74,8 @@ other_named x y apart Master h = absurd (cc h)
 other_named x y apart (Ptr p) h = grind (arith, nat_tests)
 other_named x y apart (Rel g) h = grind (arith, nat_tests)
 
--- A change of a heap that keeps what is lent: the same numbers are, and each has its block where it was and as long as it was. Those that were pointers or locked handles still are.
+-- A change of a heap that keeps what is lent: the same numbers are, and each has its block where it was and as long as
+-- it was. Those that were pointers or locked handles still are.
 pub record KeepsLent (s : Shape) (old new : Heap) : Type 0 where
   pub lent : new.table.lent ≡ old.table.lent
   pub contents : (x : ℕ) → is_lent old.table x ≡ true → contents_of s x new.map ≡ contents_of s x old.map

@@ -10,7 +10,8 @@ use Rattle.mac_base.specs.ZoneMap.{ZoneMap, is_free, is_named, total_size, joine
 use Rattle.mac_base.specs.Suits.{free_apart, starts_free}
 use Rattle.mac_base.specs.Serve.{taken, cut, sized, resized_in_place, free_in_front, behind_free}
 
--- A map in which the block of x is k bytes long in place. Before any joining, it and the free blocks right behind it, which may be none, are exchanged for what is taken of them.
+-- A map in which the block of x is k bytes long in place. Before any joining, it and the free blocks right behind it,
+-- which may be none, are exchanged for what is taken of them.
 pub record ResizedAt (s : Shape) (k x : ℕ) (old new : ZoneMap) : Type 0 where
   pub before : ZoneMap
   pub changed : Entry

@@ -142,6 +142,7 @@ marked-renamed z x (e ∷ es) h = elim (is_named x e.kind) as (λ c. is_named x 
       ∙ ap (λ b. b ∷ marked z es) (elim (is_named z e.kind) as (λ c. marked_block x (cond c (block (Rel x) e.size) e) ≡ cond c (block Free e.size) e) [ true ↦ ap (λ c. cond c (block Free e.size) (block (Rel x) e.size)) (eq-eqb x x refl) | false ↦ ap (λ c. cond c (block Free e.size) e) other ])
 ] refl h
 
--- the block of x in a new place, under the number z until the old one was released: without it, and without z's, the map in which it was placed
+-- the block of x in a new place, under the number z until the old one was released: without it, and without z's, the
+-- map in which it was placed
 pub released-renamed : (z x : ℕ) (m : ZoneMap) → released x (renamed z x (released x m)) ≡ released x (released z m)
 released-renamed z x m = ap joined (marked-renamed z x (released x m) (sizes-released x m)) ∙ joined-marked_joined z (marked x m) ∙ ap joined (marked-twice z x m) ∙ sym (joined-marked_joined x (marked z m))

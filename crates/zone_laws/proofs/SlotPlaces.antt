@@ -42,7 +42,8 @@ slots_from-bounds (suc n) at h c = elim (Contains-cons_cases at (slots_from n (a
   | inr later ↦ let rest = slots_from-bounds n (at + 4) h later in (omega arith, omega arith)
 ]
 
--- the slots of a map whose first block stands at an address, where a header has so many bytes and a master block n slots
+-- the slots of a map whose first block stands at an address, where a header has so many bytes and a master block n
+-- slots
 abbrev pub slots_at : ℕ → ℕ → ℕ → ZoneMap → List ℕ
 slots_at head n at m = flat_map (slots_from n) (map (λ a. a + head) (addresses_from at is_master m))
 

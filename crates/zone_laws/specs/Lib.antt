@@ -1,0 +1,8 @@
+pub mod Act
+pub mod LastPut
+pub mod LastSet
+pub mod Course
+pub mod Headline
+pub mod Contents
+pub mod Brought
+pub mod MadeAgain

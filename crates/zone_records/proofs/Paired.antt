@@ -1,5 +1,5 @@
--- Where each slot that says an address says its handle's block, and these slots are as many as the blocks of handles, the blocks say
--- their slots too.
+-- Where each slot that says an address says its handle's block, and these slots are as many as the blocks of handles,
+-- the blocks say their slots too.
 use Rattle.std.proofs.Common.{◌≡◌, ℕ, ◌+◌, ◌*◌, ◌<◌, ◌≤◌, List, [], ◌∷◌, ◌++◌, length, refl, ap, sym, ◌∙◌, subst, arith, Contains, inl, inr, append_assoc, length-append}
 use Rattle.std.specs.Prelude.{nat_eq}
 use Rattle.std.specs.List.{IsDistinct}
@@ -26,7 +26,8 @@ use Rattle.zone_records.proofs.RightBlocks.{block-place, block-back}
 use Rattle.zone_records.proofs.SaidPlaces.{SayApart, handle-few, one-place, place-is, place-there, place_in, places, places-once, places_in, said-append, said-named, said-names, said-once}
 use Rattle.zone_records.proofs.ZoneSlots.{cancel, slot-in, slots-rising}
 
--- each slot of a block at an address says its handle's block, if it says an address, and the block can't be joined or cut
+-- each slot of a block at an address says its handle's block, if it says an address, and the block can't be joined or
+-- cut
 pub record IsKept (l : Layout) (at : ℕ) (b : RawBlock) : Type 0 where
   pub kept : KeptAs l at b.role b.contents
   pub tight : TightAs l at b.role (size_of l.heads b) (length b.contents)

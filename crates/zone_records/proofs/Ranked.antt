@@ -5,7 +5,8 @@ use Rattle.block_bytes.specs.Layout.{RawBlock, Layout, BlockAt, size_of, total_o
 use Rattle.block_bytes.proofs.ReadBlocks.{head_size-positive}
 use Rattle.zone_records.proofs.Apart.{total-append}
 
--- of two places of a list, the first block ends at or below the second, or the second at or below the first, or they are one
+-- of two places of a list, the first block ends at or below the second, or the second at or below the first, or they
+-- are one
 ranked : (heads : HeadKind) (xs : List RawBlock) (a : RawBlock) (bs cs : List RawBlock) (c : RawBlock) (ds : List RawBlock) → xs ++ a ∷ bs ≡ cs ++ c ∷ ds
     → (total_of heads xs + size_of heads a ≤ total_of heads cs) ⊎ ((total_of heads cs + size_of heads c ≤ total_of heads xs) ⊎ ((total_of heads xs ≡ total_of heads cs) × (a ≡ c)))
 ranked heads [] a bs [] c ds same = inr (inr (refl, cc same))

@@ -89,7 +89,8 @@ chained-more : (i at last next : ℕ) → (i ≡ 0 → next ≡ last) → (0 < i
 chained-more zero at last next first later = ap (λ n. Free n ∷ []) (first refl)
 chained-more (suc i) at last next first later = ap (λ n. Free n ∷ chained (suc i) (at + 4) last) (later (omega arith))
 
--- of the slots of a new master block the last i are written, behind bytes as they were, and `next` is what the slot before them is to say
+-- of the slots of a new master block the last i are written, behind bytes as they were, and `next` is what the slot
+-- before them is to say
 pub record Chaining (heads : HeadKind) (first last : ℕ) (old : List ℕ) (i next : ℕ) (now : List ℕ) : Type 0 where
   pub words : now ≡ take (4 * (64 - i)) old ++ words_of heads (chained i (first + 4 * (64 - i)) last)
   pub sayable : can_say heads (Free next) ≡ true

@@ -1,4 +1,5 @@
--- The slots of a zone by their addresses: where they stand in master blocks, that no two stand at one address, and which are free.
+-- The slots of a zone by their addresses: where they stand in master blocks, that no two stand at one address, and
+-- which are free.
 use Rattle.std.proofs.Common.{◌≡◌, ℕ, zero, suc, ◌+◌, ◌*◌, ◌<◌, ◌≤◌, true, List, [], ◌∷◌, ◌++◌, length, drop, get_or, refl, ap, sym, ◌∙◌, subst, arith, Contains, ◌⊎◌, inl, inr, append_assoc, drop-drop}
 use Rattle.std.specs.Prelude.{◌^◌, ◌-◌, nat_eq, ⊤}
 use Rattle.std.specs.List.{list_all, IsDistinct}

@@ -50,8 +50,8 @@ pub record AreTight (z : ZoneRecords) : Type 0 where
   pub apart : (at : ℕ) → FreePair z at → ⊥
   pub lengths : IsTrue (list_all (λ (b : BlockRecord). is_free b.content || has_length z.shape b.size (length_of b.content)) z.blocks)
 
--- a zone of these sizes is in bytes: they are those of possible blocks that have what they are for, with master pointers that say
--- something; handles and blocks find each other, and nothing could be joined or cut
+-- a zone of these sizes is in bytes: they are those of possible blocks that have what they are for, with master
+-- pointers that say something; handles and blocks find each other, and nothing could be joined or cut
 pub record IsZoneIn (spec : ZoneSizes) (bytes : List ℕ) (z : ZoneRecords) : Type 0 where
   pub layout : Layout
   pub zone : blocks.IsZoneIn spec bytes layout

@@ -4,8 +4,8 @@ use Rattle.mac_base.specs.ZoneState.{written}
 use Rattle.zone_records.specs.Records.{block_record, ZoneRecords, with_blocks, with_bytes, bytes_of}
 use Rattle.zone_records.specs.Places.{HeldAt}
 
--- n bytes of the block at one address, from a place among them on, can be copied over as many of the block at another: both have so
--- many. It may be one block
+-- n bytes of the block at one address, from a place among them on, can be copied over as many of the block at another:
+-- both have so many. It may be one block
 pub record CanCopy (z : ZoneRecords) (from start to offset n : ℕ) : Type 0 where
   pub source : HeldAt z from
   pub target : HeldAt z to

@@ -9,8 +9,8 @@ use Rattle.zone_records.specs.Parts.{IsInPart}
 use Rattle.zone_records.specs.Records.{ZoneRecords}
 use Rattle.zone_records.specs.Structure.{HasStructure}
 
--- up to an offset bytes begin as some that have a zone's structure, and none that have it begin as they do up to the byte
--- there and with it. This byte is in a part of the structure
+-- up to an offset bytes begin as some that have a zone's structure, and none that have it begin as they do up to the
+-- byte there and with it. This byte is in a part of the structure
 pub record IsFirstFault (z : ZoneRecords) (bytes : List ℕ) (at : ℕ) (part : Part) : Type 0 where
   pub inside : IsInPart z at part
   pub right : List ℕ

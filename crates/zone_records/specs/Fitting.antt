@@ -5,7 +5,8 @@ use Rattle.zone_records.specs.Records.{block_record, ZoneRecords, with_blocks, w
 use Rattle.zone_records.specs.Places.{CanHold}
 use Rattle.zone_records.specs.Changes.{free_record}
 
--- the block has so many of its bytes, n of them contents: the first few of those that it had, and zeros; the others are free
+-- the block has so many of its bytes, n of them contents: the first few of those that it had, and zeros; the others are
+-- free
 abbrev pub fitted : ℕ → {at size n : ℕ} → (z : ZoneRecords) → CanHold z at size n → ZoneRecords
 fitted kept {size = size} {n = n} z can = let held = can.held in
     with_blocks (held.before ++ block_record (with_bytes (resized n (take kept (bytes_of held.content))) held.content) size ∷ free_record (held.size - size) ++ held.behind) z

@@ -121,7 +121,8 @@ pub record CanHold (z : ZoneRecords) (at size n : ℕ) : Type 0 where
   pub held : HeldAt z at
   pub fits : CanFront z.shape held.size size n
 
--- the block at an address can have n bytes of contents in its own first bytes and those of the free block behind it, so many
+-- the block at an address can have n bytes of contents in its own first bytes and those of the free block behind it, so
+-- many
 pub record CanGrow (z : ZoneRecords) (at size n : ℕ) : Type 0 where
   pub before : List BlockRecord
   pub first : ℕ
@@ -168,8 +169,8 @@ abbrev pub can_flag : HeadKind → Flags → Bool
 can_flag Bits24 flags = is_unmarked flags
 can_flag Bits32 flags = true
 
--- whether a slot says no more than its form can: addresses of 24 bits that aren't 0 for a block, or of 32 bits, at multiples
--- of four and without flags
+-- whether a slot says no more than its form can: addresses of 24 bits that aren't 0 for a block, or of 32 bits, at
+-- multiples of four and without flags
 abbrev pub can_say : HeadKind → Slot → Bool
 can_say Bits24 (slot.Free next) = nat_lt next 0x100_0000
 can_say Bits24 slot.Empty = true

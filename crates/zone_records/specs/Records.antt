@@ -1,4 +1,5 @@
--- A zone as a list of blocks, each with what it is for and what is in it. Free bytes, and those that are over, have no value.
+-- A zone as a list of blocks, each with what it is for and what is in it. Free bytes, and those that are over, have no
+-- value.
 use Rattle.std.specs.Prelude.{ℕ, suc, ◌+◌, if◌then◌else◌, Bool, true, false, not, List, [], ◌∷◌, length, IsTrue}
 use Rattle.std.specs.List.{list_all}
 use Rattle.mac_base.specs.declared.block.Flags.{Flags}
@@ -9,8 +10,8 @@ use Rattle.mac_base.specs.ZoneSizes.{ZoneSizes}
 use Rattle.mac_base.specs.ZoneState.{Memory}
 use Rattle.zone_records.specs.declared.slot.Slot.{Slot}
 
--- what a block is for, and its contents: bytes, or the slots of a master block. A handle's block also says its flags in a
--- zone of 32-bit blocks; in one of 24-bit blocks it says none
+-- what a block is for, and its contents: bytes, or the slots of a master block. A handle's block also says its flags in
+-- a zone of 32-bit blocks; in one of 24-bit blocks it says none
 pub data Content : Type 0 where
   Free : Content
   Fixed : List ℕ → Content
@@ -35,8 +36,8 @@ lent_record content n = record { size = n; content = content; lent = true }
 abbrev pub handle_record : ℕ → Flags → List ℕ → ℕ → Bool → BlockRecord
 handle_record handle flags bytes n lent = record { size = n; content = Relocatable handle flags bytes; lent = lent }
 
--- a zone: the memory that it stands in, where it lies and how far it may grow, the free slot that its header names first, and
--- its blocks
+-- a zone: the memory that it stands in, where it lies and how far it may grow, the free slot that its header names
+-- first, and its blocks
 pub record ZoneRecords : Type 0 where
   pub memory : Memory
   pub shape : Shape

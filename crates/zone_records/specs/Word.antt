@@ -8,8 +8,9 @@ use Rattle.mac_base.specs.HandleTable.{no_flags}
 use Rattle.zone_records.specs.declared.slot.Slot.{Slot}
 use Rattle.zone_records.specs.declared.slot.Slot.TheVariants.{Free, Empty, Full}
 
--- The word that says what a slot does; an empty handle's is 0. In a zone of 24-bit blocks bit 0 of the high byte marks a
--- free slot, and flags stand in the high byte. In one of 32-bit blocks bit 0 of the word marks it, and no flags are said
+-- The word that says what a slot does; an empty handle's is 0. In a zone of 24-bit blocks bit 0 of the high byte marks
+-- a free slot, and flags stand in the high byte. In one of 32-bit blocks bit 0 of the word marks it, and no flags are
+-- said
 abbrev pub slot_word : HeadKind → Slot → ℕ
 slot_word Bits24 (Free next) = 0x100_0000 + next
 slot_word Bits24 Empty = 0

@@ -1,5 +1,5 @@
-//! A zone made of bytes that others wrote, which are tested before it is one: each block by itself, then the blocks with
-//! the slots, then the free slots.
+//! A zone made of bytes that others wrote, which are tested before it is one: each block by itself, then the blocks
+//! with the slots, then the free slots.
 
 ghost use Rattle.std.specs.Prelude.{◌≡◌, ◌↔◌, ◌<◌, ◌^◌, [], length, IfOk, IfErr, IsTrue};
 ghost use Rattle.std.specs.List.{All};
@@ -86,8 +86,8 @@ fn are_used(blocks: &Blocks) -> bool
     true
 }
 
-/// Whether possible blocks have what they are for, they and slots say each other, nothing can be joined or cut, and free
-/// slots follow one another.
+/// Whether possible blocks have what they are for, they and slots say each other, nothing can be joined or cut, and
+/// free slots follow one another.
 fn is_whole(blocks: &Blocks) -> bool
     requires unlent { NothingLent blocks.now }
     requires sound { All (IsUsed blocks.now.heads blocks.now.base) blocks.now.blocks → AreSound blocks.now }
@@ -105,10 +105,10 @@ fn is_whole(blocks: &Blocks) -> bool
 }
 
 impl Records {
-    /// The zone of these sizes whose bytes a region has, whoever wrote them: possible blocks that have what they are for,
-    /// handles' blocks and slots that say each other, free slots that follow one another, and nothing that could be joined
-    /// or cut. `NotZone` comes where the bytes aren't those of such a zone, and `HostFull` where the host has no memory
-    /// for what is kept beside it. The region then comes back as it was.
+    /// The zone of these sizes whose bytes a region has, whoever wrote them: possible blocks that have what they are
+    /// for, handles' blocks and slots that say each other, free slots that follow one another, and nothing that could
+    /// be joined or cut. `NotZone` comes where the bytes aren't those of such a zone, and `HostFull` where the host has
+    /// no memory for what is kept beside it. The region then comes back as it was.
     pub fn adopt(alloc: Global, spec: ZoneSpec, region: Region) -> Result<Records, NotAdopted>
         requires whole { region.lent ≡ [] }
         ensures zone { IfOk result (λ zone. IsZoneIn spec region.bytes zone × (zone.memory ≡ own_memory region.name)) }

@@ -23,8 +23,8 @@ fn next_free(blocks: &Blocks, at: u32) -> Option<u32>
     }
 }
 
-/// Whether the free slots of a zone, so many, follow one another, each once, from the first to the last. A walk of as many
-/// steps shows it: none of them comes twice, since the walk would then have no end.
+/// Whether the free slots of a zone, so many, follow one another, each once, from the first to the last. A walk of as
+/// many steps shows it: none of them comes twice, since the walk would then have no end.
 pub(crate) fn is_chained(blocks: &Blocks, count: u32) -> bool
     requires sound { AreSound blocks.now }
     requires count { count ≡ length (free_of (slots_of_zone (records_in blocks.now))) }

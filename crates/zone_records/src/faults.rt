@@ -17,8 +17,8 @@ use byteorder::{BigEndian, ByteOrder};
 use mac_base::block::HeadKind;
 use mac_base::size::{MASTER_LENGTH, ZONE_HEADER};
 
-/// Whether a master pointer among these agrees with the same one when its first byte is another. The offset is that of a
-/// byte of it, and no other than the first may be another one.
+/// Whether a master pointer among these agrees with the same one when its first byte is another. The offset is that of
+/// a byte of it, and no other than the first may be another one.
 fn agrees_with(heads: HeadKind, ours: &[u8], at: usize, byte: u8) -> bool
     requires long { length ours.now ≡ master_length }
     requires right { ours.now ≡ words_of heads (slots_in heads slot_count ours.now) }
@@ -75,7 +75,8 @@ fn fault_at(blocks: &Blocks, at: u32, byte: u8) -> Option<Part>
     None
 }
 
-/// The part of a zone's structure in which the byte at an offset is wrong, if it is. The zone's own bytes are given, too.
+/// The part of a zone's structure in which the byte at an offset is wrong, if it is. The zone's own bytes are given,
+/// too.
 fn wrong_at(blocks: &Blocks, own: &[u8], bytes: &[u8], at: usize) -> Option<Part>
     requires sound { AreSound blocks.now }
     requires own { own.now ≡ zone_bytes blocks.now }

@@ -168,9 +168,9 @@ fn is_tight(blocks: &Blocks, at: u32, header: Header) -> bool
     }
 }
 
-/// How many slots of a zone are free, if its blocks and its slots say each other, and no block can be joined or cut. Slots
-/// that say their handles' blocks say different ones. So where these are as many as all blocks of handles, each of the
-/// blocks is said by its slot.
+/// How many slots of a zone are free, if its blocks and its slots say each other, and no block can be joined or cut.
+/// Slots that say their handles' blocks say different ones. So where these are as many as all blocks of handles, each
+/// of the blocks is said by its slot.
 pub(crate) fn free_if_right(blocks: &Blocks) -> Option<u32>
     requires { AreSound blocks.now }
     ensures right { IfSome result (λ free. AreRight blocks.now) }

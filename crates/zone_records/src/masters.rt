@@ -96,8 +96,8 @@ fn compare_master(blocks: &Blocks, bytes: &[u8], at: u32) -> Agreement
     compare_slots(spec.heads(), ours, bytes, start)
 }
 
-/// How as many bytes as a zone has agree with the headers of the blocks from an address on that begin before another, and
-/// with the master blocks among these.
+/// How as many bytes as a zone has agree with the headers of the blocks from an address on that begin before another,
+/// and with the master blocks among these.
 pub(crate) fn compare_blocks(blocks: &Blocks, bytes: &[u8], from: u32, end: u32) -> Agreement
     requires sound { AreSound blocks.now }
     requires whole { length bytes.now ≡ length (image_of blocks.now) }
@@ -119,7 +119,8 @@ pub(crate) fn compare_blocks(blocks: &Blocks, bytes: &[u8], from: u32, end: u32)
     }
 }
 
-/// How as many bytes as a zone has agree with the headers of all its blocks and with its master blocks. Mostly they are equal.
+/// How as many bytes as a zone has agree with the headers of all its blocks and with its master blocks. Mostly they are
+/// equal.
 pub(crate) fn compare_all(blocks: &Blocks, bytes: &[u8]) -> Agreement
     requires sound { AreSound blocks.now }
     requires whole { length bytes.now ≡ length (image_of blocks.now) }

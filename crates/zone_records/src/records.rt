@@ -249,8 +249,8 @@ impl Records {
         self.blocks.clear(at);
     }
 
-    /// Makes a free block a master block, whose 64 slots are free: each names the one behind it as the next, and the last
-    /// one `last`.
+    /// Makes a free block a master block, whose 64 slots are free: each names the one behind it as the next, and the
+    /// last one `last`.
     pub fn place_master(&mut self, at: u32, last: u32)
         requires room { RoomFor self.old at master_length }
         requires sayable { IsTrue (can_say self.old.shape.heads (Slot.Free last)) }
@@ -291,8 +291,8 @@ impl Records {
         self.blocks.merge(at, length);
     }
 
-    /// Grows the zone to its limit: the bytes up to there are a free block behind the last. Where the zone is as large as its
-    /// limit nothing changes.
+    /// Grows the zone to its limit: the bytes up to there are a free block behind the last. Where the zone is as large
+    /// as its limit nothing changes.
     pub fn extend(&mut self)
         ensures { self.new ≡ extended self.old }
     {
@@ -300,8 +300,8 @@ impl Records {
         self.blocks.extend();
     }
 
-    /// Gives the block of a handle or a pointer `length` bytes in its first `size` bytes; the others are free. Bytes that
-    /// it had stay as far as they go, and those that are added are zero.
+    /// Gives the block of a handle or a pointer `length` bytes in its first `size` bytes; the others are free. Bytes
+    /// that it had stay as far as they go, and those that are added are zero.
     pub fn hold(&mut self, at: u32, size: u32, length: u32)
         requires { CanHold self.old at size length }
         ensures { (can : CanHold self.old at size length) → self.new ≡ held_there self.old can }
@@ -310,8 +310,9 @@ impl Records {
         self.fit(at, size, length, kept);
     }
 
-    /// Gives the block of a handle or a pointer `length` bytes in the first `size` bytes of it and of the free one right
-    /// behind it; the others are free. Bytes that it had stay as far as they go, and those that are added are zero.
+    /// Gives the block of a handle or a pointer `length` bytes in the first `size` bytes of it and of the free one
+    /// right behind it; the others are free. Bytes that it had stay as far as they go, and those that are added are
+    /// zero.
     pub fn grow(&mut self, at: u32, size: u32, length: u32)
         requires { CanGrow self.old at size length }
         ensures { (can : CanGrow self.old at size length) → self.new ≡ enlarged self.old can }
@@ -324,8 +325,8 @@ impl Records {
         self.fit(at, size, length, kept);
     }
 
-    /// The block at an address changes places with those behind it up to an address, each with its bytes. A master pointer
-    /// that names one of them stays as it is.
+    /// The block at an address changes places with those behind it up to an address, each with its bytes. A master
+    /// pointer that names one of them stays as it is.
     pub fn carry(&mut self, at: u32, end: u32)
         requires { ParcelAt self.old at end }
         ensures { (parcel : ParcelAt self.old at end) → self.new ≡ carried self.old parcel }
@@ -333,8 +334,8 @@ impl Records {
         self.blocks.carry(at, end);
     }
 
-    /// The block at an address changes places with those before it, which begin at `start`, each with its bytes. A master pointer
-    /// that names one of them stays as it is.
+    /// The block at an address changes places with those before it, which begin at `start`, each with its bytes. A
+    /// master pointer that names one of them stays as it is.
     pub fn sink(&mut self, start: u32, at: u32)
         requires { ParcelUpTo self.old start at }
         ensures { (parcel : ParcelUpTo self.old start at) → self.new ≡ sunk self.old parcel }
@@ -375,8 +376,8 @@ impl Records {
         self.blocks.free_bytes()
     }
 
-    /// Copies `count` bytes, from `start` on, of the block of a handle or a pointer over those from `offset` on of such a block. It may
-    /// be the same block, whose bytes are then those before the call.
+    /// Copies `count` bytes, from `start` on, of the block of a handle or a pointer over those from `offset` on of such
+    /// a block. It may be the same block, whose bytes are then those before the call.
     pub fn copy(&mut self, from: u32, start: u32, to: u32, offset: u32, count: u32)
         requires { CanCopy self.old from start to offset count }
         ensures { (can : CanCopy self.old from start to offset count) → self.new ≡ copied self.old can }

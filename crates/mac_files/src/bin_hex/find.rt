@@ -31,7 +31,8 @@ fn find_line(text: &[u8], from: usize, mark: &[u8]) -> Option<usize>
     None
 }
 
-/// Whether a text is BinHex: a line begins with the comment that each tool writes before it. A file with a fork's header isn't a text.
+/// Whether a text is BinHex: a line begins with the comment that each tool writes before it. A file with a fork's
+/// header isn't a text.
 pub fn is_bin_hex(text: &[u8]) -> bool
     ensures { result ≡ is_bin_hex text.now }
 {

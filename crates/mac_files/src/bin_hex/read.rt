@@ -13,7 +13,8 @@ use crate::bin_hex::find::find_colon;
 use crate::number::{four_bytes, read_four, read_two};
 use std::alloc::Global;
 
-/// Checks that a section, which goes from a place of the bytes to its CRC at another, is whole, and that the CRC is right.
+/// Checks that a section, which goes from a place of the bytes to its CRC at another, is whole, and that the CRC is
+/// right.
 fn check_section(
     decoded: &Decoded,
     section: Section,
@@ -105,8 +106,8 @@ fn file_in(decoded: Decoded) -> Result<BinHexFile, BinHexFault>
     })
 }
 
-/// The file that a text stands for, in one block of memory that has just the decoded bytes. A fault is the first in the order of
-/// the text; HostFull comes only where the host has no memory for that block.
+/// The file that a text stands for, in one block of memory that has just the decoded bytes. A fault is the first in the
+/// order of the text; HostFull comes only where the host has no memory for that block.
 pub fn read_bin_hex(alloc: Global, text: &[u8]) -> Result<BinHexFile, BinHexFault>
     ensures file { Gives result (bin_hex_of text.now) }
     ensures memory { IfOk result (λ file. vec_capacity file.bytes ≡ vec_len file.bytes) }

@@ -15,8 +15,8 @@ impl Lent {
         self.cells.len()
     }
 
-    /// Where the first of its bytes stands in the memory of the host: as far behind the region's first byte as the range
-    /// begins in the region. Whoever writes there by the pointer holds no slice of the loan meanwhile.
+    /// Where the first of its bytes stands in the memory of the host: as far behind the region's first byte as the
+    /// range begins in the region. Whoever writes there by the pointer holds no slice of the loan meanwhile.
     pub fn start(&self) -> *mut u8
         ensures { result ≡ self.now.name +ₚ self.now.at }
     {

@@ -9,8 +9,8 @@ use super::Region;
 use crate::loan::Lent;
 
 impl Region {
-    /// Lends the `n` bytes from `at` on: they leave the region, and who has the loan reads and writes them. The range is
-    /// inside the region, and no byte of it is lent.
+    /// Lends the `n` bytes from `at` on: they leave the region, and who has the loan reads and writes them. The range
+    /// is inside the region, and no byte of it is lent.
     #[tactic(auto, using(crate::proofs::Rules::lengths))]
     pub fn lend(&mut self, at: usize, n: usize) -> Lent
         requires inside { at + n ≤ length self.old.bytes }

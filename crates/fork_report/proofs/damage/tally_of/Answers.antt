@@ -1,6 +1,6 @@
 use Rattle.std.proofs.Common.{◌≡◌, ◌∙◌, ℕ, ◌+◌, [], ◌∷◌, length, sym, subst, arith}
 use Rattle.std.specs.Prelude.{filter_map}
-use Rattle.fork_mend.specs.Salvaged.{found_in, readable}
+use Rattle.fork_answer.specs.Salvaged.{found_in, readable}
 use Rattle.fork_salvage.specs.Salvage.{items}
 use Rattle.fork_report.proofs.Counts.{Counted, all_counted, all_told, item_counted, none_found, one_at_most, run_counted, runs_found}
 use Rattle.fork_report.proofs.damage.tally_of.Goals as goal

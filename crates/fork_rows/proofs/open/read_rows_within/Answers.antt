@@ -6,7 +6,7 @@ use Rattle.fork_bytes.specs.declared.fault.Condition.TheVariants.{RowCount, Type
 use Rattle.fork_bytes.specs.declared.fault.ForkFault.{ForkFault}
 use Rattle.fork_bytes.specs.Fork.{references_of, map_row, attributes_of, RefusesWithin}
 use Rattle.fork_bytes.specs.Rows.{MapRow}
-use Rattle.fork_reader.specs.Reading.{PlacedRow, AreFewBytesWithin}
+use Rattle.fork_bytes.specs.Reading.{PlacedRow, AreFewBytesWithin}
 use Rattle.fork_rows.proofs.Grouped.{grouped_in}
 use Rattle.fork_rows.proofs.Opened.{all_end, read_in_turn, places_refused, bytes_refused, has_places, opened_as, refused_as}
 use Rattle.fork_rows.specs.Opening.{AreGrouped, EndsBy, kinds_in}

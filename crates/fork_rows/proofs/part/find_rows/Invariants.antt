@@ -1,7 +1,7 @@
 use Rattle.std.proofs.Common.{◌≡◌, ◌+◌, length, map}
 use Rattle.std.specs.List.{AllByRecursion}
 use Rattle.fork_bytes.specs.Fork.{data_of, HasData}
-use Rattle.fork_reader.specs.Reading.{placed_row}
+use Rattle.fork_bytes.specs.Reading.{placed_row}
 use Rattle.fork_rows.specs.Opening.{Reads, EndsBy, kinds_in}
 use Rattle.fork_rows.proofs.part.find_rows.Given as goal
 

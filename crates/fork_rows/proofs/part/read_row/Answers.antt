@@ -2,9 +2,9 @@ use Rattle.std.proofs.Common.{◌∙◌, ap}
 use Rattle.std.proofs.lemmas.Result.{err_from_is_err_and}
 use Rattle.fork_bytes.specs.declared.fault.Condition.TheVariants.{Places}
 use Rattle.fork_bytes.specs.Fork.{number_at}
-use Rattle.fork_reader.proofs.Faults.{fault_known}
-use Rattle.fork_reader.proofs.Pieces.{number_of_piece}
-use Rattle.fork_reader.proofs.Placing.{length_outside, placed_in_fork, datum_within}
+use Rattle.fork_bytes.proofs.Faults.{fault_known}
+use Rattle.fork_bytes.proofs.Pieces.{number_of_piece}
+use Rattle.fork_bytes.proofs.Placing.{length_outside, placed_in_fork, datum_within}
 use Rattle.fork_rows.proofs.Kept.{unread}
 use Rattle.fork_rows.proofs.part.read_row.Goals as goal
 

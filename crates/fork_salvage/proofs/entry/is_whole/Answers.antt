@@ -1,7 +1,7 @@
 use Rattle.std.proofs.Common.{◌+◌, ◌*◌, ◌-◌, ap, sym, ◌∙◌, arith}
 use Rattle.std.specs.List.{list_all}
 use Rattle.fork_bytes.specs.Fork.{Reference}
-use Rattle.fork_reader.proofs.Lists.{references_at, reference_start, reference_step, reference_end}
+use Rattle.fork_bytes.proofs.Lists.{references_at, reference_start, reference_step, reference_end}
 use Rattle.fork_salvage.specs.Salvage.{has_bytes}
 use Rattle.fork_salvage.proofs.Cursors.{fails_all, goes_on, all_asked}
 use Rattle.fork_salvage.proofs.entry.is_whole.Goals as goal

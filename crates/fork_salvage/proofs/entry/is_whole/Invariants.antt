@@ -1,7 +1,7 @@
 use Rattle.std.proofs.Common.{◌≡◌, ◌+◌, ◌-◌, ◌*◌}
 use Rattle.std.specs.List.{list_all}
 use Rattle.fork_bytes.specs.Fork.{Reference}
-use Rattle.fork_reader.proofs.Lists.{references_at}
+use Rattle.fork_bytes.proofs.Lists.{references_at}
 use Rattle.fork_salvage.specs.Salvage.{has_bytes, is_whole}
 use Rattle.fork_salvage.proofs.entry.is_whole.Given as goal
 

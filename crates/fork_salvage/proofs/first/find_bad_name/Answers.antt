@@ -1,6 +1,6 @@
 use Rattle.std.proofs.Common.{◌<◌, ℕ, List, [], subst, ◌∙◌, arith}
 use Rattle.fork_bytes.specs.Fork.{map_of}
-use Rattle.fork_reader.specs.Reading.{HasName}
+use Rattle.fork_bytes.specs.Reading.{HasName}
 use Rattle.fork_salvage.proofs.Faults.{loop_start, loop_step, map_told}
 use Rattle.fork_salvage.proofs.first.find_bad_name.Goals as goal
 

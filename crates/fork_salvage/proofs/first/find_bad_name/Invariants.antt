@@ -1,6 +1,6 @@
 use Rattle.std.proofs.Common.{length}
 use Rattle.fork_bytes.specs.Fork.{map_of}
-use Rattle.fork_reader.specs.Reading.{HasName}
+use Rattle.fork_bytes.specs.Reading.{HasName}
 use Rattle.fork_salvage.specs.Plans.{IsCursor, left_of}
 use Rattle.fork_salvage.proofs.Faults.{IsLoop}
 use Rattle.fork_salvage.proofs.first.find_bad_name.Given as goal

@@ -1,5 +1,5 @@
 use Rattle.std.proofs.Common.{◌∙◌, ℕ, List, ap, inr, refl}
-use Rattle.mac_text.specs.Roman.{roman_text}
+use Rattle.fork_list.specs.Roman.{roman_text}
 use Rattle.fork_words.proofs.asked.kind_named.Goals as goal
 
 pub returns-in-Some-kind_of-clause-kind : goal.returns-in-Some-kind_of-clause-kind

@@ -1,5 +1,5 @@
 use Rattle.std.proofs.Common.{◌≡◌, ◌≤◌, length, take}
-use Rattle.mac_calls.specs.GrowZone.{answered}
+use Rattle.mac_base.specs.GrowZone.{answered}
 use Rattle.held_calls.proofs.answers.answered.Given as goal
 
 -- the asks so far that had an answer

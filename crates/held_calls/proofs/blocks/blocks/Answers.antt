@@ -1,5 +1,5 @@
 use Rattle.std.proofs.Common.{arith, sym}
-use Rattle.call_laws.proofs.Walk.{block_ends, HasWalked-step, HasWalked-end}
+use Rattle.zone_laws.proofs.Walk.{block_ends, HasWalked-step, HasWalked-end}
 use Rattle.held_calls.proofs.blocks.blocks.Goals as goal
 
 pub overflow_add-at : goal.overflow_add-at

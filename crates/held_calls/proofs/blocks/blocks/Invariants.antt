@@ -1,6 +1,6 @@
 use Rattle.std.proofs.Common.{◌-◌}
 use Rattle.mac_base.specs.ZoneMap.{address_behind}
-use Rattle.call_laws.proofs.Walk.{HasWalked}
+use Rattle.zone_laws.proofs.Walk.{HasWalked}
 use Rattle.held_calls.proofs.blocks.blocks.Given as goal
 
 -- the blocks so far

@@ -1,6 +1,6 @@
 use Rattle.std.proofs.Common.{refl, sym}
 use Rattle.std.proofs.lemmas.Result.{err_from_is_err_and}
-use Rattle.mac_calls.specs.declared.memory_call.MemoryCall.TheVariants.{Peek}
+use Rattle.mac_base.specs.declared.memory_call.MemoryCall.TheVariants.{Peek}
 use Rattle.held_calls.proofs.Parts.{refused_step, peek_step}
 use Rattle.held_calls.proofs.bytes.peek.Goals as goal
 

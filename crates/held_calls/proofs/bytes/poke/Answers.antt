@@ -1,6 +1,6 @@
 use Rattle.std.proofs.Common.{sym}
 use Rattle.std.proofs.lemmas.Result.{err_from_is_err_and}
-use Rattle.mac_calls.specs.declared.memory_call.MemoryCall.TheVariants.{Poke}
+use Rattle.mac_base.specs.declared.memory_call.MemoryCall.TheVariants.{Poke}
 use Rattle.mem_calls.proofs.Brought.{KeepsLoans-written}
 use Rattle.held_calls.proofs.Parts.{refused_step, poke_step}
 use Rattle.held_calls.proofs.bytes.poke.Goals as goal

@@ -1,5 +1,5 @@
 use Rattle.std.proofs.Common.{◌<◌, ◌≤◌, ◌+◌, sym, length, arith}
-use Rattle.mac_calls.specs.Loans.{held_bytes}
+use Rattle.mac_base.specs.LoanStep.{held_bytes}
 use Rattle.held_calls.specs.Holding.{loans_of}
 use Rattle.held_calls.proofs.Holding.{exceeds_lent, reaches_lent}
 use Rattle.held_calls.proofs.lending.lent_bytes.Goals as goal

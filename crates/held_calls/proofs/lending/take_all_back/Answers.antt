@@ -1,6 +1,6 @@
 use Rattle.std.proofs.Common.{[], List, refl, sym, ap, subst, ◌∙◌}
 use Rattle.mac_base.specs.ZoneState.{ZoneState, with_heap}
-use Rattle.mac_calls.specs.Loans.{all_returned}
+use Rattle.mac_base.specs.LoanStep.{all_returned}
 use Rattle.held_calls.specs.Holding.{Holds, loans_of}
 use Rattle.held_calls.specs.declared.loans.Held.{Held}
 use Rattle.held_calls.proofs.Holding.{Holds-returned, nothing_lent}

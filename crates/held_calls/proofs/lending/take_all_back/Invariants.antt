@@ -1,6 +1,6 @@
 use Rattle.std.proofs.Common.{◌≡◌, length}
 use Rattle.mac_base.specs.ZoneState.{with_heap}
-use Rattle.mac_calls.specs.Loans.{all_returned}
+use Rattle.mac_base.specs.LoanStep.{all_returned}
 use Rattle.held_calls.specs.Holding.{Holds, loans_of}
 use Rattle.held_calls.proofs.lending.take_all_back.Given as goal
 

@@ -1,6 +1,6 @@
 use Rattle.std.proofs.Common.{◌≡◌, ◌∙◌, ◌++◌, ◌∷◌, [], List, ℕ, ap, sym, arith, length, map, replicate}
 use Rattle.std.proofs.lemmas.List.{length-map, length-replicate, map-append, replicate_more}
-use Rattle.res_calls.specs.Device.{Disk}
+use Rattle.res_update.specs.Device.{Disk}
 use Rattle.res_files.specs.Standing.{most_files}
 use Rattle.held_files.specs.Forks.{empty_forks, fork_in}
 use Rattle.held_files.proofs.files.no_stores.Goals as goal

@@ -1,7 +1,7 @@
 use Rattle.std.proofs.Common.{List, sym, ap, subst}
 use Rattle.core.specs.Result.{is_err}
 use Rattle.mac_base.specs.ZoneState.{with_heap}
-use Rattle.mac_calls.specs.Outcomes.{Outcome}
+use Rattle.mac_base.specs.Outcomes.{Outcome}
 use Rattle.held_calls.specs.Holding.{Holds, loans_of}
 use Rattle.held_calls.specs.declared.loans.Held.{Held}
 use Rattle.held_calls.proofs.Holding.{nothing_lent}

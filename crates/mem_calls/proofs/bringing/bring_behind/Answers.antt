@@ -3,7 +3,7 @@ use Rattle.mac_base.specs.HandleTable.{bytes_of, is_lent, with_bytes}
 use Rattle.mac_base.specs.Heap.{with_table}
 use Rattle.mac_base.specs.ZoneState.{ZoneState}
 use Rattle.mac_base.specs.declared.request.Request.TheVariants.{Resize}
-use Rattle.call_laws.proofs.Lengths.{bytes-within}
+use Rattle.zone_laws.proofs.Lengths.{bytes-within}
 use Rattle.zone_heap.proofs.Writing.{full-has_block, full-here}
 use Rattle.mem_calls.proofs.Brought.{begins-resized, takes-resized}
 use Rattle.mem_calls.proofs.Copies.{filled-run}

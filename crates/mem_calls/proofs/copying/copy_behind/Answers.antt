@@ -1,7 +1,7 @@
 use Rattle.std.proofs.Common.{◌+◌, [], ◌∷◌, ◌++◌, take, not, ◌&&◌, Ok, refl, ap, ◌∙◌, arith}
 use Rattle.mac_base.specs.HandleTable.{bytes_of, is_lent}
 use Rattle.mac_base.specs.declared.request.Request.TheVariants.{Resize}
-use Rattle.call_laws.proofs.Lengths.{bytes-within}
+use Rattle.zone_laws.proofs.Lengths.{bytes-within}
 use Rattle.zone_heap.proofs.Writing.{full-has_block, full-here}
 use Rattle.mem_calls.proofs.Copies.{copied-run, copies-behind}
 use Rattle.mem_calls.proofs.copying.copy_behind.Goals as goal

@@ -1,7 +1,7 @@
 use Rattle.std.proofs.Common.{◌∙◌, [], ◌∷◌, take, Ok, refl, sym, subst, arith}
 use Rattle.mac_base.specs.HandleTable.{bytes_of}
 use Rattle.mac_base.specs.declared.request.Request.TheVariants.{NewBlock}
-use Rattle.call_laws.proofs.Lengths.{bytes-within}
+use Rattle.zone_laws.proofs.Lengths.{bytes-within}
 use Rattle.zone_heap.proofs.Writing.{full-has_block}
 use Rattle.mem_calls.specs.Requesting.{IsCopyRun}
 use Rattle.mem_calls.proofs.Copies.{copied-run, copies-new}

@@ -1,6 +1,6 @@
 use Rattle.std.proofs.Common.{ap, sym, ◌∙◌, Some, None}
 use Rattle.mac_base.specs.Request.{is_among}
-use Rattle.mac_calls.specs.GrowZone.{Carried}
+use Rattle.mac_base.specs.GrowZone.{Carried}
 use Rattle.mem_calls.specs.Requesting.{with_carried}
 use Rattle.mem_calls.proofs.Carrying.{carried-none, noted-carried, once-protected, once-free}
 use Rattle.mem_calls.proofs.request.carry_one.Goals as goal

@@ -2,7 +2,7 @@ use Rattle.std.proofs.Common.{◌∙◌, ℕ, Some, Result, sym, subst}
 use Rattle.mac_base.specs.declared.error.OsErr.{OsErr}
 use Rattle.mac_base.specs.declared.request.Request.TheVariants.{NewMaster}
 use Rattle.mac_base.specs.HeadKind.{Shape}
-use Rattle.mac_calls.specs.GrowZone.{most_answers}
+use Rattle.mac_base.specs.GrowZone.{most_answers}
 use Rattle.mem_calls.specs.Requesting.{IsRun, IsCallRun}
 use Rattle.mem_calls.proofs.Masters.{given_master, call-behind_master, slot-behind_master, more-behind_master}
 use Rattle.mem_calls.proofs.request.request.Goals as goal

@@ -2,7 +2,7 @@ use Rattle.std.proofs.Common.{◌++◌, ◌∷◌, [], Some, not, eqb, ap, ◌�
 use Rattle.mac_base.specs.declared.block.HeadKind.{HeadKind}
 use Rattle.mac_base.specs.HeadKind.{need}
 use Rattle.mac_base.specs.ZoneSizes.{ZoneSizes}
-use Rattle.mac_calls.specs.GrowZone.{new_ask, carried_out}
+use Rattle.mac_base.specs.GrowZone.{new_ask, carried_out}
 use Rattle.mem_calls.specs.Requesting.{with_carried}
 use Rattle.mem_calls.proofs.Carrying.{carried-last}
 use Rattle.mem_calls.proofs.request.turn.Goals as goal

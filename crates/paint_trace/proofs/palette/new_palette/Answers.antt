@@ -1,8 +1,8 @@
 use Rattle.std.proofs.Common.{[], ◌∙◌}
 use Rattle.mac_base.specs.HandleTable.{bytes_of}
 use Rattle.mac_base.specs.ZoneState.{overwritten}
-use Rattle.mac_calls.specs.declared.memory_call.MemoryCall.TheVariants.{HLock, NewHandle}
-use Rattle.call_laws.proofs.LentSteps.{step_keeps_lent}
+use Rattle.mac_base.specs.declared.memory_call.MemoryCall.TheVariants.{HLock, NewHandle}
+use Rattle.zone_laws.proofs.LentSteps.{step_keeps_lent}
 use Rattle.paint_trace.specs.Trace.{asks_of}
 use Rattle.paint_trace.proofs.LockedBlocks.{locked_by, locked_is_full, still_locked}
 use Rattle.paint_trace.proofs.palette.new_palette.Goals as goal

@@ -1,6 +1,6 @@
 use Rattle.std.proofs.Common.{[], arith, refl, ◌∙◌}
-use Rattle.call_laws.proofs.LentSteps.{step_keeps_lent}
-use Rattle.mac_calls.specs.declared.memory_call.MemoryCall.TheVariants as call
+use Rattle.zone_laws.proofs.LentSteps.{step_keeps_lent}
+use Rattle.mac_base.specs.declared.memory_call.MemoryCall.TheVariants as call
 use Rattle.paint_trace.specs.declared.trace.Action.TheVariants as action
 use Rattle.paint_trace.specs.Trace.{asks_of}
 use Rattle.paint_trace.proofs.LockedSteps.{none_answered, others_given, others_kept}

@@ -1,7 +1,7 @@
 use Rattle.std.proofs.Common.{List, ◌-◌}
 use Rattle.mac_base.specs.declared.block.Block.{Block}
 use Rattle.mac_base.specs.ZoneMap.{address_behind}
-use Rattle.call_laws.proofs.Walk.{HasWalked}
+use Rattle.zone_laws.proofs.Walk.{HasWalked}
 use Rattle.paint_trace.proofs.shown.print_blocks.Given as goal
 
 -- the walk has come to an address

@@ -4,7 +4,7 @@ use Rattle.res_table.specs.Behind.{end_of_type}
 use Rattle.res_table.specs.Rows.{added}
 use Rattle.res_table.specs.Saved.{bare, saved_row, row_types}
 use Rattle.res_table.proofs.Adding.{end-within}
-use Rattle.res_calls.specs.Fitting.{names_fit}
+use Rattle.res_update.specs.Fitting.{names_fit}
 use Rattle.res_files.proofs.Room.{bare_added, few_with, fit_parts, too_many, too_long}
 use Rattle.res_files.proofs.fitting.fits_with.Goals.{then-len-ge-MAX_ROWS-via-then-len-ge-MAX_ROWS, then-len-ge-MAX_ROWS-via-else-len-ge-MAX_ROWS+then-names-gt-MAX_OFFSET}
 use Rattle.res_files.proofs.fitting.fits_with.Goals as goal

@@ -1,7 +1,7 @@
 use Rattle.std.proofs.Common.{◌≡◌, ℕ, ◌≤◌, ◌-◌, ◌++◌, List, take, drop}
 use Rattle.mac_base.specs.declared.resource.Resource.{Resource}
 use Rattle.res_table.specs.Saved.{bare}
-use Rattle.res_calls.specs.Fitting.{names_fit}
+use Rattle.res_update.specs.Fitting.{names_fit}
 use Rattle.res_files.proofs.fitting.names_end.Given as goal
 
 -- the names so far fit, and the others stand from the next offset on

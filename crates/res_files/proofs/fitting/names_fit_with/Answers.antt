@@ -1,7 +1,7 @@
 use Rattle.std.proofs.Common.{◌≡◌, ℕ, ◌-◌, ◌++◌, ◌∷◌, take, drop, sym, ap, ◌∙◌, arith, Option, false}
 use Rattle.std.specs.Option.{option_map_or}
 use Rattle.res_table.specs.Saved.{bare}
-use Rattle.res_calls.specs.Fitting.{names_fit}
+use Rattle.res_update.specs.Fitting.{names_fit}
 use Rattle.res_files.proofs.Room.{names_told}
 use Rattle.res_files.proofs.fitting.names_fit_with.Goals as goal
 

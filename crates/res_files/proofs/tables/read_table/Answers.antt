@@ -1,12 +1,12 @@
 use Rattle.std.proofs.Common.{◌≡◌, ◌≤◌, ◌∙◌, List, ℕ, length, map, replicate, Ok, Err, sym, ap, subst, arith, rules}
 use Rattle.std.proofs.lemmas.Result.{err_from_is_err_and}
-use Rattle.fork_reader.specs.declared.place.Place.{Place}
+use Rattle.fork_bytes.specs.declared.place.Place.{Place}
 use Rattle.fork_rows.specs.Opening.{OpensAs}
 use Rattle.fork_rows.proofs.Kept.{read_twice}
 use Rattle.res_table.specs.declared.row.Row.{Row}
 use Rattle.res_table.specs.Rows.{opened_row}
-use Rattle.res_calls.specs.Answered.{IsOpening}
-use Rattle.res_calls.specs.Device.{Reads}
+use Rattle.res_update.specs.Answered.{IsOpening}
+use Rattle.res_update.specs.Device.{Reads}
 use Rattle.res_update.specs.Placed.{table_on}
 use Rattle.res_files.proofs.TablesRead.{reads_empty, reads_fork, opens, opens_empty, inside_opened, small_opened, refused, read_ready}
 use Rattle.res_files.proofs.tables.read_table.Goals as goal

@@ -1,7 +1,7 @@
 use Rattle.std.proofs.Common.{sym, ap, ◌∙◌, Option, List, ℕ, ℤ, w16, to_z, of_z}
 use Rattle.std.proofs.lemmas.Int.{to_z-of_z}
 use Rattle.std.specs.Option.{option_map_or}
-use Rattle.res_calls.specs.Changes.{row_changed}
+use Rattle.res_update.specs.Changes.{row_changed}
 use Rattle.res_files.specs.FilesOn.{FilesOn}
 use Rattle.res_table.specs.Info.{with_info}
 use Rattle.res_table.specs.OpenFiles.{place_of_handle}

@@ -6,8 +6,8 @@ use Rattle.mac_base.specs.Releasing.{heap_released}
 use Rattle.mac_base.specs.declared.releasing.ReleasingCall.TheVariants.{DisposesHandle}
 use Rattle.res_files.specs.FilesOn.{FilesOn, HonestAt, fork_of}
 use Rattle.res_files.specs.Stores.{KeepsStores}
-use Rattle.res_calls.specs.Answered.{AnswersFor}
-use Rattle.res_calls.specs.Changes.{row_changed}
+use Rattle.res_update.specs.Answered.{AnswersFor}
+use Rattle.res_update.specs.Changes.{row_changed}
 use Rattle.res_table.specs.OpenFiles.{row_at}
 use Rattle.res_table.specs.Rows.{with_handle}
 use Rattle.res_manager.specs.Steps.{state_of}

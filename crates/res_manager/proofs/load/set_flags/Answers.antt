@@ -1,8 +1,8 @@
 use Rattle.std.proofs.Common.{[], refl, ◌∙◌, ap}
 use Rattle.mac_base.specs.HandleTable.{with_flags}
 use Rattle.mac_base.specs.Heap.{with_table}
-use Rattle.mac_calls.specs.declared.memory_call.MemoryCall.TheVariants.{HSetState}
-use Rattle.mac_calls.specs.Outcomes.{done_outcome}
+use Rattle.mac_base.specs.declared.memory_call.MemoryCall.TheVariants.{HSetState}
+use Rattle.mac_base.specs.Outcomes.{done_outcome}
 use Rattle.res_manager.proofs.Filling.{quiet-heap, state-passes}
 use Rattle.res_manager.proofs.load.set_flags.Goals as goal
 

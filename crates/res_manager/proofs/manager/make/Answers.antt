@@ -1,14 +1,14 @@
 use Rattle.std.proofs.Common.{◌≡◌, ℕ, ℤ, List, Option, SFits, w64, Ok, rules, refl, ap, sym, subst, ◌∙◌}
 use Rattle.std.proofs.lemmas.Int.{to_z-of_z}
-use Rattle.mac_calls.specs.declared.resource_call.ResourceCall.TheVariants.{AddResource, GetResInfo}
-use Rattle.res_calls.specs.Files.{ResState}
-use Rattle.res_calls.specs.Tests.{resource_refusal}
+use Rattle.mac_base.specs.declared.resource_call.ResourceCall.TheVariants.{AddResource, GetResInfo}
+use Rattle.res_update.specs.Files.{ResState}
+use Rattle.res_update.specs.Tests.{resource_refusal}
 use Rattle.res_manager.proofs.Refusals.{passed-early}
 use Rattle.res_manager.proofs.UpdatingCalls.{on_err}
-use Rattle.mac_calls.specs.Outcomes.{Outcome}
-use Rattle.mac_calls.specs.declared.resource_call.ResourceCall.{ResourceCall}
-use Rattle.res_calls.specs.Quiet.{quiet_results, quiet_state}
-use Rattle.res_calls.specs.Steps.{work_of}
+use Rattle.mac_base.specs.Outcomes.{Outcome}
+use Rattle.mac_base.specs.declared.resource_call.ResourceCall.{ResourceCall}
+use Rattle.res_update.specs.Quiet.{quiet_results, quiet_state}
+use Rattle.res_update.specs.Steps.{work_of}
 use Rattle.std.specs.Prelude.{IfOk, option_copied}
 use Rattle.res_manager.specs.Ends.{EndsTested}
 use Rattle.res_manager.specs.Steps.{ResourceSteps, state_of}

@@ -3,18 +3,18 @@ use Rattle.std.proofs.lemmas.List.{length-map}
 use Rattle.std.specs.Option.{option_or}
 use Rattle.std.specs.Prelude.{◌&&◌, nat_le}
 use Rattle.mac_base.specs.declared.error.OsErr.TheVariants.{FnfErr}
-use Rattle.mac_calls.specs.Tests.{unless_passed}
+use Rattle.mac_base.specs.Tests.{unless_passed}
 use Rattle.mac_base.specs.declared.error.HostFull.{HostFull}
-use Rattle.mac_calls.specs.Outcomes.{Outcome}
-use Rattle.mac_calls.specs.declared.resource_call.ResourceCall.TheVariants.{OpenResFile}
-use Rattle.res_calls.specs.Steps.{Opens, Quiet, work_of, update_in}
+use Rattle.mac_base.specs.Outcomes.{Outcome}
+use Rattle.mac_base.specs.declared.resource_call.ResourceCall.TheVariants.{OpenResFile}
+use Rattle.res_update.specs.Steps.{Opens, Quiet, work_of, update_in}
 use Rattle.res_manager.specs.Crash.{CrashLeaves, file_settled}
 use Rattle.res_manager.specs.Steps.{state_of}
 use Rattle.res_manager.proofs.Crash.{calm_leaves, err_anyhow, opening_reads, opening_saves, work_leaves, work_settles}
 use Rattle.res_files.specs.FilesOn.{HonestAt}
 use Rattle.res_manager.proofs.Refusals.{passed-early}
-use Rattle.mac_calls.specs.declared.reply.Results.TheVariants.{Number}
-use Rattle.res_calls.specs.Tests.{first_refused_for}
+use Rattle.mac_base.specs.declared.reply.Results.TheVariants.{Number}
+use Rattle.res_update.specs.Tests.{first_refused_for}
 use Rattle.res_manager.specs.Tests.{early_tests}
 use Rattle.res_manager.proofs.LeavingForks.{refused_leaves}
 use Rattle.res_manager.proofs.OpenedFiles.{opens_full}

@@ -1,6 +1,6 @@
 use Rattle.std.proofs.Common.{sym}
 use Rattle.mac_base.specs.HandleTable.{is_full}
-use Rattle.res_calls.specs.Patching.{handle_patched}
+use Rattle.res_update.specs.Patching.{handle_patched}
 use Rattle.res_manager.proofs.Crash.{err_anyhow}
 use Rattle.res_manager.proofs.PatchedFiles.{found}
 use Rattle.res_manager.proofs.PatchingCalls.{full_leaves, patch_ends, patch_leaves, refused_patch}

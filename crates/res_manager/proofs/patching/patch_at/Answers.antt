@@ -1,9 +1,9 @@
 use Rattle.std.proofs.Common.{◌≡◌, ◌∙◌, ℕ, List, refl, sym, subst, arith}
 use Rattle.std.proofs.lemmas.List.{take_at}
-use Rattle.res_calls.specs.Partial.{data_at}
-use Rattle.res_calls.specs.Patching.{handle_patched}
-use Rattle.res_calls.specs.Answered.{IsAnswered}
-use Rattle.res_calls.specs.declared.patching_call.PatchingCall.{PatchingCall}
+use Rattle.res_update.specs.Partial.{data_at}
+use Rattle.res_update.specs.Patching.{handle_patched}
+use Rattle.res_update.specs.Answered.{IsAnswered}
+use Rattle.res_update.specs.declared.patching_call.PatchingCall.{PatchingCall}
 use Rattle.res_files.specs.FilesOn.{FilesOn, HonestAt}
 use Rattle.res_manager.specs.Patching.{HasHandle, MakesOf}
 use Rattle.res_manager.proofs.Keeping.{kept_same}

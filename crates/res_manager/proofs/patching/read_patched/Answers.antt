@@ -1,6 +1,6 @@
 use Rattle.std.proofs.Common.{◌≡◌, ◌∙◌, ℕ, List, ◌++◌, length, drop, refl, ap}
-use Rattle.res_calls.specs.Partial.{data_at}
-use Rattle.res_calls.specs.Patching.{patched_bytes}
+use Rattle.res_update.specs.Partial.{data_at}
+use Rattle.res_update.specs.Patching.{patched_bytes}
 use Rattle.res_table.specs.OpenFiles.{row_at}
 use Rattle.res_manager.specs.Patching.{put_over}
 use Rattle.res_manager.proofs.PatchedBytes.{all_long, kept_is, made_of, read_whole}

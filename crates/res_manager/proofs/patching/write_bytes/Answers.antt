@@ -1,11 +1,11 @@
 use Rattle.std.proofs.Common.{◌≡◌, ◌∙◌, ℕ, List, Some, None, IsSome, Err, Ok, ap, sym, refl, subst}
 use Rattle.fork_disk.specs.declared.store.ReplaceFault.{ReplaceFault}
 use Rattle.mac_base.specs.HandleTable.{HandleTable, bytes_of}
-use Rattle.mac_calls.specs.declared.reply.Results.TheVariants.{Nothing}
-use Rattle.mac_calls.specs.declared.resource_call.ResourceCall.TheVariants.{Writing}
-use Rattle.mac_calls.specs.declared.resource_call.WritingCall.TheVariants.{UpdateResFile}
-use Rattle.res_calls.specs.Changes.{FileRow}
-use Rattle.res_calls.specs.Updates.{fits_fork}
+use Rattle.mac_base.specs.declared.reply.Results.TheVariants.{Nothing}
+use Rattle.mac_base.specs.declared.resource_call.ResourceCall.TheVariants.{Writing}
+use Rattle.mac_base.specs.declared.resource_call.WritingCall.TheVariants.{UpdateResFile}
+use Rattle.res_update.specs.Changes.{FileRow}
+use Rattle.res_update.specs.Updates.{fits_fork}
 use Rattle.res_files.specs.FilesOn.{FilesOn, HonestAt}
 use Rattle.res_update.specs.Selected.{updated}
 use Rattle.res_update.specs.declared.fault.UpdateFault.TheVariants.{Device}

@@ -1,6 +1,6 @@
 use Rattle.std.proofs.Common.{◌≡◌, SFits, to_z, of_z, w16, w64, rules, ◌∙◌}
 use Rattle.std.proofs.lemmas.Int.{to_z-of_z}
-use Rattle.mac_calls.specs.Outcomes.{done_outcome}
+use Rattle.mac_base.specs.Outcomes.{done_outcome}
 use Rattle.std.specs.Prelude.{option_copied}
 use Rattle.res_manager.proofs.States.{added_as, added_ends}
 use Rattle.res_manager.proofs.quiet.add.Goals as goal

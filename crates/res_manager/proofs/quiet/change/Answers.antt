@@ -1,5 +1,5 @@
 use Rattle.std.proofs.Common.{sym, subst}
-use Rattle.mac_calls.specs.declared.resource_call.ResourceCall.TheVariants.{Changing}
+use Rattle.mac_base.specs.declared.resource_call.ResourceCall.TheVariants.{Changing}
 use Rattle.res_manager.specs.Ends.{EndsTested}
 use Rattle.res_manager.proofs.quiet.change.Goals as goal
 

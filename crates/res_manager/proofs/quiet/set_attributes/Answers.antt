@@ -1,8 +1,8 @@
 use Rattle.std.proofs.Common.{Ok, rules, sym, ap, ◌∙◌}
 use Rattle.mac_base.specs.declared.resource.ResAttrs.{ResAttrs}
-use Rattle.mac_calls.specs.declared.reply.Results.TheVariants.{Nothing}
-use Rattle.res_calls.specs.Attributes.{replaced_attributes}
-use Rattle.res_calls.specs.Files.{ResourceEnd}
+use Rattle.mac_base.specs.declared.reply.Results.TheVariants.{Nothing}
+use Rattle.res_update.specs.Attributes.{replaced_attributes}
+use Rattle.res_update.specs.Files.{ResourceEnd}
 use Rattle.res_files.specs.FilesOn.{FilesOn}
 use Rattle.res_manager.specs.Steps.{state_of}
 use Rattle.res_manager.proofs.Changing.{attributes_set}

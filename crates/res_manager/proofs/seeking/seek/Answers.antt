@@ -1,6 +1,6 @@
 use Rattle.std.proofs.Common.{◌≡◌, Ok, Err, sym, subst, ◌∙◌, rules}
-use Rattle.mac_calls.specs.Outcomes.{Outcome}
-use Rattle.res_calls.specs.Sought.{sought}
+use Rattle.mac_base.specs.Outcomes.{Outcome}
+use Rattle.res_update.specs.Sought.{sought}
 use Rattle.res_manager.specs.Steps.{SoughtSteps}
 use Rattle.res_manager.proofs.SoughtRows.{sought_got, sought_refused}
 use Rattle.res_manager.proofs.seeking.seek.Goals as goal

@@ -1,5 +1,5 @@
 use Rattle.std.proofs.Common.{◌||◌, not, ◌∙◌}
-use Rattle.res_calls.specs.Changes.{FileRow, rows_of}
+use Rattle.res_update.specs.Changes.{FileRow, rows_of}
 use Rattle.res_table.specs.Rows.{is_changed}
 use Rattle.res_manager.proofs.Handles.{lent_among}
 use Rattle.res_manager.proofs.tests.has_lent_row.Goals as goal

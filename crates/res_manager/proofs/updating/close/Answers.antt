@@ -2,16 +2,16 @@ use Rattle.std.proofs.Common.{◌≡◌, ◌∙◌, Result, Ok, sym, ap, subst}
 use Rattle.std.specs.Prelude.{OnOk}
 use Rattle.mac_base.specs.declared.error.HostFull.{HostFull}
 use Rattle.mac_base.specs.Heap.{Heap}
-use Rattle.mac_calls.specs.Outcomes.{Outcome}
-use Rattle.res_calls.specs.Changes.{rows_of}
-use Rattle.res_calls.specs.Updates.{Update, disposed, handles_of, update_of}
+use Rattle.mac_base.specs.Outcomes.{Outcome}
+use Rattle.res_update.specs.Changes.{rows_of}
+use Rattle.res_update.specs.Updates.{Update, disposed, handles_of, update_of}
 use Rattle.res_files.specs.FilesOn.{FilesOn, HonestAt}
 use Rattle.res_table.specs.OpenFiles.{file_closed}
 use Rattle.res_update.specs.Selected.{updated}
 use Rattle.res_update.specs.declared.selection.Selection.TheVariants.{AllChanged}
 use Rattle.res_manager.specs.Crash.{WorksOnFile}
 use Rattle.res_manager.specs.Steps.{state_of}
-use Rattle.res_calls.specs.Steps.{IsSaved}
+use Rattle.res_update.specs.Steps.{IsSaved}
 use Rattle.res_manager.proofs.ClosingFiles.{closes_refused, closes_written}
 use Rattle.res_manager.proofs.Lent.{lent_disposed}
 use Rattle.res_manager.proofs.WritingFiles.{update_found}

@@ -1,7 +1,7 @@
 use Rattle.std.proofs.Common.{◌+◌, drop, arith, sym, ap, ◌∙◌}
-use Rattle.mac_calls.specs.Outcomes.{done_outcome}
-use Rattle.res_calls.specs.Changes.{rows_of}
-use Rattle.res_calls.specs.Updates.{disposed, handles_of}
+use Rattle.mac_base.specs.Outcomes.{done_outcome}
+use Rattle.res_update.specs.Changes.{rows_of}
+use Rattle.res_update.specs.Updates.{disposed, handles_of}
 use Rattle.res_manager.proofs.Handles.{disposed_more, next_found, next_none}
 use Rattle.res_manager.proofs.updating.dispose_all.Goals as goal
 

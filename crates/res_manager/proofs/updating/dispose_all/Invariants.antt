@@ -1,7 +1,7 @@
 use Rattle.std.proofs.Common.{◌≡◌, ◌-◌, length, drop}
 use Rattle.linked_zone.specs.Loans.{KeepsLoans}
-use Rattle.res_calls.specs.Changes.{rows_of}
-use Rattle.res_calls.specs.Updates.{disposed, handles_of}
+use Rattle.res_update.specs.Changes.{rows_of}
+use Rattle.res_update.specs.Updates.{disposed, handles_of}
 use Rattle.res_manager.proofs.updating.dispose_all.Given as goal
 
 -- what is left to be disposed of leads to the same heap

@@ -4,10 +4,10 @@ use Rattle.mac_base.specs.HandleTable.{HandleTable}
 use Rattle.fork_disk.specs.declared.store.ReplaceFault.{ReplaceFault}
 use Rattle.res_files.specs.FilesOn.{HonestAt}
 use Rattle.res_manager.specs.Steps.{state_of}
-use Rattle.res_calls.specs.Steps.{IsSaved}
+use Rattle.res_update.specs.Steps.{IsSaved}
 use Rattle.res_update.specs.Selected.{updated}
 use Rattle.res_update.specs.declared.fault.UpdateFault.TheVariants.{Device}
-use Rattle.res_calls.specs.Updates.{Update, update_of}
+use Rattle.res_update.specs.Updates.{Update, update_of}
 use Rattle.res_manager.proofs.ReadingBack.{saved_update}
 use Rattle.res_manager.proofs.WritingFiles.{UpdateOf, true_unless, update_found, writes_all, writes_faulted, writes_nothing}
 use Rattle.res_manager.proofs.updating.write_file.Goals as goal

@@ -1,9 +1,9 @@
 use Rattle.std.proofs.Common.{◌≡◌, Some, None, Ok, refl, ap}
-use Rattle.mac_calls.specs.declared.reply.Results.TheVariants.{Nothing}
-use Rattle.mac_calls.specs.declared.resource_call.ResourceCall.TheVariants.{Writing}
-use Rattle.mac_calls.specs.declared.resource_call.WritingCall.TheVariants.{WriteResource, UpdateResFile}
-use Rattle.res_calls.specs.Changes.{FileRow}
-use Rattle.res_calls.specs.Updates.{Update, update_of}
+use Rattle.mac_base.specs.declared.reply.Results.TheVariants.{Nothing}
+use Rattle.mac_base.specs.declared.resource_call.ResourceCall.TheVariants.{Writing}
+use Rattle.mac_base.specs.declared.resource_call.WritingCall.TheVariants.{WriteResource, UpdateResFile}
+use Rattle.res_update.specs.Changes.{FileRow}
+use Rattle.res_update.specs.Updates.{Update, update_of}
 use Rattle.res_update.specs.Selected.{updated}
 use Rattle.res_update.specs.declared.selection.Selection.TheVariants.{RowAt}
 use Rattle.res_manager.specs.Steps.{state_of, work_takes_memory}

@@ -1,7 +1,7 @@
 use Rattle.std.proofs.Common.{◌≡◌, ◌<◌, ◌+◌, ◌++◌, List, get_or, drop, length, slice_get, Some, sym, ap, ◌∙◌, arith}
 use Rattle.std.proofs.lemmas.Option.{slice_get-get_or}
 use Rattle.fork_disk.specs.declared.update.Kept.{Kept}
-use Rattle.fork_reader.specs.declared.place.Place.{Place}
+use Rattle.fork_bytes.specs.declared.place.Place.{Place}
 use Rattle.res_update.specs.Drafts.{kept_ranges}
 use Rattle.res_update.proofs.Listing.{selected_step, kept_step}
 use Rattle.res_update.proofs.ranges.kept_ranges.Goals.{then-not-takes+in_ok-push, else-not-takes}

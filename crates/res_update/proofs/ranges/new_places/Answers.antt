@@ -1,7 +1,7 @@
 use Rattle.std.proofs.Common.{◌≡◌, ◌+◌, ◌<◌, ◌++◌, ◌∷◌, [], ℕ, List, length, drop, get_or, sym, ap, ◌∙◌, append_assoc, arith}
 use Rattle.fork_bytes.specs.Rows as fork
 use Rattle.fork_bytes.proofs.Steps.{data_step, drop_item}
-use Rattle.fork_reader.specs.declared.place.Place.{Place}
+use Rattle.fork_bytes.specs.declared.place.Place.{Place}
 use Rattle.res_update.specs.Drafts.{new_places}
 use Rattle.res_update.proofs.ranges.new_places.Goals as goal
 

@@ -2,7 +2,7 @@ use Rattle.std.proofs.Common.{◌≡◌, ℕ, List, Option, Some, length, map, s
 use Rattle.std.proofs.lemmas.List.{at_drop_all, length-map}
 use Rattle.std.proofs.lemmas.Option.{slice_get-get_or}
 use Rattle.fork_bytes.specs.Written.{data_text}
-use Rattle.fork_reader.specs.declared.place.Place.{Place}
+use Rattle.fork_bytes.specs.declared.place.Place.{Place}
 use Rattle.res_table.specs.declared.row.Row.{Row}
 use Rattle.res_table.specs.Rows.{changed_handle}
 use Rattle.res_update.specs.Drafts.{rows_with, draft_bytes}

@@ -5,7 +5,7 @@ use Rattle.fork_bytes.specs.Rows as fork
 use Rattle.fork_bytes.specs.Laws.{AreBytes, IsGrouped, IsTable}
 use Rattle.fork_bytes.specs.Written.{data_text, plain_table, written, Fits}
 use Rattle.fork_bytes.proofs.Plain.{bytes_same, table_same}
-use Rattle.fork_reader.specs.declared.place.Place.{Place}
+use Rattle.fork_bytes.specs.declared.place.Place.{Place}
 use Rattle.res_update.specs.Drafts.{draft_bytes, draft_table, rows_with, new_places, kept_ranges}
 use Rattle.res_update.proofs.Measuring.{length-over}
 use Rattle.res_update.proofs.Placing.{length-places}

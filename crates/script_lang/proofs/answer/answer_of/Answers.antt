@@ -1,6 +1,6 @@
 use Rattle.std.proofs.Common.{ℕ, List, map, ap, ◌∙◌}
 use Rattle.mac_base.specs.declared.releasing.ReleasingCall.{ReleasingCall}
-use Rattle.mac_calls.specs.GrowZone.{Answer}
+use Rattle.mac_base.specs.GrowZone.{Answer}
 use Rattle.script_lang.specs.declared.line.WrittenCall.{WrittenCall}
 use Rattle.script_lang.specs.Answers.{releasing_with}
 use Rattle.script_lang.specs.declared.line.NumberOperand.{NumberOperand}

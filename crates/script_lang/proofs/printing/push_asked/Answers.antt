@@ -1,7 +1,7 @@
 use Rattle.std.proofs.Common.{arith}
 use Rattle.std.proofs.lemmas.Grind.{common_steps}
 use Rattle.std.proofs.lemmas.List.Folds.{length-flat_map-take}
-use Rattle.mac_calls.specs.declared.grow_zone.Asked.{Asked}
+use Rattle.mac_base.specs.declared.grow_zone.Asked.{Asked}
 use Rattle.script_lang.specs.Text.{asked_text}
 use Rattle.script_lang.proofs.printing.push_asked.Goals as goal
 

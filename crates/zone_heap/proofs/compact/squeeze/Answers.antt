@@ -1,7 +1,7 @@
 use Rattle.std.proofs.Common.{◌∙◌, ap}
 use Rattle.linked_zone.specs.Changes.{with_map}
 use Rattle.zone_heap.proofs.Compacting.{squeezed-found}
-use Rattle.zone_gaps.proofs.Laws.{gap_from}
+use Rattle.zone_heap.proofs.Laws.{gap_from}
 use Rattle.zone_heap.proofs.compact.squeeze.Goals as goal
 
 pub squeeze_down-requires-clause-gap : goal.squeeze_down-requires-clause-gap

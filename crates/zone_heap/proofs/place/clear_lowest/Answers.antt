@@ -1,8 +1,8 @@
 use Rattle.std.proofs.Common.{◌≡◌, ◌∙◌, false}
 use Rattle.mac_base.specs.Serve.{begins_free}
-use Rattle.zone_gaps.specs.Gaps.{GapBetween}
-use Rattle.zone_gaps.proofs.Laws.{gap_from}
-use Rattle.zone_gaps.proofs.Squeezing.{front_from, rest_from}
+use Rattle.zone_heap.specs.Gaps.{GapBetween}
+use Rattle.zone_heap.proofs.Laws.{gap_from}
+use Rattle.zone_heap.proofs.Squeezing.{front_from, rest_from}
 use Rattle.zone_heap.proofs.Clearing.{between, cleared_up, cleared_there, sound_up, begins_used, begins_few, begins_enough, entry_first}
 use Rattle.zone_heap.proofs.place.clear_lowest.Goals as goal
 use Rattle.zone_heap.proofs.place.clear_lowest.Goals.{After-gap_end-end, Then-start-at, then-start-at-via-then-start-at, then-start-at-via-else-start-at+then-entry_at-needed}

@@ -1,5 +1,5 @@
 use Rattle.std.proofs.Common.{◌∙◌}
-use Rattle.zone_gaps.proofs.Laws.{gap_from}
+use Rattle.zone_heap.proofs.Laws.{gap_from}
 use Rattle.zone_heap.proofs.Clearing.{opened_there, opened_down, sound_down}
 use Rattle.zone_heap.proofs.place.open_lowest.Goals as goal
 

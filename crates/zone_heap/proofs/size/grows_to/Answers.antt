@@ -3,7 +3,7 @@ use Rattle.mac_base.specs.declared.block.Entry.{Entry}
 use Rattle.mac_base.specs.HeadKind.{need}
 use Rattle.mac_base.specs.Request.{gap_to_grow, room_of, size_of}
 use Rattle.std.specs.Prelude.{◌+◌, nat_le}
-use Rattle.zone_gaps.proofs.Rooms.{gap_indexed}
+use Rattle.zone_heap.proofs.Rooms.{gap_indexed}
 use Rattle.zone_heap.proofs.Resizing.{grows-gap, grows-itself, to_grow-at}
 use Rattle.zone_heap.proofs.Sizing.{Standing, entry_named, size-there}
 use Rattle.zone_heap.proofs.size.grows_to.Goals as goal

@@ -7,7 +7,7 @@ use Rattle.mac_base.specs.ZoneSizes.{ZoneSizes}
 use Rattle.mac_base.specs.ZoneState.{ZoneState}
 use Rattle.linked_zone.specs.Changes.{with_map}
 use Rattle.linked_zone.specs.Loans.{KeepsLoans}
-use Rattle.zone_gaps.specs.Gaps.{GapBetween, opened_after}
+use Rattle.zone_heap.specs.Gaps.{GapBetween, opened_after}
 use Rattle.zone_heap.specs.Attempts.{SoundZone}
 use Rattle.zone_heap.specs.Resized.{way_made}
 use Rattle.zone_heap.proofs.Resizing.{fits-gap, gap-behind-at, way-behind, way-sound, way-own}

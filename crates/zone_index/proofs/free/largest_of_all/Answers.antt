@@ -1,6 +1,6 @@
 use Rattle.std.proofs.Common.{◌∙◌, List, ap}
-use Rattle.block_sums.specs.declared.largest.Largest.{Largest}
-use Rattle.block_sums.specs.Largest.{larger, no_block}
+use Rattle.sum_tree.specs.declared.largest.Largest.{Largest}
+use Rattle.sum_tree.specs.Largest.{larger, no_block}
 use Rattle.sum_tree.specs.Monoids.{total}
 use Rattle.zone_index.proofs.FreeWalk.{all_largest}
 use Rattle.zone_index.proofs.Known.{within-known}

@@ -2,8 +2,8 @@ use Rattle.std.proofs.Common.{◌+◌, ◌*◌, ◌∙◌, List, ap, subst, arit
 use Rattle.std.proofs.lemmas.Bool.{false_from_ne_true, leb-true}
 use Rattle.std.specs.Prelude.{IsFalse, nat_le}
 use Rattle.mac_base.specs.ZoneSizes.{ZoneSizes}
-use Rattle.block_sums.specs.declared.largest.Largest.{Largest}
-use Rattle.block_sums.specs.Largest.{larger, no_block}
+use Rattle.sum_tree.specs.declared.largest.Largest.{Largest}
+use Rattle.sum_tree.specs.Largest.{larger, no_block}
 use Rattle.sum_tree.specs.Monoids.{total}
 use Rattle.sum_tree.specs.Rows.{IsFirst}
 use Rattle.zone_index.proofs.FreeWalk.{all_small, leaf_small}

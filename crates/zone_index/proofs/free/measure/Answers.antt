@@ -1,5 +1,5 @@
 use Rattle.std.proofs.Common.{◌≡◌, ◌+◌, ◌*◌, ◌≤◌, ◌∙◌, ap, sym, subst, arith}
-use Rattle.block_sums.specs.declared.largest.Largest.{Largest}
+use Rattle.sum_tree.specs.declared.largest.Largest.{Largest}
 use Rattle.mac_base.specs.ZoneSizes.{ZoneSizes}
 use Rattle.linked_zone.specs.Places.{FirstFree}
 use Rattle.zone_index.proofs.FreeWalk.{Counted, counted_free, counted_split, counted-above, counted-behind, counted-last, counted-on, free-some, free-within, none_counted, none_there}

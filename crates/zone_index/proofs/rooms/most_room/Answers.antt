@@ -1,6 +1,6 @@
 use Rattle.std.proofs.Common.{◌∙◌, List, ap, sym, subst}
-use Rattle.block_sums.specs.declared.span.Span.{Span}
-use Rattle.block_sums.specs.Span.{SpanFits, joined, most_in, no_span}
+use Rattle.sum_tree.specs.declared.span.Span.{Span}
+use Rattle.sum_tree.specs.Span.{SpanFits, joined, most_in, no_span}
 use Rattle.sum_tree.specs.Monoids.{total}
 use Rattle.zone_index.proofs.Freshened.{fresh-fits}
 use Rattle.zone_index.proofs.Known.{limit-known, within-known}

@@ -2,8 +2,8 @@ use Rattle.std.proofs.Common.{◌+◌, ◌∙◌, ap, sym, subst, arith}
 use Rattle.mac_base.specs.declared.block.Entry.{Entry}
 use Rattle.mac_base.specs.ZoneSizes.{ZoneSizes}
 use Rattle.linked_zone.specs.Places.{HasOwner}
-use Rattle.block_sums.specs.declared.span.Span.{Span}
-use Rattle.block_sums.specs.Span.{SpanFits, joined, most_in}
+use Rattle.sum_tree.specs.declared.span.Span.{Span}
+use Rattle.sum_tree.specs.Span.{SpanFits, joined, most_in}
 use Rattle.zone_index.specs.Rooms.{room_of}
 use Rattle.zone_index.proofs.Entries.{FirstIn, read_size, read_within, told}
 use Rattle.zone_index.proofs.Owners.{entry-owner}

@@ -2,8 +2,8 @@ use Rattle.std.proofs.Common.{◌+◌, ◌*◌, ◌∙◌, List, length, ap, sym
 use Rattle.std.proofs.lemmas.Bool.{false_from_ne_true, leb-true}
 use Rattle.std.specs.Prelude.{IsFalse, nat_le}
 use Rattle.mac_base.specs.ZoneSizes.{ZoneSizes}
-use Rattle.block_sums.specs.declared.span.Span.{Span}
-use Rattle.block_sums.specs.Span.{SpanFits, joined, most_in, no_span}
+use Rattle.sum_tree.specs.declared.span.Span.{Span}
+use Rattle.sum_tree.specs.Span.{SpanFits, joined, most_in, no_span}
 use Rattle.sum_tree.specs.Monoids.{total}
 use Rattle.sum_tree.specs.Rows.{IsFirst}
 use Rattle.zone_index.proofs.Freshened.{fresh-fits}

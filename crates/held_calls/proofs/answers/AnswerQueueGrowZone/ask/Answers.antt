@@ -1,5 +1,5 @@
 use Rattle.std.proofs.Common.{◌∙◌, ◌∷◌, ◌++◌, [], List, ap}
-use Rattle.mac_calls.specs.GrowZone.{Ask}
+use Rattle.mac_base.specs.GrowZone.{Ask}
 use Rattle.held_calls.specs.Answers.{Queue, taken}
 use Rattle.held_calls.proofs.Queued.{taken-asked}
 use Rattle.held_calls.proofs.answers.AnswerQueueGrowZone.ask.Goals as goal

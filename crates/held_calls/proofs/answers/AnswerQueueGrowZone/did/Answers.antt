@@ -1,5 +1,5 @@
 use Rattle.std.proofs.Common.{◌∙◌, ◌++◌, List, ap, sym}
-use Rattle.mac_calls.specs.GrowZone.{Answer, Ask, may_note, noted}
+use Rattle.mac_base.specs.GrowZone.{Answer, Ask, may_note, noted}
 use Rattle.held_calls.specs.Answers.{Queue, taken}
 use Rattle.held_calls.proofs.Queued.{noted-answers, noted-back}
 use Rattle.mem_calls.proofs.Carrying.{may_note-last}

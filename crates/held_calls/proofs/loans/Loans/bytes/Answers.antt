@@ -1,5 +1,5 @@
 use Rattle.std.proofs.Common.{◌∙◌, ap, sym, List}
-use Rattle.mac_calls.specs.Loans.{held_bytes}
+use Rattle.mac_base.specs.LoanStep.{held_bytes}
 use Rattle.held_calls.specs.Holding.{loans_of}
 use Rattle.held_calls.specs.declared.loans.Held.{Held}
 use Rattle.held_calls.proofs.Places.{bytes_at}

@@ -1,5 +1,5 @@
 use Rattle.std.specs.Prelude.{◌≡◌, drop}
-use Rattle.mac_calls.specs.Released.{disposed_in}
+use Rattle.mac_base.specs.Released.{disposed_in}
 use Rattle.held_files.specs.Forks.{without_handles}
 use Rattle.held_files.proofs.files.ForkFiles.forget_asked.Given as goal
 

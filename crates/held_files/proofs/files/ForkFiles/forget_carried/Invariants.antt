@@ -1,5 +1,5 @@
 use Rattle.std.specs.Prelude.{◌≡◌, drop, filter_map}
-use Rattle.mac_calls.specs.Released.{disposed_by}
+use Rattle.mac_base.specs.Released.{disposed_by}
 use Rattle.held_files.specs.Forks.{without_handles}
 use Rattle.held_files.proofs.files.ForkFiles.forget_carried.Given as goal
 

@@ -1,6 +1,6 @@
 use Rattle.std.proofs.Common.{ap, ◌∙◌, ◌-◌, sym, set}
 use Rattle.held_files.specs.Forks.{ForksState, fork_in, seen_on}
-use Rattle.res_calls.specs.Device.{Disk}
+use Rattle.res_update.specs.Device.{Disk}
 use Rattle.res_files.proofs.Mapped.{set-mapped}
 use Rattle.held_files.proofs.files.ForkFiles.put_fork.Goals as goal
 

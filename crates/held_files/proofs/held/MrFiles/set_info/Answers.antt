@@ -1,6 +1,6 @@
 use Rattle.std.proofs.Common.{◌≡◌, ◌∙◌, sym, ap, subst, rules, List, ℕ, ℤ, Option, Some, option_copied, SFits, to_z, of_z, w16}
 use Rattle.std.proofs.lemmas.Int.{to_z-of_z}
-use Rattle.mac_calls.specs.Outcomes.{Outcome, done_outcome}
+use Rattle.mac_base.specs.Outcomes.{Outcome, done_outcome}
 use Rattle.held_zone.specs.Told.{code_told}
 use Rattle.held_files.specs.Forks.{ForksState}
 use Rattle.held_files.specs.Info.{SetInfoTold, SetsInfo}

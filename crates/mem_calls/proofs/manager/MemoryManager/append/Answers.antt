@@ -2,8 +2,8 @@ use Rattle.std.proofs.Common.{◌≡◌, ◌+◌, ◌++◌, length, take, Some, 
 use Rattle.mac_base.specs.ZoneState.{ZoneState}
 use Rattle.mac_base.specs.HandleTable.{HandleTable, bytes_of, with_bytes}
 use Rattle.mac_base.specs.declared.request.Request.TheVariants.{Resize}
-use Rattle.mac_calls.specs.declared.memory_call.MemoryCall.TheVariants.{Append}
-use Rattle.mac_calls.specs.Outcomes.{done_outcome}
+use Rattle.mac_base.specs.declared.memory_call.MemoryCall.TheVariants.{Append}
+use Rattle.mac_base.specs.Outcomes.{done_outcome}
 use Rattle.mem_calls.proofs.Copies.{whole}
 use Rattle.mem_calls.proofs.KeptLoans.{kept}
 use Rattle.mem_calls.proofs.Stepping.{exact-copied, done_ends, step-exact}

@@ -1,9 +1,9 @@
 use Rattle.std.proofs.Common.{[], ◌∷◌, Ok, refl, ap}
 use Rattle.mac_base.specs.ZoneState.{ZoneState}
-use Rattle.mac_calls.specs.declared.memory_call.MemoryCall.TheVariants.{BlockMove}
-use Rattle.mac_calls.specs.declared.reply.Results.TheVariants.{Nothing}
-use Rattle.mac_calls.specs.Outcomes.{done_outcome}
-use Rattle.mac_calls.specs.Tests.{IsBlock, NotEmpty, NotLent, IsWithin}
+use Rattle.mac_base.specs.declared.memory_call.MemoryCall.TheVariants.{BlockMove}
+use Rattle.mac_base.specs.declared.reply.Results.TheVariants.{Nothing}
+use Rattle.mac_base.specs.Outcomes.{done_outcome}
+use Rattle.mac_base.specs.Tests.{IsBlock, NotEmpty, NotLent, IsWithin}
 use Rattle.mem_calls.proofs.KeptLoans.{kept}
 use Rattle.mem_calls.proofs.Passing.{passed-block_move, refused-first, refused-later}
 use Rattle.mem_calls.proofs.Stepping.{exact-done, both-refused, refused_outcome, step-exact}

@@ -1,8 +1,8 @@
 use Rattle.std.proofs.Common.{[], None, Ok, refl, ap}
 use Rattle.std.specs.Option.{option_or}
 use Rattle.mac_base.specs.ZoneState.{ZoneState}
-use Rattle.mac_calls.specs.declared.memory_call.MemoryCall.TheVariants.{CompactMem}
-use Rattle.mac_calls.specs.declared.reply.Results.TheVariants.{Number}
+use Rattle.mac_base.specs.declared.memory_call.MemoryCall.TheVariants.{CompactMem}
+use Rattle.mac_base.specs.declared.reply.Results.TheVariants.{Number}
 use Rattle.mem_calls.proofs.KeptLoans.{kept}
 use Rattle.mem_calls.proofs.Stepping.{exact-done, step-exact}
 use Rattle.mem_calls.proofs.manager.MemoryManager.compact_mem.Goals as goal

@@ -2,9 +2,9 @@ use Rattle.std.proofs.Common.{[], ◌∷◌, ◌≡◌, ◌+◌, ◌++◌, lengt
 use Rattle.mac_base.specs.ZoneState.{ZoneState}
 use Rattle.mac_base.specs.HandleTable.{HandleTable, bytes_of, with_bytes}
 use Rattle.mac_base.specs.declared.request.Request.TheVariants.{Resize}
-use Rattle.mac_calls.specs.declared.memory_call.MemoryCall.TheVariants.{HandAndHand}
-use Rattle.mac_calls.specs.Outcomes.{done_outcome}
-use Rattle.mac_calls.specs.Tests.{IsHandle, NotEmpty, NotLent}
+use Rattle.mac_base.specs.declared.memory_call.MemoryCall.TheVariants.{HandAndHand}
+use Rattle.mac_base.specs.Outcomes.{done_outcome}
+use Rattle.mac_base.specs.Tests.{IsHandle, NotEmpty, NotLent}
 use Rattle.mem_calls.proofs.Copies.{whole}
 use Rattle.mem_calls.proofs.KeptLoans.{kept}
 use Rattle.mem_calls.proofs.Passing.{passed-both, refused-first, refused-later}

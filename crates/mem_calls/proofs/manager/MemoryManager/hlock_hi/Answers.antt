@@ -4,8 +4,8 @@ use Rattle.mac_base.specs.HandleTable.{with_flags}
 use Rattle.mac_base.specs.Compaction.{moved_high}
 use Rattle.mac_base.specs.Heap.{with_map, with_table}
 use Rattle.mac_base.specs.ZoneState.{ZoneState}
-use Rattle.mac_calls.specs.declared.memory_call.MemoryCall.TheVariants.{HLockHi}
-use Rattle.mac_calls.specs.declared.reply.Results.TheVariants.{Nothing}
+use Rattle.mac_base.specs.declared.memory_call.MemoryCall.TheVariants.{HLockHi}
+use Rattle.mac_base.specs.declared.reply.Results.TheVariants.{Nothing}
 use Rattle.mem_calls.proofs.KeptLoans.{kept}
 use Rattle.mem_calls.proofs.Stepping.{exact-done, step-exact}
 use Rattle.mem_calls.proofs.manager.MemoryManager.hlock_hi.Goals as goal

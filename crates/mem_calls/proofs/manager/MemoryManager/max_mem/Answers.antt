@@ -4,8 +4,8 @@ use Rattle.mac_base.specs.ZoneMap.{ZoneMap, total_size, largest_free}
 use Rattle.mac_base.specs.Compaction.{all_down}
 use Rattle.mac_base.specs.Heap.{all_purged, with_map}
 use Rattle.mac_base.specs.ZoneState.{ZoneState}
-use Rattle.mac_calls.specs.declared.memory_call.MemoryCall.TheVariants.{MaxMem}
-use Rattle.mac_calls.specs.declared.reply.Results.TheVariants.{TwoNumbers}
+use Rattle.mac_base.specs.declared.memory_call.MemoryCall.TheVariants.{MaxMem}
+use Rattle.mac_base.specs.declared.reply.Results.TheVariants.{TwoNumbers}
 use Rattle.mem_calls.proofs.KeptLoans.{kept}
 use Rattle.mem_calls.proofs.Purged.{all_down-purged}
 use Rattle.mem_calls.proofs.Stepping.{exact-done, step-exact}

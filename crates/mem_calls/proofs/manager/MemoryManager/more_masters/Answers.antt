@@ -1,8 +1,8 @@
 use Rattle.std.proofs.Common.{refl, ap, ◌∙◌}
 use Rattle.mac_base.specs.ZoneState.{ZoneState}
-use Rattle.mac_calls.specs.declared.memory_call.MemoryCall.TheVariants.{MoreMasters}
+use Rattle.mac_base.specs.declared.memory_call.MemoryCall.TheVariants.{MoreMasters}
 use Rattle.mac_base.specs.declared.request.Request.TheVariants.{NewMaster}
-use Rattle.mac_calls.specs.Outcomes.{done_outcome}
+use Rattle.mac_base.specs.Outcomes.{done_outcome}
 use Rattle.mem_calls.proofs.KeptLoans.{kept}
 use Rattle.mem_calls.proofs.Stepping.{exact-requested, step-exact, done_ends, mapped_done}
 use Rattle.mem_calls.proofs.manager.MemoryManager.more_masters.Goals as goal

@@ -1,7 +1,7 @@
 use Rattle.std.proofs.Common.{[], Ok, refl, ap}
 use Rattle.mac_base.specs.ZoneState.{ZoneState}
-use Rattle.mac_calls.specs.declared.memory_call.MemoryCall.TheVariants.{MoveHHi}
-use Rattle.mac_calls.specs.declared.reply.Results.TheVariants.{Nothing}
+use Rattle.mac_base.specs.declared.memory_call.MemoryCall.TheVariants.{MoveHHi}
+use Rattle.mac_base.specs.declared.reply.Results.TheVariants.{Nothing}
 use Rattle.mem_calls.proofs.KeptLoans.{kept}
 use Rattle.mem_calls.proofs.Stepping.{exact-done, step-exact}
 use Rattle.mem_calls.proofs.manager.MemoryManager.move_hhi.Goals as goal

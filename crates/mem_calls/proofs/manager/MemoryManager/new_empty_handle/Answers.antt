@@ -1,8 +1,8 @@
 use Rattle.std.proofs.Common.{refl, ap, ◌∙◌}
 use Rattle.mac_base.specs.ZoneState.{ZoneState}
-use Rattle.mac_calls.specs.declared.memory_call.MemoryCall.TheVariants.{NewEmptyHandle}
+use Rattle.mac_base.specs.declared.memory_call.MemoryCall.TheVariants.{NewEmptyHandle}
 use Rattle.mac_base.specs.declared.request.Request.TheVariants.{NewEmpty}
-use Rattle.mac_calls.specs.Outcomes.{handle_outcome}
+use Rattle.mac_base.specs.Outcomes.{handle_outcome}
 use Rattle.mem_calls.proofs.KeptLoans.{kept}
 use Rattle.mem_calls.proofs.Stepping.{exact-requested, step-exact, handle_ends, mapped}
 use Rattle.mem_calls.proofs.manager.MemoryManager.new_empty_handle.Goals as goal

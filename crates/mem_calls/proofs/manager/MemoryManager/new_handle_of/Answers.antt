@@ -2,8 +2,8 @@ use Rattle.std.proofs.Common.{None, length, refl, ap, ◌∙◌}
 use Rattle.mac_base.specs.ZoneState.{ZoneState}
 use Rattle.std.specs.Option.{option_or}
 use Rattle.mac_base.specs.declared.request.Request.TheVariants.{NewBlock}
-use Rattle.mac_calls.specs.declared.memory_call.MemoryCall.TheVariants.{NewHandleOf}
-use Rattle.mac_calls.specs.Outcomes.{handle_outcome}
+use Rattle.mac_base.specs.declared.memory_call.MemoryCall.TheVariants.{NewHandleOf}
+use Rattle.mac_base.specs.Outcomes.{handle_outcome}
 use Rattle.mem_calls.proofs.KeptLoans.{kept}
 use Rattle.mem_calls.proofs.Stepping.{exact-copied, handle_ends, step-exact}
 use Rattle.mem_calls.proofs.manager.MemoryManager.new_handle_of.Goals as goal

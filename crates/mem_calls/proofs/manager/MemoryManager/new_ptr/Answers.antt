@@ -1,9 +1,9 @@
 use Rattle.std.proofs.Common.{refl, ap, ◌∙◌, None}
 use Rattle.mac_base.specs.ZoneState.{ZoneState}
 use Rattle.std.specs.Option.{option_or}
-use Rattle.mac_calls.specs.declared.memory_call.MemoryCall.TheVariants.{NewPtr}
+use Rattle.mac_base.specs.declared.memory_call.MemoryCall.TheVariants.{NewPtr}
 use Rattle.mac_base.specs.declared.request.Request.TheVariants.{NewPointer}
-use Rattle.mac_calls.specs.Outcomes.{pointer_outcome}
+use Rattle.mac_base.specs.Outcomes.{pointer_outcome}
 use Rattle.mem_calls.proofs.KeptLoans.{kept}
 use Rattle.mem_calls.proofs.Stepping.{exact-requested, step-exact, pointer_ends, mapped}
 use Rattle.mem_calls.proofs.manager.MemoryManager.new_ptr.Goals as goal

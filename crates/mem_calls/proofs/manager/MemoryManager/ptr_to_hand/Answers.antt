@@ -2,10 +2,10 @@ use Rattle.std.proofs.Common.{[], ◌∷◌, take, refl, ap, ◌∙◌}
 use Rattle.mac_base.specs.ZoneState.{ZoneState}
 use Rattle.mac_base.specs.HandleTable.{bytes_of}
 use Rattle.mac_base.specs.declared.request.Request.TheVariants.{NewBlock}
-use Rattle.mac_calls.specs.declared.memory_call.MemoryCall.TheVariants.{PtrToHand}
-use Rattle.mac_calls.specs.Outcomes.{handle_outcome}
+use Rattle.mac_base.specs.declared.memory_call.MemoryCall.TheVariants.{PtrToHand}
+use Rattle.mac_base.specs.Outcomes.{handle_outcome}
 use Rattle.mem_calls.proofs.KeptLoans.{kept}
-use Rattle.mac_calls.specs.Tests.{IsPointer, IsWithin, NotLent}
+use Rattle.mac_base.specs.Tests.{IsPointer, IsWithin, NotLent}
 use Rattle.mem_calls.proofs.Passing.{passed-both}
 use Rattle.mem_calls.proofs.Stepping.{exact-copied, handle_ends, step-exact}
 use Rattle.mem_calls.proofs.manager.MemoryManager.ptr_to_hand.Goals as goal

@@ -2,8 +2,8 @@ use Rattle.std.proofs.Common.{◌+◌, ◌++◌, take, Some, refl, ap, arith, �
 use Rattle.mac_base.specs.ZoneState.{ZoneState}
 use Rattle.mac_base.specs.HandleTable.{bytes_of}
 use Rattle.mac_base.specs.declared.request.Request.TheVariants.{Resize}
-use Rattle.mac_calls.specs.declared.memory_call.MemoryCall.TheVariants.{PtrToXHand}
-use Rattle.mac_calls.specs.Outcomes.{done_outcome}
+use Rattle.mac_base.specs.declared.memory_call.MemoryCall.TheVariants.{PtrToXHand}
+use Rattle.mac_base.specs.Outcomes.{done_outcome}
 use Rattle.mem_calls.proofs.KeptLoans.{kept}
 use Rattle.mem_calls.proofs.Stepping.{exact-copied, done_ends, step-exact}
 use Rattle.mem_calls.proofs.manager.MemoryManager.ptr_to_xhand.Goals as goal

@@ -2,8 +2,8 @@ use Rattle.std.proofs.Common.{[], cond, None, Ok, Err, refl, ap, sym, ◌∙◌}
 use Rattle.std.specs.Option.{option_or}
 use Rattle.mac_base.specs.declared.error.OsErr.TheVariants.{MemFullErr}
 use Rattle.mac_base.specs.ZoneState.{ZoneState}
-use Rattle.mac_calls.specs.declared.memory_call.MemoryCall.TheVariants.{PurgeMem}
-use Rattle.mac_calls.specs.declared.reply.Results.TheVariants.{Nothing}
+use Rattle.mac_base.specs.declared.memory_call.MemoryCall.TheVariants.{PurgeMem}
+use Rattle.mac_base.specs.declared.reply.Results.TheVariants.{Nothing}
 use Rattle.mem_calls.proofs.KeptLoans.{kept}
 use Rattle.mem_calls.proofs.Stepping.{exact-done, step-exact}
 use Rattle.mem_calls.proofs.manager.MemoryManager.purge_mem.Goals as goal

@@ -1,11 +1,11 @@
 use Rattle.std.proofs.Common.{[], ◌∷◌, refl, ap, ◌∙◌}
 use Rattle.mac_base.specs.ZoneState.{ZoneState}
 use Rattle.mem_calls.proofs.Passing.{passed-reallocate_handle, refused-first, refused-later}
-use Rattle.mac_calls.specs.declared.memory_call.MemoryCall.TheVariants.{ReallocateHandle}
+use Rattle.mac_base.specs.declared.memory_call.MemoryCall.TheVariants.{ReallocateHandle}
 use Rattle.mac_base.specs.declared.request.Request.TheVariants.{Replace}
-use Rattle.mac_calls.specs.Outcomes.{done_outcome}
+use Rattle.mac_base.specs.Outcomes.{done_outcome}
 use Rattle.mac_base.specs.declared.error.OsErr.TheVariants.{MemPurErr}
-use Rattle.mac_calls.specs.Tests.{IsHandle, NotLent, NotLocked, IsSize}
+use Rattle.mac_base.specs.Tests.{IsHandle, NotLent, NotLocked, IsSize}
 use Rattle.mem_calls.proofs.KeptLoans.{kept}
 use Rattle.mem_calls.proofs.Stepping.{refused_outcome, both-refused, exact-requested, step-exact, done_ends, mapped_done}
 use Rattle.mem_calls.proofs.manager.MemoryManager.reallocate_handle.Goals as goal

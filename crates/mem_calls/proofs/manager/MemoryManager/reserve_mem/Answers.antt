@@ -1,9 +1,9 @@
 use Rattle.std.proofs.Common.{refl, ap, None, ◌∙◌}
 use Rattle.mac_base.specs.ZoneState.{ZoneState}
 use Rattle.std.specs.Option.{option_or}
-use Rattle.mac_calls.specs.declared.memory_call.MemoryCall.TheVariants.{ReserveMem}
+use Rattle.mac_base.specs.declared.memory_call.MemoryCall.TheVariants.{ReserveMem}
 use Rattle.mac_base.specs.declared.request.Request.TheVariants.{Reserve}
-use Rattle.mac_calls.specs.Outcomes.{done_outcome}
+use Rattle.mac_base.specs.Outcomes.{done_outcome}
 use Rattle.mem_calls.proofs.KeptLoans.{kept}
 use Rattle.mem_calls.proofs.Stepping.{exact-requested, step-exact, done_ends, mapped_done}
 use Rattle.mem_calls.proofs.manager.MemoryManager.reserve_mem.Goals as goal

@@ -1,10 +1,10 @@
 use Rattle.std.proofs.Common.{[], ◌∷◌, refl, ap, ◌∙◌}
 use Rattle.mac_base.specs.ZoneState.{ZoneState}
 use Rattle.mem_calls.proofs.Passing.{passed-set_ptr_size, refused-first, refused-later}
-use Rattle.mac_calls.specs.declared.memory_call.MemoryCall.TheVariants.{SetPtrSize}
+use Rattle.mac_base.specs.declared.memory_call.MemoryCall.TheVariants.{SetPtrSize}
 use Rattle.mac_base.specs.declared.request.Request.TheVariants.{Resize}
-use Rattle.mac_calls.specs.Outcomes.{done_outcome}
-use Rattle.mac_calls.specs.Tests.{IsPointer, NotLent, IsSize}
+use Rattle.mac_base.specs.Outcomes.{done_outcome}
+use Rattle.mac_base.specs.Tests.{IsPointer, NotLent, IsSize}
 use Rattle.mem_calls.proofs.KeptLoans.{kept}
 use Rattle.mem_calls.proofs.Stepping.{refused_outcome, both-refused, exact-requested, step-exact, done_ends, mapped_done}
 use Rattle.mem_calls.proofs.manager.MemoryManager.set_ptr_size.Goals as goal

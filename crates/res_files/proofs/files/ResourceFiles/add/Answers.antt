@@ -3,7 +3,7 @@ use Rattle.std.specs.Option.{option_map_or}
 use Rattle.std.specs.Prelude.{IfSome}
 use Rattle.fork_bytes.specs.Fork.{max_rows}
 use Rattle.std.proofs.lemmas.Int.{to_z-of_z}
-use Rattle.fork_reader.specs.declared.place.Place.{Place}
+use Rattle.fork_bytes.specs.declared.place.Place.{Place}
 use Rattle.res_table.specs.declared.chain.ResourceTable.{ResourceTable}
 use Rattle.res_table.specs.declared.row.Row.{Row}
 use Rattle.res_table.specs.OpenFiles.{OpenFiles, rows_changed, table_of}
@@ -11,7 +11,7 @@ use Rattle.res_table.specs.Rows.{added}
 use Rattle.res_files.proofs.Mapped.{added-mapped, rows_changed-mapped}
 use Rattle.res_files.proofs.Stands.{stand_added}
 use Rattle.res_files.specs.Standing.{StandOn}
-use Rattle.res_calls.specs.Updates.{new_row}
+use Rattle.res_update.specs.Updates.{new_row}
 use Rattle.res_files.proofs.On.{bytes_in, open_there, room, changed, ok_then, either_way}
 use Rattle.res_files.proofs.files.ResourceFiles.add.Goals as goal
 

@@ -1,5 +1,5 @@
 use Rattle.std.proofs.Common.{sym, subst, map}
-use Rattle.fork_reader.specs.declared.place.Place.{Place}
+use Rattle.fork_bytes.specs.declared.place.Place.{Place}
 use Rattle.res_table.specs.OpenFiles.{OpenFiles, file_closed}
 use Rattle.res_files.proofs.Mapped.{closed-mapped}
 use Rattle.res_files.proofs.Stands.{stand_closed}

@@ -1,5 +1,5 @@
 use Rattle.std.proofs.Common.{sym, subst, map}
-use Rattle.fork_reader.specs.declared.place.Place.{Place}
+use Rattle.fork_bytes.specs.declared.place.Place.{Place}
 use Rattle.res_table.specs.OpenFiles.{OpenFiles, handle_forgotten}
 use Rattle.res_files.proofs.Mapped.{handle_forgotten-mapped}
 use Rattle.res_files.proofs.Stands.{stand_forgotten}

@@ -1,10 +1,10 @@
 use Rattle.std.proofs.Common.{◌≤◌, List, [], length, subst, sym, ap}
 use Rattle.fork_bytes.specs.Fork.{max_rows}
-use Rattle.fork_reader.specs.declared.place.Place.{Place}
+use Rattle.fork_bytes.specs.declared.place.Place.{Place}
 use Rattle.res_table.specs.declared.row.Row.{Row}
 use Rattle.res_table.specs.Rows.{added}
 use Rattle.res_table.specs.Saved.{bare}
-use Rattle.res_calls.specs.Fitting.{rows_fit}
+use Rattle.res_update.specs.Fitting.{rows_fit}
 use Rattle.res_files.proofs.Stands.{current_small}
 use Rattle.res_files.proofs.On.{asked_current}
 use Rattle.res_files.proofs.Room.{same_room, alone_fits}

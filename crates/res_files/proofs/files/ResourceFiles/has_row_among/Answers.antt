@@ -1,6 +1,6 @@
 use Rattle.std.proofs.Common.{map, refl, ap, ◌∙◌, sym, List, Some, None}
 use Rattle.std.specs.List.{list_any}
-use Rattle.res_calls.specs.Changes.{FileRow}
+use Rattle.res_update.specs.Changes.{FileRow}
 use Rattle.res_files.specs.Handles.{counts_among}
 use Rattle.res_files.proofs.Mapped.{any-mapped, mapped_row}
 use Rattle.res_files.proofs.NextHandle.{rows_seen}

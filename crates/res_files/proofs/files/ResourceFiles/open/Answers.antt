@@ -1,5 +1,5 @@
 use Rattle.std.proofs.Common.{◌-◌, ◌∙◌, length, sym, ap, subst, map, set, rules}
-use Rattle.fork_reader.specs.declared.place.Place.{Place}
+use Rattle.fork_bytes.specs.declared.place.Place.{Place}
 use Rattle.res_table.specs.OpenFiles.{OpenFiles}
 use Rattle.res_files.specs.Standing.{StandOn, files_on}
 use Rattle.res_files.proofs.Opened.{within, stand_kept, stand_more, closed_there, files_kept, seen_more, seen_refused, found_as_read, opens_store, on_err}

@@ -1,5 +1,5 @@
 use Rattle.std.proofs.Common.{sym, subst, map}
-use Rattle.fork_reader.specs.declared.place.Place.{Place}
+use Rattle.fork_bytes.specs.declared.place.Place.{Place}
 use Rattle.res_table.specs.OpenFiles.{OpenFiles, rows_changed}
 use Rattle.res_table.specs.Rows.{removed_at}
 use Rattle.res_files.proofs.Mapped.{removed-mapped, rows_changed-mapped}

@@ -2,14 +2,14 @@ use Rattle.std.proofs.Common.{◌≡◌, ◌≤◌, refl, sym, ap, ◌∙◌, su
 use Rattle.std.specs.Prelude.{IfSome}
 use Rattle.fork_bytes.specs.Fork.{max_rows}
 use Rattle.std.proofs.lemmas.Int.{to_z-of_z}
-use Rattle.fork_reader.specs.declared.place.Place.{Place}
+use Rattle.fork_bytes.specs.declared.place.Place.{Place}
 use Rattle.res_table.specs.declared.chain.ResourceTable.{ResourceTable}
 use Rattle.res_table.specs.OpenFiles.{OpenFiles, rows_changed, table_of}
 use Rattle.res_table.specs.Info.{with_info}
 use Rattle.res_table.specs.Rows.{changed_at}
 use Rattle.res_files.proofs.Mapped.{changed_at-mapped, rows_changed-mapped}
 use Rattle.res_files.proofs.Stands.{keeps_changed_at, stand_changed, table_stands}
-use Rattle.res_calls.specs.Changes.{row_changed}
+use Rattle.res_update.specs.Changes.{row_changed}
 use Rattle.res_files.specs.Standing.{StandOn}
 use Rattle.res_files.proofs.On.{bytes_in, row_there, changed, either_way, ok_then}
 use Rattle.res_files.proofs.files.ResourceFiles.set_info.Goals as goal

@@ -2,9 +2,9 @@ use Rattle.std.proofs.Common.{◌≡◌, ◌-◌, ◌∙◌, Ok, Err, length, sy
 use Rattle.std.specs.Prelude.{IsErrOf, IsFalse}
 use Rattle.std.proofs.lemmas.Bool.{false≢true}
 use Rattle.fork_disk.specs.declared.store.ReplaceFault.TheVariants.{BeforeFirstWrite, Later}
-use Rattle.fork_reader.specs.declared.place.Place.{Place}
+use Rattle.fork_bytes.specs.declared.place.Place.{Place}
 use Rattle.res_table.specs.OpenFiles.{rows_changed}
-use Rattle.res_calls.specs.Updates.{fits_fork}
+use Rattle.res_update.specs.Updates.{fits_fork}
 use Rattle.res_update.specs.Selected.{updated}
 use Rattle.res_update.specs.declared.fault.UpdateFault.{UpdateFault}
 use Rattle.res_update.specs.declared.fault.UpdateFault.TheVariants.{Device, HostFull, TooBig}

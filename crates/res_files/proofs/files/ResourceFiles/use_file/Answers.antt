@@ -1,5 +1,5 @@
 use Rattle.std.proofs.Common.{sym, subst}
-use Rattle.fork_reader.specs.declared.place.Place.{Place}
+use Rattle.fork_bytes.specs.declared.place.Place.{Place}
 use Rattle.res_table.specs.OpenFiles.{OpenFiles}
 use Rattle.res_files.proofs.Stands.{stand_used}
 use Rattle.res_files.specs.Standing.{StandOn}

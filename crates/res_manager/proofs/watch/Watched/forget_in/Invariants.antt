@@ -1,5 +1,5 @@
 use Rattle.std.specs.Prelude.{◌≡◌, drop}
-use Rattle.res_calls.specs.Changes.{handles_forgotten}
+use Rattle.res_update.specs.Changes.{handles_forgotten}
 use Rattle.res_manager.proofs.watch.Watched.forget_in.Given as goal
 
 abbrev pub invariant-loop-number : goal.invariant-loop-number

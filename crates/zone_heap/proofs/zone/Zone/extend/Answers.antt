@@ -3,7 +3,7 @@ use Rattle.mac_base.specs.Heap.{grown}
 use Rattle.mac_base.specs.Sound.{Sound}
 use Rattle.mac_base.specs.ZoneSizes.{ZoneSizes}
 use Rattle.mac_base.specs.ZoneState.{ZoneState, with_heap}
-use Rattle.gap_laws.proofs.SoundGrown.{sound-grown}
+use Rattle.zone_laws.proofs.SoundGrown.{sound-grown}
 use Rattle.zone_heap.specs.Joins.{NewlyFree, all_joined}
 use Rattle.zone_heap.proofs.Loans.{changed-loans, changed-fixed}
 use Rattle.zone_heap.proofs.Extending.{keeps-grown, extended-newly, grown-full}

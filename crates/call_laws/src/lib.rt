@@ -1,7 +1,0 @@
-//! Laws of the calls: their refusals and their steps, worked rows, and what is promised of a zone from any moment of a run of calls to any
-//! later one, in the words of who uses handles and pointers.
-#![tactic(auto)]
-
-mod laws;
-
-pub use laws::heap_laws;

@@ -1,2 +1,0 @@
-pub mod Grouping
-pub mod Lining

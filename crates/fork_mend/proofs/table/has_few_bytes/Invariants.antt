@@ -1,6 +1,0 @@
-use Rattle.std.proofs.Common.{◌≡◌, ◌≤◌, ◌*◌, take}
-use Rattle.fork_mend.specs.Salvaged.{byte_count}
-use Rattle.fork_mend.proofs.table.has_few_bytes.Given as goal
-
-abbrev pub invariant-loop-row : goal.invariant-loop-row
-invariant-loop-row l = (l.total ≡ byte_count (take l.row-index l.rows)) × (l.total ≤ 16777220 * l.row-index)

@@ -1,3 +1,0 @@
-pub mod Salvaged
-pub mod Lines
-pub mod Warnings

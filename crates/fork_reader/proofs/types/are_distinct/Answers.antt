@@ -1,5 +1,0 @@
-use Rattle.fork_reader.proofs.Distinct.{distinct_by_count}
-use Rattle.fork_reader.proofs.types.are_distinct.Goals as goal
-
-pub returns : goal.returns
-returns c = distinct_by_count c.args.kinds.now c.in_ok-set_of.field-0 c.len.result c.in_ok-set_of.ensures c.len.ensures.len

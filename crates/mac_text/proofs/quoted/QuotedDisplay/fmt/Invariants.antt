@@ -1,9 +1,0 @@
-use Rattle.std.proofs.Common.{take}
-use Rattle.std.specs.List.{flat_map}
-use Rattle.std.specs.Fmt.{HasWritten, IsPlainFormatter}
-use Rattle.mac_text.specs.Quoted.{escaped}
-use Rattle.mac_text.proofs.quoted.QuotedDisplay.fmt.Given as goal
-
-abbrev pub invariant-loop-byte : goal.invariant-loop-byte
-invariant-loop-byte g l =
-    IsPlainFormatter l.initial.f → HasWritten g.W.Write.write_str_gives l.initial.f (flat_map (escaped l.fn.self.letters l.fn.self.quote) (take l.byte-index l.byte-items)) l.f

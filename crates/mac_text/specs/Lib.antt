@@ -1,4 +1,0 @@
-pub mod Roman
-pub mod Quoted
-pub mod Strings
-pub mod Versions

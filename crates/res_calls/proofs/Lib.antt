@@ -1,4 +1,0 @@
-pub mod Answering
-pub mod Seeking
-mod Running
-mod Worked

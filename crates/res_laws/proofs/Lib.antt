@@ -1,4 +1,0 @@
-pub mod Acts
-pub mod Forks
-pub mod Functional
-pub mod Tools

@@ -1,6 +1,0 @@
-use Rattle.zone_gaps.proofs.Around.{Partly}
-use Rattle.zone_gaps.proofs.arrange.squeeze_all_down.Given as goal
-
--- some gaps are arranged down
-abbrev pub invariant-gaps : goal.invariant-gaps
-invariant-gaps l = Partly l.fn.zone l.zone
