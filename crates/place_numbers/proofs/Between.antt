@@ -1,4 +1,4 @@
--- Marks that are looked for in 32 places at once.
+-- Marks that are looked for in 64 places at once.
 use Rattle.std.proofs.Common.{◌≡◌, ℕ, List, ◌+◌, ◌-◌, ◌<◌, ◌≤◌, inl, inr, length, get_or, arith}
 use Rattle.std.specs.Int.{bit_at}
 use Rattle.std.proofs.lemmas.Bool.{cases_lt}
@@ -7,9 +7,9 @@ use Rattle.place_numbers.specs.Numbers.{FirstAtLeast}
 use Rattle.place_numbers.proofs.Moved.{same-place}
 
 module _ (xs : List ℕ) (from place m : ℕ) (order : from ≤ place) (none : (j : ℕ) → from ≤ j → j < place → get_or xs j 0 < 1)
-    (read : (i : ℕ) → i < 32 → bit_at m i ≡ get_or xs (place + i) 0) where
+    (read : (i : ℕ) → i < 64 → bit_at m i ≡ get_or xs (place + i) 0) where
   -- no mark comes before the first bit that isn't 0
-  pub none-to : (k : ℕ) → k ≤ 32 → ((i : ℕ) → i < k → bit_at m i ≡ 0) → (j : ℕ) → from ≤ j → j < place + k → get_or xs j 0 < 1
+  pub none-to : (k : ℕ) → k ≤ 64 → ((i : ℕ) → i < k → bit_at m i ≡ 0) → (j : ℕ) → from ≤ j → j < place + k → get_or xs j 0 < 1
   none-to k few zeros j past low = elim (cases_lt j place) [
     | inl before ↦ none j past before
     | inr here ↦

@@ -52,7 +52,7 @@ module _ (xs ys : List ℕ) (from place : ℕ) (done : IsCleared xs ys from plac
   }
 
   -- and some are written
-  pub more-cleared : (zs : List ℕ) (n : ℕ) → from ≤ place → n < 33 → AreWritten ys zs place n 0 → IsCleared xs zs from (place + n)
+  pub more-cleared : (zs : List ℕ) (n : ℕ) → from ≤ place → n < 65 → AreWritten ys zs place n 0 → IsCleared xs zs from (place + n)
   more-cleared zs n order few put = record {
     len = put.len ∙ done.len;
     below = λ j low. put.before j (omega arith) ∙ done.below j low;
@@ -64,7 +64,7 @@ module _ (xs ys : List ℕ) (from place : ℕ) (done : IsCleared xs ys from plac
   }
 
 -- marks of a word that are read at one place and written at another are copied
-pub copied-word : (xs ys : List ℕ) (from to n m : ℕ) → n < 33 → from + n ≤ length xs → to + n ≤ length xs → ((i : ℕ) → i < 32 → bit_at m i ≡ get_or xs (from + i) 0)
+pub copied-word : (xs ys : List ℕ) (from to n m : ℕ) → n < 65 → from + n ≤ length xs → to + n ≤ length xs → ((i : ℕ) → i < 64 → bit_at m i ≡ get_or xs (from + i) 0)
     → AreWritten xs ys to n m → ys ≡ copied from to n xs
 copied-word xs ys from to n m few from-in to-in read put =
     only-copied xs ys (copied from to n xs) from to n

@@ -1,5 +1,5 @@
 -- What bits of words say of the marks.
-use Rattle.std.proofs.Common.{◌≡◌, ◌≢◌, ℕ, [], zero, Bool, true, false, not, nat_eq, List, replicate, refl, sym, ap, ◌∙◌, ◌+◌, ◌-◌, ◌*◌, ◌/◌, ◌%◌, ◌^◌, ◌<◌, ◌≤◌, suc, inl, inr, ◌⊎◌, length, get_or, arith, get_or-set_same, get_or-set_other, length-set, w32}
+use Rattle.std.proofs.Common.{◌≡◌, ◌≢◌, ℕ, [], zero, Bool, true, false, not, nat_eq, List, replicate, refl, sym, ap, ◌∙◌, ◌+◌, ◌-◌, ◌*◌, ◌/◌, ◌%◌, ◌^◌, ◌<◌, ◌≤◌, suc, inl, inr, ◌⊎◌, length, get_or, arith, get_or-set_same, get_or-set_other, length-set, w64}
 use Rattle.std.proofs.Math.ListN.{set}
 use Rattle.std.specs.Int.{bit_at, from_bool, trailing_zeros}
 use Rattle.std.specs.Int.RustNames.{bit_and}
@@ -19,16 +19,16 @@ shifted-bit n k i = ap (λ (m : ℕ). m % 2) (shr-shr n k i)
 later-bit : (n k i : ℕ) → k ≤ i → bit_at n i ≡ bit_at (n / 2 ^ k) (i - k)
 later-bit n k i from = let is : k + (i - k) ≡ i = omega arith in sym (shifted-bit n k (i - k) ∙ ap (bit_at n) is)
 
-pub first-bit : (n from t : ℕ) → n < 2 ^ 32 → 0 < n / 2 ^ from → n / 2 ^ from < 2 ^ 32 → t ≡ trailing_zeros w32 (n / 2 ^ from) → FirstBit n from (from + t)
+pub first-bit : (n from t : ℕ) → n < 2 ^ 64 → 0 < n / 2 ^ from → n / 2 ^ from < 2 ^ 64 → t ≡ trailing_zeros w64 (n / 2 ^ from) → FirstBit n from (from + t)
 first-bit n from t small some rest is =
-    let found = bit_at-trailing_zeros w32 (n / 2 ^ from) some rest in
+    let found = bit_at-trailing_zeros w64 (n / 2 ^ from) some rest in
     let one : bit_at n (from + t) ≡ 1 = sym (shifted-bit n from t) ∙ ap (bit_at (n / 2 ^ from)) is ∙ found.1 in
     record {
       inside = (
         omega arith,
-        elim (cases_lt (from + t) 32) [
+        elim (cases_lt (from + t) 64) [
           | inl low ↦ low
-          | inr high ↦ let none = bit_at_above n 32 (from + t) small high in absurd (omega arith)
+          | inr high ↦ let none = bit_at_above n 64 (from + t) small high in absurd (omega arith)
         ],
       );
       one = one;
@@ -92,9 +92,9 @@ pub has-none : (n : ℕ) → not (nat_eq n 0) ≡ false → n ≡ 0
 has-none n is = eqb-true n 0 (turned (nat_eq n 0) false is)
 
 -- a place in a word
-pub place-in : (words : List ℕ) (w b j : ℕ) → b < 32 → j ≡ w * 32 + b → bit_of words j ≡ bit_at (get_or words w 0) b
+pub place-in : (words : List ℕ) (w b j : ℕ) → b < 64 → j ≡ w * 64 + b → bit_of words j ≡ bit_at (get_or words w 0) b
 place-in words w b j small is =
-    let word : j / 32 ≡ w = omega arith in let bit : j % 32 ≡ b = omega arith in
+    let word : j / 64 ≡ w = omega arith in let bit : j % 64 ≡ b = omega arith in
     (λ i. bit_at (get_or words (word i) 0) (bit i))
 
 pub length-bits : (words : List ℕ) (count : ℕ) → length (bits_of words count) ≡ count
@@ -105,7 +105,7 @@ at words count j inside = get_or-map-range_with_len (bit_of words) 0 count j j 0
 
 -- no words are no marks
 pub no-bit-of : (j : ℕ) → bit_of [] j ≡ 0
-no-bit-of j = bit_at-zero (j % 32)
+no-bit-of j = bit_at-zero (j % 64)
 
 pub no-marks : (count : ℕ) → bits_of [] count ≡ replicate count 0
 no-marks count =
@@ -125,7 +125,7 @@ module _ (words : List ℕ) (count : ℕ) (past : (j : ℕ) → count ≤ j → 
   ]
 
   -- the mark at a place of a word
-  pub in-word : (w b j : ℕ) → b < 32 → j ≡ w * 32 + b → get_or now j 0 ≡ bit_at (get_or words w 0) b
+  pub in-word : (w b j : ℕ) → b < 64 → j ≡ w * 64 + b → get_or now j 0 ≡ bit_at (get_or words w 0) b
   in-word w b j small is = value j ∙ place-in words w b j small is
 
   marked-inside : (j : ℕ) → get_or now j 0 ≡ 1 → j < length now
@@ -134,79 +134,99 @@ module _ (words : List ℕ) (count : ℕ) (past : (j : ℕ) → count ≤ j → 
     | inr end ↦ let none = get_or_past now j 0 end in absurd (omega arith)
   ]
 
-  pub first-in : (from b n : ℕ) → n ≡ get_or words (from / 32) 0 → FirstBit n (from % 32) b → FirstAtLeast now 1 from (from / 32 * 32 + b)
+  pub first-in : (from b n : ℕ) → n ≡ get_or words (from / 64) 0 → FirstBit n (from % 64) b → FirstAtLeast now 1 from (from / 64 * 64 + b)
   first-in from b n is it =
       let within = it.inside in
-      let one : get_or now (from / 32 * 32 + b) 0 ≡ 1 = in-word (from / 32) b (from / 32 * 32 + b) within.1 refl ∙ ap (λ (m : ℕ). bit_at m b) (sym is) ∙ it.one in
+      let one : get_or now (from / 64 * 64 + b) 0 ≡ 1 = in-word (from / 64) b (from / 64 * 64 + b) within.1 refl ∙ ap (λ (m : ℕ). bit_at m b) (sym is) ∙ it.one in
       record {
-        inside = (omega arith, marked-inside (from / 32 * 32 + b) one);
+        inside = (omega arith, marked-inside (from / 64 * 64 + b) one);
         large = omega arith;
         first = λ j after below.
-            let i = j - from / 32 * 32 in
-            let none = in-word (from / 32) i j (omega arith) (omega arith) ∙ ap (λ (m : ℕ). bit_at m i) (sym is) ∙ it.first i (omega arith) (omega arith) in
+            let i = j - from / 64 * 64 in
+            let none = in-word (from / 64) i j (omega arith) (omega arith) ∙ ap (λ (m : ℕ). bit_at m i) (sym is) ∙ it.first i (omega arith) (omega arith) in
             omega (arith, none);
       }
 
-  pub none-in : (from n : ℕ) → n ≡ get_or words (from / 32) 0 → ((i : ℕ) → from % 32 ≤ i → bit_at n i ≡ 0) → (j : ℕ) → from ≤ j → j / 32 ≡ from / 32 → get_or now j 0 < 1
+  pub none-in : (from n : ℕ) → n ≡ get_or words (from / 64) 0 → ((i : ℕ) → from % 64 ≤ i → bit_at n i ≡ 0) → (j : ℕ) → from ≤ j → j / 64 ≡ from / 64 → get_or now j 0 < 1
   none-in from n is clear j after same =
-      let i = j - from / 32 * 32 in
-      let none = in-word (from / 32) i j (omega arith) (omega arith) ∙ ap (λ (m : ℕ). bit_at m i) (sym is) ∙ clear i (omega arith) in omega (arith, none)
+      let i = j - from / 64 * 64 in
+      let none = in-word (from / 64) i j (omega arith) (omega arith) ∙ ap (λ (m : ℕ). bit_at m i) (sym is) ∙ clear i (omega arith) in omega (arith, none)
 
-  pub last-in : (end w b n : ℕ) → n ≡ get_or words w 0 → w * 32 ≤ end → end ≤ w * 32 + 32 → LastBit n (end - w * 32) b → LastAtLeast now 1 end (w * 32 + b)
+  pub last-in : (end w b n : ℕ) → n ≡ get_or words w 0 → w * 64 ≤ end → end ≤ w * 64 + 64 → LastBit n (end - w * 64) b → LastAtLeast now 1 end (w * 64 + b)
   last-in end w b n is low high it =
       let within = it.inside in
-      let one : get_or now (w * 32 + b) 0 ≡ 1 = in-word w b (w * 32 + b) (omega arith) refl ∙ ap (λ (m : ℕ). bit_at m b) (sym is) ∙ it.one in
+      let one : get_or now (w * 64 + b) 0 ≡ 1 = in-word w b (w * 64 + b) (omega arith) refl ∙ ap (λ (m : ℕ). bit_at m b) (sym is) ∙ it.one in
       record {
         inside = omega arith;
         large = omega arith;
         last = λ j above below.
-            let i = j - w * 32 in
+            let i = j - w * 64 in
             let none = in-word w i j (omega arith) (omega arith) ∙ ap (λ (m : ℕ). bit_at m i) (sym is) ∙ it.last i (omega arith) (omega arith) in
             omega (arith, none);
       }
 
-  pub none-before : (end w n : ℕ) → n ≡ get_or words w 0 → ((i : ℕ) → i < end - w * 32 → bit_at n i ≡ 0) → (j : ℕ) → j < end → j / 32 ≡ w → get_or now j 0 < 1
+  pub none-before : (end w n : ℕ) → n ≡ get_or words w 0 → ((i : ℕ) → i < end - w * 64 → bit_at n i ≡ 0) → (j : ℕ) → j < end → j / 64 ≡ w → get_or now j 0 < 1
   none-before end w n is clear j below same =
-      let i = j - w * 32 in
+      let i = j - w * 64 in
       let none = in-word w i j (omega arith) (omega arith) ∙ ap (λ (m : ℕ). bit_at m i) (sym is) ∙ clear i (omega arith) in omega (arith, none)
 
-  -- 32 marks from a place on
-  pub read-marks : (place n : ℕ) → ((i : ℕ) → place % 32 + i < 32 → bit_at n i ≡ bit_at (get_or words (place / 32) 0) (place % 32 + i))
-      → ((i : ℕ) → 32 ≤ place % 32 + i → i < 32 → bit_at n i ≡ bit_at (get_or words (place / 32 + 1) 0) (place % 32 + i - 32))
-      → (i : ℕ) → i < 32 → bit_at n i ≡ get_or now (place + i) 0
-  read-marks place n here there i low = elim (cases_lt (place % 32 + i) 32) [
-    | inl first ↦ here i first ∙ sym (in-word (place / 32) (place % 32 + i) (place + i) first (omega arith))
-    | inr next ↦ there i next low ∙ sym (in-word (place / 32 + 1) (place % 32 + i - 32) (place + i) (omega arith) (omega arith))
+  -- whether a word has any mark
+  pub has-mark : (w n : ℕ) → n ≡ get_or words w 0 → n < 2 ^ 64 → not (nat_eq n 0) ≡ true → HasMark now w
+  has-mark w n word small is =
+      let t = trailing_zeros w64 n in let found = bit_at-trailing_zeros w64 n (has-some n is) small in
+      let low : t < 64 = elim (cases_lt t 64) [
+        | inl below ↦ below
+        | inr high ↦ let none = bit_at_above n 64 t small high in let one = found.1 in absurd (omega arith)
+      ] in
+      record {
+        place = w * 64 + t;
+        here = omega arith;
+        one = let one = found.1 in let there = in-word w t (w * 64 + t) low refl ∙ ap (λ (m : ℕ). bit_at m t) (sym word) in omega arith;
+      }
+
+  pub has-no-mark : (w n : ℕ) → n ≡ get_or words w 0 → not (nat_eq n 0) ≡ false → (j : ℕ) → j / 64 ≡ w → get_or now j 0 < 1
+  has-no-mark w n word is j same =
+      let i = j - w * 64 in
+      let there = in-word w i j (omega arith) (omega arith) ∙ ap (λ (m : ℕ). bit_at m i) (sym word ∙ has-none n is) ∙ bit_at-zero i in
+      omega (arith, there)
+
+  -- 64 marks from a place on
+  pub read-marks : (place n : ℕ) → ((i : ℕ) → place % 64 + i < 64 → bit_at n i ≡ bit_at (get_or words (place / 64) 0) (place % 64 + i))
+      → ((i : ℕ) → 64 ≤ place % 64 + i → i < 64 → bit_at n i ≡ bit_at (get_or words (place / 64 + 1) 0) (place % 64 + i - 64))
+      → (i : ℕ) → i < 64 → bit_at n i ≡ get_or now (place + i) 0
+  read-marks place n here there i low = elim (cases_lt (place % 64 + i) 64) [
+    | inl first ↦ here i first ∙ sym (in-word (place / 64) (place % 64 + i) (place + i) first (omega arith))
+    | inr next ↦ there i next low ∙ sym (in-word (place / 64 + 1) (place % 64 + i - 64) (place + i) (omega arith) (omega arith))
   ]
 
 -- a word with other marks at k places from one on
 pub record IsWrite (words ys : List ℕ) (count place k n m : ℕ) : Type 0 where
   pub past : (j : ℕ) → count ≤ j → bit_of words j ≡ 0
   pub some : 0 < k
-  pub fits : place % 32 + k ≤ 32
+  pub fits : place % 64 + k ≤ 64
   pub inside : place + k ≤ count
-  pub word : get_or ys (place / 32) 0 ≡ n
-  pub apart : (j : ℕ) → j ≢ place / 32 → get_or ys j 0 ≡ get_or words j 0
-  pub here : (i : ℕ) → i < k → bit_at n (place % 32 + i) ≡ bit_at m i
-  pub before : (i : ℕ) → i < place % 32 → bit_at n i ≡ bit_at (get_or words (place / 32) 0) i
-  pub behind : (i : ℕ) → place % 32 + k ≤ i → i < 32 → bit_at n i ≡ bit_at (get_or words (place / 32) 0) i
+  pub word : get_or ys (place / 64) 0 ≡ n
+  pub apart : (j : ℕ) → j ≢ place / 64 → get_or ys j 0 ≡ get_or words j 0
+  pub here : (i : ℕ) → i < k → bit_at n (place % 64 + i) ≡ bit_at m i
+  pub before : (i : ℕ) → i < place % 64 → bit_at n i ≡ bit_at (get_or words (place / 64) 0) i
+  pub behind : (i : ℕ) → place % 64 + k ≤ i → i < 64 → bit_at n i ≡ bit_at (get_or words (place / 64) 0) i
 
 module _ (words ys : List ℕ) (count place k n m : ℕ) (write : IsWrite words ys count place k n m) where
   in-it : (i : ℕ) → i < k → bit_of ys (place + i) ≡ bit_at m i
   in-it i low =
-      let fits = write.fits in let there : (place + i) / 32 ≡ place / 32 = omega arith in let bit : (place + i) % 32 ≡ place % 32 + i = omega arith in
-      (λ t. bit_at (get_or ys (there t) 0) (bit t)) ∙ ap (λ (w : ℕ). bit_at w (place % 32 + i)) write.word ∙ write.here i low
+      let fits = write.fits in let there : (place + i) / 64 ≡ place / 64 = omega arith in let bit : (place + i) % 64 ≡ place % 64 + i = omega arith in
+      (λ t. bit_at (get_or ys (there t) 0) (bit t)) ∙ ap (λ (w : ℕ). bit_at w (place % 64 + i)) write.word ∙ write.here i low
 
   beside : (j : ℕ) → (j < place) ⊎ (place + k ≤ j) → bit_of ys j ≡ bit_of words j
-  beside j away = elim (cases_eq (j / 32) (place / 32)) [
+  beside j away = elim (cases_eq (j / 64) (place / 64)) [
     | inl same ↦
-        (λ t. bit_at (get_or ys (same t) 0) (j % 32)) ∙ ap (λ (w : ℕ). bit_at w (j % 32)) write.word
+        (λ t. bit_at (get_or ys (same t) 0) (j % 64)) ∙ ap (λ (w : ℕ). bit_at w (j % 64)) write.word
         ∙ (elim away [
-          | inl low ↦ write.before (j % 32) (omega arith)
-          | inr after ↦ write.behind (j % 32) (omega arith) (omega arith)
+          | inl low ↦ write.before (j % 64) (omega arith)
+          | inr after ↦ write.behind (j % 64) (omega arith) (omega arith)
         ])
-        ∙ (λ t. bit_at (get_or words (sym same t) 0) (j % 32))
-    | inr other ↦ ap (λ (w : ℕ). bit_at w (j % 32)) (write.apart (j / 32) other)
+        ∙ (λ t. bit_at (get_or words (sym same t) 0) (j % 64))
+    | inr other ↦ ap (λ (w : ℕ). bit_at w (j % 64)) (write.apart (j / 64) other)
   ]
 
   pub still-none : (j : ℕ) → count ≤ j → bit_of ys j ≡ 0
@@ -227,27 +247,24 @@ module _ (words ys : List ℕ) (count place k n m : ℕ) (write : IsWrite words 
       new = value ys count still-none (bits_of ys count) refl
 
   -- whether the word has a mark now
-  marked : (b : ℕ) → b < 32 → get_or (bits_of ys count) (place / 32 * 32 + b) 0 ≡ bit_at n b
-  marked b low = in-word ys count still-none (bits_of ys count) refl (place / 32) b (place / 32 * 32 + b) low refl ∙ ap (λ (w : ℕ). bit_at w b) write.word
+  pub some-mark : n < 2 ^ 64 → not (nat_eq n 0) ≡ true → HasMark (bits_of ys count) (place / 64)
+  some-mark = has-mark ys count still-none (bits_of ys count) refl (place / 64) n (sym write.word)
 
-  pub some-mark : n < 2 ^ 32 → not (nat_eq n 0) ≡ true → HasMark (bits_of ys count) (place / 32)
-  some-mark small is =
-      let t = trailing_zeros w32 n in let found = bit_at-trailing_zeros w32 n (has-some n is) small in
-      let low : t < 32 = elim (cases_lt t 32) [
-        | inl below ↦ below
-        | inr high ↦ let none = bit_at_above n 32 t small high in let one = found.1 in absurd (omega arith)
-      ] in
-      record {
-        place = place / 32 * 32 + t;
-        here = omega arith;
-        one = let one = found.1 in let there = marked t low in omega arith;
-      }
+  pub none-marked : not (nat_eq n 0) ≡ false → (j : ℕ) → j / 64 ≡ place / 64 → get_or (bits_of ys count) j 0 < 1
+  none-marked = has-no-mark ys count still-none (bits_of ys count) refl (place / 64) n (sym write.word)
 
-  pub none-marked : not (nat_eq n 0) ≡ false → (j : ℕ) → j / 32 ≡ place / 32 → get_or (bits_of ys count) j 0 < 1
-  none-marked is j same =
-      let i = j - place / 32 * 32 in
-      let there = in-word ys count still-none (bits_of ys count) refl (place / 32) i j (omega arith) (omega arith) ∙ ap (λ (w : ℕ). bit_at w i) (write.word ∙ has-none n is) ∙ bit_at-zero i in
-      omega (arith, there)
+-- the lowest bit of a mark
+pub lowest : (b : Bool) → bit_at (from_bool b) 0 ≡ mark_of b
+lowest true = refl
+lowest false = refl
+
+pub is-marked : (b : Bool) → mark_of b ≡ 1 → b ≡ true
+is-marked true is = refl
+is-marked false is = absurd (omega arith)
+
+pub is-not-marked : (b : Bool) → mark_of b ≡ 0 → b ≡ false
+is-not-marked true is = absurd (omega arith)
+is-not-marked false is = refl
 
 -- one mark that is written
 pub set-written : (xs ys : List ℕ) (p m : ℕ) (b : Bool) → p < length xs → m ≡ from_bool b → AreWritten xs ys p 1 m → ys ≡ set xs p (mark_of b)
@@ -258,7 +275,3 @@ set-written xs ys p m b inside is put = ext_get_or 0 ys (set xs p (mark_of b)) (
     | inr high ↦ let apart : j ≢ p = other in put.behind j (omega arith)
   ]) ∙ sym (get_or-set_other xs p j (mark_of b) 0 other)
 ])
-  where
-    lowest : (b : Bool) → bit_at (from_bool b) 0 ≡ mark_of b
-    lowest true = refl
-    lowest false = refl

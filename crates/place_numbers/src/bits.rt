@@ -12,8 +12,8 @@ mod copies;
 /// After `create` no call takes memory of the host.
 #[derive(Drop)]
 pub struct Bits {
-    /// Each row over another has a mark for each of its words that has any, so that a search passes over 32, 1,024 or
-    /// 32,768 places without a mark in one step.
+    /// Each row over another has a mark for each of its words that has any, so that a search passes over 64, 4,096 or
+    /// 262,144 places without a mark in one step.
     levels: Level<Level<Level<Words>>>,
 }
 
@@ -84,10 +84,9 @@ impl Bits {
         while place < end {
             let left = end - place;
             if let Some(bit) = first_bit(self.read(place), 0) {
-                let bit = bit as usize;
                 return if bit < left { Some(place + bit) } else { None };
             }
-            place = self.pass(place + left.min(32), end);
+            place = self.pass(place + left.min(64), end);
         }
         None
     }

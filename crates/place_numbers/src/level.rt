@@ -1,13 +1,18 @@
 //! Rows of marks, each with a row above it that notes which of its words have any.
 
-ghost use Rattle.std.specs.Prelude.{◌≡◌, ℕ, ◌+◌, ◌%◌, ◌≤◌, ◌<◌, ◌^◌, List, length, slice_index, set, replicate, IfOk, IfSome, IfNone};
+ghost use Rattle.std.specs.Prelude.{◌≡◌, ℕ, ◌+◌, ◌-◌, ◌/◌, ◌%◌, ◌≤◌, ◌<◌, ◌^◌, List, length, slice_index, set, replicate, IfOk, IfSome, IfNone};
 ghost use Rattle.std.specs.Int.{bit_at};
-ghost use Rattle.place_numbers.specs.Bits.{mark_of, AreWritten};
+ghost use Rattle.place_numbers.specs.Bits.{mark_of, AreWritten, AreNotedAt};
 ghost use Rattle.place_numbers.specs.Numbers.{FirstAtLeast, LastAtLeast};
+ghost use Rattle.place_numbers.specs.Shifted.{copied};
 
 use crate::words::Words;
 use std::alloc::{AllocError, Global};
 use std::marker::Model;
+
+/// So many places, from a multiple of this number on, are a group: its words have their marks in one word of the row
+/// above.
+pub const GROUP: usize = 1024;
 
 /// A mark or none at each of so many places, from 0 on.
 pub trait Marks: Drop {
@@ -24,10 +29,12 @@ pub trait Marks: Drop {
         requires { place < length (marks self.now) }
         ensures { mark_of result ≡ slice_index (marks self.now) place };
 
-    /// Puts a mark at a place, or takes it away.
-    fn set(&mut self, place: usize, marked: bool)
-        requires { place < length (marks self.old) }
-        ensures { marks self.new ≡ set (marks self.old) place (mark_of marked) };
+    /// Puts the marks of `count` places of one word, the first that of the lowest bit.
+    fn put(&mut self, place: usize, count: usize, bits: u64)
+        requires some { 0 < count }
+        requires word { place % 64 + count ≤ 64 }
+        requires inside { place + count ≤ length (marks self.old) }
+        ensures { AreWritten (marks self.old) (marks self.new) place count bits };
 
     /// The first place with a mark, `from` or after it.
     fn first_from(&self, from: usize) -> Option<usize>
@@ -66,8 +73,22 @@ fn note<U: Marks>(used: &mut U, word: usize, some: bool)
     ensures { U.marks used.new ≡ set (U.marks used.old) word (mark_of some) }
 {
     if used.get(word) != some {
-        used.set(word, some);
+        used.put(word, 1, u64::from(some));
     }
+}
+
+/// Notes which words have a mark of those with these places.
+fn note_words<U: Marks>(words: &Words, used: &mut U, place: usize, count: usize)
+    requires some { 0 < count }
+    requires group { place % 1024 + count ≤ 1024 }
+    requires inside { place + count ≤ length words.now }
+    requires noted { length (U.marks used.old) ≡ length words.now / 64 + 1 }
+    ensures { AreNotedAt words.now (U.marks used.old) (U.marks used.new) (place / 64) ((place + count - 1) / 64) }
+{
+    let _len = words.len();
+    let word = place / 64;
+    let count = (place + count - 1) / 64 - word + 1;
+    used.put(word, count, words.used(word, count));
 }
 
 impl<U: Marks> Level<U> {
@@ -78,22 +99,44 @@ impl<U: Marks> Level<U> {
         self.words.len()
     }
 
-    /// The marks of 32 places, from one on, the lowest bit that of the first. After the last place there are none.
-    pub fn read(&self, place: usize) -> u32
-        ensures { (i : ℕ) → i < 32 → bit_at result i ≡ slice_index self.now (place + i) }
+    /// The marks of 64 places, from one on, the lowest bit that of the first. After the last place there are none.
+    pub fn read(&self, place: usize) -> u64
+        ensures { (i : ℕ) → i < 64 → bit_at result i ≡ slice_index self.now (place + i) }
     {
         self.words.read(place)
     }
 
-    /// Writes the marks of `count` places of one word, the first that of the lowest bit.
-    pub fn write(&mut self, place: usize, count: usize, marks: u32)
-        requires some { 0 < count }
-        requires word { place % 32 + count ≤ 32 }
-        requires inside { place + count ≤ length self.old }
-        ensures { AreWritten self.old self.new place count marks }
+    /// Puts a mark at a place, or takes it away.
+    pub fn set(&mut self, place: usize, marked: bool)
+        requires { place < length self.old }
+        ensures { self.new ≡ set self.old place (mark_of marked) }
     {
-        let some = self.words.write(place, count, marks);
-        note(&mut self.used, place / 32, some);
+        let some = self.words.write(place, 1, u64::from(marked));
+        note(&mut self.used, place / 64, some);
+    }
+
+    /// Copies so many marks of one group from `from` on down to those from `to` on.
+    pub fn copy_down(&mut self, from: usize, to: usize, count: usize)
+        requires some { 0 < count }
+        requires order { to ≤ from }
+        requires group { to % 1024 + count ≤ 1024 }
+        requires inside { from + count ≤ length self.old }
+        ensures { self.new ≡ copied from to count self.old }
+    {
+        self.words.copy_down(from, to, count);
+        note_words(&self.words, &mut self.used, to, count);
+    }
+
+    /// Copies so many marks of one group from `from` on up to those from `to` on.
+    pub fn copy_up(&mut self, from: usize, to: usize, count: usize)
+        requires some { 0 < count }
+        requires order { from ≤ to }
+        requires group { to % 1024 + count ≤ 1024 }
+        requires inside { to + count ≤ length self.old }
+        ensures { self.new ≡ copied from to count self.old }
+    {
+        self.words.copy_up(from, to, count);
+        note_words(&self.words, &mut self.used, to, count);
     }
 }
 
@@ -103,7 +146,7 @@ impl<U: Marks> Marks for Level<U> {
     fn create(alloc: Global, count: usize) -> Result<Level<U>, AllocError> {
         Ok(Level {
             words: Words::create(alloc, count)?,
-            used: U::create(alloc, count / 32 + 1)?,
+            used: U::create(alloc, count / 64 + 1)?,
         })
     }
 
@@ -111,16 +154,17 @@ impl<U: Marks> Marks for Level<U> {
         self.words.get(place)
     }
 
-    fn set(&mut self, place: usize, marked: bool) {
-        self.write(place, 1, u32::from(marked));
+    fn put(&mut self, place: usize, count: usize, bits: u64) {
+        let some = self.words.write(place, count, bits);
+        note(&mut self.used, place / 64, some);
     }
 
     fn first_from(&self, from: usize) -> Option<usize> {
         if let Some(at) = self.words.first_in(from) {
             return Some(at);
         }
-        let word = self.used.first_from(from / 32 + 1)?;
-        self.words.first_in(word * 32)
+        let word = self.used.first_from(from / 64 + 1)?;
+        self.words.first_in(word * 64)
     }
 
     fn last_before(&self, end: usize) -> Option<usize> {
@@ -130,7 +174,7 @@ impl<U: Marks> Marks for Level<U> {
         if let Some(at) = self.words.last_in(end) {
             return Some(at);
         }
-        let word = self.used.last_before((end - 1) / 32)?;
-        self.words.last_in(word * 32 + 32)
+        let word = self.used.last_before((end - 1) / 64)?;
+        self.words.last_in(word * 64 + 64)
     }
 }

@@ -1,31 +1,21 @@
 //! Copies of many marks at once, those of a word in one step.
 
-ghost use Rattle.std.specs.Prelude.{◌≡◌, ℕ, ◌+◌, ◌-◌, ◌%◌, ◌≤◌, ◌<◌, length, slice_index};
+ghost use Rattle.std.specs.Prelude.{◌≡◌, ℕ, ◌+◌, ◌-◌, ◌≤◌, ◌<◌, length, slice_index};
 ghost use Rattle.std.specs.Int.{bit_at};
-ghost use Rattle.place_numbers.specs.Bits.{AreWritten};
 ghost use Rattle.place_numbers.specs.Shifted.{copied, shifted_down};
 
 use super::Bits;
+use crate::level::{GROUP, Marks};
 
 /// So many places are gone through word by word as fast as the next mark is searched.
-const NEAR: usize = 256;
+const NEAR: usize = 512;
 
 impl Bits {
-    /// The marks of 32 places, from one on, the lowest bit that of the first. After the last place there are none.
-    pub(super) fn read(&self, place: usize) -> u32
-        ensures { (i : ℕ) → i < 32 → bit_at result i ≡ slice_index self.now (place + i) }
+    /// The marks of 64 places, from one on, the lowest bit that of the first. After the last place there are none.
+    pub(super) fn read(&self, place: usize) -> u64
+        ensures { (i : ℕ) → i < 64 → bit_at result i ≡ slice_index self.now (place + i) }
     {
         self.levels.read(place)
-    }
-
-    /// Writes the marks of `count` places of one word, the first that of the lowest bit.
-    fn write(&mut self, place: usize, count: usize, marks: u32)
-        requires some { 0 < count }
-        requires word { place % 32 + count ≤ 32 }
-        requires inside { place + count ≤ length self.old }
-        ensures { AreWritten self.old self.new place count marks }
-    {
-        self.levels.write(place, count, marks);
     }
 
     /// The place up to which none from `from` on has a mark, as far as it is looked for: where few places are left,
@@ -55,13 +45,13 @@ impl Bits {
         let _len = self.len();
         let mut place = from;
         while place < end {
-            let piece = (end - place).min(32 - place % 32);
-            self.write(place, piece, 0);
+            let piece = (end - place).min(64 - place % 64);
+            self.levels.put(place, piece, 0);
             place = self.pass(place + piece, end);
         }
     }
 
-    /// Copies the first of `count` marks from `from` on down to `to`: those of one word of these places, or the places
+    /// Copies the first of `count` marks from `from` on down to `to`: those of one group of these places, or the places
     /// without a mark with which they begin. Gives how many.
     fn copy_first(&mut self, from: usize, to: usize, count: usize) -> usize
         requires some { 0 < count }
@@ -74,8 +64,8 @@ impl Bits {
         let _len = self.len();
         let marks = self.read(from);
         if marks != 0 || count <= NEAR {
-            let piece = count.min(32 - to % 32);
-            self.write(to, piece, marks);
+            let piece = count.min(GROUP - to % GROUP);
+            self.levels.copy_down(from, to, piece);
             return piece;
         }
         let free = match self.first_from(from) {
@@ -86,7 +76,7 @@ impl Bits {
         free
     }
 
-    /// Copies the last of `count` marks from `from` on up to those from `to` on: those of one word of these places, or
+    /// Copies the last of `count` marks from `from` on up to those from `to` on: those of one group of these places, or
     /// the places without a mark with which they end. Gives how many.
     fn copy_last(&mut self, from: usize, to: usize, count: usize) -> usize
         requires some { 0 < count }
@@ -97,11 +87,11 @@ impl Bits {
         ensures copied { self.new ≡ copied (from + (count - result)) (to + (count - result)) result self.old }
     {
         let _len = self.len();
-        let piece = count.min((to + count - 1) % 32 + 1);
-        let rest = count - piece;
-        let marks = self.read(from + rest);
+        let marks = self.read(from + (count - count.min(64)));
         if marks != 0 || count <= NEAR {
-            self.write(to + rest, piece, marks);
+            let piece = count.min((to + count - 1) % GROUP + 1);
+            let rest = count - piece;
+            self.levels.copy_up(from + rest, to + rest, piece);
             return piece;
         }
         let free = match self.last_before(from + count) {

@@ -1,4 +1,5 @@
-use Rattle.std.proofs.Common.{◌+◌, arith}
+use Rattle.std.proofs.Common.{◌+◌, List, ℕ, subst, arith}
+use Rattle.place_numbers.specs.Bits.{AreWritten}
 use Rattle.place_numbers.proofs.Cleared.{skip-cleared, more-cleared, only-cleared}
 use Rattle.place_numbers.proofs.bits.Bits.clear.Goals as goal
 
@@ -8,8 +9,8 @@ loop-place-preserved c =
     let before = c.loop-place.invariant.inside in let passed = c.pass-place.ensures in
     record {
       inside = (omega (arith, before.0, passed.order), passed.most);
-      done = skip-cleared xs c.write.new.self from (place + piece)
-          (more-cleared xs c.loop-place.self from place c.loop-place.invariant.done c.write.new.self piece before.0 (omega (arith, c.min-piece.ensures)) c.write.ensures)
+      done = skip-cleared xs c.put.new.self from (place + piece)
+          (more-cleared xs c.loop-place.self from place c.loop-place.invariant.done c.put.new.self piece before.0 (omega (arith, c.min-piece.ensures)) (subst (λ (l : List ℕ). AreWritten l c.put.new.self place piece 0) c.self.view_is c.put.ensures))
           c.pass-place.result passed.order passed.none;
     }
 

@@ -1,13 +1,7 @@
 use Rattle.std.proofs.Common.{◌+◌, ◌<◌, ◌≤◌, ℕ, ◌∙◌, get_or, refl, arith}
-use Rattle.place_numbers.proofs.Cleared.{copied-word, copied-zeros}
+use Rattle.place_numbers.proofs.Cleared.{copied-zeros}
 use Rattle.place_numbers.proofs.bits.Bits.copy_first.Goals as goal
 use Rattle.place_numbers.proofs.bits.Bits.copy_first.Goals.{in-Some, in-None}
-
-pub returns-then-marks-ne0-clause-copied : goal.returns-then-marks-ne0-clause-copied
-returns-then-marks-ne0-clause-copied c =
-    let piece = c.min-piece.ensures in let inside = c.requires.inside in let down = c.requires.order in
-    copied-word c.args.self.now c.write.new.self c.args.from c.args.to c.min-piece.result c.read-marks.result (omega (arith, piece))
-    (omega (arith, piece, inside)) (omega (arith, piece, inside, down)) c.read-marks.ensures c.write.ensures
 
 pub returns-clause-copied : goal.returns-clause-copied
 returns-clause-copied c =

@@ -3,23 +3,17 @@ use Rattle.std.specs.Int.{bit_at}
 use Rattle.std.proofs.lemmas.Bool.{cases_lt}
 use Rattle.std.proofs.lemmas.Nat.Bits.{bit_at-zero}
 use Rattle.place_numbers.proofs.Moved.{same-place}
-use Rattle.place_numbers.proofs.Cleared.{copied-word, copied-zeros}
+use Rattle.place_numbers.proofs.Cleared.{copied-zeros}
 use Rattle.place_numbers.proofs.bits.Bits.copy_last.Goals as goal
 use Rattle.place_numbers.proofs.bits.Bits.copy_last.Goals.{in-Some, in-None}
-
-pub returns-then-marks-ne0-clause-copied : goal.returns-then-marks-ne0-clause-copied
-returns-then-marks-ne0-clause-copied c =
-    let rest = c.args.count - c.min-piece.result in let piece = c.min-piece.ensures in let inside = c.requires.inside in let up = c.requires.order in
-    copied-word c.args.self.now c.write.new.self (c.args.from + rest) (c.args.to + rest) c.min-piece.result c.read-marks.result (omega (arith, piece))
-    (omega (arith, piece, inside, up)) (omega (arith, piece, inside)) c.read-marks.ensures c.write.ensures
 
 pub returns-clause-some : goal.returns-clause-some
 returns-clause-some c = elim c.match-last_before.branch [
   | in-Some w ↦
-      let from = c.args.from in let count = c.args.count in let piece = c.min-piece.result in let at = w.in-Some.at in
-      let least : 0 < piece = omega (arith, c.min-piece.ensures, c.requires.some) in
-      let few : piece < 33 = omega (arith, c.min-piece.ensures) in
-      let most : piece ≤ count = omega (arith, c.min-piece.ensures) in
+      let from = c.args.from in let count = c.args.count in let piece = c.min.result in let at = w.in-Some.at in
+      let least : 0 < piece = omega (arith, c.min.ensures, c.requires.some) in
+      let few : piece < 65 = omega (arith, c.min.ensures) in
+      let most : piece ≤ count = omega (arith, c.min.ensures) in
       let zero : get_or c.args.self.now (from + (count - piece) + (piece - 1)) 0 ≡ 0 =
       sym (c.read-marks.ensures (piece - 1) (omega (arith, least, few))) ∙ ap (λ (n : ℕ). bit_at n (piece - 1)) c.if-marks-ne0.false ∙ bit_at-zero (piece - 1) in
       let last = w.in-Some.ensures.last in

@@ -7,5 +7,5 @@ pub returns : goal.returns
 returns c =
     let place = c.args.place in let bits = c.bits_from.result in
     read-marks c.self.inside.items.items c.self.inside.count c.self.invariant.past c.args.self.now c.self.view_is place bits
-    (subst (λ (n : ℕ). (i : ℕ) → place % 32 + i < 32 → bit_at bits i ≡ bit_at n (place % 32 + i)) c.word_at.ensures c.bits_from.ensures.word)
-    (subst (λ (n : ℕ). (i : ℕ) → 32 ≤ place % 32 + i → i < 32 → bit_at bits i ≡ bit_at n (place % 32 + i - 32)) c.word_at-2.ensures c.bits_from.ensures.next)
+    (subst (λ (n : ℕ). (i : ℕ) → place % 64 + i < 64 → bit_at bits i ≡ bit_at n (place % 64 + i)) c.word_at.ensures c.bits_from.ensures.word)
+    (subst (λ (n : ℕ). (i : ℕ) → 64 ≤ place % 64 + i → i < 64 → bit_at bits i ≡ bit_at n (place % 64 + i - 64)) c.word_at-2.ensures c.bits_from.ensures.next)
