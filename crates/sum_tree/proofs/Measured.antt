@@ -1,5 +1,5 @@
 -- One more sum is measured, and is listed no more.
-use Rattle.std.proofs.Common.{◌≡◌, ◌≢◌, ℕ, inl, inr, ◌+◌, ◌<◌, ◌++◌, ◌∷◌, [], Bool, false, IsTrue, IsFalse, List, length, get_or, set, sym, subst, refl, ◌∙◌, arith, get_or-set_same, get_or-set_other}
+use Rattle.std.proofs.Common.{◌≡◌, ◌≢◌, ℕ, inl, inr, ◌<◌, ◌++◌, ◌∷◌, [], Bool, false, List, length, set, sym, refl, ◌∙◌, arith, get_or-set_same, get_or-set_other}
 use Rattle.std.proofs.lemmas.Bool.{cases_lt, cases_eq}
 use Rattle.std.proofs.lemmas.List.{length-set, length-append, get_or_append_left, get_or_push}
 use Rattle.sum_tree.specs.Stale.{AreRight, IsMixture, IsAmong, IsListed, IsLastOf}

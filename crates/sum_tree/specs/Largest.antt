@@ -1,5 +1,5 @@
 -- The largest of some blocks.
-use Rattle.std.specs.Prelude.{◌≡◌, ℕ, max, ⊤, refl}
+use Rattle.std.specs.Prelude.{◌≡◌, ℕ, max, ⊤}
 use Rattle.std.proofs.Common.{ap, arith}
 use Rattle.sum_tree.specs.Monoids.{MonoidLaws}
 use Rattle.sum_tree.specs.declared.largest.Largest.{Largest}

@@ -1,5 +1,5 @@
-use Rattle.std.proofs.Common.{◌≡◌, ◌<◌, ◌/◌, false, List, length, vec_len}
-use Rattle.sum_tree.specs.Rows.{IsOver, IsOverBut}
+use Rattle.std.proofs.Common.{◌≡◌, ◌<◌, ◌+◌, ◌*◌, false, length, vec_len}
+use Rattle.sum_tree.specs.Rows.{IsSameOutside}
 use Rattle.sum_tree.specs.Stale.{AreRight, IsMixture, IsListed}
 use Rattle.sum_tree.proofs.runs.measure_group.Given as goal
 
@@ -9,12 +9,11 @@ invariant-loop-place g l =
     let value = g.S.Source.value l.source in
     record {
       count : length l.listed ≡ length l.row;
-      same : length l.row ≡ length l.fn.row;
+      others : IsSameOutside m.empty l.fn.row l.row (8 * l.group) (8 * l.group + 8);
       mixed : IsMixture m.empty l.fn.row l.row value;
       listed : IsListed false l.listed l.pending.items;
       right : AreRight m.empty l.row l.listed value;
       shorter : length l.pending.items < length l.fn.pending.items;
-      over : (upper : List _) → IsOver m.empty m.op l.fn.row upper → IsOverBut m.empty m.op l.row upper (l.last / 16);
     }
 
 abbrev pub decreases-loop-place : goal.decreases-loop-place
