@@ -17,7 +17,7 @@ ghost use Rattle.res_table.specs.Rows.{with_handle};
 ghost use Rattle.res_manager.specs.Loading.{LoadSteps, AreAnswered, IsPlaced, IsFilled, HasBytes, flags_for, loaded_with, place_call, handle_placed};
 ghost use Rattle.res_update.specs.Steps.{Memory};
 
-use crate::watch::Watched;
+use crate::watch::{Before, Watched};
 use bitflags::Flags;
 use fork_disk::store::ForkStore;
 use mac_base::error::OsErr;
@@ -27,6 +27,7 @@ use mac_base::{GrowZone, block};
 use mem_calls::{MemoryManager, state_of};
 use res_files::ResourceFiles;
 use res_table::chain::RowPlace;
+use std::marker::Brand;
 
 /// The handle of the row at a place. Where its bytes are to be loaded and aren't, they come into a block that is made
 /// for them, with the flags that the row's attributes say; else a row without a handle gets an empty one. Each refusal
@@ -58,7 +59,7 @@ pub(crate) fn get_row<S: ForkStore, G: GrowZone>(
             return Ok(handle);
         }
     }
-    let handle = make_place(files, memory, own, size, loads, procedure)?;
+    let handle = make_place::<S, G, Brand>(files, memory, own, size, loads, procedure)?;
     if loads {
         load_bytes(
             files,
@@ -95,7 +96,7 @@ fn serves(memory: &MemoryManager, handle: Handle, loads: bool) -> bool
 
 /// Makes the place for a row's bytes, under the row's own handle or a new one, and the rows forget what answers dispose
 /// of.
-fn make_place<S: ForkStore, G: GrowZone>(
+fn make_place<S: ForkStore, G: GrowZone, B: Before<S>>(
     files: &mut ResourceFiles<S>,
     memory: &mut MemoryManager,
     own: Option<Handle>,
@@ -104,6 +105,7 @@ fn make_place<S: ForkStore, G: GrowZone>(
     procedure: &mut G,
 ) -> Result<Handle, OsErr>
     requires unasked { G.asks procedure.old ≡ [] }
+    requires before { files.old ≡ B.files }
     ensures step { (outcome : Outcome) × Memory memory.old.shape memory.old.heap (place_call own size loads) (G.asks procedure.new) outcome memory.new.heap × (result ≡ handle_placed own outcome) }
     ensures placed { loads ≡ true → IfOk result (λ handle. IsPlaced memory.new.heap handle size) }
     ensures forgotten { files.new ≡ record files.old { files = handles_forgotten (disposed_in (G.asks procedure.new)) files.old.files } }
@@ -111,10 +113,8 @@ fn make_place<S: ForkStore, G: GrowZone>(
     ensures loans { KeepsLoans memory.old memory.new }
     ensures shape { memory.new.shape ≡ memory.old.shape }
 {
-    let mut watched = Watched::new(procedure);
-    let made = request_place(memory, own, size, loads, &mut watched);
-    watched.forget_in(files);
-    made
+    let mut watched = Watched::<S, G, B>::new(files, procedure);
+    request_place(memory, own, size, loads, &mut watched)
 }
 
 /// The call of the Memory Manager that makes the place for a row's bytes.

@@ -1,97 +1,75 @@
 //! A watch over the grow-zone procedure: rows forget the handles of which its answers dispose.
 
-ghost use Rattle.std.specs.Prelude.{◌≡◌, ◌≤◌, [], ◌∷◌, ◌++◌, length, IsTrue, IfSome};
-ghost use Rattle.std.specs.List.{list_all};
-ghost use Rattle.mac_base.specs.GrowZone.{may_ask, may_note, new_ask, noted};
-ghost use Rattle.mac_base.specs.Released.{disposed_by, disposed_in};
-ghost use Rattle.res_manager.specs.Watching.{Notes, has_few_calls, named_source};
+ghost use Rattle.std.specs.Prelude.{◌≡◌, [], IsTrue};
+ghost use Rattle.mac_base.specs.GrowZone.{may_note, noted};
+ghost use Rattle.mac_base.specs.Released.{disposed_by};
+ghost use Rattle.res_manager.specs.Watching.{files_after, watched_source};
 
-use arrayvec::ArrayVec;
 use fork_disk::store::ForkStore;
 use mac_base::error::OsErr;
 use mac_base::handle::Handle;
 use mac_base::releasing::ReleasingCall;
 use mac_base::{Answer, GrowZone};
 use res_files::ResourceFiles;
+use std::marker::{Brand, PhantomData};
 
-/// A grow-zone procedure under watch: it answers as the one that is borrowed, and the handles are noted of which its
-/// answers dispose. One call of the Memory Manager asks at most 16 times, for 8 calls each.
-#[derive(Drop)]
-pub struct Watched<'a, G: GrowZone> {
-    procedure: &'a mut G,
-    handles: ArrayVec<u32, 128>,
-    ghost noted: { handles.items ≡ disposed_in (G.asks procedure.now) },
-    ghost few: { length (G.asks procedure.now) ≤ 16 },
-    ghost each: { IsTrue (list_all has_few_calls (G.asks procedure.now)) },
+/// The resource files as they were before a call of the Memory Manager. Each call picks them, and only proofs see them.
+pub trait Before<S> {
+    ghost use Rattle.res_files.specs.FilesOn.{FilesOn};
+
+    ghost files: { FilesOn S };
 }
 
-impl<'a, G: GrowZone> Watched<'a, G> {
-    ghost use Rattle.res_update.specs.Changes.{handles_forgotten};
+impl<S> Before<S> for Brand {
+    ghost use Rattle.std.specs.Prelude.{true, []};
+    ghost use Rattle.res_table.specs.OpenFiles.{no_files};
 
+    ghost files = { record { files = no_files; loads = true; stores = [] } };
+}
+
+/// A grow-zone procedure under watch: it answers as the one that is borrowed, and the rows of all open files forget
+/// each handle of which its answers dispose. So the files differ from those before the call by these handles alone.
+#[derive(Drop)]
+pub struct Watched<'a, S: ForkStore, G: GrowZone, B: Before<S>> {
+    files: &'a mut ResourceFiles<S>,
+    procedure: &'a mut G,
+    before: PhantomData<B>,
+    ghost forgotten: { files.now ≡ files_after (G.asks procedure.now) B.files },
+}
+
+impl<'a, S: ForkStore, G: GrowZone, B: Before<S>> Watched<'a, S, G, B> {
     /// A procedure under watch that the running call hasn't asked yet.
-    pub fn new(procedure: &'a mut G) -> Watched<'a, G>
-        requires { G.asks procedure.old ≡ [] }
-        ensures same_reference { result.procedure.ghost_name ≡ procedure.entry.ghost_name }
-        ensures value { result.procedure.now ≡ procedure.old }
+    pub fn new(files: &'a mut ResourceFiles<S>, procedure: &'a mut G) -> Watched<'a, S, G, B>
+        requires unasked { G.asks procedure.old ≡ [] }
+        requires before { files.old ≡ B.files }
+        ensures same_files { result.files.ghost_name ≡ files.entry.ghost_name }
+        ensures files { result.files.now ≡ files.old }
+        ensures same_procedure { result.procedure.ghost_name ≡ procedure.entry.ghost_name }
+        ensures procedure { result.procedure.now ≡ procedure.old }
     {
         Watched {
+            files,
             procedure,
-            handles: ArrayVec::new(),
-        }
-    }
-
-    /// The rows of all open files forget the handles of which answers disposed.
-    pub fn forget_in<S: ForkStore>(&self, files: &mut ResourceFiles<S>)
-        ensures { files.new ≡ record files.old { files = handles_forgotten (disposed_in (G.asks self.now.procedure.now)) files.old.files } }
-    {
-        for number in self.handles.as_slice() {
-            files.forget(Handle::new(*number));
+            before: PhantomData,
         }
     }
 }
 
-impl<G: GrowZone> GrowZone for Watched<'_, G> {
+impl<S: ForkStore, G: GrowZone, B: Before<S>> GrowZone for Watched<'_, S, G, B> {
     ghost asks = { λ w. G.asks w.procedure.now };
 
-    ghost source = { λ w. named_source w.procedure.ghost_name (G.source w.procedure.now) };
+    ghost source = { λ w. watched_source w.files.ghost_name w.procedure.ghost_name (G.source w.procedure.now) };
 
     fn ask(&mut self, needed: u32) -> Option<Answer> {
-        asked(self.procedure, needed)
+        self.procedure.ask(needed)
     }
 
     fn did(&mut self, call: ReleasingCall, code: Option<OsErr>) {
-        tell(self.procedure, &mut self.handles, &call, &code);
+        if let Some(handle) = disposed_by(&call, &code) {
+            self.files.forget(handle);
+        }
+        self.procedure.did(call, code);
     }
-}
-
-/// What a procedure answers: 8 calls at most.
-fn asked<G: GrowZone>(procedure: &mut G, needed: u32) -> Option<Answer>
-    requires { IsTrue (may_ask (G.asks procedure.old)) }
-    ensures asks { G.asks procedure.new ≡ G.asks procedure.old ++ new_ask needed result ∷ [] }
-    ensures source { G.source procedure.new ≡ G.source procedure.old }
-    ensures few { IfSome result (λ answer. length answer.calls ≤ 8) }
-{
-    let answer = procedure.ask(needed)?;
-    Some(answer.again())
-}
-
-/// Tells a procedure of a call that was carried out, and notes the handle of which it disposed.
-fn tell<G: GrowZone>(
-    procedure: &mut G,
-    handles: &mut ArrayVec<u32, 128>,
-    call: &ReleasingCall,
-    code: &Option<OsErr>,
-)
-    requires may { IsTrue (may_note (G.asks procedure.old)) }
-    requires notes { Notes handles.old.items (G.asks procedure.old) }
-    ensures asks { G.asks procedure.new ≡ noted call.now code.now (G.asks procedure.old) }
-    ensures source { G.source procedure.new ≡ G.source procedure.old }
-    ensures notes { Notes handles.new.items (G.asks procedure.new) }
-{
-    if let Some(handle) = disposed_by(call, code) {
-        handles.push(handle.number());
-    }
-    procedure.did(*call, *code);
 }
 
 /// The handle of which a call of an answer disposed, where it was carried out.

@@ -16,9 +16,9 @@ use mac_base::handle::Handle;
 use mac_base::{Call, GrowZone, MemoryCall, Outcome, Reply, ResourceCall, Results};
 use mem_calls::MemoryManager;
 use res_files::ResourceFiles;
-use res_manager::watch::Watched;
+use res_manager::watch::{Before, Watched};
 use std::alloc::Global;
-use std::marker::Model;
+use std::marker::{Brand, Model};
 
 /// The number of the file that is opened first.
 const FIRST_FILE: u32 = 1;
@@ -107,9 +107,19 @@ impl<S: ForkStore> Toolbox<S> {
         let reply = Reply {
             outcome: self.outcome(call, procedure)?,
         };
-        self.refused = refused_after(self.refused, call, &reply);
-        self.resource_refused = resource_refused_after(self.resource_refused, call, &reply);
+        self.note(call, &reply);
         Ok(reply)
+    }
+
+    /// Notes the code of a call for MemError or ResError.
+    fn note(&mut self, call: &Call<'_>, reply: &Reply)
+        ensures { self.new ≡ record self.old { refused = refused_after self.old.refused call.now reply.now.outcome; resource_refused = resource_refused_after self.old.resource_refused call.now reply.now.outcome } }
+    {
+        match call {
+            Call::Memory(_) | Call::Loan(_) => self.refused = reply.refusal(),
+            Call::Resource(_) => self.resource_refused = reply.refusal(),
+            Call::MemError | Call::ResError => {}
+        }
     }
 
     /// What a call gives, or the code of its refusal.
@@ -130,7 +140,7 @@ impl<S: ForkStore> Toolbox<S> {
         ensures late { OnErr result (refusal_of S.ForkStore self.old call.now ≡ None) }
     {
         match call {
-            Call::Memory(call) => self.call_memory(call, procedure),
+            Call::Memory(call) => self.call_memory::<G, Brand>(call, procedure),
             Call::Loan(call) => lending::make(&mut self.memory, &mut self.loans, self.alloc, call),
             Call::Resource(call) => self.call_resource(call, procedure),
             Call::MemError => Ok(Ok(Results::Code(self.refused))),
@@ -139,12 +149,13 @@ impl<S: ForkStore> Toolbox<S> {
     }
 
     /// A call of the Memory Manager. Rows of resource files forget the handles that it disposes of.
-    fn call_memory<G: GrowZone>(
+    fn call_memory<G: GrowZone, B: Before<S>>(
         &mut self,
         call: &MemoryCall<'_>,
         procedure: &mut G,
     ) -> Result<Outcome, HostFull>
-        requires { G.asks procedure.old ≡ [] }
+        requires unasked { G.asks procedure.old ≡ [] }
+        requires before { self.old.resources ≡ B.files }
         ensures gives { IfOk result (λ outcome. Gives S.ForkStore self.old (Memory call.now) (G.asks procedure.new) outcome self.new) }
         ensures shape { self.new.shape ≡ self.old.shape }
         ensures refused { self.new.refused ≡ self.old.refused }
@@ -155,9 +166,8 @@ impl<S: ForkStore> Toolbox<S> {
         ensures full { OnErr result (IsTrue (copies call.now)) }
         ensures late { OnErr result (refusal self.old.shape self.old.heap call.now ≡ None) }
     {
-        let mut watched = Watched::new(procedure);
+        let mut watched = Watched::<S, G, B>::new(&mut self.files, procedure);
         let outcome = making::make(&mut self.memory, self.alloc, call, &mut watched)?;
-        watched.forget_in(&mut self.files);
         if let Some(handle) = disposed_itself(call, &outcome) {
             self.files.forget(handle);
         }
@@ -240,25 +250,5 @@ fn disposed_itself(call: &MemoryCall<'_>, outcome: &Outcome) -> Option<Handle>
     match *call {
         MemoryCall::DisposeHandle(handle) if outcome.is_ok() => Some(handle),
         _ => None,
-    }
-}
-
-/// The code that MemError gives after a call, where it gave this one before.
-fn refused_after(before: Option<OsErr>, call: &Call<'_>, reply: &Reply) -> Option<OsErr>
-    ensures { result ≡ refused_after before call.now reply.now.outcome }
-{
-    match call {
-        Call::Memory(_) | Call::Loan(_) => reply.refusal(),
-        _ => before,
-    }
-}
-
-/// The code that ResError gives after a call, where it gave this one before.
-fn resource_refused_after(before: Option<OsErr>, call: &Call<'_>, reply: &Reply) -> Option<OsErr>
-    ensures { result ≡ resource_refused_after before call.now reply.now.outcome }
-{
-    match call {
-        Call::Resource(_) => reply.refusal(),
-        Call::Memory(_) | Call::Loan(_) | Call::MemError | Call::ResError => before,
     }
 }

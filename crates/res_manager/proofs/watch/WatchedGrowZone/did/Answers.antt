@@ -1,4 +1,15 @@
+use Rattle.std.proofs.Common.{refl}
+use Rattle.res_manager.proofs.Noting.{told-forgets}
 use Rattle.res_manager.proofs.watch.WatchedGrowZone.did.Goals as goal
+use Rattle.res_manager.proofs.watch.WatchedGrowZone.did.Goals.{in-Some, in_default}
 
-pub tell-requires-clause-notes : goal.tell-requires-clause-notes
-tell-requires-clause-notes g c = let self = c.args.self.now in record { noted = self.noted; few = self.few; each = self.each }
+pub invariant_of-self : goal.invariant_of-self
+invariant_of-self g c =
+    let self = c.args.self.now in
+    let told = told-forgets c.args.call c.args.code (g.G.GrowZone.asks self.procedure.now) g.B.Before.files c.requires in
+    record {
+      forgotten = elim c.match-disposed_by.branch [
+        | in-Some w ↦ rw (w.self-is, w.forget.ensures, self.forgotten, c.did.ensures.asks, told, ← c.disposed_by.ensures, w.in-Some.is) refl
+        | in_default w ↦ rw (w.self-is, self.forgotten, c.did.ensures.asks, told, ← c.disposed_by.ensures, w.in_default.is) refl
+      ];
+    }
