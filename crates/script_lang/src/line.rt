@@ -8,17 +8,19 @@ use mac_base::Span;
 use mac_base::resource::ResType;
 use std::marker::Model;
 
-/// The name of a variable. A contract sees its place among the names of a script, in order of first assignment. A
-/// script has no more lines than there are places.
+/// The name of a variable. A contract sees its place among the names of a script, in order of first assignment.
 #[derive(Clone, Copy)]
-pub struct Name(u16);
+pub struct Name(u32);
 
 impl Model for Name {
-    ghost use Rattle.std.specs.Prelude.{ℕ};
+    ghost use Rattle.std.specs.Prelude.{◌<◌, ℕ};
+    ghost use Rattle.script_lang.specs.Names.{most_names};
 
     ghost Value = { ℕ };
 
     ghost view = { λ n. n.0 };
+
+    ghost invariant = { λ n. n.0 < most_names };
 
     ghost inverse = { λ place. record { 0 = place } };
 }
@@ -32,14 +34,15 @@ impl Name {
         requires { place < most_names }
         ensures { result ≡ place }
     {
-        Name(place as u16)
+        Name(place as u32)
     }
 
     /// The place of the name among all names of the script.
     pub fn place(self) -> u32
-        ensures { result ≡ self }
+        ensures place { result ≡ self }
+        ensures few { result < most_names }
     {
-        u32::from(self.0)
+        self.0
     }
 }
 

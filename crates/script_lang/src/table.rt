@@ -287,6 +287,7 @@ struct Row {
 
 impl CallName {
     /// How the call is written.
+    #[inline(always)]
     pub fn signature(self) -> Signature
         ensures name { result.name.now ≡ (table.signature self).name }
         ensures is_assignable { result.is_assignable ≡ (table.signature self).is_assignable }

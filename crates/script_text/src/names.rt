@@ -2,7 +2,7 @@
 
 ghost use Rattle.script_text.specs.Names.{OnePlace, KeepsPlace, TakesPlace};
 
-use crate::hashing::NameHasher;
+use crate::hashing::{NameHasher, Spelling};
 use indexmap::IndexSet;
 use mac_base::error::HostFull;
 use script_lang::Name;
@@ -12,7 +12,7 @@ use std::marker::Model;
 /// Names of variables, in order of first assignment; each lies where it was assigned. A contract sees the list.
 #[derive(Drop)]
 pub struct Names<'a> {
-    names: IndexSet<&'a [u8], NameHasher>,
+    names: IndexSet<Spelling<'a>, NameHasher>,
     /// The name that was assigned last, and which it is: lines often speak of it.
     last: Option<(&'a [u8], Name)>,
 }
@@ -24,9 +24,9 @@ impl<'a> Model for Names<'a> {
 
     ghost Value = { List (List ℕ) };
 
-    ghost view = { λ n. map (λ name. name.now) n.names.keys };
+    ghost view = { λ n. map (λ name. name.0.now) n.names.keys };
 
-    ghost invariant = { λ n. IsLast (map (λ name. name.now) n.names.keys) n.last × (length n.names.keys ≤ most_names) };
+    ghost invariant = { λ n. IsLast (map (λ name. name.0.now) n.names.keys) n.last × (length n.names.keys ≤ most_names) };
 }
 
 impl<'a> Names<'a> {
@@ -61,7 +61,7 @@ impl<'a> Names<'a> {
         if let Some(name) = self.last_of(word) {
             return Some(name);
         }
-        match self.names.get_index_of(word) {
+        match self.names.get_index_of(&Spelling(word)) {
             Some(place) => Some(Name::at(place)),
             None => None,
         }
@@ -76,7 +76,7 @@ impl<'a> Names<'a> {
         if let Some(name) = self.last_of(word) {
             return Ok(name);
         }
-        let (place, _) = self.names.insert_full(word)?;
+        let (place, _) = self.names.insert_full(Spelling(word))?;
         let name = Name::at(place);
         self.last = Some((word, name));
         Ok(name)

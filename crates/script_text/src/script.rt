@@ -85,6 +85,7 @@ fn first_line(text: &[u8]) -> Option<(&[u8], &[u8])>
 
 /// Adds the line of this number to those before it, where these names have been assigned: none, if its text says
 /// nothing. The tokens are memory to be used again.
+#[inline(always)]
 fn add_line<'a>(
     arena: &'a Bump,
     number: u32,

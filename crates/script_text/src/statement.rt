@@ -65,12 +65,12 @@ fn named_call<'a, 'b>(line: &'b [Token<'a>]) -> Option<(CallName, &'b [Token<'a>
     Some((CallName::named(word)?, rest))
 }
 
-/// Whether a line may assign this name, if it assigns one, to the first result of a call.
-fn may_assign(name: Option<&[u8]>, is_assignable: bool) -> bool
-    ensures { MatchBool result (MayAssign is_assignable (option_copied name.entry)) (¬ MayAssign is_assignable (option_copied name.entry)) }
+/// Whether a line may assign this name, if it assigns one, to the first result of this call.
+fn may_assign(name: Option<&[u8]>, call: CallName) -> bool
+    ensures { MatchBool result (MayAssign (signature call).is_assignable (option_copied name.entry)) (¬ MayAssign (signature call).is_assignable (option_copied name.entry)) }
 {
     match name {
-        Some(name) => is_assignable && is_name(name),
+        Some(name) => call.signature().is_assignable && is_name(name),
         None => true,
     }
 }
@@ -91,7 +91,7 @@ fn call_line<'a>(
     let Some((call, line)) = named_call(line) else {
         return Ok(None);
     };
-    if !may_assign(assigned, call.signature().is_assignable) {
+    if !may_assign(assigned, call) {
         return Ok(None);
     }
     let Some(call) = call_of_tokens(arena, call, line, names)? else {

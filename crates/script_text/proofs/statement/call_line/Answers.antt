@@ -16,7 +16,7 @@ returns-then-not-may_assign-clause-line c =
     let parted : Parted (map view c.args.line.now) (option_copied c.assigned_name.result.0) (Word (signature c.in-Some.call).name ∷ map view c.in-Some.line.now) =
     record { parts = rw (← c.in-Some.ensures.found) c.assigned_name.ensures.parts; by = c.assigned_name.ensures.name }
     in
-    λ x h. no_assigned c.args.names.now _ _ c.in-Some.call _ parted (rw c.signature.ensures.is_assignable at c.if-not-may_assign.ensures) x h
+    λ x h. no_assigned c.args.names.now _ _ c.in-Some.call _ parted c.if-not-may_assign.ensures x h
 
 pub returns-in_default-2-clause-line : goal.returns-in_default-2-clause-line
 returns-in_default-2-clause-line c =
@@ -32,7 +32,7 @@ returns-clause-line c =
       option_copied c.assigned_name.result.0,
       map view c.in-Some.line.now,
       rw is.0 (rw (← c.in-Some.ensures.found) c.assigned_name.ensures.parts),
-      rw is.0 (rw c.signature.ensures.is_assignable at c.if-not-may_assign.ensures),
+      rw is.0 c.if-not-may_assign.ensures,
       c.in_ok-assigned.ensures.name,
       is.1,
     )

@@ -11,7 +11,7 @@ returns c =
     let old = c.self.inside.values.items in
     let place = c.place-place.result in
     let same : with_value old place c.args.value ≡ with_value c.args.self.now c.args.name c.args.value =
-    ap (λ (vs : List ℕ). with_value vs place c.args.value) c.self.view_is ∙ ap (λ (n : ℕ). with_value c.args.self.now n c.args.value) c.place-place.ensures
+    ap (λ (vs : List ℕ). with_value vs place c.args.value) c.self.view_is ∙ ap (λ (n : ℕ). with_value c.args.self.now n c.args.value) c.place-place.ensures.place
     in
     elim c.if-place-len.branch [
       | then-place-len+else-prove w ↦

@@ -1,12 +1,12 @@
 use Rattle.std.proofs.Common.{◌≡◌, ◌∙◌, refl, sym, ap, ℕ, List}
-use Rattle.std.specs.Borrow.{Bor}
+use Rattle.script_text.specs.declared.hashing.Spelling.{Spelling}
 use Rattle.script_text.specs.Names.{place_of}
 use Rattle.script_text.proofs.Named.{place_of-map}
 use Rattle.script_text.proofs.names.Names.find.Goals as goal
 
 pub returns-in-Some-get_index_of : goal.returns-in-Some-get_index_of
 returns-in-Some-get_index_of c =
-    let spelled : Bor (List ℕ) → List ℕ = λ k. k.now in
+    let spelled : Spelling → List ℕ = λ k. k.0.now in
     let same : place_of c.args.self.now c.args.word.now ≡ c.get_index_of.result =
     sym (c.get_index_of.ensures.index ∙ sym (place_of-map spelled c.args.word.now c.self.inside.names.keys) ∙ ap (λ (n : List (List ℕ)). place_of n c.args.word.now) c.self.view_is)
     in
@@ -14,7 +14,7 @@ returns-in-Some-get_index_of c =
 
 pub returns-in-None : goal.returns-in-None
 returns-in-None c =
-    let spelled : Bor (List ℕ) → List ℕ = λ k. k.now in
+    let spelled : Spelling → List ℕ = λ k. k.0.now in
     let same : place_of c.args.self.now c.args.word.now ≡ c.get_index_of.result =
     sym (c.get_index_of.ensures.index ∙ sym (place_of-map spelled c.args.word.now c.self.inside.names.keys) ∙ ap (λ (n : List (List ℕ)). place_of n c.args.word.now) c.self.view_is)
     in
