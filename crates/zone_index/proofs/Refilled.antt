@@ -19,7 +19,7 @@ use Rattle.zone_index.specs.Pages.{ArePages, begun, page_size, page_start}
 use Rattle.zone_index.specs.Rooms.{summing_rooms}
 use Rattle.zone_index.specs.Spans.{IsSum}
 use Rattle.zone_index.specs.Weights.{weights}
-use Rattle.zone_index.proofs.Alike.{AreAlike, alike-same, alike-tables, blank, blank-flags, blank-full, blank-long}
+use Rattle.zone_index.proofs.Alike.{AreAlike, alike-same, alike-tables, blank, blank-flags, blank-long}
 use Rattle.zone_index.proofs.Bytes.{weights-same}
 use Rattle.zone_index.proofs.MarksKept.{still-marked}
 use Rattle.zone_index.proofs.Measured.{lengths-kept}

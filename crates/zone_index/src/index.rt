@@ -13,10 +13,13 @@ use mac_base::zone_spec::ZoneSpec;
 use place_numbers::Bits;
 use std::alloc::Global;
 
-/// A zone has so many bytes for each place in which a handle's length is remembered. A place is for four bytes, so
-/// there are places for the lowest sixteenth of the zone: master blocks don't move and take the lowest room, so handles
-/// have their numbers there. The length of one above is asked of the zone.
-const BYTES_PER_LENGTH: u32 = 64;
+/// A zone has so many bytes for each place in which a handle's length is remembered, beside the fewest. A place is for
+/// four bytes, so these are places for the lowest 4,096 bytes of the zone and a sixty-fourth of it: master blocks don't
+/// move and take the lowest room, so handles have their numbers there. The length of one above is asked of the zone.
+const BYTES_PER_LENGTH: u32 = 256;
+
+/// The fewest places for lengths.
+const FEWEST_LENGTHS: usize = 1024;
 
 /// What is kept beside a zone. Its parts are those of `IndexedZone`.
 #[derive(Drop)]
@@ -43,7 +46,7 @@ impl Index {
         let lengths = Lengths::create(
             alloc,
             spec.base(),
-            (spec.limit() / BYTES_PER_LENGTH) as usize,
+            (spec.limit() / BYTES_PER_LENGTH) as usize + FEWEST_LENGTHS,
         )?;
         Ok(Index {
             marks,

@@ -1,7 +1,7 @@
 use Rattle.std.proofs.Common.{◌≡◌, [], sym, subst}
 use Rattle.mac_base.specs.Sound.{Sound}
 use Rattle.mac_base.specs.ZoneState.{ZoneState, woken_in}
-use Rattle.linked_zone.specs.Structure.{DifferInContents, HasStructure, SameFlags, shown}
+use Rattle.linked_zone.specs.Structure.{DifferInContents, HasStructure, SameFlags}
 use Rattle.linked_zone.proofs.Structured.{differ}
 use Rattle.zone_index.proofs.Refilled.{fixed-refilled, lengths-refilled, pages-refilled, purgeable-refilled, leaves-refilled}
 use Rattle.zone_index.proofs.zone.IndexedZone.wake.Goals as goal
