@@ -111,32 +111,43 @@ def written(operand, is_hexadecimal):
     return f"${operand:X}" if is_hexadecimal else str(operand)
 
 
-def compare(program, seed, lines):
-    """Runs one random script by the program and by the model; tells the first line in which they differ."""
-    dice = random.Random(seed)
-    mode, size, base = dice.choice([24, 32]), dice.choice([1024, 2048, 4096, 65536]), dice.choice([0x1000, 0x100000, 0x400000])
-    limit = size + dice.choice([0, 0, 16, 1000, size])
-    zone = Zone(mode, size, limit, base)
-    chooser = Chooser(seed, zone, size)
+def play(program, title, sizes, calls, dice):
+    """Plays calls by the program and by the model, in a zone of this mode, size, limit and base; tells the first line in which they differ.
+
+    `calls` is a function of the model's zone that yields each call when those before it are made.
+    """
+    zone = Zone(*sizes)
     script, wanted = [], []
-    for number in range(1, lines + 1):
-        name, operands = chooser.line()
+    for number, (name, operands) in enumerate(calls(zone), 1):
         number_text = lambda it: written(it, dice.random() < 0.5)
         if name == "gz":
-            calls, value = operands
+            answers, value = operands
             zone.answers.append(operands)
-            script.append(f"gz {number_text(value)} " + dice.choice([";", " ; "]).join(f"{call} {number_text(it)}" for call, it in calls))
+            script.append(f"gz {number_text(value)} " + dice.choice([";", " ; "]).join(f"{call} {number_text(it)}" for call, it in answers))
             continue
         script.append(" ".join([name, *map(number_text, operands)]))
         wanted += f"{number} {name} {zone.reply(name, operands)}".split("\n")
-    words = [program, "--mode", str(mode), "--zone", str(size), "--limit", str(limit), "--base", str(base)]
-    ran = subprocess.run(words, input="\n".join(script), capture_output=True, text=True, check=False)
+    words = [it for word, size in zip(["--mode", "--zone", "--limit", "--base"], sizes) for it in (word, str(size))]
+    ran = subprocess.run([program, *words], input="\n".join(script), capture_output=True, text=True, check=False)
     printed = ran.stdout.split("\n")[:-1]
     if printed == wanted:
         return True
     at = next((it for it, (left, right) in enumerate(zip(printed, wanted)) if left != right), min(len(printed), len(wanted)))
-    print(f"script {seed}, {' '.join(words[1:])}: {printed[at : at + 1]} was printed, and {wanted[at : at + 1]} is right")
+    print(f"script {title}, {' '.join(words)}: {printed[at : at + 1]} was printed, and {wanted[at : at + 1]} is right")
     return False
+
+
+def compare(program, seed, lines):
+    """Runs one random script by the program and by the model."""
+    dice = random.Random(seed)
+    mode, size, base = dice.choice([24, 32]), dice.choice([1024, 2048, 4096, 65536]), dice.choice([0x1000, 0x100000, 0x400000])
+    limit = size + dice.choice([0, 0, 16, 1000, size])
+
+    def calls(zone):
+        chooser = Chooser(seed, zone, size)
+        return (chooser.line() for _ in range(lines))
+
+    return play(program, seed, (mode, size, limit, base), calls, dice)
 
 
 def main(program, scripts=40, lines=500, first=0):
