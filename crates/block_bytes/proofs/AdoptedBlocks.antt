@@ -51,10 +51,10 @@ free-none_over heads Master n told free = let no : false ≡ true = free in cc
 free-none_over heads (Relocatable slot flags) n told free = let no : false ≡ true = free in cc
 
 -- a block among others none of which is lent isn't either
-pub one-unlent : (before : List RawBlock) (b : RawBlock) (behind : List RawBlock) → lent_count (before ++ b ∷ behind) ≡ 0 → b.lent ≡ false
-one-unlent before b behind none = let sum = count-append before (b ∷ behind) in let here : lent_count (b ∷ behind) ≡ 0 = omega arith in either b.lent here
+pub one-unlent : (before : List RawBlock) (b : RawBlock) (after : List RawBlock) → lent_count (before ++ b ∷ after) ≡ 0 → b.lent ≡ false
+one-unlent before b after none = let sum = count-append before (b ∷ after) in let here : lent_count (b ∷ after) ≡ 0 = omega arith in either b.lent here
   where
-    either : (lent : Bool) → (if lent then suc (lent_count behind) else lent_count behind) ≡ 0 → lent ≡ false
+    either : (lent : Bool) → (if lent then suc (lent_count after) else lent_count after) ≡ 0 → lent ≡ false
     either true none = absurd (omega arith)
     either false none = refl
 
@@ -109,16 +109,16 @@ module _ (spec : ZoneSizes) (possible : ArePossible spec) (bytes : List ℕ) (al
       head_at : IsHeadAt spec.heads spec.base bytes at (spec.size - at) (header_of spec.heads here)
       same : here ≡ block_at at (header_of spec.heads here)
 
-    in-zone : (before : List RawBlock) (here : RawBlock) (behind : List RawBlock) (at : ℕ) → l.blocks ≡ before ++ here ∷ behind → at ≡ zone_header + total_of spec.heads before → IsIn at here
-    in-zone before here behind at blocks place =
+    in-zone : (before : List RawBlock) (here : RawBlock) (after : List RawBlock) (at : ℕ) → l.blocks ≡ before ++ here ∷ after → at ≡ zone_header + total_of spec.heads before → IsIn at here
+    in-zone before here after at blocks place =
         let heads = spec.heads in let n = head_size heads in let s = settled l zone in
-        let sum : total_of heads l.blocks ≡ total_of heads before + (size_of heads here + total_of heads behind) = ap (total_of heads) blocks ∙ total_of-append heads before (here ∷ behind) in
+        let sum : total_of heads l.blocks ≡ total_of heads before + (size_of heads here + total_of heads after) = ap (total_of heads) blocks ∙ total_of-append heads before (here ∷ after) in
         let total = total-is in
-        let both = and-true (list_all (is_possible heads) before) (list_all (is_possible heads) (here ∷ behind)) (sym (list_all-append (is_possible heads) before (here ∷ behind)) ∙ sym (ap (list_all (is_possible heads)) blocks) ∙ zone.possible) in
-        let p = IsPossible-from heads here (and-true (is_possible heads here) (list_all (is_possible heads) behind) both.1).0 in
-        let unlent : here.lent ≡ false = one-unlent before here behind (ap lent_count (sym blocks) ∙ zone.unlent) in
-        let first = front m before in let own = head m here in let others = rear m behind in
-        let parts : bytes ≡ first ++ (own ++ (body here ++ others)) = sym s.image ∙ ap (λ (bs : List RawBlock). stale_image m bs) blocks ∙ image-parts m before here behind in
+        let both = and-true (list_all (is_possible heads) before) (list_all (is_possible heads) (here ∷ after)) (sym (list_all-append (is_possible heads) before (here ∷ after)) ∙ sym (ap (list_all (is_possible heads)) blocks) ∙ zone.possible) in
+        let p = IsPossible-from heads here (and-true (is_possible heads here) (list_all (is_possible heads) after) both.1).0 in
+        let unlent : here.lent ≡ false = one-unlent before here after (ap lent_count (sym blocks) ∙ zone.unlent) in
+        let first = front m before in let own = head m here in let others = rear m after in
+        let parts : bytes ≡ first ++ (own ++ (body here ++ others)) = sym s.image ∙ ap (λ (bs : List RawBlock). stale_image m bs) blocks ∙ image-parts m before here after in
         let long = length-front m before in let long' = length-head_bytes heads spec.base (header_of heads here) in
         let ahead : drop at bytes ≡ own ++ (body here ++ others) = ap (drop at) parts ∙ drop_at first (own ++ (body here ++ others)) at (omega arith) in
         let k = size_of heads here - n - length here.slack in let size : k ≡ length here.contents = omega arith in
@@ -193,8 +193,8 @@ module _ (spec : ZoneSizes) (possible : ArePossible spec) (bytes : List ℕ) (al
     -- the block that a zone in the bytes has next
     record NextIn (l : Layout) : Type 0 where
       here : RawBlock
-      behind : List RawBlock
-      blocks : l.blocks ≡ u.blocks ++ here ∷ behind
+      after : List RawBlock
+      blocks : l.blocks ≡ u.blocks ++ here ∷ after
       head_at : IsHeadAt spec.heads spec.base bytes at (spec.size - at) (header_of spec.heads here)
       same : here ≡ block_at at (header_of spec.heads here)
 
@@ -204,7 +204,7 @@ module _ (spec : ZoneSizes) (possible : ArePossible spec) (bytes : List ℕ) (al
         from : (rest : List RawBlock) → l.blocks ≡ u.blocks ++ rest → NextIn l
         from [] blocks =
             let sum = ap (total_of spec.heads) blocks in let more = total_of-append spec.heads u.blocks [] in let total = total-is l zone in let place = u.place in absurd (omega arith)
-        from (b ∷ bs) blocks = let i = in-zone l zone u.blocks b bs at blocks u.place in record { here = b; behind = bs; blocks = blocks; head_at = i.head_at; same = i.same }
+        from (b ∷ bs) blocks = let i = in-zone l zone u.blocks b bs at blocks u.place in record { here = b; after = bs; blocks = blocks; head_at = i.head_at; same = i.same }
 
     -- where no block's header is, no zone is in the bytes
     pub none-next : at < spec.size → ((h : Header) → IsHeadAt spec.heads spec.base bytes at (spec.size - at) h → ⊥) → (l : Layout) → IsZoneIn spec bytes l → ⊥
@@ -233,11 +233,11 @@ module _ (spec : ZoneSizes) (possible : ArePossible spec) (bytes : List ℕ) (al
           marked = marks ∙ marked-more h b (ap mark_in k.header) size p.fits.even p.fits.large next there (omega arith);
           free_are = omega arith;
           first = λ l zone. (
-            (next-in below l zone).behind,
+            (next-in below l zone).after,
             let n = next-in below l zone in
                 let head : header_of heads n.here ≡ h =
                 sym (head-read heads spec.base bytes at (spec.size - at) (header_of heads n.here) (omega arith) (omega arith) n.head_at) ∙ head-read heads spec.base bytes at (spec.size - at) h (omega arith) (omega arith) p in
-                n.blocks ∙ ap (λ (c : RawBlock). u.blocks ++ c ∷ n.behind) (n.same ∙ ap (block_at at) head) ∙ sym (append_assoc u.blocks (b ∷ []) n.behind),
+                n.blocks ∙ ap (λ (c : RawBlock). u.blocks ++ c ∷ n.after) (n.same ∙ ap (block_at at) head) ∙ sym (append_assoc u.blocks (b ∷ []) n.after),
           );
         }
       where

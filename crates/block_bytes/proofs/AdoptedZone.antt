@@ -7,7 +7,7 @@ use Rattle.mac_base.proofs.Reach.{end-small}
 use Rattle.raw_region.specs.Bytes.{part}
 use Rattle.raw_region.specs.State.{State}
 use Rattle.block_bytes.specs.Adopting.{IsZoneIn, HasZoneHead, BlocksUpTo, zone_with, ZoneRead}
-use Rattle.block_bytes.specs.Layout.{RawBlock, Layout, total_of, free_total, first_free, rendered, header_bytes, address_behind}
+use Rattle.block_bytes.specs.Layout.{RawBlock, Layout, total_of, free_total, first_free, rendered, header_bytes, address_after}
 use Rattle.block_bytes.specs.Reading.{times}
 use Rattle.block_bytes.specs.Starts.{marks_of, first_marked, starts_of}
 use Rattle.block_bytes.specs.ZoneHead.{front_field, zone_head}
@@ -31,11 +31,11 @@ module _ (spec : ZoneSizes) (possible : ArePossible spec) (m : State) (all : len
       u.marked ∙ ap (λ (n : ℕ). unmarked (zone_header / 4) ++ (marks_of spec.heads u.blocks ++ unmarked (n / 4))) (let e : spec.limit - spec.size ≡ length (drop spec.size m.bytes) = omega arith in e)
 
   -- the numbers of its header
-  head-is : (n : ℕ) → zone_head end n free lowest ≡ zone_head (address_behind l u.blocks) n (free_total spec.heads u.blocks) (first_free spec.heads (address_behind l []) u.blocks)
+  head-is : (n : ℕ) → zone_head end n free lowest ≡ zone_head (address_after l u.blocks) n (free_total spec.heads u.blocks) (first_free spec.heads (address_after l []) u.blocks)
   head-is n =
       let place = u.place in
-      let e : end ≡ address_behind l u.blocks = omega arith in
-      let f : lowest ≡ first_free spec.heads (address_behind l []) u.blocks = lowest_is ∙ ap (first_marked spec.base) marked ∙ first_marked-starts l u.possible
+      let e : end ≡ address_after l u.blocks = omega arith in
+      let f : lowest ≡ first_free spec.heads (address_after l []) u.blocks = lowest_is ∙ ap (first_marked spec.base) marked ∙ first_marked-starts l u.possible
       ∙ ap (λ (k : ℕ). first_free spec.heads k u.blocks) (let g : spec.base + zone_header ≡ spec.base + zone_header + 0 = omega arith in g) in
       λ i. zone_head (e i) n (u.free_are i) (f i)
 
@@ -78,7 +78,7 @@ module _ (spec : ZoneSizes) (possible : ArePossible spec) (m : State) (all : len
       none (record {
         front = z.front;
         head = ap (take zone_header) (sym s.image) ∙ take_at (header_bytes w) (rendered spec.heads spec.base z.blocks ++ z.spare) zone_header (length-header w)
-            ∙ (λ i. zone_head (address_behind w (same i)) z.front (free_total spec.heads (same i)) (first_free spec.heads (address_behind w []) (same i))) ∙ sym (head-is z.front);
+            ∙ (λ i. zone_head (address_after w (same i)) z.front (free_total spec.heads (same i)) (first_free spec.heads (address_after w []) (same i))) ∙ sym (head-is z.front);
       })
 
 -- the fields made of it stand for it

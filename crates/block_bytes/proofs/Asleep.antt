@@ -59,7 +59,7 @@ module _ (l : Layout) (xs ys : List ℕ) where
   own-agree at (b ∷ bs) heads masters heads' masters' i (inr there) = own-agree (at + size_of l.heads b) bs heads.1 masters.1 heads'.1 masters'.1 i there
   own-agree at (b ∷ bs) heads masters heads' masters' i (inl here) = elim (cases_lt i (at + head_size l.heads)) [
     | inl within ↦ index-same xs ys at (head_size l.heads) i (heads'.0 ∙ sym heads.0) here.0 within
-    | inr behind ↦ by_kind (is_master b.role) refl here.1 behind
+    | inr after ↦ by_kind (is_master b.role) refl here.1 after
   ]
     where
       by_kind : (master : Bool) → is_master b.role ≡ master → i < at + (head_size l.heads + (if master then length b.contents else 0)) → at + head_size l.heads ≤ i → slice_index ys i ≡ slice_index xs i

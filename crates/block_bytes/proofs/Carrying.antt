@@ -1,4 +1,4 @@
--- A block that is carried past those behind it, or sinks past those before it: its bytes, the index, and what the list
+-- A block that is carried past those after it, or sinks past those before it: its bytes, the index, and what the list
 -- of blocks is then.
 use Rattle.std.proofs.Common.{◌≡◌, ℕ, ◌+◌, ◌-◌, ◌*◌, ◌/◌, ◌%◌, ◌≤◌, false, not, List, [], ◌∷◌, ◌++◌, length, take, drop, refl, sym, ap, ◌∙◌, subst, arith, append_assoc, append-nil, length-append, length-take-le, length-drop, take-append-drop, IsTrue}
 use Rattle.std.specs.List.{list_all}
@@ -47,39 +47,39 @@ bytes_of l b = head l b ++ body b
 length-bytes_of : (l : Layout) (b : RawBlock) → length (bytes_of l b) ≡ size_of l.heads b
 length-bytes_of l b = let a = length-append (head l b) (body b) in let e = length-head_bytes l.heads l.base (header_of l.heads b) in let c = length-append b.contents b.slack in omega arith
 
-module _ (l : Layout) (before others behind : List RawBlock) (b : RawBlock) where
-  -- the bytes of a zone with a block before some others, or behind them
-  image-first : stale_image l (before ++ b ∷ (others ++ behind)) ≡ front l before ++ (bytes_of l b ++ (rendered l.heads l.base others ++ rear l behind))
-  image-first = image-parts l before b (others ++ behind)
+module _ (l : Layout) (before others after : List RawBlock) (b : RawBlock) where
+  -- the bytes of a zone with a block before some others, or after them
+  image-first : stale_image l (before ++ b ∷ (others ++ after)) ≡ front l before ++ (bytes_of l b ++ (rendered l.heads l.base others ++ rear l after))
+  image-first = image-parts l before b (others ++ after)
       ∙ ap (λ (bytes : List ℕ). front l before ++ (head l b ++ (body b ++ bytes)))
-      (ap (λ (bytes : List ℕ). bytes ++ l.spare) (rendered-append l.heads l.base others behind) ∙ append_assoc (rendered l.heads l.base others) (rendered l.heads l.base behind) l.spare)
-      ∙ ap (λ (bytes : List ℕ). front l before ++ bytes) (sym (append_assoc (head l b) (body b) (rendered l.heads l.base others ++ rear l behind)))
+      (ap (λ (bytes : List ℕ). bytes ++ l.spare) (rendered-append l.heads l.base others after) ∙ append_assoc (rendered l.heads l.base others) (rendered l.heads l.base after) l.spare)
+      ∙ ap (λ (bytes : List ℕ). front l before ++ bytes) (sym (append_assoc (head l b) (body b) (rendered l.heads l.base others ++ rear l after)))
 
-  image-last : stale_image l (before ++ (others ++ b ∷ behind)) ≡ front l before ++ (rendered l.heads l.base others ++ (bytes_of l b ++ rear l behind))
-  image-last = ap (stale_image l) (sym (append_assoc before others (b ∷ behind))) ∙ image-parts l (before ++ others) b behind
-      ∙ ap (λ (bytes : List ℕ). bytes ++ (head l b ++ (body b ++ rear l behind)))
+  image-last : stale_image l (before ++ (others ++ b ∷ after)) ≡ front l before ++ (rendered l.heads l.base others ++ (bytes_of l b ++ rear l after))
+  image-last = ap (stale_image l) (sym (append_assoc before others (b ∷ after))) ∙ image-parts l (before ++ others) b after
+      ∙ ap (λ (bytes : List ℕ). bytes ++ (head l b ++ (body b ++ rear l after)))
       (ap (λ (bytes : List ℕ). header_bytes l ++ bytes) (rendered-append l.heads l.base before others) ∙ sym (append_assoc (header_bytes l) (rendered l.heads l.base before) (rendered l.heads l.base others)))
-      ∙ append_assoc (front l before) (rendered l.heads l.base others) (head l b ++ (body b ++ rear l behind))
-      ∙ ap (λ (bytes : List ℕ). front l before ++ (rendered l.heads l.base others ++ bytes)) (sym (append_assoc (head l b) (body b) (rear l behind)))
+      ∙ append_assoc (front l before) (rendered l.heads l.base others) (head l b ++ (body b ++ rear l after))
+      ∙ ap (λ (bytes : List ℕ). front l before ++ (rendered l.heads l.base others ++ bytes)) (sym (append_assoc (head l b) (body b) (rear l after)))
 
-  -- the numbers of the index before those of the blocks that move, and those behind them
+  -- the numbers of the index before those of the blocks that move, and those after them
   abbrev marks-before : List ℕ
   marks-before = unmarked (zone_header / 4) ++ marks_of l.heads before
 
-  abbrev marks-behind : List ℕ
-  marks-behind = marks_of l.heads behind ++ unmarked (length l.spare / 4)
+  abbrev marks-after : List ℕ
+  marks-after = marks_of l.heads after ++ unmarked (length l.spare / 4)
 
   -- the index of such a zone
-  starts-first : starts_of (with_blocks (before ++ b ∷ (others ++ behind)) l) ≡ marks-before ++ mark_of l.heads b ∷ (unmarked (size_of l.heads b / 4 - 1) ++ (marks_of l.heads others ++ marks-behind))
-  starts-first = starts-parts l before b (others ++ behind)
+  starts-first : starts_of (with_blocks (before ++ b ∷ (others ++ after)) l) ≡ marks-before ++ mark_of l.heads b ∷ (unmarked (size_of l.heads b / 4 - 1) ++ (marks_of l.heads others ++ marks-after))
+  starts-first = starts-parts l before b (others ++ after)
       ∙ ap (λ (ms : List ℕ). marks-before ++ mark_of l.heads b ∷ (unmarked (size_of l.heads b / 4 - 1) ++ ms))
-      (ap (λ (ms : List ℕ). ms ++ unmarked (length l.spare / 4)) (marks_of-append l.heads others behind) ∙ append_assoc (marks_of l.heads others) (marks_of l.heads behind) (unmarked (length l.spare / 4)))
+      (ap (λ (ms : List ℕ). ms ++ unmarked (length l.spare / 4)) (marks_of-append l.heads others after) ∙ append_assoc (marks_of l.heads others) (marks_of l.heads after) (unmarked (length l.spare / 4)))
 
-  starts-last : starts_of (with_blocks (before ++ (others ++ b ∷ behind)) l) ≡ marks-before ++ (marks_of l.heads others ++ mark_of l.heads b ∷ (unmarked (size_of l.heads b / 4 - 1) ++ marks-behind))
-  starts-last = ap (λ (bs : List RawBlock). starts_of (with_blocks bs l)) (sym (append_assoc before others (b ∷ behind))) ∙ starts-parts l (before ++ others) b behind
-      ∙ ap (λ (ms : List ℕ). ms ++ mark_of l.heads b ∷ (unmarked (size_of l.heads b / 4 - 1) ++ marks-behind))
+  starts-last : starts_of (with_blocks (before ++ (others ++ b ∷ after)) l) ≡ marks-before ++ (marks_of l.heads others ++ mark_of l.heads b ∷ (unmarked (size_of l.heads b / 4 - 1) ++ marks-after))
+  starts-last = ap (λ (bs : List RawBlock). starts_of (with_blocks bs l)) (sym (append_assoc before others (b ∷ after))) ∙ starts-parts l (before ++ others) b after
+      ∙ ap (λ (ms : List ℕ). ms ++ mark_of l.heads b ∷ (unmarked (size_of l.heads b / 4 - 1) ++ marks-after))
       (ap (λ (ms : List ℕ). unmarked (zone_header / 4) ++ ms) (marks_of-append l.heads before others) ∙ sym (append_assoc (unmarked (zone_header / 4)) (marks_of l.heads before) (marks_of l.heads others)))
-      ∙ append_assoc marks-before (marks_of l.heads others) (mark_of l.heads b ∷ (unmarked (size_of l.heads b / 4 - 1) ++ marks-behind))
+      ∙ append_assoc marks-before (marks_of l.heads others) (mark_of l.heads b ∷ (unmarked (size_of l.heads b / 4 - 1) ++ marks-after))
 
 module _ (l : Layout) (here : RawBlock) (free : IsTrue (is_free here.role)) (none : length here.slack ≡ 0) (stale : List ℕ) (long : length stale ≡ size_of l.heads here) where
   -- a free block, of which all bytes but its header are others
@@ -101,14 +101,14 @@ module _ (l : Layout) (here : RawBlock) (free : IsTrue (is_free here.role)) (non
       ∙ written-middle low (take k stale) (left ++ high) (head l here) at there (omega arith)
       ∙ ap (λ (xs : List ℕ). low ++ xs) (sym (append_assoc (head l here) left high)) ∙ (λ i. low ++ ((same i ++ whole i) ++ high))
 
--- blocks with one before some of them, or behind these
+-- blocks with one before some of them, or after these
 abbrev pub with-first : List RawBlock → List RawBlock → List RawBlock → RawBlock → List RawBlock
-with-first before others behind b = before ++ b ∷ (others ++ behind)
+with-first before others after b = before ++ b ∷ (others ++ after)
 
 abbrev pub with-last : List RawBlock → List RawBlock → List RawBlock → RawBlock → List RawBlock
-with-last before others behind b = before ++ (others ++ b ∷ behind)
+with-last before others after b = before ++ (others ++ b ∷ after)
 
--- Memory in which a block has moved to where these blocks have it, behind the zone's header as it was.
+-- Memory in which a block has moved to where these blocks have it, after the zone's header as it was.
 pub record HasMoved (z : Inside) (here : RawBlock) (blocks : RawBlock → List RawBlock) (m : State) : Type 0 where
   pub moved : RawBlock
   pub same : IsMoved here moved
@@ -138,32 +138,32 @@ pub record LiesFrom (z : Inside) (start : ℕ) (header : Header) (count : ℕ) :
   pub even_count : count % 4 ≡ 0
   pub free : (p n : ℕ) → start ≤ z.spec.base + p → z.spec.base + p + n ≤ start + header.size + count → IsFree z.memory.lent p n
 
-module _ (z : Inside) (whole : IsLayout z) (before others behind : List RawBlock) (here : RawBlock) where
+module _ (z : Inside) (whole : IsLayout z) (before others after : List RawBlock) (here : RawBlock) where
   -- a block before the others
-  pub unlent-first : (layout_of z).blocks ≡ before ++ here ∷ (others ++ behind) → IsTrue (none_lent (here ∷ others)) → AreUnlent z before others here
+  pub unlent-first : (layout_of z).blocks ≡ before ++ here ∷ (others ++ after) → IsTrue (none_lent (here ∷ others)) → AreUnlent z before others here
   unlent-first is unlent =
       let p = is_possible z.spec.heads in let none = all-unlent (here ∷ others) unlent in
-      let both = and-true (list_all p before) (list_all p (here ∷ (others ++ behind))) (sym (list_all-append p before (here ∷ (others ++ behind))) ∙ sym (ap (list_all p) is) ∙ whole.possible) in
-      let both' = and-true (p here) (list_all p (others ++ behind)) both.1 in let both'' = and-true (list_all p others) (list_all p behind) (sym (list_all-append p others behind) ∙ both'.1) in
+      let both = and-true (list_all p before) (list_all p (here ∷ (others ++ after))) (sym (list_all-append p before (here ∷ (others ++ after))) ∙ sym (ap (list_all p) is) ∙ whole.possible) in
+      let both' = and-true (p here) (list_all p (others ++ after)) both.1 in let both'' = and-true (list_all p others) (list_all p after) (sym (list_all-append p others after) ∙ both'.1) in
       record { here_unlent = none.0; others_unlent = none.1; before_possible = both.0; here_possible = both'.0; others_possible = both''.0 }
 
-  -- a block behind them
-  pub unlent-last : (layout_of z).blocks ≡ before ++ (others ++ here ∷ behind) → IsTrue (none_lent (others ++ here ∷ [])) → AreUnlent z before others here
+  -- a block after them
+  pub unlent-last : (layout_of z).blocks ≡ before ++ (others ++ here ∷ after) → IsTrue (none_lent (others ++ here ∷ [])) → AreUnlent z before others here
   unlent-last is unlent =
       let p = is_possible z.spec.heads in let q = λ (b : RawBlock). not b.lent in
       let none = and-true (none_lent others) (none_lent (here ∷ [])) (sym (list_all-append q others (here ∷ [])) ∙ unlent) in
-      let both = and-true (list_all p before) (list_all p (others ++ here ∷ behind)) (sym (list_all-append p before (others ++ here ∷ behind)) ∙ sym (ap (list_all p) is) ∙ whole.possible) in
-      let both' = and-true (list_all p others) (list_all p (here ∷ behind)) (sym (list_all-append p others (here ∷ behind)) ∙ both.1) in
-      record { here_unlent = (all-unlent (here ∷ []) none.1).0; others_unlent = all-unlent others none.0; before_possible = both.0; here_possible = (and-true (p here) (list_all p behind) both'.1).0; others_possible = both'.0 }
+      let both = and-true (list_all p before) (list_all p (others ++ here ∷ after)) (sym (list_all-append p before (others ++ here ∷ after)) ∙ sym (ap (list_all p) is) ∙ whole.possible) in
+      let both' = and-true (list_all p others) (list_all p (here ∷ after)) (sym (list_all-append p others (here ∷ after)) ∙ both.1) in
+      record { here_unlent = (all-unlent (here ∷ []) none.1).0; others_unlent = all-unlent others none.0; before_possible = both.0; here_possible = (and-true (p here) (list_all p after) both'.1).0; others_possible = both'.0 }
 
   -- where they lie
-  pub lies-from : AreUnlent z before others here → (run : List RawBlock) → (layout_of z).blocks ≡ before ++ (run ++ behind) → AllUnlent run → total_of z.spec.heads run ≡ size_of z.spec.heads here + total_of z.spec.heads others
+  pub lies-from : AreUnlent z before others here → (run : List RawBlock) → (layout_of z).blocks ≡ before ++ (run ++ after) → AllUnlent run → total_of z.spec.heads run ≡ size_of z.spec.heads here + total_of z.spec.heads others
       → (start : ℕ) (header : Header) (count : ℕ) → start ≡ z.spec.base + zone_header + total_of z.spec.heads before → header ≡ header_of z.spec.heads here → count ≡ total_of z.spec.heads others → LiesFrom z start header count
   lies-from a run is unlent sum start header count there said long =
       let heads = z.spec.heads in let p = IsPossible-from heads here a.here_possible in let large = p.large in let some = smallest-block heads in let even = p.even in let few = p.few in
       let size : header.size ≡ size_of heads here = ap (λ (h : Header). h.size) said in let slack : header.correction ≡ length here.slack = ap (λ (h : Header). h.correction) said in
       let first = length-marks_of heads before a.before_possible in let second = length-marks_of heads others a.others_possible in
-      let total = ap (total_of heads) is ∙ total_of-append heads before (run ++ behind) in let total' = total_of-append heads run behind in let ends = total-ends z whole in
+      let total = ap (total_of heads) is ∙ total_of-append heads before (run ++ after) in let total' = total_of-append heads run after in let ends = total-ends z whole in
       record {
         above = omega arith;
         below = omega arith;
@@ -176,10 +176,10 @@ module _ (z : Inside) (whole : IsLayout z) (before others behind : List RawBlock
         even = omega arith;
         even_size = omega arith;
         even_count = omega arith;
-        free = λ p n low high. unlent-free z whole before run behind is unlent p n (omega arith) (omega arith);
+        free = λ p n low high. unlent-free z whole before run after is unlent p n (omega arith) (omega arith);
       }
 
-module _ (z : Inside) (whole : IsLayout z) (small : ArePossible z.spec) (before others behind : List RawBlock) (here : RawBlock) (a : AreUnlent z before others here) where
+module _ (z : Inside) (whole : IsLayout z) (small : ArePossible z.spec) (before others after : List RawBlock) (here : RawBlock) (a : AreUnlent z before others here) where
   -- no bytes of it are over where it is free
   none-over : IsTrue (is_free here.role) → length here.slack ≡ 0
   none-over free = slack-free z.spec.heads here.role (length here.slack) free (IsPossible-from z.spec.heads here a.here_possible).told
@@ -188,25 +188,25 @@ module _ (z : Inside) (whole : IsLayout z) (small : ArePossible z.spec) (before 
   abbrev rest : List ℕ
   rest = rendered z.spec.heads z.spec.base others
 
-  -- how the block lies before the others, and what its going behind them is
-  module _ (is : (layout_of z).blocks ≡ with-first before others behind here) (p n c : ℕ) (there : p ≡ zone_header + total_of z.spec.heads before) (size : n ≡ size_of z.spec.heads here) (count : c ≡ total_of z.spec.heads others) where
-    bytes-first : z.memory.bytes ≡ front (layout_of z) before ++ (bytes_of (layout_of z) here ++ (rest ++ rear (layout_of z) behind))
-    bytes-first = whole.form ∙ ap (stale_image (layout_of z)) is ∙ image-first (layout_of z) before others behind here
+  -- how the block lies before the others, and what its going after them is
+  module _ (is : (layout_of z).blocks ≡ with-first before others after here) (p n c : ℕ) (there : p ≡ zone_header + total_of z.spec.heads before) (size : n ≡ size_of z.spec.heads here) (count : c ≡ total_of z.spec.heads others) where
+    bytes-first : z.memory.bytes ≡ front (layout_of z) before ++ (bytes_of (layout_of z) here ++ (rest ++ rear (layout_of z) after))
+    bytes-first = whole.form ∙ ap (stale_image (layout_of z)) is ∙ image-first (layout_of z) before others after here
 
     -- all turn
-    pub carried-used : (m : State) → m ≡ with_bytes z.memory p (part z.memory.bytes (p + n) c ++ part z.memory.bytes p n) → HasMoved z here (with-last before others behind) m
+    pub carried-used : (m : State) → m ≡ with_bytes z.memory p (part z.memory.bytes (p + n) c ++ part z.memory.bytes p n) → HasMoved z here (with-last before others after) m
     carried-used m is_m = let l = layout_of z in let b = length-front l before in let e = length-bytes_of l here in let f = length-rendered z.spec.heads z.spec.base others in record {
       moved = here;
       same = moved-itself here;
       kept = kept-written z z.memory m p (part z.memory.bytes (p + n) c ++ part z.memory.bytes p n) (kept-first z whole small) is_m (omega arith);
       bytes = ap (λ (s : State). s.bytes) is_m
-          ∙ parts-turned z.memory.bytes (front l before) (bytes_of l here) rest (rear l behind) bytes-first p (omega arith) (p + n) c n (omega arith) (omega arith) (omega arith)
-          ∙ sym (image-last l before others behind here);
+          ∙ parts-turned z.memory.bytes (front l before) (bytes_of l here) rest (rear l after) bytes-first p (omega arith) (p + n) c n (omega arith) (omega arith) (omega arith)
+          ∙ sym (image-last l before others after here);
     }
 
-    -- the header of a free one is written behind the others, which have slid down
+    -- the header of a free one is written after the others, which have slid down
     carried-anew : (m : State) (free : IsTrue (is_free here.role)) (stale : List ℕ) → length stale ≡ size_of z.spec.heads here → (slid : State) → IsKept z slid
-        → slid.bytes ≡ front (layout_of z) before ++ (rest ++ (stale ++ rear (layout_of z) behind)) → m ≡ with_bytes slid (p + c) (head (layout_of z) here) → HasMoved z here (with-last before others behind) m
+        → slid.bytes ≡ front (layout_of z) before ++ (rest ++ (stale ++ rear (layout_of z) after)) → m ≡ with_bytes slid (p + c) (head (layout_of z) here) → HasMoved z here (with-last before others after) m
     carried-anew m free stale fits slid kept slides is_m =
         let l = layout_of z in let b = length-front l before in let f = length-rendered z.spec.heads z.spec.base others in let g = length-append (front l before) rest in
         record {
@@ -214,63 +214,63 @@ module _ (z : Inside) (whole : IsLayout z) (small : ArePossible z.spec) (before 
           same = anew-moved l here free (none-over free) stale fits;
           kept = kept-written z slid m (p + c) (head l here) kept is_m (omega arith);
           bytes = ap (λ (s : State). s.bytes) is_m
-              ∙ ap (λ (xs : List ℕ). written xs (p + c) (head l here)) (slides ∙ sym (append_assoc (front l before) rest (stale ++ rear l behind)))
-              ∙ anew-written l here free (none-over free) stale fits (front l before ++ rest) (rear l behind) (p + c) (omega arith)
-              ∙ append_assoc (front l before) rest (bytes_of l (anew l here free (none-over free) stale fits) ++ rear l behind)
-              ∙ sym (image-last l before others behind (anew l here free (none-over free) stale fits));
+              ∙ ap (λ (xs : List ℕ). written xs (p + c) (head l here)) (slides ∙ sym (append_assoc (front l before) rest (stale ++ rear l after)))
+              ∙ anew-written l here free (none-over free) stale fits (front l before ++ rest) (rear l after) (p + c) (omega arith)
+              ∙ append_assoc (front l before) rest (bytes_of l (anew l here free (none-over free) stale fits) ++ rear l after)
+              ∙ sym (image-last l before others after (anew l here free (none-over free) stale fits));
         }
 
-    -- the others slide down, and the header is written behind them
-    pub carried-free : (m : State) → IsTrue (is_free here.role) → m ≡ with_bytes (with_bytes z.memory p (part z.memory.bytes (p + n) c)) (p + c) (head (layout_of z) here) → HasMoved z here (with-last before others behind) m
+    -- the others slide down, and the header is written after them
+    pub carried-free : (m : State) → IsTrue (is_free here.role) → m ≡ with_bytes (with_bytes z.memory p (part z.memory.bytes (p + n) c)) (p + c) (head (layout_of z) here) → HasMoved z here (with-last before others after) m
     carried-free m free is_m =
         let l = layout_of z in let b = length-front l before in let e = length-bytes_of l here in let f = length-rendered z.spec.heads z.spec.base others in
         let sum = length-append (bytes_of l here) rest in let cut = length-drop (length rest) (bytes_of l here ++ rest) in
         carried-anew m free (drop (length rest) (bytes_of l here ++ rest)) (omega arith) (with_bytes z.memory p (part z.memory.bytes (p + n) c))
         (kept-written z z.memory (with_bytes z.memory p (part z.memory.bytes (p + n) c)) p (part z.memory.bytes (p + n) c) (kept-first z whole small) refl (omega arith))
-        (slid-down z.memory.bytes (front l before) (bytes_of l here) rest (rear l behind) bytes-first p (omega arith) (p + n) c (omega arith) (omega arith)) is_m
+        (slid-down z.memory.bytes (front l before) (bytes_of l here) rest (rear l after) bytes-first p (omega arith) (p + n) c (omega arith) (omega arith)) is_m
 
     -- the index then
-    pub carried-marks : (b : RawBlock) → IsMoved here b → (k : ℕ) → k ≡ mark_of z.spec.heads here → set (shifted_down ((p + n) / 4) (p / 4) (c / 4) z.index) (p / 4 + c / 4) k ≡ starts_of (with_blocks (with-last before others behind b) (layout_of z))
+    pub carried-marks : (b : RawBlock) → IsMoved here b → (k : ℕ) → k ≡ mark_of z.spec.heads here → set (shifted_down ((p + n) / 4) (p / 4) (c / 4) z.index) (p / 4 + c / 4) k ≡ starts_of (with_blocks (with-last before others after b) (layout_of z))
     carried-marks b moved k mark =
         let l = layout_of z in let heads = z.spec.heads in let h = IsPossible-from heads here a.here_possible in let large = h.large in let even = h.even in let some = smallest-block heads in
         let first = length-marks_of heads before a.before_possible in let second = length-marks_of heads others a.others_possible in let long = length-before heads before (p / 4) a.before_possible (omega arith) in
         ap (λ (ms : List ℕ). set (shifted_down ((p + n) / 4) (p / 4) (c / 4) ms) (p / 4 + c / 4) k)
-        (whole.marked ∙ ap (λ (bs : List RawBlock). starts_of (with_blocks bs l)) is ∙ starts-first l before others behind here)
-        ∙ numbers-down (marks-before l before others behind here) (marks_of heads others) (marks-behind l before others behind here) (mark_of heads here) k (size_of heads here / 4 - 1)
+        (whole.marked ∙ ap (λ (bs : List RawBlock). starts_of (with_blocks bs l)) is ∙ starts-first l before others after here)
+        ∙ numbers-down (marks-before l before others after here) (marks_of heads others) (marks-after l before others after here) (mark_of heads here) k (size_of heads here / 4 - 1)
         ((p + n) / 4) (p / 4) (c / 4) (p / 4 + c / 4) (sym long) (omega arith) (omega arith) refl
-        ∙ (λ i. marks-before l before others behind here ++ (marks_of heads others ++ (mark ∙ sym (moved-mark heads here b moved)) i ∷ (unmarked (sym (moved-size heads here b moved) i / 4 - 1) ++ marks-behind l before others behind here)))
-        ∙ sym (starts-last l before others behind b)
+        ∙ (λ i. marks-before l before others after here ++ (marks_of heads others ++ (mark ∙ sym (moved-mark heads here b moved)) i ∷ (unmarked (sym (moved-size heads here b moved) i / 4 - 1) ++ marks-after l before others after here)))
+        ∙ sym (starts-last l before others after b)
 
     -- what the fields stand for then
-    pub carried-read : (m s : State) (index : List ℕ) (base : ℕ) (e : HasMoved z here (with-last before others behind) m) → index ≡ starts_of (with_blocks (with-last before others behind e.moved) (layout_of z)) → base ≡ z.spec.base
-        → s ≡ counted m base 0 0 (first_marked base index) → IsRead (record z { memory = s; index = index }) (with_blocks (with-last before others behind e.moved) (layout_of z))
+    pub carried-read : (m s : State) (index : List ℕ) (base : ℕ) (e : HasMoved z here (with-last before others after) m) → index ≡ starts_of (with_blocks (with-last before others after e.moved) (layout_of z)) → base ≡ z.spec.base
+        → s ≡ counted m base 0 0 (first_marked base index) → IsRead (record z { memory = s; index = index }) (with_blocks (with-last before others after e.moved) (layout_of z))
     carried-read m s index base e marks base_is settles =
-        let heads = z.spec.heads in let regroup : before ++ ((others ++ e.moved ∷ []) ++ behind) ≡ with-last before others behind e.moved = ap (λ (bs : List RawBlock). before ++ bs) (append_assoc others (e.moved ∷ []) behind) in
+        let heads = z.spec.heads in let regroup : before ++ ((others ++ e.moved ∷ []) ++ after) ≡ with-last before others after e.moved = ap (λ (bs : List RawBlock). before ++ bs) (append_assoc others (e.moved ∷ []) after) in
         let sum = total_of-append heads others (e.moved ∷ []) in let sizes = moved-size heads here e.moved e.same in let frees = free-append heads others (e.moved ∷ []) in let one = moved-free_bytes heads here e.moved e.same in
         subst (λ (bs : List RawBlock). IsRead (record z { memory = s; index = index }) (with_blocks bs (layout_of z))) regroup
-        (replaced z whole small before (here ∷ others) (others ++ e.moved ∷ []) behind is (a.here_unlent, a.others_unlent) (more-unlent others e.moved a.others_unlent (e.same.lent ∙ a.here_unlent)) (omega arith)
+        (replaced z whole small before (here ∷ others) (others ++ e.moved ∷ []) after is (a.here_unlent, a.others_unlent) (more-unlent others e.moved a.others_unlent (e.same.lent ∙ a.here_unlent)) (omega arith)
         (possible-with heads others (e.moved ∷ []) a.others_possible (possible-more heads e.moved [] (moved-possible heads here e.moved e.same a.here_possible) refl))
         m s index base 0 0 e.kept.name e.kept.lent (e.bytes ∙ sym (ap (stale_image (layout_of z)) regroup)) (marks ∙ sym (ap (λ (bs : List RawBlock). starts_of (with_blocks bs (layout_of z))) regroup)) base_is (omega arith) settles)
 
-  -- how the block lies behind the others, and what its going before them is
-  module _ (is : (layout_of z).blocks ≡ with-last before others behind here) (p n c : ℕ) (there : p ≡ zone_header + total_of z.spec.heads before) (size : n ≡ size_of z.spec.heads here) (count : c ≡ total_of z.spec.heads others) where
-    bytes-last : z.memory.bytes ≡ front (layout_of z) before ++ (rest ++ (bytes_of (layout_of z) here ++ rear (layout_of z) behind))
-    bytes-last = whole.form ∙ ap (stale_image (layout_of z)) is ∙ image-last (layout_of z) before others behind here
+  -- how the block lies after the others, and what its going before them is
+  module _ (is : (layout_of z).blocks ≡ with-last before others after here) (p n c : ℕ) (there : p ≡ zone_header + total_of z.spec.heads before) (size : n ≡ size_of z.spec.heads here) (count : c ≡ total_of z.spec.heads others) where
+    bytes-last : z.memory.bytes ≡ front (layout_of z) before ++ (rest ++ (bytes_of (layout_of z) here ++ rear (layout_of z) after))
+    bytes-last = whole.form ∙ ap (stale_image (layout_of z)) is ∙ image-last (layout_of z) before others after here
 
     -- all turn
-    pub sunk-used : (m : State) → m ≡ with_bytes z.memory p (part z.memory.bytes (p + c) n ++ part z.memory.bytes p c) → HasMoved z here (with-first before others behind) m
+    pub sunk-used : (m : State) → m ≡ with_bytes z.memory p (part z.memory.bytes (p + c) n ++ part z.memory.bytes p c) → HasMoved z here (with-first before others after) m
     sunk-used m is_m = let l = layout_of z in let b = length-front l before in let e = length-bytes_of l here in let f = length-rendered z.spec.heads z.spec.base others in record {
       moved = here;
       same = moved-itself here;
       kept = kept-written z z.memory m p (part z.memory.bytes (p + c) n ++ part z.memory.bytes p c) (kept-first z whole small) is_m (omega arith);
       bytes = ap (λ (s : State). s.bytes) is_m
-          ∙ parts-turned z.memory.bytes (front l before) rest (bytes_of l here) (rear l behind) bytes-last p (omega arith) (p + c) n c (omega arith) (omega arith) (omega arith)
-          ∙ sym (image-first l before others behind here);
+          ∙ parts-turned z.memory.bytes (front l before) rest (bytes_of l here) (rear l after) bytes-last p (omega arith) (p + c) n c (omega arith) (omega arith) (omega arith)
+          ∙ sym (image-first l before others after here);
     }
 
     -- the header of a free one is written before the others, which have slid up
     sunk-anew : (m : State) (free : IsTrue (is_free here.role)) (stale : List ℕ) → length stale ≡ size_of z.spec.heads here → (slid : State) → IsKept z slid
-        → slid.bytes ≡ front (layout_of z) before ++ (stale ++ (rest ++ rear (layout_of z) behind)) → m ≡ with_bytes slid p (head (layout_of z) here) → HasMoved z here (with-first before others behind) m
+        → slid.bytes ≡ front (layout_of z) before ++ (stale ++ (rest ++ rear (layout_of z) after)) → m ≡ with_bytes slid p (head (layout_of z) here) → HasMoved z here (with-first before others after) m
     sunk-anew m free stale fits slid kept slides is_m =
         let l = layout_of z in let b = length-front l before in
         record {
@@ -278,37 +278,37 @@ module _ (z : Inside) (whole : IsLayout z) (small : ArePossible z.spec) (before 
           same = anew-moved l here free (none-over free) stale fits;
           kept = kept-written z slid m p (head l here) kept is_m (omega arith);
           bytes = ap (λ (s : State). s.bytes) is_m ∙ ap (λ (xs : List ℕ). written xs p (head l here)) slides
-              ∙ anew-written l here free (none-over free) stale fits (front l before) (rest ++ rear l behind) p (omega arith)
-              ∙ sym (image-first l before others behind (anew l here free (none-over free) stale fits));
+              ∙ anew-written l here free (none-over free) stale fits (front l before) (rest ++ rear l after) p (omega arith)
+              ∙ sym (image-first l before others after (anew l here free (none-over free) stale fits));
         }
 
     -- the others slide up, and the header is written before them
-    pub sunk-free : (m : State) → IsTrue (is_free here.role) → m ≡ with_bytes (with_bytes z.memory (p + n) (part z.memory.bytes p c)) p (head (layout_of z) here) → HasMoved z here (with-first before others behind) m
+    pub sunk-free : (m : State) → IsTrue (is_free here.role) → m ≡ with_bytes (with_bytes z.memory (p + n) (part z.memory.bytes p c)) p (head (layout_of z) here) → HasMoved z here (with-first before others after) m
     sunk-free m free is_m =
         let l = layout_of z in let b = length-front l before in let e = length-bytes_of l here in let f = length-rendered z.spec.heads z.spec.base others in
         let sum = length-append rest (bytes_of l here) in let cut = length-take-le (length (bytes_of l here)) (rest ++ bytes_of l here) (omega arith) in
         sunk-anew m free (take (length (bytes_of l here)) (rest ++ bytes_of l here)) (omega arith) (with_bytes z.memory (p + n) (part z.memory.bytes p c))
         (kept-written z z.memory (with_bytes z.memory (p + n) (part z.memory.bytes p c)) (p + n) (part z.memory.bytes p c) (kept-first z whole small) refl (omega arith))
-        (slid-up z.memory.bytes (front l before) rest (bytes_of l here) (rear l behind) bytes-last p (omega arith) (p + n) c (omega arith) (omega arith)) is_m
+        (slid-up z.memory.bytes (front l before) rest (bytes_of l here) (rear l after) bytes-last p (omega arith) (p + n) c (omega arith) (omega arith)) is_m
 
     -- the index then
-    pub sunk-marks : (b : RawBlock) → IsMoved here b → (k : ℕ) → k ≡ mark_of z.spec.heads here → set (shifted_up (p / 4) ((p + n) / 4) (c / 4) z.index) (p / 4) k ≡ starts_of (with_blocks (with-first before others behind b) (layout_of z))
+    pub sunk-marks : (b : RawBlock) → IsMoved here b → (k : ℕ) → k ≡ mark_of z.spec.heads here → set (shifted_up (p / 4) ((p + n) / 4) (c / 4) z.index) (p / 4) k ≡ starts_of (with_blocks (with-first before others after b) (layout_of z))
     sunk-marks b moved k mark =
         let l = layout_of z in let heads = z.spec.heads in let h = IsPossible-from heads here a.here_possible in let large = h.large in let even = h.even in let some = smallest-block heads in
         let first = length-marks_of heads before a.before_possible in let second = length-marks_of heads others a.others_possible in let long = length-before heads before (p / 4) a.before_possible (omega arith) in
         ap (λ (ms : List ℕ). set (shifted_up (p / 4) ((p + n) / 4) (c / 4) ms) (p / 4) k)
-        (whole.marked ∙ ap (λ (bs : List RawBlock). starts_of (with_blocks bs l)) is ∙ starts-last l before others behind here)
-        ∙ numbers-up (marks-before l before others behind here) (marks_of heads others) (marks-behind l before others behind here) (mark_of heads here) k (size_of heads here / 4 - 1)
+        (whole.marked ∙ ap (λ (bs : List RawBlock). starts_of (with_blocks bs l)) is ∙ starts-last l before others after here)
+        ∙ numbers-up (marks-before l before others after here) (marks_of heads others) (marks-after l before others after here) (mark_of heads here) k (size_of heads here / 4 - 1)
         (p / 4) ((p + n) / 4) (c / 4) (sym long) (omega arith) (omega arith)
-        ∙ (λ i. marks-before l before others behind here ++ (mark ∙ sym (moved-mark heads here b moved)) i ∷ (unmarked (sym (moved-size heads here b moved) i / 4 - 1) ++ (marks_of heads others ++ marks-behind l before others behind here)))
-        ∙ sym (starts-first l before others behind b)
+        ∙ (λ i. marks-before l before others after here ++ (mark ∙ sym (moved-mark heads here b moved)) i ∷ (unmarked (sym (moved-size heads here b moved) i / 4 - 1) ++ (marks_of heads others ++ marks-after l before others after here)))
+        ∙ sym (starts-first l before others after b)
 
     -- what the fields stand for then
-    pub sunk-read : (m s : State) (index : List ℕ) (base : ℕ) (e : HasMoved z here (with-first before others behind) m) → index ≡ starts_of (with_blocks (with-first before others behind e.moved) (layout_of z)) → base ≡ z.spec.base
-        → s ≡ counted m base 0 0 (first_marked base index) → IsRead (record z { memory = s; index = index }) (with_blocks (with-first before others behind e.moved) (layout_of z))
+    pub sunk-read : (m s : State) (index : List ℕ) (base : ℕ) (e : HasMoved z here (with-first before others after) m) → index ≡ starts_of (with_blocks (with-first before others after e.moved) (layout_of z)) → base ≡ z.spec.base
+        → s ≡ counted m base 0 0 (first_marked base index) → IsRead (record z { memory = s; index = index }) (with_blocks (with-first before others after e.moved) (layout_of z))
     sunk-read m s index base e marks base_is settles =
-        let heads = z.spec.heads in let regroup : before ++ ((others ++ here ∷ []) ++ behind) ≡ with-last before others behind here = ap (λ (bs : List RawBlock). before ++ bs) (append_assoc others (here ∷ []) behind) in
+        let heads = z.spec.heads in let regroup : before ++ ((others ++ here ∷ []) ++ after) ≡ with-last before others after here = ap (λ (bs : List RawBlock). before ++ bs) (append_assoc others (here ∷ []) after) in
         let sum = total_of-append heads others (here ∷ []) in let sizes = moved-size heads here e.moved e.same in let frees = free-append heads others (here ∷ []) in let one = moved-free_bytes heads here e.moved e.same in
-        replaced z whole small before (others ++ here ∷ []) (e.moved ∷ others) behind (is ∙ sym regroup) (more-unlent others here a.others_unlent a.here_unlent) (e.same.lent ∙ a.here_unlent, a.others_unlent) (omega arith)
+        replaced z whole small before (others ++ here ∷ []) (e.moved ∷ others) after (is ∙ sym regroup) (more-unlent others here a.others_unlent a.here_unlent) (e.same.lent ∙ a.here_unlent, a.others_unlent) (omega arith)
         (possible-more heads e.moved others (moved-possible heads here e.moved e.same a.here_possible) a.others_possible)
         m s index base 0 0 e.kept.name e.kept.lent e.bytes marks base_is (omega arith) settles

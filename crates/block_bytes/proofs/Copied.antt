@@ -21,7 +21,7 @@ use Rattle.block_bytes.proofs.Settled.{unlent-free}
 use Rattle.block_bytes.proofs.ReadParts.{part-read}
 use Rattle.block_bytes.proofs.Recorded.{IsReadWhole, grows-if, noted-awake, written-kept}
 
--- Where n bytes of contents of a block lie, from a place among them on, whose header stands at an address.
+-- Where n bytes of contents of a block lie, from a place among them on, whose header is at an address.
 pub record LiesAt (z : Inside) (at start n : ℕ) : Type 0 where
   pub inside : (p : ℕ) → p ≡ at - z.spec.base + head_size z.spec.heads + start → p + n ≤ length z.memory.bytes
   pub free : (p : ℕ) → p ≡ at - z.spec.base + head_size z.spec.heads + start → IsFree z.memory.lent p n
@@ -31,10 +31,10 @@ pub record LiesAt (z : Inside) (at start n : ℕ) : Type 0 where
 -- those of a block of the list that isn't lent do
 lies_at : (z : Inside) → IsLayout z → (at start n : ℕ) (b : BlockAt (layout_of z) at) → b.here.lent ≡ false → start + n ≤ length b.here.contents → LiesAt z at start n
 lies_at z whole at start n b unlent within =
-    let i = IsIn-from z whole b.before b.here b.behind b.blocks in let place = b.place in
+    let i = IsIn-from z whole b.before b.here b.after b.blocks in let place = b.place in
     record {
       inside = λ p is. omega arith;
-      free = λ p is. unlent-free z whole b.before (b.here ∷ []) b.behind b.blocks (unlent, tt) p n (omega arith) (omega arith);
+      free = λ p is. unlent-free z whole b.before (b.here ∷ []) b.after b.blocks (unlent, tt) p n (omega arith) (omega arith);
       low = omega arith;
       fits = omega arith;
     }
@@ -57,15 +57,15 @@ pub copied-read : (z : Inside) → IsWhole z → ArePossible z.spec → (from st
     → source ≡ from - z.spec.base + head_size z.spec.heads + start → target ≡ to - z.spec.base + head_size z.spec.heads + offset
     → (own : Bool) (kept : Option Record) → own ≡ (is_some z.kept && is_master can.target.here.role) → kept ≡ (if own then all_noted z.kept else z.kept)
     → IsReadWhole (record z { memory = with_bytes z.memory target (part z.memory.bytes source n); kept = kept })
-    (with_blocks (can.target.before ++ copied_over can.target.here offset (take n (drop start can.source.here.contents)) ∷ can.target.behind) (layout_of z))
+    (with_blocks (can.target.before ++ copied_over can.target.here offset (take n (drop start can.source.here.contents)) ∷ can.target.after) (layout_of z))
 copied-read z whole small from start to offset n source target can from_is to_is own kept own_is noted =
     let s = can.source in let t = can.target in let l = layout_of z in
     let s_place = s.place in let t_place = t.place in let within = can.within_source in let within' = can.within_target in
-    let bytes : part z.memory.bytes source n ≡ part s.here.contents start n = part-read z whole.layout s.before s.here s.behind s.blocks source start n (omega arith) within in
+    let bytes : part z.memory.bytes source n ≡ part s.here.contents start n = part-read z whole.layout s.before s.here s.after s.blocks source start n (omega arith) within in
     let long : length (part s.here.contents start n) ≡ n = part_long s.here.contents start n within in
     let long' : length (part z.memory.bytes source n) ≡ n = ap length bytes ∙ long in
-    let read = written-kept z whole small t.before t.here t.behind t.blocks offset target (part z.memory.bytes source n) can.unlent_target (omega arith) (omega arith)
+    let read = written-kept z whole small t.before t.here t.after t.blocks offset target (part z.memory.bytes source n) can.unlent_target (omega arith) (omega arith)
     kept (grows-if (length z.memory.bytes) own z.kept kept noted) (λ master i low high. noted-awake own (is_master t.here.role) z.kept kept own_is noted master i) in
     let same : written t.here.contents offset (part z.memory.bytes source n) ≡ over.written offset (part s.here.contents start n) t.here.contents =
     ap (written t.here.contents offset) bytes ∙ written-over t.here.contents (part s.here.contents start n) offset (omega arith) in
-    record { view = read.view ∙ ap (λ (cs : List ℕ). with_blocks (t.before ++ (record t.here { contents = cs }) ∷ t.behind) l) same; whole = read.whole }
+    record { view = read.view ∙ ap (λ (cs : List ℕ). with_blocks (t.before ++ (record t.here { contents = cs }) ∷ t.after) l) same; whole = read.whole }

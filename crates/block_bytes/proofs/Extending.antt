@@ -17,7 +17,7 @@ use Rattle.block_bytes.specs.declared.header.Role.TheVariants.{Free}
 use Rattle.block_bytes.specs.declared.blocks.Blocks.TheInside.{Inside}
 use Rattle.block_bytes.specs.Head.{head_bytes}
 use Rattle.block_bytes.specs.ZoneHead.{end_field, free_field, lowest_field, zone_head, CanCount}
-use Rattle.block_bytes.specs.Layout.{RawBlock, Layout, free_raw_block, free_block_of, extended, size_of, total_of, free_total, first_free, is_possible, rendered, header_bytes, image_of, address_behind}
+use Rattle.block_bytes.specs.Layout.{RawBlock, Layout, free_raw_block, free_block_of, extended, size_of, total_of, free_total, first_free, is_possible, rendered, header_bytes, image_of, address_after}
 use Rattle.block_bytes.specs.Starts.{free_mark, marks_of, starts_of, first_marked, NoneLower}
 use Rattle.block_bytes.specs.Reading.{layout_of, IsLayout, lent_spans, times}
 use Rattle.block_bytes.proofs.Heads.{length-head_bytes}
@@ -27,7 +27,7 @@ use Rattle.block_bytes.proofs.Starts.{unmarked, length-unmarked, length-marks_of
 use Rattle.block_bytes.proofs.Spans.{apart-above, apart-below, free-same, spans-append, count-append}
 use Rattle.block_bytes.proofs.Parts.{IsRead, image-read, length-header, total-ends, possible-with}
 use Rattle.block_bytes.proofs.Settled.{counted, free-append, front-fits}
-use Rattle.block_bytes.proofs.Counting.{kept-first, kept-written, can-count_more, none-lower, set-behind}
+use Rattle.block_bytes.proofs.Counting.{kept-first, kept-written, can-count_more, none-lower, set-after}
 use Rattle.block_bytes.proofs.Walking.{is_possible-from}
 
 -- no header has more than 12 bytes, and no smallest block more than 16
@@ -81,7 +81,7 @@ module _ (z : Inside) (heads : HeadKind) (base size limit : ℕ) (are : AreRead 
       → index ≡ set z.index (size / 4) free_mark → NoneLower base (big_number 4 (part m.bytes lowest_field 4)) (size / 4) index
   low-extend whole m index headed marked = none-lower z m index base (size / 4)
       (kept-written z z.memory m z.spec.size _ (kept-first z whole are.possible) (headed-read m headed) whole.low)
-      are.base_is (set-behind z.index index (size / 4) free_mark (size / 4) marked (omega arith))
+      are.base_is (set-after z.index index (size / 4) free_mark (size / 4) marked (omega arith))
 
 module _ (z : Inside) (whole : IsLayout z) where
   -- how many bytes there are up to the limit
@@ -92,7 +92,7 @@ module _ (z : Inside) (whole : IsLayout z) where
   pub extended-same : z.spec.size ≡ z.spec.limit → layout_of z ≡ extended (layout_of z)
   extended-same full = let long = length-spare in extended-nil (layout_of z) (nil_from_length (layout_of z).spare (omega arith))
 
-  -- none of the bytes behind the last block is lent
+  -- none of the bytes after the last block is lent
   pub spare-free : (p n : ℕ) → p ≡ z.spec.size → IsFree z.memory.lent p n
   spare-free p n there = let ends = total-ends z whole in
       free-same z.memory.lent (lent_spans z.spec.heads zone_header (layout_of z).blocks) p n whole.lent (apart-below z.spec.heads zone_header p n (layout_of z).blocks (omega arith))
@@ -103,7 +103,7 @@ module _ (z : Inside) (whole : IsLayout z) where
       (free-same z.memory.lent (lent_spans z.spec.heads zone_header (layout_of z).blocks) end_field 4 whole.lent (apart-above z.spec.heads zone_header end_field 4 (layout_of z).blocks (omega arith)))
 
 module _ (z : Inside) (whole : IsLayout z) (small : ArePossible z.spec) (more : z.spec.size < z.spec.limit) where
-  -- the index has a number for the first bytes behind the last block
+  -- the index has a number for the first bytes after the last block
   pub room-marked : z.spec.size / 4 < length z.index
   room-marked = let l = layout_of z in let is : length z.index ≡ length (starts_of l) = ap length whole.marked in let spare = length-spare z whole in let ends = total-ends z whole in
       let long = length-marks_of l.heads l.blocks whole.possible in let enough = small.growth more in
@@ -149,12 +149,12 @@ module _ (z : Inside) (whole : IsLayout z) (small : ArePossible z.spec) (more : 
   abbrev head : List ℕ
   head = head_bytes z.spec.heads z.spec.base (record { size = left; role = Free; correction = 0 })
 
-  -- the bytes behind the zone's header
-  abbrev behind : List ℕ
-  behind = rendered z.spec.heads z.spec.base blocks ++ []
+  -- the bytes after the zone's header
+  abbrev following : List ℕ
+  following = rendered z.spec.heads z.spec.base blocks ++ []
 
   -- its header makes the bytes up to the limit a block
-  headed : written z.memory.bytes z.spec.size head ≡ header_bytes (layout_of z) ++ behind
+  headed : written z.memory.bytes z.spec.size head ≡ header_bytes (layout_of z) ++ following
   headed = let l = layout_of z in let k = head_size z.spec.heads in let old = rendered z.spec.heads z.spec.base l.blocks in
       let few = sizes-few z.spec.heads in let few' = few.0 in let enough = small.growth more in let long = length-spare z whole in
       let a = length-append (header_bytes l) old in let b = length-header l in let c = length-rendered z.spec.heads z.spec.base l.blocks in let d = total-ends z whole in
@@ -192,23 +192,23 @@ module _ (z : Inside) (whole : IsLayout z) (small : ArePossible z.spec) (more : 
   extends m n spec index is set_is settles grown =
       let l = layout_of z in let heads = z.spec.heads in let limit = small.small_enough in let end = small.end_low_enough in let top = end-small z.spec.heads in let bottom = small.base_high_enough in let low = whole.low in
       let kept = kept-written z z.memory m z.spec.size head (kept-first z whole small) is low in
-      let bytes : m.bytes ≡ header_bytes l ++ behind = ap (λ (s : State). s.bytes) is ∙ headed in
+      let bytes : m.bytes ≡ header_bytes l ++ following = ap (λ (s : State). s.bytes) is ∙ headed in
       let free : big_number 4 (part m.bytes free_field 4) + left - 0 ≡ free_total heads blocks =
       let a = free-append heads l.blocks (added ∷ []) in let b = size-added in let c = kept.free in omega arith in
       let marks : index ≡ starts_of after = set_is ∙ marked in
       let lowest : first_marked z.spec.base index ≡ first_free heads (z.spec.base + zone_header) blocks = ap (first_marked z.spec.base) marks ∙ first_marked-starts after all-possible in
-      let start : z.spec.base + zone_header ≡ address_behind l [] = omega arith in let first = first_free heads (address_behind l []) l.blocks in
+      let start : z.spec.base + zone_header ≡ address_after l [] = omega arith in let first = first_free heads (address_after l []) l.blocks in
       let total = total-after in
-      let stop : z.spec.base + z.spec.limit ≡ address_behind after blocks = omega arith in
+      let stop : z.spec.base + z.spec.limit ≡ address_after after blocks = omega arith in
       let image : n.bytes ≡ image_of after =
       ap (λ (s : State). s.bytes) settles
       ∙ (λ i. written (written (written (bytes i) free_field (big_bytes 4 (free i))) lowest_field (big_bytes 4 (lowest i))) end_field (big_bytes 4 (stop i)))
-      ∙ ap (λ (xs : List ℕ). written (written xs lowest_field (big_bytes 4 (first_free heads (z.spec.base + zone_header) blocks))) end_field (big_bytes 4 (address_behind after blocks)))
-      (free-written (address_behind l l.blocks) l.front (free_total heads l.blocks) first behind (free_total heads blocks))
-      ∙ ap (λ (xs : List ℕ). written xs end_field (big_bytes 4 (address_behind after blocks)))
-      (lowest-written (address_behind l l.blocks) l.front (free_total heads blocks) first behind (first_free heads (z.spec.base + zone_header) blocks))
-      ∙ end-written (address_behind l l.blocks) l.front (free_total heads blocks) (first_free heads (z.spec.base + zone_header) blocks) behind (address_behind after blocks)
-      ∙ ap (λ (k : ℕ). zone_head (address_behind after blocks) l.front (free_total heads blocks) (first_free heads k blocks) ++ behind) start in
+      ∙ ap (λ (xs : List ℕ). written (written xs lowest_field (big_bytes 4 (first_free heads (z.spec.base + zone_header) blocks))) end_field (big_bytes 4 (address_after after blocks)))
+      (free-written (address_after l l.blocks) l.front (free_total heads l.blocks) first following (free_total heads blocks))
+      ∙ ap (λ (xs : List ℕ). written xs end_field (big_bytes 4 (address_after after blocks)))
+      (lowest-written (address_after l l.blocks) l.front (free_total heads blocks) first following (first_free heads (z.spec.base + zone_header) blocks))
+      ∙ end-written (address_after l l.blocks) l.front (free_total heads blocks) (first_free heads (z.spec.base + zone_header) blocks) following (address_after after blocks)
+      ∙ ap (λ (k : ℕ). zone_head (address_after after blocks) l.front (free_total heads blocks) (first_free heads k blocks) ++ following) start in
       let long : length n.bytes ≡ z.spec.limit = ap (λ (s : State). length s.bytes) settles ∙ length-written _ end_field _ ∙ length-written _ lowest_field _ ∙ length-written m.bytes free_field _ ∙ kept.long in
       let lent : n.lent ≡ z.memory.lent = ap (λ (s : State). s.lent) settles ∙ kept.lent in
       let name : n.name ≡ z.memory.name = ap (λ (s : State). s.name) settles ∙ kept.name in

@@ -12,7 +12,7 @@ use Rattle.block_bytes.specs.Adopting.{IsHeadAt}
 use Rattle.block_bytes.specs.Head.{head_bytes, header_in, role_in}
 use Rattle.block_bytes.proofs.Heads.{header_in-head_bytes}
 
--- a word at an offset behind a place
+-- a word at an offset after a place
 pub word-at : (xs : List ℕ) (at k n : ℕ) → n ≡ big_number 4 (part xs (at + k) 4) → n ≡ big_number 4 (drop k (drop at xs))
 word-at xs at k n is = is ∙ big_from-take 0 4 4 (drop (at + k) xs) (omega arith) ∙ ap (big_number 4) (sym (drop-drop k at xs))
 

@@ -31,9 +31,9 @@ pub record IsHere (z : Inside) (at : ℕ) (h : Header) : Type 0 where
 -- a block of the list that the fields stand for
 here_itself : (z : Inside) → IsLayout z → (at : ℕ) (h : Header) (b : BlockAt (layout_of z) at) → h ≡ header_of z.spec.heads b.here → IsHere z at h
 here_itself z whole at h b is =
-    let i = IsIn-from z whole b.before b.here b.behind b.blocks in let place = b.place in
+    let i = IsIn-from z whole b.before b.here b.after b.blocks in let place = b.place in
     let size : h.size ≡ size_of z.spec.heads b.here = ap (λ (h : Header). h.size) is in let slack : h.correction ≡ length b.here.slack = ap (λ (h : Header). h.correction) is in
-    let free : free_in h ≡ free_in (header_of z.spec.heads b.here) = ap free_in is in let among = free-among z b.before (b.here ∷ []) b.behind b.blocks in let few = i.here_possible.few in
+    let free : free_in h ≡ free_in (header_of z.spec.heads b.here) = ap free_in is in let among = free-among z b.before (b.here ∷ []) b.after b.blocks in let few = i.here_possible.few in
     record {
       above = omega arith;
       below = omega arith;
@@ -42,7 +42,7 @@ here_itself z whole at h b is =
       within = whole.high;
       all_bytes = whole.all_bytes;
       marks = length-starts z whole;
-      unlent = λ p n there long. subst (λ (k : ℕ). IsFree z.memory.lent p k) (sym long) (head-free z whole b.before b.here b.behind b.blocks p (omega arith));
+      unlent = λ p n there long. subst (λ (k : ℕ). IsFree z.memory.lent p k) (sym long) (head-free z whole b.before b.here b.after b.blocks p (omega arith));
       counted = omega arith;
     }
 
@@ -55,21 +55,21 @@ pub unlent-here : (z : Inside) → IsLayout z → (l : Layout) → layout_of z �
     → (p n : ℕ) → at ≤ z.spec.base + p → z.spec.base + p + n ≤ at + h.size → IsFree z.memory.lent p n
 unlent-here z whole l is at h = subst (λ (m : Layout). (b : BlockAt m at) → h ≡ header_of m.heads b.here → b.here.lent ≡ false → (p n : ℕ) → at ≤ z.spec.base + p → z.spec.base + p + n ≤ at + h.size → IsFree z.memory.lent p n) is
     (λ b said unlent p n low high. let place = b.place in let size : h.size ≡ size_of z.spec.heads b.here = ap (λ (h : Header). h.size) said in
-    unlent-free z whole b.before (b.here ∷ []) b.behind b.blocks (unlent, tt) p n (omega arith) (omega arith))
+    unlent-free z whole b.before (b.here ∷ []) b.after b.blocks (unlent, tt) p n (omega arith) (omega arith))
 
--- the block behind the first of two neighbours
+-- the block after the first of two neighbours
 abbrev pub next-block : (l : Layout) (at next : ℕ) (pair : PairAt l at) → next ≡ at + size_of l.heads pair.here → BlockAt l next
 next-block l at next pair is = let sum = total_of-append l.heads pair.before (pair.here ∷ []) in let place = pair.place in record {
   before = pair.before ++ pair.here ∷ [];
   here = pair.next;
-  behind = pair.behind;
-  blocks = pair.blocks ∙ sym (append_assoc pair.before (pair.here ∷ []) (pair.next ∷ pair.behind));
+  after = pair.after;
+  blocks = pair.blocks ∙ sym (append_assoc pair.before (pair.here ∷ []) (pair.next ∷ pair.after));
   place = omega arith;
 }
 
 -- the first of two neighbours
 abbrev pub first-block : (l : Layout) (at : ℕ) → PairAt l at → BlockAt l at
-first-block l at pair = record { before = pair.before; here = pair.here; behind = pair.next ∷ pair.behind; blocks = pair.blocks; place = pair.place }
+first-block l at pair = record { before = pair.before; here = pair.here; after = pair.next ∷ pair.after; blocks = pair.blocks; place = pair.place }
 
 -- what is known of two neighbours with these headers, neither of which is lent
 pub record ArePair (z : Inside) (at : ℕ) (first second : Header) : Type 0 where
@@ -82,10 +82,10 @@ ArePair-from z whole l is at first second = subst (λ (m : Layout). (pair : Pair
     (λ pair one two. let place = pair.place in
     let size : first.size ≡ size_of z.spec.heads pair.here = ap (λ (h : Header). h.size) one in let size' : second.size ≡ size_of z.spec.heads pair.next = ap (λ (h : Header). h.size) two in
     let free : free_in first ≡ free_in (header_of z.spec.heads pair.here) = ap free_in one in let free' : free_in second ≡ free_in (header_of z.spec.heads pair.next) = ap free_in two in
-    let among = free-among z pair.before (pair.here ∷ pair.next ∷ []) pair.behind pair.blocks in
+    let among = free-among z pair.before (pair.here ∷ pair.next ∷ []) pair.after pair.blocks in
     record {
       counted = omega arith;
-      unlent = λ p n low high. unlent-free z whole pair.before (pair.here ∷ pair.next ∷ []) pair.behind pair.blocks (pair.unlent_here, (pair.unlent_next, tt)) p n (omega arith) (omega arith);
+      unlent = λ p n low high. unlent-free z whole pair.before (pair.here ∷ pair.next ∷ []) pair.after pair.blocks (pair.unlent_here, (pair.unlent_next, tt)) p n (omega arith) (omega arith);
     })
 
 -- the size of a block with the bodies of two neighbours

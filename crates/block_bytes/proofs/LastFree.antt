@@ -13,9 +13,9 @@ use Rattle.block_bytes.specs.Reading.{layout_of, IsLayout}
 use Rattle.block_bytes.specs.Starts.{marks_of}
 use Rattle.block_bytes.proofs.ReadBlocks.{and-true, IsPossible, IsPossible-from, smallest-block}
 use Rattle.block_bytes.proofs.Starts.{unmarked, length-unmarked, unmarked-at, large-free, length-marks_of}
-use Rattle.block_bytes.proofs.NextFree.{mark-behind, mark-further, mark-within, used-all, numbers-before, numbers-behind, index-split, are-split}
+use Rattle.block_bytes.proofs.NextFree.{mark-after, mark-further, mark-within, used-all, numbers-before, numbers-after, index-split, are-split}
 
--- the last free one of the blocks behind the first is that of all
+-- the last free one of the blocks after the first is that of all
 last-more : (heads : HeadKind) (from : ℕ) (b : RawBlock) (bs : List RawBlock) (k at : ℕ) → at ≡ from + size_of heads b + 4 * k
     → LastFree heads bs (from + size_of heads b) (from + size_of heads b + 4 * k) → LastFree heads (b ∷ bs) from at
 last-more heads from b bs k at there f = let place = f.place in record {
@@ -28,17 +28,17 @@ last-more heads from b bs k at there f = let place = f.place in record {
   place = omega arith;
 }
 
--- a mark behind that of the first block
-last-behind : (heads : HeadKind) (from : ℕ) (b : RawBlock) (bs : List RawBlock) (j : ℕ) → IsPossible heads b → length (marks_of heads (b ∷ bs)) ≡ size_of heads b / 4 + length (marks_of heads bs)
+-- a mark after that of the first block
+last-after : (heads : HeadKind) (from : ℕ) (b : RawBlock) (bs : List RawBlock) (j : ℕ) → IsPossible heads b → length (marks_of heads (b ∷ bs)) ≡ size_of heads b / 4 + length (marks_of heads bs)
     → ((k : ℕ) → k < length (marks_of heads bs) → 3 ≤ slice_index (marks_of heads bs) k → ((i : ℕ) → k < i → i < length (marks_of heads bs) → slice_index (marks_of heads bs) i < 3) → LastFree heads bs (from + size_of heads b) (from + size_of heads b + 4 * k))
     → suc j < length (marks_of heads (b ∷ bs)) → 3 ≤ slice_index (marks_of heads (b ∷ bs)) (suc j) → ((i : ℕ) → suc j < i → i < length (marks_of heads (b ∷ bs)) → slice_index (marks_of heads (b ∷ bs)) i < 3)
     → LastFree heads (b ∷ bs) from (from + 4 * suc j)
-last-behind heads from b bs j p long others inside large low = elim (cases_lt j (size_of heads b / 4 - 1)) [
+last-after heads from b bs j p long others inside large low = elim (cases_lt j (size_of heads b / 4 - 1)) [
   | inl below ↦ let none = mark-within heads b bs j below in absurd (omega arith)
   | inr above ↦
       let even = p.even in let least = p.large in let some = smallest-block heads in let at = mark-further heads b bs j above in
       last-more heads from b bs (j - (size_of heads b / 4 - 1)) (from + 4 * suc j) (omega arith)
-      (others (j - (size_of heads b / 4 - 1)) (omega arith) (omega arith) (λ i after within. let m = mark-behind heads b bs i p in let l = low (size_of heads b / 4 + i) (omega arith) (omega arith) in omega arith))
+      (others (j - (size_of heads b / 4 - 1)) (omega arith) (omega arith) (λ i after within. let m = mark-after heads b bs i p in let l = low (size_of heads b / 4 + i) (omega arith) (omega arith) in omega arith))
 ]
 
 -- the last mark of 3 or more is that of the last free block
@@ -53,14 +53,14 @@ free-last heads from (b ∷ bs) zero possible inside large low =
       here = b;
       passed = bs;
       blocks = refl;
-      used = used-all heads bs both.1 (λ i inside. let m = mark-behind heads b bs i p in let l = low (size_of heads b / 4 + i) (omega arith) (omega arith) in omega arith);
+      used = used-all heads bs both.1 (λ i inside. let m = mark-after heads b bs i p in let l = low (size_of heads b / 4 + i) (omega arith) (omega arith) in omega arith);
       free = large-free b.lent b.role large;
       place = omega arith;
     }
 free-last heads from (b ∷ bs) (suc j) possible inside large low =
     let both = and-true (is_possible heads b) (list_all (is_possible heads) bs) possible in let p = IsPossible-from heads b both.0 in
     let long = length-marks_of heads (b ∷ bs) possible in let long' = length-marks_of heads bs both.1 in let even = p.even in
-    last-behind heads from b bs j p (omega arith) (λ k inside large low. free-last heads (from + size_of heads b) bs k both.1 inside large low) inside large low
+    last-after heads from b bs j p (omega arith) (λ k inside large low. free-last heads (from + size_of heads b) bs k both.1 inside large low) inside large low
 
 module _ (z : Inside) (whole : IsLayout z) (end : ℕ) (split : SplitAt (layout_of z) end) (place : ℕ) (there : place ≡ (end - z.spec.base) / 4) where
   -- the numbers of the blocks before the address
@@ -74,10 +74,10 @@ module _ (z : Inside) (whole : IsLayout z) (end : ℕ) (split : SplitAt (layout_
   -- a number before the address
   number-below : (i : ℕ) → i < place → slice_index z.index i ≡ slice_index (unmarked (zone_header / 4) ++ low-marks) i
   number-below i below = ap (λ (ms : List ℕ). slice_index ms i) (index-split z whole end split place there)
-      ∙ get_or_append_left (numbers-before z whole end split place there) (marks_of z.spec.heads split.behind ++ numbers-behind z whole end split place there) 0 i
+      ∙ get_or_append_left (numbers-before z whole end split place there) (marks_of z.spec.heads split.after ++ numbers-after z whole end split place there) 0 i
       (let long = (are-split z whole end split place there).long in omega arith)
 
-  -- is that of a block, behind the zone's header
+  -- is that of a block, after the zone's header
   number-low : (i : ℕ) → i < length low-marks → slice_index z.index (zone_header / 4 + i) ≡ slice_index low-marks i
   number-low i inside = number-below (zone_header / 4 + i) (let count = low-count in omega arith)
       ∙ get_or-append_right (unmarked (zone_header / 4)) low-marks (zone_header / 4) (zone_header / 4 + i) 0 (length-unmarked (zone_header / 4)) (omega arith)

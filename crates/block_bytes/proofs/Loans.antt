@@ -54,80 +54,80 @@ mark-used Fixed lent is owned = refl
 mark-used Master lent is owned = refl
 mark-used (Relocatable slot flags) lent is owned = refl
 
-module _ (z : Inside) (whole : IsLayout z) (small : ArePossible z.spec) (before : List RawBlock) (here : RawBlock) (behind : List RawBlock) (is : (layout_of z).blocks ≡ before ++ here ∷ behind) where
+module _ (z : Inside) (whole : IsLayout z) (small : ArePossible z.spec) (before : List RawBlock) (here : RawBlock) (after : List RawBlock) (is : (layout_of z).blocks ≡ before ++ here ∷ after) where
   -- the range of its contents
   abbrev pub range : Span
   range = (zone_header + total_of z.spec.heads before + head_size z.spec.heads, length here.contents)
 
-  -- the ranges of the blocks before it, and of those behind it
+  -- the ranges of the blocks before it, and of those after it
   abbrev ranges_before : List Span
   ranges_before = lent_spans z.spec.heads zone_header before
 
-  abbrev ranges_behind : List Span
-  ranges_behind = lent_spans z.spec.heads (zone_header + total_of z.spec.heads before + size_of z.spec.heads here) behind
+  abbrev ranges_after : List Span
+  ranges_after = lent_spans z.spec.heads (zone_header + total_of z.spec.heads before + size_of z.spec.heads here) after
 
   -- with a block that isn't lent in its place
-  ranges-without : (b : RawBlock) → b.lent ≡ false → size_of z.spec.heads b ≡ size_of z.spec.heads here → lent_spans z.spec.heads zone_header (before ++ b ∷ behind) ≡ ranges_before ++ ranges_behind
-  ranges-without b unlent same = spans-append z.spec.heads zone_header before (b ∷ behind)
-      ∙ ap (λ (ss : List Span). ranges_before ++ ss) (spans-unlent z.spec.heads (zone_header + total_of z.spec.heads before) b behind unlent
-      ∙ ap (λ (n : ℕ). lent_spans z.spec.heads (zone_header + total_of z.spec.heads before + n) behind) same)
+  ranges-without : (b : RawBlock) → b.lent ≡ false → size_of z.spec.heads b ≡ size_of z.spec.heads here → lent_spans z.spec.heads zone_header (before ++ b ∷ after) ≡ ranges_before ++ ranges_after
+  ranges-without b unlent same = spans-append z.spec.heads zone_header before (b ∷ after)
+      ∙ ap (λ (ss : List Span). ranges_before ++ ss) (spans-unlent z.spec.heads (zone_header + total_of z.spec.heads before) b after unlent
+      ∙ ap (λ (n : ℕ). lent_spans z.spec.heads (zone_header + total_of z.spec.heads before + n) after) same)
 
   -- and with it lent
-  ranges-with : (b : RawBlock) → b.lent ≡ true → b.contents ≡ here.contents → size_of z.spec.heads b ≡ size_of z.spec.heads here → lent_spans z.spec.heads zone_header (before ++ b ∷ behind) ≡ ranges_before ++ range ∷ ranges_behind
-  ranges-with b lent contents same = spans-append z.spec.heads zone_header before (b ∷ behind)
-      ∙ ap (λ (ss : List Span). ranges_before ++ ss) (spans-lent z.spec.heads (zone_header + total_of z.spec.heads before) b behind lent
-      ∙ (λ i. (zone_header + total_of z.spec.heads before + head_size z.spec.heads, length (contents i)) ∷ lent_spans z.spec.heads (zone_header + total_of z.spec.heads before + same i) behind))
+  ranges-with : (b : RawBlock) → b.lent ≡ true → b.contents ≡ here.contents → size_of z.spec.heads b ≡ size_of z.spec.heads here → lent_spans z.spec.heads zone_header (before ++ b ∷ after) ≡ ranges_before ++ range ∷ ranges_after
+  ranges-with b lent contents same = spans-append z.spec.heads zone_header before (b ∷ after)
+      ∙ ap (λ (ss : List Span). ranges_before ++ ss) (spans-lent z.spec.heads (zone_header + total_of z.spec.heads before) b after lent
+      ∙ (λ i. (zone_header + total_of z.spec.heads before + head_size z.spec.heads, length (contents i)) ∷ lent_spans z.spec.heads (zone_header + total_of z.spec.heads before + same i) after))
 
   -- the block is lent
   pub lend-read : here.lent ≡ false → IsTrue (has_owner here.role) → lent_count (layout_of z).blocks < most_lent → (m : State) (index : List ℕ) (loans place : ℕ)
       → m ≡ record z.memory { lent = range ∷ z.memory.lent } → place ≡ (zone_header + total_of z.spec.heads before) / 4 → index ≡ set z.index place lent_mark → loans ≡ z.loans + 1
-      → IsRead (record z { memory = m; index = index; loans = loans }) (with_blocks (before ++ lent_block here ∷ behind) (layout_of z))
+      → IsRead (record z { memory = m; index = index; loans = loans }) (with_blocks (before ++ lent_block here ∷ after) (layout_of z))
   lend-read unlent owned few m index loans place is_m there marks loans_are =
-      let i = IsIn-from z whole before here behind is in let p = i.here_possible in let b = lent_block here in
-      let count : lent_count (before ++ b ∷ behind) ≡ suc (lent_count (layout_of z).blocks) =
-      let a = count-append before (b ∷ behind) in let c = count-append before (here ∷ behind) in let d = ap lent_count is in
-      let e : lent_count (here ∷ behind) ≡ lent_count behind = ap (λ (t : Bool). if t then suc (lent_count behind) else lent_count behind) unlent in omega arith in
+      let i = IsIn-from z whole before here after is in let p = i.here_possible in let b = lent_block here in
+      let count : lent_count (before ++ b ∷ after) ≡ suc (lent_count (layout_of z).blocks) =
+      let a = count-append before (b ∷ after) in let c = count-append before (here ∷ after) in let d = ap lent_count is in
+      let e : lent_count (here ∷ after) ≡ lent_count after = ap (λ (t : Bool). if t then suc (lent_count after) else lent_count after) unlent in omega arith in
       let were = whole.loans in
-      contents-changed z whole small before here behind is true here.contents m index loans 0 (zone_header + total_of z.spec.heads before + head_size z.spec.heads + 0) [] refl (omega arith)
+      contents-changed z whole small before here after is true here.contents m index loans 0 (zone_header + total_of z.spec.heads before + head_size z.spec.heads + 0) [] refl (omega arith)
       (sym (written-nothing here.contents 0)) (ap (λ (s : State). s.name) is_m)
       (ap (λ (s : State). s.bytes) is_m ∙ sym (written-nothing z.memory.bytes (zone_header + total_of z.spec.heads before + head_size z.spec.heads + 0)))
       (is_possible-from z.spec.heads b (record { even = p.even; large = p.large; few = p.few; told = p.told; lendable = owned }))
-      (marks ∙ ap (λ (ms : List ℕ). set ms place lent_mark) (marked-parts z whole before here behind is) ∙ mark-written (layout_of z) before here b behind i.before_possible refl place there)
+      (marks ∙ ap (λ (ms : List ℕ). set ms place lent_mark) (marked-parts z whole before here after is) ∙ mark-written (layout_of z) before here b after i.before_possible refl place there)
       (λ s. ap (times s) (ap (λ (s : State). s.lent) is_m)
       ∙ (let a = times-more s range z.memory.lent in let c = whole.lent s ∙ ap (λ (bs : List RawBlock). times s (lent_spans z.spec.heads zone_header bs)) is ∙ ap (times s) (ranges-without here unlent refl) in
-      let d = times-append s ranges_before ranges_behind in let e = times-append s ranges_before (range ∷ ranges_behind) in let f = times-more s range ranges_behind in
-      let g : times s (range ∷ z.memory.lent) ≡ times s (ranges_before ++ range ∷ ranges_behind) = omega arith in g) ∙ ap (times s) (sym (ranges-with b refl refl refl)))
+      let d = times-append s ranges_before ranges_after in let e = times-append s ranges_before (range ∷ ranges_after) in let f = times-more s range ranges_after in
+      let g : times s (range ∷ z.memory.lent) ≡ times s (ranges_before ++ range ∷ ranges_after) = omega arith in g) ∙ ap (times s) (sym (ranges-with b refl refl refl)))
       (omega arith) (omega arith)
 
   -- its range is listed
   pub range-listed : here.lent ≡ true → IsListed z.memory.lent range
   range-listed lent = listed-counted range z.memory.lent (let c = whole.lent range ∙ ap (λ (bs : List RawBlock). times range (lent_spans z.spec.heads zone_header bs)) is ∙ ap (times range) (ranges-with here lent refl refl) in
-      let e = times-append range ranges_before (range ∷ ranges_behind) in let some = counted-listed range (range ∷ ranges_behind) (listed_first range ranges_behind) in omega arith)
+      let e = times-append range ranges_before (range ∷ ranges_after) in let some = counted-listed range (range ∷ ranges_after) (listed_first range ranges_after) in omega arith)
 
   -- some are lent
   pub loans-some : here.lent ≡ true → 1 ≤ z.loans
-  loans-some lent = let were = whole.loans in let c = count-append before (here ∷ behind) in let d = ap lent_count is in
-      let e : lent_count (here ∷ behind) ≡ suc (lent_count behind) = ap (λ (t : Bool). if t then suc (lent_count behind) else lent_count behind) lent in omega arith
+  loans-some lent = let were = whole.loans in let c = count-append before (here ∷ after) in let d = ap lent_count is in
+      let e : lent_count (here ∷ after) ≡ suc (lent_count after) = ap (λ (t : Bool). if t then suc (lent_count after) else lent_count after) lent in omega arith
 
   -- the block comes back
   pub back-read : here.lent ≡ true → (bytes : List ℕ) → length bytes ≡ length here.contents → (m : State) (index : List ℕ) (loans place : ℕ)
       → m ≡ record (with_bytes z.memory (zone_header + total_of z.spec.heads before + head_size z.spec.heads) bytes) { lent = without range z.memory.lent }
       → place ≡ (zone_header + total_of z.spec.heads before) / 4 → index ≡ set z.index place 1 → loans ≡ z.loans - 1
-      → IsRead (record z { memory = m; index = index; loans = loans }) (with_blocks (before ++ given_back here bytes ∷ behind) (layout_of z))
+      → IsRead (record z { memory = m; index = index; loans = loans }) (with_blocks (before ++ given_back here bytes ∷ after) (layout_of z))
   back-read lent bytes long m index loans place is_m there marks loans_are =
-      let i = IsIn-from z whole before here behind is in let p = i.here_possible in let b = given_back here bytes in let even = p.even in let large = p.large in
+      let i = IsIn-from z whole before here after is in let p = i.here_possible in let b = given_back here bytes in let even = p.even in let large = p.large in
       let size : size_of z.spec.heads b ≡ size_of z.spec.heads here = omega arith in
-      let count : suc (lent_count (before ++ b ∷ behind)) ≡ lent_count (layout_of z).blocks =
-      let a = count-append before (b ∷ behind) in let c = count-append before (here ∷ behind) in let d = ap lent_count is in
-      let e : lent_count (here ∷ behind) ≡ suc (lent_count behind) = ap (λ (t : Bool). if t then suc (lent_count behind) else lent_count behind) lent in omega arith in
+      let count : suc (lent_count (before ++ b ∷ after)) ≡ lent_count (layout_of z).blocks =
+      let a = count-append before (b ∷ after) in let c = count-append before (here ∷ after) in let d = ap lent_count is in
+      let e : lent_count (here ∷ after) ≡ suc (lent_count after) = ap (λ (t : Bool). if t then suc (lent_count after) else lent_count after) lent in omega arith in
       let were = whole.loans in let most = whole.few in
       let used : mark_of z.spec.heads b ≡ 1 = mark-used here.role here.lent lent p.lendable in
-      contents-changed z whole small before here behind is false bytes m index loans 0 (zone_header + total_of z.spec.heads before + head_size z.spec.heads) bytes (omega arith) (omega arith)
+      contents-changed z whole small before here after is false bytes m index loans 0 (zone_header + total_of z.spec.heads before + head_size z.spec.heads) bytes (omega arith) (omega arith)
       (sym (written-whole here.contents bytes long)) (ap (λ (s : State). s.name) is_m) (ap (λ (s : State). s.bytes) is_m)
       (is_possible-from z.spec.heads b (record { even = omega arith; large = omega arith; few = p.few; told = p.told; lendable = refl }))
-      (marks ∙ ap (set z.index place) (sym used) ∙ ap (λ (ms : List ℕ). set ms place (mark_of z.spec.heads b)) (marked-parts z whole before here behind is) ∙ mark-written (layout_of z) before here b behind i.before_possible size place there)
+      (marks ∙ ap (set z.index place) (sym used) ∙ ap (λ (ms : List ℕ). set ms place (mark_of z.spec.heads b)) (marked-parts z whole before here after is) ∙ mark-written (layout_of z) before here b after i.before_possible size place there)
       (λ s. ap (times s) (ap (λ (s : State). s.lent) is_m)
       ∙ (let a = times-without s range z.memory.lent (range-listed lent) in let c = whole.lent s ∙ ap (λ (bs : List RawBlock). times s (lent_spans z.spec.heads zone_header bs)) is ∙ ap (times s) (ranges-with here lent refl refl) in
-      let d = times-append s ranges_before ranges_behind in let e = times-append s ranges_before (range ∷ ranges_behind) in let f = times-more s range ranges_behind in
-      let g : times s (without range z.memory.lent) ≡ times s (ranges_before ++ ranges_behind) = omega arith in g) ∙ ap (times s) (sym (ranges-without b refl size)))
+      let d = times-append s ranges_before ranges_after in let e = times-append s ranges_before (range ∷ ranges_after) in let f = times-more s range ranges_after in
+      let g : times s (without range z.memory.lent) ≡ times s (ranges_before ++ ranges_after) = omega arith in g) ∙ ap (times s) (sym (ranges-without b refl size)))
       (omega arith) (omega arith)

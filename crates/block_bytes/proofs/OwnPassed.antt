@@ -4,7 +4,7 @@ use Rattle.std.proofs.lemmas.Bool.{cases_lt}
 use Rattle.mac_base.specs.declared.block.HeadKind.{HeadKind}
 use Rattle.mac_base.specs.HeadKind.{zone_header}
 use Rattle.block_bytes.specs.Finding.{SplitAt}
-use Rattle.block_bytes.specs.Layout.{RawBlock, Layout, BlockAt, address_behind, size_of, total_of}
+use Rattle.block_bytes.specs.Layout.{RawBlock, Layout, BlockAt, address_after, size_of, total_of}
 use Rattle.block_bytes.specs.Structure.{AreWritten, EachMaster, HasHeaders, HasOwn, OwnBetween}
 use Rattle.block_bytes.proofs.Comparing.{same_rest}
 use Rattle.block_bytes.proofs.Rendered.{total_of-append}
@@ -25,18 +25,18 @@ begins heads (x ∷ xs) ys (z ∷ zs) ws same few =
     let b = begins heads xs ys zs ws rest (omega arith) in
     record { more = b.more; is = λ i. sym first i ∷ b.is i }
 
--- a place between blocks, or behind the last, is in the zone
+-- a place between blocks, or after the last, is in the zone
 pub split-inside : (l : Layout) (at : ℕ) → SplitAt l (l.base + at) → (zone_header ≤ at) × (at ≤ zone_header + total_of l.heads l.blocks)
 split-inside l at s =
-    let place = s.place in let all = ap (total_of l.heads) s.blocks in let sum = total_of-append l.heads s.before s.behind in (omega arith, omega arith)
+    let place = s.place in let all = ap (total_of l.heads) s.blocks in let sum = total_of-append l.heads s.before s.after in (omega arith, omega arith)
 
--- behind blocks comes one where they don't end the zone
-pub split-block : (l : Layout) (at : ℕ) → SplitAt l at → at < address_behind l l.blocks → BlockAt l at
-split-block l at s below = by_behind s.behind s.blocks
+-- after blocks comes one where they don't end the zone
+pub split-block : (l : Layout) (at : ℕ) → SplitAt l at → at < address_after l l.blocks → BlockAt l at
+split-block l at s below = by_after s.after s.blocks
   where
-    by_behind : (bs : List RawBlock) → l.blocks ≡ s.before ++ bs → BlockAt l at
-    by_behind [] is = let sum = ap (total_of l.heads) is in let all = total_of-append l.heads s.before [] in let place = s.place in absurd (omega arith)
-    by_behind (b ∷ bs) is = record { before = s.before; here = b; behind = bs; blocks = is; place = s.place }
+    by_after : (bs : List RawBlock) → l.blocks ≡ s.before ++ bs → BlockAt l at
+    by_after [] is = let sum = ap (total_of l.heads) is in let all = total_of-append l.heads s.before [] in let place = s.place in absurd (omega arith)
+    by_after (b ∷ bs) is = record { before = s.before; here = b; after = bs; blocks = is; place = s.place }
 
 module _ (l : Layout) (bytes : List ℕ) where
   headers-first : (at : ℕ) (xs ys : List RawBlock) → HasHeaders l bytes at (xs ++ ys) → HasHeaders l bytes at xs
@@ -70,15 +70,15 @@ module _ (l : Layout) (bytes : List ℕ) where
   own-there all at b =
       let place = b.place in
       subst (λ n. HasOwn l bytes n (b.here ∷ [])) (let e : zone_header + total_of l.heads b.before ≡ at = omega arith in e)
-      (own-first (zone_header + total_of l.heads b.before) (b.here ∷ []) b.behind
-      (own-rest zone_header b.before (b.here ∷ b.behind) (subst (HasOwn l bytes zone_header) b.blocks all)))
+      (own-first (zone_header + total_of l.heads b.before) (b.here ∷ []) b.after
+      (own-rest zone_header b.before (b.here ∷ b.after) (subst (HasOwn l bytes zone_header) b.blocks all)))
 
   -- no block was passed yet
   pub own-start : (at : ℕ) → SplitAt l (l.base + at) → OwnBetween l bytes at at
   own-start at s = let place = s.place in record {
     before = s.before;
     passed = [];
-    behind = s.behind;
+    after = s.after;
     blocks = s.blocks;
     start = omega arith;
     end = omega arith;
@@ -90,7 +90,7 @@ module _ (l : Layout) (bytes : List ℕ) where
   own-one at next b own is = let place = b.place in record {
     before = b.before;
     passed = b.here ∷ [];
-    behind = b.behind;
+    after = b.after;
     blocks = b.blocks;
     start = omega arith;
     end = (let sum : total_of l.heads (b.here ∷ []) ≡ size_of l.heads b.here = omega arith in omega arith);
@@ -101,36 +101,36 @@ module _ (l : Layout) (bytes : List ℕ) where
   pub own-split : (from to : ℕ) → OwnBetween l bytes from to → SplitAt l (l.base + to)
   own-split from to o = let start = o.start in let end = o.end in let sum = total_of-append l.heads o.before o.passed in record {
     before = o.before ++ o.passed;
-    behind = o.behind;
-    blocks = o.blocks ∙ sym (append_assoc o.before o.passed o.behind);
+    after = o.after;
+    blocks = o.blocks ∙ sym (append_assoc o.before o.passed o.after);
     place = omega arith;
   }
 
   pub own-inside : (from to : ℕ) → OwnBetween l bytes from to → (zone_header ≤ from) × (from ≤ to) × (to ≤ zone_header + total_of l.heads l.blocks)
   own-inside from to o =
       let start = o.start in let end = o.end in let all = ap (total_of l.heads) o.blocks in
-      let sum = total_of-append l.heads o.before (o.passed ++ o.behind) in let own = total_of-append l.heads o.passed o.behind in
+      let sum = total_of-append l.heads o.before (o.passed ++ o.after) in let own = total_of-append l.heads o.passed o.after in
       (omega arith, omega arith, omega arith)
 
   -- a walk that begins where another has come, or before
   pub own-chain : (from reached middle to : ℕ) → OwnBetween l bytes from reached → OwnBetween l bytes middle to → from ≤ middle → middle ≤ reached → OwnBetween l bytes from to
   own-chain from reached middle to a b low high =
       let start = a.start in let end = a.end in let start' = b.start in let end' = b.end in
-      let same : a.before ++ (a.passed ++ a.behind) ≡ b.before ++ (b.passed ++ b.behind) = sym a.blocks ∙ b.blocks in
-      let u = begins l.heads a.before (a.passed ++ a.behind) b.before (b.passed ++ b.behind) same (omega arith) in
+      let same : a.before ++ (a.passed ++ a.after) ≡ b.before ++ (b.passed ++ b.after) = sym a.blocks ∙ b.blocks in
+      let u = begins l.heads a.before (a.passed ++ a.after) b.before (b.passed ++ b.after) same (omega arith) in
       let total = ap (total_of l.heads) u.is in let sum = total_of-append l.heads a.before u.more in
-      let all : b.before ++ (b.passed ++ b.behind) ≡ a.before ++ (u.more ++ (b.passed ++ b.behind)) =
-      ap (λ (bs : List RawBlock). bs ++ (b.passed ++ b.behind)) u.is ∙ append_assoc a.before u.more (b.passed ++ b.behind) in
-      let rest : a.passed ++ a.behind ≡ u.more ++ (b.passed ++ b.behind) = same_rest l.heads a.before (a.passed ++ a.behind) a.before (u.more ++ (b.passed ++ b.behind)) (same ∙ all) refl in
-      let v = begins l.heads u.more (b.passed ++ b.behind) a.passed a.behind (sym rest) (omega arith) in
+      let all : b.before ++ (b.passed ++ b.after) ≡ a.before ++ (u.more ++ (b.passed ++ b.after)) =
+      ap (λ (bs : List RawBlock). bs ++ (b.passed ++ b.after)) u.is ∙ append_assoc a.before u.more (b.passed ++ b.after) in
+      let rest : a.passed ++ a.after ≡ u.more ++ (b.passed ++ b.after) = same_rest l.heads a.before (a.passed ++ a.after) a.before (u.more ++ (b.passed ++ b.after)) (same ∙ all) refl in
+      let v = begins l.heads u.more (b.passed ++ b.after) a.passed a.after (sym rest) (omega arith) in
       let both = total_of-append l.heads u.more b.passed in
       let first : HasOwn l bytes from u.more = own-first from u.more v.more (subst (HasOwn l bytes from) v.is a.own) in
       let second : HasOwn l bytes (from + total_of l.heads u.more) b.passed = subst (λ n. HasOwn l bytes n b.passed) (let e : middle ≡ from + total_of l.heads u.more = omega arith in e) b.own in
       record {
         before = a.before;
         passed = u.more ++ b.passed;
-        behind = b.behind;
-        blocks = b.blocks ∙ all ∙ ap (λ (bs : List RawBlock). a.before ++ bs) (sym (append_assoc u.more b.passed b.behind));
+        after = b.after;
+        blocks = b.blocks ∙ all ∙ ap (λ (bs : List RawBlock). a.before ++ bs) (sym (append_assoc u.more b.passed b.after));
         start = a.start;
         end = omega arith;
         own = own-append from u.more b.passed first second;
@@ -138,13 +138,13 @@ module _ (l : Layout) (bytes : List ℕ) where
 
   -- all blocks are passed
   pub own-all : (to : ℕ) → OwnBetween l bytes zone_header to → zone_header + total_of l.heads l.blocks ≤ to → HasOwn l bytes zone_header l.blocks
-  own-all to o high = by_lists o.before o.behind o.blocks o.start
+  own-all to o high = by_lists o.before o.after o.blocks o.start
     where
-      by_lists : (before behind : List RawBlock) → l.blocks ≡ before ++ (o.passed ++ behind) → zone_header ≡ zone_header + total_of l.heads before → HasOwn l bytes zone_header l.blocks
+      by_lists : (before after : List RawBlock) → l.blocks ≡ before ++ (o.passed ++ after) → zone_header ≡ zone_header + total_of l.heads before → HasOwn l bytes zone_header l.blocks
       by_lists [] [] is start = subst (HasOwn l bytes zone_header) (sym (is ∙ append-nil o.passed)) o.own
       by_lists [] (b ∷ bs) is start =
           let all = ap (total_of l.heads) is in let sum = total_of-append l.heads o.passed (b ∷ bs) in let some = size_of-pos l.heads b in let end = o.end in absurd (omega arith)
-      by_lists (b ∷ bs) behind is start = let some = size_of-pos l.heads b in absurd (omega arith)
+      by_lists (b ∷ bs) after is start = let some = size_of-pos l.heads b in absurd (omega arith)
 
 -- what is left of four walks, each of which has moved on where it wasn't at its end. One wasn't
 pub left-smaller : (top a b c d e f g h i j k m : ℕ) → (a ≤ e) × (e ≤ top) → (b ≤ f) × (f ≤ top) → (c ≤ g) × (g ≤ top) → (d ≤ h) × (h ≤ top)

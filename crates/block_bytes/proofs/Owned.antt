@@ -53,16 +53,16 @@ module _ (heads : HeadKind) where
 
   -- blocks stand for others that take as many bytes: an own byte is one of theirs, or was an own byte and isn't among
   -- theirs
-  pub own-replaced : (at to : ℕ) (before old new behind : List RawBlock) (i : ℕ) → to ≡ at + total_of heads before → total_of heads new ≡ total_of heads old
-      → IsOwn heads at (before ++ (new ++ behind)) i
-      → IsOwn heads to new i ⊎ (IsOwn heads at (before ++ (old ++ behind)) i × IsOff to (total_of heads old) i)
-  own-replaced at to before old new behind i is same own = elim (own-split at to before (new ++ behind) i is own) [
-    | inl first ↦ inr (own-first at before (old ++ behind) i first, inl (let high = own-high at before i first in omega arith))
-    | inr rest ↦ elim (own-split to (to + total_of heads new) new behind i refl rest) [
+  pub own-replaced : (at to : ℕ) (before old new after : List RawBlock) (i : ℕ) → to ≡ at + total_of heads before → total_of heads new ≡ total_of heads old
+      → IsOwn heads at (before ++ (new ++ after)) i
+      → IsOwn heads to new i ⊎ (IsOwn heads at (before ++ (old ++ after)) i × IsOff to (total_of heads old) i)
+  own-replaced at to before old new after i is same own = elim (own-split at to before (new ++ after) i is own) [
+    | inl first ↦ inr (own-first at before (old ++ after) i first, inl (let high = own-high at before i first in omega arith))
+    | inr rest ↦ elim (own-split to (to + total_of heads new) new after i refl rest) [
       | inl among ↦ inl among
       | inr last ↦ inr (
-        own-rest at to before (old ++ behind) i is (own-rest to (to + total_of heads new) old behind i (omega arith) last),
-        inr (let low = own-low (to + total_of heads new) behind i last in omega arith),
+        own-rest at to before (old ++ after) i is (own-rest to (to + total_of heads new) old after i (omega arith) last),
+        inr (let low = own-low (to + total_of heads new) after i last in omega arith),
       )
     ]
   ]
@@ -90,18 +90,18 @@ module _ (heads : HeadKind) where
 
   -- a block with contents and bytes over of the same lengths, for the same, stands for another: the own bytes are the
   -- same
-  pub own-alike : (at : ℕ) (before : List RawBlock) (old new : RawBlock) (behind : List RawBlock) → new.role ≡ old.role → length new.contents ≡ length old.contents → length new.slack ≡ length old.slack
-      → (i : ℕ) → IsOwn heads at (before ++ new ∷ behind) i → IsOwn heads at (before ++ old ∷ behind) i
-  own-alike at [] old new behind role contents slack i (inl here) =
+  pub own-alike : (at : ℕ) (before : List RawBlock) (old new : RawBlock) (after : List RawBlock) → new.role ≡ old.role → length new.contents ≡ length old.contents → length new.slack ≡ length old.slack
+      → (i : ℕ) → IsOwn heads at (before ++ new ∷ after) i → IsOwn heads at (before ++ old ∷ after) i
+  own-alike at [] old new after role contents slack i (inl here) =
       inl (here.0, subst (λ (n : ℕ). i < at + n) (λ j. head_size heads + (if is_master (role j) then contents j else 0)) here.1)
-  own-alike at [] old new behind role contents slack i (inr there) = inr (moved (at + size_of heads new) (at + size_of heads old) behind i (λ j. at + (head_size heads + (contents j + slack j))) there)
-  own-alike at (b ∷ before) old new behind role contents slack i (inl here) = inl here
-  own-alike at (b ∷ before) old new behind role contents slack i (inr there) = inr (own-alike (at + size_of heads b) before old new behind role contents slack i there)
+  own-alike at [] old new after role contents slack i (inr there) = inr (moved (at + size_of heads new) (at + size_of heads old) after i (λ j. at + (head_size heads + (contents j + slack j))) there)
+  own-alike at (b ∷ before) old new after role contents slack i (inl here) = inl here
+  own-alike at (b ∷ before) old new after role contents slack i (inr there) = inr (own-alike (at + size_of heads b) before old new after role contents slack i there)
 
-  -- where an own byte is behind a block's header, the block is a master block
-  pub own-contents : (at : ℕ) (before : List RawBlock) (here : RawBlock) (behind : List RawBlock) (i : ℕ) → IsOwn heads at (before ++ here ∷ behind) i
+  -- where an own byte is after a block's header, the block is a master block
+  pub own-contents : (at : ℕ) (before : List RawBlock) (here : RawBlock) (after : List RawBlock) (i : ℕ) → IsOwn heads at (before ++ here ∷ after) i
       → at + total_of heads before + head_size heads ≤ i → i < at + total_of heads before + size_of heads here → is_master here.role ≡ true
-  own-contents at before here behind i own low high = elim (own-split at (at + total_of heads before) before (here ∷ behind) i refl own) [
+  own-contents at before here after i own low high = elim (own-split at (at + total_of heads before) before (here ∷ after) i refl own) [
     | inl first ↦ absurd (let below = own-high at before i first in omega arith)
     | inr rest ↦ by_rest rest
   ]
@@ -110,6 +110,6 @@ module _ (heads : HeadKind) where
       by_kind true below = refl
       by_kind false below = absurd (omega arith)
 
-      by_rest : IsOwn heads (at + total_of heads before) (here ∷ behind) i → is_master here.role ≡ true
+      by_rest : IsOwn heads (at + total_of heads before) (here ∷ after) i → is_master here.role ≡ true
       by_rest (inl one) = by_kind (is_master here.role) one.1
-      by_rest (inr others) = absurd (let above = own-low (at + total_of heads before + size_of heads here) behind i others in omega arith)
+      by_rest (inr others) = absurd (let above = own-low (at + total_of heads before + size_of heads here) after i others in omega arith)

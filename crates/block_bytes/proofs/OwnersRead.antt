@@ -33,7 +33,7 @@ role-high tag flags word high = by_tests (nat_lt tag 64) (nat_lt tag 128) (grind
     by_tests false true is not_other = absurd (cc not_other)
     by_tests false false is not_other = refl
 
--- so does the header that stands at the front of bytes
+-- so does the header that is at the front of bytes
 pub header-low : (heads : HeadKind) (xs : List ℕ) → big_number 4 xs / 0x100_0000 < 128 → owner_of (header_in heads xs).role ≡ None
 header-low Bits24 xs low = role-low (big_number 4 xs / 0x100_0000) 0 (big_number 4 (drop 4 xs)) low
 header-low Bits32 xs low = role-low (big_number 4 xs / 0x100_0000) (big_number 4 xs / 0x1_0000 % 256) (big_number 4 (drop 8 xs)) low

@@ -1,4 +1,4 @@
--- The bytes of a zone in parts: those before a block, its header, its body, and those behind it.
+-- The bytes of a zone in parts: those before a block, its header, its body, and those after it.
 use Rattle.std.proofs.Common.{◌≡◌, ℕ, ◌+◌, ◌-◌, ◌*◌, ◌/◌, ◌<◌, ◌≤◌, ◌^◌, Bool, List, [], ◌∷◌, ◌++◌, length, drop, sym, ap, ◌∙◌, arith, append_assoc, length-append, drop_at, IsTrue}
 use Rattle.std.specs.Prelude.{◌&&◌}
 use Rattle.std.specs.List.{list_all}
@@ -13,7 +13,7 @@ use Rattle.raw_region.specs.State.{Name, State}
 use Rattle.block_bytes.specs.declared.blocks.Blocks.TheInside.{Inside}
 use Rattle.block_bytes.specs.Head.{head_bytes}
 use Rattle.block_bytes.specs.ZoneHead.{front_field}
-use Rattle.block_bytes.specs.Layout.{RawBlock, Layout, body, size_of, total_of, free_total, header_of, is_possible, rendered, header_bytes, image_of, with_blocks, address_behind, first_free, lent_count, most_lent}
+use Rattle.block_bytes.specs.Layout.{RawBlock, Layout, body, size_of, total_of, free_total, header_of, is_possible, rendered, header_bytes, image_of, with_blocks, address_after, first_free, lent_count, most_lent}
 use Rattle.block_bytes.specs.Starts.{mark_of, marks_of, starts_of}
 use Rattle.block_bytes.specs.Reading.{blocks_in, layout_of, IsLayout, lent_spans, times, SameSpans}
 use Rattle.block_bytes.proofs.Rendered.{total_of-append, length-rendered, rendered-append, part-middle}
@@ -29,7 +29,7 @@ pub record IsRead (z : Inside) (l : Layout) : Type 0 where
 
 -- how long a zone's header is
 pub length-header : (l : Layout) → length (header_bytes l) ≡ zone_header
-length-header l = length-zone_head (address_behind l l.blocks) l.front (free_total l.heads l.blocks) (first_free l.heads (address_behind l []) l.blocks)
+length-header l = length-zone_head (address_after l l.blocks) l.front (free_total l.heads l.blocks) (first_free l.heads (address_after l []) l.blocks)
 
 -- the zone with these parts, in the memory of this name, with the record that the fields have
 abbrev pub zone_of : Name → Inside → ℕ → List RawBlock → List ℕ → Layout
@@ -46,7 +46,7 @@ image-read z name front bs spare named told ends possible small low high all is 
     let head = length-header l in let sum = length-append (header_bytes l) (bytes ++ spare) in let sum' = length-append bytes spare in let sum'' = length-append (header_bytes l) bytes in
     let total : length z.memory.bytes ≡ length (image_of l) = ap length is in
     let front-is : big_number 4 (part z.memory.bytes front_field 4) ≡ front = ap (λ (m : List ℕ). big_number 4 (part m front_field 4)) is
-    ∙ front-read (address_behind l l.blocks) front (free_total l.heads l.blocks) (first_free l.heads (address_behind l []) l.blocks) (bytes ++ spare) told in
+    ∙ front-read (address_after l l.blocks) front (free_total l.heads l.blocks) (first_free l.heads (address_after l []) l.blocks) (bytes ++ spare) told in
     let inside : part z.memory.bytes zone_header (z.spec.size - zone_header) ≡ bytes = ap (λ (m : List ℕ). part m zone_header (z.spec.size - zone_header)) is
     ∙ part-middle (header_bytes l) bytes spare zone_header (z.spec.size - zone_header) (omega arith) (omega arith) in
     let marked : drop (zone_header / 4) z.index ≡ marks_of z.spec.heads bs ++ unmarked (length spare / 4) = ap (drop (zone_header / 4)) marks
@@ -63,7 +63,7 @@ image-read z name front bs spare named told ends possible small low high all is 
         low = omega arith;
         high = high;
         form = is ∙ sym (ap image_of read);
-        ends = ap (λ (m : Layout). address_behind m m.blocks) read ∙ omega arith;
+        ends = ap (λ (m : Layout). address_after m m.blocks) read ∙ omega arith;
         possible = ap (λ (m : Layout). list_all (is_possible m.heads) m.blocks) read ∙ possible;
         marked = marks ∙ sym (ap starts_of read);
         lent = λ s. lent s ∙ sym (ap (λ (m : Layout). times s (lent_spans m.heads zone_header m.blocks)) read);
@@ -76,61 +76,61 @@ image-read z name front bs spare named told ends possible small low high all is 
 abbrev pub front : Layout → List RawBlock → List ℕ
 front l before = header_bytes l ++ rendered l.heads l.base before
 
--- the bytes behind it
+-- the bytes after it
 abbrev pub rear : Layout → List RawBlock → List ℕ
-rear l behind = rendered l.heads l.base behind ++ l.spare
+rear l after = rendered l.heads l.base after ++ l.spare
 
 -- its header
 abbrev pub head : Layout → RawBlock → List ℕ
 head l b = head_bytes l.heads l.base (header_of l.heads b)
 
--- the zone's bytes with other blocks behind its header as it was
+-- the zone's bytes with other blocks after its header as it was
 abbrev pub stale_image : Layout → List RawBlock → List ℕ
 stale_image l bs = header_bytes l ++ (rendered l.heads l.base bs ++ l.spare)
 
 -- these bytes in parts
-pub image-parts : (l : Layout) (before : List RawBlock) (here : RawBlock) (behind : List RawBlock)
-    → stale_image l (before ++ here ∷ behind) ≡ front l before ++ (head l here ++ (body here ++ rear l behind))
-image-parts l before here behind =
-    ap (λ (bytes : List ℕ). header_bytes l ++ (bytes ++ l.spare)) (rendered-append l.heads l.base before (here ∷ behind)
-    ∙ ap (λ (bytes : List ℕ). rendered l.heads l.base before ++ bytes) (rendered-more l.heads l.base here behind)) ∙ simp append_assoc
+pub image-parts : (l : Layout) (before : List RawBlock) (here : RawBlock) (after : List RawBlock)
+    → stale_image l (before ++ here ∷ after) ≡ front l before ++ (head l here ++ (body here ++ rear l after))
+image-parts l before here after =
+    ap (λ (bytes : List ℕ). header_bytes l ++ (bytes ++ l.spare)) (rendered-append l.heads l.base before (here ∷ after)
+    ∙ ap (λ (bytes : List ℕ). rendered l.heads l.base before ++ bytes) (rendered-more l.heads l.base here after)) ∙ simp append_assoc
 
 -- how many bytes lie before a block
 pub length-front : (l : Layout) (before : List RawBlock) → length (front l before) ≡ zone_header + total_of l.heads before
 length-front l before = let e = length-append (header_bytes l) (rendered l.heads l.base before) in let e' = length-rendered l.heads l.base before in let long = length-header l in omega arith
 
 -- a block of the list, and what is known of it
-pub record IsIn (z : Inside) (before : List RawBlock) (here : RawBlock) (behind : List RawBlock) : Type 0 where
-  pub sum : total_of z.spec.heads (layout_of z).blocks ≡ total_of z.spec.heads before + (size_of z.spec.heads here + total_of z.spec.heads behind)
+pub record IsIn (z : Inside) (before : List RawBlock) (here : RawBlock) (after : List RawBlock) : Type 0 where
+  pub sum : total_of z.spec.heads (layout_of z).blocks ≡ total_of z.spec.heads before + (size_of z.spec.heads here + total_of z.spec.heads after)
   pub ends : zone_header + total_of z.spec.heads (layout_of z).blocks ≡ z.spec.size
   pub high : z.spec.size ≤ z.spec.limit
   pub all_bytes : length z.memory.bytes ≡ z.spec.limit
   pub here_possible : IsPossible z.spec.heads here
   pub is_possible_here : IsTrue (is_possible z.spec.heads here)
   pub before_possible : IsTrue (list_all (is_possible z.spec.heads) before)
-  pub behind_possible : IsTrue (list_all (is_possible z.spec.heads) behind)
-  pub bytes : z.memory.bytes ≡ front (layout_of z) before ++ (head (layout_of z) here ++ (body here ++ rear (layout_of z) behind))
+  pub after_possible : IsTrue (list_all (is_possible z.spec.heads) after)
+  pub bytes : z.memory.bytes ≡ front (layout_of z) before ++ (head (layout_of z) here ++ (body here ++ rear (layout_of z) after))
 
 -- the sum of the sizes is what the blocks take
 pub total-ends : (z : Inside) → IsLayout z → zone_header + total_of z.spec.heads (layout_of z).blocks ≡ z.spec.size
 total-ends z whole = let e : z.spec.base + zone_header + total_of z.spec.heads (layout_of z).blocks ≡ z.spec.base + z.spec.size = whole.ends in omega arith
 
 -- each block of the list is in it
-pub IsIn-from : (z : Inside) → IsLayout z → (before : List RawBlock) (here : RawBlock) (behind : List RawBlock) → (layout_of z).blocks ≡ before ++ here ∷ behind → IsIn z before here behind
-IsIn-from z whole before here behind is =
+pub IsIn-from : (z : Inside) → IsLayout z → (before : List RawBlock) (here : RawBlock) (after : List RawBlock) → (layout_of z).blocks ≡ before ++ here ∷ after → IsIn z before here after
+IsIn-from z whole before here after is =
     let p = is_possible z.spec.heads in
-    let both = and-true (list_all p before) (list_all p (here ∷ behind)) (sym (list_all-append p before (here ∷ behind)) ∙ sym (ap (list_all p) is) ∙ whole.possible) in
-    let both' = and-true (p here) (list_all p behind) both.1 in
+    let both = and-true (list_all p before) (list_all p (here ∷ after)) (sym (list_all-append p before (here ∷ after)) ∙ sym (ap (list_all p) is) ∙ whole.possible) in
+    let both' = and-true (p here) (list_all p after) both.1 in
     record {
-      sum = ap (total_of z.spec.heads) is ∙ total_of-append z.spec.heads before (here ∷ behind);
+      sum = ap (total_of z.spec.heads) is ∙ total_of-append z.spec.heads before (here ∷ after);
       ends = total-ends z whole;
       high = whole.high;
       all_bytes = whole.all_bytes;
       here_possible = IsPossible-from z.spec.heads here both'.0;
       is_possible_here = both'.0;
       before_possible = both.0;
-      behind_possible = both'.1;
-      bytes = whole.form ∙ ap (λ (bs : List RawBlock). stale_image (layout_of z) bs) is ∙ image-parts (layout_of z) before here behind;
+      after_possible = both'.1;
+      bytes = whole.form ∙ ap (λ (bs : List RawBlock). stale_image (layout_of z) bs) is ∙ image-parts (layout_of z) before here after;
     }
 
 -- what holds of the parts of a list holds of the list
@@ -149,16 +149,16 @@ length-starts z whole = let l = layout_of z in
     let e' = length-append (marks_of l.heads l.blocks) (unmarked (length l.spare / 4)) in let e'' = length-unmarked (zone_header / 4) in omega arith
 
 -- the marks of the zone, by a block of it
-pub marked-parts : (z : Inside) → IsLayout z → (before : List RawBlock) (here : RawBlock) (behind : List RawBlock) → (layout_of z).blocks ≡ before ++ here ∷ behind
-    → z.index ≡ starts_of (with_blocks (before ++ here ∷ behind) (layout_of z))
-marked-parts z whole before here behind is = whole.marked ∙ ap (λ (bs : List RawBlock). starts_of (with_blocks bs (layout_of z))) is
+pub marked-parts : (z : Inside) → IsLayout z → (before : List RawBlock) (here : RawBlock) (after : List RawBlock) → (layout_of z).blocks ≡ before ++ here ∷ after
+    → z.index ≡ starts_of (with_blocks (before ++ here ∷ after) (layout_of z))
+marked-parts z whole before here after is = whole.marked ∙ ap (λ (bs : List RawBlock). starts_of (with_blocks bs (layout_of z))) is
 
 -- they are those of the zone with another block of that size and with that mark
-pub marked-same : (z : Inside) → IsLayout z → (before : List RawBlock) (here : RawBlock) (behind : List RawBlock) → (layout_of z).blocks ≡ before ++ here ∷ behind
-    → (b : RawBlock) → size_of z.spec.heads b ≡ size_of z.spec.heads here → mark_of z.spec.heads b ≡ mark_of z.spec.heads here → z.index ≡ starts_of (with_blocks (before ++ b ∷ behind) (layout_of z))
-marked-same z whole before here behind is b same mark = let l = layout_of z in
-    marked-parts z whole before here behind is
-    ∙ ap (λ (ms : List ℕ). unmarked (zone_header / 4) ++ (ms ++ unmarked (length l.spare / 4))) (sym (marks_of-same l.heads before b here behind same mark))
+pub marked-same : (z : Inside) → IsLayout z → (before : List RawBlock) (here : RawBlock) (after : List RawBlock) → (layout_of z).blocks ≡ before ++ here ∷ after
+    → (b : RawBlock) → size_of z.spec.heads b ≡ size_of z.spec.heads here → mark_of z.spec.heads b ≡ mark_of z.spec.heads here → z.index ≡ starts_of (with_blocks (before ++ b ∷ after) (layout_of z))
+marked-same z whole before here after is b same mark = let l = layout_of z in
+    marked-parts z whole before here after is
+    ∙ ap (λ (ms : List ℕ). unmarked (zone_header / 4) ++ (ms ++ unmarked (length l.spare / 4))) (sym (marks_of-same l.heads before b here after same mark))
 
 -- bytes and an index that are those of the zone with other blocks, of the same size in all, stand for it
 pub changed : (z : Inside) → IsLayout z → ArePossible z.spec → (bs : List RawBlock) (memory : State) (index : List ℕ) (loans : ℕ) → memory.name ≡ z.memory.name

@@ -80,7 +80,7 @@ held_in-rendered heads base b lent rest said =
     held-body heads b lent (part (head ++ (body b ++ rest)) (head_size heads) (size_of heads b - head_size heads)) (size_of heads b - head_size heads - length b.slack) said
     (part-middle head (body b) rest (head_size heads) (size_of heads b - head_size heads) (omega arith) (omega arith)) (omega arith)
 
--- the bytes behind it are those of the others
+-- the bytes after it are those of the others
 pub drop-rendered : (heads : HeadKind) (base : ℕ) (b : RawBlock) (rest : List ℕ)
     → drop (size_of heads b) (head_bytes heads base (header_of heads b) ++ (body b ++ rest)) ≡ rest
 drop-rendered heads base b rest =
@@ -88,11 +88,11 @@ drop-rendered heads base b rest =
     let long = length-head_bytes heads base (header_of heads b) in let sum = length-append b.contents b.slack in let sum' = length-append head (body b) in
     ap (drop (size_of heads b)) (sym (append_assoc head (body b) rest)) ∙ drop_at (head ++ body b) rest (size_of heads b) (omega arith)
 
--- the numbers behind its own are those of the others
+-- the numbers after its own are those of the others
 drop-marks : (m k n : ℕ) (rest : List ℕ) → n ≡ suc k → drop n (m ∷ (replicate k 0 ++ rest)) ≡ rest
 drop-marks m k n rest is = ap (λ (j : ℕ). drop j (m ∷ (replicate k 0 ++ rest))) is ∙ drop_at (replicate k 0) rest k (length-replicate {A = ℕ} k 0)
 
--- the bytes of a block and of those behind it
+-- the bytes of a block and of those after it
 pub rendered-more : (heads : HeadKind) (base : ℕ) (b : RawBlock) (bs : List RawBlock)
     → rendered heads base (b ∷ bs) ≡ head_bytes heads base (header_of heads b) ++ (body b ++ rendered heads base bs)
 rendered-more heads base b bs = ap (λ (l : List ℕ). head_bytes heads base (header_of heads b) ++ l) (sym (append_assoc b.contents b.slack (rendered heads base bs)))

@@ -120,13 +120,13 @@ kept-changed heads bs cs bytes others (Some old) (Some new) grows long change ke
 
 -- blocks stand for others that take as many bytes; of the bytes only theirs, and those of the zone's header, change,
 -- and each own byte of the new ones is noted
-pub own-change : (heads : HeadKind) (before old new behind : List RawBlock) (bytes others : List ℕ) (kept : Option Record) (place : ℕ) → place ≡ zone_header + total_of heads before → total_of heads new ≡ total_of heads old
+pub own-change : (heads : HeadKind) (before old new after : List RawBlock) (bytes others : List ℕ) (kept : Option Record) (place : ℕ) → place ≡ zone_header + total_of heads before → total_of heads new ≡ total_of heads old
     → ((i : ℕ) → IsOwn heads place new i → NotedIn kept i)
     → ((i : ℕ) → zone_header ≤ i → IsOff place (total_of heads old) i → slice_index others i ≡ slice_index bytes i)
-    → OwnChange heads (before ++ (old ++ behind)) (before ++ (new ++ behind)) bytes others kept
-own-change heads before old new behind bytes others kept place is same noted stay i own = elim (own-replaced heads zone_header place before old new behind i is same own) [
+    → OwnChange heads (before ++ (old ++ after)) (before ++ (new ++ after)) bytes others kept
+own-change heads before old new after bytes others kept place is same noted stay i own = elim (own-replaced heads zone_header place before old new after i is same own) [
   | inl here ↦ inl (noted i here)
-  | inr there ↦ inr (there.0, stay i (own-low heads zone_header (before ++ (old ++ behind)) i there.0) there.1)
+  | inr there ↦ inr (there.0, stay i (own-low heads zone_header (before ++ (old ++ after)) i there.0) there.1)
 ]
 
 -- what is so of the fields is so with another record
@@ -170,7 +170,7 @@ pub head-stay : (m n : State) (place : ℕ) (heads : HeadKind) (base : ℕ) (h :
 head-stay m n place heads base h is i off = ap (λ (s : State). slice_index s.bytes i) is ∙ index-written-apart m.bytes place (head_bytes heads base h) i
     (subst (λ (k : ℕ). IsOff place k i) (sym (length-head_bytes heads base h)) off)
 
--- and those behind the zone's header, where this is written
+-- and those after the zone's header, where this is written
 pub counted-stay : (m n : State) (base gained lost lowest : ℕ) → n ≡ counted m base gained lost lowest → (i : ℕ) → zone_header ≤ i → slice_index n.bytes i ≡ slice_index m.bytes i
 counted-stay m n base gained lost lowest is i above =
     let free = big_bytes 4 (big_number 4 (part m.bytes free_field 4) + gained - lost) in let low = big_bytes 4 lowest in
@@ -187,60 +187,60 @@ pub front-noted : (heads : HeadKind) (old new : Option Record) (b : RawBlock) (s
 front-noted heads old new b start count notes is i own =
     let here = own-one heads start b i own in let low = here.0 in let high = here.1 in let most = own-most heads b in range-noted old new start count notes i low (omega arith)
 
-module _ (z : Inside) (whole : IsWhole z) {memory : State} {index : List ℕ} {loans : ℕ} (before old new behind : List RawBlock) (is : (layout_of z).blocks ≡ before ++ (old ++ behind))
-    (read : IsRead (record z { memory = memory; index = index; loans = loans }) (with_blocks (before ++ (new ++ behind)) (layout_of z))) where
+module _ (z : Inside) (whole : IsWhole z) {memory : State} {index : List ℕ} {loans : ℕ} (before old new after : List RawBlock) (is : (layout_of z).blocks ≡ before ++ (old ++ after))
+    (read : IsRead (record z { memory = memory; index = index; loans = loans }) (with_blocks (before ++ (new ++ after)) (layout_of z))) where
   -- blocks that stand for others take as many bytes
   pub total-kept : total_of z.spec.heads new ≡ total_of z.spec.heads old
   total-kept =
       let heads = z.spec.heads in let m : Inside = record z { memory = memory; index = index; loans = loans } in
       let ends = total-ends z whole.layout in let sum = ap (total_of heads) is in let blocks = ap (λ (l : Layout). total_of l.heads l.blocks) read.view in let ends' = total-ends m read.whole in
-      let a = total_of-append heads before (old ++ behind) in let b = total_of-append heads old behind in let c = total_of-append heads before (new ++ behind) in let d = total_of-append heads new behind in omega arith
+      let a = total_of-append heads before (old ++ after) in let b = total_of-append heads old after in let c = total_of-append heads before (new ++ after) in let d = total_of-append heads new after in omega arith
 
   -- and lie in the memory
   pub total-within : zone_header + total_of z.spec.heads before + total_of z.spec.heads new ≤ length z.memory.bytes
   total-within =
       let heads = z.spec.heads in let ends = total-ends z whole.layout in let sum = ap (total_of heads) is in let same = total-kept in let high = whole.layout.high in let all = whole.layout.all_bytes in
-      let a = total_of-append heads before (old ++ behind) in let b = total_of-append heads old behind in omega arith
+      let a = total_of-append heads before (old ++ after) in let b = total_of-append heads old after in omega arith
 
   -- where their own bytes are noted, and no bytes change but theirs and those of the zone's header, the record is that
   -- of the zone
   pub replaced-whole : (kept : Option Record) → Grows (length z.memory.bytes) z.kept kept → (place : ℕ) → place ≡ zone_header + total_of z.spec.heads before → ((i : ℕ) → IsOwn z.spec.heads place new i → NotedIn kept i)
       → ((i : ℕ) → zone_header ≤ i → IsOff place (total_of z.spec.heads new) i → slice_index memory.bytes i ≡ slice_index z.memory.bytes i)
-      → IsReadWhole (record z { memory = memory; index = index; loans = loans; kept = kept }) (with_blocks (before ++ (new ++ behind)) (layout_of z))
+      → IsReadWhole (record z { memory = memory; index = index; loans = loans; kept = kept }) (with_blocks (before ++ (new ++ after)) (layout_of z))
   replaced-whole kept grows place there noted stay =
       let heads = z.spec.heads in let m : Inside = record z { memory = memory; index = index; loans = loans } in
-      changed-whole z m (with_blocks (before ++ (new ++ behind)) (layout_of z)) kept whole refl refl refl read grows
-      (subst (λ (bs : List RawBlock). OwnChange heads bs (before ++ (new ++ behind)) z.memory.bytes memory.bytes kept) (sym is)
-      (own-change heads before old new behind z.memory.bytes memory.bytes kept place there total-kept noted
+      changed-whole z m (with_blocks (before ++ (new ++ after)) (layout_of z)) kept whole refl refl refl read grows
+      (subst (λ (bs : List RawBlock). OwnChange heads bs (before ++ (new ++ after)) z.memory.bytes memory.bytes kept) (sym is)
+      (own-change heads before old new after z.memory.bytes memory.bytes kept place there total-kept noted
       (λ i above off. stay i above (subst (λ (n : ℕ). IsOff place n i) (sym total-kept) off))))
 
-module _ (z : Inside) (whole : IsWhole z) {memory : State} {index : List ℕ} {loans : ℕ} (before old : List RawBlock) (new : RawBlock) (behind : List RawBlock) (is : (layout_of z).blocks ≡ before ++ (old ++ behind))
-    (read : IsRead (record z { memory = memory; index = index; loans = loans }) (with_blocks (before ++ new ∷ behind) (layout_of z))) where
+module _ (z : Inside) (whole : IsWhole z) {memory : State} {index : List ℕ} {loans : ℕ} (before old : List RawBlock) (new : RawBlock) (after : List RawBlock) (is : (layout_of z).blocks ≡ before ++ (old ++ after))
+    (read : IsRead (record z { memory = memory; index = index; loans = loans }) (with_blocks (before ++ new ∷ after) (layout_of z))) where
   -- one block stands for others. Its header is written and noted, and then maybe the zone's header is written
   pub head-whole : (kept : Option Record) (start count : ℕ) → start ≡ zone_header + total_of z.spec.heads before → count ≡ own_most z.spec.heads (header_of z.spec.heads new) → Notes z.kept kept start count
       → (m : State) (heads : HeadKind) (base : ℕ) (h : Header) → head_size heads ≡ head_size z.spec.heads → m ≡ with_bytes z.memory start (head_bytes heads base h)
       → ((i : ℕ) → zone_header ≤ i → slice_index memory.bytes i ≡ slice_index m.bytes i)
-      → IsReadWhole (record z { memory = memory; index = index; loans = loans; kept = kept }) (with_blocks (before ++ new ∷ behind) (layout_of z))
+      → IsReadWhole (record z { memory = memory; index = index; loans = loans; kept = kept }) (with_blocks (before ++ new ∷ after) (layout_of z))
   head-whole kept start count there counts notes m heads base h head_is writes stay =
-      let most = own-many z.spec.heads new in let within = total-within z whole before old (new ∷ []) behind is read in
-      replaced-whole z whole before old (new ∷ []) behind is read kept (grows-noted (length z.memory.bytes) z.kept kept start count notes (omega arith)) start there
+      let most = own-many z.spec.heads new in let within = total-within z whole before old (new ∷ []) after is read in
+      replaced-whole z whole before old (new ∷ []) after is read kept (grows-noted (length z.memory.bytes) z.kept kept start count notes (omega arith)) start there
       (front-noted z.spec.heads z.kept kept new start count notes counts)
       (λ i above off. stay i above ∙ head-stay z.memory m start heads base h writes i (off-within start (total_of z.spec.heads (new ∷ [])) start (head_size heads) i (omega arith) (omega arith) off))
 
 -- two blocks stand for one. Their headers are written and noted, and then the zone's header is written
-pub heads-whole : (z : Inside) (whole : IsWhole z) {memory : State} {index : List ℕ} {loans : ℕ} (before : List RawBlock) (here first second : RawBlock) (behind : List RawBlock) (is : (layout_of z).blocks ≡ before ++ here ∷ behind)
-    (read : IsRead (record z { memory = memory; index = index; loans = loans }) (with_blocks (before ++ first ∷ second ∷ behind) (layout_of z)))
+pub heads-whole : (z : Inside) (whole : IsWhole z) {memory : State} {index : List ℕ} {loans : ℕ} (before : List RawBlock) (here first second : RawBlock) (after : List RawBlock) (is : (layout_of z).blocks ≡ before ++ here ∷ after)
+    (read : IsRead (record z { memory = memory; index = index; loans = loans }) (with_blocks (before ++ first ∷ second ∷ after) (layout_of z)))
     (mid kept : Option Record) (start next count count' : ℕ) → start ≡ zone_header + total_of z.spec.heads before → next ≡ start + size_of z.spec.heads first
     → count ≡ own_most z.spec.heads (header_of z.spec.heads first) → count' ≡ own_most z.spec.heads (header_of z.spec.heads second) → Notes z.kept mid start count → Notes mid kept next count'
     → (m n : State) (heads : HeadKind) (base : ℕ) (h g : Header) → head_size heads ≡ head_size z.spec.heads → m ≡ with_bytes z.memory start (head_bytes heads base h) → n ≡ with_bytes m next (head_bytes heads base g)
     → ((i : ℕ) → zone_header ≤ i → slice_index memory.bytes i ≡ slice_index n.bytes i)
-    → IsReadWhole (record z { memory = memory; index = index; loans = loans; kept = kept }) (with_blocks (before ++ first ∷ second ∷ behind) (layout_of z))
-heads-whole z whole {memory} {index} {loans} before here first second behind is read mid kept start next count count' there there' counts counts' notes notes' m n heads base h g head_is writes writes' stay =
+    → IsReadWhole (record z { memory = memory; index = index; loans = loans; kept = kept }) (with_blocks (before ++ first ∷ second ∷ after) (layout_of z))
+heads-whole z whole {memory} {index} {loans} before here first second after is read mid kept start next count count' there there' counts counts' notes notes' m n heads base h g head_is writes writes' stay =
     let k = z.spec.heads in let long = length z.memory.bytes in
-    let most = own-many k first in let most' = own-many k second in let within = total-within z whole before (here ∷ []) (first ∷ second ∷ []) behind is read in
+    let most = own-many k first in let most' = own-many k second in let within = total-within z whole before (here ∷ []) (first ∷ second ∷ []) after is read in
     let grows' = grows-noted long mid kept next count' notes' (omega arith) in
     let grows = grows-twice long z.kept mid kept (grows-noted long z.kept mid start count notes (omega arith)) grows' in
-    replaced-whole z whole before (here ∷ []) (first ∷ second ∷ []) behind is read kept grows start there
+    replaced-whole z whole before (here ∷ []) (first ∷ second ∷ []) after is read kept grows start there
     (λ i own. elim (own-split k start next (first ∷ []) (second ∷ []) i (omega arith) own) [
       | inl one ↦ noted-still long mid kept grows' i (front-noted k z.kept mid first start count notes counts i one)
       | inr two ↦ front-noted k mid kept second next count' notes' counts' i two
@@ -251,33 +251,33 @@ heads-whole z whole {memory} {index} {loans} before here first second behind is 
 
 -- a block has other contents of the same length; of the bytes only a part of them changes, and of a master block this
 -- part is noted
-pub contents-whole : (z : Inside) (whole : IsWhole z) {memory : State} {index : List ℕ} {loans : ℕ} (before : List RawBlock) (here new : RawBlock) (behind : List RawBlock) (is : (layout_of z).blocks ≡ before ++ here ∷ behind)
-    (read : IsRead (record z { memory = memory; index = index; loans = loans }) (with_blocks (before ++ new ∷ behind) (layout_of z)))
+pub contents-whole : (z : Inside) (whole : IsWhole z) {memory : State} {index : List ℕ} {loans : ℕ} (before : List RawBlock) (here new : RawBlock) (after : List RawBlock) (is : (layout_of z).blocks ≡ before ++ here ∷ after)
+    (read : IsRead (record z { memory = memory; index = index; loans = loans }) (with_blocks (before ++ new ∷ after) (layout_of z)))
     → new.role ≡ here.role → length new.contents ≡ length here.contents → length new.slack ≡ length here.slack
     → (kept : Option Record) → Grows (length z.memory.bytes) z.kept kept → (place n : ℕ) → zone_header + total_of z.spec.heads before + head_size z.spec.heads ≤ place
     → place + n ≤ zone_header + total_of z.spec.heads before + size_of z.spec.heads here
     → (is_master here.role ≡ true → (i : ℕ) → place ≤ i → i < place + n → NotedIn kept i) → ((i : ℕ) → IsOff place n i → slice_index memory.bytes i ≡ slice_index z.memory.bytes i)
-    → IsReadWhole (record z { memory = memory; index = index; loans = loans; kept = kept }) (with_blocks (before ++ new ∷ behind) (layout_of z))
-contents-whole z whole {memory} {index} {loans} before here new behind is read role contents slack kept grows place n low high noted stay =
+    → IsReadWhole (record z { memory = memory; index = index; loans = loans; kept = kept }) (with_blocks (before ++ new ∷ after) (layout_of z))
+contents-whole z whole {memory} {index} {loans} before here new after is read role contents slack kept grows place n low high noted stay =
     let heads = z.spec.heads in let m : Inside = record z { memory = memory; index = index; loans = loans } in
-    changed-whole z m (with_blocks (before ++ new ∷ behind) (layout_of z)) kept whole refl refl refl read grows
-    (subst (λ (bs : List RawBlock). OwnChange heads bs (before ++ new ∷ behind) z.memory.bytes memory.bytes kept) (sym is)
-    (λ i own. let old = own-alike heads zone_header before here new behind role contents slack i own in elim (cases_lt i place) [
+    changed-whole z m (with_blocks (before ++ new ∷ after) (layout_of z)) kept whole refl refl refl read grows
+    (subst (λ (bs : List RawBlock). OwnChange heads bs (before ++ new ∷ after) z.memory.bytes memory.bytes kept) (sym is)
+    (λ i own. let old = own-alike heads zone_header before here new after role contents slack i own in elim (cases_lt i place) [
       | inl below ↦ inr (old, stay i (inl below))
       | inr above ↦ elim (cases_lt i (place + n)) [
-        | inl within ↦ inl (noted (own-contents heads zone_header before here behind i old (omega arith) (omega arith)) i above within)
+        | inl within ↦ inl (noted (own-contents heads zone_header before here after i old (omega arith) (omega arith)) i above within)
         | inr beyond ↦ inr (old, stay i (inr beyond))
       ]
     ]))
 
 -- bytes are written over contents of a block that isn't lent
-pub written-kept : (z : Inside) (whole : IsWhole z) → ArePossible z.spec → (before : List RawBlock) (here : RawBlock) (behind : List RawBlock) → (layout_of z).blocks ≡ before ++ here ∷ behind
+pub written-kept : (z : Inside) (whole : IsWhole z) → ArePossible z.spec → (before : List RawBlock) (here : RawBlock) (after : List RawBlock) → (layout_of z).blocks ≡ before ++ here ∷ after
     → (offset place : ℕ) (ws : List ℕ) → here.lent ≡ false → place ≡ zone_header + total_of z.spec.heads before + head_size z.spec.heads + offset → offset + length ws ≤ length here.contents
     → (kept : Option Record) → Grows (length z.memory.bytes) z.kept kept → (is_master here.role ≡ true → (i : ℕ) → place ≤ i → i < place + length ws → NotedIn kept i)
-    → IsReadWhole (record z { memory = with_bytes z.memory place ws; kept = kept }) (with_blocks (before ++ (record here { contents = written here.contents offset ws }) ∷ behind) (layout_of z))
-written-kept z whole small before here behind is offset place ws unlent there fits kept grows noted =
-    contents-whole z whole before here (record here { contents = written here.contents offset ws }) behind is
-    (contents-written z whole.layout small before here behind is offset place ws unlent there fits) refl (length-written here.contents offset ws) refl kept grows place (length ws) (omega arith) (omega arith) noted
+    → IsReadWhole (record z { memory = with_bytes z.memory place ws; kept = kept }) (with_blocks (before ++ (record here { contents = written here.contents offset ws }) ∷ after) (layout_of z))
+written-kept z whole small before here after is offset place ws unlent there fits kept grows noted =
+    contents-whole z whole before here (record here { contents = written here.contents offset ws }) after is
+    (contents-written z whole.layout small before here after is offset place ws unlent there fits) refl (length-written here.contents offset ws) refl kept grows place (length ws) (omega arith) (omega arith) noted
     (λ i off. index-written-apart z.memory.bytes place ws i off)
 
 -- all bytes are noted where contents of a master block change
@@ -314,15 +314,15 @@ pub slide-stay : (m mid n : State) (place k from to count at : ℕ) (heads : Hea
 slide-stay m mid n place k from to count at heads base h slides writes low high low' high' i off = let few = part-few m.bytes from count in
     head-stay mid n at heads base h writes i (off-within place k at (head_size heads) i low' high' off) ∙ write-stay m mid to (part m.bytes from count) place k slides low (omega arith) i off
 
-module _ (z : Inside) (whole : IsWhole z) {memory : State} {index : List ℕ} {loans : ℕ} (before old new behind : List RawBlock) (is : (layout_of z).blocks ≡ before ++ (old ++ behind))
-    (read : IsRead (record z { memory = memory; index = index; loans = loans }) (with_blocks (before ++ (new ++ behind)) (layout_of z))) where
+module _ (z : Inside) (whole : IsWhole z) {memory : State} {index : List ℕ} {loans : ℕ} (before old new after : List RawBlock) (is : (layout_of z).blocks ≡ before ++ (old ++ after))
+    (read : IsRead (record z { memory = memory; index = index; loans = loans }) (with_blocks (before ++ (new ++ after)) (layout_of z))) where
   -- blocks stand for others, and all their bytes are noted
   pub span-whole : (kept : Option Record) (start count : ℕ) → start ≡ zone_header + total_of z.spec.heads before → count ≡ total_of z.spec.heads old → Notes z.kept kept start count
       → ((i : ℕ) → zone_header ≤ i → IsOff start count i → slice_index memory.bytes i ≡ slice_index z.memory.bytes i)
-      → IsReadWhole (record z { memory = memory; index = index; loans = loans; kept = kept }) (with_blocks (before ++ (new ++ behind)) (layout_of z))
+      → IsReadWhole (record z { memory = memory; index = index; loans = loans; kept = kept }) (with_blocks (before ++ (new ++ after)) (layout_of z))
   span-whole kept start count there long notes stay =
-      let same = total-kept z whole before old new behind is read in let within = total-within z whole before old new behind is read in
-      replaced-whole z whole before old new behind is read kept (grows-noted (length z.memory.bytes) z.kept kept start count notes (omega arith)) start there
+      let same = total-kept z whole before old new after is read in let within = total-within z whole before old new after is read in
+      replaced-whole z whole before old new after is read kept (grows-noted (length z.memory.bytes) z.kept kept start count notes (omega arith)) start there
       (λ i own. let low = own-low z.spec.heads start new i own in let high = own-high z.spec.heads start new i own in range-noted z.kept kept start count notes i low (omega arith))
       (λ i above off. stay i above (subst (λ (n : ℕ). IsOff start n i) (same ∙ sym long) off))
 

@@ -19,7 +19,7 @@ length-rendered heads base (b ∷ bs) =
     let e = length-append head (b.contents ++ (b.slack ++ rest)) in let e' = length-append b.contents (b.slack ++ rest) in let e'' = length-append b.slack rest in
     let long = length-head_bytes heads base (header_of heads b) in omega arith
 
--- the bytes of two lists of blocks, one behind the other
+-- the bytes of two lists of blocks, one after the other
 pub rendered-append : (heads : HeadKind) (base : ℕ) (xs ys : List RawBlock) → rendered heads base (xs ++ ys) ≡ rendered heads base xs ++ rendered heads base ys
 rendered-append heads base [] ys = refl
 rendered-append heads base (b ∷ bs) ys =
@@ -29,10 +29,10 @@ rendered-append heads base (b ∷ bs) ys =
 pub part-middle : (pre mid post : List ℕ) (at n : ℕ) → at ≡ length pre → n ≡ length mid → part (pre ++ (mid ++ post)) at n ≡ mid
 part-middle pre mid post at n here long = ap (take n) (drop_at pre (mid ++ post) at (sym here)) ∙ take_at mid post n (sym long)
 
--- a write behind the first of two lists
-behind_front : (front xs : List ℕ) (k : ℕ) (ws : List ℕ) → written (front ++ xs) (length front + k) ws ≡ front ++ written xs k ws
-behind_front [] xs k ws = ap (λ (j : ℕ). written xs j ws) (let e : 0 + k ≡ k = omega arith in e)
-behind_front (x ∷ front) xs k ws = ap (λ (j : ℕ). written (x ∷ (front ++ xs)) j ws) (let e : suc (length front) + k ≡ suc (length front + k) = omega arith in e) ∙ ap (λ (l : List ℕ). x ∷ l) (behind_front front xs k ws)
+-- a write after the first of two lists
+after_front : (front xs : List ℕ) (k : ℕ) (ws : List ℕ) → written (front ++ xs) (length front + k) ws ≡ front ++ written xs k ws
+after_front [] xs k ws = ap (λ (j : ℕ). written xs j ws) (let e : 0 + k ≡ k = omega arith in e)
+after_front (x ∷ front) xs k ws = ap (λ (j : ℕ). written (x ∷ (front ++ xs)) j ws) (let e : suc (length front) + k ≡ suc (length front + k) = omega arith in e) ∙ ap (λ (l : List ℕ). x ∷ l) (after_front front xs k ws)
 
 -- a write within the first of two lists
 before_rear : (mid rear : List ℕ) (k : ℕ) (ws : List ℕ) → k + length ws ≤ length mid → written (mid ++ rear) k ws ≡ written mid k ws ++ rear
@@ -48,7 +48,7 @@ before_rear (x ∷ mid) rear (suc k) ws fits = ap (λ (l : List ℕ). x ∷ l) (
 pub written-within : (pre mid post : List ℕ) (at k : ℕ) (ws : List ℕ) → at ≡ length pre + k → k + length ws ≤ length mid
     → written (pre ++ (mid ++ post)) at ws ≡ pre ++ (written mid k ws ++ post)
 written-within pre mid post at k ws here fits =
-    ap (λ (j : ℕ). written (pre ++ (mid ++ post)) j ws) here ∙ behind_front pre (mid ++ post) k ws ∙ ap (λ (l : List ℕ). pre ++ l) (before_rear mid post k ws fits)
+    ap (λ (j : ℕ). written (pre ++ (mid ++ post)) j ws) here ∙ after_front pre (mid ++ post) k ws ∙ ap (λ (l : List ℕ). pre ++ l) (before_rear mid post k ws fits)
 
 -- a write over all of a list
 pub written-whole : (old new : List ℕ) → length new ≡ length old → written old 0 new ≡ new

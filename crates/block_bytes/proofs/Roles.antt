@@ -15,17 +15,17 @@ use Rattle.block_bytes.proofs.Settled.{front-fits}
 use Rattle.block_bytes.proofs.Changes.{total-same, header-same}
 
 -- another header for the same body, lent or not
-pub role-changed : (z : Inside) (whole : IsLayout z) (small : ArePossible z.spec) (before : List RawBlock) (here : RawBlock) (behind : List RawBlock) (is : (layout_of z).blocks ≡ before ++ here ∷ behind)
+pub role-changed : (z : Inside) (whole : IsLayout z) (small : ArePossible z.spec) (before : List RawBlock) (here : RawBlock) (after : List RawBlock) (is : (layout_of z).blocks ≡ before ++ here ∷ after)
     → (role : Role) → IsTrue (is_possible z.spec.heads (in_role here role)) → is_free role ≡ is_free here.role → (m : State) → m.name ≡ z.memory.name → m.lent ≡ z.memory.lent
-    → m.bytes ≡ front (layout_of z) before ++ (head (layout_of z) (in_role here role) ++ (body here ++ rear (layout_of z) behind))
-    → IsRead (record z { memory = m }) (with_blocks (before ++ in_role here role ∷ behind) (layout_of z))
-role-changed z whole small before here behind is role possible same m named lent bytes =
-    let l = layout_of z in let heads = z.spec.heads in let b = in_role here role in let i = IsIn-from z whole before here behind is in
-    changed z whole small (before ++ b ∷ behind) m z.index z.loans named
-    (bytes ∙ sym (image-parts l before b behind) ∙ ap (λ (h : List ℕ). h ++ (rendered l.heads l.base (before ++ b ∷ behind) ++ l.spare)) (header-same z whole small before here behind is b refl same))
-    (total-same z whole small before here behind is b refl)
-    (possible-with heads before (b ∷ behind) i.before_possible (possible-more heads b behind possible i.behind_possible))
-    (marked-same z whole before here behind is b refl (ap (λ (t : Bool). if here.lent then lent_mark else (if t then free_mark else 1)) same))
+    → m.bytes ≡ front (layout_of z) before ++ (head (layout_of z) (in_role here role) ++ (body here ++ rear (layout_of z) after))
+    → IsRead (record z { memory = m }) (with_blocks (before ++ in_role here role ∷ after) (layout_of z))
+role-changed z whole small before here after is role possible same m named lent bytes =
+    let l = layout_of z in let heads = z.spec.heads in let b = in_role here role in let i = IsIn-from z whole before here after is in
+    changed z whole small (before ++ b ∷ after) m z.index z.loans named
+    (bytes ∙ sym (image-parts l before b after) ∙ ap (λ (h : List ℕ). h ++ (rendered l.heads l.base (before ++ b ∷ after) ++ l.spare)) (header-same z whole small before here after is b refl same))
+    (total-same z whole small before here after is b refl)
+    (possible-with heads before (b ∷ after) i.before_possible (possible-more heads b after possible i.after_possible))
+    (marked-same z whole before here after is b refl (ap (λ (t : Bool). if here.lent then lent_mark else (if t then free_mark else 1)) same))
     (λ s. ap (times s) lent ∙ whole.lent s ∙ ap (λ (bs : List RawBlock). times s (lent_spans heads zone_header bs)) is
-    ∙ ap (times s) (spans-append heads zone_header before (here ∷ behind) ∙ sym (spans-append heads zone_header before (b ∷ behind))))
-    (whole.loans ∙ ap lent_count is ∙ (count-append before (here ∷ behind) ∙ sym (count-append before (b ∷ behind)))) whole.few (front-fits z whole)
+    ∙ ap (times s) (spans-append heads zone_header before (here ∷ after) ∙ sym (spans-append heads zone_header before (b ∷ after))))
+    (whole.loans ∙ ap lent_count is ∙ (count-append before (here ∷ after) ∙ sym (count-append before (b ∷ after)))) whole.few (front-fits z whole)

@@ -63,33 +63,33 @@ shifted-before place xs first second third inside j before =
     get_or_append_left (take place xs ++ first ++ second) third 0 j (omega arith) ∙ get_or_append_left (take place xs ++ first) second 0 j (omega arith)
     ∙ get_or_append_left (take place xs) first 0 j (omega arith) ∙ get_or-take place xs j 0 before
 
-module _ (before others behind : List ℕ) (x y j : ℕ) where
-  -- numbers move down over a number and those of none behind it, and one is written behind them
+module _ (before others after : List ℕ) (x y j : ℕ) where
+  -- numbers move down over a number and those of none after it, and one is written after them
   pub numbers-down : (from to n place : ℕ) → to ≡ length before → from ≡ to + suc j → n ≡ length others → place ≡ to + n
-      → set (shifted_down from to n (before ++ x ∷ (unmarked j ++ (others ++ behind)))) place y ≡ before ++ (others ++ y ∷ (unmarked j ++ behind))
+      → set (shifted_down from to n (before ++ x ∷ (unmarked j ++ (others ++ after)))) place y ≡ before ++ (others ++ y ∷ (unmarked j ++ after))
   numbers-down from to n place there there' long there'' =
-      let here = x ∷ unmarked j in let all = before ++ (here ++ (others ++ behind)) in
+      let here = x ∷ unmarked j in let all = before ++ (here ++ (others ++ after)) in
       let none = length-unmarked j in let a = length-append before here in let b = length-append (before ++ here) others in let c = length-append before others in
-      let low : take to all ≡ before = take_at before (here ++ (others ++ behind)) to (sym there) in
-      let moved : take n (drop from all) ≡ others = ap (λ (l : List ℕ). part l from n) (sym (append_assoc before here (others ++ behind))) ∙ part-middle (before ++ here) others behind from n (omega arith) long in
-      let high : drop (from + n) all ≡ behind =
-      ap (drop (from + n)) (sym (append_assoc before here (others ++ behind)) ∙ sym (append_assoc (before ++ here) others behind)) ∙ drop_at ((before ++ here) ++ others) behind (from + n) (omega arith) in
+      let low : take to all ≡ before = take_at before (here ++ (others ++ after)) to (sym there) in
+      let moved : take n (drop from all) ≡ others = ap (λ (l : List ℕ). part l from n) (sym (append_assoc before here (others ++ after))) ∙ part-middle (before ++ here) others after from n (omega arith) long in
+      let high : drop (from + n) all ≡ after =
+      ap (drop (from + n)) (sym (append_assoc before here (others ++ after)) ∙ sym (append_assoc (before ++ here) others after)) ∙ drop_at ((before ++ here) ++ others) after (from + n) (omega arith) in
       let gap : from - to ≡ suc j = omega arith in
       (λ i. set (low i ++ moved i ++ replicate (gap i) 0 ++ high i) place y)
-      ∙ ap (λ (l : List ℕ). set l place y) (append_assoc (before ++ others) (0 ∷ unmarked j) behind)
-      ∙ set_at (before ++ others) 0 (unmarked j ++ behind) y place (omega arith) ∙ append_assoc before others (y ∷ (unmarked j ++ behind))
+      ∙ ap (λ (l : List ℕ). set l place y) (append_assoc (before ++ others) (0 ∷ unmarked j) after)
+      ∙ set_at (before ++ others) 0 (unmarked j ++ after) y place (omega arith) ∙ append_assoc before others (y ∷ (unmarked j ++ after))
 
-  -- numbers move up over a number and those of none behind it, and one is written before them
+  -- numbers move up over a number and those of none after it, and one is written before them
   pub numbers-up : (from to n : ℕ) → from ≡ length before → to ≡ from + suc j → n ≡ length others
-      → set (shifted_up from to n (before ++ (others ++ x ∷ (unmarked j ++ behind)))) from y ≡ before ++ y ∷ (unmarked j ++ (others ++ behind))
+      → set (shifted_up from to n (before ++ (others ++ x ∷ (unmarked j ++ after)))) from y ≡ before ++ y ∷ (unmarked j ++ (others ++ after))
   numbers-up from to n there there' long =
-      let here = x ∷ unmarked j in let all = before ++ (others ++ (here ++ behind)) in
+      let here = x ∷ unmarked j in let all = before ++ (others ++ (here ++ after)) in
       let none = length-unmarked j in let a = length-append before others in let b = length-append (before ++ others) here in
-      let low : take from all ≡ before = take_at before (others ++ (here ++ behind)) from (sym there) in
-      let moved : take n (drop from all) ≡ others = part-middle before others (here ++ behind) from n there long in
-      let high : drop (to + n) all ≡ behind =
-      ap (drop (to + n)) (sym (append_assoc before others (here ++ behind)) ∙ sym (append_assoc (before ++ others) here behind)) ∙ drop_at ((before ++ others) ++ here) behind (to + n) (omega arith) in
+      let low : take from all ≡ before = take_at before (others ++ (here ++ after)) from (sym there) in
+      let moved : take n (drop from all) ≡ others = part-middle before others (here ++ after) from n there long in
+      let high : drop (to + n) all ≡ after =
+      ap (drop (to + n)) (sym (append_assoc before others (here ++ after)) ∙ sym (append_assoc (before ++ others) here after)) ∙ drop_at ((before ++ others) ++ here) after (to + n) (omega arith) in
       let gap : to - from ≡ suc j = omega arith in
       (λ i. set (low i ++ replicate (gap i) 0 ++ moved i ++ high i) from y)
-      ∙ ap (λ (l : List ℕ). set l from y) (append_assoc (before ++ (0 ∷ unmarked j)) others behind ∙ append_assoc before (0 ∷ unmarked j) (others ++ behind))
-      ∙ set_at before 0 (unmarked j ++ (others ++ behind)) y from (sym there)
+      ∙ ap (λ (l : List ℕ). set l from y) (append_assoc (before ++ (0 ∷ unmarked j)) others after ∙ append_assoc before (0 ∷ unmarked j) (others ++ after))
+      ∙ set_at before 0 (unmarked j ++ (others ++ after)) y from (sym there)

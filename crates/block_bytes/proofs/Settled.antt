@@ -13,7 +13,7 @@ use Rattle.raw_region.specs.Span.{IsFree}
 use Rattle.raw_region.specs.State.{State, with_bytes}
 use Rattle.block_bytes.specs.declared.blocks.Blocks.TheInside.{Inside}
 use Rattle.block_bytes.specs.ZoneHead.{front_field, free_field, lowest_field, zone_head}
-use Rattle.block_bytes.specs.Layout.{RawBlock, is_free, size_of, total_of, free_total, first_free, lent_count, is_possible, rendered, image_of, with_blocks, with_front, address_behind}
+use Rattle.block_bytes.specs.Layout.{RawBlock, is_free, size_of, total_of, free_total, first_free, lent_count, is_possible, rendered, image_of, with_blocks, with_front, address_after}
 use Rattle.block_bytes.specs.Starts.{first_marked, starts_of}
 use Rattle.block_bytes.specs.Reading.{layout_of, IsLayout, lent_spans, times}
 use Rattle.block_bytes.proofs.Rendered.{total_of-append}
@@ -40,7 +40,7 @@ free-append heads (b ∷ bs) ys = let more = free-append heads bs ys in omega ar
 -- the number of the free slots fits four bytes
 pub front-fits : (z : Inside) → IsLayout z → (layout_of z).front < 2 ^ 32
 front-fits z whole = let l = layout_of z in subst (λ (m : List ℕ). big_number 4 (part m front_field 4) < 2 ^ 32) (sym whole.form)
-    (front-small (address_behind l l.blocks) l.front (free_total l.heads l.blocks) (first_free l.heads (address_behind l []) l.blocks) (rendered l.heads l.base l.blocks ++ l.spare))
+    (front-small (address_after l l.blocks) l.front (free_total l.heads l.blocks) (first_free l.heads (address_after l []) l.blocks) (rendered l.heads l.base l.blocks ++ l.spare))
 
 -- the memory after the header says so
 abbrev pub counted : State → ℕ → ℕ → ℕ → ℕ → State
@@ -57,57 +57,57 @@ module _ (z : Inside) (whole : IsLayout z) where
       (apart-above z.spec.heads zone_header 0 zone_header (layout_of z).blocks (omega arith))
 
   -- nor is the header of a block
-  pub head-free : (before : List RawBlock) (here : RawBlock) (behind : List RawBlock) → (layout_of z).blocks ≡ before ++ here ∷ behind → (p : ℕ) → p ≡ zone_header + total_of z.spec.heads before
+  pub head-free : (before : List RawBlock) (here : RawBlock) (after : List RawBlock) → (layout_of z).blocks ≡ before ++ here ∷ after → (p : ℕ) → p ≡ zone_header + total_of z.spec.heads before
       → IsFree z.memory.lent p (head_size z.spec.heads)
-  head-free before here behind is p there = free-same z.memory.lent (lent_spans z.spec.heads zone_header (before ++ here ∷ behind)) p (head_size z.spec.heads)
-      (λ s. whole.lent s ∙ ap (λ (bs : List RawBlock). times s (lent_spans z.spec.heads zone_header bs)) is) (apart-head z.spec.heads zone_header p before here behind there)
+  head-free before here after is p there = free-same z.memory.lent (lent_spans z.spec.heads zone_header (before ++ here ∷ after)) p (head_size z.spec.heads)
+      (λ s. whole.lent s ∙ ap (λ (bs : List RawBlock). times s (lent_spans z.spec.heads zone_header bs)) is) (apart-head z.spec.heads zone_header p before here after there)
 
   -- nor any byte of blocks that aren't lent
-  pub unlent-free : (before mid behind : List RawBlock) → (layout_of z).blocks ≡ before ++ (mid ++ behind) → AllUnlent mid → (p n : ℕ) → zone_header + total_of z.spec.heads before ≤ p
+  pub unlent-free : (before mid after : List RawBlock) → (layout_of z).blocks ≡ before ++ (mid ++ after) → AllUnlent mid → (p n : ℕ) → zone_header + total_of z.spec.heads before ≤ p
       → p + n ≤ zone_header + total_of z.spec.heads before + total_of z.spec.heads mid → IsFree z.memory.lent p n
-  unlent-free before mid behind is unlent p n low high = free-same z.memory.lent (lent_spans z.spec.heads zone_header (before ++ (mid ++ behind))) p n
+  unlent-free before mid after is unlent p n low high = free-same z.memory.lent (lent_spans z.spec.heads zone_header (before ++ (mid ++ after))) p n
       (λ s. whole.lent s ∙ ap (λ (bs : List RawBlock). times s (lent_spans z.spec.heads zone_header bs)) is)
-      (apart-middle z.spec.heads zone_header p n before mid behind (spans-all_unlent z.spec.heads (zone_header + total_of z.spec.heads before) mid behind unlent) low high)
+      (apart-middle z.spec.heads zone_header p n before mid after (spans-all_unlent z.spec.heads (zone_header + total_of z.spec.heads before) mid after unlent) low high)
 
 module _ (z : Inside) (whole : IsLayout z) (small : ArePossible z.spec) where
   -- the free bytes are read where the header is as it was
   pub free-counted : (m : State) (bs : List RawBlock) → m.bytes ≡ stale_image (layout_of z) bs → big_number 4 (part m.bytes free_field 4) ≡ free_total z.spec.heads (layout_of z).blocks
   free-counted m bs is = let l = layout_of z in let ends = total-ends z whole in let within = free-within l.heads l.blocks in let limit = small.small_enough in let high = whole.high in
       ap (λ (m : List ℕ). big_number 4 (part m free_field 4)) is
-      ∙ free-read (address_behind l l.blocks) l.front (free_total l.heads l.blocks) (first_free l.heads (address_behind l []) l.blocks) (rendered l.heads l.base bs ++ l.spare) (omega arith)
+      ∙ free-read (address_after l l.blocks) l.front (free_total l.heads l.blocks) (first_free l.heads (address_after l []) l.blocks) (rendered l.heads l.base bs ++ l.spare) (omega arith)
 
   -- blocks stand for others, none of them lent; then the header is written
-  pub replaced : (before old new behind : List RawBlock) → (layout_of z).blocks ≡ before ++ (old ++ behind) → AllUnlent old → AllUnlent new
+  pub replaced : (before old new after : List RawBlock) → (layout_of z).blocks ≡ before ++ (old ++ after) → AllUnlent old → AllUnlent new
       → total_of z.spec.heads new ≡ total_of z.spec.heads old → IsTrue (list_all (is_possible z.spec.heads) new)
-      → (m n : State) (index : List ℕ) (base gained lost : ℕ) → m.name ≡ z.memory.name → m.lent ≡ z.memory.lent → m.bytes ≡ stale_image (layout_of z) (before ++ (new ++ behind))
-      → index ≡ starts_of (with_blocks (before ++ (new ++ behind)) (layout_of z)) → base ≡ z.spec.base → free_total z.spec.heads new + lost ≡ free_total z.spec.heads old + gained
+      → (m n : State) (index : List ℕ) (base gained lost : ℕ) → m.name ≡ z.memory.name → m.lent ≡ z.memory.lent → m.bytes ≡ stale_image (layout_of z) (before ++ (new ++ after))
+      → index ≡ starts_of (with_blocks (before ++ (new ++ after)) (layout_of z)) → base ≡ z.spec.base → free_total z.spec.heads new + lost ≡ free_total z.spec.heads old + gained
       → n ≡ counted m base gained lost (first_marked base index)
-      → IsRead (record z { memory = n; index = index }) (with_blocks (before ++ (new ++ behind)) (layout_of z))
-  replaced before old new behind is unlent unlent' same possible m n index base gained lost named lent bytes marks base_is balance settles =
-      let l = layout_of z in let heads = z.spec.heads in let bs = before ++ (new ++ behind) in let rest = rendered heads l.base bs ++ l.spare in
-      let parts = and-true (list_all (is_possible heads) before) (list_all (is_possible heads) (old ++ behind))
-      (sym (list_all-append (is_possible heads) before (old ++ behind)) ∙ sym (ap (list_all (is_possible heads)) is) ∙ whole.possible) in
-      let parts' = and-true (list_all (is_possible heads) old) (list_all (is_possible heads) behind) (sym (list_all-append (is_possible heads) old behind) ∙ parts.1) in
-      let all : IsTrue (list_all (is_possible heads) bs) = possible-with heads before (new ++ behind) parts.0 (possible-with heads new behind possible parts'.1) in
+      → IsRead (record z { memory = n; index = index }) (with_blocks (before ++ (new ++ after)) (layout_of z))
+  replaced before old new after is unlent unlent' same possible m n index base gained lost named lent bytes marks base_is balance settles =
+      let l = layout_of z in let heads = z.spec.heads in let bs = before ++ (new ++ after) in let rest = rendered heads l.base bs ++ l.spare in
+      let parts = and-true (list_all (is_possible heads) before) (list_all (is_possible heads) (old ++ after))
+      (sym (list_all-append (is_possible heads) before (old ++ after)) ∙ sym (ap (list_all (is_possible heads)) is) ∙ whole.possible) in
+      let parts' = and-true (list_all (is_possible heads) old) (list_all (is_possible heads) after) (sym (list_all-append (is_possible heads) old after) ∙ parts.1) in
+      let all : IsTrue (list_all (is_possible heads) bs) = possible-with heads before (new ++ after) parts.0 (possible-with heads new after possible parts'.1) in
       let total : total_of heads bs ≡ total_of heads l.blocks =
-      let a = total_of-append heads before (new ++ behind) in let b = total_of-append heads new behind in let c = total_of-append heads before (old ++ behind) in let d = total_of-append heads old behind in
+      let a = total_of-append heads before (new ++ after) in let b = total_of-append heads new after in let c = total_of-append heads before (old ++ after) in let d = total_of-append heads old after in
       let e = ap (total_of heads) is in omega arith in
       let free : big_number 4 (part m.bytes free_field 4) + gained - lost ≡ free_total heads bs =
-      let a = free-append heads before (new ++ behind) in let b = free-append heads new behind in let c = free-append heads before (old ++ behind) in let d = free-append heads old behind in
+      let a = free-append heads before (new ++ after) in let b = free-append heads new after in let c = free-append heads before (old ++ after) in let d = free-append heads old after in
       let e = ap (free_total heads) is in let f = free-counted m bs bytes in omega arith in
       let lowest : first_marked base index ≡ first_free heads (l.base + zone_header) bs = (λ i. first_marked (base_is i) (marks i)) ∙ first_marked-starts (with_blocks bs l) all in
-      let end : address_behind l l.blocks ≡ address_behind l bs = omega arith in
-      let start : l.base + zone_header ≡ address_behind l [] = omega arith in let low = first_free heads (address_behind l []) l.blocks in
+      let end : address_after l l.blocks ≡ address_after l bs = omega arith in
+      let start : l.base + zone_header ≡ address_after l [] = omega arith in let low = first_free heads (address_after l []) l.blocks in
       let head : n.bytes ≡ image_of (with_blocks bs l) =
       ap (λ (s : State). s.bytes) settles
       ∙ (λ i. written (written (bytes i) free_field (big_bytes 4 (free i))) lowest_field (big_bytes 4 (lowest i)))
-      ∙ ap (λ (xs : List ℕ). written xs lowest_field (big_bytes 4 (first_free heads (l.base + zone_header) bs))) (free-written (address_behind l l.blocks) l.front (free_total heads l.blocks) low rest (free_total heads bs))
-      ∙ lowest-written (address_behind l l.blocks) l.front (free_total heads bs) low rest (first_free heads (l.base + zone_header) bs)
+      ∙ ap (λ (xs : List ℕ). written xs lowest_field (big_bytes 4 (first_free heads (l.base + zone_header) bs))) (free-written (address_after l l.blocks) l.front (free_total heads l.blocks) low rest (free_total heads bs))
+      ∙ lowest-written (address_after l l.blocks) l.front (free_total heads bs) low rest (first_free heads (l.base + zone_header) bs)
       ∙ (λ i. zone_head (end i) l.front (free_total heads bs) (first_free heads (start i) bs) ++ rest) in
       changed z whole small bs n index z.loans (ap (λ (s : State). s.name) settles ∙ named) head total all marks
       (λ s. ap (times s) (ap (λ (s : State). s.lent) settles ∙ lent) ∙ whole.lent s
-      ∙ ap (λ (cs : List RawBlock). times s (lent_spans heads zone_header cs)) is ∙ ap (times s) (sym (spans-replaced before old new behind unlent unlent' heads zone_header same)))
-      (whole.loans ∙ ap lent_count is ∙ sym (count-replaced before old new behind unlent unlent')) whole.few (front-fits z whole)
+      ∙ ap (λ (cs : List RawBlock). times s (lent_spans heads zone_header cs)) is ∙ ap (times s) (sym (spans-replaced before old new after unlent unlent' heads zone_header same)))
+      (whole.loans ∙ ap lent_count is ∙ sym (count-replaced before old new after unlent unlent')) whole.few (front-fits z whole)
 
 -- where no block is lent, nothing of the memory is
 pub nothing-lent : (z : Inside) → IsLayout z → lent_count (layout_of z).blocks ≡ 0 → z.memory.lent ≡ []
@@ -119,5 +119,5 @@ front-changed z whole small n told = let l = layout_of z in let limit = small.sm
     image-read (record z { memory = with_bytes z.memory front_field (big_bytes 4 n) }) z.memory.name n l.blocks l.spare refl told (total-ends z whole) whole.possible (omega arith) (omega arith) whole.high
     (length-written z.memory.bytes front_field (big_bytes 4 n) ∙ whole.all_bytes)
     (ap (λ (m : List ℕ). written m front_field (big_bytes 4 n)) whole.form
-    ∙ front-written (address_behind l l.blocks) l.front (free_total l.heads l.blocks) (first_free l.heads (address_behind l []) l.blocks) (rendered l.heads l.base l.blocks ++ l.spare) n)
+    ∙ front-written (address_after l l.blocks) l.front (free_total l.heads l.blocks) (first_free l.heads (address_after l []) l.blocks) (rendered l.heads l.base l.blocks ++ l.spare) n)
     whole.marked whole.lent whole.loans whole.few

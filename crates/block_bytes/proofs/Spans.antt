@@ -10,7 +10,7 @@ use Rattle.raw_region.proofs.Places.{by_case}
 use Rattle.block_bytes.specs.Layout.{RawBlock, size_of, total_of, lent_count}
 use Rattle.block_bytes.specs.Reading.{lent_spans, times, SameSpans}
 
--- the ranges of blocks that lie behind some bytes
+-- the ranges of blocks that lie after some bytes
 pub apart-above : (heads : HeadKind) (at p n : ℕ) (bs : List RawBlock) → p + n ≤ at → AllApart (lent_spans heads at bs) p n
 apart-above heads at p n [] above = tt
 apart-above heads at p n (b ∷ bs) above = either b.lent (apart-above heads (at + size_of heads b) p n bs (omega arith))
@@ -33,7 +33,7 @@ apart-append : (ss ts : List Span) (p n : ℕ) → AllApart ss p n → AllApart 
 apart-append [] ts p n first second = second
 apart-append (s ∷ ss) ts p n first second = (first.0, apart-append ss ts p n first.1 second)
 
--- the ranges of two lists of blocks, one behind the other
+-- the ranges of two lists of blocks, one after the other
 pub spans-append : (heads : HeadKind) (at : ℕ) (xs ys : List RawBlock) → lent_spans heads at (xs ++ ys) ≡ lent_spans heads at xs ++ lent_spans heads (at + total_of heads xs) ys
 spans-append heads at [] ys = ap (λ (k : ℕ). lent_spans heads k ys) (omega arith)
 spans-append heads at (b ∷ bs) ys = either b.lent (spans-append heads (at + size_of heads b) bs ys
@@ -58,26 +58,26 @@ pub spans-lent : (heads : HeadKind) (at : ℕ) (b : RawBlock) (bs : List RawBloc
 spans-lent heads at b bs is = ap (λ (t : Bool). if t then (at + head_size heads, length b.contents) ∷ lent_spans heads (at + size_of heads b) bs else lent_spans heads (at + size_of heads b) bs) is
 
 -- no block has bytes of its header lent
-pub apart-head : (heads : HeadKind) (at p : ℕ) (before : List RawBlock) (here : RawBlock) (behind : List RawBlock) → p ≡ at + total_of heads before
-    → AllApart (lent_spans heads at (before ++ here ∷ behind)) p (head_size heads)
-apart-head heads at p before here behind is = subst (λ (ss : List Span). AllApart ss p (head_size heads)) (sym (spans-append heads at before (here ∷ behind)))
-    (apart-append (lent_spans heads at before) (lent_spans heads (at + total_of heads before) (here ∷ behind)) p (head_size heads) (apart-below heads at p (head_size heads) before (omega arith)) (either here.lent))
+pub apart-head : (heads : HeadKind) (at p : ℕ) (before : List RawBlock) (here : RawBlock) (after : List RawBlock) → p ≡ at + total_of heads before
+    → AllApart (lent_spans heads at (before ++ here ∷ after)) p (head_size heads)
+apart-head heads at p before here after is = subst (λ (ss : List Span). AllApart ss p (head_size heads)) (sym (spans-append heads at before (here ∷ after)))
+    (apart-append (lent_spans heads at before) (lent_spans heads (at + total_of heads before) (here ∷ after)) p (head_size heads) (apart-below heads at p (head_size heads) before (omega arith)) (either here.lent))
   where
-    others : AllApart (lent_spans heads (at + total_of heads before + size_of heads here) behind) p (head_size heads)
-    others = apart-above heads (at + total_of heads before + size_of heads here) p (head_size heads) behind (omega arith)
+    others : AllApart (lent_spans heads (at + total_of heads before + size_of heads here) after) p (head_size heads)
+    others = apart-above heads (at + total_of heads before + size_of heads here) p (head_size heads) after (omega arith)
 
-    either : (lent : Bool) → AllApart (if lent then (at + total_of heads before + head_size heads, length here.contents) ∷ lent_spans heads (at + total_of heads before + size_of heads here) behind
-        else lent_spans heads (at + total_of heads before + size_of heads here) behind) p (head_size heads)
+    either : (lent : Bool) → AllApart (if lent then (at + total_of heads before + head_size heads, length here.contents) ∷ lent_spans heads (at + total_of heads before + size_of heads here) after
+        else lent_spans heads (at + total_of heads before + size_of heads here) after) p (head_size heads)
     either true = (inr (omega arith), others)
     either false = others
 
 -- none of the bytes of blocks that aren't lent is
-pub apart-middle : (heads : HeadKind) (at p n : ℕ) (before mid behind : List RawBlock) → lent_spans heads (at + total_of heads before) (mid ++ behind) ≡ lent_spans heads (at + total_of heads before + total_of heads mid) behind
-    → at + total_of heads before ≤ p → p + n ≤ at + total_of heads before + total_of heads mid → AllApart (lent_spans heads at (before ++ (mid ++ behind))) p n
-apart-middle heads at p n before mid behind unlent low high =
-    subst (λ (ss : List Span). AllApart ss p n) (sym (spans-append heads at before (mid ++ behind) ∙ ap (λ (ss : List Span). lent_spans heads at before ++ ss) unlent))
-    (apart-append (lent_spans heads at before) (lent_spans heads (at + total_of heads before + total_of heads mid) behind) p n (apart-below heads at p n before low)
-    (apart-above heads (at + total_of heads before + total_of heads mid) p n behind high))
+pub apart-middle : (heads : HeadKind) (at p n : ℕ) (before mid after : List RawBlock) → lent_spans heads (at + total_of heads before) (mid ++ after) ≡ lent_spans heads (at + total_of heads before + total_of heads mid) after
+    → at + total_of heads before ≤ p → p + n ≤ at + total_of heads before + total_of heads mid → AllApart (lent_spans heads at (before ++ (mid ++ after))) p n
+apart-middle heads at p n before mid after unlent low high =
+    subst (λ (ss : List Span). AllApart ss p n) (sym (spans-append heads at before (mid ++ after) ∙ ap (λ (ss : List Span). lent_spans heads at before ++ ss) unlent))
+    (apart-append (lent_spans heads at before) (lent_spans heads (at + total_of heads before + total_of heads mid) after) p n (apart-below heads at p n before low)
+    (apart-above heads (at + total_of heads before + total_of heads mid) p n after high))
 
 -- a number is itself
 pub same_number : (n : ℕ) → (n == n) ≡ true
@@ -154,17 +154,17 @@ count-append (b ∷ bs) ys = either b.lent (count-append bs ys)
     either true more = omega arith
     either false more = more
 
-module _ (before old new behind : List RawBlock) (unlent : AllUnlent old) (unlent' : AllUnlent new) where
+module _ (before old new after : List RawBlock) (unlent : AllUnlent old) (unlent' : AllUnlent new) where
   -- blocks that aren't lent stand for others that aren't
-  pub count-replaced : lent_count (before ++ (new ++ behind)) ≡ lent_count (before ++ (old ++ behind))
-  count-replaced = let a = count-append before (new ++ behind) in let b = count-append before (old ++ behind) in
-      let c = count-all_unlent new behind unlent' in let d = count-all_unlent old behind unlent in omega arith
+  pub count-replaced : lent_count (before ++ (new ++ after)) ≡ lent_count (before ++ (old ++ after))
+  count-replaced = let a = count-append before (new ++ after) in let b = count-append before (old ++ after) in
+      let c = count-all_unlent new after unlent' in let d = count-all_unlent old after unlent in omega arith
 
-  pub spans-replaced : (heads : HeadKind) (at : ℕ) → total_of heads new ≡ total_of heads old → lent_spans heads at (before ++ (new ++ behind)) ≡ lent_spans heads at (before ++ (old ++ behind))
-  spans-replaced heads at same = spans-append heads at before (new ++ behind)
-      ∙ ap (λ (ss : List Span). lent_spans heads at before ++ ss) (spans-all_unlent heads (at + total_of heads before) new behind unlent'
-      ∙ ap (λ (n : ℕ). lent_spans heads (at + total_of heads before + n) behind) same ∙ sym (spans-all_unlent heads (at + total_of heads before) old behind unlent))
-      ∙ sym (spans-append heads at before (old ++ behind))
+  pub spans-replaced : (heads : HeadKind) (at : ℕ) → total_of heads new ≡ total_of heads old → lent_spans heads at (before ++ (new ++ after)) ≡ lent_spans heads at (before ++ (old ++ after))
+  spans-replaced heads at same = spans-append heads at before (new ++ after)
+      ∙ ap (λ (ss : List Span). lent_spans heads at before ++ ss) (spans-all_unlent heads (at + total_of heads before) new after unlent'
+      ∙ ap (λ (n : ℕ). lent_spans heads (at + total_of heads before + n) after) same ∙ sym (spans-all_unlent heads (at + total_of heads before) old after unlent))
+      ∙ sym (spans-append heads at before (old ++ after))
 
 -- where no block is lent there is no range
 pub spans-none : (heads : HeadKind) (at : ℕ) (bs : List RawBlock) → lent_count bs ≡ 0 → lent_spans heads at bs ≡ []

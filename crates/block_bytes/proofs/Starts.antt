@@ -62,7 +62,7 @@ large-free false Fixed large = absurd (omega arith)
 large-free false Master large = absurd (omega arith)
 large-free false (Relocatable slot flags) large = absurd (omega arith)
 
--- the marks of two lists of blocks, one behind the other
+-- the marks of two lists of blocks, one after the other
 pub marks_of-append : (heads : HeadKind) (xs ys : List RawBlock) → marks_of heads (xs ++ ys) ≡ marks_of heads xs ++ marks_of heads ys
 marks_of-append heads [] ys = refl
 marks_of-append heads (b ∷ bs) ys = ap (λ (l : List ℕ). mark_of heads b ∷ (unmarked (size_of heads b / 4 - 1) ++ l)) (marks_of-append heads bs ys) ∙ simp append_assoc
@@ -77,35 +77,35 @@ length-marks_of heads (b ∷ bs) possible =
     let even = p.even in let large = p.large in omega arith
 
 -- the marks of blocks, one of which is another of the same size and with the same mark
-pub marks_of-same : (heads : HeadKind) (before : List RawBlock) (b c : RawBlock) (behind : List RawBlock) → size_of heads b ≡ size_of heads c → mark_of heads b ≡ mark_of heads c
-    → marks_of heads (before ++ b ∷ behind) ≡ marks_of heads (before ++ c ∷ behind)
-marks_of-same heads before b c behind same mark =
-    marks_of-append heads before (b ∷ behind) ∙ (λ i. marks_of heads before ++ mark i ∷ (unmarked (same i / 4 - 1) ++ marks_of heads behind))
-    ∙ sym (marks_of-append heads before (c ∷ behind))
+pub marks_of-same : (heads : HeadKind) (before : List RawBlock) (b c : RawBlock) (after : List RawBlock) → size_of heads b ≡ size_of heads c → mark_of heads b ≡ mark_of heads c
+    → marks_of heads (before ++ b ∷ after) ≡ marks_of heads (before ++ c ∷ after)
+marks_of-same heads before b c after same mark =
+    marks_of-append heads before (b ∷ after) ∙ (λ i. marks_of heads before ++ mark i ∷ (unmarked (same i / 4 - 1) ++ marks_of heads after))
+    ∙ sym (marks_of-append heads before (c ∷ after))
 
--- how many marks stand before that of a block
+-- how many marks are before that of a block
 pub length-before : (heads : HeadKind) (before : List RawBlock) (place : ℕ) → IsTrue (list_all (is_possible heads) before) → place ≡ (zone_header + total_of heads before) / 4
     → length (unmarked (zone_header / 4) ++ marks_of heads before) ≡ place
 length-before heads before place possible there =
     let a = length-append (unmarked (zone_header / 4)) (marks_of heads before) in let b = length-unmarked (zone_header / 4) in let c = length-marks_of heads before possible in omega arith
 
 -- the index, with the mark of one block apart
-pub starts-parts : (l : Layout) (before : List RawBlock) (here : RawBlock) (behind : List RawBlock)
-    → starts_of (with_blocks (before ++ here ∷ behind) l) ≡ (unmarked (zone_header / 4) ++ marks_of l.heads before)
-    ++ mark_of l.heads here ∷ (unmarked (size_of l.heads here / 4 - 1) ++ (marks_of l.heads behind ++ unmarked (length l.spare / 4)))
-starts-parts l before here behind =
-    ap (λ (ms : List ℕ). unmarked (zone_header / 4) ++ (ms ++ unmarked (length l.spare / 4))) (marks_of-append l.heads before (here ∷ behind)) ∙ simp append_assoc
+pub starts-parts : (l : Layout) (before : List RawBlock) (here : RawBlock) (after : List RawBlock)
+    → starts_of (with_blocks (before ++ here ∷ after) l) ≡ (unmarked (zone_header / 4) ++ marks_of l.heads before)
+    ++ mark_of l.heads here ∷ (unmarked (size_of l.heads here / 4 - 1) ++ (marks_of l.heads after ++ unmarked (length l.spare / 4)))
+starts-parts l before here after =
+    ap (λ (ms : List ℕ). unmarked (zone_header / 4) ++ (ms ++ unmarked (length l.spare / 4))) (marks_of-append l.heads before (here ∷ after)) ∙ simp append_assoc
 
 -- one block is another of its size, and its mark is written
-pub mark-written : (l : Layout) (before : List RawBlock) (here b : RawBlock) (behind : List RawBlock) → IsTrue (list_all (is_possible l.heads) before) → size_of l.heads b ≡ size_of l.heads here
+pub mark-written : (l : Layout) (before : List RawBlock) (here b : RawBlock) (after : List RawBlock) → IsTrue (list_all (is_possible l.heads) before) → size_of l.heads b ≡ size_of l.heads here
     → (place : ℕ) → place ≡ (zone_header + total_of l.heads before) / 4
-    → set (starts_of (with_blocks (before ++ here ∷ behind) l)) place (mark_of l.heads b) ≡ starts_of (with_blocks (before ++ b ∷ behind) l)
-mark-written l before here b behind possible same place there =
+    → set (starts_of (with_blocks (before ++ here ∷ after) l)) place (mark_of l.heads b) ≡ starts_of (with_blocks (before ++ b ∷ after) l)
+mark-written l before here b after possible same place there =
     let front = unmarked (zone_header / 4) ++ marks_of l.heads before in
-    ap (λ (ms : List ℕ). set ms place (mark_of l.heads b)) (starts-parts l before here behind)
-    ∙ set_at front (mark_of l.heads here) (unmarked (size_of l.heads here / 4 - 1) ++ (marks_of l.heads behind ++ unmarked (length l.spare / 4))) (mark_of l.heads b) place (length-before l.heads before place possible there)
-    ∙ ap (λ (n : ℕ). front ++ mark_of l.heads b ∷ (unmarked (n / 4 - 1) ++ (marks_of l.heads behind ++ unmarked (length l.spare / 4)))) (sym same)
-    ∙ sym (starts-parts l before b behind)
+    ap (λ (ms : List ℕ). set ms place (mark_of l.heads b)) (starts-parts l before here after)
+    ∙ set_at front (mark_of l.heads here) (unmarked (size_of l.heads here / 4 - 1) ++ (marks_of l.heads after ++ unmarked (length l.spare / 4))) (mark_of l.heads b) place (length-before l.heads before place possible there)
+    ∙ ap (λ (n : ℕ). front ++ mark_of l.heads b ∷ (unmarked (n / 4 - 1) ++ (marks_of l.heads after ++ unmarked (length l.spare / 4)))) (sym same)
+    ∙ sym (starts-parts l before b after)
 
 -- two numbers of a list are written
 two-written : (front mid rest : List ℕ) (x y x' y' p q : ℕ) → length front ≡ p → q ≡ p + suc (length mid)
@@ -115,14 +115,14 @@ two-written front mid rest x y x' y' p q first second =
     ap (λ (l : List ℕ). set l q y') (set_at front x (mid ++ y ∷ rest) x' p first ∙ sym (append_assoc front (x' ∷ mid) (y ∷ rest)))
     ∙ set_at (front ++ x' ∷ mid) y rest y' q (omega arith) ∙ append_assoc front (x' ∷ mid) (y' ∷ rest)
 
--- the marks behind a block's own, where it is cut
+-- the marks after a block's own, where it is cut
 unmarked-apart : (whole first second : ℕ) → whole ≡ first + second → first % 4 ≡ 0 → second % 4 ≡ 0 → 4 ≤ first → 4 ≤ second
     → unmarked (whole / 4 - 1) ≡ unmarked (first / 4 - 1) ++ (0 ∷ unmarked (second / 4 - 1))
 unmarked-apart whole first second sum even even' some some' =
     ap (λ (n : ℕ). unmarked n) (let e : whole / 4 - 1 ≡ first / 4 - 1 + suc (second / 4 - 1) = omega arith in e)
     ∙ sym (replicate-append-replicate (first / 4 - 1) (suc (second / 4 - 1)) 0)
 
-module _ (l : Layout) (before : List RawBlock) (here first second : RawBlock) (behind : List RawBlock) (sum : size_of l.heads here ≡ size_of l.heads first + size_of l.heads second)
+module _ (l : Layout) (before : List RawBlock) (here first second : RawBlock) (after : List RawBlock) (sum : size_of l.heads here ≡ size_of l.heads first + size_of l.heads second)
     (before_possible : IsTrue (list_all (is_possible l.heads) before)) (p : IsPossible l.heads first) (q : IsPossible l.heads second)
     (place next : ℕ) (there : place ≡ (zone_header + total_of l.heads before) / 4) (there' : next ≡ (zone_header + total_of l.heads before + size_of l.heads first) / 4) where
   -- the marks before the first part's
@@ -133,55 +133,55 @@ module _ (l : Layout) (before : List RawBlock) (here first second : RawBlock) (b
   abbrev marks_between : List ℕ
   marks_between = unmarked (size_of l.heads first / 4 - 1)
 
-  -- and those behind that
-  abbrev marks_behind : List ℕ
-  marks_behind = unmarked (size_of l.heads second / 4 - 1) ++ (marks_of l.heads behind ++ unmarked (length l.spare / 4))
+  -- and those after that
+  abbrev marks_after : List ℕ
+  marks_after = unmarked (size_of l.heads second / 4 - 1) ++ (marks_of l.heads after ++ unmarked (length l.spare / 4))
 
-  -- how many stand before it
+  -- how many are before it
   next-is : next ≡ place + suc (length marks_between)
   next-is =
       let some = smallest-block l.heads in let even = p.even in let large = p.large in
       let d = length-unmarked (size_of l.heads first / 4 - 1) in let e = length-marks_of l.heads before before_possible in omega arith
 
   -- the marks of one block
-  one-block : starts_of (with_blocks (before ++ here ∷ behind) l) ≡ marks_before ++ mark_of l.heads here ∷ (marks_between ++ 0 ∷ marks_behind)
+  one-block : starts_of (with_blocks (before ++ here ∷ after) l) ≡ marks_before ++ mark_of l.heads here ∷ (marks_between ++ 0 ∷ marks_after)
   one-block =
       let some = smallest-block l.heads in let even = p.even in let even' = q.even in let large = p.large in let large' = q.large in
-      starts-parts l before here behind
-      ∙ ap (λ (ms : List ℕ). marks_before ++ mark_of l.heads here ∷ (ms ++ (marks_of l.heads behind ++ unmarked (length l.spare / 4))))
+      starts-parts l before here after
+      ∙ ap (λ (ms : List ℕ). marks_before ++ mark_of l.heads here ∷ (ms ++ (marks_of l.heads after ++ unmarked (length l.spare / 4))))
       (unmarked-apart (size_of l.heads here) (size_of l.heads first) (size_of l.heads second) sum (omega arith) (omega arith) (omega arith) (omega arith))
       ∙ simp append_assoc
 
   -- those of two
-  two-blocks : starts_of (with_blocks (before ++ first ∷ second ∷ behind) l) ≡ marks_before ++ mark_of l.heads first ∷ (marks_between ++ mark_of l.heads second ∷ marks_behind)
-  two-blocks = starts-parts l before first (second ∷ behind) ∙ simp append_assoc
+  two-blocks : starts_of (with_blocks (before ++ first ∷ second ∷ after) l) ≡ marks_before ++ mark_of l.heads first ∷ (marks_between ++ mark_of l.heads second ∷ marks_after)
+  two-blocks = starts-parts l before first (second ∷ after) ∙ simp append_assoc
 
   -- two marks are written, and one block is two
-  pub mark-set : set (set (starts_of (with_blocks (before ++ here ∷ behind) l)) place (mark_of l.heads first)) next (mark_of l.heads second)
-      ≡ starts_of (with_blocks (before ++ first ∷ second ∷ behind) l)
+  pub mark-set : set (set (starts_of (with_blocks (before ++ here ∷ after) l)) place (mark_of l.heads first)) next (mark_of l.heads second)
+      ≡ starts_of (with_blocks (before ++ first ∷ second ∷ after) l)
   mark-set = ap (λ (ms : List ℕ). set (set ms place (mark_of l.heads first)) next (mark_of l.heads second)) one-block
-      ∙ two-written marks_before marks_between marks_behind (mark_of l.heads here) 0 (mark_of l.heads first) (mark_of l.heads second) place next (length-before l.heads before place before_possible there) next-is
+      ∙ two-written marks_before marks_between marks_after (mark_of l.heads here) 0 (mark_of l.heads first) (mark_of l.heads second) place next (length-before l.heads before place before_possible there) next-is
       ∙ sym two-blocks
 
   -- one is written and one is cleared, and two blocks are one
-  pub mark-cleared : set (set (starts_of (with_blocks (before ++ first ∷ second ∷ behind) l)) place (mark_of l.heads here)) next 0
-      ≡ starts_of (with_blocks (before ++ here ∷ behind) l)
+  pub mark-cleared : set (set (starts_of (with_blocks (before ++ first ∷ second ∷ after) l)) place (mark_of l.heads here)) next 0
+      ≡ starts_of (with_blocks (before ++ here ∷ after) l)
   mark-cleared = ap (λ (ms : List ℕ). set (set ms place (mark_of l.heads here)) next 0) two-blocks
-      ∙ two-written marks_before marks_between marks_behind (mark_of l.heads first) (mark_of l.heads second) (mark_of l.heads here) 0 place next (length-before l.heads before place before_possible there) next-is
+      ∙ two-written marks_before marks_between marks_after (mark_of l.heads first) (mark_of l.heads second) (mark_of l.heads here) 0 place next (length-before l.heads before place before_possible there) next-is
       ∙ sym one-block
 
--- a block of the list starts so many times four bytes behind the first
+-- a block of the list starts so many times four bytes after the first
 pub record StartsAt (heads : HeadKind) (bs : List RawBlock) (k : ℕ) : Type 0 where
   pub before : List RawBlock
   pub here : RawBlock
-  pub behind : List RawBlock
-  pub blocks : bs ≡ before ++ here ∷ behind
+  pub after : List RawBlock
+  pub blocks : bs ≡ before ++ here ∷ after
   pub place : 4 * k ≡ total_of heads before
 
--- a mark behind that of the first block
-starts-behind : (heads : HeadKind) (b : RawBlock) (bs : List RawBlock) (k : ℕ) → IsPossible heads b → ((j : ℕ) → 0 < slice_index (marks_of heads bs) j → StartsAt heads bs j)
+-- a mark after that of the first block
+starts-after : (heads : HeadKind) (b : RawBlock) (bs : List RawBlock) (k : ℕ) → IsPossible heads b → ((j : ℕ) → 0 < slice_index (marks_of heads bs) j → StartsAt heads bs j)
     → 0 < slice_index (unmarked (size_of heads b / 4 - 1) ++ marks_of heads bs) k → StartsAt heads (b ∷ bs) (suc k)
-starts-behind heads b bs k p others is = ⊎_elim within behind (cases_lt k n)
+starts-after heads b bs k p others is = ⊎_elim within after (cases_lt k n)
   where
     n : ℕ
     n = size_of heads b / 4 - 1
@@ -192,25 +192,25 @@ starts-behind heads b bs k p others is = ⊎_elim within behind (cases_lt k n)
         let zero_there : slice_index (unmarked n ++ marks_of heads bs) k ≡ 0 = get_or_append_left (unmarked n) (marks_of heads bs) 0 k (omega arith) ∙ unmarked-at n k in
         absurd (omega arith)
 
-    behind : n ≤ k → StartsAt heads (b ∷ bs) (suc k)
-    behind above =
+    after : n ≤ k → StartsAt heads (b ∷ bs) (suc k)
+    after above =
         let even = p.even in let large = p.large in let some = smallest-block heads in
         let there : slice_index (unmarked n ++ marks_of heads bs) k ≡ slice_index (marks_of heads bs) (k - n) = get_or-append_right (unmarked n) (marks_of heads bs) n k 0 (length-unmarked n) above in
         let s = others (k - n) (omega arith) in let place = s.place in
-        record { before = b ∷ s.before; here = s.here; behind = s.behind; blocks = ap (λ (l : List RawBlock). b ∷ l) s.blocks; place = omega arith }
+        record { before = b ∷ s.before; here = s.here; after = s.after; blocks = ap (λ (l : List RawBlock). b ∷ l) s.blocks; place = omega arith }
 
 -- where there is a mark, a block starts
 starts-there : (heads : HeadKind) (bs : List RawBlock) (k : ℕ) → IsTrue (list_all (is_possible heads) bs) → 0 < slice_index (marks_of heads bs) k → StartsAt heads bs k
 starts-there heads [] k possible is = absurd (omega arith)
-starts-there heads (b ∷ bs) zero possible is = record { before = []; here = b; behind = bs; blocks = refl; place = refl }
+starts-there heads (b ∷ bs) zero possible is = record { before = []; here = b; after = bs; blocks = refl; place = refl }
 starts-there heads (b ∷ bs) (suc k) possible is =
     let both = and-true (is_possible heads b) (list_all (is_possible heads) bs) possible in
-    starts-behind heads b bs k (IsPossible-from heads b both.0) (λ j there. starts-there heads bs j both.1 there) is
+    starts-after heads b bs k (IsPossible-from heads b both.0) (λ j there. starts-there heads bs j both.1 there) is
 
 module _ (l : Layout) (possible : IsTrue (list_all (is_possible l.heads) l.blocks)) where
   -- where there is a mark of the zone, a block starts
   pub block-marked : (at k : ℕ) → at ≡ l.base + 4 * k → 0 < slice_index (starts_of l) k → BlockAt l at
-  block-marked at k there is = ⊎_elim in_header (λ above. behind above (cases_lt (k - zone_header / 4) (length marks))) (cases_lt k (zone_header / 4))
+  block-marked at k there is = ⊎_elim in_header (λ above. after above (cases_lt (k - zone_header / 4) (length marks))) (cases_lt k (zone_header / 4))
     where
       front : List ℕ
       front = unmarked (zone_header / 4)
@@ -226,20 +226,20 @@ module _ (l : Layout) (possible : IsTrue (list_all (is_possible l.heads) l.block
           let zero_there : slice_index (front ++ (marks ++ rest)) k ≡ 0 = get_or_append_left front (marks ++ rest) 0 k low ∙ unmarked-at (zone_header / 4) k in
           absurd (omega arith)
 
-      behind : zone_header / 4 ≤ k → (k - zone_header / 4 < length marks) ⊎ (length marks ≤ k - zone_header / 4) → BlockAt l at
-      behind above which =
+      after : zone_header / 4 ≤ k → (k - zone_header / 4 < length marks) ⊎ (length marks ≤ k - zone_header / 4) → BlockAt l at
+      after above which =
           let there' : slice_index (front ++ (marks ++ rest)) k ≡ slice_index (marks ++ rest) (k - zone_header / 4) =
           get_or-append_right front (marks ++ rest) (zone_header / 4) k 0 (length-unmarked (zone_header / 4)) above in
           ⊎_elim (λ within.
           let mark : slice_index (marks ++ rest) (k - zone_header / 4) ≡ slice_index marks (k - zone_header / 4) = get_or_append_left marks rest 0 (k - zone_header / 4) within in
           let s = starts-there l.heads l.blocks (k - zone_header / 4) possible (omega arith) in let place = s.place in
-          record { before = s.before; here = s.here; behind = s.behind; blocks = s.blocks; place = omega arith })
+          record { before = s.before; here = s.here; after = s.after; blocks = s.blocks; place = omega arith })
           (λ further.
           let none : slice_index (marks ++ rest) (k - zone_header / 4) ≡ 0 =
           get_or-append_right marks rest (length marks) (k - zone_header / 4) 0 refl further ∙ unmarked-at (length l.spare / 4) (k - zone_header / 4 - length marks) in
           absurd (omega arith)) which
 
-  -- a block starts a multiple of four bytes behind the zone's start, and below the end of the blocks, and has its mark
+  -- a block starts a multiple of four bytes after the zone's start, and below the end of the blocks, and has its mark
   pub record IsMarked (at : ℕ) (b : BlockAt l at) : Type 0 where
     pub above : l.base ≤ at
     pub even : (at - l.base) % 4 ≡ 0
@@ -251,14 +251,14 @@ module _ (l : Layout) (possible : IsTrue (list_all (is_possible l.heads) l.block
   pub marked-block : (at : ℕ) (b : BlockAt l at) → IsMarked at b
   marked-block at b = let k = (at - l.base) / 4 in
       let front = unmarked (zone_header / 4) ++ marks_of l.heads b.before in
-      let parts = and-true (list_all (is_possible l.heads) b.before) (list_all (is_possible l.heads) (b.here ∷ b.behind))
-      (sym (list_all-append (is_possible l.heads) b.before (b.here ∷ b.behind)) ∙ sym (ap (list_all (is_possible l.heads)) b.blocks) ∙ possible) in
-      let here = and-true (is_possible l.heads b.here) (list_all (is_possible l.heads) b.behind) parts.1 in
+      let parts = and-true (list_all (is_possible l.heads) b.before) (list_all (is_possible l.heads) (b.here ∷ b.after))
+      (sym (list_all-append (is_possible l.heads) b.before (b.here ∷ b.after)) ∙ sym (ap (list_all (is_possible l.heads)) b.blocks) ∙ possible) in
+      let here = and-true (is_possible l.heads b.here) (list_all (is_possible l.heads) b.after) parts.1 in
       let long = length-marks_of l.heads b.before parts.0 in let place = b.place in
-      let total : total_of l.heads l.blocks ≡ total_of l.heads b.before + total_of l.heads (b.here ∷ b.behind) = ap (total_of l.heads) b.blocks ∙ total_of-append l.heads b.before (b.here ∷ b.behind) in
+      let total : total_of l.heads l.blocks ≡ total_of l.heads b.before + total_of l.heads (b.here ∷ b.after) = ap (total_of l.heads) b.blocks ∙ total_of-append l.heads b.before (b.here ∷ b.after) in
       let positive = head_size-positive l.heads in
-      let rest = unmarked (size_of l.heads b.here / 4 - 1) ++ (marks_of l.heads b.behind ++ unmarked (length l.spare / 4)) in
-      let marks : starts_of l ≡ front ++ mark_of l.heads b.here ∷ rest = ap (λ (bs : List RawBlock). starts_of (with_blocks bs l)) b.blocks ∙ starts-parts l b.before b.here b.behind in
+      let rest = unmarked (size_of l.heads b.here / 4 - 1) ++ (marks_of l.heads b.after ++ unmarked (length l.spare / 4)) in
+      let marks : starts_of l ≡ front ++ mark_of l.heads b.here ∷ rest = ap (λ (bs : List RawBlock). starts_of (with_blocks bs l)) b.blocks ∙ starts-parts l b.before b.here b.after in
       let before : length front ≡ k = length-before l.heads b.before k parts.0 (omega arith) in
       record {
         above = omega arith;
@@ -268,7 +268,7 @@ module _ (l : Layout) (possible : IsTrue (list_all (is_possible l.heads) l.block
         some = mark-positive l.heads b.here;
       }
 
--- behind marks of none, the first free block is looked for further on
+-- after marks of none, the first free block is looked for further on
 first_marked-unmarked : (at n : ℕ) (ms : List ℕ) → first_marked at (unmarked n ++ ms) ≡ first_marked (at + 4 * n) ms
 first_marked-unmarked at zero ms = ap (λ (k : ℕ). first_marked k ms) (let e : at ≡ at + 4 * 0 = omega arith in e)
 first_marked-unmarked at (suc n) ms = first_marked-unmarked (at + 4) n ms ∙ ap (λ (k : ℕ). first_marked k ms) (let e : at + 4 + 4 * n ≡ at + 4 * suc n = omega arith in e)

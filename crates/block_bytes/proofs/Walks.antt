@@ -29,7 +29,7 @@ first_size heads base pre rest b at is small low possible = let p = IsPossible-f
     ∙ ap (λ xs. (header_in heads xs).size) (drop_at pre (head_bytes heads base (header_of heads b) ++ rest) at (sym is))
     ∙ ap (λ (h : Header). h.size) (header_in-head_bytes heads base (header_of heads b) rest small p.few p.told low)
 
--- possible blocks behind other bytes follow one another, and end where the bytes do
+-- possible blocks after other bytes follow one another, and end where the bytes do
 pub follows-rendered : (heads : HeadKind) (base : ℕ) (pre : List ℕ) (bs : List RawBlock) (at : ℕ) → at ≡ length pre → total_of heads bs < address_end heads → base < 2 ^ 32 → list_all (is_possible heads) bs ≡ true
     → Follows heads (pre ++ rendered heads base bs) at (map (size_of heads) bs)
 follows-rendered heads base pre [] at is small low possible = is ∙ ap length (sym (append-nil pre))

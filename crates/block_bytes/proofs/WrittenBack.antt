@@ -1,4 +1,4 @@
--- What is left behind a slice of a block's contents.
+-- What is left after a slice of a block's contents.
 use Rattle.std.proofs.Common.{◌≡◌, ℕ, ◌+◌, ◌-◌, ◌<◌, ◌≤◌, Bool, true, false, Option, List, [], ◌∷◌, ◌++◌, length, take, drop, replicate, refl, sym, ap, ◌∙◌, arith, length-take, length-drop, append-nil}
 use Rattle.std.specs.Prelude.{◌==◌, if◌then◌else◌}
 use Rattle.std.proofs.lemmas.List.{length-replicate, nil_from_length}
@@ -13,7 +13,7 @@ use Rattle.raw_region.specs.State.{with_bytes}
 use Rattle.raw_region.proofs.Lists.{written_is}
 use Rattle.block_bytes.specs.declared.header.Header.{Header}
 use Rattle.block_bytes.specs.declared.blocks.Blocks.TheInside.{Inside}
-use Rattle.block_bytes.specs.Layout.{RawBlock, BlockAt, cleared, cleared_from, size_of, total_of, header_of, with_blocks, address_behind}
+use Rattle.block_bytes.specs.Layout.{RawBlock, BlockAt, cleared, cleared_from, size_of, total_of, header_of, with_blocks, address_after}
 use Rattle.block_bytes.specs.declared.record.Record.{Record}
 use Rattle.block_bytes.specs.Reading.{layout_of, IsWhole}
 use Rattle.block_bytes.specs.Record.{all_noted}
@@ -39,14 +39,14 @@ pub further : (x y k : ℕ) → 0 < k → y ≡ x + k → (x == y) ≡ false
 further x y k some is = grind (arith, nat_tests)
 
 -- of the blocks, the one at this address is written
-pub overwritten-there : (heads : HeadKind) (at x : ℕ) (bytes : List ℕ) (before : List RawBlock) (here : RawBlock) (behind : List RawBlock) → x ≡ at + total_of heads before
-    → overwritten_at heads at x bytes (before ++ here ∷ behind) ≡ before ++ with_contents here (overwritten here.contents bytes) ∷ behind
-overwritten-there heads at x bytes [] here behind is =
-    ap (λ (t : Bool). if t then with_contents here (overwritten here.contents bytes) ∷ behind else here ∷ overwritten_at heads (at + size_of heads here) x bytes behind) (eq-eqb at x (omega arith))
-overwritten-there heads at x bytes (b ∷ before) here behind is = let positive = head_size-positive heads in
-    ap (λ (t : Bool). if t then with_contents b (overwritten b.contents bytes) ∷ (before ++ here ∷ behind) else b ∷ overwritten_at heads (at + size_of heads b) x bytes (before ++ here ∷ behind))
+pub overwritten-there : (heads : HeadKind) (at x : ℕ) (bytes : List ℕ) (before : List RawBlock) (here : RawBlock) (after : List RawBlock) → x ≡ at + total_of heads before
+    → overwritten_at heads at x bytes (before ++ here ∷ after) ≡ before ++ with_contents here (overwritten here.contents bytes) ∷ after
+overwritten-there heads at x bytes [] here after is =
+    ap (λ (t : Bool). if t then with_contents here (overwritten here.contents bytes) ∷ after else here ∷ overwritten_at heads (at + size_of heads here) x bytes after) (eq-eqb at x (omega arith))
+overwritten-there heads at x bytes (b ∷ before) here after is = let positive = head_size-positive heads in
+    ap (λ (t : Bool). if t then with_contents b (overwritten b.contents bytes) ∷ (before ++ here ∷ after) else b ∷ overwritten_at heads (at + size_of heads b) x bytes (before ++ here ∷ after))
     (further at x (size_of heads b + total_of heads before) (omega arith) (omega arith))
-    ∙ ap (λ (bs : List RawBlock). b ∷ bs) (overwritten-there heads (at + size_of heads b) x bytes before here behind (omega arith))
+    ∙ ap (λ (bs : List RawBlock). b ∷ bs) (overwritten-there heads (at + size_of heads b) x bytes before here after (omega arith))
 
 -- as many bytes as a list has are all of it
 drop_none : (xs : List ℕ) (k : ℕ) → length xs ≤ k → drop k xs ≡ []
@@ -76,30 +76,30 @@ module _ (z : Inside) (whole : IsWhole z) (small : ArePossible z.spec) (at : ℕ
 
   -- other contents, of the same length
   other : (ws : List ℕ) → length ws ≤ n
-      → IsReadWhole (record z { memory = with_bytes z.memory place ws; kept = kept }) (with_blocks (b.before ++ with_contents b.here (written b.here.contents 0 ws) ∷ b.behind) (layout_of z))
+      → IsReadWhole (record z { memory = with_bytes z.memory place ws; kept = kept }) (with_blocks (b.before ++ with_contents b.here (written b.here.contents 0 ws) ∷ b.after) (layout_of z))
   other ws few = let e = n-is in let at_is = b.place in
-      written-kept z whole small b.before b.here b.behind b.blocks 0 place ws unlent (omega arith) (omega arith) kept grows (λ master i low high. own_noted master i)
+      written-kept z whole small b.before b.here b.after b.blocks 0 place ws unlent (omega arith) (omega arith) kept grows (λ master i low high. own_noted master i)
 
   -- what a slice of the contents leaves
   pub lent-read : (ws : List ℕ) → IsReadWhole (record z { memory = with_bytes z.memory place (take n ws); kept = kept }) (with_contents_at (layout_of z) at ws)
   lent-read ws = let e = n-is in let at_is = b.place in let l = layout_of z in let cut = length-take n ws in
       let read = other (take n ws) (omega arith) in
       let same : written b.here.contents 0 (take n ws) ≡ overwritten b.here.contents ws = ap (λ (k : ℕ). written b.here.contents 0 (take k ws)) e ∙ written-overwritten b.here.contents ws in
-      let blocks : b.before ++ with_contents b.here (written b.here.contents 0 (take n ws)) ∷ b.behind ≡ overwritten_at l.heads (address_behind l []) at ws l.blocks =
-      ap (λ (contents : List ℕ). b.before ++ with_contents b.here contents ∷ b.behind) same
-      ∙ sym (ap (overwritten_at l.heads (address_behind l []) at ws) b.blocks ∙ overwritten-there l.heads (address_behind l []) at ws b.before b.here b.behind (omega arith)) in
+      let blocks : b.before ++ with_contents b.here (written b.here.contents 0 (take n ws)) ∷ b.after ≡ overwritten_at l.heads (address_after l []) at ws l.blocks =
+      ap (λ (contents : List ℕ). b.before ++ with_contents b.here contents ∷ b.after) same
+      ∙ sym (ap (overwritten_at l.heads (address_after l []) at ws) b.blocks ∙ overwritten-there l.heads (address_after l []) at ws b.before b.here b.after (omega arith)) in
       record { view = read.view ∙ ap (λ (bs : List RawBlock). with_blocks bs l) blocks; whole = read.whole }
 
   -- contents that are zero
-  pub cleared-read : IsReadWhole (record z { memory = with_bytes z.memory place (replicate n 0); kept = kept }) (with_blocks (b.before ++ cleared b.here ∷ b.behind) (layout_of z))
+  pub cleared-read : IsReadWhole (record z { memory = with_bytes z.memory place (replicate n 0); kept = kept }) (with_blocks (b.before ++ cleared b.here ∷ b.after) (layout_of z))
   cleared-read = let e = n-is in let l = layout_of z in let zeros : length {A = ℕ} (replicate n 0) ≡ n = length-replicate {A = ℕ} n 0 in
       let read = other (replicate n 0) (omega arith) in
       let same : written b.here.contents 0 (replicate n 0) ≡ replicate (length b.here.contents) 0 = written-whole b.here.contents (replicate n 0) (omega arith) ∙ ap (λ (k : ℕ). replicate k 0) e in
-      record { view = read.view ∙ ap (λ (contents : List ℕ). with_blocks (b.before ++ with_contents b.here contents ∷ b.behind) l) same; whole = read.whole }
+      record { view = read.view ∙ ap (λ (contents : List ℕ). with_blocks (b.before ++ with_contents b.here contents ∷ b.after) l) same; whole = read.whole }
 
   -- contents that are zero from a place on
-  pub cleared-part : (from : ℕ) → from ≤ n → IsReadWhole (record z { memory = with_bytes z.memory (place + from) (replicate (n - from) 0); kept = kept }) (with_blocks (b.before ++ cleared_from b.here from ∷ b.behind) (layout_of z))
+  pub cleared-part : (from : ℕ) → from ≤ n → IsReadWhole (record z { memory = with_bytes z.memory (place + from) (replicate (n - from) 0); kept = kept }) (with_blocks (b.before ++ cleared_from b.here from ∷ b.after) (layout_of z))
   cleared-part from within = let e = n-is in let at_is = b.place in let l = layout_of z in let zeros : length {A = ℕ} (replicate (n - from) 0) ≡ n - from = length-replicate {A = ℕ} (n - from) 0 in
-      let read = written-kept z whole small b.before b.here b.behind b.blocks from (place + from) (replicate (n - from) 0) unlent (omega arith) (omega arith) kept grows (λ master i low high. own_noted master i) in
+      let read = written-kept z whole small b.before b.here b.after b.blocks from (place + from) (replicate (n - from) 0) unlent (omega arith) (omega arith) kept grows (λ master i low high. own_noted master i) in
       let same = zeroed b.here.contents from n within e in
-      record { view = read.view ∙ ap (λ (contents : List ℕ). with_blocks (b.before ++ with_contents b.here contents ∷ b.behind) l) same; whole = read.whole }
+      record { view = read.view ∙ ap (λ (contents : List ℕ). with_blocks (b.before ++ with_contents b.here contents ∷ b.after) l) same; whole = read.whole }

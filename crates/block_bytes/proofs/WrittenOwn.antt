@@ -12,7 +12,7 @@ use Rattle.block_bytes.specs.declared.blocks.Blocks.TheInside.{Inside}
 use Rattle.block_bytes.specs.declared.header.Role.{Role}
 use Rattle.block_bytes.specs.declared.header.Role.TheVariants.{Free, Fixed, Master, Relocatable}
 use Rattle.block_bytes.specs.Head.{head_bytes}
-use Rattle.block_bytes.specs.Layout.{RawBlock, Layout, BlockAt, address_behind, has_owner, header_bytes, header_of, size_of, total_of}
+use Rattle.block_bytes.specs.Layout.{RawBlock, Layout, BlockAt, address_after, has_owner, header_bytes, header_of, size_of, total_of}
 use Rattle.block_bytes.specs.Reading.{layout_of, IsLayout}
 use Rattle.block_bytes.specs.Structure.{AreWritten, EachMaster, HasHeaders, InHeader, InMaster, is_master, own_bytes}
 use Rattle.block_bytes.proofs.Heads.{length-head_bytes}
@@ -25,7 +25,7 @@ use Rattle.block_bytes.proofs.Walking.{size_of-pos}
 -- what is read of the block at an offset
 pub read-there : (z : Inside) → IsLayout z → ArePossible z.spec → (l : Layout) → layout_of z ≡ l → (at : ℕ) (b : BlockAt l (l.base + at)) → ReadAt z l at b.here
 read-there z whole small l is at =
-    subst (λ (m : Layout). (b : BlockAt m (m.base + at)) → ReadAt z m at b.here) is (λ b. read-at z whole b.before b.here b.behind b.blocks small at (let place = b.place in omega arith))
+    subst (λ (m : Layout). (b : BlockAt m (m.base + at)) → ReadAt z m at b.here) is (λ b. read-at z whole b.before b.here b.after b.blocks small at (let place = b.place in omega arith))
 
 unlent : (lent : Bool) (r : Role) → is_master r ≡ true → (not lent || has_owner r) ≡ true → lent ≡ false
 unlent false r is lendable = refl
@@ -37,24 +37,24 @@ unlent true (Relocatable slot flags) is lendable = let e : false ≡ true = is i
 -- a master block isn't lent
 pub master-unlent : (z : Inside) → IsLayout z → (l : Layout) → layout_of z ≡ l → (at : ℕ) (b : BlockAt l at) → is_master b.here.role ≡ true → b.here.lent ≡ false
 master-unlent z whole l is at = subst (λ (m : Layout). (b : BlockAt m at) → is_master b.here.role ≡ true → b.here.lent ≡ false) is
-    (λ b master. unlent b.here.lent b.here.role master (IsIn-from z whole b.before b.here b.behind b.blocks).here_possible.lendable)
+    (λ b master. unlent b.here.lent b.here.role master (IsIn-from z whole b.before b.here b.after b.blocks).here_possible.lendable)
 
--- bytes written behind others are written with them
-written-behind : (xs : List ℕ) (at : ℕ) (us vs : List ℕ) → written (written xs at us) (at + length us) vs ≡ written xs at (us ++ vs)
-written-behind [] at us vs = refl
-written-behind (x ∷ xs) zero [] vs = ap (λ (j : ℕ). written (x ∷ xs) j vs) (let e : 0 + 0 ≡ 0 = omega arith in e)
-written-behind (x ∷ xs) zero (u ∷ us) vs =
-    ap (λ (j : ℕ). written (u ∷ written xs 0 us) j vs) (let e : 0 + suc (length us) ≡ suc (0 + length us) = omega arith in e) ∙ ap (λ (t : List ℕ). u ∷ t) (written-behind xs 0 us vs)
-written-behind (x ∷ xs) (suc at) us vs =
-    ap (λ (j : ℕ). written (x ∷ written xs at us) j vs) (let e : suc at + length us ≡ suc (at + length us) = omega arith in e) ∙ ap (λ (t : List ℕ). x ∷ t) (written-behind xs at us vs)
+-- bytes written after others are written with them
+written-after : (xs : List ℕ) (at : ℕ) (us vs : List ℕ) → written (written xs at us) (at + length us) vs ≡ written xs at (us ++ vs)
+written-after [] at us vs = refl
+written-after (x ∷ xs) zero [] vs = ap (λ (j : ℕ). written (x ∷ xs) j vs) (let e : 0 + 0 ≡ 0 = omega arith in e)
+written-after (x ∷ xs) zero (u ∷ us) vs =
+    ap (λ (j : ℕ). written (u ∷ written xs 0 us) j vs) (let e : 0 + suc (length us) ≡ suc (0 + length us) = omega arith in e) ∙ ap (λ (t : List ℕ). u ∷ t) (written-after xs 0 us vs)
+written-after (x ∷ xs) (suc at) us vs =
+    ap (λ (j : ℕ). written (x ∷ written xs at us) j vs) (let e : suc at + length us ≡ suc (at + length us) = omega arith in e) ∙ ap (λ (t : List ℕ). x ∷ t) (written-after xs at us vs)
 
--- a header written, and of a master block the contents behind it, are the block's own bytes
+-- a header written, and of a master block the contents after it, are the block's own bytes
 pub written-master : (heads : HeadKind) (base : ℕ) (b : RawBlock) (xs : List ℕ) (at start : ℕ) → is_master b.role ≡ true → start ≡ at + head_size heads
     → written (written xs at (head_bytes heads base (header_of heads b))) start b.contents ≡ written xs at (own_bytes heads base b)
 written-master heads base b xs at start master is =
     let head = head_bytes heads base (header_of heads b) in let long = length-head_bytes heads base (header_of heads b) in
     ap (λ (k : ℕ). written (written xs at head) k b.contents) (let e : start ≡ at + length head = omega arith in e)
-    ∙ written-behind xs at head b.contents ∙ ap (λ (t : Bool). written xs at (head ++ (if t then b.contents else []))) (sym master)
+    ∙ written-after xs at head b.contents ∙ ap (λ (t : Bool). written xs at (head ++ (if t then b.contents else []))) (sym master)
 
 pub written-other : (heads : HeadKind) (base : ℕ) (b : RawBlock) (xs : List ℕ) (at : ℕ) → is_master b.role ≡ false → written xs at (head_bytes heads base (header_of heads b)) ≡ written xs at (own_bytes heads base b)
 written-other heads base b xs at other =
@@ -71,7 +71,7 @@ each-join P heads at (x ∷ xs) ys first rest = (
 )
 
 module _ (l : Layout) (bytes : List ℕ) (start : ℕ) (ws : List ℕ) where
-  -- a write behind blocks leaves their headers
+  -- a write after blocks leaves their headers
   headers-before : (at : ℕ) (bs : List RawBlock) → at + total_of l.heads bs ≤ start → HasHeaders l bytes at bs → HasHeaders l (written bytes start ws) at bs
   headers-before at [] below headers = tt
   headers-before at (b ∷ bs) below headers =
@@ -103,13 +103,13 @@ pub record OwnUpTo (l : Layout) (old now : List ℕ) (at : ℕ) : Type 0 where
 pub record NextBlock (l : Layout) (old now : List ℕ) (at : ℕ) : Type 0 where
   pub upto : OwnUpTo l old now at
   pub here : RawBlock
-  pub behind : List RawBlock
-  pub next : upto.rest ≡ here ∷ behind
+  pub after : List RawBlock
+  pub next : upto.rest ≡ here ∷ after
   pub block : BlockAt l (l.base + at)
   pub same : block.here ≡ here
 
 -- below the end of the last block
-pub next-block : (l : Layout) (old now : List ℕ) (at : ℕ) → OwnUpTo l old now at → l.base + at < address_behind l l.blocks → NextBlock l old now at
+pub next-block : (l : Layout) (old now : List ℕ) (at : ℕ) → OwnUpTo l old now at → l.base + at < address_after l l.blocks → NextBlock l old now at
 next-block l old now at r below = by_rest r.rest refl
   where
     by_rest : (rest : List RawBlock) → r.rest ≡ rest → NextBlock l old now at
@@ -118,9 +118,9 @@ next-block l old now at r below = by_rest r.rest refl
     by_rest (b ∷ bs) is = record {
       upto = r;
       here = b;
-      behind = bs;
+      after = bs;
       next = is;
-      block = record { before = r.passed; here = b; behind = bs; blocks = r.blocks ∙ ap (λ (bs : List RawBlock). r.passed ++ bs) is; place = (let place = r.place in omega arith) };
+      block = record { before = r.passed; here = b; after = bs; blocks = r.blocks ∙ ap (λ (bs : List RawBlock). r.passed ++ bs) is; place = (let place = r.place in omega arith) };
       same = refl;
     }
 
@@ -196,7 +196,7 @@ module _ (l : Layout) (old now : List ℕ) (at : ℕ) (n : NextBlock l old now a
         | inl below ↦ inl below
         | inr above ↦ elim (cases_lt k (at + head_size l.heads)) [
           | inl within ↦ absurd (header (record { start = l.base + at; block = n.block; low = omega arith; high = omega arith }))
-          | inr behind ↦ elim (own-kind n.here.role n.here.contents) [
+          | inr after ↦ elim (own-kind n.here.role n.here.contents) [
             | inr none ↦ inr (omega arith)
             | inl is ↦ elim (cases_lt k (at + head_size l.heads + length n.here.contents)) [
               | inl inside ↦ absurd (master (record { start = l.base + at; block = n.block; master = ap (λ (b : RawBlock). b.role) n.same ∙ is; low = omega arith; high = omega arith }))
@@ -211,8 +211,8 @@ module _ (l : Layout) (old now : List ℕ) (at : ℕ) (n : NextBlock l old now a
   own-more end is =
       let r = n.upto in let b = n.here in let place = r.place in let sum = total_of-append l.heads r.passed (b ∷ []) in let f = few in let a = all-long in record {
         passed = r.passed ++ b ∷ [];
-        rest = n.behind;
-        blocks = r.blocks ∙ ap (λ (bs : List RawBlock). r.passed ++ bs) n.next ∙ sym (append_assoc r.passed (b ∷ []) n.behind);
+        rest = n.after;
+        blocks = r.blocks ∙ ap (λ (bs : List RawBlock). r.passed ++ bs) n.next ∙ sym (append_assoc r.passed (b ∷ []) n.after);
         place = omega arith;
         all = length-written now at own ∙ r.all;
         head = part-written-apart now at own 0 zone_header (inl (omega arith)) ∙ r.head;
@@ -224,7 +224,7 @@ module _ (l : Layout) (old now : List ℕ) (at : ℕ) (n : NextBlock l old now a
       }
 
 -- all are written where the zone ends
-pub own-all : (l : Layout) (old now : List ℕ) (at : ℕ) (r : OwnUpTo l old now at) → address_behind l l.blocks ≤ l.base + at → r.passed ≡ l.blocks
+pub own-all : (l : Layout) (old now : List ℕ) (at : ℕ) (r : OwnUpTo l old now at) → address_after l l.blocks ≤ l.base + at → r.passed ≡ l.blocks
 own-all l old now at r ends = sym (r.blocks ∙ ap (λ (bs : List RawBlock). r.passed ++ bs) (none r.rest r.blocks) ∙ append-nil r.passed)
   where
     none : (rest : List RawBlock) → l.blocks ≡ r.passed ++ rest → rest ≡ []

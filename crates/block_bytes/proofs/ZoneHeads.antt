@@ -18,12 +18,12 @@ module _ (end front free lowest : ℕ) (rest : List ℕ) where
   abbrev before_front : List ℕ
   before_front = big_bytes 4 end ++ zeros 4
 
-  -- those behind them, up to the lowest free block's
-  abbrev behind_free : List ℕ
-  behind_free = zeros 4 ++ (big_bytes 2 slot_count ++ zeros 26)
+  -- those after them, up to the lowest free block's
+  abbrev past_free : List ℕ
+  past_free = zeros 4 ++ (big_bytes 2 slot_count ++ zeros 26)
 
   -- its bytes in parts
-  pub zone_head-parts : zone_head end front free lowest ++ rest ≡ before_front ++ (big_bytes 4 front ++ (big_bytes 4 free ++ (behind_free ++ (big_bytes 4 lowest ++ rest))))
+  pub zone_head-parts : zone_head end front free lowest ++ rest ≡ before_front ++ (big_bytes 4 front ++ (big_bytes 4 free ++ (past_free ++ (big_bytes 4 lowest ++ rest))))
   zone_head-parts = simp append_assoc
 
   -- those before the first free slot's
@@ -31,15 +31,15 @@ module _ (end front free lowest : ℕ) (rest : List ℕ) where
   length-before_front = let a = length-append (big_bytes 4 end) (zeros 4) in let b = length-big_bytes 4 end in let c = length-zeros 4 in omega arith
 
   -- those between the free bytes and the lowest free block's
-  length-behind_free : length behind_free ≡ 32
-  length-behind_free = let a = length-append (zeros 4) (big_bytes 2 slot_count ++ zeros 26) in let b = length-append (big_bytes 2 slot_count) (zeros 26) in
+  length-past_free : length past_free ≡ 32
+  length-past_free = let a = length-append (zeros 4) (big_bytes 2 slot_count ++ zeros 26) in let b = length-append (big_bytes 2 slot_count) (zeros 26) in
       let c = length-zeros 4 in let d = length-zeros 26 in let e = length-big_bytes 2 slot_count in omega arith
 
   -- the first free slot is read
   pub front-read : front < 2 ^ 32 → big_number 4 (part (zone_head end front free lowest ++ rest) front_field 4) ≡ front
   front-read small = let long = length-big_bytes 4 front in let before = length-before_front in
       ap (λ (l : List ℕ). big_number 4 (part l front_field 4)) zone_head-parts
-      ∙ ap (big_number 4) (part-middle before_front (big_bytes 4 front) (big_bytes 4 free ++ (behind_free ++ (big_bytes 4 lowest ++ rest))) front_field 4 (omega arith) (omega arith))
+      ∙ ap (big_number 4) (part-middle before_front (big_bytes 4 front) (big_bytes 4 free ++ (past_free ++ (big_bytes 4 lowest ++ rest))) front_field 4 (omega arith) (omega arith))
       ∙ number-bytes 4 front (omega arith)
 
   -- what is read there is below 2^32 in any case
@@ -47,7 +47,7 @@ module _ (end front free lowest : ℕ) (rest : List ℕ) where
   front-small = let long = length-big_bytes 4 front in let before = length-before_front in
       let is : big_number 4 (part (zone_head end front free lowest ++ rest) front_field 4) ≡ big_number 4 (big_bytes 4 front) =
       ap (λ (l : List ℕ). big_number 4 (part l front_field 4)) zone_head-parts
-      ∙ ap (big_number 4) (part-middle before_front (big_bytes 4 front) (big_bytes 4 free ++ (behind_free ++ (big_bytes 4 lowest ++ rest))) front_field 4 (omega arith) (omega arith)) in
+      ∙ ap (big_number 4) (part-middle before_front (big_bytes 4 front) (big_bytes 4 free ++ (past_free ++ (big_bytes 4 lowest ++ rest))) front_field 4 (omega arith) (omega arith)) in
       subst (λ (n : ℕ). n < 2 ^ 32) (sym is) (bounded front)
     where
       bounded : (n : ℕ) → big_number 4 (big_bytes 4 n) < 2 ^ 32
@@ -57,22 +57,22 @@ module _ (end front free lowest : ℕ) (rest : List ℕ) where
   pub front-said : big_number 4 (part (zone_head end front free lowest ++ rest) front_field 4) ≡ big_number 4 (big_bytes 4 front)
   front-said = let long = length-big_bytes 4 front in let before = length-before_front in
       ap (λ (l : List ℕ). big_number 4 (part l front_field 4)) zone_head-parts
-      ∙ ap (big_number 4) (part-middle before_front (big_bytes 4 front) (big_bytes 4 free ++ (behind_free ++ (big_bytes 4 lowest ++ rest))) front_field 4 (omega arith) (omega arith))
+      ∙ ap (big_number 4) (part-middle before_front (big_bytes 4 front) (big_bytes 4 free ++ (past_free ++ (big_bytes 4 lowest ++ rest))) front_field 4 (omega arith) (omega arith))
 
   -- the free bytes are read
   pub free-read : free < 2 ^ 32 → big_number 4 (part (zone_head end front free lowest ++ rest) free_field 4) ≡ free
   free-read small = let long = length-big_bytes 4 free in let before = length-before_front in let sum = length-append before_front (big_bytes 4 front) in let more = length-big_bytes 4 front in
-      ap (λ (l : List ℕ). big_number 4 (part l free_field 4)) (zone_head-parts ∙ sym (append_assoc before_front (big_bytes 4 front) (big_bytes 4 free ++ (behind_free ++ (big_bytes 4 lowest ++ rest)))))
-      ∙ ap (big_number 4) (part-middle (before_front ++ big_bytes 4 front) (big_bytes 4 free) (behind_free ++ (big_bytes 4 lowest ++ rest)) free_field 4 (omega arith) (omega arith))
+      ap (λ (l : List ℕ). big_number 4 (part l free_field 4)) (zone_head-parts ∙ sym (append_assoc before_front (big_bytes 4 front) (big_bytes 4 free ++ (past_free ++ (big_bytes 4 lowest ++ rest)))))
+      ∙ ap (big_number 4) (part-middle (before_front ++ big_bytes 4 front) (big_bytes 4 free) (past_free ++ (big_bytes 4 lowest ++ rest)) free_field 4 (omega arith) (omega arith))
       ∙ number-bytes 4 free (omega arith)
 
   -- the lowest free block's address is read
   pub lowest-read : lowest < 2 ^ 32 → big_number 4 (part (zone_head end front free lowest ++ rest) lowest_field 4) ≡ lowest
   lowest-read small = let long = length-big_bytes 4 lowest in let before = length-before_front in
-      let one = length-big_bytes 4 front in let two = length-big_bytes 4 free in let three = length-behind_free in
-      let pre = before_front ++ (big_bytes 4 front ++ (big_bytes 4 free ++ behind_free)) in
-      let a = length-append before_front (big_bytes 4 front ++ (big_bytes 4 free ++ behind_free)) in let b = length-append (big_bytes 4 front) (big_bytes 4 free ++ behind_free) in
-      let c = length-append (big_bytes 4 free) behind_free in
+      let one = length-big_bytes 4 front in let two = length-big_bytes 4 free in let three = length-past_free in
+      let pre = before_front ++ (big_bytes 4 front ++ (big_bytes 4 free ++ past_free)) in
+      let a = length-append before_front (big_bytes 4 front ++ (big_bytes 4 free ++ past_free)) in let b = length-append (big_bytes 4 front) (big_bytes 4 free ++ past_free) in
+      let c = length-append (big_bytes 4 free) past_free in
       let parts : zone_head end front free lowest ++ rest ≡ pre ++ (big_bytes 4 lowest ++ rest) = simp append_assoc in
       ap (λ (l : List ℕ). big_number 4 (part l lowest_field 4)) parts
       ∙ ap (big_number 4) (part-middle pre (big_bytes 4 lowest) rest lowest_field 4 (omega arith) (omega arith))
@@ -81,33 +81,33 @@ module _ (end front free lowest : ℕ) (rest : List ℕ) where
   -- the end is written
   pub end-written : (n : ℕ) → written (zone_head end front free lowest ++ rest) end_field (big_bytes 4 n) ≡ zone_head n front free lowest ++ rest
   end-written n = let long = length-big_bytes 4 end in let long' = length-big_bytes 4 n in
-      let behind = zeros 4 ++ (big_bytes 4 front ++ (big_bytes 4 free ++ (behind_free ++ big_bytes 4 lowest))) in
-      let parts : zone_head end front free lowest ++ rest ≡ [] ++ (big_bytes 4 end ++ (behind ++ rest)) = simp append_assoc in
+      let after = zeros 4 ++ (big_bytes 4 front ++ (big_bytes 4 free ++ (past_free ++ big_bytes 4 lowest))) in
+      let parts : zone_head end front free lowest ++ rest ≡ [] ++ (big_bytes 4 end ++ (after ++ rest)) = simp append_assoc in
       ap (λ (l : List ℕ). written l end_field (big_bytes 4 n)) parts
-      ∙ written-middle [] (big_bytes 4 end) (behind ++ rest) (big_bytes 4 n) end_field refl (omega arith)
+      ∙ written-middle [] (big_bytes 4 end) (after ++ rest) (big_bytes 4 n) end_field refl (omega arith)
       ∙ sym (simp append_assoc)
 
   -- the first free slot is written
   pub front-written : (n : ℕ) → written (zone_head end front free lowest ++ rest) front_field (big_bytes 4 n) ≡ zone_head end n free lowest ++ rest
   front-written n = let long = length-big_bytes 4 front in let long' = length-big_bytes 4 n in let before = length-before_front in
       ap (λ (l : List ℕ). written l front_field (big_bytes 4 n)) zone_head-parts
-      ∙ written-middle before_front (big_bytes 4 front) (big_bytes 4 free ++ (behind_free ++ (big_bytes 4 lowest ++ rest))) (big_bytes 4 n) front_field (omega arith) (omega arith)
+      ∙ written-middle before_front (big_bytes 4 front) (big_bytes 4 free ++ (past_free ++ (big_bytes 4 lowest ++ rest))) (big_bytes 4 n) front_field (omega arith) (omega arith)
       ∙ sym (simp append_assoc)
 
   -- the free bytes are written
   pub free-written : (n : ℕ) → written (zone_head end front free lowest ++ rest) free_field (big_bytes 4 n) ≡ zone_head end front n lowest ++ rest
   free-written n = let long = length-big_bytes 4 free in let long' = length-big_bytes 4 n in let before = length-before_front in let sum = length-append before_front (big_bytes 4 front) in let more = length-big_bytes 4 front in
-      ap (λ (l : List ℕ). written l free_field (big_bytes 4 n)) (zone_head-parts ∙ sym (append_assoc before_front (big_bytes 4 front) (big_bytes 4 free ++ (behind_free ++ (big_bytes 4 lowest ++ rest)))))
-      ∙ written-middle (before_front ++ big_bytes 4 front) (big_bytes 4 free) (behind_free ++ (big_bytes 4 lowest ++ rest)) (big_bytes 4 n) free_field (omega arith) (omega arith)
+      ap (λ (l : List ℕ). written l free_field (big_bytes 4 n)) (zone_head-parts ∙ sym (append_assoc before_front (big_bytes 4 front) (big_bytes 4 free ++ (past_free ++ (big_bytes 4 lowest ++ rest)))))
+      ∙ written-middle (before_front ++ big_bytes 4 front) (big_bytes 4 free) (past_free ++ (big_bytes 4 lowest ++ rest)) (big_bytes 4 n) free_field (omega arith) (omega arith)
       ∙ sym (simp append_assoc)
 
   -- the lowest free block is written
   pub lowest-written : (n : ℕ) → written (zone_head end front free lowest ++ rest) lowest_field (big_bytes 4 n) ≡ zone_head end front free n ++ rest
   lowest-written n = let long = length-big_bytes 4 lowest in let long' = length-big_bytes 4 n in let before = length-before_front in
-      let one = length-big_bytes 4 front in let two = length-big_bytes 4 free in let three = length-behind_free in
-      let pre = before_front ++ (big_bytes 4 front ++ (big_bytes 4 free ++ behind_free)) in
-      let a = length-append before_front (big_bytes 4 front ++ (big_bytes 4 free ++ behind_free)) in let b = length-append (big_bytes 4 front) (big_bytes 4 free ++ behind_free) in
-      let c = length-append (big_bytes 4 free) behind_free in
+      let one = length-big_bytes 4 front in let two = length-big_bytes 4 free in let three = length-past_free in
+      let pre = before_front ++ (big_bytes 4 front ++ (big_bytes 4 free ++ past_free)) in
+      let a = length-append before_front (big_bytes 4 front ++ (big_bytes 4 free ++ past_free)) in let b = length-append (big_bytes 4 front) (big_bytes 4 free ++ past_free) in
+      let c = length-append (big_bytes 4 free) past_free in
       let parts : zone_head end front free lowest ++ rest ≡ pre ++ (big_bytes 4 lowest ++ rest) = simp append_assoc in
       ap (λ (l : List ℕ). written l lowest_field (big_bytes 4 n)) parts
       ∙ written-middle pre (big_bytes 4 lowest) rest (big_bytes 4 n) lowest_field (omega arith) (omega arith)
@@ -141,7 +141,7 @@ front-again end front free lowest rest =
     ap (λ (l : List ℕ). big_bytes 4 end ++ (zeros 4 ++ (l ++ (big_bytes 4 free ++ (zeros 4 ++ (big_bytes 2 slot_count ++ (zeros 26 ++ big_bytes 4 lowest)))))))
     (ap (big_bytes 4) (front-said end front free lowest rest) ∙ bytes-said front)
 
--- bytes with a zone's header, and those behind it
+-- bytes with a zone's header, and those after it
 pub head-parts : (bytes : List ℕ) (end front free lowest : ℕ) → take zone_header bytes ≡ zone_head end front free lowest → bytes ≡ zone_head end front free lowest ++ drop zone_header bytes
 head-parts bytes end front free lowest is = sym (take-append-drop zone_header bytes) ∙ ap (λ (l : List ℕ). l ++ drop zone_header bytes) is
 

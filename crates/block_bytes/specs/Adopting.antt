@@ -11,7 +11,7 @@ use Rattle.raw_region.specs.State.{State}
 use Rattle.block_bytes.specs.declared.header.Header.{Header}
 use Rattle.block_bytes.specs.Head.{most_over, head_bytes}
 use Rattle.block_bytes.specs.ZoneHead.{front_field, zone_head}
-use Rattle.block_bytes.specs.Layout.{RawBlock, Layout, NothingLent, image_of, address_behind, is_free, is_possible, can_be_told, total_of, free_total, rendered, lent_count}
+use Rattle.block_bytes.specs.Layout.{RawBlock, Layout, NothingLent, image_of, address_after, is_free, is_possible, can_be_told, total_of, free_total, rendered, lent_count}
 use Rattle.block_bytes.specs.Starts.{marks_of, starts_of}
 
 -- a zone of these sizes is in bytes: its blocks are possible ones and end where the zone does, and none is lent
@@ -20,7 +20,7 @@ pub record IsZoneIn (spec : ZoneSizes) (bytes : List ℕ) (l : Layout) : Type 0 
   pub base : l.base ≡ spec.base
   pub all : length bytes ≡ spec.limit
   pub image : image_of l ≡ bytes
-  pub ends : address_behind l l.blocks ≡ spec.base + spec.size
+  pub ends : address_after l l.blocks ≡ spec.base + spec.size
   pub possible : IsTrue (list_all (is_possible spec.heads) l.blocks)
   pub unlent : NothingLent l
 

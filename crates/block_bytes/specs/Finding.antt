@@ -4,24 +4,24 @@ use Rattle.std.specs.List.{list_all}
 use Rattle.mac_base.specs.declared.block.Flags.{Flags}
 use Rattle.mac_base.specs.declared.block.HeadKind.{HeadKind}
 use Rattle.block_bytes.specs.declared.header.Role.TheVariants.{Free, Relocatable}
-use Rattle.block_bytes.specs.Layout.{RawBlock, Layout, BlockAt, is_free, size_of, total_of, address_behind}
+use Rattle.block_bytes.specs.Layout.{RawBlock, Layout, BlockAt, is_free, size_of, total_of, address_after}
 
--- the block at `start` has the byte at an address, in its header or behind it
+-- the block at `start` has the byte at an address, in its header or after it
 pub record HoldsByte (l : Layout) (at start : ℕ) : Type 0 where
   pub block : BlockAt l start
   pub low : start ≤ at
   pub high : at < start + size_of l.heads block.here
 
--- the byte at an address lies before all blocks, or behind them
+-- the byte at an address lies before all blocks, or after them
 abbrev pub LiesOutside : Layout → ℕ → Type 0
-LiesOutside l at = (at < address_behind l []) ⊎ (address_behind l l.blocks ≤ at)
+LiesOutside l at = (at < address_after l []) ⊎ (address_after l l.blocks ≤ at)
 
--- a free block's header stands at this address
+-- a free block's header is at this address
 pub record FreeAt (l : Layout) (at : ℕ) : Type 0 where
   pub block : BlockAt l at
   pub free : block.here.role ≡ Free
 
--- the block of a handle stands at this address, whose master pointer is so many bytes from the zone's start
+-- the block of a handle is at this address, whose master pointer is so many bytes from the zone's start
 pub record OwnedAt (l : Layout) (at offset : ℕ) : Type 0 where
   pub block : BlockAt l at
   pub flags : Flags
@@ -30,25 +30,25 @@ pub record OwnedAt (l : Layout) (at offset : ℕ) : Type 0 where
 -- the blocks from an address on, which is that of a block or of the end of the last
 pub record SplitAt (l : Layout) (at : ℕ) : Type 0 where
   pub before : List RawBlock
-  pub behind : List RawBlock
-  pub blocks : l.blocks ≡ before ++ behind
-  pub place : at ≡ address_behind l before
+  pub after : List RawBlock
+  pub blocks : l.blocks ≡ before ++ after
+  pub place : at ≡ address_after l before
 
 -- whether none of these is free
 abbrev pub none_free : List RawBlock → Bool
 none_free bs = list_all (λ (b : RawBlock). not (is_free b.role)) bs
 
--- the first free one of these blocks, which begin at an address, stands at another
+-- the first free one of these blocks, which begin at an address, is at another
 pub record FirstFree (heads : HeadKind) (bs : List RawBlock) (from at : ℕ) : Type 0 where
   pub passed : List RawBlock
   pub here : RawBlock
-  pub behind : List RawBlock
-  pub blocks : bs ≡ passed ++ here ∷ behind
+  pub after : List RawBlock
+  pub blocks : bs ≡ passed ++ here ∷ after
   pub used : IsTrue (none_free passed)
   pub free : here.role ≡ Free
   pub place : at ≡ from + total_of heads passed
 
--- the last free one of these blocks, which begin at an address, stands at another
+-- the last free one of these blocks, which begin at an address, is at another
 pub record LastFree (heads : HeadKind) (bs : List RawBlock) (from at : ℕ) : Type 0 where
   pub front : List RawBlock
   pub here : RawBlock

@@ -67,7 +67,7 @@ abbrev pub role_in : ℕ → ℕ → ℕ → Role
 role_in tag flags word = if nat_lt tag 64 then Free
     else (if nat_lt tag 128 then (if (tag / 16) % 2 == 1 then Master else Fixed) else Relocatable word (flags_in flags))
 
--- the header that stands at the front of these bytes
+-- the header that is at the front of these bytes
 abbrev pub header_in : HeadKind → List ℕ → Header
 header_in Bits24 xs = let first = big_number 4 xs in
     record { size = first % 0x100_0000; role = role_in (first / 0x100_0000) 0 (big_number 4 (drop 4 xs)); correction = (first / 0x100_0000) % 16 }

@@ -1,4 +1,4 @@
--- A zone as a list of blocks, each with all bytes behind its header.
+-- A zone as a list of blocks, each with all bytes after its header.
 use Rattle.std.specs.Prelude.{◌≡◌, ℕ, suc, ◌+◌, ◌-◌, ◌≤◌, ◌<◌, ◌^◌, ◌%◌, Bool, true, false, not, ◌&&◌, ◌||◌, ◌==◌, nat_le, nat_lt, if◌then◌else◌, IsTrue, IsFalse, List, [], ◌∷◌, ◌++◌, length, take, drop, replicate}
 use Rattle.std.specs.List.{list_all}
 use Rattle.byteorder.specs.Endian.{big_bytes}
@@ -15,7 +15,7 @@ use Rattle.block_bytes.specs.declared.header.Role.TheVariants.{Free, Fixed, Mast
 use Rattle.block_bytes.specs.Head.{most_over, head_bytes}
 use Rattle.block_bytes.specs.ZoneHead.{zone_head}
 
--- a block: what it is for, its contents, the bytes behind them that are over, and whether its contents are lent. Those
+-- a block: what it is for, its contents, the bytes after them that are over, and whether its contents are lent. Those
 -- of a lent block are the bytes that were there when it was lent
 pub record RawBlock : Type 0 where
   pub role : Role
@@ -23,7 +23,7 @@ pub record RawBlock : Type 0 where
   pub slack : List ℕ
   pub lent : Bool
 
--- all bytes behind a block's header
+-- all bytes after a block's header
 abbrev pub body : RawBlock → List ℕ
 body b = b.contents ++ b.slack
 
@@ -99,7 +99,7 @@ abbrev pub is_possible : HeadKind → RawBlock → Bool
 is_possible heads b = (size_of heads b % 4 == 0) && (nat_le (smallest_block heads) (size_of heads b)
     && (nat_le (length b.slack) (most_over heads) && (can_be_told heads b.role (length b.slack) && (not b.lent || has_owner b.role))))
 
--- blocks as bytes, one behind the other
+-- blocks as bytes, one after the other
 abbrev pub rendered : HeadKind → ℕ → List RawBlock → List ℕ
 rendered heads base [] = []
 rendered heads base (b ∷ bs) = head_bytes heads base (header_of heads b) ++ (b.contents ++ (b.slack ++ rendered heads base bs))
@@ -114,13 +114,13 @@ pub record Layout : Type 0 where
   pub blocks : List RawBlock
   pub spare : List ℕ
 
--- where the blocks behind these begin
-abbrev pub address_behind : Layout → List RawBlock → ℕ
-address_behind l before = l.base + zone_header + total_of l.heads before
+-- where the blocks after these begin
+abbrev pub address_after : Layout → List RawBlock → ℕ
+address_after l before = l.base + zone_header + total_of l.heads before
 
 -- the bytes of its header
 abbrev pub header_bytes : Layout → List ℕ
-header_bytes l = zone_head (address_behind l l.blocks) l.front (free_total l.heads l.blocks) (first_free l.heads (address_behind l []) l.blocks)
+header_bytes l = zone_head (address_after l l.blocks) l.front (free_total l.heads l.blocks) (first_free l.heads (address_after l []) l.blocks)
 
 -- all its bytes
 abbrev pub image_of : Layout → List ℕ
@@ -142,13 +142,13 @@ with_front n l = record l { front = n }
 abbrev pub NothingLent : Layout → Type 0
 NothingLent l = lent_count l.blocks ≡ 0
 
--- a block's header stands at this address
+-- a block's header is at this address
 pub record BlockAt (l : Layout) (at : ℕ) : Type 0 where
   pub before : List RawBlock
   pub here : RawBlock
-  pub behind : List RawBlock
-  pub blocks : l.blocks ≡ before ++ here ∷ behind
-  pub place : at ≡ address_behind l before
+  pub after : List RawBlock
+  pub blocks : l.blocks ≡ before ++ here ∷ after
+  pub place : at ≡ address_after l before
 
 -- that of a block that isn't lent
 pub record UnlentAt (l : Layout) (at : ℕ) : Type 0 where
@@ -159,10 +159,10 @@ pub record UnlentAt (l : Layout) (at : ℕ) : Type 0 where
 pub record WordAt (l : Layout) (at : ℕ) : Type 0 where
   pub before : List RawBlock
   pub here : RawBlock
-  pub behind : List RawBlock
+  pub after : List RawBlock
   pub offset : ℕ
-  pub blocks : l.blocks ≡ before ++ here ∷ behind
-  pub place : at ≡ address_behind l before + head_size l.heads + offset
+  pub blocks : l.blocks ≡ before ++ here ∷ after
+  pub place : at ≡ address_after l before + head_size l.heads + offset
   pub inside : offset + 4 ≤ length here.contents
   pub unlent : here.lent ≡ false
 
@@ -225,7 +225,7 @@ front_of {size = size} {n = n} l can = raw_block can.block.here.role n (take (si
 abbrev pub rest_of : {at size n : ℕ} → (l : Layout) → CanSplit l at size n → RawBlock
 rest_of {size = size} l can = free_raw_block (drop size (body can.block.here))
 
--- all bytes of two neighbours behind the header of the first
+-- all bytes of two neighbours after the header of the first
 abbrev pub joint_body : Layout → RawBlock → RawBlock → List ℕ
 joint_body l b c = body b ++ (head_bytes l.heads l.base (header_of l.heads c) ++ body c)
 
@@ -234,13 +234,13 @@ pub record PairAt (l : Layout) (at : ℕ) : Type 0 where
   pub before : List RawBlock
   pub here : RawBlock
   pub next : RawBlock
-  pub behind : List RawBlock
-  pub blocks : l.blocks ≡ before ++ here ∷ next ∷ behind
-  pub place : at ≡ address_behind l before
+  pub after : List RawBlock
+  pub blocks : l.blocks ≡ before ++ here ∷ next ∷ after
+  pub place : at ≡ address_after l before
   pub unlent_here : here.lent ≡ false
   pub unlent_next : next.lent ≡ false
 
--- the block at an address and the one behind it can be made one block with so many bytes of contents
+-- the block at an address and the one after it can be made one block with so many bytes of contents
 pub record CanMerge (l : Layout) (at n : ℕ) : Type 0 where
   pub pair : PairAt l at
   pub within : n ≤ length (joint_body l pair.here pair.next)
@@ -258,38 +258,38 @@ pub record IsMoved (old new : RawBlock) : Type 0 where
 abbrev pub none_lent : List RawBlock → Bool
 none_lent bs = list_all (λ (b : RawBlock). not b.lent) bs
 
--- a block and the others behind it stand between two addresses, none of them lent
+-- a block and the others after it are between two addresses, none of them lent
 pub record ParcelAt (l : Layout) (at end : ℕ) : Type 0 where
   pub before : List RawBlock
   pub here : RawBlock
   pub others : List RawBlock
-  pub behind : List RawBlock
-  pub blocks : l.blocks ≡ before ++ (here ∷ others ++ behind)
-  pub place : at ≡ address_behind l before
+  pub after : List RawBlock
+  pub blocks : l.blocks ≡ before ++ (here ∷ others ++ after)
+  pub place : at ≡ address_after l before
   pub long : end ≡ at + total_of l.heads (here ∷ others)
   pub unlent : IsTrue (none_lent (here ∷ others))
 
--- the block stands behind the others. The bytes of a free one may be other ones
+-- the block is after the others. The bytes of a free one may be other ones
 pub record Carried (old : Layout) {at end : ℕ} (parcel : ParcelAt old at end) (new : Layout) : Type 0 where
   pub moved : RawBlock
-  pub blocks : new ≡ with_blocks (parcel.before ++ (parcel.others ++ moved ∷ parcel.behind)) old
+  pub blocks : new ≡ with_blocks (parcel.before ++ (parcel.others ++ moved ∷ parcel.after)) old
   pub same : IsMoved parcel.here moved
 
--- some blocks stand from an address on, and a block behind them at another, none of them lent
+-- some blocks are from an address on, and a block after them at another, none of them lent
 pub record ParcelUpTo (l : Layout) (start at : ℕ) : Type 0 where
   pub before : List RawBlock
   pub others : List RawBlock
   pub here : RawBlock
-  pub behind : List RawBlock
-  pub blocks : l.blocks ≡ before ++ (others ++ here ∷ behind)
-  pub place : start ≡ address_behind l before
+  pub after : List RawBlock
+  pub blocks : l.blocks ≡ before ++ (others ++ here ∷ after)
+  pub place : start ≡ address_after l before
   pub long : at ≡ start + total_of l.heads others
   pub unlent : IsTrue (none_lent (others ++ here ∷ []))
 
--- the block stands before the others. The bytes of a free one may be other ones
+-- the block is before the others. The bytes of a free one may be other ones
 pub record Sunk (old : Layout) {start at : ℕ} (parcel : ParcelUpTo old start at) (new : Layout) : Type 0 where
   pub moved : RawBlock
-  pub blocks : new ≡ with_blocks (parcel.before ++ (moved ∷ parcel.others ++ parcel.behind)) old
+  pub blocks : new ≡ with_blocks (parcel.before ++ (moved ∷ parcel.others ++ parcel.after)) old
   pub same : IsMoved parcel.here moved
 
 -- the block at an address can be lent: it is a handle's or a pointer's, it isn't lent yet, and few are
@@ -324,6 +324,6 @@ abbrev pub free_block_of : HeadKind → List ℕ → List RawBlock
 free_block_of heads [] = []
 free_block_of heads (x ∷ xs) = free_raw_block (drop (head_size heads) (x ∷ xs)) ∷ []
 
--- the zone grown to its limit: the bytes up to there are a free block behind the others
+-- the zone grown to its limit: the bytes up to there are a free block after the others
 abbrev pub extended : Layout → Layout
 extended l = record l { blocks = l.blocks ++ free_block_of l.heads l.spare; spare = [] }

@@ -12,11 +12,11 @@ use Rattle.block_bytes.specs.declared.header.Header.{Header}
 use Rattle.block_bytes.specs.declared.blocks.Blocks.TheInside.{Inside}
 use Rattle.block_bytes.specs.Head.{header_in}
 use Rattle.block_bytes.specs.ZoneHead.{front_field}
-use Rattle.block_bytes.specs.Layout.{RawBlock, Layout, raw_block, size_of, is_possible, image_of, address_behind, lent_count, most_lent}
+use Rattle.block_bytes.specs.Layout.{RawBlock, Layout, raw_block, size_of, is_possible, image_of, address_after, lent_count, most_lent}
 use Rattle.block_bytes.specs.Starts.{lent_mark, starts_of}
 use Rattle.block_bytes.specs.Record.{RecordKept, kept_name}
 
--- the block whose header, of so many bytes, stands at the front of these bytes
+-- the block whose header, of so many bytes, is at the front of these bytes
 abbrev pub raw_block_in : HeadKind → Header → Bool → List ℕ → RawBlock
 raw_block_in heads h lent xs = record (raw_block h.role (h.size - head_size heads - h.correction) (part xs (head_size heads) (h.size - head_size heads))) { lent = lent }
 
@@ -64,7 +64,7 @@ pub record IsLayout (z : Inside) : Type 0 where
   pub low : zone_header ≤ z.spec.size
   pub high : z.spec.size ≤ z.spec.limit
   pub form : z.memory.bytes ≡ image_of (layout_of z)
-  pub ends : address_behind (layout_of z) (layout_of z).blocks ≡ z.spec.base + z.spec.size
+  pub ends : address_after (layout_of z) (layout_of z).blocks ≡ z.spec.base + z.spec.size
   pub possible : IsTrue (list_all (is_possible z.spec.heads) (layout_of z).blocks)
   pub marked : z.index ≡ starts_of (layout_of z)
   pub lent : SameSpans z.memory.lent (lent_spans z.spec.heads zone_header (layout_of z).blocks)

@@ -26,12 +26,12 @@ lent_mark = 2
 abbrev pub mark_of : HeadKind → RawBlock → ℕ
 mark_of heads b = if b.lent then lent_mark else mark_in (header_of heads b)
 
--- the numbers of blocks, one behind the other: 0 where none begins
+-- the numbers of blocks, one after the other: 0 where none begins
 abbrev pub marks_of : HeadKind → List RawBlock → List ℕ
 marks_of heads [] = []
 marks_of heads (b ∷ bs) = mark_of heads b ∷ (replicate (size_of heads b / 4 - 1) 0 ++ marks_of heads bs)
 
--- those of a zone, with 0 in its header and behind its last block
+-- those of a zone, with 0 in its header and after its last block
 abbrev pub starts_of : Layout → List ℕ
 starts_of l = replicate (zone_header / 4) 0 ++ (marks_of l.heads l.blocks ++ replicate (length l.spare / 4) 0)
 
@@ -41,7 +41,7 @@ abbrev pub first_marked : ℕ → List ℕ → ℕ
 first_marked at [] = 0
 first_marked at (m ∷ ms) = if nat_lt lent_mark m then at else first_marked (at + 4) ms
 
--- no number of a free block stands before a place and below an address; where the address is below the first number's,
--- none stands before the place
+-- no number of a free block is before a place and below an address; where the address is below the first number's,
+-- none is before the place
 abbrev pub NoneLower : ℕ → ℕ → ℕ → List ℕ → Type 0
 NoneLower at lowest place ms = (j : ℕ) → j < place → (at ≤ lowest → at + 4 * j < lowest) → slice_index ms j ≤ lent_mark

@@ -67,8 +67,8 @@ begun_before heads at end (b ∷ bs) = if nat_lt at end then b ∷ begun_before 
 pub record AgreeUpTo (l : Layout) (bytes : List ℕ) (offset : ℕ) (bs : List RawBlock) (at : ℕ) : Type 0 where
   pub passed : List RawBlock
   pub here : RawBlock
-  pub behind : List RawBlock
-  pub blocks : bs ≡ passed ++ here ∷ behind
+  pub after : List RawBlock
+  pub blocks : bs ≡ passed ++ here ∷ after
   pub others : IsTrue (none_master passed)
   pub master : here.role ≡ Master
   pub agree : HasHeaders l bytes offset (passed ++ here ∷ [])
@@ -102,8 +102,8 @@ pub record HasOwn (l : Layout) (bytes : List ℕ) (at : ℕ) (bs : List RawBlock
 pub record OwnBetween (l : Layout) (bytes : List ℕ) (from to : ℕ) : Type 0 where
   pub before : List RawBlock
   pub passed : List RawBlock
-  pub behind : List RawBlock
-  pub blocks : l.blocks ≡ before ++ (passed ++ behind)
+  pub after : List RawBlock
+  pub blocks : l.blocks ≡ before ++ (passed ++ after)
   pub start : from ≡ zone_header + total_of l.heads before
   pub end : to ≡ from + total_of l.heads passed
   pub own : HasOwn l bytes from passed

@@ -25,6 +25,6 @@ pub record WalksFrom (heads : HeadKind) (image : List ℕ) (at : ℕ) : Type 0 w
   pub sizes : List ℕ
   pub follows : Follows heads image at sizes
 
--- blocks fill the bytes behind the zone's header
+-- blocks fill the bytes after the zone's header
 abbrev pub Walks : HeadKind → List ℕ → Type 0
 Walks heads image = WalksFrom heads image zone_header

@@ -6,7 +6,7 @@ use Rattle.raw_region.specs.Bytes.{part}
 use Rattle.raw_region.specs.Span.{IsFree}
 use Rattle.raw_region.specs.State.{State}
 
--- where it has the address behind the last block, the first free slot, the free bytes, and the header of the lowest
+-- where it has the address after the last block, the first free slot, the free bytes, and the header of the lowest
 -- free block
 abbrev pub end_field : ℕ
 end_field = 0
@@ -24,7 +24,7 @@ lowest_field = 48
 abbrev pub zeros : ℕ → List ℕ
 zeros n = replicate n 0
 
--- the address behind the last block, at 0; the first free slot, at 8; the free bytes, at 12; how many master pointers a
+-- the address after the last block, at 0; the first free slot, at 8; the free bytes, at 12; how many master pointers a
 -- master block has, at 20; the header of the lowest free block, at 48; and zero in the other bytes
 abbrev pub zone_head : ℕ → ℕ → ℕ → ℕ → List ℕ
 zone_head end front free lowest =

@@ -24,7 +24,7 @@ use std::alloc::Global;
 use std::marker::Model;
 
 /// The blocks of a zone in one run of bytes, from the zone's start to its limit. A contract sees the list of the
-/// blocks, each with all bytes behind its header, beside the bytes up to the limit and the number in the zone's header
+/// blocks, each with all bytes after its header, beside the bytes up to the limit and the number in the zone's header
 /// that tells of the free slots. All else in that header follows from the blocks: where they end, how many bytes are
 /// free and where the lowest free block is. That an address is that of a block is up to the caller. After `create` no
 /// call takes memory of the host.
@@ -123,7 +123,7 @@ impl Blocks {
     ghost use Rattle.mac_base.specs.HeadKind.{zone_header, head_size};
     ghost use Rattle.raw_region.specs.Bytes.{part};
     ghost use Rattle.block_bytes.specs.declared.header.Role.TheVariants.{Free};
-    ghost use Rattle.block_bytes.specs.Layout.{Layout, BlockAt, UnlentAt, WordAt, CanBe, CanTurn, CanResize, CanSplit, ParcelAt, Carried, ParcelUpTo, Sunk, CanMerge, CanLend, IsLoanOf, NothingLent, in_role, front_of, rest_of, with_word, cleared, cleared_from, CanClear, body, raw_block, free_raw_block, size_of, header_of, is_possible, joint_body, zone_bytes, with_blocks, with_front, extended, address_behind, free_total, lent_count, most_lent, loan_of, lent_block, given_back};
+    ghost use Rattle.block_bytes.specs.Layout.{Layout, BlockAt, UnlentAt, WordAt, CanBe, CanTurn, CanResize, CanSplit, ParcelAt, Carried, ParcelUpTo, Sunk, CanMerge, CanLend, IsLoanOf, NothingLent, in_role, front_of, rest_of, with_word, cleared, cleared_from, CanClear, body, raw_block, free_raw_block, size_of, header_of, is_possible, joint_body, zone_bytes, with_blocks, with_front, extended, address_after, free_total, lent_count, most_lent, loan_of, lent_block, given_back};
     ghost use Rattle.block_bytes.specs.Finding.{HoldsByte, LiesOutside, FreeAt, OwnedAt, SplitAt, FirstFree, LastFree, none_free, FirstFrom, NoneFrom};
     ghost use Rattle.block_bytes.specs.Copying.{CanCopy, copied_over};
     ghost use Rattle.block_bytes.specs.WritingBack.{WritesBackContents};
@@ -160,16 +160,16 @@ impl Blocks {
     pub fn spec(&self) -> ZoneSpec
         ensures heads { result.heads ≡ self.now.heads }
         ensures base { result.base ≡ self.now.base }
-        ensures size { result.base + result.size ≡ address_behind self.now self.now.blocks }
-        ensures limit { result.base + result.limit ≡ address_behind self.now self.now.blocks + length self.now.spare }
+        ensures size { result.base + result.size ≡ address_after self.now self.now.blocks }
+        ensures limit { result.base + result.limit ≡ address_after self.now self.now.blocks + length self.now.spare }
         ensures possible { IsTrue (list_all (is_possible self.now.heads) self.now.blocks) }
     {
         self.spec
     }
 
-    /// The address behind the last block.
+    /// The address after the last block.
     pub fn end(&self) -> u32
-        ensures { result ≡ address_behind self.now self.now.blocks }
+        ensures { result ≡ address_after self.now self.now.blocks }
     {
         self.spec.base() + self.spec.size()
     }
@@ -213,7 +213,7 @@ impl Blocks {
         self.loans
     }
 
-    /// Whether a block's header stands at an address.
+    /// Whether a block's header is at an address.
     pub fn is_block(&self, at: u32) -> bool
         ensures { IsTrue result ↔ BlockAt self.now at }
     {
@@ -234,7 +234,7 @@ impl Blocks {
             .header(self.spec.heads(), (at - self.spec.base()) as usize)
     }
 
-    /// How many bytes from the zone's start the handle is whose block stands at an address, if a handle's does. Of the
+    /// How many bytes from the zone's start the handle is whose block is at an address, if a handle's does. Of the
     /// header the tag and the last word are read.
     pub fn owner_at(&self, at: u32) -> Option<u32>
         ensures owner { IfSome result (λ offset. OwnedAt self.now at offset) }
@@ -255,11 +255,11 @@ impl Blocks {
         self.entry_at(at).size
     }
 
-    /// The address of the block behind the one at an address, if there is one.
+    /// The address of the block after the one at an address, if there is one.
     pub fn walk(&self, at: u32) -> Option<u32>
         requires { BlockAt self.now at }
         ensures next { IfSome result (λ next. BlockAt self.now next × ((b : BlockAt self.now at) → next ≡ at + size_of self.now.heads b.here)) }
-        ensures last { IfNone result ((b : BlockAt self.now at) → b.behind ≡ []) }
+        ensures last { IfNone result ((b : BlockAt self.now at) → b.after ≡ []) }
     {
         let end = self.end();
         let next = at + self.entry_at(at).size;
@@ -267,7 +267,7 @@ impl Blocks {
     }
 
     /// The address of the block that a byte of the zone is part of, its header's bytes among them. There is none where
-    /// the byte lies before the first block or behind the last. No header is read: the index has the last place up to
+    /// the byte lies before the first block or after the last. No header is read: the index has the last place up to
     /// the byte at which a block begins.
     pub fn holder(&self, at: u32) -> Option<u32>
         ensures holds { IfSome result (λ start. HoldsByte self.now at start) }
@@ -293,11 +293,11 @@ impl Blocks {
         Some(base + 4 * place as u32)
     }
 
-    /// Makes the block at an address one for this, with so many bytes of contents. All bytes behind its header stay.
+    /// Makes the block at an address one for this, with so many bytes of contents. All bytes after its header stay.
     pub fn assign(&mut self, at: u32, role: Role, length: u32)
         requires { CanBe self.old at role length }
         ensures { (can : CanBe self.old at role length)
-            → self.new ≡ with_blocks (can.block.before ++ raw_block role length (body can.block.here) ∷ can.block.behind) self.old }
+            → self.new ≡ with_blocks (can.block.before ++ raw_block role length (body can.block.here) ∷ can.block.after) self.old }
     {
         let old = self.entry_at(at);
         let heads = self.spec.heads();
@@ -325,7 +325,7 @@ impl Blocks {
     /// only its header is written.
     pub fn set_role(&mut self, at: u32, role: Role)
         requires { CanTurn self.old at role }
-        ensures { (can : CanTurn self.old at role) → self.new ≡ with_blocks (can.block.before ++ in_role can.block.here role ∷ can.block.behind) self.old }
+        ensures { (can : CanTurn self.old at role) → self.new ≡ with_blocks (can.block.before ++ in_role can.block.here role ∷ can.block.after) self.old }
     {
         let old = self.entry_at(at);
         let heads = self.spec.heads();
@@ -340,21 +340,21 @@ impl Blocks {
             .set_header(heads, (at - base) as usize, base, header);
     }
 
-    /// Makes the block at an address free. All bytes behind its header stay.
+    /// Makes the block at an address free. All bytes after its header stay.
     pub fn set_free(&mut self, at: u32)
         requires { UnlentAt self.old at }
-        ensures { (b : BlockAt self.old at) → self.new ≡ with_blocks (b.before ++ free_raw_block (body b.here) ∷ b.behind) self.old }
+        ensures { (b : BlockAt self.old at) → self.new ≡ with_blocks (b.before ++ free_raw_block (body b.here) ∷ b.after) self.old }
     {
         let length = self.entry_at(at).size - self.spec.heads().head_size();
         self.assign(at, Role::Free, length);
     }
 
-    /// Gives the block at an address so many bytes of contents, where its size allows it. All bytes behind its header
+    /// Gives the block at an address so many bytes of contents, where its size allows it. All bytes after its header
     /// stay.
     pub fn resize(&mut self, at: u32, length: u32)
         requires { CanResize self.old at length }
         ensures { (can : CanResize self.old at length)
-            → self.new ≡ with_blocks (can.block.before ++ raw_block can.block.here.role length (body can.block.here) ∷ can.block.behind) self.old }
+            → self.new ≡ with_blocks (can.block.before ++ raw_block can.block.here.role length (body can.block.here) ∷ can.block.after) self.old }
     {
         let role = self.entry_at(at).role;
         self.assign(at, role, length);
@@ -364,7 +364,7 @@ impl Blocks {
     /// and the others a free one. No byte of contents changes.
     pub fn split(&mut self, at: u32, size: u32, length: u32)
         requires { CanSplit self.old at size length }
-        ensures { (can : CanSplit self.old at size length) → self.new ≡ with_blocks (can.block.before ++ front_of self.old can ∷ rest_of self.old can ∷ can.block.behind) self.old }
+        ensures { (can : CanSplit self.old at size length) → self.new ≡ with_blocks (can.block.before ++ front_of self.old can ∷ rest_of self.old can ∷ can.block.after) self.old }
     {
         let whole = self.entry_at(at);
         let heads = self.spec.heads();
@@ -397,12 +397,12 @@ impl Blocks {
         );
     }
 
-    /// Makes the block at an address and the one behind it one block, for what the first is for, with so many bytes of
+    /// Makes the block at an address and the one after it one block, for what the first is for, with so many bytes of
     /// contents. No byte changes but those of the first header.
     pub fn merge(&mut self, at: u32, length: u32)
         requires { CanMerge self.old at length }
         ensures { (can : CanMerge self.old at length)
-            → self.new ≡ with_blocks (can.pair.before ++ raw_block can.pair.here.role length (joint_body self.old can.pair.here can.pair.next) ∷ can.pair.behind) self.old }
+            → self.new ≡ with_blocks (can.pair.before ++ raw_block can.pair.here.role length (joint_body self.old can.pair.here can.pair.next) ∷ can.pair.after) self.old }
     {
         let heads = self.spec.heads();
         let base = self.spec.base();
@@ -430,7 +430,7 @@ impl Blocks {
         );
     }
 
-    /// The block at an address changes places with those behind it up to an address. The bytes of a free one aren't
+    /// The block at an address changes places with those after it up to an address. The bytes of a free one aren't
     /// kept: the others slide over them. Else the bytes of all turn in one rotation.
     pub fn carry(&mut self, at: u32, end: u32)
         requires { ParcelAt self.old at end }
@@ -473,8 +473,8 @@ impl Blocks {
     /// The address of the first free block from an address on, if there is one. No header is read.
     pub fn next_free(&self, from: u32) -> Option<u32>
         requires { SplitAt self.now from }
-        ensures next { IfSome result (λ at. (split : SplitAt self.now from) → FirstFree self.now.heads split.behind from at) }
-        ensures none { IfNone result ((split : SplitAt self.now from) → IsTrue (none_free split.behind)) }
+        ensures next { IfSome result (λ at. (split : SplitAt self.now from) → FirstFree self.now.heads split.after from at) }
+        ensures none { IfNone result ((split : SplitAt self.now from) → IsTrue (none_free split.after)) }
     {
         let base = self.spec.base();
         let first = (from - base) as usize / 4;
@@ -485,16 +485,16 @@ impl Blocks {
     /// The address of the last free block before an address, if there is one. No header is read.
     pub fn last_free(&self, end: u32) -> Option<u32>
         requires { SplitAt self.now end }
-        ensures last { IfSome result (λ at. (split : SplitAt self.now end) → LastFree self.now.heads split.before (address_behind self.now []) at) }
+        ensures last { IfSome result (λ at. (split : SplitAt self.now end) → LastFree self.now.heads split.before (address_after self.now []) at) }
         ensures none { IfNone result ((split : SplitAt self.now end) → IsTrue (none_free split.before)) }
     {
         let base = self.spec.base();
-        let behind = (end - base) as usize / 4;
-        let place = self.index.last_most(behind)?;
+        let after = (end - base) as usize / 4;
+        let place = self.index.last_most(after)?;
         Some(base + 4 * place as u32)
     }
 
-    /// Grows the zone to its limit: the bytes up to there become one free block behind the last. Its header is written,
+    /// Grows the zone to its limit: the bytes up to there become one free block after the last. Its header is written,
     /// and the other bytes stay. Where the zone is as large as its limit nothing changes.
     pub fn extend(&mut self)
         ensures { self.new ≡ extended self.old }
@@ -529,7 +529,7 @@ impl Blocks {
     /// Lends the contents of the block at an address: who has the loan reads and writes them.
     pub fn lend(&mut self, at: u32) -> Lent
         requires { CanLend self.old at }
-        ensures blocks { (can : CanLend self.old at) → self.new ≡ with_blocks (can.block.before ++ lent_block can.block.here ∷ can.block.behind) self.old }
+        ensures blocks { (can : CanLend self.old at) → self.new ≡ with_blocks (can.block.before ++ lent_block can.block.here ∷ can.block.after) self.old }
         ensures loan { (can : CanLend self.old at) → result ≡ loan_of self.old can.block }
     {
         let header = self.entry_at(at);
@@ -545,7 +545,7 @@ impl Blocks {
     /// Takes back the contents of the lent block at an address, as its holder left them.
     pub fn give_back(&mut self, at: u32, loan: Lent)
         requires { IsLoanOf self.old at loan }
-        ensures { (is : IsLoanOf self.old at loan) → self.new ≡ with_blocks (is.block.before ++ given_back is.block.here loan.bytes ∷ is.block.behind) self.old }
+        ensures { (is : IsLoanOf self.old at loan) → self.new ≡ with_blocks (is.block.before ++ given_back is.block.here loan.bytes ∷ is.block.after) self.old }
     {
         let offset = at - self.spec.base();
         self.memory.give_back(loan);
@@ -564,7 +564,7 @@ impl Blocks {
     /// Writes a number as 4 bytes of a block's contents.
     pub fn set_word(&mut self, at: u32, number: u32)
         requires { WordAt self.old at }
-        ensures { (w : WordAt self.old at) → self.new ≡ with_blocks (w.before ++ with_word w.here w.offset number ∷ w.behind) self.old }
+        ensures { (w : WordAt self.old at) → self.new ≡ with_blocks (w.before ++ with_word w.here w.offset number ∷ w.after) self.old }
     {
         let base = self.spec.base();
         note(&mut self.kept, at - base, 4);
@@ -600,7 +600,7 @@ impl Blocks {
     /// Makes the contents of the block at an address zero.
     pub fn clear(&mut self, at: u32)
         requires { UnlentAt self.old at }
-        ensures { (b : BlockAt self.old at) → self.new ≡ with_blocks (b.before ++ cleared b.here ∷ b.behind) self.old }
+        ensures { (b : BlockAt self.old at) → self.new ≡ with_blocks (b.before ++ cleared b.here ∷ b.after) self.old }
     {
         let header = self.entry_at(at);
         let head_size = self.spec.heads().head_size();
@@ -614,7 +614,7 @@ impl Blocks {
     pub fn clear_from(&mut self, at: u32, from: u32)
         requires { CanClear self.old at from }
         ensures { (can : CanClear self.old at from)
-            → self.new ≡ with_blocks (can.block.before ++ cleared_from can.block.here from ∷ can.block.behind) self.old }
+            → self.new ≡ with_blocks (can.block.before ++ cleared_from can.block.here from ∷ can.block.after) self.old }
     {
         let header = self.entry_at(at);
         let head_size = self.spec.heads().head_size();
@@ -637,7 +637,7 @@ impl Blocks {
     pub fn copy(&mut self, from: u32, start: u32, to: u32, offset: u32, count: u32)
         requires { CanCopy self.old from start to offset count }
         ensures { (can : CanCopy self.old from start to offset count)
-            → self.new ≡ with_blocks (can.target.before ++ copied_over can.target.here offset (take count (drop start can.source.here.contents)) ∷ can.target.behind) self.old }
+            → self.new ≡ with_blocks (can.target.before ++ copied_over can.target.here offset (take count (drop start can.source.here.contents)) ∷ can.target.after) self.old }
     {
         let own = self.has_own_contents(to);
         let base = self.spec.base();

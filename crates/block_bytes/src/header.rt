@@ -27,7 +27,7 @@ pub enum Role {
     Fixed,
     /// A master block, which doesn't move either.
     Master,
-    /// A relocatable block, whose master pointer stands so many bytes from the zone's start, and the flags that the
+    /// A relocatable block, whose master pointer is so many bytes from the zone's start, and the flags that the
     /// header says: none in a zone of 24-bit blocks.
     Relocatable(u32, Flags),
 }

@@ -1,4 +1,4 @@
-//! The blocks of a zone, one behind the other in its bytes. An address names a block: that of its header.
+//! The blocks of a zone, one after the other in its bytes. An address names a block: that of its header.
 #![tactic(auto)]
 
 mod adopting;

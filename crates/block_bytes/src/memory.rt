@@ -23,7 +23,7 @@ use raw_region::{Lent, Region};
 use std::alloc::Global;
 use std::marker::Model;
 
-/// Where the zone's header has the address behind the last block.
+/// Where the zone's header has the address after the last block.
 const END_FIELD: usize = 0;
 
 /// Where it has the number of the free slots.
@@ -193,7 +193,7 @@ impl Memory {
         self.region.rotate(at, middle, end);
     }
 
-    /// The block with this header, which stands at `at`, moves behind the `count` bytes behind it. Where it is free
+    /// The block with this header, which is at `at`, moves after the `count` bytes after it. Where it is free
     /// only those move, and its header, which names no zone, is written anew.
     pub fn carry(&mut self, heads: HeadKind, at: usize, count: usize, header: Header)
         requires inside { at + header.size + count ≤ length self.old.bytes }
@@ -252,7 +252,7 @@ impl Memory {
         self.region.give_back(lent);
     }
 
-    /// The block header that stands at `at`.
+    /// The block header that is at `at`.
     pub fn header(&self, heads: HeadKind, at: usize) -> Header
         requires inside { at + head_size heads ≤ length self.now.bytes }
         requires free { IsFree self.now.lent at (head_size heads) }
@@ -322,7 +322,7 @@ impl Memory {
         }
     }
 
-    /// What a walk takes from the block header that stands at `at`, where it is in the same place among other bytes.
+    /// What a walk takes from the block header that is at `at`, where it is in the same place among other bytes.
     pub fn same_step(&self, heads: HeadKind, at: usize, bytes: &[u8]) -> Option<Step>
         requires inside { at + head_size heads ≤ length self.now.bytes }
         requires within { at + head_size heads ≤ length bytes.now }
@@ -340,7 +340,7 @@ impl Memory {
         Some(step_in(heads, own))
     }
 
-    /// Writes the block header that stands at `at` in the same place among other bytes.
+    /// Writes the block header that is at `at` in the same place among other bytes.
     pub fn write_header(&self, heads: HeadKind, at: usize, bytes: &mut [u8])
         requires inside { at + head_size heads ≤ length self.now.bytes }
         requires within { at + head_size heads ≤ length bytes.old }
@@ -411,7 +411,7 @@ impl Memory {
         }
     }
 
-    /// Writes the header of a zone into bytes of zero: the address behind its last block, how many bytes are free, and
+    /// Writes the header of a zone into bytes of zero: the address after its last block, how many bytes are free, and
     /// the address of the lowest free block.
     pub fn set_zone_head(&mut self, end: u32, free: u32, lowest: u32)
         requires inside { zone_header ≤ length self.old.bytes }
@@ -426,7 +426,7 @@ impl Memory {
         self.region.put32(LOWEST_FIELD, lowest);
     }
 
-    /// Writes in the zone's header the address behind its last block.
+    /// Writes in the zone's header the address after its last block.
     pub fn set_end(&mut self, end: u32)
         requires inside { end_field + 4 ≤ length self.old.bytes }
         requires free { IsFree self.old.lent end_field 4 }

@@ -6,7 +6,7 @@ ghost use Rattle.std.specs.Prelude.{◌≡◌, ◌+◌, ◌<◌, ◌≤◌, ◌�
 ghost use Rattle.mac_base.specs.HeadKind.{head_size, zone_header};
 ghost use Rattle.block_bytes.specs.Finding.{SplitAt};
 ghost use Rattle.block_bytes.specs.FourWalks.{AreDone, AreInside, AreSplit, HaveMoved, HavePassed};
-ghost use Rattle.block_bytes.specs.Layout.{BlockAt, address_behind, image_of, total_of};
+ghost use Rattle.block_bytes.specs.Layout.{BlockAt, address_after, image_of, total_of};
 ghost use Rattle.block_bytes.specs.Structure.{AreWritten, HasOwn, OwnBetween, is_master};
 
 use crate::blocks::Blocks;
@@ -54,7 +54,7 @@ impl Blocks {
         has_at(bytes, start, own)
     }
 
-    /// The offset behind the block at an offset, if the block's own bytes are in their place among as many bytes as the
+    /// The offset after the block at an offset, if the block's own bytes are in their place among as many bytes as the
     /// zone has. Where a walk is at its end already, it stays there.
     #[inline(always)]
     fn pass(&self, heads: HeadKind, at: usize, end: usize, bytes: &[u8]) -> Option<usize>
@@ -102,7 +102,7 @@ impl Blocks {
 
     /// The offset of the block that has the byte at an offset; of the first block where none has it.
     fn block_start(&self, offset: u32) -> usize
-        requires { self.now.base + offset ≤ address_behind self.now self.now.blocks }
+        requires { self.now.base + offset ≤ address_after self.now self.now.blocks }
         ensures { SplitAt self.now (self.now.base + result) }
     {
         let base = self.spec.base();

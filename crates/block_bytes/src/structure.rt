@@ -34,7 +34,7 @@ impl Blocks {
     pub fn compare_from(&self, bytes: &[u8], from: u32) -> Compared
         requires whole { length bytes.now ≡ length (image_of self.now) }
         requires split { SplitAt self.now from }
-        ensures { (s : SplitAt self.now from) → Compares self.now bytes.now (from - self.now.base) s.behind result }
+        ensures { (s : SplitAt self.now from) → Compares self.now bytes.now (from - self.now.base) s.after result }
     {
         self.compare_until(bytes, from, self.end())
     }
@@ -44,7 +44,7 @@ impl Blocks {
     pub fn compare_until(&self, bytes: &[u8], from: u32, end: u32) -> Compared
         requires whole { length bytes.now ≡ length (image_of self.now) }
         requires split { SplitAt self.now from }
-        ensures { (s : SplitAt self.now from) → Compares self.now bytes.now (from - self.now.base) (begun_before self.now.heads from end s.behind) result }
+        ensures { (s : SplitAt self.now from) → Compares self.now bytes.now (from - self.now.base) (begun_before self.now.heads from end s.after) result }
     {
         let base = self.spec.base();
         let heads = self.spec.heads();

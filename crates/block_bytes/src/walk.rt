@@ -8,7 +8,7 @@ use byteorder::{BigEndian, ByteOrder};
 use mac_base::block::HeadKind;
 use mac_base::size::ZONE_HEADER;
 
-/// Whether bytes are those of a zone: the sizes in the block headers, walked from behind the zone's header, are
+/// Whether bytes are those of a zone: the sizes in the block headers, walked from after the zone's header, are
 /// multiples of four and no smaller than the smallest block, and the last block ends where the bytes do.
 pub fn check(heads: HeadKind, image: &[u8]) -> bool
     ensures { IsTrue result ↔ Walks heads image.now }

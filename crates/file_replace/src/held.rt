@@ -1,4 +1,4 @@
-//! Files that are replaced where they stand, and files that are written anew.
+//! Files that are replaced where they are, and files that are written anew.
 
 ghost use Rattle.std.specs.Prelude.{◌≡◌, ◌≢◌, ◌↔◌, [], ◌∷◌, ◌++◌, is_ok, IfOk, IfErr, IsTrue, OnOk};
 ghost use Rattle.std.specs.Path.{path_buf_bytes};

@@ -37,7 +37,7 @@ fn is_link(rt: &HostRuntime, path: &PathBuf) -> io::Result<bool> {
 }
 
 /// The path that a link names.
-fn behind_link(rt: &HostRuntime, path: &PathBuf) -> io::Result<PathBuf> {
+fn after_link(rt: &HostRuntime, path: &PathBuf) -> io::Result<PathBuf> {
     let to = fs::read_link(rt, path)?;
     Ok(folder_of(path).join(rt.alloc(), &to)?)
 }
@@ -49,7 +49,7 @@ pub(crate) fn followed(rt: &HostRuntime, path: &str) -> io::Result<PathBuf> {
         if !is_link(rt, &path)? {
             return Ok(path);
         }
-        path = behind_link(rt, &path)?;
+        path = after_link(rt, &path)?;
     }
     Err(io::ErrorKind::FilesystemLoop.into())
 }

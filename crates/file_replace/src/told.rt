@@ -11,14 +11,14 @@ use std::fmt::{Display, Formatter, Write};
 use std::path::PathBuf;
 use std::{fmt, io};
 
-/// Writes what is told, with these words before and behind it.
+/// Writes what is told, with these words before and after it.
 fn put_between<W: Write, D: Display>(
     f: &mut Formatter<W>,
     before: &str,
     told: &D,
-    behind: &str,
+    following: &str,
 ) -> fmt::Result {
-    write!(f, "{before}{told}{behind}")
+    write!(f, "{before}{told}{following}")
 }
 
 /// Why a file has not been replaced, or not for good. Its text says what failed and why, what there is now, and what to
@@ -58,7 +58,7 @@ pub struct Cut {
     pub left: Option<PathBuf>,
 }
 
-/// What is told before and behind the error that cut a change short.
+/// What is told before and after the error that cut a change short.
 fn words_of_change(reached: Reached) -> (&'static str, &'static str) {
     match reached {
         Reached::Old => (
@@ -88,8 +88,8 @@ impl Cut {
 
     /// What failed, why, and what to do.
     fn put<W: Write>(&self, f: &mut Formatter<W>) -> fmt::Result {
-        let (before, behind) = words_of_change(self.reached);
-        put_between(f, before, &self.error, behind)?;
+        let (before, following) = words_of_change(self.reached);
+        put_between(f, before, &self.error, following)?;
         match &self.left {
             Some(path) => put_between(
                 f,
@@ -113,7 +113,7 @@ pub struct Stop {
     pub left: Option<PathBuf>,
 }
 
-/// What is told before and behind the error of a step.
+/// What is told before and after the error of a step.
 fn words_of_step(step: Step) -> (&'static str, &'static str) {
     match step {
         Step::Create => (
@@ -135,8 +135,8 @@ fn words_of_step(step: Step) -> (&'static str, &'static str) {
 impl Stop {
     /// What failed, why, and what to do.
     fn put<W: Write>(&self, f: &mut Formatter<W>) -> fmt::Result {
-        let (before, behind) = words_of_step(self.step);
-        put_between(f, before, &self.error, behind)?;
+        let (before, following) = words_of_step(self.step);
+        put_between(f, before, &self.error, following)?;
         match &self.left {
             Some(path) => put_between(f, "; ", &path.as_str(), " was left, and can be removed"),
             None => Ok(()),

@@ -19,7 +19,7 @@ use Rattle.fork_answer.specs.Salvaged.{each_once, found_of_type, found_grouped, 
 abbrev itself : List ℕ → List ℕ
 itself kind = kind
 
--- a type that stands among others, or last
+-- a type that is among others, or last
 same_kind : (kind : List ℕ) → bytes_eq kind kind ≡ true
 same_kind kind = (bytes_eq-Decides kind kind).1 refl
 

@@ -21,7 +21,7 @@ use Rattle.fork_salvage.specs.Laws.{name_shown}
 abbrev pub place_text : ℕ → List ℕ
 place_text place = 36 ∷ padded_integral (format_spec 32 0 4 6 (2 ^ 64 - 1)) false [] (digits 16 true place)
 
--- what is missing: how many bytes, where they should stand, and how many are left there
+-- what is missing: how many bytes, where they should be, and how many are left there
 abbrev pub gap_text : Gap → List ℕ
 gap_text gap = decimal gap.wanted ++ (codes " bytes at " ++ (place_text gap.place ++ (codes ", where " ++ (decimal gap.left ++ codes " are left"))))
 

@@ -23,7 +23,7 @@ readable fork = filter_map found_in (items fork)
 abbrev pub kind_of : FoundRow → List ℕ
 kind_of found = found.kind
 
--- the types of a list that aren't among these, each once, where it stands first
+-- the types of a list that aren't among these, each once, where it is first
 abbrev pub each_once : List (List ℕ) → List (List ℕ) → List (List ℕ)
 each_once seen [] = []
 each_once seen (kind ∷ kinds) = if list_any (λ one. bytes_eq one kind) seen then each_once seen kinds else kind ∷ each_once (seen ++ kind ∷ []) kinds

@@ -22,7 +22,7 @@ impl fmt::Display for Place {
     }
 }
 
-/// What is missing: how many bytes, where they should stand, and how many are left there.
+/// What is missing: how many bytes, where they should be, and how many are left there.
 #[derive(Clone, Copy)]
 struct GapText(Gap);
 

@@ -69,7 +69,7 @@ fn copy_name(alloc: Global, fork: &[u8], name: FoundName) -> Result<Option<Name>
     Ok(Name::new(alloc, bytes)?)
 }
 
-/// A resource, with its bytes where they stand in the fork.
+/// A resource, with its bytes where they are in the fork.
 fn row_of<'a>(alloc: Global, fork: &'a [u8], row: &FoundRow) -> Result<Row<'a>, HostFull>
     ensures { IfOk result (λ found. found ≡ row_of fork.now row.now) }
 {
@@ -83,7 +83,7 @@ fn row_of<'a>(alloc: Global, fork: &'a [u8], row: &FoundRow) -> Result<Row<'a>, 
     })
 }
 
-/// Resources, with their bytes where they stand in the fork.
+/// Resources, with their bytes where they are in the fork.
 fn rows_of<'a>(alloc: Global, fork: &'a [u8], rows: &[FoundRow]) -> Result<Vec<Row<'a>>, HostFull>
     ensures { IfOk result (λ found. found.items ≡ map (row_of fork.now) rows.now) }
 {

@@ -30,7 +30,7 @@ pub enum Warning {
         first: usize,
         second: usize,
     },
-    /// So many bytes, from a place on, stand between those of resources and belong to none.
+    /// So many bytes, from a place on, are between those of resources and belong to none.
     OfNone {
         pool: Pool,
         place: usize,
@@ -93,7 +93,7 @@ impl fmt::Display for Warning {
     }
 }
 
-/// Bytes that a resource has: where they begin and end, and where its reference stands.
+/// Bytes that a resource has: where they begin and end, and where its reference is.
 type Extent = (usize, usize, usize);
 
 /// The bytes of a name with its length, if there is one within the map.

@@ -89,7 +89,7 @@ types_at_run rows i j within run =
         let at = said_at (λ (r : Resource _). types_of (drop i rows) ≡ record { kind = r.kind; count = j - i } ∷ types_of (drop j rows)) rows i row within run in
         ap (λ (types : List TypeCount). length types) at ∙ omega arith
 
--- types are of four bytes from a place on, where the row's there is and those behind its run are
+-- types are of four bytes from a place on, where the row's there is and those after its run are
 pub four_at_run : {X : Type 0} (rows : List (Resource X)) (i j : ℕ) (d : Resource X) → i < length rows →
     IfSome (slice_get rows i) (λ row. types_of (drop i rows) ≡ record { kind = row.kind; count = j - i } ∷ types_of (drop j rows)) →
     length (get_or rows i d).kind ≡ 4 → AreFour (types_of (drop j rows)) → AreFour (types_of (drop i rows))

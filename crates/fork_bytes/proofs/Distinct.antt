@@ -1,4 +1,4 @@
--- A set that is made of a list has as many elements exactly where none stands twice.
+-- A set that is made of a list has as many elements exactly where none is twice.
 use Rattle.std.proofs.Common.{◌≡◌, ◌≢◌, ℕ, List, length, true, nat_eq, BTreeSet, AllPairs, ◌↔◌, subst, sym, ◌∙◌}
 use Rattle.std.specs.Bool.{Decides}
 use Rattle.std.specs.BTreeSet.{IsFromIterResult, btree_set_len}

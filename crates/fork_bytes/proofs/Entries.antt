@@ -12,7 +12,7 @@ use Rattle.fork_bytes.proofs.Counted.{said_at}
 count_less_one : (n : ℕ) → 0 < n → n ≤ 65535 → (n + 65535) % 65536 ≡ n - 1
 count_less_one n some few = omega arith
 
--- the entry of the rows from one place to another, and the entries behind it
+-- the entry of the rows from one place to another, and the entries after it
 pub entry_step : {X : Type 0} (rows : List (Resource X)) (i j first : ℕ) (d : Resource X) → i < length rows → i < j → j ≤ length rows → length rows ≤ 65535 →
     IfSome (slice_get rows i) (λ row. types_of (drop i rows) ≡ record { kind = row.kind; count = j - i } ∷ types_of (drop j rows)) →
     entries_text (first + 12 * i) (types_of (drop i rows))
@@ -30,7 +30,7 @@ entry_step rows i j first d within some end few run =
     ∙ ap (λ (xs : List ℕ). kind ++ xs) (sym (append_assoc a b rest))
     ∙ sym (append_assoc kind (a ++ b) rest)
 
--- how many bytes stand in the data for a row
+-- how many bytes are in the data for a row
 pub datum_long : (row : Row) → length (datum row) ≡ 4 + length row.datum
 datum_long row = length-append (big_bytes 4 (length row.datum)) row.datum ∙ ap (λ (n : ℕ). n + length row.datum) (length-big_bytes 4 (length row.datum))
 

@@ -38,7 +38,7 @@ extra_is table long =
     ap (take 240) (append_assoc table.extra (data_text table.rows ++ map_text table) (replicate 240 0))
     ∙ take_at table.extra ((data_text table.rows ++ map_text table) ++ replicate 240 0) 240 long
 
--- how many bytes stand before the data
+-- how many bytes are before the data
 pub length-front : (table : Table) → length table.extra ≡ 240 → length (front_text table) ≡ 256
 length-front table long = length-append (header_text (header_for table.rows)) table.extra ∙ omega arith
 
@@ -74,7 +74,7 @@ length-map table is =
     let start = length-front table is.extra in
     let whole = is.whole in omega arith
 
--- the map's attributes, and where its lists stand
+-- the map's attributes, and where its lists are
 pub attributes_are : (table : Table) → table.map_attributes < 65536 → attributes_of (map_text table) ≡ table.map_attributes
 attributes_are table low = big_number-reads_back 2 table.map_attributes (drop 24 (map_text table)) low
 

@@ -39,7 +39,7 @@ pub length-written : (table : Table) → AreFour (types_of table.rows) →
 length-written table four =
     let rows = table.rows in
     let whole = length-append (front_text table) (data_text rows ++ map_text table) in
-    let behind = length-append (data_text rows) (map_text table) in
+    let after = length-append (data_text rows) (map_text table) in
     let front = length-append (header_text (header_for rows)) table.extra in
     let header : length (header_text (header_for rows)) ≡ 16 = refl in
     let start = map_header_text (header_for rows) table.map_attributes (names_offset rows) in

@@ -36,7 +36,7 @@ pub references_start : (resource_map : List ℕ) (list : TypeList) → IsTypeLis
     references_rest resource_map (list.count - 0) (list.offset + 2 + 0) ≡ references_of resource_map
 references_start resource_map list is = ap (flat_map references_in) (entries_start resource_map list is)
 
--- the next entry, and those behind it
+-- the next entry, and those after it
 pub entries_step : (resource_map : List ℕ) (count i at : ℕ) → i < count →
     entries_rest resource_map (count - i) (at + 8 * i) ≡ entry_at resource_map (at + 8 * i) ∷ entries_rest resource_map (count - (i + 1)) (at + 8 * (i + 1))
 entries_step resource_map count i at within = ap (map (entry_at resource_map)) (places_step count i (at + 8 * i) (at + 8 * (i + 1)) 8 within (omega arith))
@@ -46,7 +46,7 @@ pub references_step : (resource_map : List ℕ) (count i at : ℕ) → i < count
     ≡ references_in (entry_at resource_map (at + 8 * i)) ++ references_rest resource_map (count - (i + 1)) (at + 8 * (i + 1))
 references_step resource_map count i at within = ap (flat_map references_in) (entries_step resource_map count i at within)
 
--- behind the last there is none
+-- after the last there is none
 pub entries_end : (resource_map : List ℕ) (count i at : ℕ) → count ≤ i → entries_rest resource_map (count - i) at ≡ []
 entries_end resource_map count i at past = ap (map (entry_at resource_map)) (places_end count i at 8 past)
 
@@ -164,7 +164,7 @@ ends_in_entry entry end told = by_count entry.count told
     by_count zero told = tt
     by_count (suc count) told = all_end entry.kind (suc count) entry.start end (told (omega arith))
 
--- a map whose type list lies within it has its types exactly where none stands twice
+-- a map whose type list lies within it has its types exactly where none is twice
 pub types_by_kinds : (resource_map : List ℕ) (list : TypeList) → IsTypeList resource_map list →
     AllPairs (λ (a b : List ℕ). a ≢ b) (kinds_of resource_map) ↔ HasTypes resource_map
 types_by_kinds resource_map list is =

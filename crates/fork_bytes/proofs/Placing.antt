@@ -13,7 +13,7 @@ use Rattle.fork_bytes.specs.Rows.{Row, MapRow}
 use Rattle.fork_bytes.specs.Fork.{number_at, bytes_at, header_of, data_of, datum_length, row_with, HasData, HasFewBytesWithin}
 use Rattle.fork_bytes.specs.Reading.{PlacedRow, placed, placed_row, row_at, HasDatum, IsWithin, AreFewBytesWithin}
 
--- the bytes from an offset in a part on are those of the whole from behind both offsets
+-- the bytes from an offset in a part on are those of the whole from after both offsets
 part_from : (n m at start : ℕ) (bytes : List ℕ) → at ≤ m → drop at (bytes_at m start bytes) ≡ take (m - at) (drop (start + at) bytes)
 part_from n m at start bytes within =
     let split : m ≡ at + (m - at) = omega arith in
@@ -117,24 +117,24 @@ few_from_rows limits resource_data rows has few = let P : ℕ → Type 0 = λ n.
 pub few_to_rows : (limits : Limits) (resource_data : List ℕ) (rows : List MapRow) → HasData resource_data rows → HasFewBytesWithin limits resource_data rows → FewInRows limits (map (row_with resource_data) rows)
 few_to_rows limits resource_data rows has few = let P : ℕ → Type 0 = λ n. n ≤ limits.bytes in subst P (sym (sum_of_rows resource_data rows has)) few
 
--- bytes with zeros behind them, up to 240
-pub extra_is : (behind front : List ℕ) (count : ℕ) → count ≡ min (length behind) 240 → front ≡ take count behind →
-    front ++ drop count (replicate 240 0) ≡ take 240 (behind ++ replicate 240 0)
-extra_is behind front count is same =
-    ap (λ (xs : List ℕ). xs ++ drop count (replicate 240 0)) same ∙ by_case (cases_lt 240 (length behind))
+-- bytes with zeros after them, up to 240
+pub extra_is : (after front : List ℕ) (count : ℕ) → count ≡ min (length after) 240 → front ≡ take count after →
+    front ++ drop count (replicate 240 0) ≡ take 240 (after ++ replicate 240 0)
+extra_is after front count is same =
+    ap (λ (xs : List ℕ). xs ++ drop count (replicate 240 0)) same ∙ by_case (cases_lt 240 (length after))
   where
-    by_case : (240 < length behind) ⊎ (length behind ≤ 240) → take count behind ++ drop count (replicate 240 0) ≡ take 240 (behind ++ replicate 240 0)
+    by_case : (240 < length after) ⊎ (length after ≤ 240) → take count after ++ drop count (replicate 240 0) ≡ take 240 (after ++ replicate 240 0)
     by_case (inl long) =
         let n : count ≡ 240 = omega arith in
-        ap (λ (k : ℕ). take k behind ++ drop k (replicate 240 0)) n ∙ append-nil (take 240 behind) ∙ sym (take-append-le 240 behind (replicate 240 0) (omega arith))
+        ap (λ (k : ℕ). take k after ++ drop k (replicate 240 0)) n ∙ append-nil (take 240 after) ∙ sym (take-append-le 240 after (replicate 240 0) (omega arith))
     by_case (inr short) =
-        let left = ap (λ (xs : List ℕ). xs ++ drop count (replicate 240 0)) (take_all count behind (omega arith)) in
-        let zeros = take-replicate (240 - length behind) 240 0 (omega arith) in
+        let left = ap (λ (xs : List ℕ). xs ++ drop count (replicate 240 0)) (take_all count after (omega arith)) in
+        let zeros = take-replicate (240 - length after) 240 0 (omega arith) in
         let rest = drop-replicate count 240 0 in
-        let m : 240 - count ≡ 240 - length behind = omega arith in
-        let split : length behind + (240 - length behind) ≡ 240 = omega arith in
-        left ∙ ap (λ (xs : List ℕ). behind ++ xs) (rest ∙ ap (λ (k : ℕ). replicate k 0) m ∙ sym zeros)
-        ∙ sym (take-append-add behind (replicate 240 0) (240 - length behind)) ∙ ap (λ (k : ℕ). take k (behind ++ replicate 240 0)) split
+        let m : 240 - count ≡ 240 - length after = omega arith in
+        let split : length after + (240 - length after) ≡ 240 = omega arith in
+        left ∙ ap (λ (xs : List ℕ). after ++ xs) (rest ∙ ap (λ (k : ℕ). replicate k 0) m ∙ sym zeros)
+        ∙ sym (take-append-add after (replicate 240 0) (240 - length after)) ∙ ap (λ (k : ℕ). take k (after ++ replicate 240 0)) split
 
 -- a row has no datum where the length of its bytes ends outside the data
 pub length_outside : (fork : List ℕ) (header : Header) (row : MapRow) → header ≡ header_of fork → HasWholeData fork header → (row.datum + 4 ≤ header.data_length → ⊥) →

@@ -115,13 +115,13 @@ pub plain_long : {X : Type 0} (text : X → List ℕ) (rows : List (Resource X))
 plain_long text rows i row within is =
     ap (λ (xs : List ℕ). length xs) (plain_step text rows i row within is) ∙ length-data (plain_row text row) (plain_rows text (drop (i + 1) rows))
 
--- the reference of a row, and those behind it
+-- the reference of a row, and those after it
 pub reference_step : {X : Type 0} (text : X → List ℕ) (rows : List (Resource X)) (i name place next_name next_place : ℕ) (row : Resource X) → i < length rows → row ≡ get_or rows i row →
     next_name ≡ name + length (name_text row.name) → next_place ≡ place + (4 + length (text row.datum)) →
     references_text name place (plain_rows text (drop i rows))
     ≡ reference_text name place (plain_row text row) ++ references_text next_name next_place (plain_rows text (drop (i + 1) rows))
-reference_step text rows i name place next_name next_place row within is name_behind place_behind =
+reference_step text rows i name place next_name next_place row within is name_after place_after =
     let rest = plain_rows text (drop (i + 1) rows) in let plain = plain_row text row in
     ap (λ (others : List (Resource _)). references_text name place (plain_rows text others)) (drop_item rows i row within is)
-    ∙ ap (λ (n : ℕ). reference_text name place plain ++ references_text n (place + length (datum plain)) rest) (sym name_behind)
-    ∙ ap (λ (n : ℕ). reference_text name place plain ++ references_text next_name n rest) (ap (λ (n : ℕ). place + n) (datum_long plain) ∙ sym place_behind)
+    ∙ ap (λ (n : ℕ). reference_text name place plain ++ references_text n (place + length (datum plain)) rest) (sym name_after)
+    ∙ ap (λ (n : ℕ). reference_text name place plain ++ references_text next_name n rest) (ap (λ (n : ℕ). place + n) (datum_long plain) ∙ sym place_after)

@@ -107,7 +107,7 @@ entries_read limits table w =
 pub references_read : (limits : Limits) (table : Table) → IsWritten limits table → references_of (map_text table) ≡ references_for (28 + first_references table.rows) table.rows
 references_read limits table w = ap (flat_map references_in) (entries_read limits table w) ∙ references_are (first_references table.rows) table.rows
 
--- the references and the names stand in the map
+-- the references and the names are in the map
 all_stand : (limits : Limits) (table : Table) → IsWritten limits table →
     AllStand (map_text table) (map_header_text (header_for table.rows) table.map_attributes (names_offset table.rows) ++ types_text table.rows) (names_text table.rows)
     ((map_header_text (header_for table.rows) table.map_attributes (names_offset table.rows) ++ types_text table.rows) ++ references_text 0 0 table.rows) []
@@ -120,7 +120,7 @@ all_stand limits table w =
     let types_long = length-append (count_bytes (length types)) (entries_text (first_references rows) types) in
     let before = length-append header list in
     let each = length-references 0 0 rows in
-    let behind_references = length-append (header ++ list) references in
+    let after_references = length-append (header ++ list) references in
     let header_long : length header ≡ 28 = refl in
     let two : length (count_bytes (length types)) ≡ 2 = refl in
     let whole = w.parts.whole in let small = w.parts.small in
@@ -136,7 +136,7 @@ all_stand limits table w =
       few = omega arith;
     }
 
--- the data stand alone
+-- the data are alone
 data_alone : (rows : List Row) → data_text rows ≡ [] ++ (data_text rows ++ [])
 data_alone rows = sym (append-nil (data_text rows))
 

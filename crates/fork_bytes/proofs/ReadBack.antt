@@ -17,10 +17,10 @@ bytes_in n at before piece rest long short = ap (take n) (drop_at before (piece 
 pub byte_in : (at x : ℕ) (before rest : List ℕ) → length before ≡ at → slice_index (before ++ x ∷ rest) at ≡ x
 byte_in at x before rest long = get_or_at before x rest 0 at long
 
--- a piece belongs to what stands before the next
-pub behind : (whole before piece rest : List ℕ) → whole ≡ before ++ (piece ++ rest) → whole ≡ (before ++ piece) ++ rest
-behind whole before piece rest is = rw (append_assoc before piece rest) is
+-- a piece belongs to what is before the next
+pub after : (whole before piece rest : List ℕ) → whole ≡ before ++ (piece ++ rest) → whole ≡ (before ++ piece) ++ rest
+after whole before piece rest is = rw (append_assoc before piece rest) is
 
--- where the next piece stands
-pub length-behind : (at n : ℕ) (before piece : List ℕ) → length before ≡ at → length piece ≡ n → length (before ++ piece) ≡ at + n
-length-behind at n before piece long short = length-append before piece ∙ omega arith
+-- where the next piece is
+pub length-after : (at n : ℕ) (before piece : List ℕ) → length before ≡ at → length piece ≡ n → length (before ++ piece) ≡ at + n
+length-after at n before piece long short = length-append before piece ∙ omega arith

@@ -9,9 +9,9 @@ use Rattle.fork_bytes.specs.Rows.{Row}
 use Rattle.fork_bytes.specs.Fork.{TypeEntry, Reference, places, entry_at, references_in, number_at, bytes_at, type_list}
 use Rattle.fork_bytes.specs.Written.{types_of, counted_before, count_bytes, entries_text}
 use Rattle.fork_bytes.proofs.Lengths.{AreFour}
-use Rattle.fork_bytes.proofs.ReadBack.{number_in, bytes_in, behind, length-behind}
+use Rattle.fork_bytes.proofs.ReadBack.{number_in, bytes_in, after, length-after}
 
--- the entries of types, where the references of the first stand so far behind the start of the type list
+-- the entries of types, where the references of the first are so far after the start of the type list
 abbrev pub entries_for : ℕ → List TypeCount → List TypeEntry
 entries_for at [] = []
 entries_for at (first ∷ others) = record { kind = first.kind; count = first.count; start = 28 + at } ∷ entries_for (at + 12 * first.count) others
@@ -48,14 +48,14 @@ entry_is : (resource_map before rest : List ℕ) (at place : ℕ) (first : TypeC
     length first.kind ≡ 4 → first.count < 65536 → at < 65536 → entry_at resource_map place ≡ entry_with first.kind first.count (28 + at)
 entry_is resource_map before rest at place first is long start four few low =
     let kind = first.kind in let count = count_bytes first.count in
-    let behind_kind = behind resource_map before kind (count ++ (big_bytes 2 at ++ rest)) is in
-    let behind_count = behind resource_map (before ++ kind) count (big_bytes 2 at ++ rest) behind_kind in
-    let long_kind = length-behind place 4 before kind long four in
-    let long_count = length-behind (place + 4) 2 (before ++ kind) count long_kind refl in
+    let after_kind = after resource_map before kind (count ++ (big_bytes 2 at ++ rest)) is in
+    let after_count = after resource_map (before ++ kind) count (big_bytes 2 at ++ rest) after_kind in
+    let long_kind = length-after place 4 before kind long four in
+    let long_count = length-after (place + 4) 2 (before ++ kind) count long_kind refl in
     let less_one : number_at 2 (place + 4) resource_map ≡ (first.count + 65535) % 65536 =
-    ap (number_at 2 (place + 4)) behind_kind ∙ number_in 2 ((first.count + 65535) % 65536) (place + 4) (before ++ kind) (big_bytes 2 at ++ rest) long_kind (omega arith) in
+    ap (number_at 2 (place + 4)) after_kind ∙ number_in 2 ((first.count + 65535) % 65536) (place + 4) (before ++ kind) (big_bytes 2 at ++ rest) long_kind (omega arith) in
     let offset : number_at 2 (place + 6) resource_map ≡ at =
-    ap (number_at 2 (place + 6)) behind_count ∙ number_in 2 at (place + 6) ((before ++ kind) ++ count) rest (omega arith) low in
+    ap (number_at 2 (place + 6)) after_count ∙ number_in 2 at (place + 6) ((before ++ kind) ++ count) rest (omega arith) low in
     same_entry _ _ _ _ _ _
     (ap (bytes_at 4 place) is ∙ bytes_in 4 place before kind (count ++ (big_bytes 2 at ++ rest)) long four)
     (ap (λ (x : ℕ). (x + 1) % 65536) less_one ∙ omega arith)
@@ -72,14 +72,14 @@ entries_are resource_map before rest at place (first ∷ others) is long start f
     let split : resource_map ≡ before ++ (kind ++ (count ++ (offset ++ (next ++ rest)))) =
     is ∙ ap (λ (xs : List ℕ). before ++ xs) (append_assoc kind (count ++ (offset ++ next)) rest) in
     let one = entry_is resource_map before (next ++ rest) at place first split long start four.0 (omega arith) (omega arith) in
-    let behind_kind = behind resource_map before kind (count ++ (offset ++ (next ++ rest))) split in
-    let behind_entry = behind resource_map (before ++ kind) (count ++ offset) (next ++ rest) behind_kind in
-    let long_entry = length-behind (place + 4) 4 (before ++ kind) (count ++ offset) (length-behind place 4 before kind long four.0) refl in
-    let all = entries_are resource_map ((before ++ kind) ++ (count ++ offset)) rest (at + 12 * first.count) (place + 8) others behind_entry (omega arith) start four.1 (omega arith) in
+    let after_kind = after resource_map before kind (count ++ (offset ++ (next ++ rest))) split in
+    let after_entry = after resource_map (before ++ kind) (count ++ offset) (next ++ rest) after_kind in
+    let long_entry = length-after (place + 4) 4 (before ++ kind) (count ++ offset) (length-after place 4 before kind long four.0) refl in
+    let all = entries_are resource_map ((before ++ kind) ++ (count ++ offset)) rest (at + 12 * first.count) (place + 8) others after_entry (omega arith) start four.1 (omega arith) in
     ap (λ (e : TypeEntry). e ∷ map (entry_at resource_map) (places (length others) (place + 8) 8)) one
     ∙ ap (λ (es : List TypeEntry). entry_with kind first.count (28 + at) ∷ es) all
 
--- the references of rows, where the first stands at this place
+-- the references of rows, where the first is at this place
 abbrev pub references_for : ℕ → List Row → List Reference
 references_for at [] = []
 references_for at (row ∷ rows) = record { kind = row.kind; place = at } ∷ references_for (at + 12) rows
@@ -101,11 +101,11 @@ one_more kind at (first ∷ others) = by_case (bytes_eq kind first.kind) refl
         let alike = (bytes_eq-Decides kind first.kind).0 is in
         let more : 1 + first.count ≡ suc first.count = omega arith in
         let next : 28 + at + 12 ≡ 28 + (at + 12) = omega arith in
-        let behind_all : at + 12 * (1 + first.count) ≡ at + 12 + 12 * first.count = omega arith in
+        let after_all : at + 12 * (1 + first.count) ≡ at + 12 + 12 * first.count = omega arith in
         let head : Reference = record { kind = kind; place = 28 + at } in
         let rest : ℕ → List Reference = λ n. flat_map references_in (entries_for n others) in
         ap (λ (n : ℕ). references_at kind n (28 + at) ++ rest (at + 12 * (1 + first.count))) more
-        ∙ ap (λ (n : ℕ). head ∷ (references_at kind first.count (28 + at + 12) ++ rest n)) behind_all
+        ∙ ap (λ (n : ℕ). head ∷ (references_at kind first.count (28 + at + 12) ++ rest n)) after_all
         ∙ ap (λ (n : ℕ). head ∷ (references_at kind first.count n ++ rest (at + 12 + 12 * first.count))) next
         ∙ ap (λ (k : List ℕ). head ∷ (references_at k first.count (28 + (at + 12)) ++ rest (at + 12 + 12 * first.count))) alike
     by_case false is = refl

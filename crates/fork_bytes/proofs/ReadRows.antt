@@ -12,7 +12,7 @@ use Rattle.fork_bytes.specs.Fork.{Reference, number_at, bytes_at, name_list, nam
 use Rattle.fork_bytes.specs.Written.{datum, data_text, name_text, names_text, name_offset, reference_text, references_text, NamesFit}
 use Rattle.fork_bytes.specs.Laws.{IsRow}
 use Rattle.fork_bytes.proofs.Steps.{length-data}
-use Rattle.fork_bytes.proofs.ReadBack.{number_in, bytes_in, byte_in, behind, length-behind}
+use Rattle.fork_bytes.proofs.ReadBack.{number_in, bytes_in, byte_in, after, length-after}
 use Rattle.fork_bytes.proofs.ReadEntries.{references_for}
 use Rattle.fork_bytes.proofs.ReadData.{row_at, rows_for}
 
@@ -30,15 +30,15 @@ name_is resource_map early late next base (Some bytes) is long start low =
     let place : name_list resource_map + next ≡ base + next = omega arith in
     let size : slice_index resource_map (base + next) ≡ length bytes =
     ap (λ (xs : List ℕ). slice_index xs (base + next)) is ∙ byte_in (base + next) (length bytes) early (bytes ++ late) long in
-    let behind_size = behind resource_map early (length bytes ∷ []) (bytes ++ late) is in
+    let after_size = after resource_map early (length bytes ∷ []) (bytes ++ late) is in
     let told : List ℕ → Option (List ℕ) = λ found. Some found in
     ap (λ (b : Bool). name_at resource_map (if b then None else Some (name_list resource_map + next))) some
     ∙ ap (λ (n : ℕ). name_at resource_map (Some n)) place
     ∙ ap (λ (n : ℕ). told (bytes_at n (base + next + 1) resource_map)) size
-    ∙ ap (λ (xs : List ℕ). told (bytes_at (length bytes) (base + next + 1) xs)) behind_size
-    ∙ ap told (bytes_in (length bytes) (base + next + 1) (early ++ (length bytes ∷ [])) bytes late (length-behind (base + next) 1 early (length bytes ∷ []) long refl) refl)
+    ∙ ap (λ (xs : List ℕ). told (bytes_at (length bytes) (base + next + 1) xs)) after_size
+    ∙ ap told (bytes_in (length bytes) (base + next + 1) (early ++ (length bytes ∷ [])) bytes late (length-after (base + next) 1 early (length bytes ∷ []) long refl) refl)
 
--- where it stands, the name lies within the map
+-- where it is, the name lies within the map
 abbrev IsWithin : List ℕ → ℕ → Type 0
 IsWithin resource_map offset =
     IfSome (if offset == 65535 then None else Some (name_list resource_map + offset)) (λ at. at + 1 + slice_index resource_map at ≤ length resource_map)
@@ -82,7 +82,7 @@ offset_low : (next : ℕ) (name : Option (List ℕ)) → IfSome name (λ _. next
 offset_low next None low = omega arith
 offset_low next (Some bytes) low = omega arith
 
--- what stands in the map for a row, and what is known of the row
+-- what is in the map for a row, and what is known of the row
 pub record Stands (resource_map before rest early late : List ℕ) (at next place base : ℕ) (row : Row) : Type 0 where
   pub is : resource_map ≡ before ++ (reference_text next place row ++ rest)
   pub long : length before ≡ at
@@ -98,8 +98,8 @@ offset_is : (resource_map before rest early late : List ℕ) (at next place base
     number_at 2 (at + 2) resource_map ≡ name_offset next row.name
 offset_is resource_map before rest early late at next place base row s =
     let id = big_bytes 2 (cast_unsigned w16 row.id) in let whole = reference_text next place row ++ rest in
-    ap (number_at 2 (at + 2)) (behind resource_map before id (drop 2 whole) s.is)
-    ∙ number_in 2 (name_offset next row.name) (at + 2) (before ++ id) (drop 4 whole) (length-behind at 2 before id s.long refl) (offset_low next row.name s.low)
+    ap (number_at 2 (at + 2)) (after resource_map before id (drop 2 whole) s.is)
+    ∙ number_in 2 (name_offset next row.name) (at + 2) (before ++ id) (drop 4 whole) (length-after at 2 before id s.long refl) (offset_low next row.name s.low)
 
 -- one row
 row_is : (resource_map before rest early late : List ℕ) (at next place base : ℕ) (row : Row) → Stands resource_map before rest early late at next place base row →
@@ -107,18 +107,18 @@ row_is : (resource_map before rest early late : List ℕ) (at next place base : 
 row_is resource_map before rest early late at next place base row s =
     let whole = reference_text next place row ++ rest in
     let id = big_bytes 2 (cast_unsigned w16 row.id) in let name = big_bytes 2 (name_offset next row.name) in let flags = row.attributes.0 ∷ [] in
-    let behind_id = behind resource_map before id (drop 2 whole) s.is in
-    let behind_name = behind resource_map (before ++ id) name (drop 4 whole) behind_id in
-    let behind_flags = behind resource_map ((before ++ id) ++ name) flags (drop 5 whole) behind_name in
-    let long_id = length-behind at 2 before id s.long refl in
-    let long_name = length-behind (at + 2) 2 (before ++ id) name long_id refl in
-    let long_flags = length-behind (at + 4) 1 ((before ++ id) ++ name) flags (omega arith) refl in
+    let after_id = after resource_map before id (drop 2 whole) s.is in
+    let after_name = after resource_map (before ++ id) name (drop 4 whole) after_id in
+    let after_flags = after resource_map ((before ++ id) ++ name) flags (drop 5 whole) after_name in
+    let long_id = length-after at 2 before id s.long refl in
+    let long_name = length-after (at + 2) 2 (before ++ id) name long_id refl in
+    let long_flags = length-after (at + 4) 1 ((before ++ id) ++ name) flags (omega arith) refl in
     let unsigned : cast_unsigned w16 row.id < 65536 = unsigned_low row.id s.id in
     same_row row.kind _ _ _ _ _ _ _ _
     (ap (cast_signed w16) (ap (number_at 2 at) s.is ∙ number_in 2 (cast_unsigned w16 row.id) at before (drop 2 whole) s.long unsigned) ∙ to_z-of_z w16 row.id s.id)
     (ap (name_told resource_map) (offset_is resource_map before rest early late at next place base row s) ∙ name_is resource_map early late next base row.name s.names s.long_names s.start s.low)
-    (ap (λ (xs : List ℕ). slice_index xs (at + 4)) behind_name ∙ byte_in (at + 4) row.attributes.0 ((before ++ id) ++ name) (drop 5 whole) (omega arith))
-    (ap (number_at 3 (at + 5)) behind_flags ∙ number_in 3 place (at + 5) (((before ++ id) ++ name) ++ flags) (drop 8 whole) (omega arith) (omega arith))
+    (ap (λ (xs : List ℕ). slice_index xs (at + 4)) after_name ∙ byte_in (at + 4) row.attributes.0 ((before ++ id) ++ name) (drop 5 whole) (omega arith))
+    (ap (number_at 3 (at + 5)) after_flags ∙ number_in 3 place (at + 5) (((before ++ id) ++ name) ++ flags) (drop 8 whole) (omega arith) (omega arith))
 
 -- the first reference, and those of the others
 references_split : (resource_map before rest : List ℕ) (next place : ℕ) (row : Row) (rows : List Row) → resource_map ≡ before ++ (references_text next place (row ∷ rows) ++ rest) →
@@ -131,7 +131,7 @@ names_split : (resource_map early late : List ℕ) (row : Row) (rows : List Row)
     resource_map ≡ early ++ (name_text row.name ++ (names_text rows ++ late))
 names_split resource_map early late row rows is = is ∙ ap (λ (xs : List ℕ). early ++ xs) (append_assoc (name_text row.name) (names_text rows) late)
 
--- what stands in the map for rows, and what is known of them
+-- what is in the map for rows, and what is known of them
 pub record AllStand (resource_map before rest early late : List ℕ) (at next place base : ℕ) (rows : List Row) : Type 0 where
   pub is : resource_map ≡ before ++ (references_text next place rows ++ rest)
   pub long : length before ≡ at
@@ -167,11 +167,11 @@ others_stand resource_map before rest early late at next place base row rows s =
     let text = reference_text next place row in
     let rest_text = references_text (next + length (name_text row.name)) (place + length (datum row)) rows in
     let whole = length-append (datum row) (data_text rows) in let few = s.few in
-    let long_name = length-behind (base + next) (length (name_text row.name)) early (name_text row.name) s.long_names refl in
+    let long_name = length-after (base + next) (length (name_text row.name)) early (name_text row.name) s.long_names refl in
     record {
-      is = behind resource_map before text (rest_text ++ rest) (references_split resource_map before rest next place row rows s.is);
-      long = length-behind at 12 before text s.long refl;
-      names = behind resource_map early (name_text row.name) (names_text rows ++ late) (names_split resource_map early late row rows s.names);
+      is = after resource_map before text (rest_text ++ rest) (references_split resource_map before rest next place row rows s.is);
+      long = length-after at 12 before text s.long refl;
+      names = after resource_map early (name_text row.name) (names_text rows ++ late) (names_split resource_map early late row rows s.names);
       long_names = omega arith;
       start = s.start;
       each = s.each.1;

@@ -14,8 +14,8 @@ use Rattle.fork_bytes.specs.Laws.{IsRow, AreBytes, IsReadWholeWithin}
 use Rattle.fork_bytes.proofs.Grouped.{read_grouped}
 
 -- parts of bytes are bytes
-bytes_behind : (n : ℕ) (bytes : List ℕ) → AreBytes bytes → AreBytes (drop n bytes)
-bytes_behind n bytes low k = let is = get_or-drop n bytes k 0 in let byte = low (n + k) in omega arith
+bytes_after : (n : ℕ) (bytes : List ℕ) → AreBytes bytes → AreBytes (drop n bytes)
+bytes_after n bytes low k = let is = get_or-drop n bytes k 0 in let byte = low (n + k) in omega arith
 
 bytes_before : (n : ℕ) (bytes : List ℕ) → AreBytes bytes → AreBytes (take n bytes)
 bytes_before n bytes low k = ⊎_elim inside outside (cases_lt k n)
@@ -30,7 +30,7 @@ bytes_before n bytes low k = ⊎_elim inside outside (cases_lt k n)
 
 -- a number of two bytes
 two_low : (at : ℕ) (bytes : List ℕ) → AreBytes bytes → number_at 2 at bytes < 65536
-two_low at bytes low = big_from-lt 0 2 (drop at bytes) (bytes_behind at bytes low)
+two_low at bytes low = big_from-lt 0 2 (drop at bytes) (bytes_after at bytes low)
 
 -- an id
 id_fits : (n : ℕ) → n < 65536 → FitsSigned w16 (cast_signed w16 n)
@@ -48,7 +48,7 @@ four_entered : (resource_map : List ℕ) (count place : ℕ) → place + 8 * cou
     AllByRecursion (λ (e : TypeEntry). length e.kind ≡ 4) (map (entry_at resource_map) (places count place 8))
 four_entered resource_map zero place within = tt
 four_entered resource_map (suc count) place within =
-    let behind = length-drop place resource_map in
+    let after = length-drop place resource_map in
     (length-take-le 4 (drop place resource_map) (omega arith), four_entered resource_map count (place + 8) (omega arith))
 
 -- so have those of references
@@ -87,7 +87,7 @@ extra_long fork =
 pub read_whole : (limits : Limits) → IsReadWholeWithin limits
 read_whole limits fork table low stands =
     let resource_map = map_of fork in let parts = data_of fork in
-    let map_low = bytes_before _ _ (bytes_behind _ fork low) in
+    let map_low = bytes_before _ _ (bytes_after _ fork low) in
     let types = stands.0.holds Types in
     let rows = rows_whole parts resource_map (references_of resource_map) map_low (four_in_all (entries_of resource_map) (four_entered resource_map (type_count resource_map) (type_list resource_map + 2) types.entries)) in
     record {

@@ -1,8 +1,8 @@
--- The names of a map stand among its first bytes.
+-- The names of a map are among its first bytes.
 use Rattle.std.proofs.Common.{◌≡◌, ap, ◌∙◌, arith, ℕ, ◌+◌, ◌-◌, ◌≤◌, List, length, take, drop}
 use Rattle.std.proofs.lemmas.List.{drop-take, take-take, length-take}
 
--- a part of a list stands among the first elements where it ends before the others
+-- a part of a list is among the first elements where it ends before the others
 pub part_of_first : {X : Type 0} (n at m : ℕ) (xs : List X) → at + n ≤ m → take n (drop at (take m xs)) ≡ take n (drop at xs)
 part_of_first {X} n at m xs within =
     let e : m ≡ at + (m - at) = omega arith in

@@ -13,7 +13,7 @@ use Rattle.fork_bytes.specs.Sizes.{data_size}
 pub drop_item : {X : Type 0} (xs : List X) (i : ℕ) (x : X) → i < length xs → x ≡ get_or xs i x → drop i xs ≡ x ∷ drop (i + 1) xs
 drop_item xs i x within is = drop_more xs i x within ∙ ap (λ (y : _). y ∷ drop (i + 1) xs) (sym is)
 
--- what is said of an element, and of those behind it
+-- what is said of an element, and of those after it
 pub each_step : {X : Type 0} (P : X → Type 0) (xs : List X) (i : ℕ) (x : X) → i < length xs → x ≡ get_or xs i x → P x → AllByRecursion P (drop (i + 1) xs) → AllByRecursion P (drop i xs)
 each_step P xs i x within is one others = subst (AllByRecursion P) (sym (drop_item xs i x within is)) (one, others)
 
@@ -21,7 +21,7 @@ each_step P xs i x within is one others = subst (AllByRecursion P) (sym (drop_it
 pub length-big_bytes : (n x : ℕ) → length (big_bytes n x) ≡ n
 length-big_bytes = length-bytes_high_first
 
--- the data of a row and those behind it
+-- the data of a row and those after it
 pub length-data : (row : Row) (rows : List Row) → length (data_text (row ∷ rows)) ≡ 4 + length row.datum + length (data_text rows)
 length-data row rows =
     let whole = length-append (datum row) (data_text rows) in
@@ -41,7 +41,7 @@ size_step long rows i row within is = ap (data_size long) (drop_item rows i row 
 pub size_end : {X : Type 0} (long : X → ℕ) (rows : List (Resource X)) (i : ℕ) → length rows ≤ i → data_size long (drop i rows) ≡ 0
 size_end long rows i past = ap (data_size long) (drop_all i rows past)
 
--- the names of a row and those behind it
+-- the names of a row and those after it
 pub length-names : {X : Type 0} (row : Resource X) (rows : List (Resource X)) → length (names_text (row ∷ rows)) ≡ length (name_text row.name) + length (names_text rows)
 length-names row rows = length-append (name_text row.name) (names_text rows)
 
@@ -62,11 +62,11 @@ no_name (Some other) at is = absurd (cc is)
 -- the offsets of names fit from a row on where its own does, and those of the others
 pub fit_step : {X : Type 0} (rows : List (Resource X)) (i at next : ℕ) (row : Resource X) → i < length rows → row ≡ get_or rows i row → IfSome row.name (λ _. at ≤ 65534) → next ≡ at + length (name_text row.name) →
     NamesFit at (drop i rows) ↔ NamesFit next (drop (i + 1) rows)
-fit_step rows i at next row within is low behind =
+fit_step rows i at next row within is low after =
     let item = drop_item rows i row within is in
     let P : ℕ → Type 0 = λ n. NamesFit n (drop (i + 1) rows) in
     let Q : List (Resource _) → Type 0 = NamesFit at in
-    (λ fit. subst P (sym behind) (subst Q item fit).1, λ fit. subst Q (sym item) (low, subst P behind fit))
+    (λ fit. subst P (sym after) (subst Q item fit).1, λ fit. subst Q (sym item) (low, subst P after fit))
 
 -- they don't fit where a name's offset is too large
 pub fit_not : {X : Type 0} (rows : List (Resource X)) (i at : ℕ) (row : Resource X) (name : List ℕ) → i < length rows → row ≡ get_or rows i row → row.name ≡ Some name → 65534 < at → ¬ NamesFit at (drop i rows)
@@ -75,7 +75,7 @@ fit_not rows i at row name within is named high fit =
     let R : Option (List ℕ) → Type 0 = λ found. IfSome found (λ _. at ≤ 65534) in
     let low = subst R named (subst Q (drop_item rows i row within is) fit).0 in omega arith
 
--- what a function makes of an element, and of those behind it
+-- what a function makes of an element, and of those after it
 pub flat_step : {X : Type 0} (f : X → List ℕ) (xs : List X) (i : ℕ) (x : X) → i < length xs → x ≡ get_or xs i x → flat_map f (drop i xs) ≡ f x ++ flat_map f (drop (i + 1) xs)
 flat_step f xs i x within is = ap (flat_map f) (drop_item xs i x within is)
 

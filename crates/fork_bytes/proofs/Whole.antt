@@ -16,15 +16,15 @@ rows_of_table limits fork is = rows_are_at fork (is.holds Parts).whole_data (map
 -- a table by its parts
 pub table_is : (fork : List ℕ) (rows : List Row) (extra : List ℕ) (attributes : ℕ) → rows ≡ (table_of fork).rows → extra ≡ extra_of fork → attributes ≡ attributes_of (map_of fork) →
     (let made : Table = record { rows = rows; extra = extra; map_attributes = attributes } in made) ≡ table_of fork
-table_is fork rows extra attributes same behind marks =
+table_is fork rows extra attributes same after marks =
     ap (λ (r : List Row). record { rows = r; extra = extra; map_attributes = attributes }) same
-    ∙ ap (λ (e : List ℕ). record { rows = (table_of fork).rows; extra = e; map_attributes = attributes }) behind
+    ∙ ap (λ (e : List ℕ). record { rows = (table_of fork).rows; extra = e; map_attributes = attributes }) after
     ∙ ap (λ (n : ℕ). record { rows = (table_of fork).rows; extra = extra_of fork; map_attributes = n }) marks
 
 -- the parts of a table that stand for the fork
 pub stands : (limits : Limits) (fork : List ℕ) (rows : List Row) (extra : List ℕ) (attributes : ℕ) → IsForkWithin limits fork → rows ≡ map (row_at fork) (placed_rows fork) →
     extra ≡ extra_of fork → attributes ≡ attributes_of (map_of fork) → StandsForWithin limits fork (record { rows = rows; extra = extra; map_attributes = attributes })
-stands limits fork rows extra attributes is same behind marks = (is, table_is fork rows extra attributes (same ∙ sym (rows_of_table limits fork is)) behind marks)
+stands limits fork rows extra attributes is same after marks = (is, table_is fork rows extra attributes (same ∙ sym (rows_of_table limits fork is)) after marks)
 
 -- what a header that was read says of the fork
 pub parts_of_fork : (limits : Limits) (fork : List ℕ) (header : Header) → header ≡ header_of fork → HasPartsWithin limits (length fork) header → HasPartsWithin limits (length fork) (header_of fork)

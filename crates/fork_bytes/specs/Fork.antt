@@ -40,7 +40,7 @@ data_of fork = bytes_at (header_of fork).data_length (header_of fork).data_offse
 abbrev pub map_of : List ℕ → List ℕ
 map_of fork = bytes_at (header_of fork).map_length (header_of fork).map_offset fork
 
--- the map's attributes, and where the type list and the name list stand in the map
+-- the map's attributes, and where the type list and the name list are in the map
 abbrev pub attributes_of : List ℕ → ℕ
 attributes_of resource_map = number_at 2 22 resource_map
 
@@ -54,12 +54,12 @@ name_list resource_map = number_at 2 26 resource_map
 abbrev pub type_count : List ℕ → ℕ
 type_count resource_map = count_at (type_list resource_map) resource_map
 
--- so many places, each at this distance behind the one before
+-- so many places, each at this distance after the one before
 abbrev pub places : ℕ → ℕ → ℕ → List ℕ
 places zero at distance = []
 places (suc count) at distance = at ∷ places count (at + distance) distance
 
--- an entry of the type list: a type, how many references it has, and where in the map they stand
+-- an entry of the type list: a type, how many references it has, and where in the map they are
 pub record TypeEntry : Type 0 where
   pub kind : List ℕ
   pub count : ℕ
@@ -77,7 +77,7 @@ entry_at resource_map at = record {
 abbrev pub entries_of : List ℕ → List TypeEntry
 entries_of resource_map = map (entry_at resource_map) (places (type_count resource_map) (type_list resource_map + 2) 8)
 
--- a reference: its type, and where in the map it stands
+-- a reference: its type, and where in the map it is
 pub record Reference : Type 0 where
   pub kind : List ℕ
   pub place : ℕ
@@ -90,7 +90,7 @@ references_in entry = map (λ at. record { kind = entry.kind; place = at }) (pla
 abbrev pub references_of : List ℕ → List Reference
 references_of resource_map = flat_map references_in (entries_of resource_map)
 
--- where in the map a reference's name stands, unless it has none
+-- where in the map a reference's name is, unless it has none
 abbrev pub name_place : List ℕ → ℕ → Option ℕ
 name_place resource_map at = let offset = number_at 2 (at + 2) resource_map in
     if offset == 65535 then None else Some (name_list resource_map + offset)
@@ -114,11 +114,11 @@ map_row resource_map reference = let at = reference.place in record {
 abbrev pub map_rows : List ℕ → List MapRow
 map_rows resource_map = map (map_row resource_map) (references_of resource_map)
 
--- how many bytes the resource has whose datum stands at an offset of the data
+-- how many bytes the resource has whose datum is at an offset of the data
 abbrev pub datum_length : List ℕ → ℕ → ℕ
 datum_length resource_data datum = number_at 4 datum resource_data
 
--- a row of the map with its bytes, which stand behind their length
+-- a row of the map with its bytes, which are after their length
 abbrev pub row_with : List ℕ → MapRow → Row
 row_with resource_data row = record {
   kind = row.kind;
@@ -128,7 +128,7 @@ row_with resource_data row = record {
   datum = bytes_at (datum_length resource_data row.datum) (row.datum + 4) resource_data;
 }
 
--- the 240 bytes behind the header; those past the end are zero
+-- the 240 bytes after the header; those past the end are zero
 abbrev pub extra_of : List ℕ → List ℕ
 extra_of fork = take 240 (drop 16 fork ++ replicate 240 0)
 
@@ -163,7 +163,7 @@ pub record HasPartsWithin (limits : Limits) (fork_length : ℕ) (header : Header
   pub whole_map : header.map_offset + header.map_length ≤ fork_length
   pub map_header : 28 ≤ header.map_length
 
--- The type list lies within the map, and no type stands twice.
+-- The type list lies within the map, and no type is twice.
 pub record HasTypes (resource_map : List ℕ) : Type 0 where
   pub count : type_list resource_map + 2 ≤ length resource_map
   pub entries : type_list resource_map + 2 + 8 * type_count resource_map ≤ length resource_map

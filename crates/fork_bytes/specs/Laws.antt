@@ -10,7 +10,7 @@ use Rattle.fork_bytes.specs.Rows.{Row}
 use Rattle.fork_bytes.specs.Fork.{max_fork, macheap_limits, format_limits, StandsFor, StandsForWithin}
 use Rattle.fork_bytes.specs.Written.{types_of, written, Fits, FitsWithin, IsSmallWithin}
 
--- rows of one type stand together
+-- rows of one type are together
 abbrev pub IsGrouped : List Row → Type 0
 IsGrouped rows = AllPairs (λ (a b : TypeCount). a.kind ≢ b.kind) (types_of rows)
 
@@ -45,7 +45,7 @@ StandsForOne = (fork : List ℕ) (a b : Table) → StandsFor fork a → StandsFo
 abbrev pub AreBytes : List ℕ → Type 0
 AreBytes bytes = (k : ℕ) → slice_index bytes k < 256
 
--- the rows of one type stand together in what bytes stand for
+-- the rows of one type are together in what bytes stand for
 abbrev pub IsReadGroupedWithin : Limits → Type 0
 IsReadGroupedWithin limits = (fork : List ℕ) (table : Table) → StandsForWithin limits fork table → IsGrouped table.rows
 

@@ -13,7 +13,7 @@ use Rattle.fork_bytes.specs.declared.place.Place.{Place}
 use Rattle.fork_bytes.specs.declared.types.TypeList.{TypeList}
 use Rattle.fork_bytes.specs.declared.types.TypeEntry as found
 
--- all bytes of a map's names stand before this place
+-- all bytes of a map's names are before this place
 abbrev pub names_end : ℕ
 names_end = 131326
 
@@ -21,7 +21,7 @@ names_end = 131326
 abbrev pub PlacedRow : Type 0
 PlacedRow = Resource Place
 
--- a row of the map with the place of its bytes, of which there are so many: they stand behind their length in the data
+-- a row of the map with the place of its bytes, of which there are so many: they are after their length in the data
 abbrev pub placed : Header → ℕ → MapRow → PlacedRow
 placed header count row = record {
   kind = row.kind;

@@ -6,6 +6,6 @@ use Rattle.mac_base.specs.declared.resource.Resource.{Resource}
 abbrev pub Row : Type 0
 Row = Resource (List ℕ)
 
--- a resource as the map lists it: the datum is where its data stand
+-- a resource as the map lists it: the datum is where its data are
 abbrev pub MapRow : Type 0
 MapRow = Resource ℕ

@@ -18,7 +18,7 @@ counted_before kind count (first ∷ others) =
     if bytes_eq kind first.kind then record { kind = kind; count = count + first.count } ∷ others
     else record { kind = kind; count = count } ∷ first ∷ others
 
--- the types in the order of their first rows, each with how many rows of it stand together
+-- the types in the order of their first rows, each with how many rows of it are together
 abbrev pub types_of : {X : Type 0} → List (Resource X) → List TypeCount
 types_of [] = []
 types_of (row ∷ rows) = counted_before row.kind 1 (types_of rows)
@@ -27,7 +27,7 @@ types_of (row ∷ rows) = counted_before row.kind 1 (types_of rows)
 abbrev pub count_bytes : ℕ → List ℕ
 count_bytes n = big_bytes 2 ((n + 65535) % 65536)
 
--- what stands in the data for a row: four bytes of length, and its bytes
+-- what is in the data for a row: four bytes of length, and its bytes
 abbrev pub datum : Row → List ℕ
 datum row = big_bytes 4 (length row.datum) ++ row.datum
 
@@ -35,7 +35,7 @@ datum row = big_bytes 4 (length row.datum) ++ row.datum
 abbrev pub data_text : List Row → List ℕ
 data_text rows = flat_map datum rows
 
--- what stands in the name list for a name: a byte of length, and its bytes
+-- what is in the name list for a name: a byte of length, and its bytes
 abbrev pub name_text : Option (List ℕ) → List ℕ
 name_text None = []
 name_text (Some name) = length name ∷ name
@@ -44,17 +44,17 @@ name_text (Some name) = length name ∷ name
 abbrev pub names_text : {X : Type 0} → List (Resource X) → List ℕ
 names_text rows = flat_map (λ row. name_text row.name) rows
 
--- the entries of these types, where the references of the first stand so far behind the start of the type list
+-- the entries of these types, where the references of the first are so far after the start of the type list
 abbrev pub entries_text : ℕ → List TypeCount → List ℕ
 entries_text at [] = []
 entries_text at (first ∷ others) = first.kind ++ (count_bytes first.count ++ (big_bytes 2 at ++ entries_text (at + 12 * first.count) others))
 
--- the offset of a name in the name list, where the next one stands at this offset; $FFFF for none
+-- the offset of a name in the name list, where the next one is at this offset; $FFFF for none
 abbrev pub name_offset : ℕ → Option (List ℕ) → ℕ
 name_offset at None = 65535
 name_offset at (Some name) = at
 
--- the reference of a row, where the next name and the next datum stand at these offsets
+-- the reference of a row, where the next name and the next datum are at these offsets
 abbrev pub reference_text : ℕ → ℕ → Row → List ℕ
 reference_text name datum row =
     big_bytes 2 (cast_unsigned w16 row.id) ++ (big_bytes 2 (name_offset name row.name) ++ (row.attributes.0 ∷ (big_bytes 3 datum ++ big_bytes 4 0)))
@@ -65,15 +65,15 @@ references_text next_name next_datum [] = []
 references_text next_name next_datum (row ∷ rows) =
     reference_text next_name next_datum row ++ references_text (next_name + length (name_text row.name)) (next_datum + length (datum row)) rows
 
--- where the references of the first type stand, from the start of the type list
+-- where the references of the first type are, from the start of the type list
 abbrev pub first_references : {X : Type 0} → List (Resource X) → ℕ
 first_references rows = 2 + 8 * length (types_of rows)
 
--- where the name list stands in the map
+-- where the name list is in the map
 abbrev pub names_offset : {X : Type 0} → List (Resource X) → ℕ
 names_offset rows = 28 + first_references rows + 12 * length rows
 
--- the header, which stands at the fork's start and at the map's
+-- the header, which is at the fork's start and at the map's
 abbrev pub header_for : List Row → Header
 header_for rows = record {
   data_offset = 256;
@@ -86,7 +86,7 @@ abbrev pub header_text : Header → List ℕ
 header_text h = big_bytes 4 h.data_offset ++ (big_bytes 4 h.map_offset ++ (big_bytes 4 h.data_length ++ big_bytes 4 h.map_length))
 
 -- the first bytes of the map: the fork's header again, zeros for the next map and the file reference, the map
--- attributes, and where the type list and the name list stand
+-- attributes, and where the type list and the name list are
 abbrev pub map_header_text : Header → ℕ → ℕ → List ℕ
 map_header_text header attributes names =
     header_text header ++ (big_bytes 4 0 ++ (big_bytes 2 0 ++ (big_bytes 2 attributes ++ (big_bytes 2 28 ++ big_bytes 2 names))))
@@ -100,7 +100,7 @@ abbrev pub map_text : Table → List ℕ
 map_text table = map_header_text (header_for table.rows) table.map_attributes (names_offset table.rows)
     ++ (types_text table.rows ++ (references_text 0 0 table.rows ++ names_text table.rows))
 
--- what stands before the data: the header and the extra bytes
+-- what is before the data: the header and the extra bytes
 abbrev pub front_text : Table → List ℕ
 front_text table = header_text (header_for table.rows) ++ table.extra
 
@@ -108,7 +108,7 @@ front_text table = header_text (header_for table.rows) ++ table.extra
 abbrev pub written : Table → List ℕ
 written table = front_text table ++ (data_text table.rows ++ map_text table)
 
--- two bytes hold the offset of each name, where the first stands at this one ($FFFF says that there is none)
+-- two bytes hold the offset of each name, where the first is at this one ($FFFF says that there is none)
 abbrev pub NamesFit : {X : Type 0} → ℕ → List (Resource X) → Type 0
 NamesFit at [] = Unit {0}
 NamesFit at (row ∷ rows) = IfSome row.name (λ _. at ≤ 65534) × NamesFit (at + length (name_text row.name)) rows

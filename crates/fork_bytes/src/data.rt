@@ -1,4 +1,4 @@
-//! Where in the data the bytes of the rows stand.
+//! Where in the data the bytes of the rows are.
 
 ghost use Rattle.std.specs.Prelude.{◌≡◌, ◌<◌, ◌≤◌, ◌+◌, ◌^◌, IfOk, IfErr, OnOk, OnErr};
 ghost use Rattle.fork_bytes.specs.Reading.{placed, AreFewBytesWithin};
@@ -8,7 +8,7 @@ use crate::layout::{Header, Limits, MapRow};
 use crate::place::{Place, PlacedRow};
 use mac_base::resource::Resource;
 
-/// Where in the fork the four bytes stand that say how many bytes a row has. The fault is BadMap(Places), exactly where
+/// Where in the fork the four bytes are that say how many bytes a row has. The fault is BadMap(Places), exactly where
 /// they end outside the data.
 pub fn length_place(header: Header, row: &MapRow) -> Result<u32, ForkFault>
     requires { header.data_offset + header.data_length < 2 ^ 32 }

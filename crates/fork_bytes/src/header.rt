@@ -1,4 +1,4 @@
-//! What stands before the data and the map.
+//! What is before the data and the map.
 
 ghost use Rattle.std.specs.Prelude.{◌≡◌, ◌<◌, ◌≤◌, ◌++◌, ◌↔◌, length, take, replicate, IfOk, IfErr, OnOk, OnErr, true};
 ghost use Rattle.fork_bytes.specs.Fork.{header_of, HasPartsWithin};
@@ -13,10 +13,10 @@ pub const HEADER_LENGTH: usize = 16;
 /// The fewest bytes that a map has.
 const MAP_HEADER_LENGTH: u32 = 28;
 
-/// How many bytes stand behind the header for the system and for the application.
+/// How many bytes are after the header for the system and for the application.
 const EXTRA_LENGTH: usize = 240;
 
-/// The header of a fork, which stands in its first 16 bytes. The fault is EndOfFile exactly where there are fewer.
+/// The header of a fork, which is in its first 16 bytes. The fault is EndOfFile exactly where there are fewer.
 pub fn read_header(fork: &[u8]) -> Result<Header, ForkFault>
     ensures header { IfOk result (λ header. header ≡ header_of fork.now) }
     ensures whole { OnOk result (16 ≤ length fork.now) }
@@ -59,12 +59,12 @@ pub fn check_parts(header: Header, fork_length: usize, limits: Limits) -> Result
     }
 }
 
-/// The 240 extra bytes of a fork, of which these stand behind its header: those that are missing are zero.
-pub fn extra_bytes(behind: &[u8]) -> [u8; 240]
-    ensures { result ≡ take 240 (behind.now ++ replicate 240 0) }
+/// The 240 extra bytes of a fork, of which these are after its header: those that are missing are zero.
+pub fn extra_bytes(after: &[u8]) -> [u8; 240]
+    ensures { result ≡ take 240 (after.now ++ replicate 240 0) }
 {
     let mut extra = [0; EXTRA_LENGTH];
-    let count = behind.len().min(EXTRA_LENGTH);
-    extra[..count].copy_from_slice(&behind[..count]);
+    let count = after.len().min(EXTRA_LENGTH);
+    extra[..count].copy_from_slice(&after[..count]);
     extra
 }

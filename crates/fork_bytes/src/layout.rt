@@ -36,7 +36,7 @@ impl Limits {
     };
 }
 
-/// The header of a fork: where its data and its map stand, and how many bytes each has.
+/// The header of a fork: where its data and its map are, and how many bytes each has.
 #[derive(Clone, Copy)]
 pub struct Header {
     pub data_offset: u32,
@@ -45,11 +45,11 @@ pub struct Header {
     pub map_length: u32,
 }
 
-/// A resource as the map lists it. The datum is where the four bytes of length stand, from the start of the data; the
+/// A resource as the map lists it. The datum is where the four bytes of length are, from the start of the data; the
 /// resource's bytes follow them.
 pub type MapRow = Resource<u32>;
 
-/// An entry of the type list: a type, and how many resources of it stand in a row.
+/// An entry of the type list: a type, and how many resources of it are in a row.
 #[derive(Clone, Copy)]
 pub struct TypeCount {
     pub kind: ResType,

@@ -14,11 +14,11 @@ use std::sync::ArcSlice;
 /// The offset that says that there is no name.
 const NO_NAME: u16 = 0xFFFF;
 
-/// The first place of a map at which no byte of a name stands: two numbers of two bytes say where a name begins, and it
+/// The first place of a map at which no byte of a name is: two numbers of two bytes say where a name begins, and it
 /// has one byte of length and at most 255 others.
 const NAMES_END: usize = 2 * 0xFFFF + 256;
 
-/// Where in the map the name of the reference at a place stands, unless it has none.
+/// Where in the map the name of the reference at a place is, unless it has none.
 fn find_name(map: &[u8], at: usize) -> Option<usize>
     requires map { 28 ≤ length map.now }
     requires within { at + 12 ≤ length map.now }
@@ -32,7 +32,7 @@ fn find_name(map: &[u8], at: usize) -> Option<usize>
     Some(read_two(map, 26) as usize + offset as usize)
 }
 
-/// How many bytes the name has that stands at a place of the map, or None where it ends outside the map.
+/// How many bytes the name has that is at a place of the map, or None where it ends outside the map.
 fn name_length(map: &[u8], start: usize) -> Option<u8>
     requires { start ≤ 131070 }
     ensures count { IfSome result (λ count. count ≡ slice_index map.now start) }
@@ -47,14 +47,14 @@ fn name_length(map: &[u8], start: usize) -> Option<u8>
     }
 }
 
-/// The bytes of a map in which its names stand, to be shared by them. The only error is that the host has no memory.
+/// The bytes of a map in which its names are, to be shared by them. The only error is that the host has no memory.
 pub(crate) fn share_names(alloc: Global, map: &[u8]) -> Result<ArcSlice<u8>, AllocError>
     ensures { IfOk result (λ shared. arc_slice_items shared ≡ take names_end map.now) }
 {
     ArcSlice::from_slice(alloc, &map[..NAMES_END.min(map.len())])
 }
 
-/// The name of the reference at a place of the map, if it has one: a part of the bytes in which the map's names stand.
+/// The name of the reference at a place of the map, if it has one: a part of the bytes in which the map's names are.
 /// The fault is BadMap(Names) where the name ends outside the map.
 pub(crate) fn read_name(
     map: &[u8],

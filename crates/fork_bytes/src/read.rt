@@ -137,7 +137,7 @@ fn table_of<'a>(fork: &'a [u8], header: Header, rows: Vec<Row<'a>>) -> Table<'a>
     }
 }
 
-/// The table that the bytes of a fork stand for, within these limits. Its rows have their bytes where they stand in the
+/// The table that the bytes of a fork stand for, within these limits. Its rows have their bytes where they are in the
 /// fork, and no copies of them. The fault is EndOfFile exactly where there are fewer than 16 bytes, and else BadMap of
 /// the first condition that doesn't hold, or HostFull.
 pub fn read_fork_within<'a>(

@@ -18,10 +18,10 @@ const MAX_NAME_OFFSET: usize = 65534;
 /// The largest offset of a list in the map.
 const MAX_OFFSET: usize = 65535;
 
-/// Where the data stand in a fork that is written: behind the header and the extra bytes.
+/// Where the data are in a fork that is written: after the header and the extra bytes.
 const DATA_OFFSET: u32 = 256;
 
-/// Where the rows end that have the type of the row at `start` and stand together with it.
+/// Where the rows end that have the type of the row at `start` and are together with it.
 pub(crate) fn run_end<D>(rows: &[Resource<D>], start: usize) -> usize
     requires { start < length rows.now }
     ensures some { start < result }
@@ -37,7 +37,7 @@ pub(crate) fn run_end<D>(rows: &[Resource<D>], start: usize) -> usize
     end
 }
 
-/// How many types the rows have, where those of one type stand together.
+/// How many types the rows have, where those of one type are together.
 pub(crate) fn type_count<D>(rows: &[Resource<D>]) -> usize
     ensures types { result ≡ length (types_of rows.now) }
     ensures few { result ≤ length rows.now }

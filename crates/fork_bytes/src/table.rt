@@ -5,7 +5,7 @@ ghost use Rattle.std.specs.Prelude.{◌≡◌};
 use mac_base::resource::Resource;
 use std::marker::Model;
 
-/// The bytes of a resource where they stand: in a fork that was read, or in what a fork is to be written of. A contract
+/// The bytes of a resource where they are: in a fork that was read, or in what a fork is to be written of. A contract
 /// sees the list.
 #[derive(Drop)]
 pub struct Contents<'a> {
@@ -80,7 +80,7 @@ impl<'a> Rows<'a> {
 /// What a resource fork holds (Inside Macintosh: More Macintosh Toolbox, chapter 1).
 #[derive(Drop)]
 pub struct Table<'a> {
-    /// The resources. Those of one type stand together.
+    /// The resources. Those of one type are together.
     pub rows: Rows<'a>,
     /// The 112 bytes for the system and the 128 for the application.
     pub extra: [u8; 240],

@@ -21,14 +21,14 @@ const ENTRY_LENGTH: usize = 8;
 /// How many bytes a reference has.
 pub(crate) const REFERENCE_LENGTH: usize = 12;
 
-/// The type list of a map: where its count stands, and how many entries follow it.
+/// The type list of a map: where its count is, and how many entries follow it.
 #[derive(Clone, Copy)]
 pub(crate) struct TypeList {
     pub(crate) offset: usize,
     pub(crate) count: usize,
 }
 
-/// An entry of the type list: a type, how many references it has, and where in the map they stand.
+/// An entry of the type list: a type, how many references it has, and where in the map they are.
 #[derive(Clone, Copy)]
 pub(crate) struct TypeEntry {
     pub(crate) kind: ResType,
@@ -103,14 +103,14 @@ fn set_of(alloc: Global, kinds: &[[u8; 4]]) -> Result<BTreeSet<[u8; 4]>, AllocEr
     kinds.iter().copied().collect(alloc)
 }
 
-/// Whether no type stands twice.
+/// Whether no type is twice.
 fn are_distinct(alloc: Global, kinds: &[[u8; 4]]) -> Result<bool, HostFull>
     ensures { IfOk result (λ yes. (yes ≡ true) ↔ AllPairs (λ (a b : List ℕ). a ≢ b) kinds.now) }
 {
     Ok(set_of(alloc, kinds)?.len() == kinds.len())
 }
 
-/// Whether no type of the list stands twice.
+/// Whether no type of the list is twice.
 fn has_distinct_types(alloc: Global, map: &[u8], list: TypeList) -> Result<bool, HostFull>
     requires { IsTypeList map.now list }
     ensures { IfOk result (λ yes. (yes ≡ true) ↔ HasTypes map.now) }
@@ -119,7 +119,7 @@ fn has_distinct_types(alloc: Global, map: &[u8], list: TypeList) -> Result<bool,
     are_distinct(alloc, &kinds)
 }
 
-/// The type list of a map. The fault is BadMap(Types) where it ends outside the map, or a type stands twice in it.
+/// The type list of a map. The fault is BadMap(Types) where it ends outside the map, or a type is twice in it.
 pub(crate) fn read_types(alloc: Global, map: &[u8]) -> Result<TypeList, ForkFault>
     requires { 28 ≤ length map.now }
     ensures list { IfOk result (IsTypeList map.now) }

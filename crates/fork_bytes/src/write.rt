@@ -94,7 +94,7 @@ fn push_names<D>(fork: &mut Vec<u8>, rows: &[Resource<D>]) -> Result<(), HostFul
     Ok(())
 }
 
-/// Adds the reference of a row, whose name and datum stand at these offsets.
+/// Adds the reference of a row, whose name and datum are at these offsets.
 fn push_reference<D>(
     fork: &mut Vec<u8>,
     row: &Resource<D>,
@@ -112,7 +112,7 @@ fn push_reference<D>(
     Ok(())
 }
 
-/// The offset of a name where the next one stands at this offset: $FFFF says that there is none.
+/// The offset of a name where the next one is at this offset: $FFFF says that there is none.
 fn name_offset(next: usize, name: &Option<Name>) -> u16
     requires { IfSome name.now (λ _. next ≤ 65534) }
     ensures { result ≡ name_offset next name.now }
@@ -150,7 +150,7 @@ fn push_references<D: Datum>(fork: &mut Vec<u8>, rows: &[Resource<D>]) -> Result
     Ok(())
 }
 
-/// Adds an entry of the type list: a type, how many rows it has, less one, and where its references stand.
+/// Adds an entry of the type list: a type, how many rows it has, less one, and where its references are.
 fn push_entry(fork: &mut Vec<u8>, kind: ResType, less_one: u16, at: u16) -> Result<(), HostFull>
     ensures { OnOk result (fork.new.items
         ≡ fork.old.items ++ (kind ++ (big_bytes 2 less_one ++ big_bytes 2 at))) }
@@ -161,7 +161,7 @@ fn push_entry(fork: &mut Vec<u8>, kind: ResType, less_one: u16, at: u16) -> Resu
     Ok(())
 }
 
-/// Adds the entries of the type list, where the references of the first type stand at this offset.
+/// Adds the entries of the type list, where the references of the first type are at this offset.
 fn push_entries<D>(fork: &mut Vec<u8>, rows: &[Resource<D>], first: usize) -> Result<(), HostFull>
     requires low { first + 12 * length rows.now ≤ 65535 }
     ensures { OnOk result (fork.new.items ≡ fork.old.items ++ entries_text first (types_of rows.now)) }
@@ -301,7 +301,7 @@ pub fn write_rows<D: Datum>(
 
 /// The bytes of the fork of a table: the header, the extra bytes, the data of the rows without gaps, and the map, whose
 /// lists follow each other in the order of the rows (Inside Macintosh: More Macintosh Toolbox, chapter 1, "Resource
-/// File Format"). Where the rows of each type stand together, the bytes stand for the table: they are read as it. The
+/// File Format"). Where the rows of each type are together, the bytes stand for the table: they are read as it. The
 /// fault is TooBig exactly where the fork would have more bytes than the limits allow, or the table has more rows, or
 /// its rows more bytes with four of length for each, or an offset in the map is too large for its two bytes.
 pub fn write_fork_within(

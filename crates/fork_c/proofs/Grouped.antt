@@ -1,4 +1,4 @@
--- Rows of one type that stand together.
+-- Rows of one type that are together.
 use Rattle.std.proofs.Common.{◌≡◌, ◌≢◌, ℕ, ◌+◌, Bool, true, false, not, ◌||◌, ◌&&◌, ◌⊎◌, ◌<◌, inl, inr, List, [], ◌∷◌, length, get_or, arith, refl, sym, subst, ap, ◌∙◌, bytes_eq, if◌then◌else◌}
 use Rattle.std.specs.List.{list_any}
 use Rattle.std.proofs.lemmas.Bool.Decides.{not_from_Decides}
@@ -43,7 +43,7 @@ none_counted kind (row ∷ rows) none = by_case (bytes_eq row.kind kind) refl no
     by_case true is none apart = absurd (cc none)
     by_case false is none apart = apart_more kind row.kind (types_of rows) (λ same. not_from_Decides (bytes_eq row.kind kind) (bytes_eq-Decides row.kind kind) is (sym same)) (apart none)
 
--- a row that may stand before others: none of their types is its own, or the first is
+-- a row that may be before others: none of their types is its own, or the first is
 may_join : (kind : List ℕ) (rows : List Row) → may_precede kind rows ≡ true → Apart counted kind (types_of rows) ⊎ BeginsWith kind (types_of rows)
 may_join kind [] may = inl tt
 may_join kind (first ∷ others) may = by_case (bytes_eq first.kind kind) refl (list_any (λ (row : Row). bytes_eq row.kind kind) others) refl may
@@ -63,7 +63,7 @@ distinct_more kind (first ∷ others) distinct joins = by_case (bytes_eq kind fi
     by_case true is = (subst (λ (k : List ℕ). Apart counted k others) (sym ((bytes_eq-Decides kind first.kind).0 is)) distinct.0, distinct.1)
     by_case false is = elim joins [ inl apart ↦ (apart, distinct) | inr same ↦ absurd (not_from_Decides (bytes_eq kind first.kind) (bytes_eq-Decides kind first.kind) is (sym same)) ]
 
--- the types of rows of which those of one type stand together
+-- the types of rows of which those of one type are together
 distinct_types : (rows : List Row) → are_grouped rows ≡ true → Distinct counted (types_of rows)
 distinct_types [] grouped = tt
 distinct_types (row ∷ rows) grouped = by_case (may_precede row.kind rows) refl grouped (λ others. distinct_types rows others)
@@ -76,7 +76,7 @@ distinct_types (row ∷ rows) grouped = by_case (may_precede row.kind rows) refl
 pub grouped_rows : (rows : List Row) → are_grouped rows ≡ true → IsGrouped rows
 grouped_rows rows grouped = distinct_at counted (types_of rows) (distinct_types rows grouped)
 
--- what may stand before rows of which the first is of another type
+-- what may be before rows of which the first is of another type
 pub may_precede_others : (kind : List ℕ) (rows : List Row) (first : Row) → 0 < length rows → first ≡ get_or rows 0 first → bytes_eq first.kind kind ≡ false →
     not (list_any (λ (row : Row). bytes_eq row.kind kind) rows) ≡ may_precede kind rows
 may_precede_others kind [] first some is other = absurd (omega arith)

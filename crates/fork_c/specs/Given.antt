@@ -40,17 +40,17 @@ rows_given (row ∷ rows) names contents =
     then option_map (λ (others : List Row). row_given row (take row.name_length names) (take row.data_length contents) ∷ others) (rows_given rows (drop row.name_length names) (drop row.data_length contents))
     else None
 
--- whether a row of this type may stand before these: the first of them has the type, or none has
+-- whether a row of this type may be before these: the first of them has the type, or none has
 abbrev pub may_precede : List ℕ → List Row → Bool
 may_precede kind [] = true
 may_precede kind (first ∷ others) = bytes_eq first.kind kind || not (list_any (λ (row : Row). bytes_eq row.kind kind) others)
 
--- whether rows of one type stand together
+-- whether rows of one type are together
 abbrev pub are_grouped : List Row → Bool
 are_grouped [] = true
 are_grouped (row ∷ rows) = may_precede row.kind rows && are_grouped rows
 
--- the table with these rows, where those of one type stand together
+-- the table with these rows, where those of one type are together
 abbrev pub table_given : MfExtra → Option (List Row) → Option Table
 table_given extra None = None
 table_given extra (Some rows) = if are_grouped rows then Some (record { rows = rows; extra = extra.bytes; map_attributes = extra.map_attributes }) else None

@@ -1,4 +1,4 @@
-//! The table of a fork that C gives: rows as C is shown them, the bytes of their names one behind the other, and those
+//! The table of a fork that C gives: rows as C is shown them, the bytes of their names one after the other, and those
 //! of their data.
 
 ghost use Rattle.std.specs.Prelude.{◌≡◌, ◌≤◌, length, IfOk, bytes_eq};
@@ -35,7 +35,7 @@ pub(crate) fn extra_of(table: &Table) -> MfExtra
 }
 
 /// The table that C gives, or None where it gives none: a name or a datum isn't there, bytes are left over, or rows of
-/// one type stand apart.
+/// one type are apart.
 pub(crate) fn table_given<'a>(
     alloc: Global,
     rows: &[MfRow],
@@ -125,7 +125,7 @@ fn type_given(kind: MfType) -> ResType
     ResType::new([kind.first, kind.second, kind.third, kind.fourth])
 }
 
-/// Whether rows of one type stand together.
+/// Whether rows of one type are together.
 fn are_grouped(rows: &[Row]) -> bool
     ensures { result ≡ are_grouped rows.now }
 {
@@ -137,7 +137,7 @@ fn are_grouped(rows: &[Row]) -> bool
     true
 }
 
-/// Whether a row of this type may stand before these: the first of them has the type, or none has.
+/// Whether a row of this type may be before these: the first of them has the type, or none has.
 fn may_precede(kind: ResType, rows: &[Row]) -> bool
     ensures { result ≡ may_precede kind rows.now }
 {

@@ -30,8 +30,8 @@ pub extern "C" fn mf_written_length(
     }
 }
 
-/// Writes the fork of a table: the rows, the bytes of their names and of their data, one behind the other, and what a
-/// fork has beside them. paramErr where a name or a datum isn't there, bytes are left over, rows of one type stand
+/// Writes the fork of a table: the rows, the bytes of their names and of their data, one after the other, and what a
+/// fork has beside them. paramErr where a name or a datum isn't there, bytes are left over, rows of one type are
 /// apart, or the fork has more bytes or fewer; dskFulErr where the table is too big for a fork.
 #[unsafe(no_mangle)]
 pub extern "C" fn mf_write(

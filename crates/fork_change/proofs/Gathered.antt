@@ -1,4 +1,4 @@
--- The rows of one type stand together: what is known of each row and those after it.
+-- The rows of one type are together: what is known of each row and those after it.
 use Rattle.std.proofs.Common.{◌≡◌, ◌≢◌, ℕ, ◌+◌, Bool, true, false, List, [], ◌∷◌, ◌⊎◌, inl, inr, ⊎_elim, refl, sym, subst, ◌∙◌, bytes_eq, if◌then◌else◌}
 use Rattle.std.proofs.lemmas.Slice.Eq.{bytes_eq-Decides}
 use Rattle.fork_bytes.specs.declared.layout.TypeCount.{TypeCount}
@@ -12,7 +12,7 @@ use Rattle.fork_bytes.proofs.Grouped.{Apart, Distinct, counted, distinct_at, dis
 abbrev pub of_row : Row → List ℕ
 of_row row = row.kind
 
--- before these rows stands one of their first's type, or of none of theirs
+-- before these rows is one of their first's type, or of none of theirs
 abbrev pub Follows : List ℕ → List Row → Type 0
 Follows kind [] = Unit {0}
 Follows kind (first ∷ rest) = (kind ≡ first.kind) ⊎ Apart of_row kind (first ∷ rest)
@@ -30,9 +30,9 @@ apart_before other kind (first ∷ types) differ h = by_case (bytes_eq kind firs
     by_case true = (differ, h.1)
     by_case false = (differ, h)
 
-apart_behind : (other kind : List ℕ) (types : List TypeCount) → Apart counted other (counted_before kind 1 types) → (other ≢ kind) × Apart counted other types
-apart_behind other kind [] h = (h.0, tt)
-apart_behind other kind (first ∷ types) h = by_case (bytes_eq kind first.kind) refl h
+apart_after : (other kind : List ℕ) (types : List TypeCount) → Apart counted other (counted_before kind 1 types) → (other ≢ kind) × Apart counted other types
+apart_after other kind [] h = (h.0, tt)
+apart_after other kind (first ∷ types) h = by_case (bytes_eq kind first.kind) refl h
   where
     by_case : (b : Bool) → bytes_eq kind first.kind ≡ b →
         Apart counted other (if b then record { kind = kind; count = 1 + first.count } ∷ types else record { kind = kind; count = 1 } ∷ first ∷ types) →
@@ -46,7 +46,7 @@ types_apart kind (row ∷ rows) h = apart_before kind row.kind (types_of rows) h
 
 rows_apart : (kind : List ℕ) (rows : List Row) → Apart counted kind (types_of rows) → Apart of_row kind rows
 rows_apart kind [] h = tt
-rows_apart kind (row ∷ rows) h = let parts = apart_behind kind row.kind (types_of rows) h in (parts.0, rows_apart kind rows parts.1)
+rows_apart kind (row ∷ rows) h = let parts = apart_after kind row.kind (types_of rows) h in (parts.0, rows_apart kind rows parts.1)
 
 -- the count makes no difference
 recount : (kind : List ℕ) (m n : ℕ) (types : List TypeCount) → Distinct counted (counted_before kind m types) → Distinct counted (counted_before kind n types)

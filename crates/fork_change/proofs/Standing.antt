@@ -1,4 +1,4 @@
--- Where rows stand among others, and what becomes of them there.
+-- Where rows are among others, and what becomes of them there.
 use Rattle.std.proofs.Common.{◌≡◌, ℕ, zero, suc, ◌<◌, ◌≤◌, Bool, true, false, List, [], ◌∷◌, ◌++◌, length, get_or, drop, Some, None, refl, sym, ap, subst, ◌∙◌, ◌-◌, arith, bytes_eq, if◌then◌else◌}
 use Rattle.std.specs.Prelude.{set, not, nat_lt, cond, ◌||◌}
 use Rattle.std.specs.List.{find, insert, list_any, position, position_or_len, remove}

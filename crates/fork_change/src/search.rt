@@ -1,4 +1,4 @@
-//! Where a resource stands among others.
+//! Where a resource is among others.
 
 ghost use Rattle.std.specs.Prelude.{◌≡◌, ◌<◌, ◌≤◌, IfSome, length, option_copied};
 ghost use Rattle.std.specs.List.{find, insert, position};

@@ -4,7 +4,7 @@ use Rattle.std.specs.Prelude.{⊤}
 use Rattle.fork_disk.specs.Disk.{bytes_at, put_at, Torn, CutShort}
 use Rattle.fork_disk.specs.Record.{Event, call_of, number_of, is_done, Fits, Settles, IsHonest}
 
--- what such a file holds behind a call: a write or a cut that failed has done nothing
+-- what such a file holds after a call: a write or a cut that failed has done nothing
 abbrev pub stepped : ℕ → ℕ → Bool → List ℕ → List ℕ → List ℕ
 stepped zero n ok bytes old = old
 stepped (suc zero) at ok bytes old = old
@@ -14,7 +14,7 @@ stepped (suc (suc (suc zero))) len true bytes old = take len old
 stepped (suc (suc (suc zero))) len false bytes old = old
 stepped (suc (suc (suc (suc more)))) n ok bytes old = old
 
--- what it holds behind these calls, the newest first
+-- what it holds after these calls, the newest first
 abbrev pub after : List ℕ → List Event → List ℕ
 after start [] = start
 after start (e ∷ past) = stepped (call_of e) (number_of e) (is_done e) e.1 (after start past)

@@ -64,8 +64,8 @@ Settles (suc (suc zero)) ok old new = ⊤
 Settles (suc (suc (suc zero))) ok old new = ⊤
 Settles (suc (suc (suc (suc more)))) ok old new = (old → new) × (IsTrue ok → new)
 
--- The answers of these calls, the newest first, are those of a file that held such bytes behind each of them, and of
--- which a crash behind each might have left such.
+-- The answers of these calls, the newest first, are those of a file that held such bytes after each of them, and of
+-- which a crash after each might have left such.
 abbrev pub IsHonest : (List Event → List ℕ) → (List Event → List ℕ → Type 0) → List Event → Type 0
 IsHonest held may_leave [] = ⊤
 IsHonest held may_leave (e ∷ past) = IsHonest held may_leave past

@@ -14,7 +14,7 @@ pub struct DiskFault;
 /// A disk with the bytes of one fork. Each call may fail, and what it leaves then is said beside it.
 ///
 /// What is promised of bytes holds of an *honest* disk: one that returns what was written, and that nobody else writes.
-/// A disk that is honest behind a call was so before it, and what is promised of a call rests on the disk that it
+/// A disk that is honest after a call was so before it, and what is promised of a call rests on the disk that it
 /// leaves. Of an honest disk a caller asks only for bytes that are there: a range that ends past the end is a mistake
 /// of the caller, and no failure of the device. A disk that can't know how long it is, as a file, answers such a read
 /// by a fault.

@@ -23,7 +23,7 @@ pub enum ReplaceFault {
     Later,
 }
 
-/// A fork that is read, and replaced as a whole. What is promised of bytes holds where the device is honest behind the
+/// A fork that is read, and replaced as a whole. What is promised of bytes holds where the device is honest after the
 /// call, and so was before it.
 pub trait ForkStore {
     /// The bytes of the fork, where the device is honest.
@@ -41,7 +41,7 @@ pub trait ForkStore {
     /// How often the device has failed.
     ghost failures: { Self → ℕ };
 
-    /// What a replacement may leave that failed behind its first write: by the new fork and the old one.
+    /// What a replacement may leave that failed after its first write: by the new fork and the old one.
     ghost may_leave: { List ℕ → List ℕ → List ℕ → Type 0 };
 
     /// The store has a journal: what is said of crashes binds it.
@@ -53,7 +53,7 @@ pub trait ForkStore {
     /// What happened to the device since a start, the last event first.
     ghost history: { Self → List Event };
 
-    /// The forks that a start may find where a crash came behind such a history, once the store was made ready.
+    /// The forks that a start may find where a crash came after such a history, once the store was made ready.
     ghost may_find: { List Event → List ℕ → Type 0 };
 
     /// How many bytes of a fork a recovery copies by way of the host's memory.

@@ -11,9 +11,9 @@ use crate::store::{ForkStore, ReplaceFault};
 /// Bytes that a new fork keeps of the old one.
 #[derive(Clone, Copy, Debug, PartialEq, Eq)]
 pub struct Kept {
-    /// Where they stand in the old fork.
+    /// Where they are in the old fork.
     pub from: u64,
-    /// Where they stand in the new one.
+    /// Where they are in the new one.
     pub to: usize,
     /// How many they are.
     pub length: usize,

@@ -3,7 +3,7 @@ use Rattle.std.specs.Prelude.{ℕ, ℤ, ◌+◌, ◌-◌, ◌/◌, ◌%◌, ◌=
 use Rattle.std.specs.List.{flat_map, list_any}
 use Rattle.std.specs.Fmt.{decimal, digit_glyph, signed_decimal}
 
--- a byte that can't stand as it is: `%` and two hexadecimal digits
+-- a byte that can't be as it is: `%` and two hexadecimal digits
 abbrev pub escaped : ℕ → List ℕ
 escaped byte = 37 ∷ digit_glyph true (byte / 16) ∷ digit_glyph true (byte % 16) ∷ []
 
@@ -18,7 +18,7 @@ is_small byte = nat_le 97 byte && nat_le byte 122
 abbrev pub is_plain : ℕ → Bool
 is_plain byte = (nat_le 48 byte && nat_le byte 57) || (byte == 35 || (byte == 43 || byte == 45))
 
--- a byte of a type, where the letter before it is small or not: `~` stands before a letter of the other case, and a
+-- a byte of a type, where the letter before it is small or not: `~` is before a letter of the other case, and a
 -- blank is `_`
 abbrev pub symbol : Bool → ℕ → List ℕ
 symbol small byte =
@@ -41,7 +41,7 @@ symbols small (byte ∷ bytes) = symbol small byte ++ symbols (turned small byte
 abbrev pub folder_name : List ℕ → List ℕ
 folder_name kind = symbols false kind
 
--- whether a byte stands in the name of a file as it is: printable ASCII, but nothing that means something to a file
+-- whether a byte is in the name of a file as it is: printable ASCII, but nothing that means something to a file
 -- system
 abbrev pub is_shown : ℕ → Bool
 is_shown byte = nat_le 32 byte && (nat_le byte 126 && not (list_any (λ other. byte == other) (codes "%/\\:*?\"<>|")))

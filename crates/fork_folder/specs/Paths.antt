@@ -6,7 +6,7 @@ use Rattle.fork_folder.specs.declared.rows.Flaw.TheVariants.{Path}
 use Rattle.fork_folder.specs.declared.rows.PackFault.{PackFault}
 use Rattle.fork_folder.specs.declared.rows.PackFault.TheVariants.{BadEntry}
 
--- what can't stand in the name of a file: `/`, which is 47, and 0
+-- what can't be in the name of a file: `/`, which is 47, and 0
 abbrev pub is_end : ℕ → Bool
 is_end byte = byte == 47 || byte == 0
 

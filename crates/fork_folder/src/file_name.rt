@@ -10,7 +10,7 @@ use std::fmt;
 /// The most bytes of a resource's name that the file's name has.
 const LONGEST: usize = 72;
 
-/// Whether a byte stands in the name of a file as it is.
+/// Whether a byte is in the name of a file as it is.
 fn is_shown(byte: u8) -> bool
     ensures { result ≡ is_shown byte }
 {

@@ -7,7 +7,7 @@ use fork_list::hexadecimal_digit;
 use mac_base::resource::ResType;
 use std::fmt;
 
-/// A byte that a file's name can't have as it stands: `%` and two hexadecimal digits.
+/// A byte that a file's name can't have as it is: `%` and two hexadecimal digits.
 #[derive(Clone, Copy)]
 pub(crate) struct Escape(pub u8);
 
@@ -50,7 +50,7 @@ struct Symbol {
 }
 
 impl Symbol {
-    /// Whether the letters after this byte are small where no mark stands before them.
+    /// Whether the letters after this byte are small where no mark is before them.
     fn turned(self) -> bool
         ensures { result ≡ turned self.is_small self.byte }
     {

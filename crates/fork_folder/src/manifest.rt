@@ -70,7 +70,7 @@ fn is_inside(path: &str) -> bool
     }
 }
 
-/// Whether a byte can't stand in the name of a file: it ends a part of a path, or the path.
+/// Whether a byte can't be in the name of a file: it ends a part of a path, or the path.
 fn is_end(byte: u8) -> bool
     ensures { result ≡ is_end byte }
 {

@@ -9,7 +9,7 @@ Bytes = List ℕ
 pub gate_joins : (x y z : Bytes) → drop 1 y ≡ drop 1 x → Torn 0 1 y z → drop 1 z ≡ drop 1 x
 gate_joins x y z same torn = torn.after ∙ same
 
--- what stands before a place stays where a write begins there or behind it, or where a cut does
+-- what is before a place stays where a write begins there or after it, or where a cut does
 front_stays : (n at : ℕ) (y z : Bytes) → n ≤ at → take at z ≡ take at y → take n z ≡ take n y
 front_stays n at y z within same =
     sym (take-take n at z within) ∙ ap (λ (l : Bytes). take n l) same ∙ take-take n at y within
@@ -17,9 +17,9 @@ front_stays n at y z within same =
 pub front_joins : (n at : ℕ) → n ≤ at → (x y z : Bytes) → take n y ≡ take n x → take at z ≡ take at y → take n z ≡ take n x
 front_joins n at within x y z same then = front_stays n at y z within then ∙ same
 
--- bytes that were written at an offset, and what is cut behind them
-pub cut_behind : (old bytes : Bytes) (at n : ℕ) (written cut : Bytes) → at ≤ length old → n ≡ at + length bytes → written ≡ put_at at bytes old → cut ≡ take n written → cut ≡ take at old ++ bytes
-cut_behind old bytes at n written cut within is holds cuts =
+-- bytes that were written at an offset, and what is cut after them
+pub cut_after : (old bytes : Bytes) (at n : ℕ) (written cut : Bytes) → at ≤ length old → n ≡ at + length bytes → written ≡ put_at at bytes old → cut ≡ take n written → cut ≡ take at old ++ bytes
+cut_after old bytes at n written cut within is holds cuts =
     let size : length (take at old ++ bytes) ≡ n = simp (length-append, length-take) (omega arith) in
     cuts ∙ ap (λ (l : Bytes). take n l) holds ∙ take_at (take at old ++ bytes) _ n size
 
@@ -30,7 +30,7 @@ pub long_enough : (old bytes new : Bytes) → 1 ≤ length old → length bytes 
 long_enough old bytes new some four is =
     omega (arith, ap length is, length-append (take 1 old ++ bytes) (drop (1 + length bytes) old), length_of old bytes some four)
 
--- a length that was written behind the gate, and a fork behind that
+-- a length that was written after the gate, and a fork after that
 pub text_put : (old bytes fork told : Bytes) → 1 ≤ length old → length bytes ≡ 4 → told ≡ put_at 1 bytes old → take 5 told ++ fork ≡ take 1 old ++ (bytes ++ fork)
 text_put old bytes fork told some four tells =
     let front : take 5 told ≡ take 1 old ++ bytes = ap (λ (l : Bytes). take 5 l) tells ∙ take_at (take 1 old ++ bytes) _ 5 (length_of old bytes some four) in

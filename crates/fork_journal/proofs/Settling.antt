@@ -73,8 +73,8 @@ pub same_gate : (old new : Bytes) → take 1 new ≡ take 1 old → get_or new 0
 same_gate old new same =
     sym (get_or-take 1 new 0 0 (omega arith)) ∙ ap (λ (l : Bytes). get_or l 0 0) same ∙ get_or-take 1 old 0 0 (omega arith)
 
-pub shut_behind : (old new : Bytes) → take 1 new ≡ take 1 old → is_open old ≡ false → is_open new ≡ false
-shut_behind old new same shut = ap (λ (n : ℕ). n == 1) (same_gate old new same) ∙ shut
+pub shut_after : (old new : Bytes) → take 1 new ≡ take 1 old → is_open old ≡ false → is_open new ≡ false
+shut_after old new same shut = ap (λ (n : ℕ). n == 1) (same_gate old new same) ∙ shut
 
 -- the text of a fork
 tells : (fork : Bytes) → length fork < 2 ^ 32 → big_number 4 (text_of fork) ≡ length fork

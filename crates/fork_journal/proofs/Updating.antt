@@ -1,4 +1,4 @@
--- The steps of an update, one behind another.
+-- The steps of an update, one after another.
 use Rattle.std.proofs.Common.{◌≡◌, inl, inr, ⊎_elim, ℕ, ◌<◌, ◌≤◌, ◌^◌, true, false, List, [], ◌∷◌, ◌++◌, length, take, drop, refl, sym, ◌∙◌, ap, subst, arith, length-take}
 use Rattle.fork_disk.specs.Crash.{at_first}
 use Rattle.fork_journal.specs.declared.pair.Side.{Side}
@@ -7,7 +7,7 @@ use Rattle.fork_journal.specs.Crash.{Contents, History, MayLeave, Synced, Failed
 use Rattle.fork_journal.specs.Form.{text_of, is_whole, fork_in, is_usable, must_shut, IsSameFront, IsSameText}
 use Rattle.fork_journal.specs.Recovery.{settled_fork, IsReady, IsRecoverable, IsBeforeOrAfter, IsSameChoice, IsStable, IsShut}
 use Rattle.fork_journal.proofs.Along.{along_weaker, along_then, along_same, along_sync, along_failed, leaves_now}
-use Rattle.fork_journal.proofs.Settling.{settled_at, settled_usable, settled_both, settled_one, settled_unusable, unusable_shut, unusable_short, short_where_open, shut_behind, text_whole, text_fork, never}
+use Rattle.fork_journal.proofs.Settling.{settled_at, settled_usable, settled_both, settled_one, settled_unusable, unusable_shut, unusable_short, short_where_open, shut_after, text_whole, text_fork, never}
 
 abbrev pub Bytes : Type 0
 Bytes = List ℕ
@@ -37,12 +37,12 @@ module _ (journal fork : Bytes) (start mid new : History) (stable : Leaves (λ c
       let was = leaves_now _ mid new second c left in
       was.2.1 ∙ (there settles was.0 was.1).0 ∙ sym here
 
--- the text is written behind a shut gate, and then the gate is opened
+-- the text is written after a shut gate, and then the gate is opened
 module _ (before fork : Bytes) (start mid new : History) (shut : Leaves (IsShut before) start) (short : length fork < 2 ^ 32) where
   still : (c : Contents) → LeftWith Journal (IsSameFront 1) start c → (is_usable c.journal ≡ false) × (c.fork ≡ before)
   still c left =
       let was = shut left.0 left.1 in
-      (unusable_shut c.journal (shut_behind left.0.journal c.journal left.2.0 was.shut), left.2.1 ∙ was.fork)
+      (unusable_shut c.journal (shut_after left.0.journal c.journal left.2.0 was.shut), left.2.1 ∙ was.fork)
 
   pub texts : AlwaysLeaves (LeftWith Journal (IsSameFront 1) start) start mid → AlwaysLeaves (IsBeforeOrAfter before fork) start mid
   texts = along_weaker _ _ start mid (λ c left. let now = still c left in inl (settled_unusable c now.0 ∙ now.1))
@@ -51,8 +51,8 @@ module _ (before fork : Bytes) (start mid new : History) (shut : Leaves (IsShut 
   texts_recoverable contents here first c left not = (still c (leaves_now _ start mid first c left)).1 ∙ sym here
 
   module _ (front : Bytes) (one : length front ≡ 1) (settles : Settles Journal (front ++ text_of fork) start mid) (second : AlwaysLeaves (LeftWith Journal IsSameText mid) mid new) where
-    behind : drop 1 (front ++ text_of fork) ≡ text_of fork
-    behind = one_off front one
+    following : drop 1 (front ++ text_of fork) ≡ text_of fork
+    following = one_off front one
       where
         one_off : (front : Bytes) → length front ≡ 1 → drop 1 (front ++ text_of fork) ≡ text_of fork
         one_off [] is = absurd (omega arith)
@@ -62,7 +62,7 @@ module _ (before fork : Bytes) (start mid new : History) (shut : Leaves (IsShut 
     staged : (c : Contents) → LeftWith Journal IsSameText mid c → (drop 1 c.journal ≡ text_of fork) × (c.fork ≡ before)
     staged c left =
         let was = settles left.0 left.1 in
-        (left.2.0 ∙ ap (λ (j : Bytes). drop 1 j) was.2.0 ∙ behind, left.2.1 ∙ was.2.1 ∙ (shut was.0 was.1).fork)
+        (left.2.0 ∙ ap (λ (j : Bytes). drop 1 j) was.2.0 ∙ following, left.2.1 ∙ was.2.1 ∙ (shut was.0 was.1).fork)
 
     pub opens : AlwaysLeaves (LeftWith Journal (IsSameFront 1) start) start mid → AlwaysLeaves (IsBeforeOrAfter before fork) start new
     opens first = along_then _ start mid new (texts first) (along_weaker _ _ mid new (λ c left.

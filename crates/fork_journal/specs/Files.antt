@@ -24,7 +24,7 @@ Fits (suc (suc zero)) side at ok bytes old new = OnSide side (Torn at (length by
 Fits (suc (suc (suc zero))) side len ok bytes old new = OnSide side (CutShort len) old new × (IsTrue ok → OnSide side (λ before now. now ≡ take len before) old new)
 Fits (suc (suc (suc (suc more)))) side n ok bytes old new = new ≡ old
 
--- the answers of these calls, the newest first, are those of a pair that held such bytes behind each of them
+-- the answers of these calls, the newest first, are those of a pair that held such bytes after each of them
 abbrev pub IsHonest : (List files.Event → Contents) → List files.Event → Type 0
 IsHonest held [] = ⊤
 IsHonest held (e ∷ past) = IsHonest held past × Fits (files.call_of e) (side_in e) (files.number_of e) (files.is_done e) e.1 (held past) (held (e ∷ past))

@@ -1,4 +1,4 @@
--- The form of a journal: byte 0 is the gate, and the text behind it is the length of a fork in four bytes and as many
+-- The form of a journal: byte 0 is the gate, and the text after it is the length of a fork in four bytes and as many
 -- bytes.
 use Rattle.std.specs.Prelude.{◌≡◌, ℕ, ◌+◌, ◌==◌, ◌&&◌, ◌||◌, nat_le, Bool, List, ◌++◌, length, take, drop, get_or}
 use Rattle.byteorder.specs.Endian.{big_bytes, big_number}
@@ -7,7 +7,7 @@ use Rattle.byteorder.specs.Endian.{big_bytes, big_number}
 abbrev pub text_of : List ℕ → List ℕ
 text_of fork = big_bytes 4 (length fork) ++ fork
 
--- a text has at least as many bytes behind its length as this says
+-- a text has at least as many bytes after its length as this says
 unfoldable pub is_whole : List ℕ → Bool
 is_whole text = nat_le (4 + big_number 4 text) (length text)
 
@@ -23,11 +23,11 @@ is_open journal = get_or journal 0 0 == 1
 abbrev pub is_usable : List ℕ → Bool
 is_usable journal = is_open journal && is_whole (drop 1 journal)
 
--- a write of the gate leaves the text behind it
+-- a write of the gate leaves the text after it
 abbrev pub IsSameText : List ℕ → List ℕ → Type 0
 IsSameText old new = drop 1 new ≡ drop 1 old
 
--- a write behind n bytes, as one of the text behind the gate, leaves these
+-- a write after n bytes, as one of the text after the gate, leaves these
 abbrev pub IsSameFront : ℕ → List ℕ → List ℕ → Type 0
 IsSameFront n old new = take n new ≡ take n old
 

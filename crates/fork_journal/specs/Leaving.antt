@@ -13,28 +13,28 @@ is_on side (calls.Write other at bytes) = is_same side other
 is_on side (calls.Cut other n) = is_same side other
 is_on side (calls.Sync other) = is_same side other
 
--- what its side reads behind a call
-abbrev pub read_behind : Call → List ℕ → List ℕ
-read_behind (calls.Write side at bytes) read = overwritten at bytes.items read
-read_behind (calls.Cut side n) read = take n read
-read_behind (calls.Sync side) read = read
+-- what its side reads after a call
+abbrev pub read_next : Call → List ℕ → List ℕ
+read_next (calls.Write side at bytes) read = overwritten at bytes.items read
+read_next (calls.Cut side n) read = take n read
+read_next (calls.Sync side) read = read
 
--- what a crash may leave of its side behind a call, by what it read before and what a crash might have left then
+-- what a crash may leave of its side after a call, by what it read before and what a crash might have left then
 abbrev pub IsLeft : Call → List ℕ → List ℕ → List ℕ → Type 0
 IsLeft (calls.Write side at bytes) read old left = Torn at (length bytes.items) old left
 IsLeft (calls.Cut side n) read old left = CutShort n old left
 IsLeft (calls.Sync side) read old left = left ≡ read
 
--- what a side reads behind a call of either
+-- what a side reads after a call of either
 abbrev pub read_after : Side → Call → List ℕ → List ℕ
-read_after side call read = if is_on side call then read_behind call read else read
+read_after side call read = if is_on side call then read_next call read else read
 
 -- and what a crash may leave of it
 pub record IsLeftOn (side : Side) (call : Call) (read old left : List ℕ) : Type 0 where
   pub own : is_on side call ≡ true → IsLeft call read old left
   pub other : is_on side call ≡ false → left ≡ old
 
--- what a crash may leave of a side behind these calls
+-- what a crash may leave of a side after these calls
 abbrev pub AreLeft : Side → List Call → List ℕ → List ℕ → List ℕ → Type 0
 AreLeft side [] read old left = left ≡ old
 AreLeft side (call ∷ later) read old left = (next : List ℕ) × IsLeftOn side call read old next × AreLeft side later (read_after side call read) next left

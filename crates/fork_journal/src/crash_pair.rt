@@ -12,7 +12,7 @@ use crate::pair::{PairDisk, Side};
 use fork_disk::disk::DiskFault;
 use std::alloc::{AllocError, Global};
 
-/// A pair in memory that stops behind its n-th write, cut or sync. Each call from then on fails, is counted and changes
+/// A pair in memory that stops after its n-th write, cut or sync. Each call from then on fails, is counted and changes
 /// nothing. `outcome` then tells what a crash at that moment leaves, as a test picks it.
 #[derive(Drop)]
 pub struct CrashPair {
@@ -22,7 +22,7 @@ pub struct CrashPair {
 }
 
 impl CrashPair {
-    /// A pair that stops behind so many writes, cuts and syncs.
+    /// A pair that stops after so many writes, cuts and syncs.
     pub fn new(pair: MemPair, calls: u64) -> CrashPair
         ensures pair { result.pair ≡ pair }
         ensures calls_left { result.calls_left ≡ calls }

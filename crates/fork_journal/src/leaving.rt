@@ -2,18 +2,18 @@
 
 ghost use Rattle.std.specs.Prelude.{◌≡◌, ◌+◌, ◌≤◌, true, length, IfOk, OnOk};
 ghost use Rattle.fork_disk.specs.Disk.{Torn, CutShort};
-ghost use Rattle.fork_journal.specs.Leaving.{is_on, read_behind, IsLeft, AreLeft};
+ghost use Rattle.fork_journal.specs.Leaving.{is_on, read_next, IsLeft, AreLeft};
 
 use crate::mem_pair::{Call, overwritten};
 use crate::pair::Side;
 use std::alloc::{AllocError, Global};
 
-/// What stands, after a crash, in the range of a write or behind a cut.
+/// What is, after a crash, in the range of a write or after a cut.
 #[derive(Clone, Copy, PartialEq, Eq)]
 pub enum Fate {
     /// What was there before the call, and zeros where nothing was.
     Lost,
-    /// What the call put there; behind a cut, what was there before it.
+    /// What the call put there; after a cut, what was there before it.
     Kept,
     /// The value $FF.
     Filled,
@@ -24,7 +24,7 @@ pub enum Fate {
 pub struct Choice {
     /// The bytes of its range.
     pub fate: Fate,
-    /// Its length is the one behind the call, and else the one before it.
+    /// Its length is the one after the call, and else the one before it.
     pub has_new_length: bool,
 }
 
@@ -121,7 +121,7 @@ fn cut_left(alloc: Global, old: &[u8], len: usize, choice: Choice) -> Result<Vec
 
 /// One call more of a side.
 fn follow(alloc: Global, now: &mut Replayed, call: &Call, choice: Choice) -> Result<(), AllocError>
-    ensures read { OnOk result (now.new.read.items ≡ read_behind call.now now.old.read.items) }
+    ensures read { OnOk result (now.new.read.items ≡ read_next call.now now.old.read.items) }
     ensures left { OnOk result (IsLeft call.now now.old.read.items now.old.left.items now.new.left.items) }
 {
     match call {

@@ -113,7 +113,7 @@ fn remember(calls: &mut Vec<Call>, call: Call) -> Result<(), AllocError>
     Ok(())
 }
 
-/// What stands there once these bytes are put at an offset, over what was there and past the end.
+/// What is there once these bytes are put at an offset, over what was there and past the end.
 pub(crate) fn overwritten(
     alloc: Global,
     old: &[u8],

@@ -20,7 +20,7 @@ pub enum Side {
 /// crash stops both at the same moment.
 ///
 /// What is promised of bytes holds of an *honest* pair: one that returns what was written, and that nobody else writes.
-/// A pair that is honest behind a call was so before it, and what is promised of a call rests on the pair that it
+/// A pair that is honest after a call was so before it, and what is promised of a call rests on the pair that it
 /// leaves.
 pub trait PairDisk {
     /// The bytes that reads give.

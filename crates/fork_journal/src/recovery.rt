@@ -1,4 +1,4 @@
-//! A fork and its journal are made whole again behind a crash or a fault.
+//! A fork and its journal are made whole again after a crash or a fault.
 
 ghost use Rattle.std.specs.Prelude.{◌≡◌, drop};
 ghost use Rattle.fork_disk.specs.Disk.{Counts};
@@ -13,7 +13,7 @@ use fork_disk::disk::DiskFault;
 use fork_disk::faults::RecoverFault;
 use std::alloc::Global;
 
-/// Writes the fork that stands behind the open gate, and shuts the gate. Whenever a crash comes, the pair recovers this
+/// Writes the fork that is after the open gate, and shuts the gate. Whenever a crash comes, the pair recovers this
 /// fork.
 pub(crate) fn finish<P: PairDisk>(pair: &mut P, fork: &[u8]) -> Result<(), DiskFault>
     requires { P.is_honest pair.old → IsStaged P.PairDisk pair.old fork.now }

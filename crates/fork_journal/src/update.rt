@@ -30,7 +30,7 @@ fn shut<P: PairDisk>(pair: &mut P) -> Result<(), ReplaceFault>
     }
 }
 
-/// Writes the text of a fork behind the shut gate, and opens the gate.
+/// Writes the text of a fork after the shut gate, and opens the gate.
 fn stage<P: PairDisk>(pair: &mut P, fork: &[u8]) -> Result<(), DiskFault>
     requires shut { HasShut P.PairDisk pair.old }
     requires short { length fork.now < 2 ^ 32 }
@@ -42,7 +42,7 @@ fn stage<P: PairDisk>(pair: &mut P, fork: &[u8]) -> Result<(), DiskFault>
     Ok(())
 }
 
-/// Writes the text of a fork behind the shut gate, and then the fork.
+/// Writes the text of a fork after the shut gate, and then the fork.
 fn put_both<P: PairDisk>(pair: &mut P, fork: &[u8]) -> Result<(), DiskFault>
     requires shut { HasShut P.PairDisk pair.old }
     requires short { length fork.now < 2 ^ 32 }

@@ -25,7 +25,7 @@ same_first text a b r s (inr (inr p)) (inr (inr q)) =
     let other = q.5 in
     (cc, cc)
 
--- what is behind the first byte is shorter
+-- what is after the first byte is shorter
 pub shorter : (text : List ℕ) (byte : ℕ) (rest : List ℕ) → NamesFirst text byte rest → length rest < length text
 shorter text byte rest (inl p) = omega (arith, ap (λ (t : List ℕ). length t) p.0)
 shorter text byte rest (inr (inl p)) = omega (arith, ap (λ (t : List ℕ). length t) p.0)
@@ -36,35 +36,35 @@ nothing_named : (bytes : List ℕ) → NamesBytes [] bytes → bytes ≡ []
 nothing_named [] is = refl
 nothing_named (byte ∷ bytes) (rest, first, more) = let short = shorter [] byte rest first in absurd (omega arith)
 
--- these bytes are named first, and what is behind them names the others
+-- these bytes are named first, and what is after them names the others
 abbrev pub Reads : List ℕ → List ℕ → List ℕ → Type 0
 Reads inner done rest = ((bytes : List ℕ) → NamesBytes rest bytes → NamesBytes inner (done ++ bytes))
     × ((bytes : List ℕ) → NamesBytes inner bytes → (tail : List ℕ) × (bytes ≡ done ++ tail) × NamesBytes rest tail)
 
--- what is behind the first byte names the others
-next_of : (rest behind : List ℕ) (byte : ℕ) (tail : List ℕ) → rest ≢ [] → NamesFirst rest byte behind → NamesBytes rest tail
-    → (more : List ℕ) × (tail ≡ byte ∷ more) × NamesBytes behind more
-next_of rest behind byte [] some first is = absurd (some is)
-next_of rest behind byte (b ∷ more) some first is =
-    let same = same_first rest byte b behind is.0 first is.1 in
+-- what is after the first byte names the others
+next_of : (rest after : List ℕ) (byte : ℕ) (tail : List ℕ) → rest ≢ [] → NamesFirst rest byte after → NamesBytes rest tail
+    → (more : List ℕ) × (tail ≡ byte ∷ more) × NamesBytes after more
+next_of rest after byte [] some first is = absurd (some is)
+next_of rest after byte (b ∷ more) some first is =
+    let same = same_first rest byte b after is.0 first is.1 in
     (more, ap (λ (n : ℕ). n ∷ more) (sym same.0), subst (λ (t : List ℕ). NamesBytes t more) (sym same.1) is.2)
 
 -- one byte more
-pub reads_more : (inner done rest behind : List ℕ) (byte : ℕ) → rest ≢ [] → NamesFirst rest byte behind → Reads inner done rest → Reads inner (done ++ byte ∷ []) behind
-reads_more inner done rest behind byte some first reads = (
-  λ bytes is. subst (λ (t : List ℕ). NamesBytes inner t) (sym (append_assoc done (byte ∷ []) bytes)) (reads.0 (byte ∷ bytes) (behind, first, is)),
+pub reads_more : (inner done rest after : List ℕ) (byte : ℕ) → rest ≢ [] → NamesFirst rest byte after → Reads inner done rest → Reads inner (done ++ byte ∷ []) after
+reads_more inner done rest after byte some first reads = (
+  λ bytes is. subst (λ (t : List ℕ). NamesBytes inner t) (sym (append_assoc done (byte ∷ []) bytes)) (reads.0 (byte ∷ bytes) (after, first, is)),
   λ bytes is.
       let found = reads.1 bytes is in
-      let next = next_of rest behind byte found.0 some first found.2 in
+      let next = next_of rest after byte found.0 some first found.2 in
       (next.0, found.1 ∙ ap (λ (t : List ℕ). done ++ t) next.1 ∙ sym (append_assoc done (byte ∷ []) next.0), next.2),
 )
 
-none_next : (rest tail : List ℕ) → rest ≢ [] → ((byte : ℕ) → (behind : List ℕ) → ¬ NamesFirst rest byte behind) → NamesBytes rest tail → ⊥
+none_next : (rest tail : List ℕ) → rest ≢ [] → ((byte : ℕ) → (after : List ℕ) → ¬ NamesFirst rest byte after) → NamesBytes rest tail → ⊥
 none_next rest [] some none is = some is
 none_next rest (byte ∷ tail) some none is = none byte is.0 is.1
 
 -- the next byte isn't named
-pub none_named : (inner done rest : List ℕ) → rest ≢ [] → ((byte : ℕ) → (behind : List ℕ) → ¬ NamesFirst rest byte behind) → Reads inner done rest
+pub none_named : (inner done rest : List ℕ) → rest ≢ [] → ((byte : ℕ) → (after : List ℕ) → ¬ NamesFirst rest byte after) → Reads inner done rest
     → (name : List ℕ) → (None ≡ Some name) ↔ NamesBytes inner name
 none_named inner done rest some none reads name = (
   λ is. absurd cc,
@@ -83,7 +83,7 @@ all_named inner done rest empty reads name = (
       ap (λ (t : List ℕ). Some t) (sym (found.1 ∙ ap (λ (t : List ℕ). done ++ t) nothing ∙ append-nil done)),
 )
 
--- what stands between the quotes is one
+-- what is between the quotes is one
 one_inner : (text between inner : List ℕ) → ((other : List ℕ) → text ≡ 34 ∷ (other ++ 34 ∷ []) → between ≡ other)
     → (((other : List ℕ) → text ≢ 34 ∷ (other ++ 34 ∷ [])) → between ≡ text) → Unquotes text inner → inner ≡ between
 one_inner text between inner quoted bare (inl is) = sym (quoted inner is)

@@ -16,7 +16,7 @@ use Rattle.fork_list.specs.Find.{has_key, is_wanted}
 use Rattle.fork_list.specs.Listing.{cells_text, is_chosen, listing, row_line}
 use Rattle.fork_list.specs.Types.{type_line, type_lines}
 
--- how many bytes stand at a place
+-- how many bytes are at a place
 abbrev pub place_size : Place → ℕ
 place_size place = place.length
 

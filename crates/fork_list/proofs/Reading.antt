@@ -6,9 +6,9 @@ use Rattle.std.proofs.lemmas.Bool.{eqb-true, eqb-false}
 use Rattle.std.proofs.lemmas.List.{length-append, nil_from_length}
 use Rattle.std.proofs.Math.Seq.{set-append_seam}
 use Rattle.fork_list.specs.Kind.{ShowsFirst, ShowsBytes, Quotes, ShowsBare, ShowsKind, in_quotes, written}
-use Rattle.fork_list.proofs.Written.{Behind, Plain, Digits, forms, same_first}
+use Rattle.fork_list.proofs.Written.{After, Plain, Digits, forms, same_first}
 
--- these bytes are shown first, and what is behind them shows the others
+-- these bytes are shown first, and what is after them shows the others
 abbrev pub Reads : List ℕ → List ℕ → List ℕ → Type 0
 Reads inner done rest = ((bytes : List ℕ) → ShowsBytes rest bytes → ShowsBytes inner (done ++ bytes))
     × ((bytes : List ℕ) → ShowsBytes inner bytes → (tail : List ℕ) × (bytes ≡ done ++ tail) × ShowsBytes rest tail)
@@ -21,12 +21,12 @@ Reading inner rest kind i = (done : List ℕ) × Reads inner done rest × (kind 
 differ : (a b : ℕ) → a ≡ 39 → b ≡ 92 → a ≡ b → ⊥
 differ a b low high is = omega arith
 
-nothing_first : (byte : ℕ) (rest : List ℕ) → Behind [] byte rest ⊎ (Plain [] byte rest ⊎ Digits [] byte rest) → ⊥
+nothing_first : (byte : ℕ) (rest : List ℕ) → After [] byte rest ⊎ (Plain [] byte rest ⊎ Digits [] byte rest) → ⊥
 nothing_first byte rest (inl p) = let whole = p.0 in absurd cc
 nothing_first byte rest (inr (inl p)) = let whole = p.0 in absurd cc
 nothing_first byte rest (inr (inr p)) = let whole = p.2 in absurd cc
 
-quote_first : (t : List ℕ) (byte : ℕ) (rest : List ℕ) → Behind (39 ∷ t) byte rest ⊎ (Plain (39 ∷ t) byte rest ⊎ Digits (39 ∷ t) byte rest) → ⊥
+quote_first : (t : List ℕ) (byte : ℕ) (rest : List ℕ) → After (39 ∷ t) byte rest ⊎ (Plain (39 ∷ t) byte rest ⊎ Digits (39 ∷ t) byte rest) → ⊥
 quote_first t byte rest (inl p) = let whole = p.0 in absurd (differ 39 92 refl refl cc)
 quote_first t byte rest (inr (inl p)) = let whole = p.0 in let is : byte ≡ 39 = cc in absurd (p.3 is)
 quote_first t byte rest (inr (inr p)) = let whole = p.2 in absurd (differ 39 92 refl refl cc)
@@ -44,25 +44,25 @@ nothing_shown : (bytes : List ℕ) → ShowsBytes [] bytes → bytes ≡ []
 nothing_shown [] is = refl
 nothing_shown (byte ∷ bytes) is = absurd (nothing_first byte is.0 (forms [] byte is.0 is.1))
 
--- what is behind the first byte shows the others
-next_of : (rest behind : List ℕ) (byte : ℕ) (tail : List ℕ) → rest ≢ [] → ShowsFirst rest byte behind → ShowsBytes rest tail
-    → (more : List ℕ) × (tail ≡ byte ∷ more) × ShowsBytes behind more
-next_of rest behind byte [] some first is = absurd (some is)
-next_of rest behind byte (b ∷ more) some first is =
-    let same = same_first rest byte b behind is.0 first is.1 in
+-- what is after the first byte shows the others
+next_of : (rest after : List ℕ) (byte : ℕ) (tail : List ℕ) → rest ≢ [] → ShowsFirst rest byte after → ShowsBytes rest tail
+    → (more : List ℕ) × (tail ≡ byte ∷ more) × ShowsBytes after more
+next_of rest after byte [] some first is = absurd (some is)
+next_of rest after byte (b ∷ more) some first is =
+    let same = same_first rest byte b after is.0 first is.1 in
     (more, ap (λ (n : ℕ). n ∷ more) (sym same.0), subst (λ (t : List ℕ). ShowsBytes t more) (sym same.1) is.2)
 
 -- one byte more
-reads_more : (inner done rest behind : List ℕ) (byte : ℕ) → rest ≢ [] → ShowsFirst rest byte behind → Reads inner done rest → Reads inner (done ++ byte ∷ []) behind
-reads_more inner done rest behind byte some first reads = (
-  λ bytes is. subst (λ (t : List ℕ). ShowsBytes inner t) (sym (append_assoc done (byte ∷ []) bytes)) (reads.0 (byte ∷ bytes) (behind, first, is)),
+reads_more : (inner done rest after : List ℕ) (byte : ℕ) → rest ≢ [] → ShowsFirst rest byte after → Reads inner done rest → Reads inner (done ++ byte ∷ []) after
+reads_more inner done rest after byte some first reads = (
+  λ bytes is. subst (λ (t : List ℕ). ShowsBytes inner t) (sym (append_assoc done (byte ∷ []) bytes)) (reads.0 (byte ∷ bytes) (after, first, is)),
   λ bytes is.
       let found = reads.1 bytes is in
-      let next = next_of rest behind byte found.0 some first found.2 in
+      let next = next_of rest after byte found.0 some first found.2 in
       (next.0, found.1 ∙ ap (λ (t : List ℕ). done ++ t) next.1 ∙ sym (append_assoc done (byte ∷ []) next.0), next.2),
 )
 
--- a byte put behind those that are there
+-- a byte put after those that are there
 put_next : (done kind : List ℕ) (byte i : ℕ) → length done ≡ i → i < 4 → kind ≡ done ++ replicate (4 - length done) 32
     → set kind i byte ≡ (done ++ byte ∷ []) ++ replicate (4 - length (done ++ byte ∷ [])) 32
 put_next done kind byte i is small whole =
@@ -76,11 +76,11 @@ put_next done kind byte i is small whole =
     ∙ ap (λ (n : ℕ). (done ++ byte ∷ []) ++ replicate n 32) (sym fewer)
 
 -- a turn that reads a byte
-pub reading_more : (inner rest behind kind : List ℕ) (byte i : ℕ) → rest ≢ [] → i < 4 → ShowsFirst rest byte behind → Reading inner rest kind i → Reading inner behind (set kind i byte) (i + 1)
-reading_more inner rest behind kind byte i some small first (done, reads, whole, most, short) =
+pub reading_more : (inner rest after kind : List ℕ) (byte i : ℕ) → rest ≢ [] → i < 4 → ShowsFirst rest byte after → Reading inner rest kind i → Reading inner after (set kind i byte) (i + 1)
+reading_more inner rest after kind byte i some small first (done, reads, whole, most, short) =
     let exact : length done ≡ i = grind (arith, some, most, short) in
     let longer : length (done ++ byte ∷ []) ≡ i + 1 = length-append done (byte ∷ []) ∙ ap (λ (n : ℕ). n + 1) exact in
-    (done ++ byte ∷ [], reads_more inner done rest behind byte some first reads, put_next done kind byte i exact small whole, omega arith, λ below. absurd (omega arith))
+    (done ++ byte ∷ [], reads_more inner done rest after byte some first reads, put_next done kind byte i exact small whole, omega arith, λ below. absurd (omega arith))
 
 -- a turn where nothing is left
 pub reading_stays : (inner rest kind : List ℕ) (i : ℕ) → rest ≡ [] → Reading inner rest kind i → Reading inner rest kind (i + 1)
@@ -99,19 +99,19 @@ one_inner text between inner (byte ∷ bytes) (inr stands) alone (inl is) shown 
 abbrev pub ShowsNone : List ℕ → Type 0
 ShowsNone inner = (bytes : List ℕ) → ShowsBytes inner bytes → 0 < length bytes → length bytes ≤ 4 → ⊥
 
--- nothing stands there
+-- nothing is there
 pub none_empty : (inner : List ℕ) → inner ≡ [] → ShowsNone inner
 none_empty inner empty bytes shown some most =
     let none : bytes ≡ [] = nothing_shown bytes (subst (λ (t : List ℕ). ShowsBytes t bytes) empty shown) in
     let short : length bytes ≡ 0 = ap (λ (t : List ℕ). length t) none in
     omega arith
 
-none_next : (rest tail : List ℕ) → rest ≢ [] → ((byte : ℕ) → (behind : List ℕ) → ¬ ShowsFirst rest byte behind) → ShowsBytes rest tail → ⊥
+none_next : (rest tail : List ℕ) → rest ≢ [] → ((byte : ℕ) → (after : List ℕ) → ¬ ShowsFirst rest byte after) → ShowsBytes rest tail → ⊥
 none_next rest [] some none is = some is
 none_next rest (byte ∷ tail) some none is = none byte is.0 is.1
 
 -- the next byte isn't shown
-pub none_stuck : (inner rest kind : List ℕ) (i : ℕ) → rest ≢ [] → ((byte : ℕ) → (behind : List ℕ) → ¬ ShowsFirst rest byte behind) → Reading inner rest kind i → ShowsNone inner
+pub none_stuck : (inner rest kind : List ℕ) (i : ℕ) → rest ≢ [] → ((byte : ℕ) → (after : List ℕ) → ¬ ShowsFirst rest byte after) → Reading inner rest kind i → ShowsNone inner
 none_stuck inner rest kind i some none (done, reads, whole, most, short) bytes shown some_bytes most_bytes =
     let found = reads.1 bytes shown in
     none_next rest found.0 some none found.2
@@ -152,7 +152,7 @@ some_exact inner rest given some none reading kind = (
   λ other. ap (λ (t : List ℕ). Some t) (all_alone inner rest given kind none reading other),
 )
 
--- what stands between the quotes shows the type that the text shows
+-- what is between the quotes shows the type that the text shows
 pub kind_exact : (text between : List ℕ) (given : Option (List ℕ)) → Quotes text between → ((other : List ℕ) → text ≡ 39 ∷ (other ++ 39 ∷ []) → between ≡ other)
     → ((kind : List ℕ) → (given ≡ Some kind) ↔ ShowsBare between kind) → (kind : List ℕ) → (given ≡ Some kind) ↔ ShowsKind text kind
 kind_exact text between given stands alone bare kind = (

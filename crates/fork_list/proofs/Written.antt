@@ -13,11 +13,11 @@ use Rattle.fork_list.specs.Kind.{IsHexadecimal, ShowsFirst, written}
 abbrev pub Plain : List ℕ → ℕ → List ℕ → Type 0
 Plain text byte rest = (text ≡ byte ∷ rest) × (32 ≤ byte) × (byte ≢ 127) × (byte ≢ 39) × (byte ≢ 92) × (byte < 256)
 
--- the byte stands behind a backslash
-abbrev pub Behind : List ℕ → ℕ → List ℕ → Type 0
-Behind text byte rest = (text ≡ 92 ∷ byte ∷ rest) × ((byte ≡ 39) ⊎ (byte ≡ 92))
+-- the byte is after a backslash
+abbrev pub After : List ℕ → ℕ → List ℕ → Type 0
+After text byte rest = (text ≡ 92 ∷ byte ∷ rest) × ((byte ≡ 39) ⊎ (byte ≡ 92))
 
--- the byte stands as two digits
+-- the byte is as two digits
 abbrev pub Digits : List ℕ → ℕ → List ℕ → Type 0
 Digits text byte rest = (high : ℕ) × (low : ℕ) × (text ≡ 92 ∷ 120 ∷ high ∷ low ∷ rest) × (digit_value high < 16) × (digit_value low < 16)
     × (byte ≡ 16 * digit_value high + digit_value low)
@@ -86,7 +86,7 @@ written_forms byte small =
     ]
 
 -- the three forms
-pub forms : (text : List ℕ) (byte : ℕ) (rest : List ℕ) → ShowsFirst text byte rest → Behind text byte rest ⊎ (Plain text byte rest ⊎ Digits text byte rest)
+pub forms : (text : List ℕ) (byte : ℕ) (rest : List ℕ) → ShowsFirst text byte rest → After text byte rest ⊎ (Plain text byte rest ⊎ Digits text byte rest)
 forms text byte rest (piece, inl (small, is), whole) =
     elim (written_forms byte small) [
       | inl marked ↦ inl (whole ∙ ap (λ (p : List ℕ). p ++ rest) (is ∙ marked.0), marked.1)
@@ -96,22 +96,22 @@ forms text byte rest (piece, inl (small, is), whole) =
 forms text byte rest (piece, inr digits, whole) =
     inr (inr (digits.0, digits.1, whole ∙ ap (λ (p : List ℕ). p ++ rest) digits.2, digits.3, digits.4, digits.5))
 
--- a byte behind a backslash isn't `x`
+-- a byte after a backslash isn't `x`
 isn't_x : (byte : ℕ) → (byte ≡ 39) ⊎ (byte ≡ 92) → byte ≢ 120
 isn't_x byte (inl is) e = omega arith
 isn't_x byte (inr is) e = omega arith
 
-behind_alone : (text : List ℕ) (a b : ℕ) (r s : List ℕ) → Behind text a r → Behind text b s ⊎ (Plain text b s ⊎ Digits text b s) → (a ≡ b) × (r ≡ s)
-behind_alone text a b r s p (inl q) = let whole = p.0 in let again = q.0 in (cc, cc)
-behind_alone text a b r s p (inr (inl q)) = let whole = p.0 in let again = q.0 in let is : b ≡ 92 = cc in absurd (q.4 is)
-behind_alone text a b r s p (inr (inr q)) = let whole = p.0 in let again = q.2 in let is : a ≡ 120 = cc in absurd (isn't_x a p.1 is)
+after_alone : (text : List ℕ) (a b : ℕ) (r s : List ℕ) → After text a r → After text b s ⊎ (Plain text b s ⊎ Digits text b s) → (a ≡ b) × (r ≡ s)
+after_alone text a b r s p (inl q) = let whole = p.0 in let again = q.0 in (cc, cc)
+after_alone text a b r s p (inr (inl q)) = let whole = p.0 in let again = q.0 in let is : b ≡ 92 = cc in absurd (q.4 is)
+after_alone text a b r s p (inr (inr q)) = let whole = p.0 in let again = q.2 in let is : a ≡ 120 = cc in absurd (isn't_x a p.1 is)
 
-plain_alone : (text : List ℕ) (a b : ℕ) (r s : List ℕ) → Plain text a r → Behind text b s ⊎ (Plain text b s ⊎ Digits text b s) → (a ≡ b) × (r ≡ s)
+plain_alone : (text : List ℕ) (a b : ℕ) (r s : List ℕ) → Plain text a r → After text b s ⊎ (Plain text b s ⊎ Digits text b s) → (a ≡ b) × (r ≡ s)
 plain_alone text a b r s p (inl q) = let whole = p.0 in let again = q.0 in let is : a ≡ 92 = cc in absurd (p.4 is)
 plain_alone text a b r s p (inr (inl q)) = let whole = p.0 in let again = q.0 in (cc, cc)
 plain_alone text a b r s p (inr (inr q)) = let whole = p.0 in let again = q.2 in let is : a ≡ 92 = cc in absurd (p.4 is)
 
-digits_alone : (text : List ℕ) (a b : ℕ) (r s : List ℕ) → Digits text a r → Behind text b s ⊎ (Plain text b s ⊎ Digits text b s) → (a ≡ b) × (r ≡ s)
+digits_alone : (text : List ℕ) (a b : ℕ) (r s : List ℕ) → Digits text a r → After text b s ⊎ (Plain text b s ⊎ Digits text b s) → (a ≡ b) × (r ≡ s)
 digits_alone text a b r s p (inl q) = let whole = p.2 in let again = q.0 in let is : b ≡ 120 = cc in absurd (isn't_x b q.1 is)
 digits_alone text a b r s p (inr (inl q)) = let whole = p.2 in let again = q.0 in let is : b ≡ 92 = cc in absurd (q.4 is)
 digits_alone text a b r s p (inr (inr q)) =
@@ -127,7 +127,7 @@ digits_alone text a b r s p (inr (inr q)) =
 pub same_first : (text : List ℕ) (a b : ℕ) (r s : List ℕ) → ShowsFirst text a r → ShowsFirst text b s → (a ≡ b) × (r ≡ s)
 same_first text a b r s one other =
     elim (forms text a r one) [
-      | inl p ↦ behind_alone text a b r s p (forms text b s other)
+      | inl p ↦ after_alone text a b r s p (forms text b s other)
       | inr (inl p) ↦ plain_alone text a b r s p (forms text b s other)
       | inr (inr p) ↦ digits_alone text a b r s p (forms text b s other)
     ]
@@ -138,12 +138,12 @@ plain_first text byte rest p =
     let marked : (eqb byte 39 || eqb byte 92) ≡ false = or_from (eqb byte 39) (eqb byte 92) (ne_eqb byte 39 p.3) (ne_eqb byte 92 p.4) in
     (byte ∷ [], inl (p.5, sym (cond-false _ _ _ marked ∙ cond-true _ _ _ (letter_from byte p.1 p.2))), p.0)
 
--- a byte behind a backslash is shown
-pub behind_first : (text : List ℕ) (byte : ℕ) (rest : List ℕ) → Behind text byte rest → ShowsFirst text byte rest
-behind_first text byte rest (whole, inl is) =
+-- a byte after a backslash is shown
+pub after_first : (text : List ℕ) (byte : ℕ) (rest : List ℕ) → After text byte rest → ShowsFirst text byte rest
+after_first text byte rest (whole, inl is) =
     let small : byte < 256 = omega arith in
     (92 ∷ byte ∷ [], inl (small, sym (cond-true _ _ _ (or_left (eqb byte 39) (eqb byte 92) (eq-eqb byte 39 is)))), whole)
-behind_first text byte rest (whole, inr is) =
+after_first text byte rest (whole, inr is) =
     let small : byte < 256 = omega arith in
     (92 ∷ byte ∷ [], inl (small, sym (cond-true _ _ _ (or_right (eqb byte 39) (eqb byte 92) (eq-eqb byte 92 is)))), whole)
 

@@ -7,7 +7,7 @@ use Rattle.fork_list.specs.declared.letters.Letters.TheVariants.{Roman}
 use Rattle.fork_list.specs.Quoted.{is_letter}
 
 -- a byte as it is written between single quotes, in MacRoman: itself where it is a letter, and else `\x` and two
--- digits; a backslash stands before a quote and a backslash
+-- digits; a backslash is before a quote and a backslash
 abbrev pub written : ℕ → List ℕ
 written byte =
     if byte == 39 || byte == 92 then 92 ∷ byte ∷ []
@@ -27,11 +27,11 @@ IsHexadecimal piece byte = (high : ℕ) × (low : ℕ) × (piece ≡ 92 ∷ 120 
 abbrev pub ShowsByte : List ℕ → ℕ → Type 0
 ShowsByte piece byte = ((byte < 256) × (piece ≡ written byte)) ⊎ IsHexadecimal piece byte
 
--- the text shows this byte first, and this text is behind it
+-- the text shows this byte first, and this text is after it
 abbrev pub ShowsFirst : List ℕ → ℕ → List ℕ → Type 0
 ShowsFirst text byte rest = (piece : List ℕ) × ShowsByte piece byte × (text ≡ piece ++ rest)
 
--- the text shows these bytes one behind the other
+-- the text shows these bytes one after the other
 abbrev pub ShowsBytes : List ℕ → List ℕ → Type 0
 ShowsBytes text [] = text ≡ []
 ShowsBytes text (byte ∷ bytes) = (rest : List ℕ) × ShowsFirst text byte rest × ShowsBytes rest bytes

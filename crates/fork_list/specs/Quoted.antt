@@ -11,7 +11,7 @@ abbrev pub is_letter : Letters → ℕ → Bool
 is_letter Roman byte = (nat_le 32 byte && nat_le byte 126) || nat_le 128 byte
 is_letter Raw byte = nat_le 32 byte && nat_le byte 126
 
--- a byte as text: its character, and else `\x` and two digits; a backslash stands before a quote and a backslash
+-- a byte as text: its character, and else `\x` and two digits; a backslash is before a quote and a backslash
 abbrev pub escaped : Letters → ℕ → ℕ → List ℕ
 escaped letters quote byte =
     if byte == quote || byte == 92 then 92 ∷ byte ∷ []

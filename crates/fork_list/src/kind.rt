@@ -31,7 +31,7 @@ pub(crate) fn byte_of(high: u8, low: u8) -> Option<u8>
     Some(16 * high + low)
 }
 
-/// The byte that `\x` and this text behind it show first, and what is behind its digits.
+/// The byte that `\x` and this text after it show first, and what is after its digits.
 fn hexadecimal_byte(text: &[u8]) -> Option<(u8, &[u8])>
     ensures shown { IfSome result (λ first. ShowsFirst (92 ∷ 120 ∷ text.now) first.0 first.1.now) }
     ensures none { IfNone result ((byte : ℕ) → (rest : List ℕ) → ¬ ShowsFirst (92 ∷ 120 ∷ text.now) byte rest) }
@@ -42,7 +42,7 @@ fn hexadecimal_byte(text: &[u8]) -> Option<(u8, &[u8])>
     }
 }
 
-/// The byte that a backslash and this text behind it show first, and what is behind both.
+/// The byte that a backslash and this text after it show first, and what is after both.
 fn escaped_byte(text: &[u8]) -> Option<(u8, &[u8])>
     ensures shown { IfSome result (λ first. ShowsFirst (92 ∷ text.now) first.0 first.1.now) }
     ensures none { IfNone result ((byte : ℕ) → (rest : List ℕ) → ¬ ShowsFirst (92 ∷ text.now) byte rest) }
@@ -54,7 +54,7 @@ fn escaped_byte(text: &[u8]) -> Option<(u8, &[u8])>
     }
 }
 
-/// The byte that a text shows first, and the text behind it.
+/// The byte that a text shows first, and the text after it.
 fn first_byte(text: &[u8]) -> Option<(u8, &[u8])>
     ensures shown { IfSome result (λ first. ShowsFirst text.now first.0 first.1.now) }
     ensures none { IfNone result ((byte : ℕ) → (rest : List ℕ) → ¬ ShowsFirst text.now byte rest) }
@@ -68,7 +68,7 @@ fn first_byte(text: &[u8]) -> Option<(u8, &[u8])>
     }
 }
 
-/// The text between single quotes, or all of it where none stand around it.
+/// The text between single quotes, or all of it where none are around it.
 fn without_quotes(text: &[u8]) -> &[u8]
     ensures quotes { Quotes text.now result.now }
     ensures between { (inner : List ℕ) → text.now ≡ 39 ∷ (inner ++ 39 ∷ []) → result.now ≡ inner }
@@ -90,11 +90,11 @@ fn bare_kind(text: &[u8]) -> Option<ResType>
     let mut kind = [b' '; KIND_LENGTH];
     for i in 0..KIND_LENGTH {
         if !rest.is_empty() {
-            let Some((byte, behind)) = first_byte(rest) else {
+            let Some((byte, after)) = first_byte(rest) else {
                 return None;
             };
             kind[i] = byte;
-            rest = behind;
+            rest = after;
         }
     }
     if !rest.is_empty() {

@@ -6,7 +6,7 @@ ghost use Rattle.fork_list.specs.Names.{NamesBytes, NamesFirst, ShowsName, Unquo
 use crate::kind::byte_of;
 use std::alloc::{AllocError, Global};
 
-/// The text between double quotes, or all of it where none stand around it.
+/// The text between double quotes, or all of it where none are around it.
 fn without_quotes(text: &[u8]) -> &[u8]
     ensures between { (inner : List ℕ) → text.now ≡ 34 ∷ (inner ++ 34 ∷ []) → result.now ≡ inner }
     ensures bare { ((inner : List ℕ) → text.now ≢ 34 ∷ (inner ++ 34 ∷ [])) → result.now ≡ text.now }
@@ -59,7 +59,7 @@ fn bare_name(alloc: Global, text: &[u8]) -> Result<Option<Vec<u8>>, AllocError>
 }
 
 /// The name that a text in MacRoman shows, as a list of resources shows it, with double quotes or without. None where a
-/// backslash stands before something else than itself, a quote, or `x` and two hexadecimal digits.
+/// backslash is before something else than itself, a quote, or `x` and two hexadecimal digits.
 pub fn name_of(alloc: Global, text: &[u8]) -> Result<Option<Vec<u8>>, AllocError>
     ensures { IfOk result (λ found. (name : List ℕ) → (option_map (λ bytes. bytes.items) found ≡ Some name) ↔ ShowsName text.now name) }
 {

@@ -8,7 +8,7 @@ use crate::letters::Letters;
 use crate::roman::char_of;
 use std::fmt;
 
-/// A byte as text: itself or its character, or else `\x` and two hexadecimal digits. A backslash stands before the
+/// A byte as text: itself or its character, or else `\x` and two hexadecimal digits. A backslash is before the
 /// quote and a backslash.
 #[derive(Clone, Copy)]
 pub struct Escaped {

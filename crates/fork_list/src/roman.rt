@@ -50,7 +50,7 @@ pub fn byte_of(character: char) -> Option<u8>
     Some(UPPER_START + place as u8)
 }
 
-/// Where in the table a character stands.
+/// Where in the table a character is.
 fn upper_place(character: char) -> Option<usize>
     ensures { result ≡ position (λ upper. upper == character) UPPER }
 {

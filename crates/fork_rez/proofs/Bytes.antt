@@ -55,7 +55,7 @@ digits_end : (rest : List ℕ) → digits_at (34 ∷ rest) ≡ Ok (None, rest)
 unfolding digits_at after_blanks
 digits_end rest = refl
 
--- what stands before a byte in digits
+-- what is before a byte in digits
 abbrev before : ℕ → List ℕ
 before at = if nat_lt 0 at && at % 2 == 0 then 32 ∷ [] else []
 
@@ -95,7 +95,7 @@ pub digits_again : (bytes rest : List ℕ) → AllByRecursion (λ byte. byte < 2
 unfolding quoted_at
 digits_again bytes rest all = digits_many 0 bytes rest all (suc (length (digits_text 0 bytes ++ 34 ∷ rest))) [] (digits_long 0 bytes (34 ∷ rest))
 
--- between these quotes a backslash may stand before a quote
+-- between these quotes a backslash may be before a quote
 module _ (quote : ℕ) (apart : eqb 92 quote ≡ false) (known : (eqb quote 34 || (eqb quote 39 || eqb quote 92)) ≡ true) where
   escaped : (byte : ℕ) → (eqb byte quote || eqb byte 92) ≡ true → (eqb byte 34 || (eqb byte 39 || eqb byte 92)) ≡ true
   escaped byte marked =

@@ -24,7 +24,7 @@ line_again bytes rest all =
     ap (λ (t : List ℕ). string_at (9 ∷ 36 ∷ 34 ∷ t)) (append_assoc (digits_text 0 bytes) (34 ∷ []) rest)
     ∙ string_begins (digits_text 0 bytes ++ 34 ∷ rest) ∙ rw (digits_again bytes rest all) refl
 
--- what stands after it
+-- what is after it
 line_skipped : (bytes rest : List ℕ) → string_at (gap bytes ++ rest) ≡ string_at rest
 unfolding string_at
 line_skipped bytes rest = rw (gap_skipped bytes rest) refl

@@ -148,7 +148,7 @@ unfolding map_at
 no_map [] = refl
 no_map (row ∷ rows) = refl
 
--- and where they stand in the comment
+-- and where they are in the comment
 map_begins : (text : List ℕ) → map_at (map_word ++ text) ≡ map_in text
 unfolding map_at
 map_begins text = ap (λ (o : Option (List ℕ)). if_there o map_in (Ok (replicate 242 0, map_word ++ text))) (own_word map_word text)

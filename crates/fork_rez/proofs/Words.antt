@@ -63,7 +63,7 @@ comment [] rest = refl
 comment (byte ∷ bytes) rest =
     goes Block Block (shown byte) (map shown bytes ++ 32 ∷ 42 ∷ 47 ∷ rest) refl (cond-false _ _ _ (shown_apart byte)) ∙ comment bytes rest
 
--- what stands between a line of data and the next
+-- what is between a line of data and the next
 abbrev pub gap : List ℕ → List ℕ
 gap bytes = replicate (gap_of (length bytes)) 32 ++ (47 ∷ 42 ∷ 32 ∷ (map shown bytes ++ 32 ∷ 42 ∷ 47 ∷ 10 ∷ []))
 

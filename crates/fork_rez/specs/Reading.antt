@@ -113,7 +113,7 @@ byte_at (high ∷ low ∷ text) =
     if nat_lt (digit_value high) 16 && nat_lt (digit_value low) 16 then Ok (16 * digit_value high + digit_value low, text)
     else fails (high ∷ low ∷ text) Digits
 
--- what stands after a backslash: a quote, a backslash, or `0x` and two digits
+-- what is after a backslash: a quote, a backslash, or `0x` and two digits
 unfoldable pub escape_at : List ℕ → Result (ℕ × List ℕ) Fault
 escape_at [] = fails [] Character
 escape_at (byte ∷ text) =

@@ -19,7 +19,7 @@ hexadecimal byte = digit_glyph true (byte / 16) ∷ digit_glyph true (byte % 16)
 abbrev pub is_printable : ℕ → Bool
 is_printable byte = nat_le 32 byte && nat_le byte 126
 
--- a byte between quotes: itself where it is printable, and else `\0x` and two digits; a backslash stands before this
+-- a byte between quotes: itself where it is printable, and else `\0x` and two digits; a backslash is before this
 -- quote and a backslash
 abbrev pub written : ℕ → ℕ → List ℕ
 written quote byte =
@@ -73,7 +73,7 @@ shown byte = if is_printable byte && not (byte == 42) then byte else 46
 abbrev pub line_text : List ℕ → List ℕ
 line_text bytes = codes "\t$\"" ++ (digits_text 0 bytes ++ 34 ∷ [])
 
--- how many blanks stand between the digits of so many bytes and their comment: 12 in a full line, whose digits are 39
+-- how many blanks are between the digits of so many bytes and their comment: 12 in a full line, whose digits are 39
 -- wide
 abbrev pub gap_of : ℕ → ℕ
 gap_of count = 12 + (39 - (2 * count + (count - 1) / 2))

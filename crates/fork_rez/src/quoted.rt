@@ -8,7 +8,7 @@ use crate::blanks::{after_blanks, after_word};
 use crate::fault::{Expected, ReadError, refused};
 use std::alloc::Global;
 
-/// How bytes stand between quotes.
+/// How bytes are between quotes.
 #[derive(Clone, Copy)]
 pub(crate) enum Quotes {
     /// As characters between single quotes.
@@ -34,7 +34,7 @@ pub(crate) fn byte_at(text: &[u8]) -> Result<(u8, &[u8]), ReadError>
     Err(refused(text, Expected::Digits))
 }
 
-/// What stands after a backslash: a quote, a backslash, or `0x` and two digits.
+/// What is after a backslash: a quote, a backslash, or `0x` and two digits.
 #[tactic(auto, unfolding(crate::specs::Reading::escape_at))]
 fn escape_at(text: &[u8]) -> Result<(u8, &[u8]), ReadError>
     ensures { Gives (λ x. (x.0, x.1.now)) result (escape_at text.now) }

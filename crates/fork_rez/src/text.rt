@@ -146,7 +146,7 @@ fn push_shown(out: &mut Vec<u8>, bytes: &[u8]) -> Result<(), AllocError>
     Ok(())
 }
 
-/// How many blanks stand between the digits of so many bytes and their comment: all comments of full lines begin in one
+/// How many blanks are between the digits of so many bytes and their comment: all comments of full lines begin in one
 /// column.
 fn gap_of(count: usize) -> usize
     requires { count ≤ 16 }
@@ -283,7 +283,7 @@ fn push_map(out: &mut Vec<u8>, bytes: &[u8]) -> Result<(), AllocError>
 }
 
 /// The text of a table's resources of these types, or of all where none are named: a `data` statement for each, as
-/// DeRez writes them, all in ASCII. The 240 extra bytes and the map's attributes stand in a first comment, unless all
+/// DeRez writes them, all in ASCII. The 240 extra bytes and the map's attributes are in a first comment, unless all
 /// are 0. The only error is that the host has no memory.
 pub fn derez(alloc: Global, kinds: &[ResType], table: &Table) -> Result<Vec<u8>, AllocError>
     ensures { IfOk result (λ text. text.items ≡ text_of (chosen kinds.now table.now)) }

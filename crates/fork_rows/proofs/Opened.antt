@@ -92,13 +92,13 @@ pub has_places : (limits : Limits) (fork : List ℕ) (header : Header) (m : List
     (placed : List PlacedRow) → placed ≡ map (placed_row fork) rows → AreFewBytesWithin limits placed →
     (extra : List ℕ) (attributes : ℕ) → extra ≡ extra_of fork → attributes ≡ attributes_of m →
     HasPlacesWithin limits fork (record { rows = placed; extra = extra; map_attributes = attributes })
-has_places limits fork header m rows read has placed is few extra attributes behind marks =
+has_places limits fork header m rows read has placed is few extra attributes following marks =
     let P : List PlacedRow → Type 0 = AreFewBytesWithin limits in
     let found = same_placed limits fork header m rows read placed is in (
       is_fork limits fork read.whole (parts_of limits fork header m rows read) (map_holds limits fork header m rows read) (has_data limits fork header m rows read has)
           (few_from_placed limits fork (map_rows (map_of fork)) (subst P found few)),
       ap (λ (r : List PlacedRow). record { rows = r; extra = extra; map_attributes = attributes }) found
-          ∙ ap (λ (e : List ℕ). record { rows = placed_rows fork; extra = e; map_attributes = attributes }) behind
+          ∙ ap (λ (e : List ℕ). record { rows = placed_rows fork; extra = e; map_attributes = attributes }) following
           ∙ ap (λ (n : ℕ). record { rows = placed_rows fork; extra = extra_of fork; map_attributes = n }) (marks ∙ ap attributes_of (same_map limits fork header m rows read)),
     )
 

@@ -27,7 +27,7 @@ placed_table fork = record {
   map_attributes = attributes_of (map_of fork);
 }
 
--- the table with the bytes that stand at the places
+-- the table with the bytes that are at the places
 abbrev pub filled : List ℕ → PlacedTable → Table
 filled fork table = record {
   rows = map (row_at fork) table.rows;
@@ -47,7 +47,7 @@ FitsInFork = EndsBy max_fork
 abbrev pub kinds_in : {X : Type 0} → List (Resource X) → List (List ℕ)
 kinds_in rows = map (λ row. row.kind) rows
 
--- the rows of one type stand together, whatever the bytes at their places
+-- the rows of one type are together, whatever the bytes at their places
 abbrev pub AreGrouped : List PlacedRow → Type 0
 AreGrouped rows = (fork : List ℕ) → IsGrouped (map (row_at fork) rows)
 

@@ -1,4 +1,4 @@
-//! Resource forks that stay on their disks: which resources there are, and where their bytes stand.
+//! Resource forks that stay on their disks: which resources there are, and where their bytes are.
 #![tactic(auto)]
 
 pub mod fault;

@@ -18,7 +18,7 @@ use std::alloc::Global;
 /// How many bytes the header and the extra bytes have.
 const FRONT_LENGTH: usize = 256;
 
-/// What stands before the data and the map.
+/// What is before the data and the map.
 #[derive(Clone, Copy)]
 pub(crate) struct Front {
     pub(crate) header: Header,

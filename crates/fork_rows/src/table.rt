@@ -43,7 +43,7 @@ impl PlacedRows {
     }
 }
 
-/// What a resource fork holds, but for the bytes of its resources: of these it says where they stand in the fork.
+/// What a resource fork holds, but for the bytes of its resources: of these it says where they are in the fork.
 #[derive(Drop)]
 pub struct PlacedTable {
     /// The resources, in the order of the map.

@@ -52,14 +52,14 @@ bad_row fork reference gap = record {
   gap = gap;
 }
 
--- where the datum of a reference stands in the data, and its name in the map
+-- where the datum of a reference is in the data, and its name in the map
 abbrev pub datum_place : List ℕ → Reference → ℕ
 datum_place fork reference = number_at 3 (reference.place + 5) (map_of fork)
 
 abbrev pub name_start : List ℕ → Reference → ℕ
 name_start fork reference = name_list (map_of fork) + number_at 2 (reference.place + 2) (map_of fork)
 
--- where in the map an entry of the type list stands
+-- where in the map an entry of the type list is
 abbrev pub entry_place : List ℕ → ℕ → ℕ
 entry_place resource_map i = type_list resource_map + 2 + 8 * i
 
@@ -98,7 +98,7 @@ HasBytes fork reference = HasDatum (data_of fork) (map_row (map_of fork) referen
 abbrev pub bytes_up_to : List ℕ → List Reference → ℕ
 bytes_up_to fork references = sum_by (λ (r : Reference). 4 + datum_length (data_of fork) (datum_place fork r)) references
 
--- a type that stands twice, where it first does
+-- a type that is twice, where it first does
 pub record IsSameType (fork : List ℕ) (same : SameType) : Type 0 where
   pub first : ℕ
   pub second : ℕ

@@ -46,7 +46,7 @@ parts_faults fork = option_to_list (too_long fork) ++ option_to_list (data_fault
 abbrev pub earlier_type : List ℕ → Types → List ℕ → List ℕ → Option ℕ
 earlier_type resource_map types kind indices = find (λ k. bytes_eq (told_list resource_map types k).kind kind) indices
 
--- a type that stands in an earlier entry too
+-- a type that is in an earlier entry too
 abbrev pub same_type : Span → List ℕ → Types → ℕ → Option Fault
 same_type map_part resource_map types i = let kind = (told_list resource_map types i).kind in let start = map_part.start + types.place + 2 in
     option_map (λ first. fault.SameType (record { kind = kind; first = start + 8 * first; second = start + 8 * i }))
@@ -112,7 +112,7 @@ map_faults fork = let resource_map = (parts_at 0 fork).map in
     if nat_le (resource_map.start + resource_map.length) (length fork) && nat_le 28 resource_map.length
     then option_to_list (types_fault resource_map (map_of fork)) else []
 
--- the faults of all that can be looked at: what stands behind a part that ends outside isn't
+-- the faults of all that can be looked at: what is after a part that ends outside isn't
 abbrev pub found_faults : List ℕ → List Fault
 found_faults fork =
     if nat_lt (length fork) 16 then option_to_list (header_fault fork)

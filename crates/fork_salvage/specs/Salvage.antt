@@ -60,7 +60,7 @@ next_start resource_map types i =
 abbrev pub references_at : ReferenceList → List Reference
 references_at list = references_in (record { kind = list.kind; count = list.count; start = list.start })
 
--- where the bytes stand whose length stands at a place of the data
+-- where the bytes are whose length is at a place of the data
 abbrev pub datum_found : List ℕ → Plan → ℕ → Result Span Loss
 datum_found fork plan datum =
     let bytes = data_in fork plan in let place = plan.«data».start + datum in let count = number_at 4 datum bytes in
@@ -68,13 +68,13 @@ datum_found fork plan datum =
     else (if nat_lt (length bytes) (datum + 4 + count) then Err (loss.Bytes (record { place = place; wanted = count; left = length bytes - (datum + 4) }))
     else Ok (record { start = place + 4; length = count }))
 
--- where the bytes of the reference at a place of the map stand in the fork, or what of it ends outside
+-- where the bytes of the reference at a place of the map are in the fork, or what of it ends outside
 abbrev pub bytes_found : List ℕ → Plan → ℕ → Result Span Loss
 bytes_found fork plan at = let resource_map = map_in fork plan in
     if nat_lt (length resource_map) (at + 12) then Err (loss.Reference (record { place = plan.map.start + at; wanted = 12; left = length resource_map - at }))
     else datum_found fork plan (number_at 3 (at + 5) resource_map)
 
--- the name of the reference at a place of the map: where its bytes stand in the fork, unless it has none or ends
+-- the name of the reference at a place of the map: where its bytes are in the fork, unless it has none or ends
 -- outside
 abbrev pub name_found : List ℕ → Plan → ℕ → FoundName
 name_found fork plan at =
@@ -124,7 +124,7 @@ references fork plan = references_from fork plan 0
 abbrev pub keeps_all : List ℕ → Plan → Bool
 keeps_all fork plan = list_all (λ (r : Reference). has_bytes fork plan r.place && is_inside (name_found fork plan r.place)) (references fork plan)
 
--- the parts that a header says, which stands at an offset of the fork
+-- the parts that a header says, which is at an offset of the fork
 abbrev pub parts_at : ℕ → List ℕ → Parts
 parts_at at fork = record {
   map = record { start = number_at 4 (at + 4) fork; length = number_at 4 (at + 12) fork };
@@ -154,7 +154,7 @@ abbrev pub may_be_told : List ℕ → Bool
 may_be_told fork = let plan = told_plan fork in
     nat_le 16 (length fork) && lies_within (length fork) (parts_at 0 fork) && nat_le (plan.types.place + 2 + 8 * plan.types.count) (length (map_in fork plan))
 
--- a header stands where it says itself that the map is: this is the map's copy of it
+-- a header is where it says itself that the map is: this is the map's copy of it
 abbrev pub is_copy : List ℕ → ℕ → Bool
 is_copy fork at = let parts = parts_at at fork in (parts.map.start == at) && lies_within (length fork) parts
 

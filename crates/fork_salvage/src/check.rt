@@ -300,7 +300,7 @@ fn with_first<T: PartialEq + Copy>(
 
 /// All faults of a fork, each with its place: the first that the reader meets, as `first_fault` gives it, and then the
 /// others in the order of what they are of: the header, the parts, the type list, each entry of it and each reference.
-/// There is none exactly of a fork that is read. Of what stands after a part that ends outside of the fork nothing is
+/// There is none exactly of a fork that is read. Of what is after a part that ends outside of the fork nothing is
 /// looked at, and of the references the first 4,194,304. The only error is that the host has no memory.
 pub fn all_faults(alloc: Global, fork: &[u8]) -> Result<Vec<Fault>, AllocError>
     ensures none { IfOk result (λ faults. IsForkWithin format_limits fork.now → faults.items ≡ []) }

@@ -13,14 +13,14 @@ use mac_base::resource::ResType;
 /// How many bytes an entry of the type list has.
 pub(crate) const ENTRY_LENGTH: usize = 8;
 
-/// Where in a map the type list is taken to stand, and how many types are taken from it.
+/// Where in a map the type list is taken to be, and how many types are taken from it.
 #[derive(Clone, Copy)]
 pub(crate) struct Types {
     pub(crate) place: usize,
     pub(crate) count: usize,
 }
 
-/// A list of references: their type, how many there are, and where in the map they stand.
+/// A list of references: their type, how many there are, and where in the map they are.
 #[derive(Clone, Copy)]
 pub(crate) struct ReferenceList {
     pub(crate) kind: ResType,

@@ -10,7 +10,7 @@ use fork_list::letters::Letters;
 use mac_base::resource::ResType;
 use std::fmt;
 
-/// A type that stands twice in the type list, and where in the fork its two entries stand.
+/// A type that is twice in the type list, and where in the fork its two entries are.
 #[derive(Clone, Copy, Debug, PartialEq, Eq)]
 pub struct SameType {
     pub kind: ResType,
@@ -25,7 +25,7 @@ pub struct BadList {
     pub gap: Gap,
 }
 
-/// A resource of which something ends outside: its type and id, where its reference stands in the fork, and what is
+/// A resource of which something ends outside: its type and id, where its reference is in the fork, and what is
 /// missing.
 #[derive(Clone, Copy, Debug, PartialEq, Eq)]
 pub struct BadRow {
@@ -48,11 +48,11 @@ pub enum Fault {
     Map(Gap),
     /// The map is shorter than its own header.
     MapHeader(Gap),
-    /// The count of types stands outside of the map.
+    /// The count of types is outside of the map.
     TypeCount(Gap),
     /// The entries of the type list end outside of the map.
     TypeList(Gap),
-    /// A type stands twice.
+    /// A type is twice.
     SameType(SameType),
     /// The references of a type end outside of the map.
     References(BadList),
@@ -169,7 +169,7 @@ impl fmt::Display for Fault {
     }
 }
 
-/// What is said of a type that stands twice.
+/// What is said of a type that is twice.
 fn write_same<W: fmt::Write>(f: &mut fmt::Formatter<W>, same: &SameType) -> fmt::Result {
     let kind = same.kind.bytes();
     let kind = Quoted::single(Letters::Raw, &kind);

@@ -73,7 +73,7 @@ impl Gap {
     }
 }
 
-/// Where the map and the data of a fork stand.
+/// Where the map and the data of a fork are.
 #[derive(Clone, Copy)]
 pub(crate) struct Parts {
     pub(crate) map: Span,

@@ -14,10 +14,10 @@ pub(crate) const HEADER_LENGTH: usize = 16;
 /// The fewest bytes that a map has.
 pub(crate) const MAP_HEADER_LENGTH: usize = 28;
 
-/// Where the type list mostly stands in a map.
+/// Where the type list mostly is in a map.
 const USUAL_PLACE: usize = 28;
 
-/// How a fork is read: where its map and its data are taken to stand, its type list in the map, and whether lists of
+/// How a fork is read: where its map and its data are taken to be, its type list in the map, and whether lists of
 /// references that aren't whole are looked for between the lists beside them.
 #[derive(Clone, Copy)]
 pub(crate) struct Plan {
@@ -27,7 +27,7 @@ pub(crate) struct Plan {
     pub(crate) mended: bool,
 }
 
-/// The parts that a header says, which stands at an offset of the fork.
+/// The parts that a header says, which is at an offset of the fork.
 pub(crate) fn parts_at(fork: &[u8], at: usize) -> Parts
     requires { at + 16 ≤ length fork.now }
     ensures parts { result ≡ parts_at at fork.now }
@@ -98,7 +98,7 @@ fn told_types(map: &[u8]) -> Option<Types>
     Some(Types { place, count })
 }
 
-/// The parts that a header says which stands where it says itself that the map is.
+/// The parts that a header says which is where it says itself that the map is.
 fn copy_at(fork: &[u8], at: usize) -> Option<Parts>
     ensures copy { IfSome result (λ copy. copy ≡ parts_at at fork.now) }
     ensures is { IfSome result (λ _. is_copy fork.now at ≡ true) }

@@ -19,7 +19,7 @@ pub(crate) const NO_NAME: usize = 0xFFFF;
 /// How many bytes the length of a resource has.
 const LENGTH_LENGTH: usize = 4;
 
-/// A reference: its type, and where in the map it stands.
+/// A reference: its type, and where in the map it is.
 #[derive(Clone, Copy)]
 pub(crate) struct MapReference {
     pub(crate) kind: ResType,
@@ -31,9 +31,9 @@ pub(crate) struct MapReference {
 pub enum FoundName {
     /// It has none.
     Unnamed,
-    /// Where the bytes of its name stand in the fork.
+    /// Where the bytes of its name are in the fork.
     Named(NameSpan),
-    /// Its name ends outside of the map. This is where its byte of length should stand in the fork.
+    /// Its name ends outside of the map. This is where its byte of length should be in the fork.
     Outside(usize),
 }
 
@@ -68,7 +68,7 @@ pub enum Loss {
     Bytes(Gap),
 }
 
-/// Where the bytes of the reference at a place of the map stand in the fork, or what of it ends outside.
+/// Where the bytes of the reference at a place of the map are in the fork, or what of it ends outside.
 pub(crate) fn find_bytes(fork: &[u8], plan: &Plan, at: usize) -> Result<Span, Loss>
     requires plan { IsPlan fork.now plan.now }
     requires small { at < 2 ^ 32 }
@@ -87,7 +87,7 @@ pub(crate) fn find_bytes(fork: &[u8], plan: &Plan, at: usize) -> Result<Span, Lo
     find_datum(fork, plan, read_three(map, at + 5))
 }
 
-/// Where the bytes stand whose length stands at a place of the data.
+/// Where the bytes are whose length is at a place of the data.
 fn find_datum(fork: &[u8], plan: &Plan, datum: usize) -> Result<Span, Loss>
     requires plan { IsPlan fork.now plan.now }
     requires small { datum < 2 ^ 24 }

@@ -23,7 +23,7 @@ pub struct LostRow {
     pub kind: ResType,
     /// The id, if it lies within the map.
     pub id: Option<i16>,
-    /// Where the reference stands in the fork, or should.
+    /// Where the reference is in the fork, or should.
     pub reference: usize,
     pub loss: Loss,
 }
@@ -37,7 +37,7 @@ pub enum Item {
     Run(Span),
 }
 
-/// Runs of a length and so many bytes: where the next one stands, and how many there are at most.
+/// Runs of a length and so many bytes: where the next one is, and how many there are at most.
 #[derive(Clone, Copy)]
 struct Chain {
     at: usize,

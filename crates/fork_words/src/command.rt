@@ -63,7 +63,7 @@ convert;Writes a file in another container;Writes a file in another container. W
 
 /// The words of the commands, options and then operands in their order. A line has the commands of a word; its name;
 /// its letter and its long form, if it is an option; what the help calls its value, if it has one; its marks; a word
-/// beside which it can't stand; and its help. The marks: a `required` word; a value `each` time that it stands, or
+/// beside which it can't be; and its help. The marks: a `required` word; a value `each` time that it is, or
 /// `many` values; values that may be negative `numbers`, or begin with `-`.
 const WORDS: &str =
     "ls unpack derez;type;t;type;TYPE;each;;Only resources of this type, as ls shows it (STR is 'STR '); it may stand several times
@@ -132,7 +132,7 @@ struct Word<'a> {
     help: &'a str,
 }
 
-/// Whether a word stands in a text that has blanks between words.
+/// Whether a word is in a text that has blanks between words.
 fn has(text: &str, word: &str) -> bool {
     text.split(" ").any(|other| other == word)
 }

@@ -49,7 +49,7 @@ pub struct Putting<'a> {
 #[derive(Drop)]
 pub struct Conversion<'a> {
     pub kind: Kind,
-    /// The file with the data fork, where that stands in a file of its own.
+    /// The file with the data fork, where that is in a file of its own.
     pub data: Option<&'a str>,
     /// The new file's name.
     pub name: Option<Vec<u8>>,
@@ -101,7 +101,7 @@ pub struct Derezzing<'a> {
 #[derive(Clone, Copy)]
 pub struct Packing<'a> {
     pub folder: &'a str,
-    /// The file in whose container the fork stands.
+    /// The file in whose container the fork is.
     pub like: Option<&'a str>,
     pub target: Target<'a>,
 }

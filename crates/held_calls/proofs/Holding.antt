@@ -11,7 +11,7 @@ use Rattle.std.proofs.lemmas.Map.Made.{length-le_from_is_member}
 use Rattle.zone_laws.proofs.Tables.{eqb_same, eqb_swap}
 use Rattle.zone_laws.proofs.Refusals.{first_passed, passed-NotLent, passed as passed_test}
 use Rattle.zone_laws.proofs.SoundCalls.{length-written}
-use Rattle.held_calls.proofs.Places.{held_bytes-behind}
+use Rattle.held_calls.proofs.Places.{held_bytes-after}
 use Rattle.mac_base.specs.declared.error.OsErr.TheVariants.{ParamErr}
 use Rattle.mac_base.specs.HandleTable.{is_lent, is_locked, is_pointer, bytes_of}
 use Rattle.mac_base.specs.HeadKind.{Shape}
@@ -46,9 +46,9 @@ EachIsLoan-front : (zone : ZoneState) (a b : List Held) → EachIsLoan zone (a +
 EachIsLoan-front zone [] b each = tt
 EachIsLoan-front zone (h ∷ hs) b each = (each.0, EachIsLoan-front zone hs b each.1)
 
-EachIsLoan-behind : (zone : ZoneState) (a b : List Held) → EachIsLoan zone (a ++ b) → EachIsLoan zone b
-EachIsLoan-behind zone [] b each = each
-EachIsLoan-behind zone (h ∷ hs) b each = EachIsLoan-behind zone hs b each.1
+EachIsLoan-after : (zone : ZoneState) (a b : List Held) → EachIsLoan zone (a ++ b) → EachIsLoan zone b
+EachIsLoan-after zone [] b each = each
+EachIsLoan-after zone (h ∷ hs) b each = EachIsLoan-after zone hs b each.1
 
 -- all but the loan of x are still those of their blocks
 EachIsLoan-others : (x : ℕ) (old new : ZoneState) (held : List Held) → KeepsOtherLoans x old new → is_held x held ≡ false → EachIsLoan old held → EachIsLoan new held
@@ -76,16 +76,16 @@ EachOnce-push (g ∷ gs) h none once =
     let other : (h.block == g.block) ≡ false = grind (arith, nat_tests) in
     (is_held-append g.block gs (h ∷ []) ∙ or_from (is_held g.block gs) (is_held g.block (h ∷ [])) once.0 (or_from (h.block == g.block) false other refl), EachOnce-push gs h parts.1 once.1)
 
-EachOnce-without : (before : List Held) (h : Held) (behind : List Held) → EachOnce (before ++ h ∷ behind) → EachOnce (before ++ behind)
-EachOnce-without [] h behind once = once.1
-EachOnce-without (g ∷ gs) h behind once =
-    let parts = or_parts (is_held g.block gs) (is_held g.block (h ∷ behind)) (sym (is_held-append g.block gs (h ∷ behind)) ∙ once.0) in
-    let rest = or_parts (h.block == g.block) (is_held g.block behind) parts.1 in
-    (is_held-append g.block gs behind ∙ or_from (is_held g.block gs) (is_held g.block behind) parts.0 rest.1, EachOnce-without gs h behind once.1)
+EachOnce-without : (before : List Held) (h : Held) (after : List Held) → EachOnce (before ++ h ∷ after) → EachOnce (before ++ after)
+EachOnce-without [] h after once = once.1
+EachOnce-without (g ∷ gs) h after once =
+    let parts = or_parts (is_held g.block gs) (is_held g.block (h ∷ after)) (sym (is_held-append g.block gs (h ∷ after)) ∙ once.0) in
+    let rest = or_parts (h.block == g.block) (is_held g.block after) parts.1 in
+    (is_held-append g.block gs after ∙ or_from (is_held g.block gs) (is_held g.block after) parts.0 rest.1, EachOnce-without gs h after once.1)
 
-EachOnce-behind : (before : List Held) (h : Held) (behind : List Held) → EachOnce (before ++ h ∷ behind) → is_held h.block behind ≡ false
-EachOnce-behind [] h behind once = once.0
-EachOnce-behind (g ∷ gs) h behind once = EachOnce-behind gs h behind once.1
+EachOnce-after : (before : List Held) (h : Held) (after : List Held) → EachOnce (before ++ h ∷ after) → is_held h.block after ≡ false
+EachOnce-after [] h after once = once.0
+EachOnce-after (g ∷ gs) h after once = EachOnce-after gs h after once.1
 
 -- a call that lends nothing and takes nothing back
 pub Holds-kept : (old new : ZoneState) (held : List Held) → KeepsLoans old new → new.heap.table.lent ≡ old.heap.table.lent → Holds old held → Holds new held
@@ -101,7 +101,7 @@ lent_more zone x y =
     let p : ℕ → Bool = λ z. z == x || is_lent zone.heap.table z in
     any-filter_same (λ z. z == y) p (p y) (λ k same. ap p (eqb-true k y same)) (owners zone.heap.map)
 
--- a block is lent, and its loan is held behind the others
+-- a block is lent, and its loan is held after the others
 pub Holds-lent : (old new : ZoneState) (held : List Held) (x : ℕ) (loan : Loan) → new ≡ with_heap (lent_out x old.heap) old → IsLoanOf new x loan → KeepsLoans old new → is_lent old.heap.table x ≡ false → Holds old held
     → Holds new (held ++ record { block = x; loan = loan } ∷ [])
 Holds-lent old new held x loan is here keeps none holds =
@@ -185,25 +185,25 @@ loans_of-written x at bytes (h ∷ hs) once =
 pub taken_is_loan : (zone : ZoneState) (x : ℕ) (old : List Held) (loan : Loan) (new : List Held) → TakenOut x old loan new → EachIsLoan zone old → IsLoanOf zone x loan
 taken_is_loan zone x old loan new taken each =
     let P : List Held → Type 0 = λ hs. EachIsLoan zone hs in
-    (EachIsLoan-behind zone taken.before (record { block = x; loan = loan } ∷ taken.behind) (subst P taken.was each)).0
+    (EachIsLoan-after zone taken.before (record { block = x; loan = loan } ∷ taken.after) (subst P taken.was each)).0
 
 -- the others have their own blocks
-behind_none : (x : ℕ) (old : List Held) (loan : Loan) (new : List Held) (taken : TakenOut x old loan new) → EachOnce old → is_held x taken.behind ≡ false
-behind_none x old loan new taken once =
+after_none : (x : ℕ) (old : List Held) (loan : Loan) (new : List Held) (taken : TakenOut x old loan new) → EachOnce old → is_held x taken.after ≡ false
+after_none x old loan new taken once =
     let P : List Held → Type 0 = λ hs. EachOnce hs in
-    EachOnce-behind taken.before (record { block = x; loan = loan }) taken.behind (subst P taken.was once)
+    EachOnce-after taken.before (record { block = x; loan = loan }) taken.after (subst P taken.was once)
 
 -- whether y is held among others than x
-held_but : (x y : ℕ) (before : List Held) (loan : Loan) (behind : List Held) → is_held x before ≡ false → is_held x behind ≡ false → (not (y == x) && is_held y (before ++ record { block = x; loan = loan } ∷ behind)) ≡ is_held y (before ++ behind)
-held_but x y before loan behind one other =
-    let P : Bool → Type 0 = λ b. (y == x) ≡ b → (not b && is_held y (before ++ record { block = x; loan = loan } ∷ behind)) ≡ is_held y (before ++ behind) in
+held_but : (x y : ℕ) (before : List Held) (loan : Loan) (after : List Held) → is_held x before ≡ false → is_held x after ≡ false → (not (y == x) && is_held y (before ++ record { block = x; loan = loan } ∷ after)) ≡ is_held y (before ++ after)
+held_but x y before loan after one other =
+    let P : Bool → Type 0 = λ b. (y == x) ≡ b → (not b && is_held y (before ++ record { block = x; loan = loan } ∷ after)) ≡ is_held y (before ++ after) in
     elim (y == x) as (λ b. P b) [
-      | true ↦ λ same. sym (ap (λ (z : ℕ). is_held z (before ++ behind)) (eqb-true y x same) ∙ is_held-append x before behind ∙ or_from (is_held x before) (is_held x behind) one other)
+      | true ↦ λ same. sym (ap (λ (z : ℕ). is_held z (before ++ after)) (eqb-true y x same) ∙ is_held-append x before after ∙ or_from (is_held x before) (is_held x after) one other)
       | false ↦ λ differ.
           let apart : (x == y) ≡ false = grind (arith, nat_tests) in
-          is_held-append y before (record { block = x; loan = loan } ∷ behind)
-          ∙ ap (λ b. is_held y before || (b || is_held y behind)) apart
-          ∙ sym (is_held-append y before behind)
+          is_held-append y before (record { block = x; loan = loan } ∷ after)
+          ∙ ap (λ b. is_held y before || (b || is_held y after)) apart
+          ∙ sym (is_held-append y before after)
     ] refl
 
 -- what is lent once x came back
@@ -216,17 +216,17 @@ Holds-returned old new x held loan rest taken is keeps holds =
     let P : List Held → Type 0 = λ hs. EachIsLoan old hs in
     let Q : List Held → Type 0 = λ hs. EachOnce hs in
     let R : List Held → Type 0 = λ hs. Holds new hs in
-    let each : EachIsLoan old (taken.before ++ record { block = x; loan = loan } ∷ taken.behind) = subst P taken.was holds.each in
-    let none = behind_none x held loan rest taken holds.once in
-    let now : Holds new (taken.before ++ taken.behind) = record {
-      each = EachIsLoan-append new taken.before taken.behind
-          (EachIsLoan-others x old new taken.before keeps taken.first (EachIsLoan-front old taken.before (record { block = x; loan = loan } ∷ taken.behind) each))
-          (EachIsLoan-others x old new taken.behind keeps none (EachIsLoan-behind old taken.before (record { block = x; loan = loan } ∷ taken.behind) each).1);
-      once = EachOnce-without taken.before (record { block = x; loan = loan }) taken.behind (subst Q taken.was holds.once);
+    let each : EachIsLoan old (taken.before ++ record { block = x; loan = loan } ∷ taken.after) = subst P taken.was holds.each in
+    let none = after_none x held loan rest taken holds.once in
+    let now : Holds new (taken.before ++ taken.after) = record {
+      each = EachIsLoan-append new taken.before taken.after
+          (EachIsLoan-others x old new taken.before keeps taken.first (EachIsLoan-front old taken.before (record { block = x; loan = loan } ∷ taken.after) each))
+          (EachIsLoan-others x old new taken.after keeps none (EachIsLoan-after old taken.before (record { block = x; loan = loan } ∷ taken.after) each).1);
+      once = EachOnce-without taken.before (record { block = x; loan = loan }) taken.after (subst Q taken.was holds.once);
       all = λ y. ap (λ (z : ZoneState). is_lent z.heap.table y) is
           ∙ lent_less old x y loan.bytes
           ∙ ap (λ b. not (y == x) && b) (holds.all y ∙ ap (λ (hs : List Held). is_held y hs) taken.was)
-          ∙ held_but x y taken.before loan taken.behind taken.first none;
+          ∙ held_but x y taken.before loan taken.after taken.first none;
     } in
     subst R (sym taken.is) now
 
@@ -236,22 +236,22 @@ without_none x (h ∷ hs) none =
     let parts = or_parts (h.block == x) (is_held x hs) none in
     ap (λ b. cond (not b) ((h.block, h.loan.bytes) ∷ without_loan x (loans_of hs)) (without_loan x (loans_of hs))) parts.0 ∙ ap (λ (t : Loans). (h.block, h.loan.bytes) ∷ t) (without_none x hs parts.1)
 
-without_taken : (x : ℕ) (before : List Held) (loan : Loan) (behind : List Held) → is_held x before ≡ false → is_held x behind ≡ false → loans_of (before ++ behind) ≡ without_loan x (loans_of (before ++ record { block = x; loan = loan } ∷ behind))
-without_taken x [] loan behind one other = sym (ap (λ b. cond (not b) ((x, loan.bytes) ∷ without_loan x (loans_of behind)) (without_loan x (loans_of behind))) (eqb_same x) ∙ without_none x behind other)
-without_taken x (h ∷ hs) loan behind one other =
+without_taken : (x : ℕ) (before : List Held) (loan : Loan) (after : List Held) → is_held x before ≡ false → is_held x after ≡ false → loans_of (before ++ after) ≡ without_loan x (loans_of (before ++ record { block = x; loan = loan } ∷ after))
+without_taken x [] loan after one other = sym (ap (λ b. cond (not b) ((x, loan.bytes) ∷ without_loan x (loans_of after)) (without_loan x (loans_of after))) (eqb_same x) ∙ without_none x after other)
+without_taken x (h ∷ hs) loan after one other =
     let parts = or_parts (h.block == x) (is_held x hs) one in
-    let rest = loans_of (hs ++ record { block = x; loan = loan } ∷ behind) in
-    ap (λ (t : Loans). (h.block, h.loan.bytes) ∷ t) (without_taken x hs loan behind parts.1 other)
+    let rest = loans_of (hs ++ record { block = x; loan = loan } ∷ after) in
+    ap (λ (t : Loans). (h.block, h.loan.bytes) ∷ t) (without_taken x hs loan after parts.1 other)
     ∙ ap (λ b. cond (not b) ((h.block, h.loan.bytes) ∷ without_loan x rest) (without_loan x rest)) (sym parts.0)
 
 -- the loans without the one that is taken out
 pub loans_of-taken : (x : ℕ) (old : List Held) (loan : Loan) (new : List Held) → TakenOut x old loan new → EachOnce old → loans_of new ≡ without_loan x (loans_of old)
 loans_of-taken x old loan new taken once =
-    ap loans_of taken.is ∙ without_taken x taken.before loan taken.behind taken.first (behind_none x old loan new taken once) ∙ ap (λ (hs : List Held). without_loan x (loans_of hs)) (sym taken.was)
+    ap loans_of taken.is ∙ without_taken x taken.before loan taken.after taken.first (after_none x old loan new taken once) ∙ ap (λ (hs : List Held). without_loan x (loans_of hs)) (sym taken.was)
 
 -- its bytes
 pub bytes_of-taken : (x : ℕ) (old : List Held) (loan : Loan) (new : List Held) → TakenOut x old loan new → held_bytes x (loans_of old) ≡ loan.bytes
-bytes_of-taken x old loan new taken = ap (λ (hs : List Held). held_bytes x (loans_of hs)) taken.was ∙ held_bytes-behind x taken.before (record { block = x; loan = loan }) taken.behind taken.first refl
+bytes_of-taken x old loan new taken = ap (λ (hs : List Held). held_bytes x (loans_of hs)) taken.was ∙ held_bytes-after x taken.before (record { block = x; loan = loan }) taken.after taken.first refl
 
 -- the bytes of a loan are as many as those of its block
 pub long_held : (zone : ZoneState) (x : ℕ) (held : List Held) → EachIsLoan zone held → is_held x held ≡ true → length (held_bytes x (loans_of held)) ≡ length (bytes_of zone.heap.table x)

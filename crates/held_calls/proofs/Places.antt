@@ -23,16 +23,16 @@ parts_at places n at lt is =
     ∙ ap (λ (front : List (Option Held)). front ++ drop (n + 1) places) (take_more places n at lt ∙ ap (λ (o : Option Held). take n places ++ o ∷ []) (sym is))
     ∙ append_assoc (take n places) (at ∷ []) (drop (n + 1) places)
 
--- the loans before one of the places, at it and behind it
-held_around : (before : List (Option Held)) (at : Option Held) (behind : List (Option Held)) → held_at (before ++ at ∷ behind) ≡ held_at before ++ (option_to_list at ++ held_at behind)
-held_around before at behind = flat_map-append option_to_list before (at ∷ behind)
+-- the loans before one of the places, at it and after it
+held_around : (before : List (Option Held)) (at : Option Held) (after : List (Option Held)) → held_at (before ++ at ∷ after) ≡ held_at before ++ (option_to_list at ++ held_at after)
+held_around before at after = flat_map-append option_to_list before (at ∷ after)
 
 -- a table with a loan of x at a place, and none before it
 pub stands_at : (x : ℕ) (places : List (Option Held)) (n : ℕ) (at : Option Held) (held : Held) → n < length places → at ≡ get_or places n at → at ≡ Some held → held.block ≡ x → is_held x (held_at (take n places)) ≡ false → StandsAt x places n
 stands_at x places n at held lt is some block none = record {
   before = take n places;
   held = held;
-  behind = drop (n + 1) places;
+  after = drop (n + 1) places;
   parts = parts_at places n at lt is ∙ ap (λ (o : Option Held). take n places ++ o ∷ drop (n + 1) places) some;
   place = sym (length-take-le n places (omega arith));
   is = block;
@@ -47,19 +47,19 @@ is_none (Some held) free = absurd (cc free)
 pub free_at : (places : List (Option Held)) (n : ℕ) (at : Option Held) → n < length places → at ≡ get_or places n at → is_some at ≡ false → FreeAt places n
 free_at places n at lt is free = let none : at ≡ None = is_none at free in record {
   before = take n places;
-  behind = drop (n + 1) places;
+  after = drop (n + 1) places;
   parts = parts_at places n at lt is ∙ ap (λ (o : Option Held). take n places ++ o ∷ drop (n + 1) places) none;
   place = sym (length-take-le n places (omega arith));
 }
 
--- where there are more places than loans, one that stands behind loans alone is there
+-- where there are more places than loans, one that is after loans alone is there
 pub free_inside : (places : List (Option Held)) (n : ℕ) → length (held_at (take n places)) ≡ n → length (held_at places) < length places → n < length places
 free_inside places n full some = elim (cases_lt n (length places)) [
   | inl inside ↦ inside
   | inr past ↦ let whole = ap (λ (ps : List (Option Held)). length (held_at ps)) (take_all n places past) in absurd (omega (arith, full, some, whole))
 ]
 
--- a table with a loan behind places that are free
+-- a table with a loan after places that are free
 pub first_at : (places : List (Option Held)) (n : ℕ) (at : Option Held) (held : Held) → n < length places → at ≡ get_or places n at → at ≡ Some held → held_at (take n places) ≡ [] → IsFirst held.block (held_at places)
 first_at places n at held lt is some none = record {
   loan = held.loan;
@@ -69,12 +69,12 @@ first_at places n at held lt is some none = record {
       ∙ ap (λ (front : List Held). front ++ held ∷ held_at (drop (n + 1) places)) none;
 }
 
--- what stands at the place of the loan of x
+-- what is at the place of the loan of x
 stands_here : (x : ℕ) (places : List (Option Held)) (n : ℕ) (at : Option Held) (stands : StandsAt x places n) → at ≡ get_or places n at → at ≡ Some stands.held
 stands_here x places n at stands is =
     is ∙ ap (λ (ps : List (Option Held)). get_or ps n at) stands.parts
-    ∙ ap (λ (k : ℕ). get_or (stands.before ++ Some stands.held ∷ stands.behind) k at) stands.place
-    ∙ get_or-append_seam stands.before (Some stands.held) stands.behind at
+    ∙ ap (λ (k : ℕ). get_or (stands.before ++ Some stands.held ∷ stands.after) k at) stands.place
+    ∙ get_or-append_seam stands.before (Some stands.held) stands.after at
 
 -- the loan at the place of x
 pub stands_loan : (x : ℕ) (places : List (Option Held)) (n : ℕ) (at : Option Held) (held : Held) (stands : StandsAt x places n) → at ≡ get_or places n at → at ≡ Some held → stands.held ≡ held
@@ -85,32 +85,32 @@ pub stands_some : (x : ℕ) (places : List (Option Held)) (n : ℕ) (at : Option
 stands_some x places n at stands is none = let both : Some stands.held ≡ None = sym (stands_here x places n at stands is) ∙ none in cc
 
 -- the loans around that of x
-stands_around : (x : ℕ) (places : List (Option Held)) (n : ℕ) (stands : StandsAt x places n) → held_at places ≡ held_at stands.before ++ stands.held ∷ held_at stands.behind
-stands_around x places n stands = ap held_at stands.parts ∙ held_around stands.before (Some stands.held) stands.behind
+stands_around : (x : ℕ) (places : List (Option Held)) (n : ℕ) (stands : StandsAt x places n) → held_at places ≡ held_at stands.before ++ stands.held ∷ held_at stands.after
+stands_around x places n stands = ap held_at stands.parts ∙ held_around stands.before (Some stands.held) stands.after
 
--- the loans once another stands at the place of x, or none
-stands_set : (x : ℕ) (places : List (Option Held)) (n : ℕ) (at : Option Held) (stands : StandsAt x places n) → held_at (set places n at) ≡ held_at stands.before ++ (option_to_list at ++ held_at stands.behind)
+-- the loans once another is at the place of x, or none
+stands_set : (x : ℕ) (places : List (Option Held)) (n : ℕ) (at : Option Held) (stands : StandsAt x places n) → held_at (set places n at) ≡ held_at stands.before ++ (option_to_list at ++ held_at stands.after)
 stands_set x places n at stands =
     ap held_at (ap (λ (ps : List (Option Held)). set ps n at) stands.parts
-    ∙ ap (λ (k : ℕ). set (stands.before ++ Some stands.held ∷ stands.behind) k at) stands.place
-    ∙ set-append_seam stands.before (Some stands.held) stands.behind at)
-    ∙ held_around stands.before at stands.behind
+    ∙ ap (λ (k : ℕ). set (stands.before ++ Some stands.held ∷ stands.after) k at) stands.place
+    ∙ set-append_seam stands.before (Some stands.held) stands.after at)
+    ∙ held_around stands.before at stands.after
 
--- the bytes of a loan behind others
-pub held_bytes-behind : (x : ℕ) (before : List Held) (held : Held) (behind : List Held) → is_held x before ≡ false → held.block ≡ x → held_bytes x (loans_of (before ++ held ∷ behind)) ≡ held.loan.bytes
-held_bytes-behind x [] held behind none is = ap (λ b. cond b held.loan.bytes (held_bytes x (loans_of behind))) (ap (λ (y : ℕ). y == x) is ∙ eqb_same x)
-held_bytes-behind x (h ∷ hs) held behind none is =
-    let P : Bool → Type 0 = λ b. (b || is_held x hs) ≡ false → cond b h.loan.bytes (held_bytes x (loans_of (hs ++ held ∷ behind))) ≡ held.loan.bytes in
-    elim (h.block == x) as (λ b. P b) [ true ↦ λ none. absurd (cc none) | false ↦ λ none. held_bytes-behind x hs held behind none is ] none
+-- the bytes of a loan after others
+pub held_bytes-after : (x : ℕ) (before : List Held) (held : Held) (after : List Held) → is_held x before ≡ false → held.block ≡ x → held_bytes x (loans_of (before ++ held ∷ after)) ≡ held.loan.bytes
+held_bytes-after x [] held after none is = ap (λ b. cond b held.loan.bytes (held_bytes x (loans_of after))) (ap (λ (y : ℕ). y == x) is ∙ eqb_same x)
+held_bytes-after x (h ∷ hs) held after none is =
+    let P : Bool → Type 0 = λ b. (b || is_held x hs) ≡ false → cond b h.loan.bytes (held_bytes x (loans_of (hs ++ held ∷ after))) ≡ held.loan.bytes in
+    elim (h.block == x) as (λ b. P b) [ true ↦ λ none. absurd (cc none) | false ↦ λ none. held_bytes-after x hs held after none is ] none
 
--- a write into a loan behind others
-held_written-behind : (x at : ℕ) (bytes : List ℕ) (before : List Held) (held : Held) (behind : List Held) → is_held x before ≡ false → held.block ≡ x
-    → held_written x at bytes (before ++ held ∷ behind) ≡ before ++ record { block = held.block; loan = loan_written at bytes held.loan } ∷ behind
-held_written-behind x at bytes [] held behind none is = ap (λ b. cond b (record { block = held.block; loan = loan_written at bytes held.loan } ∷ behind) (held ∷ held_written x at bytes behind)) (ap (λ (y : ℕ). y == x) is ∙ eqb_same x)
-held_written-behind x at bytes (h ∷ hs) held behind none is =
+-- a write into a loan after others
+held_written-after : (x at : ℕ) (bytes : List ℕ) (before : List Held) (held : Held) (after : List Held) → is_held x before ≡ false → held.block ≡ x
+    → held_written x at bytes (before ++ held ∷ after) ≡ before ++ record { block = held.block; loan = loan_written at bytes held.loan } ∷ after
+held_written-after x at bytes [] held after none is = ap (λ b. cond b (record { block = held.block; loan = loan_written at bytes held.loan } ∷ after) (held ∷ held_written x at bytes after)) (ap (λ (y : ℕ). y == x) is ∙ eqb_same x)
+held_written-after x at bytes (h ∷ hs) held after none is =
     let new : Held = record { block = held.block; loan = loan_written at bytes held.loan } in
-    let P : Bool → Type 0 = λ b. (b || is_held x hs) ≡ false → cond b (record { block = h.block; loan = loan_written at bytes h.loan } ∷ (hs ++ held ∷ behind)) (h ∷ held_written x at bytes (hs ++ held ∷ behind)) ≡ h ∷ (hs ++ new ∷ behind) in
-    elim (h.block == x) as (λ b. P b) [ true ↦ λ none. absurd (cc none) | false ↦ λ none. ap (λ (t : List Held). h ∷ t) (held_written-behind x at bytes hs held behind none is) ] none
+    let P : Bool → Type 0 = λ b. (b || is_held x hs) ≡ false → cond b (record { block = h.block; loan = loan_written at bytes h.loan } ∷ (hs ++ held ∷ after)) (h ∷ held_written x at bytes (hs ++ held ∷ after)) ≡ h ∷ (hs ++ new ∷ after) in
+    elim (h.block == x) as (λ b. P b) [ true ↦ λ none. absurd (cc none) | false ↦ λ none. ap (λ (t : List Held). h ∷ t) (held_written-after x at bytes hs held after none is) ] none
 
 -- where x has no loan, nothing is written
 pub held_written-none : (x at : ℕ) (bytes : List ℕ) (held : List Held) → is_held x held ≡ false → held_written x at bytes held ≡ held
@@ -123,7 +123,7 @@ held_written-none x at bytes (h ∷ hs) none =
 pub bytes_at : (x : ℕ) (places : List (Option Held)) (n : ℕ) (at : Option Held) (held : Held) → StandsAt x places n → at ≡ get_or places n at → at ≡ Some held → held.loan.bytes ≡ held_bytes x (loans_of (held_at places))
 bytes_at x places n at held stands is some =
     ap (λ (h : Held). h.loan.bytes) (sym (stands_loan x places n at held stands is some))
-    ∙ sym (held_bytes-behind x (held_at stands.before) stands.held (held_at stands.behind) stands.first stands.is)
+    ∙ sym (held_bytes-after x (held_at stands.before) stands.held (held_at stands.after) stands.first stands.is)
     ∙ ap (λ (hs : List Held). held_bytes x (loans_of hs)) (sym (stands_around x places n stands))
 
 -- the loan of x is taken from its place
@@ -133,9 +133,9 @@ taken_at x places n at held none stands is some free =
     let it : stands.held ≡ record { block = x; loan = held.loan } = same ∙ ap (λ (y : ℕ). let h : Held = record { block = y; loan = held.loan } in h) (ap (λ (h : Held). h.block) (sym same) ∙ stands.is) in
     record {
       before = held_at stands.before;
-      behind = held_at stands.behind;
-      was = stands_around x places n stands ∙ ap (λ (h : Held). held_at stands.before ++ h ∷ held_at stands.behind) it;
-      is = stands_set x places n none stands ∙ ap (λ (o : Option Held). held_at stands.before ++ (option_to_list o ++ held_at stands.behind)) free;
+      after = held_at stands.after;
+      was = stands_around x places n stands ∙ ap (λ (h : Held). held_at stands.before ++ h ∷ held_at stands.after) it;
+      is = stands_set x places n none stands ∙ ap (λ (o : Option Held). held_at stands.before ++ (option_to_list o ++ held_at stands.after)) free;
       first = stands.first;
     }
 
@@ -148,50 +148,50 @@ written_at x places n at held loan offset bytes stands is some new =
     ap (λ (l : Loan). let h : Held = record { block = held.block; loan = l } in h) new ∙ ap (λ (h : Held). let g : Held = record { block = h.block; loan = loan_written offset bytes h.loan } in g) (sym same)
     in
     stands_set x places n (Some (record { block = held.block; loan = loan })) stands
-    ∙ ap (λ (h : Held). held_at stands.before ++ h ∷ held_at stands.behind) it
-    ∙ sym (held_written-behind x offset bytes (held_at stands.before) stands.held (held_at stands.behind) stands.first stands.is)
+    ∙ ap (λ (h : Held). held_at stands.before ++ h ∷ held_at stands.after) it
+    ∙ sym (held_written-after x offset bytes (held_at stands.before) stands.held (held_at stands.after) stands.first stands.is)
     ∙ ap (λ (hs : List Held). held_written x offset bytes hs) (sym (stands_around x places n stands))
 
 -- the loan that comes first is taken out
 pub first_taken : (x : ℕ) (old : List Held) (loan : Loan) (new : List Held) → IsFirst x old → TakenOut x old loan new → old ≡ record { block = x; loan = loan } ∷ new
 first_taken x old loan new first taken = by_case taken.before taken.was taken.is taken.first
   where
-    by_case : (before : List Held) → old ≡ before ++ record { block = x; loan = loan } ∷ taken.behind → new ≡ before ++ taken.behind → is_held x before ≡ false → old ≡ record { block = x; loan = loan } ∷ new
+    by_case : (before : List Held) → old ≡ before ++ record { block = x; loan = loan } ∷ taken.after → new ≡ before ++ taken.after → is_held x before ≡ false → old ≡ record { block = x; loan = loan } ∷ new
     by_case [] was is none = was ∙ ap (λ (hs : List Held). record { block = x; loan = loan } ∷ hs) (sym is)
     by_case (h ∷ hs) was is none =
-        let heads : record { block = x; loan = first.loan } ∷ first.others ≡ h ∷ (hs ++ record { block = x; loan = loan } ∷ taken.behind) = sym first.parts ∙ was in
+        let heads : record { block = x; loan = first.loan } ∷ first.others ≡ h ∷ (hs ++ record { block = x; loan = loan } ∷ taken.after) = sym first.parts ∙ was in
         let head : record { block = x; loan = first.loan } ≡ h = cc in
         let here : (h.block == x) ≡ true = ap (λ (g : Held). g.block == x) (sym head) ∙ eqb_same x in
         let both : true ≡ false = ap (λ b. b || is_held x hs) (sym here) ∙ none in
         absurd (cc both)
 
--- one more loan stands behind all others
-pub put_behind : (places : List (Option Held)) (n : ℕ) (held : Held) (rotated : List (Option Held)) (last : Option Held) → FreeAt places n
+-- one more loan is after all others
+pub put_after : (places : List (Option Held)) (n : ℕ) (held : Held) (rotated : List (Option Held)) (last : Option Held) → FreeAt places n
     → rotated ≡ drop 1 (take (length places - n) (drop n places)) ++ take 1 (take (length places - n) (drop n places)) → last ≡ Some held
     → held_at (set (put_mid n (length places - n) places rotated) (length (put_mid n (length places - n) places rotated) - 1) last) ≡ held_at places ++ held ∷ []
-put_behind places n held rotated last free turned some =
-    let front : take n places ≡ free.before = ap (λ (ps : List (Option Held)). take n ps) free.parts ∙ ap (λ (k : ℕ). take k (free.before ++ None ∷ free.behind)) free.place ∙ take-append_seam free.before (None ∷ free.behind) in
-    let back : drop n places ≡ None ∷ free.behind = ap (λ (ps : List (Option Held)). drop n ps) free.parts ∙ ap (λ (k : ℕ). drop k (free.before ++ None ∷ free.behind)) free.place ∙ drop-append_seam free.before (None ∷ free.behind) in
-    let count : length places - n ≡ length (None ∷ free.behind) = sym (length-drop n places) ∙ ap (λ (ps : List (Option Held)). length ps) back in
-    let part : take (length places - n) (drop n places) ≡ None ∷ free.behind = ap (λ (ps : List (Option Held)). take (length places - n) ps) back ∙ ap (λ (k : ℕ). take k (None ∷ free.behind)) count ∙ take-length (None ∷ free.behind) in
-    let turn : rotated ≡ free.behind ++ None ∷ [] = turned ∙ ap (λ (ps : List (Option Held)). drop 1 ps ++ take 1 ps) part in
-    let rest : post_of n (length places - n) places ≡ [] = ap (λ (ps : List (Option Held)). drop (length places - n) ps) back ∙ ap (λ (k : ℕ). drop k (None ∷ free.behind)) count ∙ drop-length (None ∷ free.behind) in
-    let whole : put_mid n (length places - n) places rotated ≡ (free.before ++ free.behind) ++ None ∷ [] =
+put_after places n held rotated last free turned some =
+    let front : take n places ≡ free.before = ap (λ (ps : List (Option Held)). take n ps) free.parts ∙ ap (λ (k : ℕ). take k (free.before ++ None ∷ free.after)) free.place ∙ take-append_seam free.before (None ∷ free.after) in
+    let back : drop n places ≡ None ∷ free.after = ap (λ (ps : List (Option Held)). drop n ps) free.parts ∙ ap (λ (k : ℕ). drop k (free.before ++ None ∷ free.after)) free.place ∙ drop-append_seam free.before (None ∷ free.after) in
+    let count : length places - n ≡ length (None ∷ free.after) = sym (length-drop n places) ∙ ap (λ (ps : List (Option Held)). length ps) back in
+    let part : take (length places - n) (drop n places) ≡ None ∷ free.after = ap (λ (ps : List (Option Held)). take (length places - n) ps) back ∙ ap (λ (k : ℕ). take k (None ∷ free.after)) count ∙ take-length (None ∷ free.after) in
+    let turn : rotated ≡ free.after ++ None ∷ [] = turned ∙ ap (λ (ps : List (Option Held)). drop 1 ps ++ take 1 ps) part in
+    let rest : post_of n (length places - n) places ≡ [] = ap (λ (ps : List (Option Held)). drop (length places - n) ps) back ∙ ap (λ (k : ℕ). drop k (None ∷ free.after)) count ∙ drop-length (None ∷ free.after) in
+    let whole : put_mid n (length places - n) places rotated ≡ (free.before ++ free.after) ++ None ∷ [] =
     ap (λ (ps : List (Option Held)). take n places ++ (rotated ++ ps)) rest
     ∙ ap (λ (ps : List (Option Held)). take n places ++ ps) (append-nil rotated)
     ∙ ap (λ (ps : List (Option Held)). ps ++ rotated) front
     ∙ ap (λ (ps : List (Option Held)). free.before ++ ps) turn
-    ∙ sym (append_assoc free.before free.behind (None ∷ []))
+    ∙ sym (append_assoc free.before free.after (None ∷ []))
     in
-    let end : length (put_mid n (length places - n) places rotated) - 1 ≡ length (free.before ++ free.behind) =
-    ap (λ (ps : List (Option Held)). length ps - 1) whole ∙ ap (λ (k : ℕ). k - 1) (length-append (free.before ++ free.behind) (None ∷ [])) ∙ omega arith
+    let end : length (put_mid n (length places - n) places rotated) - 1 ≡ length (free.before ++ free.after) =
+    ap (λ (ps : List (Option Held)). length ps - 1) whole ∙ ap (λ (k : ℕ). k - 1) (length-append (free.before ++ free.after) (None ∷ [])) ∙ omega arith
     in
     ap (λ (ps : List (Option Held)). held_at (set ps (length (put_mid n (length places - n) places rotated) - 1) last)) whole
-    ∙ ap (λ (k : ℕ). held_at (set ((free.before ++ free.behind) ++ None ∷ []) k last)) end
-    ∙ ap held_at (set-append_seam (free.before ++ free.behind) None [] last)
-    ∙ held_around (free.before ++ free.behind) last []
-    ∙ ap (λ (o : Option Held). held_at (free.before ++ free.behind) ++ (option_to_list o ++ [])) some
-    ∙ ap (λ (hs : List Held). hs ++ held ∷ []) (flat_map-append option_to_list free.before free.behind ∙ sym (held_around free.before None free.behind) ∙ ap held_at (sym free.parts))
+    ∙ ap (λ (k : ℕ). held_at (set ((free.before ++ free.after) ++ None ∷ []) k last)) end
+    ∙ ap held_at (set-append_seam (free.before ++ free.after) None [] last)
+    ∙ held_around (free.before ++ free.after) last []
+    ∙ ap (λ (o : Option Held). held_at (free.before ++ free.after) ++ (option_to_list o ++ [])) some
+    ∙ ap (λ (hs : List Held). hs ++ held ∷ []) (flat_map-append option_to_list free.before free.after ∙ sym (held_around free.before None free.after) ∙ ap held_at (sym free.parts))
 
 -- bytes written over all others
 all_written : (old new : List ℕ) → length new ≡ length old → raw_written old 0 new ≡ new
@@ -207,8 +207,8 @@ part_of_loan loan at bytes contents copied within whole all =
     let old = loan.bytes in
     let front : length (take at old) ≡ at = omega (arith, length-take at old) in
     let size : length (take at old ++ (bytes ++ drop (at + length bytes) old)) ≡ length old = simp (length-append, length-drop) (omega arith) in
-    let behind : post_of at (at + length bytes - at) old ≡ drop (at + length bytes) old = ap (λ (k : ℕ). drop k (drop at old)) (add-sub_cancel_left at (length bytes)) ∙ drop-drop (length bytes) at old in
-    let new : take at contents ++ (copied ++ post_of at (at + length bytes - at) contents) ≡ take at old ++ (bytes ++ drop (at + length bytes) old) = rw (whole, all, behind) refl in
+    let after : post_of at (at + length bytes - at) old ≡ drop (at + length bytes) old = ap (λ (k : ℕ). drop k (drop at old)) (add-sub_cancel_left at (length bytes)) ∙ drop-drop (length bytes) at old in
+    let new : take at contents ++ (copied ++ post_of at (at + length bytes - at) contents) ≡ take at old ++ (bytes ++ drop (at + length bytes) old) = rw (whole, all, after) refl in
     let bytes_now : raw_written old 0 (take at contents ++ (copied ++ post_of at (at + length bytes - at) contents)) ≡ written at bytes old =
     ap (λ (bs : List ℕ). raw_written old 0 bs) new ∙ all_written old (take at old ++ (bytes ++ drop (at + length bytes) old)) size ∙ sym (append_assoc (take at old) bytes (drop (at + length bytes) old))
     in

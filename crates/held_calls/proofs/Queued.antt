@@ -36,11 +36,11 @@ noted-last call code (x ∷ y ∷ asks) a = ap (λ (xs : List Ask). x ∷ xs) (n
 pub noted-answers : (call : ReleasingCall) (code : Option OsErr) (asks : List Ask) → answers_in (noted call code asks) ≡ answers_in asks
 noted-answers call code [] = refl
 noted-answers call code (a ∷ []) = refl
-noted-answers call code (a ∷ b ∷ asks) = behind a.answer (noted-answers call code (b ∷ asks))
+noted-answers call code (a ∷ b ∷ asks) = following a.answer (noted-answers call code (b ∷ asks))
   where
-    behind : (o : Option Answer) → answers_in (noted call code (b ∷ asks)) ≡ answers_in (b ∷ asks) → answers_in (record a { answer = o } ∷ noted call code (b ∷ asks)) ≡ answers_in (record a { answer = o } ∷ b ∷ asks)
-    behind (Some x) same = ap (λ (xs : List Answer). x ∷ xs) same
-    behind None same = same
+    following : (o : Option Answer) → answers_in (noted call code (b ∷ asks)) ≡ answers_in (b ∷ asks) → answers_in (record a { answer = o } ∷ noted call code (b ∷ asks)) ≡ answers_in (record a { answer = o } ∷ b ∷ asks)
+    following (Some x) same = ap (λ (xs : List Answer). x ∷ xs) same
+    following None same = same
 
 -- the asks with the last of them noted anew
 pub noted-back : (call : ReleasingCall) (code : Option OsErr) (asks front : List Ask) (ask new : Ask) → asks ≡ front ++ ask ∷ [] → new ∷ [] ≡ noted call code (ask ∷ []) → front ++ new ∷ [] ≡ noted call code asks

@@ -12,7 +12,7 @@ pub record Queue : Type 0 where
 abbrev pub no_answers : Queue
 no_answers = record { left = []; asks = [] }
 
--- one more answer waits behind the others, and nothing was asked
+-- one more answer waits after the others, and nothing was asked
 abbrev pub waits : Answer → Queue → Queue
 waits answer q = record { left = q.left ++ answer ∷ []; asks = [] }
 

@@ -54,12 +54,12 @@ abbrev pub held_written : ℕ → ℕ → List ℕ → List Held → List Held
 held_written x at bytes [] = []
 held_written x at bytes (h ∷ hs) = if h.block == x then record h { loan = loan_written at bytes h.loan } ∷ hs else h ∷ held_written x at bytes hs
 
--- the first loan of x at these places stands at the nth of them
+-- the first loan of x at these places is at the nth of them
 pub record StandsAt (x : ℕ) (places : List (Option Held)) (n : ℕ) : Type 0 where
   pub before : List (Option Held)
   pub held : Held
-  pub behind : List (Option Held)
-  pub parts : places ≡ before ++ Some held ∷ behind
+  pub after : List (Option Held)
+  pub parts : places ≡ before ++ Some held ∷ after
   pub place : n ≡ length before
   pub is : held.block ≡ x
   pub first : IsFalse (is_held x (held_at before))
@@ -67,8 +67,8 @@ pub record StandsAt (x : ℕ) (places : List (Option Held)) (n : ℕ) : Type 0 w
 -- the nth of these places is free
 pub record FreeAt (places : List (Option Held)) (n : ℕ) : Type 0 where
   pub before : List (Option Held)
-  pub behind : List (Option Held)
-  pub parts : places ≡ before ++ None ∷ behind
+  pub after : List (Option Held)
+  pub parts : places ≡ before ++ None ∷ after
   pub place : n ≡ length before
 
 -- x is the first block whose loan is held
@@ -80,16 +80,16 @@ pub record IsFirst (x : ℕ) (held : List Held) : Type 0 where
 -- the loan of x is taken out, and the others stay in order
 pub record TakenOut (x : ℕ) (old : List Held) (loan : Loan) (new : List Held) : Type 0 where
   pub before : List Held
-  pub behind : List Held
-  pub was : old ≡ before ++ record { block = x; loan = loan } ∷ behind
-  pub is : new ≡ before ++ behind
+  pub after : List Held
+  pub was : old ≡ before ++ record { block = x; loan = loan } ∷ after
+  pub is : new ≡ before ++ after
   pub first : IsFalse (is_held x before)
 
 -- From the old zone and the loans that were held, the call may have this outcome and leave the new ones.
 abbrev pub LoanSteps : ZoneState → List Held → LoanCall → Outcome → ZoneState → List Held → Type 0
 LoanSteps old held call outcome new new_held = LoanStep old.shape (loans_of held) old.heap call outcome (loans_of new_held) new.heap × (new.shape ≡ old.shape)
 
--- the window is on the bytes of a loan: it begins where they stand in the memory of the host, and has as many
+-- the window is on the bytes of a loan: it begins where they are in the memory of the host, and has as many
 abbrev pub IsOn : Loan → Window → Type 0
 IsOn loan window = (window.start ≡ loan.name +ₚ loan.at) × (window.length ≡ length loan.bytes)
 
@@ -97,7 +97,7 @@ IsOn loan window = (window.start ≡ loan.name +ₚ loan.at) × (window.length �
 abbrev pub IsOnLoan : ℕ → List Held → Window → Type 0
 IsOnLoan x held window = (loan : Loan) × (rest : List Held) × TakenOut x held loan rest × IsOn loan window
 
--- the window is on the bytes that the holder has of x: where the loan of x stands in the memory of the zone
+-- the window is on the bytes that the holder has of x: where the loan of x is in the memory of the zone
 pub record IsWindow (zone : ZoneState) (loans : Loans) (x : ℕ) (window : Window) : Type 0 where
   pub loan : Loan
   pub is : IsLoanOf zone x loan

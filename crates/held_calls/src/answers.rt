@@ -191,7 +191,7 @@ impl<const ROOM: usize> AnswerQueue<ROOM> {
         ROOM <= self.left.len()
     }
 
-    /// Queues an answer behind the others, for the calls to come: nothing is asked then. `HostFull` where it takes more
+    /// Queues an answer after the others, for the calls to come: nothing is asked then. `HostFull` where it takes more
     /// memory than the host has.
     pub fn push(&mut self, answer: Answer) -> Result<(), HostFull>
         ensures queued { OnOk result (self.new ≡ waits answer self.old) }
@@ -203,7 +203,7 @@ impl<const ROOM: usize> AnswerQueue<ROOM> {
         Ok(())
     }
 
-    /// Queues an answer behind the others, for the calls to come: nothing is asked then. It takes no more memory.
+    /// Queues an answer after the others, for the calls to come: nothing is asked then. It takes no more memory.
     pub fn push_within(&mut self, answer: Answer)
         requires room { length self.old.left < ROOM }
         ensures { self.new ≡ waits answer self.old }

@@ -2,7 +2,7 @@
 
 ghost use Rattle.std.specs.Prelude.{◌≡◌, IfOk, []};
 ghost use Rattle.mac_base.specs.BlockReport.{reports_from};
-ghost use Rattle.mac_base.specs.ZoneMap.{address_behind};
+ghost use Rattle.mac_base.specs.ZoneMap.{address_after};
 ghost use Rattle.mac_base.specs.declared.memory_call.MemoryCall.TheVariants as call;
 ghost use Rattle.held_calls.specs.Making.{MemorySteps};
 
@@ -20,10 +20,10 @@ pub(crate) fn zone_map(memory: &MemoryManager, alloc: Global) -> Result<Outcome,
     Ok(Ok(Results::Blocks(blocks)))
 }
 
-/// The blocks of the zone, lowest first: each header stands behind the block before it.
+/// The blocks of the zone, lowest first: each header is after the block before it.
 fn blocks(memory: &MemoryManager, alloc: Global) -> Result<Vec<Block>, HostFull>
     ensures { IfOk result (λ blocks.
-        blocks.items ≡ reports_from memory.now.heap.table (address_behind memory.now.shape []) memory.now.heap.map) }
+        blocks.items ≡ reports_from memory.now.heap.table (address_after memory.now.shape []) memory.now.heap.map) }
 {
     let mut blocks = Vec::new(alloc);
     let mut at = memory.first_block();

@@ -129,7 +129,7 @@ impl Loans {
     }
 }
 
-/// The blocks whose loans stand at places, in their order.
+/// The blocks whose loans are at places, in their order.
 fn blocks_at(places: &[Option<Held>]) -> ArrayVec<u32, 8>
     requires { length places.now ≤ 8 }
     ensures { result.items ≡ blocks_of (held_at places.now) }
@@ -158,7 +158,7 @@ fn place_of(places: &[Option<Held>], block: u32) -> Option<usize>
     None
 }
 
-/// Puts a loan behind all others.
+/// Puts a loan after all others.
 fn put_last(places: &mut [Option<Held>], held: Held)
     requires { length (held_at places.old) < length places.old }
     ensures { held_at places.new ≡ held_at places.old ++ held ∷ [] }

@@ -4,7 +4,7 @@ ghost use Rattle.held_calls.specs.Holding.{IsOn};
 
 use raw_region::Lent;
 
-/// Where the bytes of a loan stand in the host's memory, and how many there are.
+/// Where the bytes of a loan are in the host's memory, and how many there are.
 #[repr(C)]
 #[derive(Drop)]
 pub struct Window {

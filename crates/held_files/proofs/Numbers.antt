@@ -7,7 +7,7 @@ pub none_first : (test : ℕ → Bool) (from count : ℕ) → ((k : ℕ) → fro
 none_first test from zero fail = refl
 none_first test from (suc count) fail = rw (fail from (omega arith) (omega arith)) (none_first test (from + 1) count (λ k low high. fail k (omega arith) (omega arith)))
 
--- the one behind some that don't
+-- the one after some that don't
 pub first_passes : (test : ℕ → Bool) (from before count at : ℕ) → at ≡ from + before → ((k : ℕ) → from ≤ k → k < at → test k ≡ false) → before < count → test at ≡ true
     → find test (range_with_len from count) ≡ Some at
 first_passes test from before zero at is fail few here = absurd (omega arith)

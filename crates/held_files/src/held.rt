@@ -19,7 +19,7 @@ use std::alloc::Global;
 use std::marker::Model;
 use std::{mem, ptr};
 
-/// Files behind a pointer, or none.
+/// Files after a pointer, or none.
 #[repr(C)]
 #[derive(Drop)]
 pub struct Held {
@@ -89,7 +89,7 @@ impl MrFiles {
         MrFiles::without(at)
     }
 
-    /// No files, behind this pointer.
+    /// No files, after this pointer.
     fn without(at: *mut u8) -> MrFiles
         ensures { result.held.files ≡ None }
     {

@@ -38,7 +38,7 @@ pub record IsAsleep (s : State) : Type 0 where
 abbrev pub is_lendable : ZoneState → ℕ → Bool
 is_lendable z x = not (is_some (loan_refusal z.shape z.heap (Lend x)))
 
--- the heap in which just these blocks are lent. They stand in the order of their blocks
+-- the heap in which just these blocks are lent. They are in the order of their blocks
 abbrev pub with_these_lent : List ℕ → Heap → Heap
 with_these_lent xs heap = with_table (with_lent (filter (λ y. list_any (λ x. x == y) xs) (owners heap.map)) heap.table) heap
 

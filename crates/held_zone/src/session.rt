@@ -1,4 +1,4 @@
-//! What is behind a zone that C holds.
+//! What is after a zone that C holds.
 
 ghost use Rattle.std.specs.Prelude.{◌≡◌, []};
 
@@ -151,7 +151,7 @@ impl Session {
         lending::window(&self.memory, &self.loans, block)
     }
 
-    /// Queues an answer behind the others: nothing is asked then. Sixteen may wait.
+    /// Queues an answer after the others: nothing is asked then. Sixteen may wait.
     pub fn queue(&mut self, answer: Answer) -> Result<(), OsErr>
         ensures queued { OnOk result (self.new ≡ record self.old { left = self.old.left ++ answer ∷ []; asks = [] }) }
         ensures refusal { result_err result ≡ queue_refusal self.old }

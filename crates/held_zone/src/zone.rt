@@ -14,7 +14,7 @@ use std::alloc::Global;
 use std::marker::Model;
 use std::{mem, ptr};
 
-/// A session behind a pointer, or none.
+/// A session after a pointer, or none.
 #[repr(C)]
 #[derive(Drop)]
 pub struct Held {
@@ -84,7 +84,7 @@ impl MhZone {
         MhZone::without(at)
     }
 
-    /// No zone, behind this pointer.
+    /// No zone, after this pointer.
     fn without(at: *mut u8) -> MhZone
         ensures { result.held.session ≡ None }
     {

@@ -13,7 +13,7 @@ use Rattle.mac_base.specs.HandleTable.{Live, EmptyHandle, FullHandle, Pointer, l
 use Rattle.mac_base.specs.HeadKind.{Shape, address_end, head_size, slot_count, zone_header}
 use Rattle.mac_base.specs.Loans.{LoansFit, owners}
 use Rattle.mac_base.specs.Suits.{free_apart, slots}
-use Rattle.mac_base.specs.ZoneMap.{block, address_behind, contents_of, total_size}
+use Rattle.mac_base.specs.ZoneMap.{block, address_after, contents_of, total_size}
 use Rattle.mac_base.specs.ZoneSizes.{ZoneSizes, ArePossible}
 use Rattle.mac_base.specs.ZoneState.{ZoneState}
 use Rattle.zone_laws.proofs.SlotOwners.{rooms-suits}
@@ -64,9 +64,9 @@ handle-kind o at (kind.Ptr p) h flags bytes is = absurd (cc is)
 handle-kind o at (kind.Rel g) h flags bytes is = let same : h ≡ g = cc is in ap (λ x. kind.Rel x) (sym same)
 
 -- two free neighbours in a map
-not-apart : (s : Shape) (at : ℕ) (before : List BlockRecord) (first second : ℕ) (behind : List BlockRecord) → free_apart (map_in s at (before ++ block_record Free first ∷ block_record Free second ∷ behind)) ≡ true → ⊥
-not-apart s at [] first second behind apart = cc apart
-not-apart s at (b ∷ before) first second behind apart = not-apart s (at + b.size) before first second behind (and_parts _ _ apart).1
+not-apart : (s : Shape) (at : ℕ) (before : List BlockRecord) (first second : ℕ) (after : List BlockRecord) → free_apart (map_in s at (before ++ block_record Free first ∷ block_record Free second ∷ after)) ≡ true → ⊥
+not-apart s at [] first second after apart = cc apart
+not-apart s at (b ∷ before) first second after apart = not-apart s (at + b.size) before first second after (and_parts _ _ apart).1
 
 module _ (z : ZoneState) (stands : Stands (records_of z) z) where
   -- the entry of a handle's block
@@ -77,13 +77,13 @@ module _ (z : ZoneState) (stands : Stands (records_of z) z) where
 
   handle-entry : (at : ℕ) (b : HandleBlockAt (records_of z) at) → HandleEntry at b
   handle-entry at b =
-      let mine = of-record (records_of z) z refl at (record { before = b.before; here = handle_record b.handle b.flags b.bytes b.size b.lent; behind = b.behind; blocks = b.blocks; place = b.place }) in
+      let mine = of-record (records_of z) z refl at (record { before = b.before; here = handle_record b.handle b.flags b.bytes b.size b.lent; after = b.after; blocks = b.blocks; place = b.place }) in
       let is = handle-kind (owners_of z) (at + head_size z.shape.heads) mine.entry.here.kind b.handle b.flags b.bytes (ap (λ (b : BlockRecord). b.content) mine.here) in
       record { entry = mine.entry; kind = is; full = block-full z stands.fits at b.handle mine.entry is }
 
   -- the slots are those of the map, and say what the zone calls for
   slots-are : slots_of_zone (records_of z) ≡ map (λ a. (a, slot_of z a)) (slots z.shape z.heap.map)
-  slots-are = slots-back (owners_of z) z.shape (address_behind z.shape []) z.heap.map
+  slots-are = slots-back (owners_of z) z.shape (address_after z.shape []) z.heap.map
 
   slot-there : (x : ℕ) (sl : Slot) → Contains (slots z.shape z.heap.map) x → slot_of z x ≡ sl → Contains (slots_of_zone (records_of z)) (x, sl)
   slot-there x sl c is = subst (λ s. Contains (slots_of_zone (records_of z)) (x, s)) is (subst (λ xs. Contains xs (x, slot_of z x)) (sym slots-are) (Contains-mapped (λ a. (a, slot_of z a)) (slots z.shape z.heap.map) x c))
@@ -107,7 +107,7 @@ module _ (z : ZoneState) (stands : Stands (records_of z) z) where
   blocks-say : (at : ℕ) (b : HandleBlockAt (records_of z) at) → HasSlot (records_of z) at b
   blocks-say at b =
       let e = handle-entry at b in
-      let there : BlockOf z b.handle at = record { before = e.entry.before; size = e.entry.here.size; behind = e.entry.behind; map = e.entry.map ∙ ap (λ k. e.entry.before ++ block k e.entry.here.size ∷ e.entry.behind) e.kind; place = e.entry.place } in
+      let there : BlockOf z b.handle at = record { before = e.entry.before; size = e.entry.here.size; after = e.entry.after; map = e.entry.map ∙ ap (λ k. e.entry.before ++ block k e.entry.here.size ∷ e.entry.after) e.kind; place = e.entry.place } in
       let says = full-slot-of b.handle (at + head_size z.shape.heads) e.full (emptied-contents z b.handle stands.fits e.full at there) in
       record { flags = says.0; slot_is = slot-there b.handle (slot.Full says.0 (at + head_size z.shape.heads)) (emptied-slot z b.handle stands.fits e.full) says.1 }
 
@@ -116,10 +116,10 @@ module _ (z : ZoneState) (stands : Stands (records_of z) z) where
       let said = slot-said h (slot.Full flags contents) c in
       let f = full-slot z stands.fits h flags contents (head_size z.shape.heads) (sym said.1) refl in
       let at = contents - head_size z.shape.heads in
-      let mine = of-entry (records_of z) z refl at (record { before = f.block.before; here = block (kind.Rel h) f.block.size; behind = f.block.behind; map = f.block.map; place = f.block.place }) in
+      let mine = of-entry (records_of z) z refl at (record { before = f.block.before; here = block (kind.Rel h) f.block.size; after = f.block.after; map = f.block.map; place = f.block.place }) in
       let above = f.above in
       let here = handle_record h ((owners_of z).flags h) ((owners_of z).bytes h) f.block.size ((owners_of z).lent h) in
-      let blocks : (records_of z).blocks ≡ mine.there.before ++ here ∷ mine.there.behind = subst (λ b. (records_of z).blocks ≡ mine.there.before ++ b ∷ mine.there.behind) mine.here mine.there.blocks in
+      let blocks : (records_of z).blocks ≡ mine.there.before ++ here ∷ mine.there.after = subst (λ b. (records_of z).blocks ≡ mine.there.before ++ b ∷ mine.there.after) mine.here mine.there.blocks in
       record {
         at = at;
         block = record {
@@ -129,7 +129,7 @@ module _ (z : ZoneState) (stands : Stands (records_of z) z) where
           flags = (owners_of z).flags h;
           bytes = (owners_of z).bytes h;
           lent = (owners_of z).lent h;
-          behind = mine.there.behind;
+          after = mine.there.after;
           blocks = blocks;
           place = mine.there.place;
         };
@@ -180,17 +180,17 @@ module _ (z : ZoneState) (stands : Stands (records_of z) z) where
   -- no two free blocks are neighbours
   pub apart-back : free_apart z.heap.map ≡ true → (at : ℕ) → FreePair (records_of z) at → ⊥
   apart-back apart at pair =
-      let back = map-back (owners_of z) z.shape z.heap.table (address_behind z.shape []) z.heap.map (all-pointers z stands.fits stands.rooms) in
-      not-apart z.shape (address_behind z.shape []) pair.before pair.first pair.second pair.behind
-      (sym (ap free_apart (sym back ∙ ap (map_in z.shape (address_behind z.shape [])) pair.blocks)) ∙ apart)
+      let back = map-back (owners_of z) z.shape z.heap.table (address_after z.shape []) z.heap.map (all-pointers z stands.fits stands.rooms) in
+      not-apart z.shape (address_after z.shape []) pair.before pair.first pair.second pair.after
+      (sym (ap free_apart (sym back ∙ ap (map_in z.shape (address_after z.shape [])) pair.blocks)) ∙ apart)
 
 -- ---- the blocks of bytes
 
 -- whether a block has what it is for
 module _ (l : Layout) (z : ZoneState) (stands : Stands (records_of z) z) (is : read l.heads l.base l.blocks ≡ (records_of z).blocks) (words : All (HasWords l.heads) l.blocks) where
   -- a master block has its slots' words, and a handle has 32 bits
-  use-is : (before : List RawBlock) (b : RawBlock) (behind : List RawBlock) → l.blocks ≡ before ++ b ∷ behind → HasWords l.heads b → has_use l.base b.role (length b.contents) ≡ true
-  use-is before b behind split words = by_role b.role refl
+  use-is : (before : List RawBlock) (b : RawBlock) (after : List RawBlock) → l.blocks ≡ before ++ b ∷ after → HasWords l.heads b → has_use l.base b.role (length b.contents) ≡ true
+  use-is before b after split words = by_role b.role refl
     where
       by_role : (r : Role) → b.role ≡ r → has_use l.base r (length b.contents) ≡ true
       by_role role.Free same = refl
@@ -200,11 +200,11 @@ module _ (l : Layout) (z : ZoneState) (stands : Stands (records_of z) z) (is : r
           let test : (length b.contents == 256) ≡ true = grind (arith, nat_tests) in test
       by_role (role.Relocatable offset flags) same =
           let first = read l.heads l.base before in
-          let blocks : (records_of z).blocks ≡ first ++ handle_record (l.base + offset) flags b.contents (raw.size_of l.heads b) b.lent ∷ read l.heads l.base behind =
-          sym is ∙ ap (read l.heads l.base) split ∙ read-append l.heads l.base before (b ∷ behind)
-          ∙ ap (λ (r : Role). first ++ record { size = raw.size_of l.heads b; content = content_in l.heads l.base r b.contents; lent = b.lent } ∷ read l.heads l.base behind) same in
-          let there : HandleBlockAt (records_of z) (zone_records.address_behind z.shape first) = record { before = first; size = raw.size_of l.heads b; handle = l.base + offset; flags = flags; bytes = b.contents; lent = b.lent; behind = read l.heads l.base behind; blocks = blocks; place = refl } in
-          let e = handle-entry z stands (zone_records.address_behind z.shape first) there in
+          let blocks : (records_of z).blocks ≡ first ++ handle_record (l.base + offset) flags b.contents (raw.size_of l.heads b) b.lent ∷ read l.heads l.base after =
+          sym is ∙ ap (read l.heads l.base) split ∙ read-append l.heads l.base before (b ∷ after)
+          ∙ ap (λ (r : Role). first ++ record { size = raw.size_of l.heads b; content = content_in l.heads l.base r b.contents; lent = b.lent } ∷ read l.heads l.base after) same in
+          let there : HandleBlockAt (records_of z) (zone_records.address_after z.shape first) = record { before = first; size = raw.size_of l.heads b; handle = l.base + offset; flags = flags; bytes = b.contents; lent = b.lent; after = read l.heads l.base after; blocks = blocks; place = refl } in
+          let e = handle-entry z stands (zone_records.address_after z.shape first) there in
           let range = (slot-range (records_of z) z stands (l.base + offset) (emptied-slot z (l.base + offset) stands.fits e.full)).1 in
           let small = end-small z.shape.heads in
           let test : nat_lt (l.base + offset) (2 ^ 32) ≡ true = (let below : l.base + offset < 0x1_0000_0000 = omega arith in grind (arith, nat_tests)) in test
@@ -228,7 +228,7 @@ module _ (spec : ZoneSizes) (possible : ArePossible spec) (bytes : List ℕ) (z 
     few = let none = ap length zone.nothing_lent in omega arith;
   }
 
-  -- it can stand as blocks
+  -- it can be as blocks
   pub stands-in : Stands (records_of z) z
   stands-in = record {
     blocks = refl;
@@ -244,7 +244,7 @@ module _ (spec : ZoneSizes) (possible : ArePossible spec) (bytes : List ℕ) (z 
   abbrev size : ℕ
   size = zone_header + total_size z.heap.map
 
-  -- the blocks of bytes, with the bytes behind them
+  -- the blocks of bytes, with the bytes after them
   abbrev pub layout_in : Layout
   layout_in = record zone.inside.image.layout { spare = drop size bytes }
 
@@ -255,7 +255,7 @@ module _ (spec : ZoneSizes) (possible : ArePossible spec) (bytes : List ℕ) (z 
   same = zone.inside.image.same
 
   total-in : raw.total_of l.heads l.blocks ≡ total_size z.heap.map
-  total-in = sym (total-read l.heads l.base l.blocks) ∙ ap (λ (r : ZoneRecords). total_of r.blocks) same ∙ records-total (owners_of z) z.shape (address_behind z.shape []) z.heap.map
+  total-in = sym (total-read l.heads l.base l.blocks) ∙ ap (λ (r : ZoneRecords). total_of r.blocks) same ∙ records-total (owners_of z) z.shape (address_after z.shape []) z.heap.map
 
   limit-in : zone_header + raw.total_of l.heads l.blocks + length (drop size bytes) ≡ z.shape.limit
   limit-in =
@@ -300,5 +300,5 @@ module _ (spec : ZoneSizes) (possible : ArePossible spec) (bytes : List ℕ) (z 
     sound = sound-in;
     same = same-in;
     links = linked-back z stands-in;
-    tight = record { apart = apart-back z stands-in zone.sound.suits.apart; lengths = lengths-same z z.shape (address_behind z.shape []) z.heap.map ∙ zone.sound.suits.lengths };
+    tight = record { apart = apart-back z stands-in zone.sound.suits.apart; lengths = lengths-same z z.shape (address_after z.shape []) z.heap.map ∙ zone.sound.suits.lengths };
   }

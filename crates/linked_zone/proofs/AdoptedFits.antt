@@ -18,7 +18,7 @@ use Rattle.zone_records.specs.Adopting.{AreLinked, Follow}
 use Rattle.zone_records.specs.declared.slot.Slot.{Slot}
 use Rattle.zone_records.specs.declared.slot.Slot.TheVariants as slot
 use Rattle.zone_records.specs.Places.{HandleBlockAt}
-use Rattle.zone_records.specs.Records.{Content, BlockRecord, ZoneRecords, Free, Fixed, Master, Relocatable, address_behind, handle_record, kind_of, total_of, bytes_of}
+use Rattle.zone_records.specs.Records.{Content, BlockRecord, ZoneRecords, Free, Fixed, Master, Relocatable, address_after, handle_record, kind_of, total_of, bytes_of}
 use Rattle.zone_records.specs.Slots.{slots_of_zone}
 use Rattle.linked_zone.specs.Fit.{Fits}
 use Rattle.linked_zone.specs.Owned.{next_free}
@@ -35,11 +35,11 @@ unfolding Follow
 first-follows all x [] follow = sym follow
 first-follows all x (y ∷ ys) follow = sym follow.0
 
--- a slot that names the one behind it among others
+-- a slot that names the one after it among others
 pub record Names (all : List (ℕ × Slot)) (xs : List ℕ) (h : ℕ) : Type 0 where
   pub next : ℕ
   pub slot : Contains all (h, slot.Free next)
-  pub behind : next_free xs h ≡ next
+  pub after : next_free xs h ≡ next
 
 -- each does
 pub each-names : (all : List (ℕ × Slot)) (x : ℕ) (xs : List ℕ) → Follow all x xs → (h : ℕ) → Contains xs h → Names all xs h
@@ -51,14 +51,14 @@ each-names all x (y ∷ ys) follow h c = by_test (eqb y h) refl (each-names all 
     first is = record {
       next = follow.1.0;
       slot = subst (λ n. Contains all (n, slot.Free follow.1.0)) (eqb-true y h is) follow.1.1.0;
-      behind = ap (λ b. cond b (slice_index ys 0) (next_free ys h)) is ∙ first-follows all follow.1.0 ys follow.1.1.1;
+      after = ap (λ b. cond b (slice_index ys 0) (next_free ys h)) is ∙ first-follows all follow.1.0 ys follow.1.1.1;
     }
 
     by_test : (b : Bool) → eqb y h ≡ b → (Contains ys h → Names all ys h) → Names all (y ∷ ys) h
     by_test true is rest = first is
     by_test false is rest = elim (cons_cases y ys h c) [
       | inl same ↦ absurd (cc (ap (λ n. eqb n h) same ∙ eqb_same h, is))
-      | inr later ↦ (let n = rest later in record { next = n.next; slot = n.slot; behind = ap (λ b. cond b (slice_index ys 0) (next_free ys h)) is ∙ n.behind })
+      | inr later ↦ (let n = rest later in record { next = n.next; slot = n.slot; after = ap (λ b. cond b (slice_index ys 0) (next_free ys h)) is ∙ n.after })
     ]
 
 -- ---- one block of each handle
@@ -71,13 +71,13 @@ same-kind h a b (Master slots) = refl
 same-kind h a b (Relocatable g flags bytes) = refl
 
 -- the first block of a handle is found
-found-behind : (h : ℕ) (s : Shape) (at : ℕ) (before : List BlockRecord) (b : BlockRecord) (behind : List BlockRecord) → list_all (λ (e : Entry). not (is_handle_block h e.kind)) (map_in s at before) ≡ true → is_handle_block h (kind_of 0 b.content) ≡ true
-    → block_found h (before ++ b ∷ behind) ≡ b.content
-found-behind h s at [] b behind none is = ap (λ t. cond t b.content (block_found h behind)) is
-found-behind h s at (x ∷ before) b behind none is =
+found-after : (h : ℕ) (s : Shape) (at : ℕ) (before : List BlockRecord) (b : BlockRecord) (after : List BlockRecord) → list_all (λ (e : Entry). not (is_handle_block h e.kind)) (map_in s at before) ≡ true → is_handle_block h (kind_of 0 b.content) ≡ true
+    → block_found h (before ++ b ∷ after) ≡ b.content
+found-after h s at [] b after none is = ap (λ t. cond t b.content (block_found h after)) is
+found-after h s at (x ∷ before) b after none is =
     let parts = and_parts (not (is_handle_block h (kind_of (at + head_size s.heads) x.content))) (list_all (λ (e : Entry). not (is_handle_block h e.kind)) (map_in s (at + x.size) before)) none in
-    ap (λ t. cond t x.content (block_found h (before ++ b ∷ behind))) (by_test (is_handle_block h (kind_of 0 x.content)) (ap not (same-kind h 0 (at + head_size s.heads) x.content) ∙ parts.0))
-    ∙ found-behind h s (at + x.size) before b behind parts.1 is
+    ap (λ t. cond t x.content (block_found h (before ++ b ∷ after))) (by_test (is_handle_block h (kind_of 0 x.content)) (ap not (same-kind h 0 (at + head_size s.heads) x.content) ∙ parts.0))
+    ∙ found-after h s (at + x.size) before b after parts.1 is
   where
     by_test : (t : Bool) → (not t) ≡ true → t ≡ false
     by_test true h = absurd (cc h)
@@ -90,7 +90,7 @@ none-lent (x ∷ xs) = none-lent xs
 
 module _ (r : ZoneRecords) (all : All (IsReadable r.shape) r.blocks) where
   abbrev pub start : ℕ
-  start = address_behind r.shape []
+  start = address_after r.shape []
 
   abbrev pub head : ℕ
   head = head_size r.shape.heads
@@ -198,7 +198,7 @@ module _ (r : ZoneRecords) (all : All (IsReadable r.shape) r.blocks) where
   pointer-of p a xs size (Relocatable h flags bytes) lent ys place split passes = absurd (cc passes)
   pointer-of p a xs size (Fixed bytes) lent ys place split passes =
       let same : a + head ≡ p = eqb-true (a + head) p passes in
-      (same, record { bytes = bytes; block = record { before = xs; size = size; lent = lent; behind = ys; blocks = split; place = omega arith } })
+      (same, record { bytes = bytes; block = record { before = xs; size = size; lent = lent; after = ys; blocks = split; place = omega arith } })
 
   -- each pointer has one block, where its number says
   pointers-read : (p : ℕ) → contents_addresses r.shape (is_pointer_block p) read_map ≡ cond (is_pointer read_table p) (p ∷ []) []
@@ -208,7 +208,7 @@ module _ (r : ZoneRecords) (all : All (IsReadable r.shape) r.blocks) where
       by_test true live =
           let b = (pointer-there p live).block in
           let place = b.place in
-          ap (map (λ a. a + head)) (one-passes (is_pointer_block p) r.shape start r.blocks all b.before _ b.behind b.blocks
+          ap (map (λ a. a + head)) (one-passes (is_pointer_block p) r.shape start r.blocks all b.before _ b.after b.blocks
           (λ xs c ys a there split passes. let same = (pointer-of p a xs c.size c.content c.lent ys there split passes).0 in omega arith)
           (ap (λ q. eqb q p) (sym b.place) ∙ eqb_same p))
           ∙ ap (λ q. q ∷ []) (sym b.place)
@@ -227,7 +227,7 @@ module _ (r : ZoneRecords) (all : All (IsReadable r.shape) r.blocks) where
     handle-of h a xs size (Fixed bytes) lent ys place split passes = absurd (cc passes)
     handle-of h a xs size (Master slots) lent ys place split passes = absurd (cc passes)
     handle-of h a xs size (Relocatable g flags bytes) lent ys place split passes = record {
-      block = record { before = xs; size = size; handle = g; flags = flags; bytes = bytes; lent = lent; behind = ys; blocks = split; place = omega arith };
+      block = record { before = xs; size = size; handle = g; flags = flags; bytes = bytes; lent = lent; after = ys; blocks = split; place = omega arith };
       is = eqb-true g h passes;
     }
 
@@ -248,12 +248,12 @@ module _ (r : ZoneRecords) (all : All (IsReadable r.shape) r.blocks) where
 
     -- its address is the only one of its handle's blocks
     pub handle-address : (at : ℕ) (b : HandleBlockAt r at) → addresses r.shape (is_handle_block b.handle) read_map ≡ (start + total_of b.before) ∷ []
-    handle-address at b = one-passes (is_handle_block b.handle) r.shape start r.blocks all b.before (handle_record b.handle b.flags b.bytes b.size b.lent) b.behind b.blocks (only-place at b) (eqb_same b.handle)
+    handle-address at b = one-passes (is_handle_block b.handle) r.shape start r.blocks all b.before (handle_record b.handle b.flags b.bytes b.size b.lent) b.after b.blocks (only-place at b) (eqb_same b.handle)
 
     -- it is the one that is found
     pub handle-found : (at : ℕ) (b : HandleBlockAt r at) → block_found b.handle r.blocks ≡ Relocatable b.handle b.flags b.bytes
-    handle-found at b = ap (block_found b.handle) b.blocks ∙ found-behind b.handle r.shape start b.before (handle_record b.handle b.flags b.bytes b.size b.lent) b.behind
-        (none-before (is_handle_block b.handle) r.shape start r.blocks all b.before (handle_record b.handle b.flags b.bytes b.size b.lent) b.behind b.blocks (only-place at b)) (eqb_same b.handle)
+    handle-found at b = ap (block_found b.handle) b.blocks ∙ found-after b.handle r.shape start b.before (handle_record b.handle b.flags b.bytes b.size b.lent) b.after
+        (none-before (is_handle_block b.handle) r.shape start r.blocks all b.before (handle_record b.handle b.flags b.bytes b.size b.lent) b.after b.blocks (only-place at b)) (eqb_same b.handle)
 
     -- so the handle has its bytes, and the flags that slot and header say
     pub live-handle : (at : ℕ) (b : HandleBlockAt r at) → live_at read_table b.handle ≡ Some (FullHandle (either_flags (links.blocks at b).flags b.flags) b.bytes)

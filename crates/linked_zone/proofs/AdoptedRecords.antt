@@ -74,12 +74,12 @@ slots-made f (suc n) at (s ∷ ss) long each =
     ∙ ap (λ ys. s ∷ ys) (slots-made f n (at + 4) ss (omega arith) (λ x sl c. each x sl (later_is (at, s) (addressed (at + 4) ss) (x, sl) c)))
 
 -- the slots of a block are among all
-slots-there : (s : Shape) (at : ℕ) (before : List BlockRecord) (b : BlockRecord) (behind : List BlockRecord) (a : ℕ) (e : ℕ × Slot) → a ≡ at + total_of before → Contains (slots_of (a + head_size s.heads) b.content) e → Contains (all_slots s at (before ++ b ∷ behind)) e
-slots-there s at [] b behind a e place c =
+slots-there : (s : Shape) (at : ℕ) (before : List BlockRecord) (b : BlockRecord) (after : List BlockRecord) (a : ℕ) (e : ℕ × Slot) → a ≡ at + total_of before → Contains (slots_of (a + head_size s.heads) b.content) e → Contains (all_slots s at (before ++ b ∷ after)) e
+slots-there s at [] b after a e place c =
     let same : a ≡ at = omega arith in
-    Contains-append_left (slots_of (at + head_size s.heads) b.content) (all_slots s (at + b.size) behind) e (subst (λ n. Contains (slots_of (n + head_size s.heads) b.content) e) same c)
-slots-there s at (x ∷ before) b behind a e place c =
-    Contains-append_right (slots_of (at + head_size s.heads) x.content) (all_slots s (at + x.size) (before ++ b ∷ behind)) e (slots-there s (at + x.size) before b behind a e (omega arith) c)
+    Contains-append_left (slots_of (at + head_size s.heads) b.content) (all_slots s (at + b.size) after) e (subst (λ n. Contains (slots_of (n + head_size s.heads) b.content) e) same c)
+slots-there s at (x ∷ before) b after a e place c =
+    Contains-append_right (slots_of (at + head_size s.heads) x.content) (all_slots s (at + x.size) (before ++ b ∷ after)) e (slots-there s (at + x.size) before b after a e (omega arith) c)
 
 module _ (r : ZoneRecords) (all : All (IsReadable r.shape) r.blocks) (links : AreLinked r) where
   abbrev z : ZoneState
@@ -87,15 +87,15 @@ module _ (r : ZoneRecords) (all : All (IsReadable r.shape) r.blocks) (links : Ar
 
   -- the header of a handle's block says no flags but its own
   header-says : (at : ℕ) (b : HandleBlockAt r at) → header_flags r.shape.heads b.flags ≡ b.flags
-  header-says at b = (All-at (IsReadable r.shape) b.before (handle_record b.handle b.flags b.bytes b.size b.lent) b.behind (subst (All (IsReadable r.shape)) b.blocks all)).says
+  header-says at b = (All-at (IsReadable r.shape) b.before (handle_record b.handle b.flags b.bytes b.size b.lent) b.after (subst (All (IsReadable r.shape)) b.blocks all)).says
 
   -- the block of a handle is one of the zone's
   block-of : (at : ℕ) (b : HandleBlockAt r at) → BlockOf z b.handle at
   block-of at b = let place = b.place in let total = map_in-total r.shape (start r all) b.before in record {
     before = map_in r.shape (start r all) b.before;
     size = b.size;
-    behind = map_in r.shape (start r all + total_of b.before + b.size) b.behind;
-    map = ap (map_in r.shape (start r all)) b.blocks ∙ map_in-append r.shape (start r all) b.before (handle_record b.handle b.flags b.bytes b.size b.lent ∷ b.behind);
+    after = map_in r.shape (start r all + total_of b.before + b.size) b.after;
+    map = ap (map_in r.shape (start r all)) b.blocks ∙ map_in-append r.shape (start r all) b.before (handle_record b.handle b.flags b.bytes b.size b.lent ∷ b.after);
     place = omega arith;
   }
 
@@ -104,7 +104,7 @@ module _ (r : ZoneRecords) (all : All (IsReadable r.shape) r.blocks) (links : Ar
   slot-back x (slot.Free next) c =
       let n = each-names (slots_of_zone r) r.front links.free.free links.free.follow x (links.free.all x next c) in
       let same : slot.Free n.next ≡ slot.Free next = one-at 0 (slots_of_zone r) x (slot.Free n.next) (slot.Free next) (slots-rise r all) n.slot c in
-      ap (λ o. slot_of_live r.shape.heads o (contents_of r.shape x (read_map r all)) (next_free links.free.free x)) (live-slot r all x (slot.Free next) c) ∙ ap slot.Free n.behind ∙ same
+      ap (λ o. slot_of_live r.shape.heads o (contents_of r.shape x (read_map r all)) (next_free links.free.free x)) (live-slot r all x (slot.Free next) c) ∙ ap slot.Free n.after ∙ same
   slot-back x slot.Empty c = ap (λ o. slot_of_live r.shape.heads o (contents_of r.shape x (read_map r all)) (next_free links.free.free x)) (live-slot r all x slot.Empty c)
   slot-back x (slot.Full flags contents) c =
       let b = links.slots x flags contents c in
@@ -119,18 +119,18 @@ module _ (r : ZoneRecords) (all : All (IsReadable r.shape) r.blocks) (links : Ar
       ∙ ap (slot.Full flags) begin
 
   -- so does what is in each block
-  content-back : (before : List BlockRecord) (size : ℕ) (c : Content) (lent : Bool) (behind : List BlockRecord) (at : ℕ) → r.blocks ≡ before ++ record { size = size; content = c; lent = lent } ∷ behind → at ≡ start r all + total_of before
+  content-back : (before : List BlockRecord) (size : ℕ) (c : Content) (lent : Bool) (after : List BlockRecord) (at : ℕ) → r.blocks ≡ before ++ record { size = size; content = c; lent = lent } ∷ after → at ≡ start r all + total_of before
       → content_of (owners_of z) (at + head r all) (kind_of (at + head r all) c) ≡ c
-  content-back before size Free lent behind at split place = refl
-  content-back before size (Fixed bytes) lent behind at split place =
-      ap (λ o. Fixed (live_bytes o)) (live-pointer r all (at + head r all) bytes (record { before = before; size = size; lent = lent; behind = behind; blocks = split; place = omega arith }))
-  content-back before size (Master ss) lent behind at split place =
+  content-back before size Free lent after at split place = refl
+  content-back before size (Fixed bytes) lent after at split place =
+      ap (λ o. Fixed (live_bytes o)) (live-pointer r all (at + head r all) bytes (record { before = before; size = size; lent = lent; after = after; blocks = split; place = omega arith }))
+  content-back before size (Master ss) lent after at split place =
       let b : BlockRecord = record { size = size; content = Master ss; lent = lent } in
-      let says = (All-at (IsReadable r.shape) before b behind (subst (All (IsReadable r.shape)) split all)).says in
+      let says = (All-at (IsReadable r.shape) before b after (subst (All (IsReadable r.shape)) split all)).says in
       ap Master (slots-made (slot_of z) slot_count (at + head r all) ss says.0 (λ x sl c. slot-back x sl
-      (subst (λ (bs : List BlockRecord). Contains (all_slots r.shape (start r all) bs) (x, sl)) (sym split) (slots-there r.shape (start r all) before b behind at (x, sl) place c))))
-  content-back before size (Relocatable h flags bytes) lent behind at split place =
-      let b : HandleBlockAt r at = record { before = before; size = size; handle = h; flags = flags; bytes = bytes; lent = lent; behind = behind; blocks = split; place = omega arith } in
+      (subst (λ (bs : List BlockRecord). Contains (all_slots r.shape (start r all) bs) (x, sl)) (sym split) (slots-there r.shape (start r all) before b after at (x, sl) place c))))
+  content-back before size (Relocatable h flags bytes) lent after at split place =
+      let b : HandleBlockAt r at = record { before = before; size = size; handle = h; flags = flags; bytes = bytes; lent = lent; after = after; blocks = split; place = omega arith } in
       let s = links.blocks at b in
       ap (λ o. Relocatable h (header_flags r.shape.heads (live_flags o)) (live_bytes o)) (live-handle r all links at b)
       ∙ ap (λ f. Relocatable h f bytes) (header-either r.shape.heads s.flags flags (slots-say r.shape (start r all) r.blocks all h (slot.Full s.flags (at + head r all)) s.slot_is) (header-says at b))

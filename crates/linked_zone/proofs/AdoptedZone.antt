@@ -148,7 +148,7 @@ module _ (r : ZoneRecords) (all : All (IsReadable r.shape) r.blocks) where
             before = before;
             first = b.size;
             second = c.size;
-            behind = cs;
+            after = cs;
             blocks = split ∙ (λ i. before ++ record { size = b.size; content = one i; lent = here i } ∷ record { size = c.size; content = two i; lent = next i } ∷ cs);
             place = omega arith;
           }))

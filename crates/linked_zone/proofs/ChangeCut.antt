@@ -5,7 +5,7 @@ use Rattle.mac_base.specs.declared.block.Kind.{Kind}
 use Rattle.mac_base.specs.declared.block.Kind.TheVariants.{Free}
 use Rattle.mac_base.specs.HeadKind.{head_size}
 use Rattle.mac_base.specs.Loans.{LoansFit}
-use Rattle.mac_base.specs.ZoneMap.{ZoneMap, block, is_master, is_named, total_size, address_behind, addresses, addresses_from}
+use Rattle.mac_base.specs.ZoneMap.{ZoneMap, block, is_master, is_named, total_size, address_after, addresses, addresses_from}
 use Rattle.mac_base.specs.Suits.{is_handle_block, is_pointer_block}
 use Rattle.mac_base.specs.ZoneState.{ZoneState}
 use Rattle.zone_laws.proofs.Maps.{Exchanged, addresses_from-exchanged, addresses_from-skip}
@@ -40,21 +40,21 @@ module _ (z : ZoneState) (at size : ℕ) (free : FreeAt z at) (smaller : size < 
     before = free.before;
     left = block Free free.size ∷ [];
     right = block Free size ∷ block Free (free.size - size) ∷ [];
-    behind = free.behind;
+    after = free.after;
     was = free.map;
     is = refl;
     as_large = omega arith;
   }
 
   cut_same : (test : Kind → Bool) → test Free ≡ false → addresses z.shape test (cut_in_two size z free).heap.map ≡ addresses z.shape test z.heap.map
-  cut_same test is = addresses_from-exchanged z.heap.map (cut_in_two size z free).heap.map cut_exchange (address_behind z.shape []) test
-      (free_pair-skip (address_behind z.shape [] + total_size free.before) test size (free.size - size) is
-      ∙ sym (addresses_from-skip (address_behind z.shape [] + total_size free.before) test (block Free free.size) [] is))
+  cut_same test is = addresses_from-exchanged z.heap.map (cut_in_two size z free).heap.map cut_exchange (address_after z.shape []) test
+      (free_pair-skip (address_after z.shape [] + total_size free.before) test size (free.size - size) is
+      ∙ sym (addresses_from-skip (address_after z.shape [] + total_size free.before) test (block Free free.size) [] is))
 
   -- a zone with a free block cut in two still fits
   pub cut-fits : Fits z → Fits (cut_in_two size z free)
   cut-fits fits = free_changed-fits z (cut_in_two size z free).heap.map cut_same fits
-      (loans-replaced z.heap (cut_in_two size z free).heap free.before cut_exchange.left cut_exchange.right free.behind fits.loans refl free.map refl refl)
+      (loans-replaced z.heap (cut_in_two size z free).heap free.before cut_exchange.left cut_exchange.right free.after fits.loans refl free.map refl refl)
 
   -- all master pointers stay
   pub cut-pointers : (x : ℕ) → slot_of (cut_in_two size z free) x ≡ slot_of z x
@@ -66,21 +66,21 @@ module _ (z : ZoneState) (at : ℕ) (pair : FreePair z at) where
     before = pair.before;
     left = block Free pair.first ∷ block Free pair.second ∷ [];
     right = block Free (pair.first + pair.second) ∷ [];
-    behind = pair.behind;
+    after = pair.after;
     was = pair.map;
     is = refl;
     as_large = omega arith;
   }
 
   joined_same : (test : Kind → Bool) → test Free ≡ false → addresses z.shape test (joined_pair z pair).heap.map ≡ addresses z.shape test z.heap.map
-  joined_same test is = addresses_from-exchanged z.heap.map (joined_pair z pair).heap.map joined_exchange (address_behind z.shape []) test
-      (addresses_from-skip (address_behind z.shape [] + total_size pair.before) test (block Free (pair.first + pair.second)) [] is
-      ∙ sym (free_pair-skip (address_behind z.shape [] + total_size pair.before) test pair.first pair.second is))
+  joined_same test is = addresses_from-exchanged z.heap.map (joined_pair z pair).heap.map joined_exchange (address_after z.shape []) test
+      (addresses_from-skip (address_after z.shape [] + total_size pair.before) test (block Free (pair.first + pair.second)) [] is
+      ∙ sym (free_pair-skip (address_after z.shape [] + total_size pair.before) test pair.first pair.second is))
 
   -- a zone with two free neighbours made one still fits
   pub joined-fits : Fits z → Fits (joined_pair z pair)
   joined-fits fits = free_changed-fits z (joined_pair z pair).heap.map joined_same fits
-      (loans-replaced z.heap (joined_pair z pair).heap pair.before joined_exchange.left joined_exchange.right pair.behind fits.loans refl pair.map refl refl)
+      (loans-replaced z.heap (joined_pair z pair).heap pair.before joined_exchange.left joined_exchange.right pair.after fits.loans refl pair.map refl refl)
 
   -- all master pointers stay
   pub joined-pointers : (x : ℕ) → slot_of (joined_pair z pair) x ≡ slot_of z x

@@ -10,7 +10,7 @@ use Rattle.mac_base.specs.declared.block.Kind.TheVariants.{Free}
 use Rattle.mac_base.specs.HeadKind.{Shape, zone_header}
 use Rattle.mac_base.specs.HandleTable.{is_lent}
 use Rattle.mac_base.specs.Loans.{owners}
-use Rattle.mac_base.specs.ZoneMap.{ZoneMap, block, free_block, total_size, address_behind, addresses, addresses_from}
+use Rattle.mac_base.specs.ZoneMap.{ZoneMap, block, free_block, total_size, address_after, addresses, addresses_from}
 use Rattle.mac_base.specs.ZoneState.{ZoneState}
 use Rattle.zone_laws.proofs.Arranging.{total_size-free_block}
 use Rattle.zone_laws.proofs.Maps.{addresses_from-append, addresses_from-skip, total_size-append}
@@ -33,21 +33,21 @@ by_free P n none some = elim (eqb n 0) as (λ b. eqb n 0 ≡ b → P (cond b [] 
     is_some : eqb n 0 ≡ false → 0 < n
     is_some h = grind (arith, nat_tests)
 
--- with a free block behind it a map has what passes and isn't free
-addresses-behind : (s : Shape) (test : Kind → Bool) (m : ZoneMap) (n : ℕ) → test Free ≡ false → addresses s test (m ++ free_block n) ≡ addresses s test m
-addresses-behind s test m n free =
-    addresses_from-append (address_behind s []) test m (free_block n)
+-- with a free block after it a map has what passes and isn't free
+addresses-after : (s : Shape) (test : Kind → Bool) (m : ZoneMap) (n : ℕ) → test Free ≡ false → addresses s test (m ++ free_block n) ≡ addresses s test m
+addresses-after s test m n free =
+    addresses_from-append (address_after s []) test m (free_block n)
     ∙ ap (λ found. addresses s test m ++ found)
-    (by_free (λ bs. addresses_from (address_behind s [] + total_size m) test bs ≡ []) n (λ is. refl) (λ some. addresses_from-skip (address_behind s [] + total_size m) test (block Free n) [] free))
+    (by_free (λ bs. addresses_from (address_after s [] + total_size m) test bs ≡ []) n (λ is. refl) (λ some. addresses_from-skip (address_after s [] + total_size m) test (block Free n) [] free))
     ∙ append-nil (addresses s test m)
 
 -- and the owners are the same
-owners-behind : (m : ZoneMap) (n : ℕ) → owners (m ++ free_block n) ≡ owners m
-owners-behind m n = owners-append m (free_block n) ∙ ap (λ os. owners m ++ os) (by_free (λ bs. owners bs ≡ []) n (λ is. refl) (λ some. refl)) ∙ append-nil (owners m)
+owners-after : (m : ZoneMap) (n : ℕ) → owners (m ++ free_block n) ≡ owners m
+owners-after m n = owners-append m (free_block n) ∙ ap (λ os. owners m ++ os) (by_free (λ bs. owners bs ≡ []) n (λ is. refl) (λ some. refl)) ∙ append-nil (owners m)
 
 -- what all blocks pass, and the free one
-pub passes-behind : (p : Entry → Bool) (m : ZoneMap) (n : ℕ) → list_all p m ≡ true → (0 < n → p (block Free n) ≡ true) → list_all p (m ++ free_block n) ≡ true
-passes-behind p m n all free = list_all-append p m (free_block n) ∙ and_from (list_all p m) _ all
+pub passes-after : (p : Entry → Bool) (m : ZoneMap) (n : ℕ) → list_all p m ≡ true → (0 < n → p (block Free n) ≡ true) → list_all p (m ++ free_block n) ≡ true
+passes-after p m n all free = list_all-append p m (free_block n) ∙ and_from (list_all p m) _ all
     (by_free (λ bs. list_all p bs ≡ true) n (λ is. refl) (λ some. and_from (p (block Free n)) true (free some) refl))
 
 module _ (z : ZoneState) where
@@ -60,9 +60,9 @@ module _ (z : ZoneState) where
 
   -- it still fits
   pub extended-fits : Fits z → Fits (extended z)
-  extended-fits fits = free_changed-fits z (extended z).heap.map (λ test free. addresses-behind z.shape test z.heap.map left free) fits
-      (loans-kept z.heap (extended z).heap fits.loans refl (ap (filter (is_lent z.heap.table)) (owners-behind z.heap.map left)))
+  extended-fits fits = free_changed-fits z (extended z).heap.map (λ test free. addresses-after z.shape test z.heap.map left free) fits
+      (loans-kept z.heap (extended z).heap fits.loans refl (ap (filter (is_lent z.heap.table)) (owners-after z.heap.map left)))
 
   -- all master pointers stay
   pub extended-pointers : (x : ℕ) → slot_of (extended z) x ≡ slot_of z x
-  extended-pointers x = free_changed-pointers z (extended z).heap.map (λ test free. addresses-behind z.shape test z.heap.map left free) x
+  extended-pointers x = free_changed-pointers z (extended z).heap.map (λ test free. addresses-after z.shape test z.heap.map left free) x

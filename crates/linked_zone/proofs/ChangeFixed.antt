@@ -4,7 +4,7 @@ use Rattle.std.proofs.lemmas.List.Elements.{Contains-append_right}
 use Rattle.std.proofs.lemmas.Bool.{false_from_ne_true}
 use Rattle.mac_base.specs.declared.block.Kind.TheVariants.{Free, Ptr}
 use Rattle.mac_base.specs.HeadKind.{head_size, slot_count}
-use Rattle.mac_base.specs.ZoneMap.{ZoneMap, block, is_free, total_size, addresses, addresses_from, address_behind, contents_addresses}
+use Rattle.mac_base.specs.ZoneMap.{ZoneMap, block, is_free, total_size, addresses, addresses_from, address_after, contents_addresses}
 use Rattle.mac_base.specs.HandleTable.{HandleTable, Live, Pointer, zeros, live_at, live_full, live_handle, live_pointer, is_full, is_handle, is_lent, is_pointer, with_live}
 use Rattle.mac_base.specs.Suits.{is_handle_block, is_pointer_block, slots}
 use Rattle.mac_base.specs.ZoneState.{ZoneState}
@@ -28,19 +28,19 @@ module _ (z : ZoneState) (n at : ℕ) (free : FreeAt z at) (fits : Fits z) (room
   p = at + head_size z.shape.heads
 
   abbrev start : ℕ
-  start = address_behind z.shape []
+  start = address_after z.shape []
 
   -- the free block is one of the map's
   free_there : Contains (addresses z.shape is_free z.heap.map) (start + total_size free.before)
   free_there = subst (λ xs. Contains xs (start + total_size free.before))
-      (sym (ap (addresses z.shape is_free) free.map ∙ addresses_from-append start is_free free.before (block Free free.size ∷ free.behind)))
+      (sym (ap (addresses z.shape is_free) free.map ∙ addresses_from-append start is_free free.before (block Free free.size ∷ free.after)))
       (Contains-append_right (addresses_from start is_free free.before) _ (start + total_size free.before)
-      (Contains-here (start + total_size free.before) (addresses_from ((start + total_size free.before) + free.size) is_free free.behind)))
+      (Contains-here (start + total_size free.before) (addresses_from ((start + total_size free.before) + free.size) is_free free.after)))
 
   there : p ≡ start + total_size free.before + head_size z.shape.heads
   there = let place = free.place in omega arith
 
-  -- no slot stands where its contents begin
+  -- no slot is where its contents begin
   pub fixed-no_slot : Contains (slots z.shape z.heap.map) p → ⊥
   fixed-no_slot slot = slot_no_contents (head_size z.shape.heads) slot_count start is_free free_not_master z.heap.map (start + total_size free.before) rooms free_there (subst (Contains (slots z.shape z.heap.map)) there slot)
 
@@ -67,16 +67,16 @@ module _ (z : ZoneState) (n at : ℕ) (free : FreeAt z at) (fits : Fits z) (room
   pub fixed-unlent : is_lent z.heap.table p ≡ false
   fixed-unlent = not-lent z.heap fits.loans p none_all
 
-  none : (none_named p free.before ≡ true) × (none_named p free.behind ≡ true)
-  none = none_named-parts p free.before (block Free free.size) free.behind (ap (none_named p) (sym free.map) ∙ none_all)
+  none : (none_named p free.before ≡ true) × (none_named p free.after ≡ true)
+  none = none_named-parts p free.before (block Free free.size) free.after (ap (none_named p) (sym free.map) ∙ none_all)
 
   -- no block before the free one bears the pointer's name
   pub fixed-none_before : none_named p free.before ≡ true
   fixed-none_before = none.0
 
-  -- and none behind it
-  pub fixed-none_behind : none_named p free.behind ≡ true
-  fixed-none_behind = none.1
+  -- and none after it
+  pub fixed-none_after : none_named p free.after ≡ true
+  fixed-none_after = none.1
 
   abbrev l : Live
   l = Pointer (zeros n)
@@ -85,7 +85,7 @@ module _ (z : ZoneState) (n at : ℕ) (free : FreeAt z at) (fits : Fits z) (room
   u = with_live p l z.heap.table
 
   abbrev m : ZoneMap
-  m = free.before ++ block (Ptr p) free.size ∷ free.behind
+  m = free.before ++ block (Ptr p) free.size ∷ free.after
 
   agree : AgreeBut p z.heap.table u
   agree = with_live_agrees p l z.heap.table
@@ -96,20 +96,20 @@ module _ (z : ZoneState) (n at : ℕ) (free : FreeAt z at) (fits : Fits z) (room
   -- its block is the only one that is the pointer's
   own : contents_addresses z.shape (is_pointer_block p) m ≡ p ∷ []
   own = ap (map (λ a. a + head_size z.shape.heads))
-      (addresses-only z.shape (is_pointer_block p) free.before (block (Ptr p) free.size) free.behind (none_pointer p free.before none.0) (none_pointer p free.behind none.1) (eqb_same p))
+      (addresses-only z.shape (is_pointer_block p) free.before (block (Ptr p) free.size) free.after (none_pointer p free.before none.0) (none_pointer p free.after none.1) (eqb_same p))
       ∙ ap (λ a. (a + head_size z.shape.heads) ∷ []) (sym free.place)
 
   -- the zone still fits
   pub fixed-fits : Fits (fixed n z free)
   fixed-fits = Fits-kept z u m fits
-      (λ g. ap length (swapped-addresses z free.before Free (Ptr p) free.size free.behind free.map (is_handle_block g) refl) ∙ fits.coherent.handles g ∙ ap (λ c. cond c 1 0) (sym (full g)))
+      (λ g. ap length (swapped-addresses z free.before Free (Ptr p) free.size free.after free.map (is_handle_block g) refl) ∙ fits.coherent.handles g ∙ ap (λ c. cond c 1 0) (sym (full g)))
       (by_number (λ q. contents_addresses z.shape (is_pointer_block q) m ≡ cond (is_pointer u q) (q ∷ []) []) p
       (own ∙ ap (λ o. cond (live_pointer o) (p ∷ []) []) (sym has))
-      (λ q apart. swapped-pointers z free.before Free (Ptr p) free.size free.behind free.map q (eqb_swap p q ∙ apart) ∙ fits.coherent.pointers q ∙ ap (λ o. cond (live_pointer o) (q ∷ []) []) (sym (agree.others q apart))))
-      (swapped-slots z free.before Free (Ptr p) free.size free.behind free.map refl)
+      (λ q apart. swapped-pointers z free.before Free (Ptr p) free.size free.after free.map q (eqb_swap p q ∙ apart) ∙ fits.coherent.pointers q ∙ ap (λ o. cond (live_pointer o) (q ∷ []) []) (sym (agree.others q apart))))
+      (swapped-slots z free.before Free (Ptr p) free.size free.after free.map refl)
       (by_number (λ y. is_handle u y ≡ is_handle z.heap.table y) p (ap live_handle has ∙ sym fixed-no_handle) (λ y apart. ap live_handle (agree.others y apart)))
       (in_order-with_live p l z.heap.table fits.coherent.in_order)
-      (loans-replaced z.heap (record { table = u; map = m; free_slots = z.heap.free_slots }) free.before (block Free free.size ∷ []) (block (Ptr p) free.size ∷ []) free.behind fits.loans refl free.map refl
+      (loans-replaced z.heap (record { table = u; map = m; free_slots = z.heap.free_slots }) free.before (block Free free.size ∷ []) (block (Ptr p) free.size ∷ []) free.after fits.loans refl free.map refl
       (ap (λ c. cond c (p ∷ []) []) fixed-unlent))
     where
       full : (g : ℕ) → is_full u g ≡ is_full z.heap.table g
@@ -119,4 +119,4 @@ module _ (z : ZoneState) (n at : ℕ) (free : FreeAt z at) (fits : Fits z) (room
   pub fixed-others : (x : ℕ) → (x ≡ p → ⊥) → slot_of (fixed n z free) x ≡ slot_of z x
   fixed-others x other =
       let apart = ne_eqb x p other in
-      same_slot z (fixed n z free) x refl (agree.others x apart) (swapped-contents z free.before Free (Ptr p) free.size free.behind free.map x (eqb_swap p x ∙ apart)) refl
+      same_slot z (fixed n z free) x refl (agree.others x apart) (swapped-contents z free.before Free (Ptr p) free.size free.after free.map x (eqb_swap p x ∙ apart)) refl

@@ -65,7 +65,7 @@ module _ (z : ZoneState) (h : ℕ) (fits : Fits z) (empty : live_at z.heap.table
     loans = loans-kept z.heap (given_back h z).heap fits.loans refl refl;
   }
 
-  -- its master pointer says which slot is given behind it
+  -- its master pointer says which slot is given after it
   pub given_back-pointer : slot_of (given_back h z) h ≡ slot.Free (front_slot z.heap)
   given_back-pointer = ap (λ o. (slot_of_live z.shape.heads o (contents_of z.shape h z.heap.map) (next_free (h ∷ z.heap.free_slots) h))) gone
       ∙ ap slot.Free (next_free-front h z.heap.free_slots)

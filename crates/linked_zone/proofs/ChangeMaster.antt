@@ -12,7 +12,7 @@ use Rattle.mac_base.specs.declared.block.HeadKind.{HeadKind}
 use Rattle.mac_base.specs.declared.block.HeadKind.TheVariants.{Bits24, Bits32}
 use Rattle.mac_base.specs.declared.block.Kind.TheVariants.{Free, Master}
 use Rattle.mac_base.specs.HeadKind.{Shape, head_size, need, slot_count, master_length}
-use Rattle.mac_base.specs.ZoneMap.{ZoneMap, block, is_master, total_size, address_behind, addresses, addresses_from, contents_of}
+use Rattle.mac_base.specs.ZoneMap.{ZoneMap, block, is_master, total_size, address_after, addresses, addresses_from, contents_of}
 use Rattle.mac_base.specs.HandleTable.{live_at, is_handle, is_pointer}
 use Rattle.mac_base.specs.Suits.{has_length, is_handle_block, is_pointer_block, slots, slots_from}
 use Rattle.mac_base.specs.ZoneState.{ZoneState}
@@ -31,7 +31,7 @@ use Rattle.linked_zone.proofs.Numbered.{Contains-map}
 use Rattle.linked_zone.proofs.Lent.{loans-replaced}
 use Rattle.linked_zone.proofs.ChangeBlock.{swapped-addresses, swapped-pointers, swapped-contents}
 
--- behind a slot of n that isn't the last one, the next one is given
+-- after a slot of n that isn't the last one, the next one is given
 pub next_free-more : (n at : ℕ) (fs : List ℕ) (x : ℕ) → Contains (slots_from n at) x → x + 4 < at + 4 * n → next_free (slots_from n at ++ fs) x ≡ x + 4
 next_free-more zero at fs x c below = absurd (Contains-none x c)
 next_free-more (suc n) at fs x c below = elim (Contains-cons_cases at (slots_from n (at + 4)) x c) [
@@ -43,7 +43,7 @@ next_free-more (suc n) at fs x c below = elim (Contains-cons_cases at (slots_fro
     first zero some = absurd (omega arith)
     first (suc n) some = refl
 
--- behind the last of n slots, the first of the others is given
+-- after the last of n slots, the first of the others is given
 pub next_free-last : (n at : ℕ) (fs : List ℕ) (x : ℕ) → Contains (slots_from n at) x → x + 4 ≡ at + 4 * n → next_free (slots_from n at ++ fs) x ≡ slice_index fs 0
 next_free-last zero at fs x c last = absurd (Contains-none x c)
 next_free-last (suc n) at fs x c last = elim (Contains-cons_cases at (slots_from n (at + 4)) x c) [
@@ -55,7 +55,7 @@ next_free-last (suc n) at fs x c last = elim (Contains-cons_cases at (slots_from
     none zero h = refl
     none (suc n) h = absurd (omega arith)
 
--- behind any other free slot the same is given as before
+-- after any other free slot the same is given as before
 pub next_free-outside : (n at : ℕ) (fs : List ℕ) (x : ℕ) → (Contains (slots_from n at) x → ⊥) → next_free (slots_from n at ++ fs) x ≡ next_free fs x
 next_free-outside zero at fs x other = refl
 next_free-outside (suc n) at fs x other =
@@ -103,17 +103,17 @@ master_room s n h = by_size (need s.heads master_length) _ (head_size s.heads + 
     by_size : (k more low : ℕ) → low ≤ k → (nat_le k n && nat_lt n more) ≡ true → low ≤ n
     by_size k more low le h = grind (arith, nat_tests)
 
-module _ (head n start : ℕ) (before : ZoneMap) (size : ℕ) (behind : ZoneMap) where
+module _ (head n start : ℕ) (before : ZoneMap) (size : ℕ) (after : ZoneMap) where
   abbrev here : ℕ
   here = start + total_size before
 
   -- the slots around a free block
-  slots_at-free : slots_at head n start (before ++ block Free size ∷ behind) ≡ slots_at head n start before ++ slots_at head n (here + size) behind
-  slots_at-free = slots_at-append head n start before (block Free size ∷ behind)
+  slots_at-free : slots_at head n start (before ++ block Free size ∷ after) ≡ slots_at head n start before ++ slots_at head n (here + size) after
+  slots_at-free = slots_at-append head n start before (block Free size ∷ after)
 
   -- and those of a master block there, with the others
-  slots_at-master : slots_at head n start (before ++ block Master size ∷ behind) ≡ slots_at head n start before ++ (slots_from n (here + head) ++ slots_at head n (here + size) behind)
-  slots_at-master = slots_at-append head n start before (block Master size ∷ behind)
+  slots_at-master : slots_at head n start (before ++ block Master size ∷ after) ≡ slots_at head n start before ++ (slots_from n (here + head) ++ slots_at head n (here + size) after)
+  slots_at-master = slots_at-append head n start before (block Master size ∷ after)
 
   abbrev front : List ℕ
   front = slots_at head n start before
@@ -122,21 +122,21 @@ module _ (head n start : ℕ) (before : ZoneMap) (size : ℕ) (behind : ZoneMap)
   own = slots_from n (here + head)
 
   abbrev back : List ℕ
-  back = slots_at head n (here + size) behind
+  back = slots_at head n (here + size) after
 
   -- the slots stay
-  slot-kept : (x : ℕ) → Contains (slots_at head n start (before ++ block Free size ∷ behind)) x → Contains (slots_at head n start (before ++ block Master size ∷ behind)) x
+  slot-kept : (x : ℕ) → Contains (slots_at head n start (before ++ block Free size ∷ after)) x → Contains (slots_at head n start (before ++ block Master size ∷ after)) x
   slot-kept x c = subst (λ xs. Contains xs x) (sym slots_at-master) (elim (Contains-append_cases front back x (subst (λ xs. Contains xs x) slots_at-free c)) [
     | inl first ↦ Contains-append_left front (own ++ back) x first
     | inr later ↦ Contains-append_right front (own ++ back) x (Contains-append_right own back x later)
   ])
 
   -- and the master block's own are there
-  slot-new : (x : ℕ) → Contains (slots_from n (here + head)) x → Contains (slots_at head n start (before ++ block Master size ∷ behind)) x
+  slot-new : (x : ℕ) → Contains (slots_from n (here + head)) x → Contains (slots_at head n start (before ++ block Master size ∷ after)) x
   slot-new x c = subst (λ xs. Contains xs x) (sym slots_at-master) (Contains-append_right front (own ++ back) x (Contains-append_left own back x c))
 
   -- there are no others
-  slot-either : (x : ℕ) → Contains (slots_at head n start (before ++ block Master size ∷ behind)) x → Contains (slots_at head n start (before ++ block Free size ∷ behind)) x ⊎ Contains (slots_from n (here + head)) x
+  slot-either : (x : ℕ) → Contains (slots_at head n start (before ++ block Master size ∷ after)) x → Contains (slots_at head n start (before ++ block Free size ∷ after)) x ⊎ Contains (slots_from n (here + head)) x
   slot-either x c = elim (Contains-append_cases front (own ++ back) x (subst (λ xs. Contains xs x) slots_at-master c)) [
     | inl first ↦ inl (subst (λ xs. Contains xs x) (sym slots_at-free) (Contains-append_left front back x first))
     | inr rest ↦ elim (Contains-append_cases own back x rest) [
@@ -146,13 +146,13 @@ module _ (head n start : ℕ) (before : ZoneMap) (size : ℕ) (behind : ZoneMap)
   ]
 
   -- none of the slots is one of the master block's, where each block has room
-  slot-apart : list_all (has_room head n) before ≡ true → list_all (has_room head n) behind ≡ true → head + 4 * n ≤ size
-      → (x : ℕ) → Contains (slots_at head n start (before ++ block Free size ∷ behind)) x → Contains (slots_from n (here + head)) x → ⊥
-  slot-apart rooms_before rooms_behind large x c is =
+  slot-apart : list_all (has_room head n) before ≡ true → list_all (has_room head n) after ≡ true → head + 4 * n ≤ size
+      → (x : ℕ) → Contains (slots_at head n start (before ++ block Free size ∷ after)) x → Contains (slots_from n (here + head)) x → ⊥
+  slot-apart rooms_before rooms_after large x c is =
       let bounds = slots_from-bounds n (here + head) x is in
       elim (Contains-append_cases front back x (subst (λ xs. Contains xs x) slots_at-free c)) [
         | inl first ↦ (let below = slots_at-below head n start before x rooms_before first in omega arith)
-        | inr later ↦ (let above = slots_at-above head n (here + size) behind x rooms_behind later in omega arith)
+        | inr later ↦ (let above = slots_at-above head n (here + size) after x rooms_after later in omega arith)
       ]
 
 module _ (z : ZoneState) (at : ℕ) (r : RoomFor z at master_length) (fits : Fits z) (rooms : HasRooms z) where
@@ -160,10 +160,10 @@ module _ (z : ZoneState) (at : ℕ) (r : RoomFor z at master_length) (fits : Fit
   head = head_size z.shape.heads
 
   abbrev start : ℕ
-  start = address_behind z.shape []
+  start = address_after z.shape []
 
   abbrev m : ZoneMap
-  m = r.free.before ++ block Master r.free.size ∷ r.free.behind
+  m = r.free.before ++ block Master r.free.size ∷ r.free.after
 
   there : (start + total_size r.free.before) + head ≡ at + head
   there = (let place = r.free.place in omega arith)
@@ -171,14 +171,14 @@ module _ (z : ZoneState) (at : ℕ) (r : RoomFor z at master_length) (fits : Fit
   large : head + 4 * slot_count ≤ r.free.size
   large = master_room z.shape r.free.size r.room
 
-  old_rooms : (list_all (has_room head slot_count) r.free.before ≡ true) × (list_all (has_room head slot_count) r.free.behind ≡ true)
+  old_rooms : (list_all (has_room head slot_count) r.free.before ≡ true) × (list_all (has_room head slot_count) r.free.after ≡ true)
   old_rooms =
-      let parts = and_parts (list_all (has_room head slot_count) r.free.before) _ (sym (list_all-append (has_room head slot_count) r.free.before (block Free r.free.size ∷ r.free.behind)) ∙ ap (list_all (has_room head slot_count)) (sym r.free.map) ∙ rooms) in
-      (parts.0, (and_parts (has_room head slot_count (block Free r.free.size)) (list_all (has_room head slot_count) r.free.behind) parts.1).1)
+      let parts = and_parts (list_all (has_room head slot_count) r.free.before) _ (sym (list_all-append (has_room head slot_count) r.free.before (block Free r.free.size ∷ r.free.after)) ∙ ap (list_all (has_room head slot_count)) (sym r.free.map) ∙ rooms) in
+      (parts.0, (and_parts (has_room head slot_count (block Free r.free.size)) (list_all (has_room head slot_count) r.free.after) parts.1).1)
 
   -- each block has room, the master block for its slots
   pub master-rooms : HasRooms (with_master z r.free)
-  master-rooms = list_all-append (has_room head slot_count) r.free.before (block Master r.free.size ∷ r.free.behind)
+  master-rooms = list_all-append (has_room head slot_count) r.free.before (block Master r.free.size ∷ r.free.after)
       ∙ and_from (list_all (has_room head slot_count) r.free.before) _ old_rooms.0 (and_from (has_room head slot_count (block Master r.free.size)) _ (room head slot_count r.free.size (let wide = large in omega arith) large) old_rooms.1)
     where
       room : (a n size : ℕ) → a < size → a + 4 * n ≤ size → (nat_lt a size && nat_le (a + 4 * n) size) ≡ true
@@ -186,19 +186,19 @@ module _ (z : ZoneState) (at : ℕ) (r : RoomFor z at master_length) (fits : Fit
 
   -- the zone's slots are slots still
   pub master-kept_slot : (x : ℕ) → Contains (slots z.shape z.heap.map) x → Contains (slots z.shape (with_master z r.free).heap.map) x
-  master-kept_slot x c = slot-kept head slot_count start r.free.before r.free.size r.free.behind x (subst (λ m. Contains (slots z.shape m) x) r.free.map c)
+  master-kept_slot x c = slot-kept head slot_count start r.free.before r.free.size r.free.after x (subst (λ m. Contains (slots z.shape m) x) r.free.map c)
 
   -- and so are the new ones
   pub master-new_slot : (x : ℕ) → Contains (slots_from slot_count (at + head_size z.shape.heads)) x → Contains (slots z.shape (with_master z r.free).heap.map) x
-  master-new_slot x c = slot-new head slot_count start r.free.before r.free.size r.free.behind x (subst (λ a. Contains (slots_from slot_count a) x) (sym there) c)
+  master-new_slot x c = slot-new head slot_count start r.free.before r.free.size r.free.after x (subst (λ a. Contains (slots_from slot_count a) x) (sym there) c)
 
   -- no slot is new and old
   pub master-apart : (x : ℕ) → Contains (slots z.shape z.heap.map) x → Contains (slots_from slot_count (at + head_size z.shape.heads)) x → ⊥
-  master-apart x c own = slot-apart head slot_count start r.free.before r.free.size r.free.behind old_rooms.0 old_rooms.1 large x
+  master-apart x c own = slot-apart head slot_count start r.free.before r.free.size r.free.after old_rooms.0 old_rooms.1 large x
       (subst (λ m. Contains (slots z.shape m) x) r.free.map c) (subst (λ a. Contains (slots_from slot_count a) x) (sym there) own)
 
   either : (x : ℕ) → Contains (slots z.shape m) x → Contains (slots z.shape z.heap.map) x ⊎ Contains (slots_from slot_count (at + head)) x
-  either x c = elim (slot-either head slot_count start r.free.before r.free.size r.free.behind x c) [
+  either x c = elim (slot-either head slot_count start r.free.before r.free.size r.free.after x c) [
     | inl old ↦ inl (subst (λ m. Contains (slots z.shape m) x) (sym r.free.map) old)
     | inr own ↦ inr (subst (λ a. Contains (slots_from slot_count a) x) there own)
   ]
@@ -208,7 +208,7 @@ module _ (z : ZoneState) (at : ℕ) (r : RoomFor z at master_length) (fits : Fit
 
   no_pointer : (x : ℕ) → Contains (slots_from slot_count (at + head)) x → is_pointer z.heap.table x ≡ false
   no_pointer x own = false_from_ne_true (is_pointer z.heap.table x) (λ live.
-      let begins = swapped-pointers z r.free.before Free Master r.free.size r.free.behind r.free.map x refl ∙ fits.coherent.pointers x ∙ ap (λ b. cond b (x ∷ []) []) live in
+      let begins = swapped-pointers z r.free.before Free Master r.free.size r.free.after r.free.map x refl ∙ fits.coherent.pointers x ∙ ap (λ b. cond b (x ∷ []) []) live in
       let found = Contains-map (λ a. a + head) (addresses z.shape (is_pointer_block x) m) x (subst (λ xs. Contains xs x) (sym begins) (Contains-here x [])) in
       slot_no_contents head slot_count start (is_pointer_block x) (pointer_not_master x) m found.0 master-rooms found.1 (subst (λ a. Contains (slots z.shape m) a) (sym found.2) (master-new_slot x own)))
 
@@ -220,8 +220,8 @@ module _ (z : ZoneState) (at : ℕ) (r : RoomFor z at master_length) (fits : Fit
   pub master-fits : Fits (with_master z r.free)
   master-fits = record {
     coherent = record {
-      handles = λ g. ap length (swapped-addresses z r.free.before Free Master r.free.size r.free.behind r.free.map (is_handle_block g) refl) ∙ fits.coherent.handles g;
-      pointers = λ p. swapped-pointers z r.free.before Free Master r.free.size r.free.behind r.free.map p refl ∙ fits.coherent.pointers p;
+      handles = λ g. ap length (swapped-addresses z r.free.before Free Master r.free.size r.free.after r.free.map (is_handle_block g) refl) ∙ fits.coherent.handles g;
+      pointers = λ p. swapped-pointers z r.free.before Free Master r.free.size r.free.after r.free.map p refl ∙ fits.coherent.pointers p;
       in_slots = λ g live. master-kept_slot g (fits.coherent.in_slots g live);
       in_order = fits.coherent.in_order;
     };
@@ -238,26 +238,26 @@ module _ (z : ZoneState) (at : ℕ) (r : RoomFor z at master_length) (fits : Fit
       );
       once = slots_from-distinct slot_count (at + head) z.heap.free_slots (λ x own c. master-apart x ((fits.slots.free x).0 c).0 own) fits.slots.once;
     };
-    loans = loans-replaced z.heap (with_master z r.free).heap r.free.before (block Free r.free.size ∷ []) (block Master r.free.size ∷ []) r.free.behind fits.loans refl r.free.map refl refl;
+    loans = loans-replaced z.heap (with_master z r.free).heap r.free.before (block Free r.free.size ∷ []) (block Master r.free.size ∷ []) r.free.after fits.loans refl r.free.map refl refl;
   }
 
-  -- a new slot says which is given behind it
+  -- a new slot says which is given after it
   pub master-slot : (x next : ℕ) → Contains (slots_from slot_count (at + head_size z.shape.heads)) x → next_free (slots_from slot_count (at + head_size z.shape.heads) ++ z.heap.free_slots) x ≡ next → slot_of (with_master z r.free) x ≡ slot.Free next
   master-slot x next own is = ap (λ o. slot_of_live z.shape.heads o (contents_of z.shape x m) (next_free (slots_from slot_count (at + head) ++ z.heap.free_slots) x)) (master-not_live x own) ∙ ap slot.Free is
 
-  -- the slots of the blocks before and behind are slots of the zone
-  pub master-before : (x : ℕ) → Contains (slots_at (head_size z.shape.heads) slot_count (address_behind z.shape []) r.free.before) x → Contains (slots z.shape z.heap.map) x
-  master-before x c = subst (λ m. Contains (slots z.shape m) x) (sym r.free.map) (subst (λ xs. Contains xs x) (sym (slots_at-free head slot_count start r.free.before r.free.size r.free.behind))
+  -- the slots of the blocks before and after are slots of the zone
+  pub master-before : (x : ℕ) → Contains (slots_at (head_size z.shape.heads) slot_count (address_after z.shape []) r.free.before) x → Contains (slots z.shape z.heap.map) x
+  master-before x c = subst (λ m. Contains (slots z.shape m) x) (sym r.free.map) (subst (λ xs. Contains xs x) (sym (slots_at-free head slot_count start r.free.before r.free.size r.free.after))
       (Contains-append_left (slots_at head slot_count start r.free.before) _ x c))
 
-  pub master-behind : (x : ℕ) → Contains (slots_at (head_size z.shape.heads) slot_count ((address_behind z.shape [] + total_size r.free.before) + (r.free.size + 0)) r.free.behind) x → Contains (slots z.shape z.heap.map) x
-  master-behind x c = subst (λ m. Contains (slots z.shape m) x) (sym r.free.map) (subst (λ xs. Contains xs x) (sym (slots_at-free head slot_count start r.free.before r.free.size r.free.behind))
+  pub master-after : (x : ℕ) → Contains (slots_at (head_size z.shape.heads) slot_count ((address_after z.shape [] + total_size r.free.before) + (r.free.size + 0)) r.free.after) x → Contains (slots z.shape z.heap.map) x
+  master-after x c = subst (λ m. Contains (slots z.shape m) x) (sym r.free.map) (subst (λ xs. Contains xs x) (sym (slots_at-free head slot_count start r.free.before r.free.size r.free.after))
       (Contains-append_right (slots_at head slot_count start r.free.before) _ x (let same : (start + total_size r.free.before) + (r.free.size + 0) ≡ (start + total_size r.free.before) + r.free.size = omega arith in
-      subst (λ a. Contains (slots_at head slot_count a r.free.behind) x) same c)))
+      subst (λ a. Contains (slots_at head slot_count a r.free.after) x) same c)))
 
   -- the master pointers of all other numbers stay
   pub master-others : (x : ℕ) → (Contains (slots_from slot_count (at + head_size z.shape.heads)) x → ⊥) → slot_of (with_master z r.free) x ≡ slot_of z x
-  master-others x other = same_slot z (with_master z r.free) x refl refl (swapped-contents z r.free.before Free Master r.free.size r.free.behind r.free.map x refl) (next_free-outside slot_count (at + head) z.heap.free_slots x other)
+  master-others x other = same_slot z (with_master z r.free) x refl refl (swapped-contents z r.free.before Free Master r.free.size r.free.after r.free.map x refl) (next_free-outside slot_count (at + head) z.heap.free_slots x other)
 
   -- so do those of the zone's slots
   pub master-old_pointer : (x : ℕ) → Contains (slots z.shape z.heap.map) x → slot_of (with_master z r.free) x ≡ slot_of z x

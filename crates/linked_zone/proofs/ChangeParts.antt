@@ -9,7 +9,7 @@ use Rattle.std.proofs.lemmas.Bool.{false_from_ne_true}
 use Rattle.std.proofs.lemmas.List.{nil_from_length}
 use Rattle.mac_base.specs.HeadKind.{Shape, zone_header, head_size, slot_count}
 use Rattle.mac_base.specs.Loans.{LoansFit}
-use Rattle.mac_base.specs.ZoneMap.{ZoneMap, is_master, address_behind, addresses, contents_addresses, contents_of}
+use Rattle.mac_base.specs.ZoneMap.{ZoneMap, is_master, address_after, addresses, contents_addresses, contents_of}
 use Rattle.mac_base.specs.HandleTable.{HandleTable, live_at, live_full, live_handle, live_pointer, is_full, is_handle, is_pointer}
 use Rattle.mac_base.specs.Suits.{is_handle_block, is_pointer_block, slots, slots_from}
 use Rattle.mac_base.specs.ZoneState.{ZoneState, with_heap}
@@ -46,12 +46,12 @@ Contains-flat_map f (x ∷ xs) y c = elim (Contains-append_cases (f x) (flat_map
   | inr later ↦ let rest = Contains-flat_map f xs y later in (rest.0, Contains-later x xs rest.0 rest.1, rest.2)
 ]
 
--- a slot lies behind the zone's header
+-- a slot lies after the zone's header
 pub slot-above : (s : Shape) (m : ZoneMap) (h : ℕ) → Contains (slots s m) h → s.base + zone_header + head_size s.heads ≤ h
 slot-above s m h c =
     let found = Contains-flat_map (slots_from slot_count) (contents_addresses s is_master m) h c in
     let place = Contains-map (λ a. a + head_size s.heads) (addresses s is_master m) found.0 found.1 in
-    let low = addresses_from-above (address_behind s []) is_master m place.0 place.1 in
+    let low = addresses_from-above (address_after s []) is_master m place.0 place.1 in
     let bounds = slots_from-bounds slot_count found.0 h found.2 in
     let same = place.2 in
     omega arith
@@ -61,12 +61,12 @@ pub slot-no_pointer : (z : ZoneState) (h : ℕ) → Fits z → HasRooms z → Co
 slot-no_pointer z h fits rooms slot = false_from_ne_true (is_pointer z.heap.table h) (λ live.
     let here = subst (λ xs. Contains xs h) (sym (fits.coherent.pointers h ∙ ap (λ b. cond b (h ∷ []) []) live)) (Contains-here h []) in
     let there = Contains-map (λ a. a + head_size z.shape.heads) (addresses z.shape (is_pointer_block h) z.heap.map) h here in
-    slot_no_contents (head_size z.shape.heads) slot_count (address_behind z.shape []) (is_pointer_block h) (pointer_not_master h) z.heap.map there.0 rooms there.1
+    slot_no_contents (head_size z.shape.heads) slot_count (address_after z.shape []) (is_pointer_block h) (pointer_not_master h) z.heap.map there.0 rooms there.1
     (subst (λ a. Contains (slots z.shape z.heap.map) a) (sym there.2) slot))
 
 -- a number that is neither a handle with a block nor a pointer names no block
 pub none_named-fits : (z : ZoneState) (x : ℕ) → Fits z → is_full z.heap.table x ≡ false → is_pointer z.heap.table x ≡ false → none_named x z.heap.map ≡ true
-none_named-fits z x fits full pointer = none_named-from (address_behind z.shape []) x z.heap.map
+none_named-fits z x fits full pointer = none_named-from (address_after z.shape []) x z.heap.map
     (nil_from_length _ (fits.coherent.handles x ∙ ap (λ b. cond b 1 0) full))
     (no_map _ _ (fits.coherent.pointers x ∙ ap (λ b. cond b (x ∷ []) []) pointer))
 

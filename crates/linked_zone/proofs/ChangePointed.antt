@@ -30,16 +30,16 @@ module _ (z : ZoneState) (h n at : ℕ) (free : FreeAt z at) (fits : Fits z) (em
   pub pointed-unlent : is_lent z.heap.table h ≡ false
   pointed-unlent = not-lent z.heap fits.loans h pointed-none
 
-  none : (none_named h free.before ≡ true) × (none_named h free.behind ≡ true)
-  none = none_named-parts h free.before (block Free free.size) free.behind (ap (none_named h) (sym free.map) ∙ pointed-none)
+  none : (none_named h free.before ≡ true) × (none_named h free.after ≡ true)
+  none = none_named-parts h free.before (block Free free.size) free.after (ap (none_named h) (sym free.map) ∙ pointed-none)
 
   -- none before the free block
   pub pointed-none_before : none_named h free.before ≡ true
   pointed-none_before = none.0
 
-  -- and none behind it
-  pub pointed-none_behind : none_named h free.behind ≡ true
-  pointed-none_behind = none.1
+  -- and none after it
+  pub pointed-none_after : none_named h free.after ≡ true
+  pointed-none_after = none.1
 
   abbrev l : Live
   l = FullHandle no_flags (zeros n)
@@ -48,7 +48,7 @@ module _ (z : ZoneState) (h n at : ℕ) (free : FreeAt z at) (fits : Fits z) (em
   u = with_live h l z.heap.table
 
   abbrev m : ZoneMap
-  m = free.before ++ block (Rel h) free.size ∷ free.behind
+  m = free.before ++ block (Rel h) free.size ∷ free.after
 
   agree : AgreeBut h z.heap.table u
   agree = with_live_agrees h l z.heap.table
@@ -60,21 +60,21 @@ module _ (z : ZoneState) (h n at : ℕ) (free : FreeAt z at) (fits : Fits z) (em
   pub pointed-fits : Fits (pointed h n z free)
   pointed-fits = Fits-kept z u m fits
       (by_number (λ g. length (addresses z.shape (is_handle_block g) m) ≡ cond (is_full u g) 1 0) h
-      (ap length (addresses-only z.shape (is_handle_block h) free.before (block (Rel h) free.size) free.behind (none_handle h free.before none.0) (none_handle h free.behind none.1) (eqb_same h))
+      (ap length (addresses-only z.shape (is_handle_block h) free.before (block (Rel h) free.size) free.after (none_handle h free.before none.0) (none_handle h free.after none.1) (eqb_same h))
       ∙ ap (λ o. cond (live_full o) 1 0) (sym has))
-      (λ g apart. ap length (swapped-addresses z free.before Free (Rel h) free.size free.behind free.map (is_handle_block g) (eqb_swap h g ∙ apart)) ∙ fits.coherent.handles g ∙ ap (λ o. cond (live_full o) 1 0) (sym (agree.others g apart))))
+      (λ g apart. ap length (swapped-addresses z free.before Free (Rel h) free.size free.after free.map (is_handle_block g) (eqb_swap h g ∙ apart)) ∙ fits.coherent.handles g ∙ ap (λ o. cond (live_full o) 1 0) (sym (agree.others g apart))))
       (by_number (λ p. contents_addresses z.shape (is_pointer_block p) m ≡ cond (is_pointer u p) (p ∷ []) []) h
-      (swapped-pointers z free.before Free (Rel h) free.size free.behind free.map h refl ∙ fits.coherent.pointers h ∙ ap (λ o. cond (live_pointer o) (h ∷ []) []) empty ∙ ap (λ o. cond (live_pointer o) (h ∷ []) []) (sym has))
-      (λ p apart. swapped-pointers z free.before Free (Rel h) free.size free.behind free.map p refl ∙ fits.coherent.pointers p ∙ ap (λ o. cond (live_pointer o) (p ∷ []) []) (sym (agree.others p apart))))
-      (swapped-slots z free.before Free (Rel h) free.size free.behind free.map refl)
+      (swapped-pointers z free.before Free (Rel h) free.size free.after free.map h refl ∙ fits.coherent.pointers h ∙ ap (λ o. cond (live_pointer o) (h ∷ []) []) empty ∙ ap (λ o. cond (live_pointer o) (h ∷ []) []) (sym has))
+      (λ p apart. swapped-pointers z free.before Free (Rel h) free.size free.after free.map p refl ∙ fits.coherent.pointers p ∙ ap (λ o. cond (live_pointer o) (p ∷ []) []) (sym (agree.others p apart))))
+      (swapped-slots z free.before Free (Rel h) free.size free.after free.map refl)
       (by_number (λ y. is_handle u y ≡ is_handle z.heap.table y) h (ap live_handle has ∙ sym (ap live_handle empty)) (λ y apart. ap live_handle (agree.others y apart)))
       (in_order-with_live h l z.heap.table fits.coherent.in_order)
-      (loans-replaced z.heap (record { table = u; map = m; free_slots = z.heap.free_slots }) free.before (block Free free.size ∷ []) (block (Rel h) free.size ∷ []) free.behind fits.loans refl free.map refl
+      (loans-replaced z.heap (record { table = u; map = m; free_slots = z.heap.free_slots }) free.before (block Free free.size ∷ []) (block (Rel h) free.size ∷ []) free.after fits.loans refl free.map refl
       (ap (λ c. cond c (h ∷ []) []) pointed-unlent))
 
-  -- its contents begin behind the block's header
+  -- its contents begin after the block's header
   pub pointed-contents : contents_of z.shape h (pointed h n z free).heap.map ≡ at + head_size z.shape.heads
-  pointed-contents = contents_of-first z.shape h free.before (block (Rel h) free.size) free.behind none.0 (eqb_same h) ∙ ap (λ a. a + head_size z.shape.heads) (sym free.place)
+  pointed-contents = contents_of-first z.shape h free.before (block (Rel h) free.size) free.after none.0 (eqb_same h) ∙ ap (λ a. a + head_size z.shape.heads) (sym free.place)
 
   -- its master pointer says so, without flags
   pub pointed-pointer : slot_of (pointed h n z free) h ≡ slot.Full (slot_flags z.shape.heads no_flags) (at + head_size z.shape.heads)
@@ -84,4 +84,4 @@ module _ (z : ZoneState) (h n at : ℕ) (free : FreeAt z at) (fits : Fits z) (em
   pub pointed-others : (x : ℕ) → (x ≡ h → ⊥) → slot_of (pointed h n z free) x ≡ slot_of z x
   pointed-others x other =
       let apart = ne_eqb x h other in
-      same_slot z (pointed h n z free) x refl (agree.others x apart) (swapped-contents z free.before Free (Rel h) free.size free.behind free.map x (eqb_swap h x ∙ apart)) refl
+      same_slot z (pointed h n z free) x refl (agree.others x apart) (swapped-contents z free.before Free (Rel h) free.size free.after free.map x (eqb_swap h x ∙ apart)) refl

@@ -28,8 +28,8 @@ abbrev pub still_free : {at : ℕ} (h : ℕ) (z : ZoneState) → FreeAt z at →
 still_free h z free = record {
   before = freed h free.before;
   size = free.size;
-  behind = freed h free.behind;
-  map = ap (freed h) free.map ∙ map-append (λ (e : Entry). cond (is_named h e.kind) (block Free e.size) e) free.before (block Free free.size ∷ free.behind);
+  after = freed h free.after;
+  map = ap (freed h) free.map ∙ map-append (λ (e : Entry). cond (is_named h e.kind) (block Free e.size) e) free.before (block Free free.size ∷ free.after);
   place = (let total = total_size-freed h free.before in let place = free.place in omega arith);
 }
 
@@ -96,10 +96,10 @@ module _ (z : ZoneState) (h n at : ℕ) (free : FreeAt z at) where
     -- the slots stay
     pub relocated-slots : slots z.shape now.heap.map ≡ slots z.shape z.heap.map
     relocated-slots =
-        swapped-slots empty there.before Free (Rel h) there.size there.behind there.map refl
-        ∙ ap (slots z.shape) (emptied-map z h fits full from b) ∙ swapped-slots z b.before (Rel h) Free b.size b.behind b.map refl
+        swapped-slots empty there.before Free (Rel h) there.size there.after there.map refl
+        ∙ ap (slots z.shape) (emptied-map z h fits full from b) ∙ swapped-slots z b.before (Rel h) Free b.size b.after b.map refl
 
-    -- the contents of the handle's block begin behind its new header
+    -- the contents of the handle's block begin after its new header
     pub relocated-contents : contents_of z.shape h now.heap.map ≡ at + head_size z.shape.heads
     relocated-contents = pointed-contents empty h n at there fits_empty has_empty
 
@@ -107,8 +107,8 @@ module _ (z : ZoneState) (h n at : ℕ) (free : FreeAt z at) where
     pub relocated-other_contents : (y : ℕ) → (y ≡ h → ⊥) → contents_of z.shape y now.heap.map ≡ contents_of z.shape y z.heap.map
     relocated-other_contents y other =
         let apart = ne_eqb y h other in
-        swapped-contents empty there.before Free (Rel h) there.size there.behind there.map y (eqb_swap h y ∙ apart)
-        ∙ ap (contents_of z.shape y) (emptied-map z h fits full from b) ∙ swapped-contents z b.before (Rel h) Free b.size b.behind b.map y (sym (eqb_swap h y ∙ apart))
+        swapped-contents empty there.before Free (Rel h) there.size there.after there.map y (eqb_swap h y ∙ apart)
+        ∙ ap (contents_of z.shape y) (emptied-map z h fits full from b) ∙ swapped-contents z b.before (Rel h) Free b.size b.after b.map y (sym (eqb_swap h y ∙ apart))
 
     -- the handle's master pointer says where they begin, with the flags that it said
     pub relocated-pointer : slot_of now h ≡ moved_to (at + head_size z.shape.heads) (slot_of z h)

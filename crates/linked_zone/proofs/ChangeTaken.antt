@@ -92,7 +92,7 @@ module _ (z : ZoneState) (h : ℕ) (hs : List ℕ) (fits : Fits z) (rooms : HasR
       (ap live_flags has ∙ sym (ap live_flags taken-not_live))
       (λ x apart. ap live_flags (agree.others x apart))
 
-  -- its master pointer said which slot is given behind it
+  -- its master pointer said which slot is given after it
   pub taken-next : slot_of z h ≡ slot.Free (front_slot (taken h z).heap)
   taken-next = ap (λ o. (slot_of_live z.shape.heads o (contents_of z.shape h z.heap.map) (next_free z.heap.free_slots h))) taken-not_live
       ∙ ap slot.Free (ap (λ xs. next_free xs h) front ∙ next_free-front h hs ∙ ap (λ xs. slice_index xs 0) (sym rest))

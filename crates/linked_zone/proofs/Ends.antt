@@ -4,7 +4,7 @@ use Rattle.std.specs.List.{list_all}
 use Rattle.std.proofs.lemmas.Bool.{eqb-true}
 use Rattle.mac_base.specs.declared.block.Entry.{Entry}
 use Rattle.mac_base.specs.HeadKind.{Shape}
-use Rattle.mac_base.specs.ZoneMap.{ZoneMap, total_size, address_behind}
+use Rattle.mac_base.specs.ZoneMap.{ZoneMap, total_size, address_after}
 use Rattle.mac_base.specs.Heap.{Heap}
 use Rattle.mac_base.specs.Suits.{slots, is_block_size}
 use Rattle.mac_base.specs.ZoneState.{Memory, ZoneState, with_heap}
@@ -23,7 +23,7 @@ use Rattle.linked_zone.proofs.Owning.{image, records-middle, records-place, reco
 -- ---- a slot
 
 module _ (r : ZoneRecords) (memory : Memory) (s : Shape) (front : ℕ) (o : Owners) (m : ZoneMap) (is : r ≡ image memory s front o m) (rooms : list_all (has_room s) m ≡ true) (h : ℕ) (c : Contains (slots s m) h) where
-  -- it stands there
+  -- it is there
   pub slot-there : SlotAt r h
   slot-there = subst (λ r. SlotAt r h) (sym is) (slot-at memory s front o m h rooms c)
 
@@ -48,36 +48,36 @@ slot-settled memory s front o p m h w here others flags bytes lent = sym (image-
 
 -- the blocks before a part
 abbrev pub lower : Owners → Shape → ZoneMap → List BlockRecord
-lower o s before = records_from o s (address_behind s []) before
+lower o s before = records_from o s (address_after s []) before
 
 -- a part
 abbrev pub middle : Owners → Shape → ZoneMap → ZoneMap → List BlockRecord
-middle o s before part = records_from o s (address_behind s [] + total_size before) part
+middle o s before part = records_from o s (address_after s [] + total_size before) part
 
--- and the blocks behind it
+-- and the blocks after it
 abbrev pub upper : Owners → Shape → ZoneMap → ZoneMap → ZoneMap → List BlockRecord
-upper o s before part behind = records_from o s ((address_behind s [] + total_size before) + total_size part) behind
+upper o s before part after = records_from o s ((address_after s [] + total_size before) + total_size part) after
 
 module _ (z : ZoneState) (heap : Heap) (x : Exchanged z.heap.map heap.map) where
   abbrev o : Owners
   o = owners_of z
 
   -- the blocks of a zone in three parts
-  pub parts-before : (records_of z).blocks ≡ lower (owners_of z) z.shape x.before ++ (middle (owners_of z) z.shape x.before x.left ++ upper (owners_of z) z.shape x.before x.left x.behind)
-  parts-before = ap (records_from o z.shape (address_behind z.shape [])) x.was ∙ records-middle o z.shape (address_behind z.shape []) x.before x.left x.behind
+  pub parts-before : (records_of z).blocks ≡ lower (owners_of z) z.shape x.before ++ (middle (owners_of z) z.shape x.before x.left ++ upper (owners_of z) z.shape x.before x.left x.after)
+  parts-before = ap (records_from o z.shape (address_after z.shape [])) x.was ∙ records-middle o z.shape (address_after z.shape []) x.before x.left x.after
 
-  -- what is behind the first part begins where its own map ends
-  pub parts-place : (at : ℕ) → at ≡ address_behind z.shape x.before → at ≡ records.address_behind z.shape (lower (owners_of z) z.shape x.before)
+  -- what is after the first part begins where its own map ends
+  pub parts-place : (at : ℕ) → at ≡ address_after z.shape x.before → at ≡ records.address_after z.shape (lower (owners_of z) z.shape x.before)
   parts-place at is = is ∙ records-place o z.shape x.before
 
   -- with another middle part they are those of the new map, for owners who say the same in slots and have the same
-  -- before and behind
-  pub parts-after : (n : ZoneRecords) (front : ℕ) (q : Owners) → SameSlots (owners_of z) q z.shape (address_behind z.shape []) x.before
-      → SameSlots (owners_of z) q z.shape ((address_behind z.shape [] + total_size x.before) + total_size x.left) x.behind → SameNamed (owners_of z) q x.before → SameNamed (owners_of z) q x.behind
-      → n ≡ record { memory = z.memory; shape = z.shape; front = front; blocks = lower (owners_of z) z.shape x.before ++ (middle q z.shape x.before x.right ++ upper (owners_of z) z.shape x.before x.left x.behind) }
+  -- before and after
+  pub parts-after : (n : ZoneRecords) (front : ℕ) (q : Owners) → SameSlots (owners_of z) q z.shape (address_after z.shape []) x.before
+      → SameSlots (owners_of z) q z.shape ((address_after z.shape [] + total_size x.before) + total_size x.left) x.after → SameNamed (owners_of z) q x.before → SameNamed (owners_of z) q x.after
+      → n ≡ record { memory = z.memory; shape = z.shape; front = front; blocks = lower (owners_of z) z.shape x.before ++ (middle q z.shape x.before x.right ++ upper (owners_of z) z.shape x.before x.left x.after) }
       → n ≡ image z.memory z.shape front q heap.map
   parts-after n front q slot later first second is =
-      is ∙ ap (λ bs. record { memory = z.memory; shape = z.shape; front = front; blocks = bs }) (sym (records-replaced o q z.shape (address_behind z.shape []) x.before x.left x.right x.behind x.as_large slot later first second))
+      is ∙ ap (λ bs. record { memory = z.memory; shape = z.shape; front = front; blocks = bs }) (sym (records-replaced o q z.shape (address_after z.shape []) x.before x.left x.right x.after x.as_large slot later first second))
       ∙ ap (image z.memory z.shape front q) (sym x.is)
 
   -- blocks of the changed zone stand for it
@@ -96,4 +96,4 @@ module _ (z : ZoneState) (heap : Heap) (x : Exchanged z.heap.map heap.map) where
 
 -- blocks of a zone that has the same map stand for it
 pub ended-same : (r n : ZoneRecords) (z : ZoneState) (heap : Heap) → Stands r z → heap.map ≡ z.heap.map → Fits (with_heap heap z) → n ≡ records_of (with_heap heap z) → Kept n (with_heap heap z)
-ended-same r n z heap held same fits is = ended z heap (record { before = []; left = []; right = []; behind = z.heap.map; was = refl; is = same; as_large = refl }) r n held fits refl refl is
+ended-same r n z heap held same fits is = ended z heap (record { before = []; left = []; right = []; after = z.heap.map; was = refl; is = same; as_large = refl }) r n held fits refl refl is

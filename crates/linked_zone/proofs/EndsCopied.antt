@@ -3,7 +3,7 @@ use Rattle.std.proofs.Common.{◌≡◌, ℕ, ◌+◌, false, [], ◌∷◌, ◌
 use Rattle.mac_base.specs.HeadKind.{head_size}
 use Rattle.mac_base.specs.HandleTable.{bytes_of, is_lent}
 use Rattle.mac_base.specs.Heap.{front_slot}
-use Rattle.mac_base.specs.ZoneMap.{total_size, address_behind}
+use Rattle.mac_base.specs.ZoneMap.{total_size, address_after}
 use Rattle.mac_base.specs.ZoneState.{ZoneState, written}
 use Rattle.zone_records.specs.Copying as copying
 use Rattle.zone_records.specs.Places as places
@@ -22,7 +22,7 @@ use Rattle.linked_zone.proofs.Found.{named-held, named-lent}
 module _ (r : ZoneRecords) (z : ZoneState) (held : Stands r z) where
   -- what is in the block that a handle or a pointer names
   abbrev content : {x at : ℕ} → NamedAt z x at → records.Content
-  content place = content_of (owners_of z) ((address_behind z.shape [] + total_size place.before) + head_size z.shape.heads) place.here.kind
+  content place = content_of (owners_of z) ((address_after z.shape [] + total_size place.before) + head_size z.shape.heads) place.here.kind
 
   -- its bytes, and that it isn't lent
   content-bytes : {x at : ℕ} (place : NamedAt z x at) → records.bytes_of (content place) ≡ bytes_of z.heap.table x
@@ -33,7 +33,7 @@ module _ (r : ZoneRecords) (z : ZoneState) (held : Stands r z) where
 
   -- it is one of the blocks
   abbrev held-there : {x at : ℕ} (place : NamedAt z x at) → is_lent z.heap.table x ≡ false → places.HeldAt (records_of z) at
-  held-there {x = x} {at = at} place unlent = block-there r z held z.heap x place.before place.here.kind place.here.kind place.here.size place.behind place.map place.map (named-other x place.here.kind place.named)
+  held-there {x = x} {at = at} place unlent = block-there r z held z.heap x place.before place.here.kind place.here.kind place.here.size place.after place.map place.map (named-other x place.here.kind place.named)
       at place.place (named-held (owners_of z) _ x place.here.kind place.named).0 (block-unlent place unlent)
 
   module _ (from start to offset n low high : ℕ) (can : CanCopy z from start to offset n) (source : NamedAt z from low) (target : NamedAt z to high) where
@@ -54,4 +54,4 @@ module _ (r : ZoneRecords) (z : ZoneState) (held : Stands r z) where
     copy-ends m is = rewritten-kept r z held to high can.target target (written offset (take n (drop start (bytes_of z.heap.table from))) (bytes_of z.heap.table to)) m
         ((subst (λ (r : ZoneRecords). (c : copying.CanCopy r low start high offset n) → m ≡ copying.copied r c) held.blocks is) copy_there
         ∙ ap (λ bs. record { memory = z.memory; shape = z.shape; front = front_slot z.heap; blocks = lower (owners_of z) z.shape target.before ++ bs })
-        (λ i. record { size = target.here.size; content = with_bytes (written offset (take n (drop start (content-bytes source i))) (content-bytes target i)) (content target); lent = sym (block-unlent target can.target_here) i } ∷ upper (owners_of z) z.shape target.before (target.here ∷ []) target.behind))
+        (λ i. record { size = target.here.size; content = with_bytes (written offset (take n (drop start (content-bytes source i))) (content-bytes target i)) (content target); lent = sym (block-unlent target can.target_here) i } ∷ upper (owners_of z) z.shape target.before (target.here ∷ []) target.after))

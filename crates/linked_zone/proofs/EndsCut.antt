@@ -25,7 +25,7 @@ use Rattle.linked_zone.proofs.ChangeCut.{cut_exchange, cut-fits, cut-pointers, j
 -- free blocks in place of others
 free_ends : (r n : ZoneRecords) (z : ZoneState) (m : ZoneMap) (x : Exchanged z.heap.map m) → Stands r z → Fits (with_map m z) → ((y : ℕ) → slot_of (with_map m z) y ≡ slot_of z y)
     → list_all (λ (e : Entry). is_block_size z.shape e.size) x.right ≡ true → list_all (has_room z.shape) x.right ≡ true
-    → n ≡ record { memory = z.memory; shape = z.shape; front = front_slot z.heap; blocks = lower (owners_of z) z.shape x.before ++ (middle (owners_of z) z.shape x.before x.right ++ upper (owners_of z) z.shape x.before x.left x.behind) }
+    → n ≡ record { memory = z.memory; shape = z.shape; front = front_slot z.heap; blocks = lower (owners_of z) z.shape x.before ++ (middle (owners_of z) z.shape x.before x.right ++ upper (owners_of z) z.shape x.before x.left x.after) }
     → Kept n (with_map m z)
 free_ends r n z m x held fits slots sizes rooms is = ended z (with_map m z).heap x r n held fits sizes rooms
     (parts-after z (with_map m z).heap x n (front_slot z.heap) (owners_of z) (λ y _. refl) (λ y _. refl) (λ y _. (refl, refl, refl)) (λ y _. (refl, refl, refl)) is
@@ -41,7 +41,7 @@ module _ (r : ZoneRecords) (z : ZoneState) (held : Stands r z) where
       free = record {
         before = lower (owners_of z) z.shape can.free.before;
         size = can.free.size;
-        behind = upper (owners_of z) z.shape can.free.before cut.left can.free.behind;
+        after = upper (owners_of z) z.shape can.free.before cut.left can.free.after;
         blocks = parts-before z (cut_in_two size z can.free).heap cut;
         place = parts-place z (cut_in_two size z can.free).heap cut at can.free.place;
       };
@@ -70,7 +70,7 @@ module _ (r : ZoneRecords) (z : ZoneState) (held : Stands r z) where
       before = lower (owners_of z) z.shape pair.before;
       first = pair.first;
       second = pair.second;
-      behind = upper (owners_of z) z.shape pair.before joined.left pair.behind;
+      after = upper (owners_of z) z.shape pair.before joined.left pair.after;
       blocks = parts-before z (joined_pair z pair).heap joined;
       place = parts-place z (joined_pair z pair).heap joined at pair.place;
     }
@@ -88,6 +88,6 @@ module _ (r : ZoneRecords) (z : ZoneState) (held : Stands r z) where
       where
         size : is_block_size z.shape (pair.first + pair.second) ≡ true
         size =
-            let both = part-passes (λ (e : Entry). is_block_size z.shape e.size) pair.before (block Free pair.first ∷ block Free pair.second ∷ []) pair.behind z.heap.map pair.map held.sizes in
+            let both = part-passes (λ (e : Entry). is_block_size z.shape e.size) pair.before (block Free pair.first ∷ block Free pair.second ∷ []) pair.after z.heap.map pair.map held.sizes in
             let first = and_parts (is_block_size z.shape pair.first) _ both in
             size-sum z.shape pair.first pair.second first.0 (and_parts (is_block_size z.shape pair.second) true first.1).0

@@ -7,7 +7,7 @@ use Rattle.mac_base.specs.declared.block.Kind.TheVariants.{Free}
 use Rattle.mac_base.specs.HeadKind.{Shape, zone_header}
 use Rattle.mac_base.specs.Heap.{front_slot}
 use Rattle.mac_base.specs.Suits.{is_block_size}
-use Rattle.mac_base.specs.ZoneMap.{block, free_block, total_size, address_behind}
+use Rattle.mac_base.specs.ZoneMap.{block, free_block, total_size, address_after}
 use Rattle.mac_base.specs.ZoneSizes.{ArePossible}
 use Rattle.mac_base.specs.ZoneState.{ZoneState}
 use Rattle.zone_records.specs.Changes as records
@@ -21,7 +21,7 @@ use Rattle.linked_zone.specs.Sizes.{sizes_of}
 use Rattle.linked_zone.proofs.Standing.{Stands, Kept, kept}
 use Rattle.linked_zone.proofs.Owning.{records_from-append, records-total, image-same}
 use Rattle.linked_zone.proofs.EndsSaid.{size-room}
-use Rattle.linked_zone.proofs.ChangeExtended.{extended-total, extended-fits, extended-pointers, passes-behind}
+use Rattle.linked_zone.proofs.ChangeExtended.{extended-total, extended-fits, extended-pointers, passes-after}
 
 -- a free block of n bytes is one in the blocks too
 records_from-free : (o : Owners) (s : Shape) (at n : ℕ) → records_from o s at (free_block n) ≡ free_record n
@@ -51,7 +51,7 @@ module _ (r : ZoneRecords) (z : ZoneState) (held : Stands r z) (possible : ArePo
   left-blocks : records.extended (records_of z) ≡ records_of (extended z)
   left-blocks =
       let o = owners_of z in
-      let at = address_behind z.shape [] in
+      let at = address_after z.shape [] in
       ap (λ k. record { memory = z.memory; shape = z.shape; front = front_slot z.heap; blocks = records_from o z.shape at z.heap.map ++ free_record (z.shape.limit - (zone_header + k)) }) (records-total o z.shape at z.heap.map)
       ∙ ap (λ bs. record { memory = z.memory; shape = z.shape; front = front_slot z.heap; blocks = records_from o z.shape at z.heap.map ++ bs }) (sym (records_from-free o z.shape (at + total_size z.heap.map) left))
       ∙ ap (λ bs. record { memory = z.memory; shape = z.shape; front = front_slot z.heap; blocks = bs }) (sym (records_from-append o z.shape at z.heap.map (free_block left)))
@@ -64,8 +64,8 @@ module _ (r : ZoneRecords) (z : ZoneState) (held : Stands r z) (possible : ArePo
       kept n (extended z) (record {
         blocks = is ∙ ap records.extended held.blocks ∙ left-blocks;
         fits = extended-fits z held.fits;
-        sizes = passes-behind (λ (e : Entry). is_block_size z.shape e.size) z.heap.map left held.sizes left-size;
-        rooms = passes-behind (has_room z.shape) z.heap.map left held.rooms (λ some. size-room z.shape Free left refl (left-size some));
+        sizes = passes-after (λ (e : Entry). is_block_size z.shape e.size) z.heap.map left held.sizes left-size;
+        rooms = passes-after (has_room z.shape) z.heap.map left held.rooms (λ some. size-room z.shape Free left refl (left-size some));
         within = omega arith;
         even = held.even;
         low = held.low;

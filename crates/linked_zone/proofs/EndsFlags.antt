@@ -24,7 +24,7 @@ use Rattle.linked_zone.proofs.Ends.{lower, upper, slot-write, slot-settled, ende
 use Rattle.linked_zone.proofs.EndsSaid.{contents-said, entry-below}
 use Rattle.linked_zone.proofs.EndsSlots.{own-slot, says-kind}
 use Rattle.linked_zone.proofs.EndsSwapped.{with_table, swapped-before, swapped-place, swapped-after}
-use Rattle.linked_zone.proofs.ChangeEmptied.{emptied-slot, emptied-contents, emptied-none_before, emptied-none_behind}
+use Rattle.linked_zone.proofs.ChangeEmptied.{emptied-slot, emptied-contents, emptied-none_before, emptied-none_after}
 use Rattle.linked_zone.proofs.ChangeFlagged.{flagged-fits, flagged-pointer, flagged-others, flagged-bytes}
 
 -- where headers say flags, the slot of a handle with a block says none
@@ -36,7 +36,7 @@ no_slot_flags (Some (Pointer bytes)) contents next flags full = absurd (cc full)
 
 module _ (r : ZoneRecords) (z : ZoneState) (held : Stands r z) (h at : ℕ) (flags : Flags) (full : is_full z.heap.table h ≡ true) (b : BlockOf z h at) where
   abbrev entry : EntryAt z at
-  entry = record { before = b.before; here = block (kind.Rel h) b.size; behind = b.behind; map = b.map; place = b.place }
+  entry = record { before = b.before; here = block (kind.Rel h) b.size; after = b.after; map = b.map; place = b.place }
 
   abbrev now : ZoneState
   now = flagged h flags z
@@ -77,9 +77,9 @@ module _ (r : ZoneRecords) (z : ZoneState) (held : Stands r z) (h at : ℕ) (fla
     flags = (owners_of z).flags h;
     bytes = (owners_of z).bytes h;
     lent = (owners_of z).lent h;
-    behind = upper (owners_of z) z.shape b.before (block (kind.Rel h) b.size ∷ []) b.behind;
-    blocks = swapped-before r z held z.heap h b.before (kind.Rel h) (kind.Rel h) b.size b.behind b.map b.map refl;
-    place = swapped-place r z held z.heap h b.before (kind.Rel h) (kind.Rel h) b.size b.behind b.map b.map refl at b.place;
+    after = upper (owners_of z) z.shape b.before (block (kind.Rel h) b.size ∷ []) b.after;
+    blocks = swapped-before r z held z.heap h b.before (kind.Rel h) (kind.Rel h) b.size b.after b.map b.map refl;
+    place = swapped-place r z held z.heap h b.before (kind.Rel h) (kind.Rel h) b.size b.after b.map b.map refl at b.place;
   }
 
   -- its block is one of the blocks
@@ -96,7 +96,7 @@ module _ (r : ZoneRecords) (z : ZoneState) (held : Stands r z) (h at : ℕ) (fla
     flags-ends_header n is =
         let has = live_at-with_live_same h (FullHandle flags (bytes_of z.heap.table h)) z.heap.table in
         ended-same r n z now.heap held refl (flagged-fits z h flags held.fits full)
-        (swapped-after r z held now.heap h b.before (kind.Rel h) (kind.Rel h) b.size b.behind b.map b.map refl n (emptied-none_before z h held.fits full at b) (emptied-none_behind z h held.fits full at b)
+        (swapped-after r z held now.heap h b.before (kind.Rel h) (kind.Rel h) b.size b.after b.map b.map refl n (emptied-none_before z h held.fits full at b) (emptied-none_after z h held.fits full at b)
         (with_live_agrees h (FullHandle flags (bytes_of z.heap.table h)) z.heap.table) (λ y _. refl)
         ((subst (λ (r : ZoneRecords). (b : places.HandleBlockAt r at) → n ≡ records.flagged flags r b) held.blocks is) there
         ∙ ap (λ g. says g (bytes_of z.heap.table h)) (sym (ap (λ l. header_flags z.shape.heads (live_flags l)) has ∙ ap (λ k. header_flags k flags) bits))
@@ -104,7 +104,7 @@ module _ (r : ZoneRecords) (z : ZoneState) (held : Stands r z) (h at : ℕ) (fla
         ∙ sym (image-same z.memory z.shape (front_slot z.heap) (with_table z now) (owners_of now) z.heap.map (λ y _. same_slot y (eqb y h) refl) (λ y. refl) (λ y. refl) (λ y. refl)))
       where
         says : Flags → List ℕ → ZoneRecords
-        says g bytes = record { memory = z.memory; shape = z.shape; front = front_slot z.heap; blocks = lower (owners_of z) z.shape b.before ++ handle_record h g bytes b.size (is_lent z.heap.table h) ∷ upper (owners_of z) z.shape b.before (block (kind.Rel h) b.size ∷ []) b.behind }
+        says g bytes = record { memory = z.memory; shape = z.shape; front = front_slot z.heap; blocks = lower (owners_of z) z.shape b.before ++ handle_record h g bytes b.size (is_lent z.heap.table h) ∷ upper (owners_of z) z.shape b.before (block (kind.Rel h) b.size ∷ []) b.after }
 
         same_slot : (y : ℕ) (b : Bool) → eqb y h ≡ b → slot_of now y ≡ slot_of z y
         same_slot y false apart = flagged-others z h flags held.fits full y (λ same. absurd (cc (ap (λ x. eqb x h) same ∙ eqb_same h, apart)))

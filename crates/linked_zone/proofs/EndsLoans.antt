@@ -8,7 +8,7 @@ use Rattle.mac_base.specs.HandleTable.{bytes_of, has_block, is_full, is_lent, is
 use Rattle.mac_base.specs.Heap.{front_slot}
 use Rattle.mac_base.specs.Loans.{most_loans, lent_out, returned}
 use Rattle.mac_base.specs.Suits.{wanted_length}
-use Rattle.mac_base.specs.ZoneMap.{is_master, is_named, total_size, address_behind, contents_of}
+use Rattle.mac_base.specs.ZoneMap.{is_master, is_named, total_size, address_after, contents_of}
 use Rattle.mac_base.specs.ZoneState.{ZoneState, with_heap}
 use Rattle.raw_region.specs.State.{Loan}
 use Rattle.zone_laws.proofs.Tables.{with_live_agrees, eqb_same}
@@ -53,7 +53,7 @@ module _ (r : ZoneRecords) (z : ZoneState) (held : Stands r z) (x at : ℕ) (nam
   -- ---- what is read of the block
 
   abbrev entry : EntryAt z at
-  entry = record { before = named.before; here = named.here; behind = named.behind; map = named.map; place = named.place }
+  entry = record { before = named.before; here = named.here; after = named.after; map = named.map; place = named.place }
 
   abbrev of : OfEntry r z at entry
   of = of-entry r z held.blocks at entry
@@ -73,7 +73,7 @@ module _ (r : ZoneRecords) (z : ZoneState) (held : Stands r z) (x at : ℕ) (nam
   -- ---- the blocks around it
 
   abbrev there : ℕ
-  there = (address_behind z.shape [] + total_size named.before) + head_size z.shape.heads
+  there = (address_after z.shape [] + total_size named.before) + head_size z.shape.heads
 
   abbrev content : Content
   content = content_of (owners_of z) there named.here.kind
@@ -84,30 +84,30 @@ module _ (r : ZoneRecords) (z : ZoneState) (held : Stands r z) (x at : ℕ) (nam
     memory = z.memory;
     shape = z.shape;
     front = front_slot z.heap;
-    blocks = lower (owners_of z) z.shape named.before ++ record { size = named.here.size; content = c; lent = l } ∷ upper (owners_of z) z.shape named.before (named.here ∷ []) named.behind;
+    blocks = lower (owners_of z) z.shape named.before ++ record { size = named.here.size; content = c; lent = l } ∷ upper (owners_of z) z.shape named.before (named.here ∷ []) named.after;
   }
 
   other : is_master named.here.kind ≡ false
   other = named-other x named.here.kind named.named
 
-  one : NamesOne z x named.before named.behind
-  one = names-one z x named.before named.here named.behind held.fits named.map named.named
+  one : NamesOne z x named.before named.after
+  one = names-one z x named.before named.here named.after held.fits named.map named.named
 
   -- what is in it
   was : (l : Bool) → is_lent z.heap.table x ≡ l → (records_of z).blocks ≡ (around content l).blocks
-  was l is = swapped-before r z held z.heap x named.before named.here.kind named.here.kind named.here.size named.behind named.map named.map other
+  was l is = swapped-before r z held z.heap x named.before named.here.kind named.here.kind named.here.size named.after named.map named.map other
       ∙ ap (λ l. (around content l).blocks) (named-lent (owners_of z) x named.here.kind named.named ∙ is)
 
-  place : at ≡ records.address_behind z.shape (lower (owners_of z) z.shape named.before)
-  place = swapped-place r z held z.heap x named.before named.here.kind named.here.kind named.here.size named.behind named.map named.map other at named.place
+  place : at ≡ records.address_after z.shape (lower (owners_of z) z.shape named.before)
+  place = swapped-place r z held z.heap x named.before named.here.kind named.here.kind named.here.size named.after named.map named.map other at named.place
 
   -- its bytes
   bytes : (has_bytes content ≡ true) × (records.bytes_of content ≡ bytes_of z.heap.table x)
   bytes = named-held (owners_of z) there x named.here.kind named.named
 
-  -- its contents begin behind its header
-  begins : contents_of z.shape x z.heap.map ≡ address_behind z.shape named.before + head_size z.shape.heads
-  begins = named-contents z x named.before named.here named.behind held.fits named.map named.named
+  -- its contents begin after its header
+  begins : contents_of z.shape x z.heap.map ≡ address_after z.shape named.before + head_size z.shape.heads
+  begins = named-contents z x named.before named.here named.after held.fits named.map named.named
 
   -- ---- it is lent
 
@@ -117,7 +117,7 @@ module _ (r : ZoneRecords) (z : ZoneState) (held : Stands r z) (x at : ℕ) (nam
       before = lower (owners_of z) z.shape named.before;
       size = named.here.size;
       content = content;
-      behind = upper (owners_of z) z.shape named.before (named.here ∷ []) named.behind;
+      after = upper (owners_of z) z.shape named.before (named.here ∷ []) named.after;
       blocks = was false unlent;
       place = place;
       held = bytes.0;
@@ -133,10 +133,10 @@ module _ (r : ZoneRecords) (z : ZoneState) (held : Stands r z) (x at : ℕ) (nam
     -- it is
     pub lend-ends : length z.heap.table.lent < most_loans → (m : ZoneRecords) → ((h : places.HeldAt r at) → m ≡ changes.lent_out r h) → Kept m (with_heap (lent_out x z.heap) z)
     lend-ends few m is =
-        let test = lent_out-test z.heap held.fits.loans x named.before named.here named.behind named.map named.named in
-        let loans = lent_out-fits z.heap held.fits.loans x named.before named.here named.behind named.map named.named one.none_before one.none_behind few in
+        let test = lent_out-test z.heap held.fits.loans x named.before named.here named.after named.map named.named in
+        let loans = lent_out-fits z.heap held.fits.loans x named.before named.here named.after named.map named.named one.none_before one.none_after few in
         ended-same r m z now.heap held refl (Fits-kept z now.heap.table z.heap.map held.fits held.fits.coherent.handles held.fits.coherent.pointers refl (λ y. refl) held.fits.coherent.in_order loans)
-        (swapped-after r z held now.heap x named.before named.here.kind named.here.kind named.here.size named.behind named.map named.map other m one.none_before one.none_behind
+        (swapped-after r z held now.heap x named.before named.here.kind named.here.kind named.here.size named.after named.map named.map other m one.none_before one.none_after
         (record { others = λ y _. refl }) (λ y apart. test y ∙ ap (λ b. b || is_lent z.heap.table y) apart)
         ((subst (λ (r : ZoneRecords). (h : places.HeldAt r at) → m ≡ changes.lent_out r h) held.blocks is) held_there
         ∙ ap (around content) (sym (named-lent (with_table z now) x named.here.kind named.named ∙ test x ∙ ap (λ b. b || is_lent z.heap.table x) (eqb_same x)))))
@@ -153,10 +153,10 @@ module _ (r : ZoneRecords) (z : ZoneState) (held : Stands r z) (x at : ℕ) (nam
       pub lend-loan : IsLoanOf (with_heap (lent_out x z.heap) z) x loan
       lend-loan =
           let starts = ap (λ (l : Loan). l.at) loan_is in
-          let total = records-total (owners_of z) z.shape (address_behind z.shape []) named.before in
+          let total = records-total (owners_of z) z.shape (address_after z.shape []) named.before in
           let begin = begins in
           record {
-            lent = lent_out-test z.heap held.fits.loans x named.before named.here named.behind named.map named.named x ∙ ap (λ b. b || is_lent z.heap.table x) (eqb_same x);
+            lent = lent_out-test z.heap held.fits.loans x named.before named.here named.after named.map named.named x ∙ ap (λ b. b || is_lent z.heap.table x) (eqb_same x);
             memory = ap (λ (l : Loan). l.name) loan_is;
             contents = omega arith;
             long = ap length lend-bytes;
@@ -170,7 +170,7 @@ module _ (r : ZoneRecords) (z : ZoneState) (held : Stands r z) (x at : ℕ) (nam
       before = lower (owners_of z) z.shape named.before;
       size = named.here.size;
       content = content;
-      behind = upper (owners_of z) z.shape named.before (named.here ∷ []) named.behind;
+      after = upper (owners_of z) z.shape named.before (named.here ∷ []) named.after;
       blocks = was true of_x.lent;
       place = place;
       held = bytes.0;
@@ -198,7 +198,7 @@ module _ (r : ZoneRecords) (z : ZoneState) (held : Stands r z) (x at : ℕ) (nam
         content-named (owners_of z) q there x named.here.kind named.named flags ∙ ap (λ bs. records.with_bytes bs content) (written-bytes z x loan.bytes held.fits has) in
         ended-same r m z back.heap held refl
         (Fits-kept (rewritten z x loan.bytes) back.heap.table z.heap.map written written.coherent.handles written.coherent.pointers refl (λ y. refl) written.coherent.in_order (returned-fits z.heap x loan.bytes held.fits.loans))
-        (swapped-after r z held back.heap x named.before named.here.kind named.here.kind named.here.size named.behind named.map named.map other m one.none_before one.none_behind
+        (swapped-after r z held back.heap x named.before named.here.kind named.here.kind named.here.size named.after named.map named.map other m one.none_before one.none_after
         (record { others = (with_live_agrees x (refilled loan.bytes (live_at z.heap.table x)) z.heap.table).others }) (λ y apart. test y ∙ ap (λ b. not b && is_lent z.heap.table y) apart)
         ((subst (λ (r : ZoneRecords). (is : places.IsLoanOf r at loan) → m ≡ changes.taken_back r is) held.blocks is) loan_there
         ∙ ap (λ c. around c false) (sym filled)

@@ -7,7 +7,7 @@ use Rattle.mac_base.specs.HandleTable.{Live, EmptyHandle, FullHandle, Pointer, l
 use Rattle.mac_base.specs.HeadKind.{head_size}
 use Rattle.mac_base.specs.BlockReport.{block_flags, report_at}
 use Rattle.mac_base.specs.Suits.{wanted_length}
-use Rattle.mac_base.specs.ZoneMap.{block, address_behind, contents_of}
+use Rattle.mac_base.specs.ZoneMap.{block, address_after, contents_of}
 use Rattle.mac_base.specs.ZoneState.{ZoneState}
 use Rattle.raw_region.specs.Bytes.{part}
 use Rattle.zone_records.specs.declared.structure.Part.{Part}
@@ -78,7 +78,7 @@ module _ (r : ZoneRecords) (z : ZoneState) (held : Stands r z) (old new : List �
       by_test true full =
           let own = own_block z x held.fits full in
           let b = own.block in
-          let e : EntryAt z own.at = record { before = b.before; here = block (kind.Rel x) b.size; behind = b.behind; map = b.map; place = b.place } in
+          let e : EntryAt z own.at = record { before = b.before; here = block (kind.Rel x) b.size; after = b.after; map = b.map; place = b.place } in
           let there = of-entry (records_of z) z refl own.at e in
           let content = ap (λ (b : BlockRecord). b.content) there.here in
           shown-bytes z new x full
@@ -112,7 +112,7 @@ module _ (r : ZoneRecords) (z : ZoneState) (held : Stands r z) (at : ℕ) where
 
   pub outside-from : records.LiesOutside r at → LiesOutside z at
   outside-from out = subst (λ r. records.LiesOutside r at → LiesOutside z at) (sym held.blocks) (λ out.
-      let total = records-total (owners_of z) z.shape (address_behind z.shape []) z.heap.map in
+      let total = records-total (owners_of z) z.shape (address_after z.shape []) z.heap.map in
       elim out [ inl below ↦ inl (omega arith) | inr above ↦ inr (omega arith) ]) out
 
   pub outside-none : (o : Option Block) → LiesOutside z at → IfNone o (LiesOutside z at)

@@ -41,7 +41,7 @@ use Rattle.linked_zone.proofs.ChangeRelocated.{still_free, relocated-live, reloc
 use Rattle.linked_zone.proofs.RelocatedPlaces.{Moving, moving}
 use Rattle.linked_zone.proofs.TwoPlaces.{TwoPlaces}
 
--- as many zeros as are left behind the first bytes of some
+-- as many zeros as are left after the first bytes of some
 zeros_left : (n all some : ℕ) → some ≡ min all n → n - (0 + some) ≡ n - all
 zeros_left n all some is = omega arith
 
@@ -78,7 +78,7 @@ module _ (r : ZoneRecords) (z : ZoneState) (held : Stands r z) (h n from at : �
   abbrev both : BlockRecord → BlockRecord → ZoneRecords
   both x y = record { memory = z.memory; shape = z.shape; front = front_slot z.heap; blocks = p.listed x y }
 
-  -- what stood there, and what does in the new place
+  -- what was there, and what does in the new place
   abbrev old : BlockRecord
   old = block_record (Relocatable h flags bytes) b.size
 
@@ -99,7 +99,7 @@ module _ (r : ZoneRecords) (z : ZoneState) (held : Stands r z) (h n from at : �
   relocate-block = (of-handle r z held h from b).there
 
   pub relocate-record : places.RecordAt r from
-  relocate-record = (of-entry r z held.blocks from (record { before = b.before; here = block (kind.Rel h) b.size; behind = b.behind; map = b.map; place = b.place })).there
+  relocate-record = (of-entry r z held.blocks from (record { before = b.before; here = block (kind.Rel h) b.size; after = b.after; map = b.map; place = b.place })).there
 
   -- the flags that its header says
   pub relocate-flags : (f : Flags) → ((w : places.HandleBlockAt r from) → f ≡ w.flags) → f ≡ flags
@@ -107,7 +107,7 @@ module _ (r : ZoneRecords) (z : ZoneState) (held : Stands r z) (h n from at : �
 
   -- how many bytes it has
   abbrev record_there : places.RecordAt (both old free) from
-  record_there = record { before = p.before_from free; here = old; behind = p.behind_from free; blocks = p.from_is old free; place = p.from_place free refl }
+  record_there = record { before = p.before_from free; here = old; after = p.after_from free; blocks = p.from_is old free; place = p.from_place free refl }
 
   pub relocate-length : (k : ℕ) → ((w : places.RecordAt r from) → k ≡ length_of w.here.content) → k ≡ length bytes
   relocate-length k says = (subst (λ (r : ZoneRecords). (w : places.RecordAt r from) → k ≡ length_of w.here.content) at_first says) record_there
@@ -120,16 +120,16 @@ module _ (r : ZoneRecords) (z : ZoneState) (held : Stands r z) (h n from at : �
 
   abbrev free_there : places.RoomFor (both old free) at n
   free_there = record {
-    free = record { before = p.before_to old; size = room.free.size; behind = p.behind_to old; blocks = p.to_is old free; place = p.to_place old refl };
+    free = record { before = p.before_to old; size = room.free.size; after = p.after_to old; blocks = p.to_is old free; place = p.to_place old refl };
     room = length-had z.shape room.free.size n (room-size r z held at n room) room.room;
   }
 
   -- another block in the new place
-  in_new : (x y : BlockRecord) → record { memory = z.memory; shape = z.shape; front = front_slot z.heap; blocks = p.before_to x ++ y ∷ p.behind_to x } ≡ both x y
+  in_new : (x y : BlockRecord) → record { memory = z.memory; shape = z.shape; front = front_slot z.heap; blocks = p.before_to x ++ y ∷ p.after_to x } ≡ both x y
   in_new x y = ap (λ bs. record { memory = z.memory; shape = z.shape; front = front_slot z.heap; blocks = bs }) (sym (p.to_is x y))
 
   -- and in the old one
-  in_old : (x y : BlockRecord) → record { memory = z.memory; shape = z.shape; front = front_slot z.heap; blocks = p.before_from y ++ x ∷ p.behind_from y } ≡ both x y
+  in_old : (x y : BlockRecord) → record { memory = z.memory; shape = z.shape; front = front_slot z.heap; blocks = p.before_from y ++ x ∷ p.after_from y } ≡ both x y
   in_old x y = ap (λ bs. record { memory = z.memory; shape = z.shape; front = front_slot z.heap; blocks = bs }) (sym (p.from_is x y))
 
   module _ (m : ZoneRecords) (is : (w : places.RoomFor r at n) → m ≡ records.filled (Relocatable h no_flags (zeros n)) r w.free) where
@@ -145,7 +145,7 @@ module _ (r : ZoneRecords) (z : ZoneState) (held : Stands r z) (h n from at : �
       flags = no_flags;
       bytes = zeros n;
       lent = false;
-      behind = p.behind_to old;
+      after = p.after_to old;
       blocks = p.to_is old (new no_flags (zeros n));
       place = p.to_place old refl;
     }
@@ -171,7 +171,7 @@ module _ (r : ZoneRecords) (z : ZoneState) (held : Stands r z) (h n from at : �
               before = p.before_from (new flags (zeros n));
               size = b.size;
               content = Relocatable h flags bytes;
-              behind = p.behind_from (new flags (zeros n));
+              after = p.after_from (new flags (zeros n));
               blocks = p.from_is old (new flags (zeros n));
               place = p.from_place (new flags (zeros n)) refl;
               held = refl;
@@ -180,7 +180,7 @@ module _ (r : ZoneRecords) (z : ZoneState) (held : Stands r z) (h n from at : �
               before = p.before_to old;
               size = room.free.size;
               content = Relocatable h flags (zeros n);
-              behind = p.behind_to old;
+              after = p.after_to old;
               blocks = p.to_is old (new flags (zeros n));
               place = p.to_place old refl;
               held = refl;
@@ -204,7 +204,7 @@ module _ (r : ZoneRecords) (z : ZoneState) (held : Stands r z) (h n from at : �
               before = p.before_from (new flags (resized n bytes));
               size = b.size;
               content = Relocatable h flags bytes;
-              behind = p.behind_from (new flags (resized n bytes));
+              after = p.after_from (new flags (resized n bytes));
               blocks = p.from_is old (new flags (resized n bytes));
               place = p.from_place (new flags (resized n bytes)) refl;
               held = refl;
@@ -237,13 +237,13 @@ module _ (r : ZoneRecords) (z : ZoneState) (held : Stands r z) (h n from at : �
               -- ---- sizes
 
               abbrev cleared : Exchanged z.heap.map (without_block h z).heap.map
-              cleared = block_swapped z.heap.map (without_block h z).heap.map b.before (kind.Rel h) kind.Free b.size b.behind b.map (emptied-map z h held.fits full from b)
+              cleared = block_swapped z.heap.map (without_block h z).heap.map b.before (kind.Rel h) kind.Free b.size b.after b.map (emptied-map z h held.fits full from b)
 
               abbrev taken_up : Exchanged (without_block h z).heap.map now.heap.map
-              taken_up = let f = still_free h z room.free in block_swapped (without_block h z).heap.map now.heap.map f.before kind.Free (kind.Rel h) f.size f.behind f.map refl
+              taken_up = let f = still_free h z room.free in block_swapped (without_block h z).heap.map now.heap.map f.before kind.Free (kind.Rel h) f.size f.after f.map refl
 
               old_size : is_block_size z.shape b.size ≡ true
-              old_size = swapped-size r z held z.heap h b.before (kind.Rel h) (kind.Rel h) b.size b.behind b.map b.map refl
+              old_size = swapped-size r z held z.heap h b.before (kind.Rel h) (kind.Rel h) b.size b.after b.map b.map refl
 
               new_size : is_block_size z.shape room.free.size ≡ true
               new_size = room-size r z held at n room

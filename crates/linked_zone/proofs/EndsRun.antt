@@ -12,7 +12,7 @@ use Rattle.mac_base.specs.HeadKind.{Shape, head_size}
 use Rattle.mac_base.specs.HandleTable.{live_at}
 use Rattle.mac_base.specs.Heap.{front_slot}
 use Rattle.mac_base.specs.Loans.{is_here}
-use Rattle.mac_base.specs.ZoneMap.{ZoneMap, block, is_named, total_size, address_behind, contents_of}
+use Rattle.mac_base.specs.ZoneMap.{ZoneMap, block, is_named, total_size, address_after, contents_of}
 use Rattle.mac_base.specs.ZoneSizes.{ZoneSizes}
 use Rattle.zone_laws.proofs.Maps.{total_size-append}
 use Rattle.zone_laws.proofs.Owners.{none_named}
@@ -52,7 +52,7 @@ kind-moves o a b (kind.Rel h) moves = refl
 abbrev pub partly : {r : ZoneRecords} {start end : ℕ} → Misplaced r start end → ZoneMap → Owners
 partly m done = owners_saying (λ y. cond (none_named y done) (m.said y) (contents_of m.zone.shape y m.zone.heap.map)) m.zone
 
--- The slots of these say so, and those of the others of the run may not; the next of these stands at an address.
+-- The slots of these say so, and those of the others of the run may not; the next of these is at an address.
 pub record Told {r : ZoneRecords} {start end : ℕ} (m : Misplaced r start end) (done rest : ZoneMap) (w : ZoneRecords) (next : ℕ) : Type 0 where
   pub parts : m.run ≡ done ++ rest
   pub image_is : w ≡ image m.zone.memory m.zone.shape (front_slot m.zone.heap) (partly m done) m.zone.heap.map
@@ -78,7 +78,7 @@ module _ {r : ZoneRecords} {start end : ℕ} (m : Misplaced r start end) where
 
   -- the run among others
   passes : (p : Entry → Bool) → list_all p m.zone.heap.map ≡ true → list_all p m.run ≡ true
-  passes p all = part-passes p m.before m.run m.behind m.zone.heap.map m.map all
+  passes p all = part-passes p m.before m.run m.after m.zone.heap.map m.map all
 
   -- how many bytes a header has, as it is read
   pub run-head : (spec : ZoneSizes) (heads : HeadKind) (head : ℕ) → spec ≡ sizes_of r → heads ≡ spec.heads → head ≡ head_size heads → head ≡ head_size m.zone.shape.heads
@@ -99,14 +99,14 @@ module _ {r : ZoneRecords} {start end : ℕ} (m : Misplaced r start end) where
       by_rest (e ∷ es) is = record { done = t.done; here = e; rest = es; is = is }
 
   module _ (w : ZoneRecords) (next : ℕ) (c : Coming m w next) where
-    -- it stands in the zone
+    -- it is in the zone
     abbrev entry_now : EntryAt m.zone next
     entry_now = record {
       before = m.before ++ c.done;
       here = c.here;
-      behind = c.rest ++ m.behind;
-      map = m.map ∙ ap (λ run. m.before ++ (run ++ m.behind)) (c.is).parts
-          ∙ ap (λ run. m.before ++ run) (append_assoc c.done (c.here ∷ c.rest) m.behind) ∙ sym (append_assoc m.before c.done (c.here ∷ (c.rest ++ m.behind)));
+      after = c.rest ++ m.after;
+      map = m.map ∙ ap (λ run. m.before ++ (run ++ m.after)) (c.is).parts
+          ∙ ap (λ run. m.before ++ run) (append_assoc c.done (c.here ∷ c.rest) m.after) ∙ sym (append_assoc m.before c.done (c.here ∷ (c.rest ++ m.after)));
       place = (let sum = total_size-append m.before c.done in let here = (c.is).place in let place = m.place in omega arith);
     }
 
@@ -119,11 +119,11 @@ module _ {r : ZoneRecords} {start end : ℕ} (m : Misplaced r start end) where
 
     -- its block is there
     abbrev block_now : RecordAt (image m.zone.memory m.zone.shape (front_slot m.zone.heap) (partly m c.done) m.zone.heap.map) next
-    block_now = let o = partly m c.done in let s = m.zone.shape in let first = address_behind s [] in record {
+    block_now = let o = partly m c.done in let s = m.zone.shape in let first = address_after s [] in record {
       before = records_from o s first (m.before ++ c.done);
       here = record_of o s (first + total_size (m.before ++ c.done)) c.here;
-      behind = records_from o s ((first + total_size (m.before ++ c.done)) + (c.here).size) (c.rest ++ m.behind);
-      blocks = ap (records_from o s first) entry_now.map ∙ records_from-append o s first (m.before ++ c.done) (c.here ∷ (c.rest ++ m.behind));
+      after = records_from o s ((first + total_size (m.before ++ c.done)) + (c.here).size) (c.rest ++ m.after);
+      blocks = ap (records_from o s first) entry_now.map ∙ records_from-append o s first (m.before ++ c.done) (c.here ∷ (c.rest ++ m.after));
       place = entry_now.place ∙ records-place o s (m.before ++ c.done);
     }
 
@@ -146,7 +146,7 @@ module _ {r : ZoneRecords} {start end : ℕ} (m : Misplaced r start end) where
     -- so its slot can follow
     follows_now : Follows (partly m c.done) m.zone.shape m.zone.heap.map (c.here).kind low
     follows_now = follows-from (partly m c.done) m.zone.shape m.zone.heap.map (c.here).kind low (λ h is.
-        let full = rel-full m.zone h (m.before ++ c.done) c.here (c.rest ++ m.behind) stands.fits entry_now.map is in (
+        let full = rel-full m.zone h (m.before ++ c.done) c.here (c.rest ++ m.after) stands.fits entry_now.map is in (
           stands.fits.coherent.in_slots h (full_handle m.zone.heap.table h full),
           moved-said m.zone.shape.heads (live_at m.zone.heap.table h) _ low (next_free m.zone.heap.free_slots h) full (contents-said (records_of m.zone) m.zone stands next entry_now),
         ))
@@ -159,7 +159,7 @@ module _ {r : ZoneRecords} {start end : ℕ} (m : Misplaced r start end) where
     slot-here : (y old : ℕ) → is_named y (c.here).kind ≡ true → (owners_of m.zone).slot y ≡ moved_to low (slot_of_live m.zone.shape.heads (live_at m.zone.heap.table y) old (next_free m.zone.heap.free_slots y))
     slot-here y old named =
         ap (λ a. slot_of_live m.zone.shape.heads (live_at m.zone.heap.table y) a (next_free m.zone.heap.free_slots y))
-        (named-contents m.zone y (m.before ++ c.done) c.here (c.rest ++ m.behind) stands.fits entry_now.map named ∙ ap (λ a. a + head_size m.zone.shape.heads) (sym entry_now.place))
+        (named-contents m.zone y (m.before ++ c.done) c.here (c.rest ++ m.after) stands.fits entry_now.map named ∙ ap (λ a. a + head_size m.zone.shape.heads) (sym entry_now.place))
         ∙ moved-slot m.zone.shape.heads (live_at m.zone.heap.table y) old low (next_free m.zone.heap.free_slots y)
 
     -- one more slot is sure to

@@ -1,4 +1,4 @@
--- What can be said in a slot: where other slots stand and where blocks' contents begin.
+-- What can be said in a slot: where other slots are and where blocks' contents begin.
 use Rattle.std.proofs.Common.{◌≡◌, ℕ, zero, suc, ◌+◌, ◌*◌, ◌%◌, ◌<◌, ◌≤◌, ◌&&◌, ◌||◌, not, Bool, true, false, cond, List, [], ◌∷◌, ◌++◌, nat_le, nat_lt, refl, ap, sym, ◌∙◌, arith, Contains, inl, inr}
 use Rattle.std.specs.Prelude.{◌==◌, slice_index}
 use Rattle.std.specs.List.{list_all}
@@ -13,7 +13,7 @@ use Rattle.mac_base.specs.HeadKind.{Shape, head_size, smallest_block, slot_count
 use Rattle.mac_base.specs.Heap.{front_slot}
 use Rattle.mac_base.specs.Suits.{slots, slots_from, is_block_size}
 use Rattle.mac_base.specs.declared.block.Kind.{Kind}
-use Rattle.mac_base.specs.ZoneMap.{ZoneMap, block, is_master, total_size, address_behind, addresses, addresses_from, contents_addresses}
+use Rattle.mac_base.specs.ZoneMap.{ZoneMap, block, is_master, total_size, address_after, addresses, addresses_from, contents_addresses}
 use Rattle.mac_base.specs.ZoneState.{ZoneState}
 use Rattle.mac_base.proofs.Reach.{end-small}
 use Rattle.zone_laws.proofs.Maps.{total_size-append}
@@ -32,7 +32,7 @@ use Rattle.linked_zone.proofs.ChangeMaster.{slots_at-below}
 
 -- ---- in general
 
--- a free slot says where the next one stands
+-- a free slot says where the next one is
 pub free-said : (heads : HeadKind) (x : ℕ) → x % 4 ≡ 0 → x < address_end heads → can_say heads (slot.Free x) ≡ true
 free-said Bits24 x even small = grind (arith, nat_tests)
 free-said Bits32 x even small = grind (arith, nat_tests)
@@ -85,17 +85,17 @@ slots_from-even (suc n) at h even c = elim (Contains-cons_cases at (slots_from n
 ]
 
 module _ (r : ZoneRecords) (z : ZoneState) (held : Stands r z) where
-  start_even : address_behind z.shape [] % 4 ≡ 0
+  start_even : address_after z.shape [] % 4 ≡ 0
   start_even = sum_even (z.shape.base + 52) 0 (sum_even z.shape.base 52 held.even refl) refl
 
-  -- a slot stands at a multiple of four, within the zone
+  -- a slot is at a multiple of four, within the zone
   pub slot-range : (x : ℕ) → Contains (slots z.shape z.heap.map) x → (x % 4 ≡ 0) × (x < address_end z.shape.heads) × (0 < x)
   slot-range x c =
       let found = Contains-flat_map (slots_from slot_count) (contents_addresses z.shape is_master z.heap.map) x c in
       let place = Contains-map (λ a. a + head_size z.shape.heads) (addresses z.shape is_master z.heap.map) found.0 found.1 in
-      let even = addresses-even z.shape (address_behind z.shape []) is_master z.heap.map place.0 start_even held.sizes place.1 in
+      let even = addresses-even z.shape (address_after z.shape []) is_master z.heap.map place.0 start_even held.sizes place.1 in
       let first = ap (λ n. n % 4) (sym place.2) ∙ sum_even place.0 (head_size z.shape.heads) even (head-even z.shape.heads) in
-      let below = slots_at-below (head_size z.shape.heads) slot_count (address_behind z.shape []) z.heap.map x held.rooms c in
+      let below = slots_at-below (head_size z.shape.heads) slot_count (address_after z.shape []) z.heap.map x held.rooms c in
       let above = slot-above z.shape z.heap.map x c in
       let within = held.within in
       let high = held.high in
@@ -116,24 +116,24 @@ module _ (r : ZoneRecords) (z : ZoneState) (held : Stands r z) where
       by_list (x ∷ xs) each none = let range = each x (Contains-here x xs) in absurd (omega arith)
 
   module _ (at : ℕ) (e : EntryAt z at) where
-    -- a block's header stands at a multiple of four
+    -- a block's header is at a multiple of four
     pub entry-even : at % 4 ≡ 0
     entry-even =
         let before : list_all (λ (e : Entry). is_block_size z.shape e.size) e.before ≡ true =
-        (and_parts (list_all (λ (e : Entry). is_block_size z.shape e.size) e.before) _ (sym (list_all-append (λ (e : Entry). is_block_size z.shape e.size) e.before (e.here ∷ e.behind)) ∙ ap (list_all (λ (e : Entry). is_block_size z.shape e.size)) (sym e.map) ∙ held.sizes)).0 in
+        (and_parts (list_all (λ (e : Entry). is_block_size z.shape e.size) e.before) _ (sym (list_all-append (λ (e : Entry). is_block_size z.shape e.size) e.before (e.here ∷ e.after)) ∙ ap (list_all (λ (e : Entry). is_block_size z.shape e.size)) (sym e.map) ∙ held.sizes)).0 in
         ap (λ n. n % 4) e.place ∙ sum_even (z.shape.base + 52) (total_size e.before) (sum_even z.shape.base 52 held.even refl) (total-even z.shape e.before before)
 
     -- it has contents, and slots can say where they begin and end
     pub entry-room : head_size z.shape.heads < e.here.size
     entry-room =
-        let all = (and_parts (list_all (has_room z.shape) e.before) _ (sym (list_all-append (has_room z.shape) e.before (e.here ∷ e.behind)) ∙ ap (list_all (has_room z.shape)) (sym e.map) ∙ held.rooms)).1 in
-        let here = (and_parts (has_room z.shape e.here) (list_all (has_room z.shape) e.behind) all).0 in
+        let all = (and_parts (list_all (has_room z.shape) e.before) _ (sym (list_all-append (has_room z.shape) e.before (e.here ∷ e.after)) ∙ ap (list_all (has_room z.shape)) (sym e.map) ∙ held.rooms)).1 in
+        let here = (and_parts (has_room z.shape e.here) (list_all (has_room z.shape) e.after) all).0 in
         let first = (and_parts (nat_lt (head_size z.shape.heads) e.here.size) _ here).0 in
         grind (arith, nat_tests)
 
     entry-reach : at + e.here.size ≤ address_end z.shape.heads
     entry-reach =
-        let total = ap total_size e.map ∙ total_size-append e.before (e.here ∷ e.behind) in
+        let total = ap total_size e.map ∙ total_size-append e.before (e.here ∷ e.after) in
         let place = e.place in
         let within = held.within in
         let high = held.high in
@@ -169,7 +169,7 @@ pub size-sum : (s : Shape) (a b : ℕ) → is_block_size s a ≡ true → is_blo
 size-sum s a b first second = grind (arith, nat_tests)
 
 -- each block of a part of a map passes what all do
-pub part-passes : (p : Entry → Bool) (before part behind m : ZoneMap) → m ≡ before ++ (part ++ behind) → list_all p m ≡ true → list_all p part ≡ true
-part-passes p before part behind m is h =
-    let rest = (and_parts (list_all p before) _ (sym (list_all-append p before (part ++ behind)) ∙ ap (list_all p) (sym is) ∙ h)).1 in
-    (and_parts (list_all p part) _ (sym (list_all-append p part behind) ∙ rest)).0
+pub part-passes : (p : Entry → Bool) (before part after m : ZoneMap) → m ≡ before ++ (part ++ after) → list_all p m ≡ true → list_all p part ≡ true
+part-passes p before part after m is h =
+    let rest = (and_parts (list_all p before) _ (sym (list_all-append p before (part ++ after)) ∙ ap (list_all p) (sym is) ∙ h)).1 in
+    (and_parts (list_all p part) _ (sym (list_all-append p part after) ∙ rest)).0

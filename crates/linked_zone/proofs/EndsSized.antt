@@ -1,4 +1,4 @@
--- How the calls end that give a handle or a pointer another number of bytes where its block stands.
+-- How the calls end that give a handle or a pointer another number of bytes where its block is.
 use Rattle.std.proofs.Common.{◌≡◌, ℕ, ◌+◌, ◌-◌, ◌==◌, Bool, true, false, eqb, List, [], ◌∷◌, ◌++◌, refl, ap, sym, ◌∙◌, subst, arith, append_assoc, inl, inr, ◌⊎◌, cond, Option, Some, None}
 use Rattle.std.specs.List.{list_all}
 use Rattle.std.proofs.lemmas.Bool.Decides.{nat_tests}
@@ -11,7 +11,7 @@ use Rattle.mac_base.specs.HeadKind.{Shape, head_size}
 use Rattle.mac_base.specs.HandleTable.{HandleTable, Live, EmptyHandle, FullHandle, Pointer, live_at, live_flags, flags_of, bytes_of, refilled, resized, with_bytes, has_block, is_lent}
 use Rattle.mac_base.specs.Heap.{front_slot}
 use Rattle.mac_base.specs.Suits.{is_block_size}
-use Rattle.mac_base.specs.ZoneMap.{ZoneMap, block, free_block, is_master, is_named, total_size, address_behind}
+use Rattle.mac_base.specs.ZoneMap.{ZoneMap, block, free_block, is_master, is_named, total_size, address_after}
 use Rattle.mac_base.specs.ZoneState.{ZoneState}
 use Rattle.zone_laws.proofs.Owners.{none_named}
 use Rattle.zone_laws.proofs.Tables.{eqb_same, live_at-with_live}
@@ -83,7 +83,7 @@ module _ (r : ZoneRecords) (z : ZoneState) (held : Stands r z) (x whole size n :
   now = sized_zone z x whole size n held.fits room
 
   abbrev there : ℕ
-  there = (address_behind z.shape [] + total_size room.before) + head_size z.shape.heads
+  there = (address_after z.shape [] + total_size room.before) + head_size z.shape.heads
 
   -- so many bytes can be a block, or none is over
   over-size : (whole - size == 0) ≡ false → is_block_size z.shape (whole - size) ≡ true
@@ -102,29 +102,29 @@ module _ (r : ZoneRecords) (z : ZoneState) (held : Stands r z) (x whole size n :
     shape = z.shape;
     front = front_slot z.heap;
     blocks = lower (owners_of z) z.shape room.before ++ block_record (changes.sized n (content_of (owners_of z) there room.here.kind)) size ∷ changes.free_record (whole - size)
-        ++ upper (owners_of z) z.shape room.before (room.here ∷ room.room) room.behind;
+        ++ upper (owners_of z) z.shape room.before (room.here ∷ room.room) room.after;
   } → Kept m now
   sized-ends m is =
       let o = owners_of z in
       let q = owners_of now in
       let one = sized-one z x whole size n held.fits room in
-      let none_behind = (and_parts (none_named x room.room) (none_named x room.behind) (sym (list_all-append _ room.room room.behind) ∙ one.none_behind)).1 in
+      let none_after = (and_parts (none_named x room.room) (none_named x room.after) (sym (list_all-append _ room.room room.after) ∙ one.none_after)).1 in
       let same : (y : ℕ) → eqb y x ≡ false → SameOf o q y = λ y apart.
       (ap (header_flags z.shape.heads) (flags-stay x (resized n (bytes_of z.heap.table x)) z.heap.table y), sized-other_bytes z x whole size n held.fits room y (λ is. absurd (cc (apart, is, eqb_same x))), refl) in
       let content : content_of q there room.here.kind ≡ changes.sized n (content_of o there room.here.kind) =
       content-named o q there x room.here.kind room.named (ap (header_flags z.shape.heads) (flags-stay x (resized n (bytes_of z.heap.table x)) z.heap.table x))
       ∙ ap (λ bytes. records.with_bytes bytes (content_of o there room.here.kind)) (sized-bytes z x whole size n held.fits room ∙ ap (resized n) (sym (named-held o there x room.here.kind room.named).1)) in
-      let above = upper o z.shape room.before (room.here ∷ room.room) room.behind in
+      let above = upper o z.shape room.before (room.here ∷ room.room) room.after in
       let part : middle q z.shape room.before (block room.here.kind size ∷ free_block (whole - size)) ≡ block_record (changes.sized n (content_of o there room.here.kind)) size ∷ changes.free_record (whole - size) =
-      ap (λ c. record { size = size; content = c; lent = lent_of q room.here.kind } ∷ records_from q z.shape ((address_behind z.shape [] + total_size room.before) + size) (free_block (whole - size))) content
-      ∙ ap (λ l. record { size = size; content = changes.sized n (content_of o there room.here.kind); lent = l } ∷ records_from q z.shape ((address_behind z.shape [] + total_size room.before) + size) (free_block (whole - size))) (named-lent q x room.here.kind room.named ∙ unlent)
-      ∙ ap (λ bs. block_record (changes.sized n (content_of o there room.here.kind)) size ∷ bs) (free-record q z.shape ((address_behind z.shape [] + total_size room.before) + size) (whole - size)) in
+      ap (λ c. record { size = size; content = c; lent = lent_of q room.here.kind } ∷ records_from q z.shape ((address_after z.shape [] + total_size room.before) + size) (free_block (whole - size))) content
+      ∙ ap (λ l. record { size = size; content = changes.sized n (content_of o there room.here.kind); lent = l } ∷ records_from q z.shape ((address_after z.shape [] + total_size room.before) + size) (free_block (whole - size))) (named-lent q x room.here.kind room.named ∙ unlent)
+      ∙ ap (λ bs. block_record (changes.sized n (content_of o there room.here.kind)) size ∷ bs) (free-record q z.shape ((address_after z.shape [] + total_size room.before) + size) (whole - size)) in
       ended z now.heap (sized_exchange z x whole size n held.fits room) r m held (sized-fits z x whole size n held.fits room)
       (and_from (is_block_size z.shape size) _ room.fits.front (free-passes (λ (e : Entry). is_block_size z.shape e.size) (whole - size) over-size))
       (and_from (has_room z.shape (block room.here.kind size)) _ (size-room z.shape room.here.kind size (named-other x room.here.kind room.named) room.fits.front)
       (free-passes (has_room z.shape) (whole - size) (λ some. size-room z.shape kind.Free (whole - size) refl (over-size some))))
       (parts-after z now.heap (sized_exchange z x whole size n held.fits room) m (front_slot z.heap) q (λ y c. sized-pointers z x whole size n held.fits room y) (λ y c. sized-pointers z x whole size n held.fits room y)
-      (same_but o q x room.before one.none_before same) (same_but o q x room.behind none_behind same)
+      (same_but o q x room.before one.none_before same) (same_but o q x room.after none_after same)
       (is ∙ ap (λ bs. record { memory = z.memory; shape = z.shape; front = front_slot z.heap; blocks = bs })
       (append_assoc (lower o z.shape room.before) (block_record (changes.sized n (content_of o there room.here.kind)) size ∷ changes.free_record (whole - size)) above
       ∙ ap (λ bs. lower o z.shape room.before ++ (bs ++ above)) (sym part))))
@@ -135,11 +135,11 @@ module _ (r : ZoneRecords) (z : ZoneState) (held : Stands r z) (x whole size n :
 front-had : (s : Shape) (whole size n : ℕ) → CanFront s whole size n → places.CanFront s whole size n
 front-had s whole size n fits = record { within = fits.within; front = length-had s size n fits.front fits.room; rest = fits.rest }
 
--- a block that x names stands at its place
-named-place : (z : ZoneState) (x at : ℕ) (before : ZoneMap) (e : Entry) (behind : ZoneMap) → Fits z → z.heap.map ≡ before ++ e ∷ behind → is_named x e.kind ≡ true → NamedAt z x at → at ≡ address_behind z.shape before
-named-place z x at before e behind fits map named there =
-    let here = named-contents z x before e behind fits map named in
-    let same = named-contents z x there.before there.here there.behind fits there.map there.named in
+-- a block that x names is at its place
+named-place : (z : ZoneState) (x at : ℕ) (before : ZoneMap) (e : Entry) (after : ZoneMap) → Fits z → z.heap.map ≡ before ++ e ∷ after → is_named x e.kind ≡ true → NamedAt z x at → at ≡ address_after z.shape before
+named-place z x at before e after fits map named there =
+    let here = named-contents z x before e after fits map named in
+    let same = named-contents z x there.before there.here there.after fits there.map there.named in
     let place = there.place in
     omega arith
 
@@ -147,10 +147,10 @@ module _ (r : ZoneRecords) (z : ZoneState) (held : Stands r z) (x size n : ℕ) 
   module _ (can : CanHold z x size n) where
     -- the block has an owner
     pub hold-block : has_block z.heap.table x ≡ true
-    hold-block = (names-one z x can.before can.here can.behind held.fits can.map can.named).block
+    hold-block = (names-one z x can.before can.here can.after held.fits can.map can.named).block
 
     abbrev hold_room : Room z x can.here.size size n
-    hold_room = record { before = can.before; here = can.here; room = []; behind = can.behind; map = can.map; named = can.named; free = refl; sum = omega arith; fits = can.fits }
+    hold_room = record { before = can.before; here = can.here; room = []; after = can.after; map = can.map; named = can.named; free = refl; sum = omega arith; fits = can.fits }
 
     module _ (at : ℕ) (named : NamedAt z x at) where
       abbrev hold_there : places.CanHold (records_of z) at size n
@@ -158,13 +158,13 @@ module _ (r : ZoneRecords) (z : ZoneState) (held : Stands r z) (x size n : ℕ) 
         held = record {
           before = lower (owners_of z) z.shape can.before;
           size = can.here.size;
-          content = content_of (owners_of z) ((address_behind z.shape [] + total_size can.before) + head_size z.shape.heads) can.here.kind;
-          behind = upper (owners_of z) z.shape can.before (can.here ∷ []) can.behind;
+          content = content_of (owners_of z) ((address_after z.shape [] + total_size can.before) + head_size z.shape.heads) can.here.kind;
+          after = upper (owners_of z) z.shape can.before (can.here ∷ []) can.after;
           blocks = parts-before z (held_there z can).heap (sized_exchange z x can.here.size size n held.fits hold_room)
-              ∙ ap (λ l. lower (owners_of z) z.shape can.before ++ record { size = can.here.size; content = content_of (owners_of z) ((address_behind z.shape [] + total_size can.before) + head_size z.shape.heads) can.here.kind; lent = l } ∷ upper (owners_of z) z.shape can.before (can.here ∷ []) can.behind)
+              ∙ ap (λ l. lower (owners_of z) z.shape can.before ++ record { size = can.here.size; content = content_of (owners_of z) ((address_after z.shape [] + total_size can.before) + head_size z.shape.heads) can.here.kind; lent = l } ∷ upper (owners_of z) z.shape can.before (can.here ∷ []) can.after)
               (named-lent (owners_of z) x can.here.kind can.named ∙ unlent);
-          place = parts-place z (held_there z can).heap (sized_exchange z x can.here.size size n held.fits hold_room) at (named-place z x at can.before can.here can.behind held.fits can.map can.named named);
-          held = (named-held (owners_of z) ((address_behind z.shape [] + total_size can.before) + head_size z.shape.heads) x can.here.kind can.named).0;
+          place = parts-place z (held_there z can).heap (sized_exchange z x can.here.size size n held.fits hold_room) at (named-place z x at can.before can.here can.after held.fits can.map can.named named);
+          held = (named-held (owners_of z) ((address_after z.shape [] + total_size can.before) + head_size z.shape.heads) x can.here.kind can.named).0;
         };
         fits = front-had z.shape can.here.size size n can.fits;
       }
@@ -180,25 +180,25 @@ module _ (r : ZoneRecords) (z : ZoneState) (held : Stands r z) (x size n : ℕ) 
   module _ (can : CanGrow z x size n) where
     -- the block has an owner
     pub grow-block : has_block z.heap.table x ≡ true
-    grow-block = (names-one z x can.before can.here (block kind.Free can.free ∷ can.behind) held.fits can.map can.named).block
+    grow-block = (names-one z x can.before can.here (block kind.Free can.free ∷ can.after) held.fits can.map can.named).block
 
     abbrev grow_room : Room z x (can.here.size + can.free) size n
-    grow_room = record { before = can.before; here = can.here; room = block kind.Free can.free ∷ []; behind = can.behind; map = can.map; named = can.named; free = refl; sum = omega arith; fits = can.fits }
+    grow_room = record { before = can.before; here = can.here; room = block kind.Free can.free ∷ []; after = can.after; map = can.map; named = can.named; free = refl; sum = omega arith; fits = can.fits }
 
     module _ (at : ℕ) (named : NamedAt z x at) where
       abbrev grow_there : places.CanGrow (records_of z) at size n
       grow_there = record {
         before = lower (owners_of z) z.shape can.before;
         first = can.here.size;
-        content = content_of (owners_of z) ((address_behind z.shape [] + total_size can.before) + head_size z.shape.heads) can.here.kind;
+        content = content_of (owners_of z) ((address_after z.shape [] + total_size can.before) + head_size z.shape.heads) can.here.kind;
         second = can.free;
-        behind = upper (owners_of z) z.shape can.before (can.here ∷ block kind.Free can.free ∷ []) can.behind;
+        after = upper (owners_of z) z.shape can.before (can.here ∷ block kind.Free can.free ∷ []) can.after;
         blocks = parts-before z (enlarged z can).heap (sized_exchange z x (can.here.size + can.free) size n held.fits grow_room)
-            ∙ ap (λ l. lower (owners_of z) z.shape can.before ++ record { size = can.here.size; content = content_of (owners_of z) ((address_behind z.shape [] + total_size can.before) + head_size z.shape.heads) can.here.kind; lent = l } ∷ block_record records.Free can.free ∷ upper (owners_of z) z.shape can.before (can.here ∷ block kind.Free can.free ∷ []) can.behind)
+            ∙ ap (λ l. lower (owners_of z) z.shape can.before ++ record { size = can.here.size; content = content_of (owners_of z) ((address_after z.shape [] + total_size can.before) + head_size z.shape.heads) can.here.kind; lent = l } ∷ block_record records.Free can.free ∷ upper (owners_of z) z.shape can.before (can.here ∷ block kind.Free can.free ∷ []) can.after)
             (named-lent (owners_of z) x can.here.kind can.named ∙ unlent);
         place = parts-place z (enlarged z can).heap (sized_exchange z x (can.here.size + can.free) size n held.fits grow_room) at
-            (named-place z x at can.before can.here (block kind.Free can.free ∷ can.behind) held.fits can.map can.named named);
-        held = (named-held (owners_of z) ((address_behind z.shape [] + total_size can.before) + head_size z.shape.heads) x can.here.kind can.named).0;
+            (named-place z x at can.before can.here (block kind.Free can.free ∷ can.after) held.fits can.map can.named named);
+        held = (named-held (owners_of z) ((address_after z.shape [] + total_size can.before) + head_size z.shape.heads) x can.here.kind can.named).0;
         fits = front-had z.shape (can.here.size + can.free) size n can.fits;
       }
 

@@ -37,7 +37,7 @@ module _ (r : ZoneRecords) (z : ZoneState) (held : Stands r z) where
   take-none front is none = front-none r z held (sym front-is ∙ sym is ∙ none)
 
   module _ (front : ℕ) (is : front ≡ r.front) (some : front ≡ 0 → ⊥) where
-    -- it stands in front
+    -- it is in front
     pub take-first : z.heap.free_slots ≡ front ∷ drop 1 z.heap.free_slots
     take-first = first z.heap.free_slots (λ zero. some (is ∙ front-is ∙ zero)) ∙ ap (λ x. x ∷ drop 1 z.heap.free_slots) (sym (is ∙ front-is))
       where

@@ -4,7 +4,7 @@ use Rattle.mac_base.specs.declared.block.Flags.{Flags}
 use Rattle.mac_base.specs.declared.block.HeadKind.{HeadKind}
 use Rattle.mac_base.specs.declared.block.HeadKind.TheVariants.{Bits24, Bits32}
 use Rattle.mac_base.specs.HeadKind.{zone_header}
-use Rattle.mac_base.specs.ZoneMap.{address_behind, contents_of}
+use Rattle.mac_base.specs.ZoneMap.{address_after, contents_of}
 use Rattle.mac_base.specs.HandleTable.{Live, EmptyHandle, FullHandle, Pointer, live_at, live_flags, live_full, flags_of}
 use Rattle.mac_base.specs.ZoneState.{Memory, ZoneState}
 use Rattle.zone_laws.proofs.Tables.{full_handle}
@@ -26,12 +26,12 @@ use Rattle.linked_zone.proofs.Standing.{Stands, Kept, kept}
 
 -- a zone is in the bytes that its blocks are in
 pub in-from : (z : ZoneState) (bytes : List ℕ) → records.IsIn (records_of z) bytes → IsIn z bytes
-in-from z bytes is = record { all = is.all; image = subst (λ n. HasBytes (records_of z) (take (zone_header + n) bytes)) (records-total (owners_of z) z.shape (address_behind z.shape []) z.heap.map) is.image }
+in-from z bytes is = record { all = is.all; image = subst (λ n. HasBytes (records_of z) (take (zone_header + n) bytes)) (records-total (owners_of z) z.shape (address_after z.shape []) z.heap.map) is.image }
 
 pub in-to : (z : ZoneState) (bytes : List ℕ) → IsIn z bytes → records.IsIn (records_of z) bytes
-in-to z bytes is = record { all = is.all; image = subst (λ n. HasBytes (records_of z) (take (zone_header + n) bytes)) (sym (records-total (owners_of z) z.shape (address_behind z.shape []) z.heap.map)) is.image }
+in-to z bytes is = record { all = is.all; image = subst (λ n. HasBytes (records_of z) (take (zone_header + n) bytes)) (sym (records-total (owners_of z) z.shape (address_after z.shape []) z.heap.map)) is.image }
 
--- flags that differ from those which a slot said stand in slots
+-- flags that differ from those which a slot said are in slots
 other_flags : (heads : HeadKind) (bytes : List ℕ) (at : ℕ) (flags old : Flags) → flags ≡ said_flags heads bytes at (slot_flags heads old) → (flags ≡ slot_flags heads old → ⊥) → (flags ≡ said_flags heads bytes at old) × (flags ≡ old → ⊥)
 other_flags Bits24 bytes at flags old said differ = (said, differ)
 other_flags Bits32 bytes at flags old said differ = absurd (differ said)

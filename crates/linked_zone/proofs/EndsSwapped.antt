@@ -12,7 +12,7 @@ use Rattle.mac_base.specs.HeadKind.{Shape, head_size, smallest_block, need}
 use Rattle.mac_base.specs.HandleTable.{live_bytes, live_flags, is_lent}
 use Rattle.mac_base.specs.Heap.{Heap, front_slot}
 use Rattle.mac_base.specs.Suits.{is_block_size, has_length}
-use Rattle.mac_base.specs.ZoneMap.{ZoneMap, block, is_master, total_size, address_behind}
+use Rattle.mac_base.specs.ZoneMap.{ZoneMap, block, is_master, total_size, address_after}
 use Rattle.mac_base.specs.ZoneState.{ZoneState, with_heap}
 use Rattle.zone_laws.proofs.Maps.{Exchanged, list_all-exchanged}
 use Rattle.zone_laws.proofs.Owners.{none_named}
@@ -33,21 +33,21 @@ use Rattle.linked_zone.proofs.Ends.{lower, upper, parts-before, parts-after, par
 use Rattle.linked_zone.proofs.EndsSaid.{part-passes, size-room, contents-said, entry-below}
 
 -- one block is for something else
-abbrev pub block_swapped : (old new before : ZoneMap) (a b : Kind) (n : ℕ) (behind : ZoneMap) → old ≡ before ++ block a n ∷ behind → new ≡ before ++ block b n ∷ behind → Exchanged old new
-block_swapped old new before a b n behind was is = record { before = before; left = block a n ∷ []; right = block b n ∷ []; behind = behind; was = was; is = is; as_large = refl }
+abbrev pub block_swapped : (old new before : ZoneMap) (a b : Kind) (n : ℕ) (after : ZoneMap) → old ≡ before ++ block a n ∷ after → new ≡ before ++ block b n ∷ after → Exchanged old new
+block_swapped old new before a b n after was is = record { before = before; left = block a n ∷ []; right = block b n ∷ []; after = after; was = was; is = is; as_large = refl }
 
 -- the owners of a zone's slots, with the flags, the bytes and the loans of another
 abbrev pub with_table : ZoneState → ZoneState → Owners
 with_table z w = record { slot = (owners_of z).slot; flags = (owners_of w).flags; bytes = (owners_of w).bytes; lent = (owners_of w).lent }
 
-module _ (r : ZoneRecords) (z : ZoneState) (held : Stands r z) (heap : Heap) (h : ℕ) (before : ZoneMap) (a b : Kind) (n : ℕ) (behind : ZoneMap) (was : z.heap.map ≡ before ++ block a n ∷ behind)
-    (is : heap.map ≡ before ++ block b n ∷ behind) (other : is_master b ≡ false) where
+module _ (r : ZoneRecords) (z : ZoneState) (held : Stands r z) (heap : Heap) (h : ℕ) (before : ZoneMap) (a b : Kind) (n : ℕ) (after : ZoneMap) (was : z.heap.map ≡ before ++ block a n ∷ after)
+    (is : heap.map ≡ before ++ block b n ∷ after) (other : is_master b ≡ false) where
   abbrev e : Exchanged z.heap.map heap.map
-  e = block_swapped z.heap.map heap.map before a b n behind was is
+  e = block_swapped z.heap.map heap.map before a b n after was is
 
   -- the block's size is possible
   pub swapped-size : is_block_size z.shape n ≡ true
-  swapped-size = first (is_block_size z.shape n) (part-passes (λ (e : Entry). is_block_size z.shape e.size) before (block a n ∷ []) behind z.heap.map was held.sizes)
+  swapped-size = first (is_block_size z.shape n) (part-passes (λ (e : Entry). is_block_size z.shape e.size) before (block a n ∷ []) after z.heap.map was held.sizes)
     where
       first : (b : Bool) → (b && true) ≡ true → b ≡ true
       first true h = refl
@@ -64,37 +64,37 @@ module _ (r : ZoneRecords) (z : ZoneState) (held : Stands r z) (heap : Heap) (h 
   swapped-rooms = list_all-exchanged z.heap.map heap.map e (has_room z.shape) rooms_now held.rooms
 
   -- what was in the block
-  pub swapped-before : (records_of z).blocks ≡ lower (owners_of z) z.shape before ++ record_of (owners_of z) z.shape (address_behind z.shape [] + total_size before) (block a n) ∷ upper (owners_of z) z.shape before e.left behind
+  pub swapped-before : (records_of z).blocks ≡ lower (owners_of z) z.shape before ++ record_of (owners_of z) z.shape (address_after z.shape [] + total_size before) (block a n) ∷ upper (owners_of z) z.shape before e.left after
   swapped-before = parts-before z heap e
 
-  pub swapped-place : (at : ℕ) → at ≡ address_behind z.shape before → at ≡ records.address_behind z.shape (lower (owners_of z) z.shape before)
+  pub swapped-place : (at : ℕ) → at ≡ address_after z.shape before → at ≡ records.address_after z.shape (lower (owners_of z) z.shape before)
   swapped-place at is = parts-place z heap e at is
 
   -- the block's place, where it has bytes that aren't lent
-  abbrev pub block-there : (at : ℕ) → at ≡ address_behind z.shape before → has_bytes (content_of (owners_of z) ((address_behind z.shape [] + total_size before) + head_size z.shape.heads) a) ≡ true → lent_of (owners_of z) a ≡ false → places.HeldAt (records_of z) at
+  abbrev pub block-there : (at : ℕ) → at ≡ address_after z.shape before → has_bytes (content_of (owners_of z) ((address_after z.shape [] + total_size before) + head_size z.shape.heads) a) ≡ true → lent_of (owners_of z) a ≡ false → places.HeldAt (records_of z) at
   block-there at is bytes unlent = record {
     before = lower (owners_of z) z.shape before;
     size = n;
-    content = content_of (owners_of z) ((address_behind z.shape [] + total_size before) + head_size z.shape.heads) a;
-    behind = upper (owners_of z) z.shape before (block a n ∷ []) behind;
-    blocks = swapped-before ∙ ap (λ l. lower (owners_of z) z.shape before ++ record { size = n; content = content_of (owners_of z) ((address_behind z.shape [] + total_size before) + head_size z.shape.heads) a; lent = l } ∷ upper (owners_of z) z.shape before (block a n ∷ []) behind) unlent;
+    content = content_of (owners_of z) ((address_after z.shape [] + total_size before) + head_size z.shape.heads) a;
+    after = upper (owners_of z) z.shape before (block a n ∷ []) after;
+    blocks = swapped-before ∙ ap (λ l. lower (owners_of z) z.shape before ++ record { size = n; content = content_of (owners_of z) ((address_after z.shape [] + total_size before) + head_size z.shape.heads) a; lent = l } ∷ upper (owners_of z) z.shape before (block a n ∷ []) after) unlent;
     place = swapped-place at is;
     held = bytes;
   }
 
   -- with what its new owner has in it the blocks are those of the new map, where no other block is the owner's
-  pub swapped-after : (m : ZoneRecords) → none_named h before ≡ true → none_named h behind ≡ true → AgreeBut h z.heap.table heap.table
+  pub swapped-after : (m : ZoneRecords) → none_named h before ≡ true → none_named h after ≡ true → AgreeBut h z.heap.table heap.table
       → ((y : ℕ) → eqb y h ≡ false → is_lent heap.table y ≡ is_lent z.heap.table y)
       → m ≡ record {
         memory = z.memory;
         shape = z.shape;
         front = front_slot z.heap;
         blocks = lower (owners_of z) z.shape before
-            ++ record_of (with_table z (with_heap heap z)) z.shape (address_behind z.shape [] + total_size before) (block b n) ∷ upper (owners_of z) z.shape before e.left behind;
+            ++ record_of (with_table z (with_heap heap z)) z.shape (address_after z.shape [] + total_size before) (block b n) ∷ upper (owners_of z) z.shape before e.left after;
       }
       → m ≡ image z.memory z.shape (front_slot z.heap) (with_table z (with_heap heap z)) heap.map
-  swapped-after m none_before none_behind agree lents = parts-after z heap e m (front_slot z.heap) (with_table z (with_heap heap z)) (λ y _. refl) (λ y _. refl)
-      (same_but (owners_of z) (with_table z (with_heap heap z)) h before none_before same) (same_but (owners_of z) (with_table z (with_heap heap z)) h behind none_behind same)
+  swapped-after m none_before none_after agree lents = parts-after z heap e m (front_slot z.heap) (with_table z (with_heap heap z)) (λ y _. refl) (λ y _. refl)
+      (same_but (owners_of z) (with_table z (with_heap heap z)) h before none_before same) (same_but (owners_of z) (with_table z (with_heap heap z)) h after none_after same)
     where
       same : (y : ℕ) → eqb y h ≡ false → SameOf (owners_of z) (with_table z (with_heap heap z)) y
       same y apart = (ap (λ l. header_flags z.shape.heads (live_flags l)) (agree.others y apart), ap live_bytes (agree.others y apart), lents y apart)
@@ -135,20 +135,20 @@ abbrev pub free-there : (r : ZoneRecords) (z : ZoneState) → Stands r z → (at
 free-there r z held at free = record {
   before = lower (owners_of z) z.shape free.before;
   size = free.size;
-  behind = upper (owners_of z) z.shape free.before (block kind.Free free.size ∷ []) free.behind;
-  blocks = swapped-before r z held z.heap 0 free.before kind.Free kind.Free free.size free.behind free.map free.map refl;
-  place = swapped-place r z held z.heap 0 free.before kind.Free kind.Free free.size free.behind free.map free.map refl at free.place;
+  after = upper (owners_of z) z.shape free.before (block kind.Free free.size ∷ []) free.after;
+  blocks = swapped-before r z held z.heap 0 free.before kind.Free kind.Free free.size free.after free.map free.map refl;
+  place = swapped-place r z held z.heap 0 free.before kind.Free kind.Free free.size free.after free.map free.map refl at free.place;
 }
 
 module _ (r : ZoneRecords) (z : ZoneState) (held : Stands r z) (at n : ℕ) (room : RoomFor z at n) where
   abbrev free_entry : EntryAt z at
-  free_entry = record { before = room.free.before; here = block kind.Free room.free.size; behind = room.free.behind; map = room.free.map; place = room.free.place }
+  free_entry = record { before = room.free.before; here = block kind.Free room.free.size; after = room.free.after; map = room.free.map; place = room.free.place }
 
   -- the place of the free block among the blocks, where something else is to be
   abbrev pub room-there : places.RoomFor (records_of z) at n
   room-there = record {
     free = free-there r z held at room.free;
-    room = length-had z.shape room.free.size n (swapped-size r z held z.heap 0 room.free.before kind.Free kind.Free room.free.size room.free.behind room.free.map room.free.map refl) room.room;
+    room = length-had z.shape room.free.size n (swapped-size r z held z.heap 0 room.free.before kind.Free kind.Free room.free.size room.free.after room.free.map room.free.map refl) room.room;
   }
 
   -- the blocks have room there
@@ -157,7 +157,7 @@ module _ (r : ZoneRecords) (z : ZoneState) (held : Stands r z) (at n : ℕ) (roo
 
   -- its size
   pub room-size : is_block_size z.shape room.free.size ≡ true
-  room-size = swapped-size r z held z.heap 0 room.free.before kind.Free kind.Free room.free.size room.free.behind room.free.map room.free.map refl
+  room-size = swapped-size r z held z.heap 0 room.free.before kind.Free kind.Free room.free.size room.free.after room.free.map room.free.map refl
 
   -- where its contents begin can be said, and is no more than 32 bits
   pub room-said : (flags : Flags) → can_say z.shape.heads (slot.Full (slot_flags z.shape.heads flags) (at + head_size z.shape.heads)) ≡ true

@@ -7,7 +7,7 @@ use Rattle.mac_base.specs.HeadKind.{head_size}
 use Rattle.mac_base.specs.Heap.{front_slot}
 use Rattle.mac_base.specs.Loans.{is_here}
 use Rattle.mac_base.specs.Suits.{is_block_size}
-use Rattle.mac_base.specs.ZoneMap.{ZoneMap, block, is_named, total_size, address_behind, contents_of}
+use Rattle.mac_base.specs.ZoneMap.{ZoneMap, block, is_named, total_size, address_after, contents_of}
 use Rattle.mac_base.specs.ZoneState.{ZoneState}
 use Rattle.zone_laws.proofs.Maps.{total_size-append, total_size-exchanged, list_all-exchanged}
 use Rattle.zone_records.specs.Changes as changes
@@ -51,13 +51,13 @@ module _ (r : ZoneRecords) (z : ZoneState) (held : Stands r z) (runs : TwoRuns z
   now = turned z runs
 
   abbrev first_at : ℕ
-  first_at = address_behind z.shape [] + total_size runs.before
+  first_at = address_after z.shape [] + total_size runs.before
 
   -- what all blocks of both runs pass they pass in the other order
   passes_now : (p : Entry → Bool) → list_all p z.heap.map ≡ true → list_all p now.heap.map ≡ true
   passes_now p all =
       let x = runs_exchange z runs in
-      list_all-exchanged z.heap.map now.heap.map x p (all-turned p runs.first runs.second (part-passes p runs.before x.left runs.behind z.heap.map x.was all)) all
+      list_all-exchanged z.heap.map now.heap.map x p (all-turned p runs.first runs.second (part-passes p runs.before x.left runs.after z.heap.map x.was all)) all
 
   -- the blocks of the changed zone stand for it
   stands_now : Stands (records_of (turned z runs)) (turned z runs)
@@ -73,18 +73,18 @@ module _ (r : ZoneRecords) (z : ZoneState) (held : Stands r z) (runs : TwoRuns z
   }
 
   -- with the blocks in their new places, slots may say the old ones
-  pub turned-misplaced : (m : ZoneRecords) (start end a b : ℕ) → start ≡ address_behind z.shape runs.before → end ≡ start + total_size (runs.first ++ runs.second) → m ≡ record {
+  pub turned-misplaced : (m : ZoneRecords) (start end a b : ℕ) → start ≡ address_after z.shape runs.before → end ≡ start + total_size (runs.first ++ runs.second) → m ≡ record {
     memory = z.memory;
     shape = z.shape;
     front = front_slot z.heap;
-    blocks = lower (owners_of z) z.shape runs.before ++ (records_from (owners_of z) z.shape a runs.second ++ (records_from (owners_of z) z.shape b runs.first ++ upper (owners_of z) z.shape runs.before (runs.first ++ runs.second) runs.behind));
+    blocks = lower (owners_of z) z.shape runs.before ++ (records_from (owners_of z) z.shape a runs.second ++ (records_from (owners_of z) z.shape b runs.first ++ upper (owners_of z) z.shape runs.before (runs.first ++ runs.second) runs.after));
   } → (run : Misplaced m start end) × (run.zone ≡ turned z runs)
   turned-misplaced m start end a b place long is =
       let o = owners_of z in
       let s = z.shape in
       let x = runs_exchange z runs in
       let moves = runs-move z runs in
-      let above = upper o s runs.before x.left runs.behind in
+      let above = upper o s runs.before x.left runs.after in
       let second_end = first_at + total_size runs.second in
       let stands = kept (records_of now) now stands_now in
       let parts : records_from o s a runs.second ++ (records_from o s b runs.first ++ above) ≡ middle o s runs.before (runs.second ++ runs.first) ++ above =
@@ -95,7 +95,7 @@ module _ (r : ZoneRecords) (z : ZoneState) (held : Stands r z) (runs : TwoRuns z
           zone = now;
           before = runs.before;
           run = runs.second ++ runs.first;
-          behind = runs.behind;
+          after = runs.after;
           said = λ y. contents_of s y z.heap.map;
           same = stands.same;
           stands = stands.inside;
@@ -114,22 +114,22 @@ module _ (r : ZoneRecords) (z : ZoneState) (held : Stands r z) (runs : TwoRuns z
   pub turned-kept : {m : ZoneRecords} {start end : ℕ} → (run : Misplaced m start end) × (run.zone ≡ turned z runs) → (n : ZoneRecords) → ((run : Misplaced m start end) → n ≡ records_of run.zone) → Kept n (turned z runs)
   turned-kept placed n follows = subst (λ n. Kept n (turned z runs)) (sym (follows placed.0 ∙ ap records_of placed.1)) (kept (records_of now) now stands_now)
 
--- ---- a block behind others
+-- ---- a block after others
 
 module _ {at end : ℕ} (r : ZoneRecords) (z : ZoneState) (held : Stands r z) (parcel : ParcelAt z at end) where
   -- the block and the others
   abbrev pub carry_runs : TwoRuns z
-  carry_runs = record { before = parcel.before; first = parcel.here ∷ []; second = parcel.blocks; behind = parcel.behind; map = parcel.map; moves = parcel.moves }
+  carry_runs = record { before = parcel.before; first = parcel.here ∷ []; second = parcel.blocks; after = parcel.after; map = parcel.map; moves = parcel.moves }
 
   abbrev carry_start : ℕ
-  carry_start = address_behind z.shape [] + total_size parcel.before
+  carry_start = address_after z.shape [] + total_size parcel.before
 
   abbrev carry_there : places.ParcelAt (records_of z) at end
   carry_there = record {
     before = lower (owners_of z) z.shape parcel.before;
     here = record_of (owners_of z) z.shape carry_start parcel.here;
     others = records_from (owners_of z) z.shape (carry_start + (parcel.here).size) parcel.blocks;
-    behind = upper (owners_of z) z.shape parcel.before (parcel.here ∷ parcel.blocks) parcel.behind;
+    after = upper (owners_of z) z.shape parcel.before (parcel.here ∷ parcel.blocks) parcel.after;
     blocks = parts-before z (turned z carry_runs).heap (runs_exchange z carry_runs);
     place = parts-place z (turned z carry_runs).heap (runs_exchange z carry_runs) at parcel.place;
     long = parcel.long ∙ ap (λ n. at + n) (sym (records-total (owners_of z) z.shape carry_start (parcel.here ∷ parcel.blocks)));
@@ -158,18 +158,18 @@ module _ {at end : ℕ} (r : ZoneRecords) (z : ZoneState) (held : Stands r z) (p
 module _ {start at : ℕ} (r : ZoneRecords) (z : ZoneState) (held : Stands r z) (parcel : ParcelUpTo z start at) where
   -- the others and the block
   abbrev pub sink_runs : TwoRuns z
-  sink_runs = record { before = parcel.before; first = parcel.blocks; second = parcel.here ∷ []; behind = parcel.behind; map = parcel.map; moves = parcel.moves }
+  sink_runs = record { before = parcel.before; first = parcel.blocks; second = parcel.here ∷ []; after = parcel.after; map = parcel.map; moves = parcel.moves }
 
   abbrev sink_start : ℕ
-  sink_start = address_behind z.shape [] + total_size parcel.before
+  sink_start = address_after z.shape [] + total_size parcel.before
 
-  -- the block stands in the zone
+  -- the block is in the zone
   abbrev sink_entry : EntryAt z at
   sink_entry = record {
     before = parcel.before ++ parcel.blocks;
     here = parcel.here;
-    behind = parcel.behind;
-    map = parcel.map ∙ sym (append_assoc parcel.before parcel.blocks (parcel.here ∷ parcel.behind));
+    after = parcel.after;
+    map = parcel.map ∙ sym (append_assoc parcel.before parcel.blocks (parcel.here ∷ parcel.after));
     place = (let sum = total_size-append parcel.before parcel.blocks in let place = parcel.place in let long = parcel.long in omega arith);
   }
 
@@ -192,10 +192,10 @@ module _ {start at : ℕ} (r : ZoneRecords) (z : ZoneState) (held : Stands r z) 
     before = lower (owners_of z) z.shape parcel.before;
     others = records_from (owners_of z) z.shape sink_start parcel.blocks;
     here = record_of (owners_of z) z.shape (sink_start + total_size parcel.blocks) parcel.here;
-    behind = upper (owners_of z) z.shape parcel.before (parcel.blocks ++ parcel.here ∷ []) parcel.behind;
+    after = upper (owners_of z) z.shape parcel.before (parcel.blocks ++ parcel.here ∷ []) parcel.after;
     blocks = parts-before z (turned z sink_runs).heap (runs_exchange z sink_runs)
-        ∙ ap (λ bs. lower (owners_of z) z.shape parcel.before ++ bs) (ap (λ bs. bs ++ upper (owners_of z) z.shape parcel.before (parcel.blocks ++ parcel.here ∷ []) parcel.behind) (records_from-append (owners_of z) z.shape sink_start parcel.blocks (parcel.here ∷ []))
-        ∙ append_assoc (records_from (owners_of z) z.shape sink_start parcel.blocks) (record_of (owners_of z) z.shape (sink_start + total_size parcel.blocks) parcel.here ∷ []) (upper (owners_of z) z.shape parcel.before (parcel.blocks ++ parcel.here ∷ []) parcel.behind));
+        ∙ ap (λ bs. lower (owners_of z) z.shape parcel.before ++ bs) (ap (λ bs. bs ++ upper (owners_of z) z.shape parcel.before (parcel.blocks ++ parcel.here ∷ []) parcel.after) (records_from-append (owners_of z) z.shape sink_start parcel.blocks (parcel.here ∷ []))
+        ∙ append_assoc (records_from (owners_of z) z.shape sink_start parcel.blocks) (record_of (owners_of z) z.shape (sink_start + total_size parcel.blocks) parcel.here ∷ []) (upper (owners_of z) z.shape parcel.before (parcel.blocks ++ parcel.here ∷ []) parcel.after));
     place = parts-place z (turned z sink_runs).heap (runs_exchange z sink_runs) start parcel.place;
     long = parcel.long ∙ ap (λ n. start + n) (sym (records-total (owners_of z) z.shape sink_start parcel.blocks));
     unlent = ap places.none_lent (sym (records_from-append (owners_of z) z.shape sink_start parcel.blocks (parcel.here ∷ []))) ∙ run-unlent z sink_start (parcel.blocks ++ parcel.here ∷ []) parcel.moves;

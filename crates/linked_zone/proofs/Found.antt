@@ -10,7 +10,7 @@ use Rattle.mac_base.specs.declared.block.HeadKind.TheVariants.{Bits24, Bits32}
 use Rattle.mac_base.specs.declared.block.Kind.{Kind}
 use Rattle.mac_base.specs.declared.block.Kind.TheVariants as kind
 use Rattle.mac_base.specs.HeadKind.{head_size}
-use Rattle.mac_base.specs.ZoneMap.{ZoneMap, block, is_named, addresses_from, address_behind, contents_of, total_size}
+use Rattle.mac_base.specs.ZoneMap.{ZoneMap, block, is_named, addresses_from, address_after, contents_of, total_size}
 use Rattle.mac_base.specs.HandleTable.{Live, EmptyHandle, FullHandle, Pointer, live_at, live_full, live_flags, live_handle, live_pointer, no_flags, flags_of, is_full, is_handle, is_pointer, has_block, is_lent, bytes_of}
 use Rattle.mac_base.specs.Suits.{slots, is_handle_block, is_pointer_block, wanted_length}
 use Rattle.mac_base.specs.ZoneState.{ZoneState}
@@ -37,7 +37,7 @@ use Rattle.linked_zone.proofs.Located.{of-entry, of-record, entry-pointer, entry
 -- ---- the zone's sizes
 
 pub sizes-read : (r : ZoneRecords) (z : ZoneState) → Stands r z → records.sizes_of r ≡ sizes_of z
-sizes-read r z stands = ap records.sizes_of stands.blocks ∙ ap (λ n. record { heads = z.shape.heads; base = z.shape.base; size = 52 + n; limit = z.shape.limit }) (records-total (owners_of z) z.shape (address_behind z.shape []) z.heap.map)
+sizes-read r z stands = ap records.sizes_of stands.blocks ∙ ap (λ n. record { heads = z.shape.heads; base = z.shape.base; size = 52 + n; limit = z.shape.limit }) (records-total (owners_of z) z.shape (address_after z.shape []) z.heap.map)
 
 -- how many bytes a header has
 pub head-read : (r : ZoneRecords) (z : ZoneState) → Stands r z → (heads : HeadKind) (n : ℕ) → heads ≡ (records.sizes_of r).heads → n ≡ head_size heads → n ≡ head_size z.shape.heads
@@ -145,7 +145,7 @@ pub record OfHandle (r : ZoneRecords) (z : ZoneState) (h at : ℕ) : Type 0 wher
 
 pub of-handle : (r : ZoneRecords) (z : ZoneState) → Stands r z → (h at : ℕ) → BlockOf z h at → OfHandle r z h at
 of-handle r z stands h at b =
-    let mine = of-entry r z stands.blocks at (record { before = b.before; here = block (kind.Rel h) b.size; behind = b.behind; map = b.map; place = b.place }) in
+    let mine = of-entry r z stands.blocks at (record { before = b.before; here = block (kind.Rel h) b.size; after = b.after; map = b.map; place = b.place }) in
     let there = mine.there in
     record {
       there = record {
@@ -155,8 +155,8 @@ of-handle r z stands h at b =
         flags = header_flags z.shape.heads (flags_of z.heap.table h);
         bytes = bytes_of z.heap.table h;
         lent = is_lent z.heap.table h;
-        behind = there.behind;
-        blocks = there.blocks ∙ ap (λ b. there.before ++ b ∷ there.behind) mine.here;
+        after = there.after;
+        blocks = there.blocks ∙ ap (λ b. there.before ++ b ∷ there.after) mine.here;
         place = there.place;
       };
       says = refl;
@@ -164,7 +164,7 @@ of-handle r z stands h at b =
 
 -- the block at an address is that of a handle
 pub handle-block : (z : ZoneState) (h at : ℕ) (e : EntryAt z at) → e.here.kind ≡ kind.Rel h → BlockOf z h at
-handle-block z h at e is = record { before = e.before; size = e.here.size; behind = e.behind; map = e.map ∙ ap (λ k. e.before ++ block k e.here.size ∷ e.behind) is; place = e.place }
+handle-block z h at e is = record { before = e.before; size = e.here.size; after = e.after; map = e.map ∙ ap (λ k. e.before ++ block k e.here.size ∷ e.after) is; place = e.place }
 
 -- the block of a handle whose slot says where its contents begin
 pub record FullSlot (z : ZoneState) (h : ℕ) (flags : Flags) (contents head : ℕ) : Type 0 where
@@ -195,8 +195,8 @@ full-other z x other = ap (λ b. is_full z.heap.table x || b) other ∙ by_test 
 record Passing (at : ℕ) (test : Kind → Bool) (m : ZoneMap) (a : ℕ) : Type 0 where
   before : ZoneMap
   here : Entry
-  behind : ZoneMap
-  was : m ≡ before ++ here ∷ behind
+  after : ZoneMap
+  was : m ≡ before ++ here ∷ after
   passes : test here.kind ≡ true
   place : a ≡ at + total_size before
 
@@ -209,12 +209,12 @@ passing at test (e ∷ es) a c = by_cases (test e.kind) refl (Contains-append_ca
         → (Contains (addresses_from (at + e.size) test es) a → Passing (at + e.size) test es a) → Passing at test (e ∷ es) a
     by_cases true is (inl first) rest =
         let same : at ≡ a = elim (Contains-cons_cases at [] a first) [ inl same ↦ same | inr none ↦ absurd (Contains-none a none) ] in
-        record { before = []; here = e; behind = es; was = refl; passes = is; place = omega arith }
+        record { before = []; here = e; after = es; was = refl; passes = is; place = omega arith }
     by_cases false is (inl none) rest = absurd (Contains-none a none)
     by_cases b is (inr later) rest =
         let r = rest later in
         let place = r.place in
-        record { before = e ∷ r.before; here = r.here; behind = r.behind; was = ap (λ (m : ZoneMap). e ∷ m) r.was; passes = r.passes; place = omega arith }
+        record { before = e ∷ r.before; here = r.here; after = r.after; was = ap (λ (m : ZoneMap). e ∷ m) r.was; passes = r.passes; place = omega arith }
 
 pointer_kind : (p : ℕ) (k : Kind) → is_pointer_block p k ≡ true → k ≡ kind.Ptr p
 pointer_kind p kind.Free is = absurd (cc is)
@@ -233,21 +233,21 @@ pub record PointerBlock (z : ZoneState) (p : ℕ) : Type 0 where
 pub pointer-block : (z : ZoneState) → Fits z → HasRooms z → (p : ℕ) → is_pointer z.heap.table p ≡ true → PointerBlock z p
 pointer-block z fits rooms p live =
     let found = pointer_place z fits rooms p live in
-    let b = passing (address_behind z.shape []) (is_pointer_block p) z.heap.map found.0 found.1 in
+    let b = passing (address_after z.shape []) (is_pointer_block p) z.heap.map found.0 found.1 in
     let place = b.place in
     record {
       at = found.0;
-      entry = record { before = b.before; here = b.here; behind = b.behind; map = b.was; place = omega arith };
+      entry = record { before = b.before; here = b.here; after = b.after; map = b.was; place = omega arith };
       kind = pointer_kind p b.here.kind b.passes;
       number = sym found.2;
     }
 
 -- where no block passes a test, the one at a place doesn't
-passes-not : (at : ℕ) (test : Kind → Bool) (before : ZoneMap) (e : Entry) (behind : ZoneMap) → addresses_from at test (before ++ e ∷ behind) ≡ [] → test e.kind ≡ false
-passes-not at test [] e behind none = (nothing_passes (test e.kind) at (addresses_from (at + e.size) test behind) none).0
-passes-not at test (f ∷ before) e behind none = passes-not (at + f.size) test before e behind (nothing_passes (test f.kind) at (addresses_from (at + f.size) test (before ++ e ∷ behind)) none).1
+passes-not : (at : ℕ) (test : Kind → Bool) (before : ZoneMap) (e : Entry) (after : ZoneMap) → addresses_from at test (before ++ e ∷ after) ≡ [] → test e.kind ≡ false
+passes-not at test [] e after none = (nothing_passes (test e.kind) at (addresses_from (at + e.size) test after) none).0
+passes-not at test (f ∷ before) e after none = passes-not (at + f.size) test before e after (nothing_passes (test f.kind) at (addresses_from (at + f.size) test (before ++ e ∷ after)) none).1
 
--- the handle whose block stands in the map has a block
+-- the handle whose block is in the map has a block
 pub block-full : (z : ZoneState) → Fits z → (at h : ℕ) (e : EntryAt z at) → e.here.kind ≡ kind.Rel h → is_full z.heap.table h ≡ true
 block-full z fits at h e is = by_test (is_full z.heap.table h) refl
   where
@@ -255,7 +255,7 @@ block-full z fits at h e is = by_test (is_full z.heap.table h) refl
     by_test true full = refl
     by_test false empty =
         let none = nil_from_length _ (fits.coherent.handles h ∙ ap (λ b. cond b 1 0) empty) in
-        let passes = passes-not (address_behind z.shape []) (is_handle_block h) e.before e.here e.behind (ap (addresses_from (address_behind z.shape []) (is_handle_block h)) (sym e.map) ∙ none) in
+        let passes = passes-not (address_after z.shape []) (is_handle_block h) e.before e.here e.after (ap (addresses_from (address_after z.shape []) (is_handle_block h)) (sym e.map) ∙ none) in
         absurd (cc (passes, ap (is_handle_block h) is, eqb_same h))
 
 module _ (r : ZoneRecords) (z : ZoneState) (stands : Stands r z) where
@@ -288,14 +288,14 @@ module _ (r : ZoneRecords) (z : ZoneState) (stands : Stands r z) where
       let e = mine.entry in
       let number = mine.number in
       let same : mine.at ≡ p - head_size z.shape.heads = omega arith in
-      let place : NamedAt z p mine.at = record { before = e.before; here = e.here; behind = e.behind; map = e.map; place = e.place; named = ap (is_named p) mine.kind ∙ eqb_same p } in
+      let place : NamedAt z p mine.at = record { before = e.before; here = e.here; after = e.after; map = e.map; place = e.place; named = ap (is_named p) mine.kind ∙ eqb_same p } in
       (omega arith, subst (NamedAt z p) same place)
 
   -- that of a handle's block
   pub handle-named : (h at : ℕ) → BlockOf z h at → NamedAt z h at
-  handle-named h at b = record { before = b.before; here = block (kind.Rel h) b.size; behind = b.behind; map = b.map; place = b.place; named = eqb_same h }
+  handle-named h at b = record { before = b.before; here = block (kind.Rel h) b.size; after = b.after; map = b.map; place = b.place; named = eqb_same h }
 
-  -- the handle whose block stands in the map is live
+  -- the handle whose block is in the map is live
   handle-live : (at h : ℕ) (e : EntryAt z at) → e.here.kind ≡ kind.Rel h → is_handle z.heap.table h ≡ true
   handle-live at h e is = full_handle z.heap.table h (block-full z stands.fits at h e is)
 
@@ -338,7 +338,7 @@ pub record OfNamed (r : ZoneRecords) (z : ZoneState) (x at : ℕ) : Type 0 where
 
 pub of-named : (r : ZoneRecords) (z : ZoneState) → Stands r z → (x at : ℕ) → is_lent z.heap.table x ≡ false → NamedAt z x at → OfNamed r z x at
 of-named r z stands x at unlent n =
-    let mine = of-entry r z stands.blocks at (record { before = n.before; here = n.here; behind = n.behind; map = n.map; place = n.place }) in
+    let mine = of-entry r z stands.blocks at (record { before = n.before; here = n.here; after = n.after; map = n.map; place = n.place }) in
     let there = mine.there in
     let held = named-held (owners_of z) (at + head_size z.shape.heads) x n.here.kind n.named in
     record {
@@ -346,9 +346,9 @@ of-named r z stands x at unlent n =
         before = there.before;
         size = n.here.size;
         content = content_of (owners_of z) (at + head_size z.shape.heads) n.here.kind;
-        behind = there.behind;
-        blocks = there.blocks ∙ ap (λ b. there.before ++ b ∷ there.behind) mine.here
-            ∙ ap (λ l. there.before ++ record { size = n.here.size; content = content_of (owners_of z) (at + head_size z.shape.heads) n.here.kind; lent = l } ∷ there.behind) (named-lent (owners_of z) x n.here.kind n.named ∙ unlent);
+        after = there.after;
+        blocks = there.blocks ∙ ap (λ b. there.before ++ b ∷ there.after) mine.here
+            ∙ ap (λ l. there.before ++ record { size = n.here.size; content = content_of (owners_of z) (at + head_size z.shape.heads) n.here.kind; lent = l } ∷ there.after) (named-lent (owners_of z) x n.here.kind n.named ∙ unlent);
         place = there.place;
         held = held.0;
       };

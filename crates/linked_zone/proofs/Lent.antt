@@ -58,10 +58,10 @@ owners-none x (e ∷ es) none =
     by_kind (Rel g) h = ap (λ b. b || false) (not-true _ h)
 
 -- and what names one is one
-pub owners-some : (x : ℕ) (before : ZoneMap) (e : Entry) (behind : ZoneMap) → is_named x e.kind ≡ true → list_any (λ y. eqb y x) (owners (before ++ e ∷ behind)) ≡ true
-owners-some x before e behind named =
-    ap (list_any (λ y. eqb y x)) (owners-append before (e ∷ behind) ∙ ap (λ os. owners before ++ (os ++ owners behind)) (owner-named x e.kind named))
-    ∙ list_any-append (λ y. eqb y x) (owners before) (x ∷ owners behind) ∙ ap (λ b. list_any (λ y. eqb y x) (owners before) || (b || list_any (λ y. eqb y x) (owners behind))) (eqb_same x)
+pub owners-some : (x : ℕ) (before : ZoneMap) (e : Entry) (after : ZoneMap) → is_named x e.kind ≡ true → list_any (λ y. eqb y x) (owners (before ++ e ∷ after)) ≡ true
+owners-some x before e after named =
+    ap (list_any (λ y. eqb y x)) (owners-append before (e ∷ after) ∙ ap (λ os. owners before ++ (os ++ owners after)) (owner-named x e.kind named))
+    ∙ list_any-append (λ y. eqb y x) (owners before) (x ∷ owners after) ∙ ap (λ b. list_any (λ y. eqb y x) (owners before) || (b || list_any (λ y. eqb y x) (owners after))) (eqb_same x)
     ∙ or_true (list_any (λ y. eqb y x) (owners before))
   where
     or_true : (b : Bool) → (b || true) ≡ true
@@ -86,19 +86,19 @@ loans-kept heap now fit same others = record {
 }
 
 -- the lent ones of a map in three parts
-pub lents-parts : (f : ℕ → Bool) (before part behind : ZoneMap) → filter f (owners (before ++ (part ++ behind))) ≡ filter f (owners before) ++ (filter f (owners part) ++ filter f (owners behind))
-lents-parts f before part behind =
-    ap (filter f) (owners-append before (part ++ behind) ∙ ap (λ os. owners before ++ os) (owners-append part behind))
-    ∙ filter-append f (owners before) (owners part ++ owners behind) ∙ ap (λ xs. filter f (owners before) ++ xs) (filter-append f (owners part) (owners behind))
+pub lents-parts : (f : ℕ → Bool) (before part after : ZoneMap) → filter f (owners (before ++ (part ++ after))) ≡ filter f (owners before) ++ (filter f (owners part) ++ filter f (owners after))
+lents-parts f before part after =
+    ap (filter f) (owners-append before (part ++ after) ∙ ap (λ os. owners before ++ os) (owners-append part after))
+    ∙ filter-append f (owners before) (owners part ++ owners after) ∙ ap (λ xs. filter f (owners before) ++ xs) (filter-append f (owners part) (owners after))
 
 -- with another part, of which the same ones are lent, they are the same
-pub loans-replaced : (heap now : Heap) (before left right behind : ZoneMap) → LoansFit heap → now.table.lent ≡ heap.table.lent → heap.map ≡ before ++ (left ++ behind) → now.map ≡ before ++ (right ++ behind)
+pub loans-replaced : (heap now : Heap) (before left right after : ZoneMap) → LoansFit heap → now.table.lent ≡ heap.table.lent → heap.map ≡ before ++ (left ++ after) → now.map ≡ before ++ (right ++ after)
     → filter (is_lent heap.table) (owners right) ≡ filter (is_lent heap.table) (owners left) → LoansFit now
-loans-replaced heap now before left right behind fit lent was is same =
+loans-replaced heap now before left right after fit lent was is same =
     let f = is_lent heap.table in
     loans-kept heap now fit lent
-    (ap (λ m. filter f (owners m)) is ∙ lents-parts f before right behind ∙ ap (λ xs. filter f (owners before) ++ (xs ++ filter f (owners behind))) same
-    ∙ sym (ap (λ m. filter f (owners m)) was ∙ lents-parts f before left behind))
+    (ap (λ m. filter f (owners m)) is ∙ lents-parts f before right after ∙ ap (λ xs. filter f (owners before) ++ (xs ++ filter f (owners after))) same
+    ∙ sym (ap (λ m. filter f (owners m)) was ∙ lents-parts f before left after))
 
 -- a block that isn't lent adds none
 pub here-skip : (t : HandleTable) (e : Entry) (es : ZoneMap) → is_here t e.kind ≡ true → filter (is_lent t) (owners (e ∷ es)) ≡ filter (is_lent t) (owners es)
@@ -119,7 +119,7 @@ filter-others f g x (y ∷ ys) none same =
     let parts = or_parts (eqb y x) (list_any (λ y. eqb y x) ys) none in
     ap (λ b. cond b (y ∷ filter f ys) (filter f ys)) (same y parts.0) ∙ ap (λ zs. cond (g y) (y ∷ zs) zs) (filter-others f g x ys parts.1 same)
 
-module _ (heap : Heap) (fit : LoansFit heap) (x : ℕ) (before : ZoneMap) (e : Entry) (behind : ZoneMap) (was : heap.map ≡ before ++ e ∷ behind) (named : is_named x e.kind ≡ true) where
+module _ (heap : Heap) (fit : LoansFit heap) (x : ℕ) (before : ZoneMap) (e : Entry) (after : ZoneMap) (was : heap.map ≡ before ++ e ∷ after) (named : is_named x e.kind ≡ true) where
   abbrev now : ℕ → Bool
   now y = eqb y x || is_lent heap.table y
 
@@ -127,7 +127,7 @@ module _ (heap : Heap) (fit : LoansFit heap) (x : ℕ) (before : ZoneMap) (e : E
   pub lent_out-test : (y : ℕ) → is_lent (lent_out x heap).table y ≡ (eqb y x || is_lent heap.table y)
   lent_out-test y = any-filter_same (λ z. eqb z y) now (now y) (λ z is. ap now (eqb-true z y is)) (owners heap.map)
       ∙ by_test (eqb y x) (is_lent heap.table y) (list_any (λ z. eqb z y) (owners heap.map))
-      (λ same. ap (λ n. list_any (λ z. eqb z n) (owners heap.map)) (eqb-true y x same) ∙ ap (λ m. list_any (λ z. eqb z x) (owners m)) was ∙ owners-some x before e behind named) (lent-owned heap fit y)
+      (λ same. ap (λ n. list_any (λ z. eqb z n) (owners heap.map)) (eqb-true y x same) ∙ ap (λ m. list_any (λ z. eqb z x) (owners m)) was ∙ owners-some x before e after named) (lent-owned heap fit y)
     where
       by_test : (a l o : Bool) → (a ≡ true → o ≡ true) → l ≡ (l && o) → ((a || l) && o) ≡ (a || l)
       by_test true l o some owned = some refl
@@ -135,11 +135,11 @@ module _ (heap : Heap) (fit : LoansFit heap) (x : ℕ) (before : ZoneMap) (e : E
       by_test false false o some owned = refl
 
   -- what is lent fits, where one more may be
-  pub lent_out-fits : none_named x before ≡ true → none_named x behind ≡ true → length heap.table.lent < most_loans → LoansFit (lent_out x heap)
-  lent_out-fits none_before none_behind few =
+  pub lent_out-fits : none_named x before ≡ true → none_named x after ≡ true → length heap.table.lent < most_loans → LoansFit (lent_out x heap)
+  lent_out-fits none_before none_after few =
       let others : (y : ℕ) → eqb y x ≡ false → now y ≡ is_lent heap.table y = λ y apart. ap (λ b. b || is_lent heap.table y) apart in
       let lower = filter-others now (is_lent heap.table) x (owners before) (owners-none x before none_before) others in
-      let upper = filter-others now (is_lent heap.table) x (owners behind) (owners-none x behind none_behind) others in
+      let upper = filter-others now (is_lent heap.table) x (owners after) (owners-none x after none_after) others in
       let old = ap length fit.in_order ∙ count (is_lent heap.table) in
       let new = count now in
       let first = ap length lower in
@@ -148,10 +148,10 @@ module _ (heap : Heap) (fit : LoansFit heap) (x : ℕ) (before : ZoneMap) (e : E
       let one = at_most (now x) in
       record { in_order = sym (filter_agree (is_lent (lent_out x heap).table) now lent_out-test (owners heap.map)); few = omega arith }
     where
-      count : (f : ℕ → Bool) → length (filter f (owners heap.map)) ≡ length (filter f (owners before)) + (length (filter f (owners (e ∷ []))) + length (filter f (owners behind)))
-      count f = ap length (ap (λ m. filter f (owners m)) was ∙ lents-parts f before (e ∷ []) behind)
-          ∙ length-append (filter f (owners before)) (filter f (owners (e ∷ [])) ++ filter f (owners behind))
-          ∙ ap (λ n. length (filter f (owners before)) + n) (length-append (filter f (owners (e ∷ []))) (filter f (owners behind)))
+      count : (f : ℕ → Bool) → length (filter f (owners heap.map)) ≡ length (filter f (owners before)) + (length (filter f (owners (e ∷ []))) + length (filter f (owners after)))
+      count f = ap length (ap (λ m. filter f (owners m)) was ∙ lents-parts f before (e ∷ []) after)
+          ∙ length-append (filter f (owners before)) (filter f (owners (e ∷ [])) ++ filter f (owners after))
+          ∙ ap (λ n. length (filter f (owners before)) + n) (length-append (filter f (owners (e ∷ []))) (filter f (owners after)))
 
       at_most : (b : Bool) → length (cond b (x ∷ []) []) ≤ 1
       at_most true = omega arith

@@ -6,7 +6,7 @@ use Rattle.mac_base.specs.declared.block.Entry.{Entry}
 use Rattle.mac_base.specs.declared.block.Kind.{Kind}
 use Rattle.mac_base.specs.declared.block.Kind.TheVariants as kind
 use Rattle.mac_base.specs.HeadKind.{Shape, head_size, slot_count}
-use Rattle.mac_base.specs.ZoneMap.{ZoneMap, block, is_master, total_size, address_behind}
+use Rattle.mac_base.specs.ZoneMap.{ZoneMap, block, is_master, total_size, address_after}
 use Rattle.mac_base.specs.ZoneMap as map
 use Rattle.mac_base.specs.HandleTable.{HandleTable}
 use Rattle.mac_base.specs.Suits.{slots, slots_from}
@@ -29,14 +29,14 @@ use Rattle.linked_zone.proofs.ReadBack.{all-pointers}
 -- the block at an entry's address
 pub record OfEntry (r : ZoneRecords) (z : ZoneState) (at : ℕ) (e : EntryAt z at) : Type 0 where
   pub there : RecordAt r at
-  pub lower : there.before ≡ records_from (owners_of z) z.shape (address_behind z.shape []) e.before
+  pub lower : there.before ≡ records_from (owners_of z) z.shape (address_after z.shape []) e.before
   pub here : there.here ≡ record_of (owners_of z) z.shape at e.here
-  pub higher : there.behind ≡ records_from (owners_of z) z.shape (at + e.here.size) e.behind
+  pub higher : there.after ≡ records_from (owners_of z) z.shape (at + e.here.size) e.after
 
 pub of-entry : (r : ZoneRecords) (z : ZoneState) → r ≡ records_of z → (at : ℕ) (e : EntryAt z at) → OfEntry r z at e
 of-entry r z is at e = subst (λ r. OfEntry r z at e) (sym is) (
     let o = owners_of z in
-    let start = address_behind z.shape [] in
+    let start = address_after z.shape [] in
     let place = e.place in
     let total = records-total o z.shape start e.before in
     let same : start + total_size e.before ≡ at = omega arith in
@@ -44,31 +44,31 @@ of-entry r z is at e = subst (λ r. OfEntry r z at e) (sym is) (
       there = record {
         before = records_from o z.shape start e.before;
         here = record_of o z.shape (start + total_size e.before) e.here;
-        behind = records_from o z.shape ((start + total_size e.before) + e.here.size) e.behind;
-        blocks = ap (records_from o z.shape start) e.map ∙ records_from-append o z.shape start e.before (e.here ∷ e.behind);
+        after = records_from o z.shape ((start + total_size e.before) + e.here.size) e.after;
+        blocks = ap (records_from o z.shape start) e.map ∙ records_from-append o z.shape start e.before (e.here ∷ e.after);
         place = omega arith;
       };
       lower = refl;
       here = ap (λ a. record_of o z.shape a e.here) same;
-      higher = ap (λ a. records_from o z.shape (a + e.here.size) e.behind) same;
+      higher = ap (λ a. records_from o z.shape (a + e.here.size) e.after) same;
     })
 
 -- ---- the entry of a block
 
 -- the entry of one of a map's blocks, the first at an address
-record Apart (o : Owners) (s : Shape) (at : ℕ) (m : ZoneMap) (before : List BlockRecord) (here : BlockRecord) (behind : List BlockRecord) : Type 0 where
+record Apart (o : Owners) (s : Shape) (at : ℕ) (m : ZoneMap) (before : List BlockRecord) (here : BlockRecord) (after : List BlockRecord) : Type 0 where
   low : ZoneMap
   e : Entry
   high : ZoneMap
   is : m ≡ low ++ e ∷ high
   lower : before ≡ records_from o s at low
   there : here ≡ record_of o s (at + total_size low) e
-  higher : behind ≡ records_from o s ((at + total_size low) + e.size) high
+  higher : after ≡ records_from o s ((at + total_size low) + e.size) high
 
-apart : (o : Owners) (s : Shape) (at : ℕ) (m : ZoneMap) (before : List BlockRecord) (here : BlockRecord) (behind : List BlockRecord) → records_from o s at m ≡ before ++ here ∷ behind → Apart o s at m before here behind
-apart o s at [] [] here behind is = absurd (cc is)
-apart o s at [] (b ∷ before) here behind is = absurd (cc is)
-apart o s at (e ∷ es) [] here behind is =
+apart : (o : Owners) (s : Shape) (at : ℕ) (m : ZoneMap) (before : List BlockRecord) (here : BlockRecord) (after : List BlockRecord) → records_from o s at m ≡ before ++ here ∷ after → Apart o s at m before here after
+apart o s at [] [] here after is = absurd (cc is)
+apart o s at [] (b ∷ before) here after is = absurd (cc is)
+apart o s at (e ∷ es) [] here after is =
     let same : at + total_size [] ≡ at = omega arith in record {
       low = [];
       e = e;
@@ -76,13 +76,13 @@ apart o s at (e ∷ es) [] here behind is =
       is = refl;
       lower = refl;
       there = (let first : record_of o s at e ≡ here = cc is in sym first ∙ ap (λ a. record_of o s a e) (sym same));
-      higher = (let rest : records_from o s (at + e.size) es ≡ behind = cc is in sym rest ∙ ap (λ a. records_from o s (a + e.size) es) (sym same));
+      higher = (let rest : records_from o s (at + e.size) es ≡ after = cc is in sym rest ∙ ap (λ a. records_from o s (a + e.size) es) (sym same));
     }
-apart o s at (e ∷ es) (b ∷ before) here behind is =
-    behind_first (cc is) (apart o s (at + e.size) es before here behind (let rest : records_from o s (at + e.size) es ≡ before ++ here ∷ behind = cc is in rest))
+apart o s at (e ∷ es) (b ∷ before) here after is =
+    after_first (cc is) (apart o s (at + e.size) es before here after (let rest : records_from o s (at + e.size) es ≡ before ++ here ∷ after = cc is in rest))
   where
-    behind_first : record_of o s at e ≡ b → Apart o s (at + e.size) es before here behind → Apart o s at (e ∷ es) (b ∷ before) here behind
-    behind_first first rest =
+    after_first : record_of o s at e ≡ b → Apart o s (at + e.size) es before here after → Apart o s at (e ∷ es) (b ∷ before) here after
+    after_first first rest =
         let same : (at + e.size) + total_size rest.low ≡ at + total_size (e ∷ rest.low) = omega arith in record {
           low = e ∷ rest.low;
           e = rest.e;
@@ -96,21 +96,21 @@ apart o s at (e ∷ es) (b ∷ before) here behind is =
 -- the entry at a block's address
 pub record OfRecord (r : ZoneRecords) (z : ZoneState) (at : ℕ) (b : RecordAt r at) : Type 0 where
   pub entry : EntryAt z at
-  pub lower : b.before ≡ records_from (owners_of z) z.shape (address_behind z.shape []) entry.before
+  pub lower : b.before ≡ records_from (owners_of z) z.shape (address_after z.shape []) entry.before
   pub here : b.here ≡ record_of (owners_of z) z.shape at entry.here
-  pub higher : b.behind ≡ records_from (owners_of z) z.shape (at + entry.here.size) entry.behind
+  pub higher : b.after ≡ records_from (owners_of z) z.shape (at + entry.here.size) entry.after
 
 pub of-record : (r : ZoneRecords) (z : ZoneState) → r ≡ records_of z → (at : ℕ) (b : RecordAt r at) → OfRecord r z at b
 of-record r z is at b =
     let o = owners_of z in
-    let start = address_behind z.shape [] in
-    let a = apart o z.shape start z.heap.map b.before b.here b.behind (ap (λ (r : ZoneRecords). r.blocks) (sym is) ∙ b.blocks) in
+    let start = address_after z.shape [] in
+    let a = apart o z.shape start z.heap.map b.before b.here b.after (ap (λ (r : ZoneRecords). r.blocks) (sym is) ∙ b.blocks) in
     let base = ap (λ (r : ZoneRecords). r.shape.base) is in
     let total = ap total_of a.lower ∙ records-total o z.shape start a.low in
     let place = b.place in
     let same : start + total_size a.low ≡ at = omega arith in
     record {
-      entry = record { before = a.low; here = a.e; behind = a.high; map = a.is; place = omega arith };
+      entry = record { before = a.low; here = a.e; after = a.high; map = a.is; place = omega arith };
       lower = a.lower;
       here = a.there ∙ ap (λ n. record_of o z.shape n a.e) same;
       higher = a.higher ∙ ap (λ n. records_from o z.shape (n + a.e.size) a.high) same;
@@ -142,9 +142,9 @@ pointer-there t head at (f ∷ low) e high there =
 pub entry-pointer : (z : ZoneState) → Fits z → HasRooms z → (at : ℕ) (e : EntryAt z at) → IsPointerThere z.heap.table (at + head_size z.shape.heads) e.here.kind
 entry-pointer z fits rooms at e =
     let place = e.place in
-    let same : address_behind z.shape [] + total_size e.before + head_size z.shape.heads ≡ at + head_size z.shape.heads = omega arith in
+    let same : address_after z.shape [] + total_size e.before + head_size z.shape.heads ≡ at + head_size z.shape.heads = omega arith in
     subst (λ a. IsPointerThere z.heap.table a e.here.kind) same
-    (pointer-there z.heap.table (head_size z.shape.heads) (address_behind z.shape []) e.before e.here e.behind (subst (ArePointersThere z.heap.table (head_size z.shape.heads) (address_behind z.shape [])) e.map (all-pointers z fits rooms)))
+    (pointer-there z.heap.table (head_size z.shape.heads) (address_after z.shape []) e.before e.here e.after (subst (ArePointersThere z.heap.table (head_size z.shape.heads) (address_after z.shape [])) e.map (all-pointers z fits rooms)))
 
 -- the entry is read off its block
 pub entry-read : (z : ZoneState) → Fits z → HasRooms z → (at : ℕ) (e : EntryAt z at) (b : BlockRecord) → b ≡ record_of (owners_of z) z.shape at e.here → block (kind_of (at + head_size z.shape.heads) b.content) b.size ≡ e.here
@@ -184,40 +184,40 @@ free_bytes-same o s at (e ∷ es) =
 module _ (r : ZoneRecords) (z : ZoneState) (is : r ≡ records_of z) (from : ℕ) (split : SplitAt z from) where
   -- the blocks from an address on
   abbrev upper_part : List BlockRecord
-  upper_part = records_from (owners_of z) z.shape (address_behind z.shape [] + total_size split.before) split.behind
+  upper_part = records_from (owners_of z) z.shape (address_after z.shape [] + total_size split.before) split.after
 
   abbrev split_there : records.SplitAt (records_of z) from
   split_there = record {
-    before = records_from (owners_of z) z.shape (address_behind z.shape []) split.before;
-    behind = upper_part;
-    blocks = ap (records_from (owners_of z) z.shape (address_behind z.shape [])) split.map ∙ records_from-append (owners_of z) z.shape (address_behind z.shape []) split.before split.behind;
-    place = (let total = records-total (owners_of z) z.shape (address_behind z.shape []) split.before in let place = split.place in omega arith);
+    before = records_from (owners_of z) z.shape (address_after z.shape []) split.before;
+    after = upper_part;
+    blocks = ap (records_from (owners_of z) z.shape (address_after z.shape [])) split.map ∙ records_from-append (owners_of z) z.shape (address_after z.shape []) split.before split.after;
+    place = (let total = records-total (owners_of z) z.shape (address_after z.shape []) split.before in let place = split.place in omega arith);
   }
 
   pub split-at : records.SplitAt r from
   split-at = subst (λ r. records.SplitAt r from) (sym is) split_there
 
   -- the first free one of them is that of the map
-  pub first-free : (at : ℕ) → ((s : records.SplitAt r from) → records.FirstFree s.behind from at) → FirstFree split.behind from at
+  pub first-free : (at : ℕ) → ((s : records.SplitAt r from) → records.FirstFree s.after from at) → FirstFree split.after from at
   first-free at finds =
-      let f = (subst (λ (r : ZoneRecords). (s : records.SplitAt r from) → records.FirstFree s.behind from at) is finds) split_there in
-      let start = address_behind z.shape [] + total_size split.before in
-      let a = apart (owners_of z) z.shape start split.behind f.passed (block_record Free f.size) f.behind f.blocks in
+      let f = (subst (λ (r : ZoneRecords). (s : records.SplitAt r from) → records.FirstFree s.after from at) is finds) split_there in
+      let start = address_after z.shape [] + total_size split.before in
+      let a = apart (owners_of z) z.shape start split.after f.passed (block_record Free f.size) f.after f.blocks in
       let free : a.e.kind ≡ kind.Free = free-kind (owners_of z) _ a.e.kind (ap (λ (b : BlockRecord). b.content) a.there) in
       record {
         passed = a.low;
         size = a.e.size;
-        behind = a.high;
+        after = a.high;
         splits = a.is ∙ ap (λ k. a.low ++ block k a.e.size ∷ a.high) free;
         used = sym (ap records.none_free a.lower ∙ none_free-same (owners_of z) z.shape start a.low) ∙ f.used;
         place = f.place ∙ ap (λ n. from + n) (ap total_of a.lower ∙ records-total (owners_of z) z.shape start a.low);
       }
 
   -- the last free one of those before it is that of the map
-  pub last-free : (at : ℕ) → ((s : records.SplitAt r from) → records.LastFree s.before (zone_records.address_behind r.shape []) at) → LastFree split.before (address_behind z.shape []) at
+  pub last-free : (at : ℕ) → ((s : records.SplitAt r from) → records.LastFree s.before (zone_records.address_after r.shape []) at) → LastFree split.before (address_after z.shape []) at
   last-free at finds =
-      let f = (subst (λ (r : ZoneRecords). (s : records.SplitAt r from) → records.LastFree s.before (zone_records.address_behind r.shape []) at) is finds) split_there in
-      let start = address_behind z.shape [] in
+      let f = (subst (λ (r : ZoneRecords). (s : records.SplitAt r from) → records.LastFree s.before (zone_records.address_after r.shape []) at) is finds) split_there in
+      let start = address_after z.shape [] in
       let a = apart (owners_of z) z.shape start split.before f.front (block_record Free f.size) f.passed f.blocks in
       let free : a.e.kind ≡ kind.Free = free-kind (owners_of z) _ a.e.kind (ap (λ (b : BlockRecord). b.content) a.there) in
       let place = f.place in
@@ -233,13 +233,13 @@ module _ (r : ZoneRecords) (z : ZoneState) (is : r ≡ records_of z) (from : ℕ
 
   -- none of those before it is free where none of them is
   pub no-free-before : ((s : records.SplitAt r from) → records.none_free s.before ≡ true) → none_free split.before ≡ true
-  no-free-before none = sym (none_free-same (owners_of z) z.shape (address_behind z.shape []) split.before)
+  no-free-before none = sym (none_free-same (owners_of z) z.shape (address_after z.shape []) split.before)
       ∙ (subst (λ (r : ZoneRecords). (s : records.SplitAt r from) → records.none_free s.before ≡ true) is none) split_there
 
   -- none of the map's is free where none of them is
-  pub no-free : ((s : records.SplitAt r from) → records.none_free s.behind ≡ true) → none_free split.behind ≡ true
-  no-free none = sym (none_free-same (owners_of z) z.shape (address_behind z.shape [] + total_size split.before) split.behind)
-      ∙ (subst (λ (r : ZoneRecords). (s : records.SplitAt r from) → records.none_free s.behind ≡ true) is none) split_there
+  pub no-free : ((s : records.SplitAt r from) → records.none_free s.after ≡ true) → none_free split.after ≡ true
+  no-free none = sym (none_free-same (owners_of z) z.shape (address_after z.shape [] + total_size split.before) split.after)
+      ∙ (subst (λ (r : ZoneRecords). (s : records.SplitAt r from) → records.none_free s.after ≡ true) is none) split_there
 
 -- ---- slots
 
@@ -273,14 +273,14 @@ in-slots head n at (f ∷ low) e high x master c =
     (Contains-append_right (cond (is_master f.kind) (slots_from n (at + head)) []) (slots_at head n (at + f.size) (low ++ e ∷ high)) x
     (in-slots head n (at + f.size) low e high x master (subst (λ a. Contains (slots_from n a) x) same c)))
 
--- what stands among what a function makes of slots is what it makes of one
-slot-among : (f : ℕ → Slot) (n at : ℕ) (before : List Slot) (here : Slot) (behind : List Slot) → before ++ here ∷ behind ≡ map f (slots_from n at) → here ≡ f (at + 4 * length before)
-slot-among f zero at [] here behind is = absurd (cc is)
-slot-among f zero at (s ∷ before) here behind is = absurd (cc is)
-slot-among f (suc n) at [] here behind is = let same : at ≡ at + 4 * 0 = omega arith in let first : here ≡ f at = cc is in first ∙ ap f same
-slot-among f (suc n) at (s ∷ before) here behind is =
+-- what is among what a function makes of slots is what it makes of one
+slot-among : (f : ℕ → Slot) (n at : ℕ) (before : List Slot) (here : Slot) (after : List Slot) → before ++ here ∷ after ≡ map f (slots_from n at) → here ≡ f (at + 4 * length before)
+slot-among f zero at [] here after is = absurd (cc is)
+slot-among f zero at (s ∷ before) here after is = absurd (cc is)
+slot-among f (suc n) at [] here after is = let same : at ≡ at + 4 * 0 = omega arith in let first : here ≡ f at = cc is in first ∙ ap f same
+slot-among f (suc n) at (s ∷ before) here after is =
     let same : (at + 4) + 4 * length before ≡ at + 4 * suc (length before) = omega arith in
-    slot-among f n (at + 4) before here behind (cc is) ∙ ap f same
+    slot-among f n (at + 4) before here after (cc is) ∙ ap f same
 
 -- a slot of the blocks is one of the map's, and says what is written there
 pub record MapSlot (r : ZoneRecords) (z : ZoneState) (x : ℕ) (slot : SlotAt r x) : Type 0 where
@@ -290,12 +290,12 @@ pub record MapSlot (r : ZoneRecords) (z : ZoneState) (x : ℕ) (slot : SlotAt r 
 pub map-slot : (r : ZoneRecords) (z : ZoneState) → r ≡ records_of z → (x : ℕ) (slot : SlotAt r x) → MapSlot r z x slot
 map-slot r z is x slot =
     let o = owners_of z in
-    let start = address_behind z.shape [] in
+    let start = address_after z.shape [] in
     let shape = ap (λ (r : ZoneRecords). r.shape) is in
-    let a = apart o z.shape start z.heap.map slot.before (block_record (Master (slot.slots_before ++ slot.here ∷ slot.slots_behind)) slot.size) slot.behind (ap (λ (r : ZoneRecords). r.blocks) (sym is) ∙ slot.blocks) in
+    let a = apart o z.shape start z.heap.map slot.before (block_record (Master (slot.slots_before ++ slot.here ∷ slot.slots_after)) slot.size) slot.after (ap (λ (r : ZoneRecords). r.blocks) (sym is) ∙ slot.blocks) in
     let there = start + total_size a.low + head_size z.shape.heads in
-    let master = master-kind o there a.e.kind (slot.slots_before ++ slot.here ∷ slot.slots_behind) (ap (λ (b : BlockRecord). b.content) a.there) in
-    let long = sym (length-append slot.slots_before (slot.here ∷ slot.slots_behind)) ∙ ap length master.1 ∙ length-map (slots_from slot_count there) o.slot ∙ length-slots_from slot_count there in
+    let master = master-kind o there a.e.kind (slot.slots_before ++ slot.here ∷ slot.slots_after) (ap (λ (b : BlockRecord). b.content) a.there) in
+    let long = sym (length-append slot.slots_before (slot.here ∷ slot.slots_after)) ∙ ap length master.1 ∙ length-map (slots_from slot_count there) o.slot ∙ length-slots_from slot_count there in
     let base = ap (λ (s : Shape). s.base) shape in
     let heads = ap (λ (s : Shape). head_size s.heads) shape in
     let total = ap total_of a.lower ∙ records-total o z.shape start a.low in
@@ -305,7 +305,7 @@ map-slot r z is x slot =
       among = subst (λ m. Contains (slots z.shape m) x) (sym a.is)
           (in-slots (head_size z.shape.heads) slot_count start a.low a.e a.high x master.0
           (subst (λ y. Contains (slots_from slot_count there) y) same (slots_from-at slot_count there (length slot.slots_before) (omega arith))));
-      says = slot-among o.slot slot_count there slot.slots_before slot.here slot.slots_behind master.1 ∙ ap o.slot same;
+      says = slot-among o.slot slot_count there slot.slots_before slot.here slot.slots_after master.1 ∙ ap o.slot same;
     }
 
 pub slot-of : (r : ZoneRecords) (z : ZoneState) → r ≡ records_of z → (x : ℕ) → SlotAt r x → Contains (slots z.shape z.heap.map) x

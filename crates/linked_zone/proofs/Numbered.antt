@@ -1,4 +1,4 @@
--- Things that stand at numbers that rise, and a table that is read off them.
+-- Things that are at numbers that rise, and a table that is read off them.
 use Rattle.std.proofs.Common.{◌≡◌, ◌≢◌, ℕ, zero, suc, ◌<◌, Bool, true, false, eqb, get_or, List, [], ◌∷◌, length, map, flat_map, Option, Some, None, refl, ap, sym, ◌∙◌, subst, arith, Contains, ◌⊎◌, inl, inr}
 use Rattle.std.specs.Ordering.{nat_cmp, is_lt}
 use Rattle.std.specs.FinMap.{find, is_sorted}
@@ -46,7 +46,7 @@ Contains-map f (x ∷ xs) y c = elim (cons_cases (f x) (map f xs) y c) [
 
 -- ---- numbers
 
--- one thing stands at a number
+-- one thing is at a number
 pub one-at : {A : Type 0} (low : ℕ) (xs : List (ℕ × A)) (x : ℕ) (a b : A) → IsRising low (map (λ e. e.0) xs) → Contains xs (x, a) → Contains xs (x, b) → a ≡ b
 one-at low [] x a b rise c d = absurd (none_is (x, a) c)
 one-at low (e ∷ es) x a b rise c d = elim (cons_cases e es (x, a) c) [
@@ -54,9 +54,9 @@ one-at low (e ∷ es) x a b rise c d = elim (cons_cases e es (x, a) c) [
     | inl second ↦ ap (λ e. e.1) (sym first ∙ second)
     | inr later ↦ (let key = ap (λ e. e.0) first in let above = rising-above (suc e.0) (map (λ e. e.0) es) x rise.1 (Contains-mapped (λ e. e.0) es (x, b) later) in absurd (omega arith))
   ]
-  | inr behind ↦ elim (cons_cases e es (x, b) d) [
-    | inl second ↦ (let key = ap (λ e. e.0) second in let above = rising-above (suc e.0) (map (λ e. e.0) es) x rise.1 (Contains-mapped (λ e. e.0) es (x, a) behind) in absurd (omega arith))
-    | inr later ↦ one-at (suc e.0) es x a b rise.1 behind later
+  | inr after ↦ elim (cons_cases e es (x, b) d) [
+    | inl second ↦ (let key = ap (λ e. e.0) second in let above = rising-above (suc e.0) (map (λ e. e.0) es) x rise.1 (Contains-mapped (λ e. e.0) es (x, a) after) in absurd (omega arith))
+    | inr later ↦ one-at (suc e.0) es x a b rise.1 after later
   ]
 ]
 

@@ -10,7 +10,7 @@ use Rattle.mac_base.specs.ZoneState.{ZoneState}
 use Rattle.raw_region.specs.Bytes.{part}
 use Rattle.block_bytes.proofs.AdoptedBlocks.{same-blocks}
 use Rattle.block_bytes.proofs.ZoneHeads.{front-read}
-use Rattle.block_bytes.specs.Layout.{Layout, address_behind, free_total, first_free, rendered}
+use Rattle.block_bytes.specs.Layout.{Layout, address_after, free_total, first_free, rendered}
 use Rattle.block_bytes.specs.ZoneHead.{front_field}
 use Rattle.zone_laws.proofs.SlotPlaces.{Contains-here}
 use Rattle.zone_records.specs.Reading.{record_in}
@@ -44,7 +44,7 @@ module _ (spec : ZoneSizes) (possible : ArePossible spec) (bytes : List ℕ) whe
     front-there =
         let first : l.front ≡ front_slot z.heap = ap (λ (r : ZoneRecords). r.front) zone.inside.image.same in
         ap (λ (xs : List ℕ). big_number 4 (part xs front_field 4)) (sym (blocks-in spec possible bytes z zone).image)
-        ∙ front-read (address_behind l l.blocks) l.front (free_total l.heads l.blocks) (first_free l.heads (address_behind l []) l.blocks) (rendered l.heads l.base l.blocks ++ l.spare) (subst (λ n. n < 2 ^ 32) (sym first) front-small)
+        ∙ front-read (address_after l l.blocks) l.front (free_total l.heads l.blocks) (first_free l.heads (address_after l []) l.blocks) (rendered l.heads l.base l.blocks ++ l.spare) (subst (λ n. n < 2 ^ 32) (sym first) front-small)
         ∙ first
 
     shape-there : z.shape ≡ shape_of spec

@@ -7,7 +7,7 @@ use Rattle.std.proofs.lemmas.Bool.{and_parts, eqb-true}
 use Rattle.mac_base.specs.declared.block.Kind.{Kind}
 use Rattle.mac_base.specs.declared.block.Kind.TheVariants as kind
 use Rattle.mac_base.specs.HeadKind.{Shape, head_size, slot_count}
-use Rattle.mac_base.specs.ZoneMap.{ZoneMap, is_master, is_named, total_size, address_behind, addresses_from}
+use Rattle.mac_base.specs.ZoneMap.{ZoneMap, is_master, is_named, total_size, address_after, addresses_from}
 use Rattle.mac_base.specs.Suits.{slots, slots_from}
 use Rattle.mac_base.specs.ZoneState.{Memory}
 use Rattle.zone_laws.proofs.Owners.{none_named}
@@ -22,11 +22,11 @@ use Rattle.linked_zone.specs.Owned.{Owners, content_of, lent_of, record_of, reco
 
 -- the blocks of a map with what is written for their owners, in a zone whose header names this free slot first
 abbrev pub image : Memory → Shape → ℕ → Owners → ZoneMap → ZoneRecords
-image memory s front o m = record { memory = memory; shape = s; front = front; blocks = records_from o s (address_behind s []) m }
+image memory s front o m = record { memory = memory; shape = s; front = front; blocks = records_from o s (address_after s []) m }
 
 -- ---- parts of a map
 
--- the blocks of two parts, the second behind the first
+-- the blocks of two parts, the second after the first
 pub records_from-append : (o : Owners) (s : Shape) (at : ℕ) (xs ys : ZoneMap) → records_from o s at (xs ++ ys) ≡ records_from o s at xs ++ records_from o s (at + total_size xs) ys
 records_from-append o s at [] ys = let same : at ≡ at + 0 = omega arith in ap (λ a. records_from o s a ys) same
 records_from-append o s at (e ∷ es) ys =
@@ -39,15 +39,15 @@ pub records-total : (o : Owners) (s : Shape) (at : ℕ) (m : ZoneMap) → total_
 records-total o s at [] = refl
 records-total o s at (e ∷ es) = ap (λ n. e.size + n) (records-total o s (at + e.size) es)
 
--- so what is behind them begins at the same address
-pub records-place : (o : Owners) (s : Shape) (m : ZoneMap) → address_behind s m ≡ records.address_behind s (records_from o s (address_behind s []) m)
-records-place o s m = ap (λ n. s.base + 52 + n) (sym (records-total o s (address_behind s []) m))
+-- so what is after them begins at the same address
+pub records-place : (o : Owners) (s : Shape) (m : ZoneMap) → address_after s m ≡ records.address_after s (records_from o s (address_after s []) m)
+records-place o s m = ap (λ n. s.base + 52 + n) (sym (records-total o s (address_after s []) m))
 
 -- those of a map in three parts
-pub records-middle : (o : Owners) (s : Shape) (at : ℕ) (before middle behind : ZoneMap) → records_from o s at (before ++ (middle ++ behind))
-    ≡ records_from o s at before ++ (records_from o s (at + total_size before) middle ++ records_from o s ((at + total_size before) + total_size middle) behind)
-records-middle o s at before middle behind =
-    records_from-append o s at before (middle ++ behind) ∙ ap (λ bs. records_from o s at before ++ bs) (records_from-append o s (at + total_size before) middle behind)
+pub records-middle : (o : Owners) (s : Shape) (at : ℕ) (before middle after : ZoneMap) → records_from o s at (before ++ (middle ++ after))
+    ≡ records_from o s at before ++ (records_from o s (at + total_size before) middle ++ records_from o s ((at + total_size before) + total_size middle) after)
+records-middle o s at before middle after =
+    records_from-append o s at before (middle ++ after) ∙ ap (λ bs. records_from o s at before ++ bs) (records_from-append o s (at + total_size before) middle after)
 
 -- ---- owners that agree
 
@@ -115,15 +115,15 @@ same_but o p h m none same x named = by_test (eqb x h) refl
     by_test false is = same x is
 
 -- the blocks of a map, one part of which another one of the same size has taken the place of
-pub records-replaced : (o p : Owners) (s : Shape) (at : ℕ) (before left right behind : ZoneMap) → total_size right ≡ total_size left
-    → SameSlots o p s at before → SameSlots o p s ((at + total_size before) + total_size left) behind → SameNamed o p before → SameNamed o p behind
-    → records_from p s at (before ++ (right ++ behind))
-    ≡ records_from o s at before ++ (records_from p s (at + total_size before) right ++ records_from o s ((at + total_size before) + total_size left) behind)
-records-replaced o p s at before left right behind large slot later first second =
-    records-middle p s at before right behind
-    ∙ ap (λ bs. bs ++ (records_from p s (at + total_size before) right ++ records_from p s ((at + total_size before) + total_size right) behind)) (records-same o p s at before slot first)
-    ∙ ap (λ n. records_from o s at before ++ (records_from p s (at + total_size before) right ++ records_from p s ((at + total_size before) + n) behind)) large
-    ∙ ap (λ bs. records_from o s at before ++ (records_from p s (at + total_size before) right ++ bs)) (records-same o p s ((at + total_size before) + total_size left) behind later second)
+pub records-replaced : (o p : Owners) (s : Shape) (at : ℕ) (before left right after : ZoneMap) → total_size right ≡ total_size left
+    → SameSlots o p s at before → SameSlots o p s ((at + total_size before) + total_size left) after → SameNamed o p before → SameNamed o p after
+    → records_from p s at (before ++ (right ++ after))
+    ≡ records_from o s at before ++ (records_from p s (at + total_size before) right ++ records_from o s ((at + total_size before) + total_size left) after)
+records-replaced o p s at before left right after large slot later first second =
+    records-middle p s at before right after
+    ∙ ap (λ bs. bs ++ (records_from p s (at + total_size before) right ++ records_from p s ((at + total_size before) + total_size right) after)) (records-same o p s at before slot first)
+    ∙ ap (λ n. records_from o s at before ++ (records_from p s (at + total_size before) right ++ records_from p s ((at + total_size before) + n) after)) large
+    ∙ ap (λ bs. records_from o s at before ++ (records_from p s (at + total_size before) right ++ bs)) (records-same o p s ((at + total_size before) + total_size left) after later second)
 
 -- ---- one slot
 
@@ -144,17 +144,17 @@ set-other f h w x other = by_test (eqb x h) refl
 -- the slot h among n slots, the first at an address
 record AmongSlots (f : ℕ → Slot) (n at h : ℕ) : Type 0 where
   before : List Slot
-  behind : List Slot
+  after : List Slot
   place : h ≡ at + 4 * length before
-  has : map f (slots_from n at) ≡ before ++ f h ∷ behind
-  sets : (w : Slot) → map (λ x. cond (eqb x h) w (f x)) (slots_from n at) ≡ before ++ w ∷ behind
+  has : map f (slots_from n at) ≡ before ++ f h ∷ after
+  sets : (w : Slot) → map (λ x. cond (eqb x h) w (f x)) (slots_from n at) ≡ before ++ w ∷ after
 
 among-slots : (f : ℕ → Slot) (n at h : ℕ) → Contains (slots_from n at) h → AmongSlots f n at h
 among-slots f zero at h c = absurd (Contains-none h c)
 among-slots f (suc n) at h c = elim (Contains-cons_cases at (slots_from n (at + 4)) h c) [
   | inl is ↦ record {
     before = [];
-    behind = map f (slots_from n (at + 4));
+    after = map f (slots_from n (at + 4));
     place = omega arith;
     has = ap (λ x. f x ∷ map f (slots_from n (at + 4))) is;
     sets = λ w. ap (λ y. y ∷ map (λ x. cond (eqb x h) w (f x)) (slots_from n (at + 4))) (ap (λ x. cond (eqb x h) w (f x)) is ∙ set-here f h w)
@@ -162,7 +162,7 @@ among-slots f (suc n) at h c = elim (Contains-cons_cases at (slots_from n (at + 
   }
   | inr later ↦ (let rest = among-slots f n (at + 4) h later in let above = slots_from-bounds n (at + 4) h later in record {
     before = f at ∷ rest.before;
-    behind = rest.behind;
+    after = rest.after;
     place = (let place = rest.place in omega arith);
     has = ap (λ ys. f at ∷ ys) rest.has;
     sets = λ w. ap (λ y. y ∷ map (λ x. cond (eqb x h) w (f x)) (slots_from n (at + 4))) (set-other f h w at (λ same. omega arith)) ∙ ap (λ ys. f at ∷ ys) (rest.sets w);
@@ -174,11 +174,11 @@ pub record SlotIn (o : Owners) (s : Shape) (at : ℕ) (m : ZoneMap) (h : ℕ) : 
   pub before : List BlockRecord
   pub size : ℕ
   pub slots_before : List Slot
-  pub slots_behind : List Slot
-  pub behind : List BlockRecord
+  pub slots_after : List Slot
+  pub after : List BlockRecord
   pub place : h ≡ at + total_of before + head_size s.heads + 4 * length slots_before
-  pub has : records_from o s at m ≡ before ++ block_record (Master (slots_before ++ o.slot h ∷ slots_behind)) size ∷ behind
-  pub sets : (w : Slot) → records_from (slot_set o h w) s at m ≡ before ++ block_record (Master (slots_before ++ w ∷ slots_behind)) size ∷ behind
+  pub has : records_from o s at m ≡ before ++ block_record (Master (slots_before ++ o.slot h ∷ slots_after)) size ∷ after
+  pub sets : (w : Slot) → records_from (slot_set o h w) s at m ≡ before ++ block_record (Master (slots_before ++ w ∷ slots_after)) size ∷ after
 
 in_front : (o : Owners) (s : Shape) (at size h : ℕ) (k : Kind) (es : ZoneMap) → list_all (has_room (head_size s.heads) slot_count) (record { size = size; kind = k } ∷ es) ≡ true
     → Contains (cond (is_master k) (slots_from slot_count (at + head_size s.heads)) []) h → SlotIn o s at (record { size = size; kind = k } ∷ es) h
@@ -194,12 +194,12 @@ in_front o s at size h kind.Master es rooms c =
       before = [];
       size = size;
       slots_before = among.before;
-      slots_behind = among.behind;
-      behind = records_from o s (at + size) es;
+      slots_after = among.after;
+      after = records_from o s (at + size) es;
       place = (let place = among.place in omega arith);
       has = ap (λ ys. block_record (Master ys) size ∷ records_from o s (at + size) es) among.has;
       sets = λ w. ap (λ ys. block_record (Master ys) size ∷ records_from (slot_set o h w) s (at + size) es) (among.sets w)
-          ∙ ap (λ bs. block_record (Master (among.before ++ w ∷ among.behind)) size ∷ bs) (records-same o (slot_set o h w) s (at + size) es
+          ∙ ap (λ bs. block_record (Master (among.before ++ w ∷ among.after)) size ∷ bs) (records-same o (slot_set o h w) s (at + size) es
           (λ x d. set-other o.slot h w x (λ same. let above = slots_at-above (head_size s.heads) slot_count (at + size) es x room.1 d in omega arith)) (λ x d. (refl, refl, refl)));
     }
 
@@ -208,19 +208,19 @@ pub slot-in : (o : Owners) (s : Shape) (at : ℕ) (m : ZoneMap) (h : ℕ) → li
 slot-in o s at [] h rooms c = absurd (Contains-none h c)
 slot-in o s at (e ∷ es) h rooms c = elim (Contains-append_cases _ _ h (subst (λ xs. Contains xs h) (slots_at-cons (head_size s.heads) slot_count at e.size e.kind es) c)) [
   | inl first ↦ in_front o s at e.size h e.kind es rooms first
-  | inr later ↦ behind_first later (slot-in o s (at + e.size) es h (and_parts (has_room (head_size s.heads) slot_count e) (list_all (has_room (head_size s.heads) slot_count) es) rooms).1 later)
+  | inr later ↦ after_first later (slot-in o s (at + e.size) es h (and_parts (has_room (head_size s.heads) slot_count e) (list_all (has_room (head_size s.heads) slot_count) es) rooms).1 later)
 ]
   where
-    behind_first : Contains (slots_at (head_size s.heads) slot_count (at + e.size) es) h → SlotIn o s (at + e.size) es h → SlotIn o s at (e ∷ es) h
-    behind_first later rest =
+    after_first : Contains (slots_at (head_size s.heads) slot_count (at + e.size) es) h → SlotIn o s (at + e.size) es h → SlotIn o s at (e ∷ es) h
+    after_first later rest =
         let room = and_parts (has_room (head_size s.heads) slot_count e) (list_all (has_room (head_size s.heads) slot_count) es) rooms in
         let above = slots_at-above (head_size s.heads) slot_count (at + e.size) es h room.1 later in
         record {
           before = record_of o s at e ∷ rest.before;
           size = rest.size;
           slots_before = rest.slots_before;
-          slots_behind = rest.slots_behind;
-          behind = rest.behind;
+          slots_after = rest.slots_after;
+          after = rest.after;
           place = (let place = rest.place in omega arith);
           has = ap (λ bs. record_of o s at e ∷ bs) rest.has;
           sets = λ w. ap (λ c. record { size = e.size; content = c; lent = lent_of o e.kind } ∷ records_from (slot_set o h w) s (at + e.size) es)
@@ -241,8 +241,8 @@ slot-in o s at (e ∷ es) h rooms c = elim (Contains-append_cases _ _ h (subst (
                 omega arith
 
 module _ (memory : Memory) (s : Shape) (front : ℕ) (o : Owners) (m : ZoneMap) (h : ℕ) (rooms : list_all (has_room (head_size s.heads) slot_count) m ≡ true) (c : Contains (slots s m) h) where
-  abbrev there : SlotIn o s (address_behind s []) m h
-  there = slot-in o s (address_behind s []) m h rooms c
+  abbrev there : SlotIn o s (address_after s []) m h
+  there = slot-in o s (address_after s []) m h rooms c
 
   -- a slot of the map is one of the blocks'
   abbrev pub slot-at : SlotAt (image memory s front o m) h
@@ -251,8 +251,8 @@ module _ (memory : Memory) (s : Shape) (front : ℕ) (o : Owners) (m : ZoneMap) 
     size = there.size;
     slots_before = there.slots_before;
     here = o.slot h;
-    slots_behind = there.slots_behind;
-    behind = there.behind;
+    slots_after = there.slots_after;
+    after = there.after;
     blocks = there.has;
     place = omega arith;
   }
@@ -264,4 +264,4 @@ module _ (memory : Memory) (s : Shape) (front : ℕ) (o : Owners) (m : ZoneMap) 
 -- owners that say the same of all have the same blocks
 pub image-same : (memory : Memory) (s : Shape) (front : ℕ) (o p : Owners) (m : ZoneMap) → ((x : ℕ) → Contains (slots s m) x → p.slot x ≡ o.slot x) → ((x : ℕ) → p.flags x ≡ o.flags x) → ((x : ℕ) → p.bytes x ≡ o.bytes x) → ((x : ℕ) → p.lent x ≡ o.lent x)
     → image memory s front p m ≡ image memory s front o m
-image-same memory s front o p m slot flags bytes lent = ap (λ bs. record { memory = memory; shape = s; front = front; blocks = bs }) (records-same o p s (address_behind s []) m slot (λ x is. (flags x, bytes x, lent x)))
+image-same memory s front o p m slot flags bytes lent = ap (λ bs. record { memory = memory; shape = s; front = front; blocks = bs }) (records-same o p s (address_after s []) m slot (λ x is. (flags x, bytes x, lent x)))

@@ -8,7 +8,7 @@ use Rattle.mac_base.specs.declared.block.Flags.{Flags}
 use Rattle.mac_base.specs.declared.block.HeadKind.{HeadKind}
 use Rattle.mac_base.specs.declared.block.HeadKind.TheVariants.{Bits24, Bits32}
 use Rattle.mac_base.specs.HeadKind.{head_size, slot_count}
-use Rattle.mac_base.specs.ZoneMap.{addresses, address_behind, contents_of}
+use Rattle.mac_base.specs.ZoneMap.{addresses, address_after, contents_of}
 use Rattle.mac_base.specs.HandleTable.{Live, EmptyHandle, FullHandle, Pointer, live_at, live_bytes, live_flags, live_full, live_handle, live_pointer, is_handle, is_pointer}
 use Rattle.mac_base.specs.Suits.{is_handle_block, is_pointer_block, slots}
 use Rattle.mac_base.specs.ZoneState.{ZoneState}
@@ -54,7 +54,7 @@ handle_or_pointer (Some (Pointer bytes)) l is other = refl
 
 module _ (z : ZoneState) (fits : Fits z) (rooms : HasRooms z) where
   abbrev start : ℕ
-  start = address_behind z.shape []
+  start = address_after z.shape []
 
   abbrev head : ℕ
   head = head_size z.shape.heads
@@ -130,7 +130,7 @@ module _ (z : ZoneState) (fits : Fits z) (rooms : HasRooms z) where
 pub read_back : (z : ZoneState) → Fits z → HasRooms z → 0x1000 ≤ z.shape.base → state_in (records_of z) ≡ z
 read_back z fits rooms low =
     let table = table-back z fits rooms in
-    let map = map-back (owners_of z) z.shape z.heap.table (address_behind z.shape []) z.heap.map (all-pointers z fits rooms) in
-    let lent = lents-back (owners_of z) z.shape z.heap.table (address_behind z.shape []) z.heap.map (all-pointers z fits rooms) ∙ sym fits.loans.in_order in
+    let map = map-back (owners_of z) z.shape z.heap.table (address_after z.shape []) z.heap.map (all-pointers z fits rooms) in
+    let lent = lents-back (owners_of z) z.shape z.heap.table (address_after z.shape []) z.heap.map (all-pointers z fits rooms) ∙ sym fits.loans.in_order in
     let free = free-back z fits rooms (omega arith) in
     λ i. record { memory = z.memory; shape = z.shape; heap = record { table = record { live = table i; lent = lent i }; map = map i; free_slots = free i } }

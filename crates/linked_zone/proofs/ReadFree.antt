@@ -21,7 +21,7 @@ equal_numbers = record { refl = eqb_same; symm = eqb_swap; congr = λ x y z same
 pub length-among : (xs ys : List ℕ) → IsDistinct nat_eq xs → ((x : ℕ) → Contains xs x → Contains ys x) → length xs ≤ length ys
 length-among xs ys once among = length-le_from_is_member equal_numbers xs ys once (λ q c. list_any-from_Contains equal_numbers q ys (among q (Contains-from_any eqb-true q xs c)))
 
--- what stands at each of some numbers names the next
+-- what is at each of some numbers names the next
 pub next-named : (f : ℕ → Slot) (xs : List ℕ) (x : ℕ) → Contains xs x → next_named x (map (λ a. (a, f a)) xs) ≡ next_said (f x)
 next-named f [] x c = absurd (Contains-none x c)
 next-named f (y ∷ ys) x c = elim (eqb y x) as (λ b. eqb y x ≡ b → cond b (next_said (f y)) (next_named x (map (λ a. (a, f a)) ys)) ≡ next_said (f x)) [

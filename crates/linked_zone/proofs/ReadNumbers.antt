@@ -34,7 +34,7 @@ rising-above low (x ∷ xs) y h c = let first = h.0 in elim (Contains-cons_cases
   | inr later ↦ let rest = rising-above (suc x) xs y h.1 later in omega arith
 ]
 
--- slots rise, and so do numbers behind them
+-- slots rise, and so do numbers after them
 pub rising-slots : (n low at high : ℕ) (xs : List ℕ) → low ≤ at → at + 4 * n ≤ high → IsRising high xs → IsRising low (slots_from n at ++ xs)
 rising-slots zero low at high xs below end h = rising-lower low high xs (omega arith) h
 rising-slots (suc n) low at high xs below end h = (below, rising-slots n (suc at) (at + 4) high xs (omega arith) (omega arith) h)
@@ -51,7 +51,7 @@ abbrev pub numbers : ℕ → ℕ → ℕ → ZoneMap → List ℕ
 numbers head n at [] = []
 numbers head n at (e ∷ es) = numbers_of n (at + head) e.kind ++ numbers head n (at + e.size) es
 
--- the numbers of a block rise, and so do numbers behind them
+-- the numbers of a block rise, and so do numbers after them
 rising-block : (n low at high : ℕ) (kind : Kind) (xs : List ℕ) → low ≤ at → at < high → (is_master kind ≡ true → at + 4 * n ≤ high) → IsRising high xs → IsRising low (numbers_of n at kind ++ xs)
 rising-block n low at high Free xs below some room h = rising-lower low high xs (omega arith) h
 rising-block n low at high Master xs below some room h = rising-slots n low at high xs below (room refl) h
@@ -73,7 +73,7 @@ rising-numbers head n at low (e ∷ es) below room =
     rising-block n low (at + head) (at + e.size) e.kind _ below (omega arith)
     (λ is. let large = room_master head n e.size (is_master e.kind) rooms.0 is in omega arith) rest
 
--- a slot of a block or of those behind it is one of their numbers
+-- a slot of a block or of those after it is one of their numbers
 slot_in_block : (n at : ℕ) (kind : Kind) (xs ys : List ℕ) (x : ℕ) → (Contains xs x → Contains ys x) → Contains (cond (is_master kind) (slots_from n at) [] ++ xs) x → Contains (numbers_of n at kind ++ ys) x
 slot_in_block n at Free xs ys x later c = later c
 slot_in_block n at Master xs ys x later c = elim (Contains-append_cases (slots_from n at) xs x c) [
@@ -97,7 +97,7 @@ pointer_here head at a true c = elim (Contains-cons_cases at [] a c) [
   | inr later ↦ absurd (Contains-none a later)
 ]
 
--- the place of a pointer's contents in a block or behind it is one of their numbers
+-- the place of a pointer's contents in a block or after it is one of their numbers
 pointer_in_block : (head n at p : ℕ) (kind : Kind) (xs ys : List ℕ) (a : ℕ) → (Contains xs a → Contains ys (a + head)) → Contains (cond (is_pointer_block p kind) (at ∷ []) [] ++ xs) a → Contains (numbers_of n (at + head) kind ++ ys) (a + head)
 pointer_in_block head n at p Free xs ys a later c = later c
 pointer_in_block head n at p Master xs ys a later c = Contains-append_right (slots_from n (at + head)) ys (a + head) (later c)

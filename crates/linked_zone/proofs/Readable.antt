@@ -77,9 +77,9 @@ room-of s at size (Master slots) is long =
     by_master head k n more large h = grind (arith, nat_tests)
 
 -- what holds of all blocks holds of each
-pub All-at : (P : BlockRecord → Type 0) (before : List BlockRecord) (b : BlockRecord) (behind : List BlockRecord) → All P (before ++ b ∷ behind) → P b
-All-at P [] b behind all = All-head P b behind all
-All-at P (x ∷ before) b behind all = All-at P before b behind (All-tail P x (before ++ b ∷ behind) all)
+pub All-at : (P : BlockRecord → Type 0) (before : List BlockRecord) (b : BlockRecord) (after : List BlockRecord) → All P (before ++ b ∷ after) → P b
+All-at P [] b after all = All-head P b after all
+All-at P (x ∷ before) b after all = All-at P before b after (All-tail P x (before ++ b ∷ after) all)
 
 -- ---- their map
 
@@ -115,36 +115,36 @@ none-passes test s at (b ∷ bs) none =
     by_test true is rest = absurd (none [] b bs at (omega arith) refl is)
     by_test false is rest = rest
 
-module _ (test : Kind → Bool) (s : Shape) (at : ℕ) (bs : List BlockRecord) (all : All (IsReadable s) bs) (before : List BlockRecord) (b : BlockRecord) (behind : List BlockRecord) (is : bs ≡ before ++ b ∷ behind)
+module _ (test : Kind → Bool) (s : Shape) (at : ℕ) (bs : List BlockRecord) (all : All (IsReadable s) bs) (before : List BlockRecord) (b : BlockRecord) (after : List BlockRecord) (is : bs ≡ before ++ b ∷ after)
     (only : (xs : List BlockRecord) (c : BlockRecord) (ys : List BlockRecord) (a : ℕ) → a ≡ at + total_of xs → bs ≡ xs ++ c ∷ ys → test (kind_of (a + head_size s.heads) c.content) ≡ true → a ≡ at + total_of before) where
   positive : (xs : List BlockRecord) (c : BlockRecord) (ys : List BlockRecord) → bs ≡ xs ++ c ∷ ys → 0 < c.size
   positive xs c ys split = let large = larger s c (All-at (IsReadable s) xs c ys (subst (All (IsReadable s)) split all)) in omega arith
 
-  -- where blocks that pass a test stand at one place, none before the one there does
+  -- where blocks that pass a test are at one place, none before the one there does
   pub none-before : list_all (λ (e : Entry). not (test e.kind)) (map_in s at before) ≡ true
   none-before = none-passes test s at before (λ xs c ys a place split passes.
-      let whole : bs ≡ xs ++ c ∷ (ys ++ b ∷ behind) = is ∙ ap (λ (cs : List BlockRecord). cs ++ b ∷ behind) split ∙ append_assoc xs (c ∷ ys) (b ∷ behind) in
-      let same = only xs c (ys ++ b ∷ behind) a place whole passes in
+      let whole : bs ≡ xs ++ c ∷ (ys ++ b ∷ after) = is ∙ ap (λ (cs : List BlockRecord). cs ++ b ∷ after) split ∙ append_assoc xs (c ∷ ys) (b ∷ after) in
+      let same = only xs c (ys ++ b ∷ after) a place whole passes in
       let sum = ap total_of split ∙ total_of-append xs (c ∷ ys) in
-      let some = positive xs c (ys ++ b ∷ behind) whole in omega arith)
+      let some = positive xs c (ys ++ b ∷ after) whole in omega arith)
 
-  -- and none behind it
-  pub none-behind : list_all (λ (e : Entry). not (test e.kind)) (map_in s (at + total_of before + b.size) behind) ≡ true
-  none-behind = none-passes test s (at + total_of before + b.size) behind (λ xs c ys a place split passes.
+  -- and none after it
+  pub none-after : list_all (λ (e : Entry). not (test e.kind)) (map_in s (at + total_of before + b.size) after) ≡ true
+  none-after = none-passes test s (at + total_of before + b.size) after (λ xs c ys a place split passes.
       let whole : bs ≡ (before ++ b ∷ xs) ++ c ∷ ys = is ∙ ap (λ (cs : List BlockRecord). before ++ b ∷ cs) split ∙ sym (append_assoc before (b ∷ xs) (c ∷ ys)) in
       let sum = total_of-append before (b ∷ xs) in
       let same = only (before ++ b ∷ xs) c ys a (omega arith) whole passes in
-      let some = positive before b behind is in omega arith)
+      let some = positive before b after is in omega arith)
 
   -- so its address is the only one of those that pass
   pub one-passes : test (kind_of (at + total_of before + head_size s.heads) b.content) ≡ true → addresses_from at test (map_in s at bs) ≡ (at + total_of before) ∷ []
   one-passes passes =
-      ap (addresses_from at test) (ap (map_in s at) is ∙ map_in-append s at before (b ∷ behind))
-      ∙ addresses_from-append at test (map_in s at before) (map_in s (at + total_of before) (b ∷ behind))
-      ∙ ap (λ (xs : List ℕ). xs ++ addresses_from (at + total_size (map_in s at before)) test (map_in s (at + total_of before) (b ∷ behind))) (addresses_from-none at test (map_in s at before) none-before)
-      ∙ ap (λ n. addresses_from (at + n) test (map_in s (at + total_of before) (b ∷ behind))) (map_in-total s at before)
-      ∙ ap (λ t. cond t ((at + total_of before) ∷ []) [] ++ addresses_from (at + total_of before + b.size) test (map_in s (at + total_of before + b.size) behind)) passes
-      ∙ ap (λ (xs : List ℕ). (at + total_of before) ∷ xs) (addresses_from-none (at + total_of before + b.size) test (map_in s (at + total_of before + b.size) behind) none-behind)
+      ap (addresses_from at test) (ap (map_in s at) is ∙ map_in-append s at before (b ∷ after))
+      ∙ addresses_from-append at test (map_in s at before) (map_in s (at + total_of before) (b ∷ after))
+      ∙ ap (λ (xs : List ℕ). xs ++ addresses_from (at + total_size (map_in s at before)) test (map_in s (at + total_of before) (b ∷ after))) (addresses_from-none at test (map_in s at before) none-before)
+      ∙ ap (λ n. addresses_from (at + n) test (map_in s (at + total_of before) (b ∷ after))) (map_in-total s at before)
+      ∙ ap (λ t. cond t ((at + total_of before) ∷ []) [] ++ addresses_from (at + total_of before + b.size) test (map_in s (at + total_of before + b.size) after)) passes
+      ∙ ap (λ (xs : List ℕ). (at + total_of before) ∷ xs) (addresses_from-none (at + total_of before + b.size) test (map_in s (at + total_of before + b.size) after) none-after)
 
 -- ---- their slots
 
@@ -253,23 +253,23 @@ pub record PointerIn (s : Shape) (at : ℕ) (bs : List BlockRecord) (x : ℕ) (b
   pub before : List BlockRecord
   pub size : ℕ
   pub lent : Bool
-  pub behind : List BlockRecord
-  pub blocks : bs ≡ before ++ record { size = size; content = Fixed bytes; lent = lent } ∷ behind
+  pub after : List BlockRecord
+  pub blocks : bs ≡ before ++ record { size = size; content = Fixed bytes; lent = lent } ∷ after
   pub place : x ≡ at + total_of before + head_size s.heads
 
 -- its bytes are said
-said-there : (s : Shape) (all : List BlockRecord) (at : ℕ) (before : List BlockRecord) (b : BlockRecord) (behind : List BlockRecord) (x : ℕ) (bytes : List ℕ) → b.content ≡ Fixed bytes → x ≡ at + total_of before + head_size s.heads
-    → Contains (saids s all at (before ++ b ∷ behind)) (x, Some (Pointer bytes))
-said-there s all at [] b behind x bytes is place =
+said-there : (s : Shape) (all : List BlockRecord) (at : ℕ) (before : List BlockRecord) (b : BlockRecord) (after : List BlockRecord) (x : ℕ) (bytes : List ℕ) → b.content ≡ Fixed bytes → x ≡ at + total_of before + head_size s.heads
+    → Contains (saids s all at (before ++ b ∷ after)) (x, Some (Pointer bytes))
+said-there s all at [] b after x bytes is place =
     let here : at + head_size s.heads ≡ x = omega arith in
-    subst (λ c. Contains (saids_of all (at + head_size s.heads) c ++ saids s all (at + b.size) behind) (x, Some (Pointer bytes))) (sym is)
-    (subst (λ a. Contains ((at + head_size s.heads, Some (Pointer bytes)) ∷ saids s all (at + b.size) behind) (a, Some (Pointer bytes))) here
-    (first_is (at + head_size s.heads, Some (Pointer bytes)) (saids s all (at + b.size) behind)))
-said-there s all at (y ∷ before) b behind x bytes is place =
-    Contains-append_right (saids_of all (at + head_size s.heads) y.content) (saids s all (at + y.size) (before ++ b ∷ behind)) (x, Some (Pointer bytes)) (said-there s all (at + y.size) before b behind x bytes is (omega arith))
+    subst (λ c. Contains (saids_of all (at + head_size s.heads) c ++ saids s all (at + b.size) after) (x, Some (Pointer bytes))) (sym is)
+    (subst (λ a. Contains ((at + head_size s.heads, Some (Pointer bytes)) ∷ saids s all (at + b.size) after) (a, Some (Pointer bytes))) here
+    (first_is (at + head_size s.heads, Some (Pointer bytes)) (saids s all (at + b.size) after)))
+said-there s all at (y ∷ before) b after x bytes is place =
+    Contains-append_right (saids_of all (at + head_size s.heads) y.content) (saids s all (at + y.size) (before ++ b ∷ after)) (x, Some (Pointer bytes)) (said-there s all (at + y.size) before b after x bytes is (omega arith))
 
 pub pointer-said : (s : Shape) (all : List BlockRecord) (at : ℕ) (bs : List BlockRecord) (x : ℕ) (bytes : List ℕ) → PointerIn s at bs x bytes → Contains (saids s all at bs) (x, Some (Pointer bytes))
-pointer-said s all at bs x bytes p = subst (λ (bs : List BlockRecord). Contains (saids s all at bs) (x, Some (Pointer bytes))) (sym p.blocks) (said-there s all at p.before _ p.behind x bytes refl p.place)
+pointer-said s all at bs x bytes p = subst (λ (bs : List BlockRecord). Contains (saids s all at bs) (x, Some (Pointer bytes))) (sym p.blocks) (said-there s all at p.before _ p.after x bytes refl p.place)
 
 -- what is said of a number is said by its slot, or is that of a pointer
 abbrev pub Sayer : Shape → List BlockRecord → ℕ → List BlockRecord → ℕ → Option Live → Type 0
@@ -292,7 +292,7 @@ said-cases s all at (b ∷ bs) x o c = elim (Contains-append_cases (saids_of all
           before = [];
           size = b.size;
           lent = b.lent;
-          behind = bs;
+          after = bs;
           blocks = ap (λ c. record { size = b.size; content = c; lent = b.lent } ∷ bs) is;
           place = (let key : at + head_size s.heads ≡ x = ap (λ e. e.0) same in omega arith);
         },
@@ -314,6 +314,6 @@ said-cases s all at (b ∷ bs) x o c = elim (Contains-append_cases (saids_of all
     in_others (inl said) = inl (said.0, Contains-append_right (slots_of (at + head_size s.heads) b.content) (all_slots s (at + b.size) bs) (x, said.0) said.1, said.2)
     in_others (inr pointer) = let p = pointer.1 in let place = p.place in inr (
       pointer.0,
-      record { before = b ∷ p.before; size = p.size; lent = p.lent; behind = p.behind; blocks = ap (λ (cs : List BlockRecord). b ∷ cs) p.blocks; place = omega arith },
+      record { before = b ∷ p.before; size = p.size; lent = p.lent; after = p.after; blocks = ap (λ (cs : List BlockRecord). b ∷ cs) p.blocks; place = omega arith },
       pointer.2,
     )

@@ -11,7 +11,7 @@ use Rattle.mac_base.specs.declared.block.HeadKind.TheVariants.{Bits24, Bits32}
 use Rattle.mac_base.specs.declared.block.Kind.{Kind}
 use Rattle.mac_base.specs.declared.block.Kind.TheVariants as kind
 use Rattle.mac_base.specs.HeadKind.{head_size, slot_count, zone_header}
-use Rattle.mac_base.specs.ZoneMap.{ZoneMap, block, address_behind, contents_of}
+use Rattle.mac_base.specs.ZoneMap.{ZoneMap, block, address_after, contents_of}
 use Rattle.mac_base.specs.HandleTable.{Live, EmptyHandle, FullHandle, Pointer, live_at, live_bytes, live_flags, live_full, live_handle, live_pointer, bytes_of, flags_of, is_full, is_handle, is_pointer}
 use Rattle.mac_base.specs.Suits.{slots_from}
 use Rattle.mac_base.specs.ZoneState.{ZoneState}
@@ -165,21 +165,21 @@ module _ (z : ZoneState) (bytes : List ℕ) (fits : Fits z) (rooms : HasRooms z)
           ap Fixed (shown-pointed z bytes p there.1 ∙ ap (λ a. part bytes a (length (bytes_of z.heap.table p))) same)
       by_kind (kind.Rel h) is =
           let full = block-full z fits at h e is in
-          let b : BlockOf z h at = record { before = e.before; size = e.here.size; behind = e.behind; map = e.map ∙ ap (λ k. e.before ++ block k e.here.size ∷ e.behind) is; place = e.place } in
+          let b : BlockOf z h at = record { before = e.before; size = e.here.size; after = e.after; map = e.map ∙ ap (λ k. e.before ++ block k e.here.size ∷ e.after) is; place = e.place } in
           let begin = emptied-contents z h fits full at b in
           let same : contents_of z.shape h z.heap.map - z.shape.base ≡ offset = omega arith in
           ap (λ f. Relocatable h f (bytes_of (shown z bytes).heap.table h)) (shown-header z bytes h)
           ∙ ap (Relocatable h (header_flags z.shape.heads (flags_of z.heap.table h))) (shown-bytes z bytes h full ∙ ap (λ a. part bytes a (length (bytes_of z.heap.table h))) same)
 
   -- so are the blocks of a part of the map, the first at an offset
-  blocks-shown : (before m : ZoneMap) (offset : ℕ) → z.heap.map ≡ before ++ m → z.shape.base + offset ≡ address_behind z.shape before
+  blocks-shown : (before m : ZoneMap) (offset : ℕ) → z.heap.map ≡ before ++ m → z.shape.base + offset ≡ address_after z.shape before
       → records_from (owners_of (shown z bytes)) z.shape (z.shape.base + offset) m ≡ shown_blocks z.shape.heads bytes offset (records_from (owners_of z) z.shape (z.shape.base + offset) m)
   blocks-shown before [] offset is place = refl
   blocks-shown before (e ∷ es) offset is place =
       let next : (z.shape.base + offset) + e.size ≡ z.shape.base + (offset + e.size) = omega arith in
       let lower = total_size-append before (e ∷ []) in
       ap (λ c. record { size = e.size; content = c; lent = lent_of (owners_of z) e.kind } ∷ records_from (owners_of (shown z bytes)) z.shape ((z.shape.base + offset) + e.size) es)
-      (content-shown (z.shape.base + offset) (offset + head_size z.shape.heads) (record { before = before; here = e; behind = es; map = is; place = place }) (omega arith))
+      (content-shown (z.shape.base + offset) (offset + head_size z.shape.heads) (record { before = before; here = e; after = es; map = is; place = place }) (omega arith))
       ∙ ap (λ bs. record { size = e.size; content = shown_content z.shape.heads bytes (offset + head_size z.shape.heads) (content_of (owners_of z) (z.shape.base + offset + head_size z.shape.heads) e.kind); lent = lent_of (owners_of z) e.kind } ∷ bs)
       (ap (λ a. records_from (owners_of (shown z bytes)) z.shape a es) next
       ∙ blocks-shown (before ++ e ∷ []) es (offset + e.size) (is ∙ sym (append_assoc before (e ∷ []) es)) (omega arith)
@@ -188,7 +188,7 @@ module _ (z : ZoneState) (bytes : List ℕ) (fits : Fits z) (rooms : HasRooms z)
   -- the blocks of the zone that bytes show are those that bytes show
   pub shown-law : records_of (shown z bytes) ≡ records.shown (records_of z) bytes
   shown-law =
-      let start : address_behind z.shape [] ≡ z.shape.base + zone_header = omega arith in
+      let start : address_after z.shape [] ≡ z.shape.base + zone_header = omega arith in
       ap (λ bs. record (records_of z) { blocks = bs })
       (ap (λ a. records_from (owners_of (shown z bytes)) z.shape a z.heap.map) start
       ∙ blocks-shown [] z.heap.map zone_header refl (sym start)

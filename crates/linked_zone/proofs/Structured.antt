@@ -16,7 +16,7 @@ use Rattle.mac_base.specs.declared.block.Kind.TheVariants as kind
 use Rattle.mac_base.specs.HeadKind.{Shape, head_size}
 use Rattle.mac_base.specs.Heap.{with_table}
 use Rattle.mac_base.specs.Loans.{most_loans, owners}
-use Rattle.mac_base.specs.ZoneMap.{block, total_size, address_behind, contents_of}
+use Rattle.mac_base.specs.ZoneMap.{block, total_size, address_after, contents_of}
 use Rattle.mac_base.specs.HandleTable.{HandleTable, Live, EmptyHandle, FullHandle, Pointer, zeros, live_at, live_bytes, live_flags, live_full, live_pointer, bytes_of, flags_of, is_full, is_pointer, is_lent}
 use Rattle.mac_base.specs.Sound.{Sound}
 use Rattle.mac_base.specs.Suits.{is_block_size, has_length, has_owners_length}
@@ -101,10 +101,10 @@ module _ (z : ZoneState) (sound : Sound z.shape z.heap) (nothing_lent : z.heap.t
   -- the contents of a block end within the zone
   contents-within : (at n : ℕ) (e : EntryAt z at) → has_owners_length z.shape z.heap.table e.here ≡ has_length z.shape e.here.size n → (at + head_size z.shape.heads - z.shape.base) + n ≤ z.shape.limit
   contents-within at n e owned =
-      let size = (and_parts (is_block_size z.shape e.here.size) true (part-passes (λ (e : Entry). is_block_size z.shape e.size) e.before (e.here ∷ []) e.behind z.heap.map e.map sound.suits.sizes)).0 in
-      let long = (and_parts (has_owners_length z.shape z.heap.table e.here) true (part-passes (has_owners_length z.shape z.heap.table) e.before (e.here ∷ []) e.behind z.heap.map e.map sound.suits.lengths)).0 in
+      let size = (and_parts (is_block_size z.shape e.here.size) true (part-passes (λ (e : Entry). is_block_size z.shape e.size) e.before (e.here ∷ []) e.after z.heap.map e.map sound.suits.sizes)).0 in
+      let long = (and_parts (has_owners_length z.shape z.heap.table e.here) true (part-passes (has_owners_length z.shape z.heap.table) e.before (e.here ∷ []) e.after z.heap.map e.map sound.suits.lengths)).0 in
       let room = room_had z.shape e.here.size n size (sym owned ∙ long) in
-      let total = ap total_size e.map ∙ total_size-append e.before (e.here ∷ e.behind) in
+      let total = ap total_size e.map ∙ total_size-append e.before (e.here ∷ e.after) in
       let place = e.place in
       let within = sound.within in
       omega arith
@@ -132,7 +132,7 @@ module _ (z : ZoneState) (sound : Sound z.shape z.heap) (nothing_lent : z.heap.t
           let own = own_block z x fits full in
           let b = own.block in
           let begin = own.contents in
-          let within = contents-within own.at (length (bytes_of z.heap.table x)) (record { before = b.before; here = block (kind.Rel x) b.size; behind = b.behind; map = b.map; place = b.place }) refl in
+          let within = contents-within own.at (length (bytes_of z.heap.table x)) (record { before = b.before; here = block (kind.Rel x) b.size; after = b.after; map = b.map; place = b.place }) refl in
           ap length (shown-bytes z bytes x full) ∙ length-part bytes (contents_of z.shape x z.heap.map - z.shape.base) (length (bytes_of z.heap.table x)) (omega arith)
       by_test false empty = by_pointer (is_pointer z.heap.table x) empty refl
 
@@ -142,7 +142,7 @@ module _ (z : ZoneState) (sound : Sound z.shape z.heap) (nothing_lent : z.heap.t
   pub own-shown : (bytes : List ℕ) → IsIn z bytes → shown z bytes ≡ z
   own-shown bytes is =
       let now = shown z bytes in
-      let start = address_behind z.shape [] in
+      let start = address_after z.shape [] in
       let same : records_of now ≡ records_of z = shown-law z bytes fits rooms ∙ own-records (records_of z) bytes (in-to z bytes is) in
       let live : now.heap.table.live ≡ z.heap.table.live = sym (table-back now (shown-fits z bytes fits) rooms) ∙ ap (λ (r : ZoneRecords). lives_in z.shape r.blocks start r.blocks) same ∙ table-back z fits rooms in
       λ i. record { memory = z.memory; shape = z.shape; heap = record { table = record { live = live i; lent = z.heap.table.lent }; map = z.heap.map; free_slots = z.heap.free_slots } }

@@ -5,7 +5,7 @@ use Rattle.mac_base.specs.declared.block.Kind.{Kind}
 use Rattle.mac_base.specs.declared.block.Kind.TheVariants.{Free, Master, Ptr, Rel}
 use Rattle.mac_base.specs.HeadKind.{Shape}
 use Rattle.mac_base.specs.Loans.{owner_of, owners}
-use Rattle.mac_base.specs.ZoneMap.{ZoneMap, address_behind}
+use Rattle.mac_base.specs.ZoneMap.{ZoneMap, address_after}
 use Rattle.mac_base.specs.ZoneState.{ZoneState}
 use Rattle.zone_records.specs.Records.{ZoneRecords, BlockRecord, NothingLent, lent_count}
 use Rattle.linked_zone.specs.Owned.{Owners, owners_of, lent_of, records_from}
@@ -23,7 +23,7 @@ records-unlent o s at (e ∷ es) none = ap (λ l. not l && list_all (λ (b : Blo
     by_kind (Rel h) = none h
 
 pub nothing-lent : (r : ZoneRecords) (z : ZoneState) → Stands r z → z.heap.table.lent ≡ [] → NothingLent r
-nothing-lent r z stands none = subst NothingLent (sym stands.blocks) (records-unlent (owners_of z) z.shape (address_behind z.shape []) z.heap.map (λ x. ap (list_any (λ y. eqb y x)) none))
+nothing-lent r z stands none = subst NothingLent (sym stands.blocks) (records-unlent (owners_of z) z.shape (address_after z.shape []) z.heap.map (λ x. ap (list_any (λ y. eqb y x)) none))
 
 -- as many blocks are lent as owners
 records-lent : (o : Owners) (s : Shape) (at : ℕ) (m : ZoneMap) → lent_count (records_from o s at m) ≡ length (filter o.lent (owners m))
@@ -42,4 +42,4 @@ records-lent o s at (e ∷ es) = by_kind e.kind (records-lent o s (at + e.size) 
 
 -- so many are lent
 pub count-read : (r : ZoneRecords) (z : ZoneState) → Stands r z → lent_count r.blocks ≡ length z.heap.table.lent
-count-read r z stands = ap (λ (r : ZoneRecords). lent_count r.blocks) stands.blocks ∙ records-lent (owners_of z) z.shape (address_behind z.shape []) z.heap.map ∙ ap length (sym stands.fits.loans.in_order)
+count-read r z stands = ap (λ (r : ZoneRecords). lent_count r.blocks) stands.blocks ∙ records-lent (owners_of z) z.shape (address_after z.shape []) z.heap.map ∙ ap length (sym stands.fits.loans.in_order)

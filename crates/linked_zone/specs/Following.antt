@@ -6,7 +6,7 @@ use Rattle.mac_base.specs.declared.block.Kind.{Kind}
 use Rattle.mac_base.specs.declared.block.Kind.TheVariants as kind
 use Rattle.mac_base.specs.HandleTable.{live_at}
 use Rattle.mac_base.specs.Heap.{front_slot}
-use Rattle.mac_base.specs.ZoneMap.{ZoneMap, is_named, total_size, address_behind, contents_of}
+use Rattle.mac_base.specs.ZoneMap.{ZoneMap, is_named, total_size, address_after, contents_of}
 use Rattle.mac_base.specs.ZoneState.{ZoneState}
 use Rattle.zone_records.specs.declared.slot.Slot.{Slot}
 use Rattle.zone_records.specs.declared.slot.Slot.TheVariants as slot
@@ -23,7 +23,7 @@ moved_to contents (slot.Free next) = slot.Free next
 moved_to contents slot.Empty = slot.Empty
 moved_to contents (slot.Full flags old) = slot.Full flags contents
 
--- a slot stands at an address, and can say so
+-- a slot is at an address, and can say so
 pub record CanMove (z : ZoneRecords) (h contents : ℕ) : Type 0 where
   pub there : SlotAt z h
   pub said : IsTrue (can_say z.shape.heads (moved_to contents there.here))
@@ -51,18 +51,18 @@ owners_saying said z = record {
   lent = (owners_of z).lent;
 }
 
--- the blocks are those of a zone, but the slots of the handles whose blocks stand from an address up to another, each
+-- the blocks are those of a zone, but the slots of the handles whose blocks are from an address up to another, each
 -- of which can be moved, may say other places
 pub record Misplaced (r : ZoneRecords) (start end : ℕ) : Type 0 where
   pub zone : ZoneState
   pub before : ZoneMap
   pub run : ZoneMap
-  pub behind : ZoneMap
+  pub after : ZoneMap
   pub said : ℕ → ℕ
   pub same : state_in (records_of zone) ≡ zone
   pub stands : StandsAsRead (record { records = records_of zone })
-  pub map : zone.heap.map ≡ before ++ (run ++ behind)
-  pub place : start ≡ address_behind zone.shape before
+  pub map : zone.heap.map ≡ before ++ (run ++ after)
+  pub place : start ≡ address_after zone.shape before
   pub long : end ≡ start + total_size run
   pub moves : IsTrue (all_can_move zone.heap.table run)
   pub others : (y : ℕ) → IsTrue (list_all (λ (e : Entry). not (is_named y e.kind)) run) → said y ≡ contents_of zone.shape y zone.heap.map
@@ -70,5 +70,5 @@ pub record Misplaced (r : ZoneRecords) (start end : ℕ) : Type 0 where
     memory = zone.memory;
     shape = zone.shape;
     front = front_slot zone.heap;
-    blocks = records_from (owners_saying said zone) zone.shape (address_behind zone.shape []) zone.heap.map;
+    blocks = records_from (owners_saying said zone) zone.shape (address_after zone.shape []) zone.heap.map;
   }

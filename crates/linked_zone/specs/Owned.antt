@@ -7,7 +7,7 @@ use Rattle.mac_base.specs.declared.block.HeadKind.TheVariants.{Bits24, Bits32}
 use Rattle.mac_base.specs.declared.block.Kind.{Kind}
 use Rattle.mac_base.specs.declared.block.Kind.TheVariants as kind
 use Rattle.mac_base.specs.HeadKind.{Shape, head_size, slot_count}
-use Rattle.mac_base.specs.ZoneMap.{ZoneMap, address_behind, contents_of}
+use Rattle.mac_base.specs.ZoneMap.{ZoneMap, address_after, contents_of}
 use Rattle.mac_base.specs.HandleTable.{Live, EmptyHandle, FullHandle, Pointer, live_at, no_flags, bytes_of, flags_of, is_lent}
 use Rattle.mac_base.specs.Heap.{front_slot}
 use Rattle.mac_base.specs.Suits.{slots_from}
@@ -34,7 +34,7 @@ pub record Owners : Type 0 where
   pub bytes : ℕ → List ℕ
   pub lent : ℕ → Bool
 
--- the free slot behind x in the order in which they are given, and 0 behind the last
+-- the free slot after x in the order in which they are given, and 0 after the last
 abbrev pub next_free : List ℕ → ℕ → ℕ
 next_free [] x = 0
 next_free (y ∷ ys) x = if y == x then slice_index ys 0 else next_free ys x
@@ -72,7 +72,7 @@ lent_of o kind.Master = false
 lent_of o (kind.Ptr p) = o.lent p
 lent_of o (kind.Rel h) = o.lent h
 
--- the block of an entry whose header stands at an address
+-- the block of an entry whose header is at an address
 abbrev pub record_of : Owners → Shape → ℕ → Entry → BlockRecord
 record_of o s at e = record { size = e.size; content = content_of o (at + head_size s.heads) e.kind; lent = lent_of o e.kind }
 
@@ -83,4 +83,4 @@ records_from o s at (e ∷ es) = record_of o s at e ∷ records_from o s (at + e
 
 -- the blocks of a zone
 abbrev pub records_of : ZoneState → ZoneRecords
-records_of z = record { memory = z.memory; shape = z.shape; front = front_slot z.heap; blocks = records_from (owners_of z) z.shape (address_behind z.shape []) z.heap.map }
+records_of z = record { memory = z.memory; shape = z.shape; front = front_slot z.heap; blocks = records_from (owners_of z) z.shape (address_after z.shape []) z.heap.map }

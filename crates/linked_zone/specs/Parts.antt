@@ -5,7 +5,7 @@ use Rattle.mac_base.specs.BlockReport.{report_at}
 use Rattle.mac_base.specs.HandleTable.{bytes_of}
 use Rattle.mac_base.specs.HeadKind.{head_size, zone_header}
 use Rattle.mac_base.specs.Suits.{slots}
-use Rattle.mac_base.specs.ZoneMap.{address_behind}
+use Rattle.mac_base.specs.ZoneMap.{address_after}
 use Rattle.mac_base.specs.ZoneState.{ZoneState}
 use Rattle.zone_records.specs.declared.structure.Part.{Part}
 use Rattle.zone_records.specs.declared.structure.Part.TheVariants.{ZoneHeader, BlockHeader, MasterPointer}
@@ -20,7 +20,7 @@ pub record IsHolder (z : ZoneState) (at : ℕ) (b : Block) : Type 0 where
 
 -- the byte at an address lies before all blocks, or after them
 abbrev pub LiesOutside : ZoneState → ℕ → Type 0
-LiesOutside z at = (at < address_behind z.shape []) ⊎ (address_behind z.shape z.heap.map ≤ at)
+LiesOutside z at = (at < address_after z.shape []) ⊎ (address_after z.shape z.heap.map ≤ at)
 
 -- the header of a block has the byte at an offset from the zone's start
 pub record InHeader (z : ZoneState) (at : ℕ) : Type 0 where

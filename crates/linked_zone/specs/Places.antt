@@ -6,18 +6,18 @@ use Rattle.mac_base.specs.declared.block.Kind.TheVariants.{Free, Master, Ptr, Re
 use Rattle.mac_base.specs.declared.block.Kind.{Kind}
 use Rattle.mac_base.specs.HandleTable.{HandleTable, is_handle}
 use Rattle.mac_base.specs.Loans.{is_here}
-use Rattle.mac_base.specs.ZoneMap.{ZoneMap, block, has_free, is_free, is_named, address_behind, total_size}
+use Rattle.mac_base.specs.ZoneMap.{ZoneMap, block, has_free, is_free, is_named, address_after, total_size}
 use Rattle.mac_base.specs.Suits.{is_block_size, has_length}
 use Rattle.mac_base.specs.HeadKind.{Shape}
 use Rattle.mac_base.specs.ZoneState.{ZoneState}
 
--- a block's header stands at an address
+-- a block's header is at an address
 pub record EntryAt (z : ZoneState) (at : ℕ) : Type 0 where
   pub before : ZoneMap
   pub here : Entry
-  pub behind : ZoneMap
-  pub map : z.heap.map ≡ before ++ here ∷ behind
-  pub place : at ≡ address_behind z.shape before
+  pub after : ZoneMap
+  pub map : z.heap.map ≡ before ++ here ∷ after
+  pub place : at ≡ address_after z.shape before
 
 -- the handle whose block a block of this kind is is live
 abbrev pub HasOwner : ZoneState → Kind → Type 0
@@ -30,17 +30,17 @@ HasOwner z (Ptr p) = ⊤
 pub record FreeAt (z : ZoneState) (at : ℕ) : Type 0 where
   pub before : ZoneMap
   pub size : ℕ
-  pub behind : ZoneMap
-  pub map : z.heap.map ≡ before ++ block Free size ∷ behind
-  pub place : at ≡ address_behind z.shape before
+  pub after : ZoneMap
+  pub map : z.heap.map ≡ before ++ block Free size ∷ after
+  pub place : at ≡ address_after z.shape before
 
 -- that of the block of the handle h
 pub record BlockOf (z : ZoneState) (h at : ℕ) : Type 0 where
   pub before : ZoneMap
   pub size : ℕ
-  pub behind : ZoneMap
-  pub map : z.heap.map ≡ before ++ block (Rel h) size ∷ behind
-  pub place : at ≡ address_behind z.shape before
+  pub after : ZoneMap
+  pub map : z.heap.map ≡ before ++ block (Rel h) size ∷ after
+  pub place : at ≡ address_after z.shape before
 
 -- the header of the lowest free block of at least k bytes
 pub record LowestAt (z : ZoneState) (k at : ℕ) : Type 0 where
@@ -65,17 +65,17 @@ pub record FreePair (z : ZoneState) (at : ℕ) : Type 0 where
   pub before : ZoneMap
   pub first : ℕ
   pub second : ℕ
-  pub behind : ZoneMap
-  pub map : z.heap.map ≡ before ++ block Free first ∷ block Free second ∷ behind
-  pub place : at ≡ address_behind z.shape before
+  pub after : ZoneMap
+  pub map : z.heap.map ≡ before ++ block Free first ∷ block Free second ∷ after
+  pub place : at ≡ address_after z.shape before
 
 -- that of the block of x, a handle or a pointer
 pub record NamedAt (z : ZoneState) (x at : ℕ) : Type 0 where
   pub before : ZoneMap
   pub here : Entry
-  pub behind : ZoneMap
-  pub map : z.heap.map ≡ before ++ here ∷ behind
-  pub place : at ≡ address_behind z.shape before
+  pub after : ZoneMap
+  pub map : z.heap.map ≡ before ++ here ∷ after
+  pub place : at ≡ address_after z.shape before
   pub named : IsTrue (is_named x here.kind)
 
 -- a block of so many bytes, n of them contents, can be the front of this many; what is over is nothing or a block
@@ -89,18 +89,18 @@ pub record CanFront (s : Shape) (whole size n : ℕ) : Type 0 where
 pub record CanHold (z : ZoneState) (x size n : ℕ) : Type 0 where
   pub before : ZoneMap
   pub here : Entry
-  pub behind : ZoneMap
-  pub map : z.heap.map ≡ before ++ here ∷ behind
+  pub after : ZoneMap
+  pub map : z.heap.map ≡ before ++ here ∷ after
   pub named : IsTrue (is_named x here.kind)
   pub fits : CanFront z.shape here.size size n
 
--- it can take bytes of the free block right behind it, to be so many with n of contents
+-- it can take bytes of the free block right after it, to be so many with n of contents
 pub record CanGrow (z : ZoneState) (x size n : ℕ) : Type 0 where
   pub before : ZoneMap
   pub here : Entry
   pub free : ℕ
-  pub behind : ZoneMap
-  pub map : z.heap.map ≡ before ++ here ∷ block Free free ∷ behind
+  pub after : ZoneMap
+  pub map : z.heap.map ≡ before ++ here ∷ block Free free ∷ after
   pub named : IsTrue (is_named x here.kind)
   pub larger : here.size ≤ size
   pub fits : CanFront z.shape (here.size + free) size n
@@ -117,9 +117,9 @@ pub record MovablePair (z : ZoneState) (at : ℕ) : Type 0 where
   pub before : ZoneMap
   pub first : Entry
   pub second : Entry
-  pub behind : ZoneMap
-  pub map : z.heap.map ≡ before ++ first ∷ second ∷ behind
-  pub place : at ≡ address_behind z.shape before
+  pub after : ZoneMap
+  pub map : z.heap.map ≡ before ++ first ∷ second ∷ after
+  pub place : at ≡ address_after z.shape before
   pub first_moves : IsTrue (is_movable first.kind)
   pub second_moves : IsTrue (is_movable second.kind)
   pub first_here : IsTrue (is_here z.heap.table first.kind)
@@ -133,40 +133,40 @@ can_move t kind = is_movable kind && is_here t kind
 abbrev pub all_can_move : HandleTable → ZoneMap → Bool
 all_can_move t blocks = list_all (λ (e : Entry). can_move t e.kind) blocks
 
--- a block and a run behind it can be moved, and stand between two addresses
+-- a block and a run after it can be moved, and are between two addresses
 pub record ParcelAt (z : ZoneState) (start end : ℕ) : Type 0 where
   pub before : ZoneMap
   pub here : Entry
   pub blocks : ZoneMap
-  pub behind : ZoneMap
-  pub map : z.heap.map ≡ before ++ (here ∷ blocks ++ behind)
-  pub place : start ≡ address_behind z.shape before
+  pub after : ZoneMap
+  pub map : z.heap.map ≡ before ++ (here ∷ blocks ++ after)
+  pub place : start ≡ address_after z.shape before
   pub long : end ≡ start + (here.size + total_size blocks)
   pub moves : IsTrue (all_can_move z.heap.table (here ∷ blocks))
 
--- a run that can be moved stands from an address on, and a block behind it, which can be moved too, at another
+-- a run that can be moved is from an address on, and a block after it, which can be moved too, at another
 pub record ParcelUpTo (z : ZoneState) (start at : ℕ) : Type 0 where
   pub before : ZoneMap
   pub blocks : ZoneMap
   pub here : Entry
-  pub behind : ZoneMap
-  pub map : z.heap.map ≡ before ++ (blocks ++ here ∷ behind)
-  pub place : start ≡ address_behind z.shape before
+  pub after : ZoneMap
+  pub map : z.heap.map ≡ before ++ (blocks ++ here ∷ after)
+  pub place : start ≡ address_after z.shape before
   pub long : at ≡ start + total_size blocks
   pub moves : IsTrue (all_can_move z.heap.table (blocks ++ here ∷ []))
 
 -- the blocks from an address on, which is that of a block or of the end of the last
 pub record SplitAt (z : ZoneState) (at : ℕ) : Type 0 where
   pub before : ZoneMap
-  pub behind : ZoneMap
-  pub map : z.heap.map ≡ before ++ behind
-  pub place : at ≡ address_behind z.shape before
+  pub after : ZoneMap
+  pub map : z.heap.map ≡ before ++ after
+  pub place : at ≡ address_after z.shape before
 
 -- whether none of these blocks is free
 abbrev pub none_free : ZoneMap → Bool
 none_free blocks = list_all (λ (e : Entry). not (is_free e.kind)) blocks
 
--- the last free one of these blocks, which begin at an address, stands at another
+-- the last free one of these blocks, which begin at an address, is at another
 pub record LastFree (blocks : ZoneMap) (from at : ℕ) : Type 0 where
   pub front : ZoneMap
   pub size : ℕ
@@ -175,12 +175,12 @@ pub record LastFree (blocks : ZoneMap) (from at : ℕ) : Type 0 where
   pub used : IsTrue (none_free passed)
   pub place : at ≡ from + total_size front
 
--- the first free one of these blocks, which begin at an address, stands at another
+-- the first free one of these blocks, which begin at an address, is at another
 pub record FirstFree (blocks : ZoneMap) (from at : ℕ) : Type 0 where
   pub passed : ZoneMap
   pub size : ℕ
-  pub behind : ZoneMap
-  pub splits : blocks ≡ passed ++ block Free size ∷ behind
+  pub after : ZoneMap
+  pub splits : blocks ≡ passed ++ block Free size ∷ after
   pub used : IsTrue (none_free passed)
   pub place : at ≡ from + total_size passed
 

@@ -8,7 +8,7 @@ use Rattle.mac_base.specs.HandleTable.{Live, EmptyHandle, FullHandle, Pointer}
 use Rattle.mac_base.specs.ZoneState.{ZoneState}
 use Rattle.zone_records.specs.declared.slot.Slot.{Slot}
 use Rattle.zone_records.specs.declared.slot.Slot.TheVariants as slot
-use Rattle.zone_records.specs.Records.{Content, BlockRecord, ZoneRecords, Free, Fixed, Master, Relocatable, address_behind, kind_of}
+use Rattle.zone_records.specs.Records.{Content, BlockRecord, ZoneRecords, Free, Fixed, Master, Relocatable, address_after, kind_of}
 use Rattle.zone_records.specs.Slots.{addressed, all_slots, chain}
 use Rattle.linked_zone.specs.declared.zone.LinkedZone.TheInside.{Inside}
 use Rattle.linked_zone.specs.Owned.{records_of}
@@ -60,7 +60,7 @@ lents_in s at (b ∷ bs) = (if b.lent then owner_of (kind_of (at + head_size s.h
 
 -- the zone that blocks stand for
 abbrev pub state_in : ZoneRecords → ZoneState
-state_in z = let start = address_behind z.shape [] in let all = all_slots z.shape start z.blocks in record {
+state_in z = let start = address_after z.shape [] in let all = all_slots z.shape start z.blocks in record {
   memory = z.memory;
   shape = z.shape;
   heap = record {

@@ -41,7 +41,7 @@ impl LinkedZone {
         self.records.set_front(slot);
     }
 
-    /// Grows the zone to its limit: the bytes up to there are a free block behind the last. Where the zone is as large
+    /// Grows the zone to its limit: the bytes up to there are a free block after the last. Where the zone is as large
     /// as its limit nothing changes.
     pub fn extend(&mut self)
         ensures { self.new ≡ extended self.old }
@@ -58,7 +58,7 @@ impl LinkedZone {
         self.records.split(at, size);
     }
 
-    /// Makes a free block and the free one behind it one block.
+    /// Makes a free block and the free one after it one block.
     pub fn merge(&mut self, at: u32)
         requires { FreePair self.old at }
         ensures { (pair : FreePair self.old at) → self.new ≡ joined_pair self.old pair }
@@ -66,7 +66,7 @@ impl LinkedZone {
         self.records.merge(at);
     }
 
-    /// The block at an address changes places with those behind it up to an address, each of a handle or free. Every
+    /// The block at an address changes places with those after it up to an address, each of a handle or free. Every
     /// handle has the same bytes and flags. The bytes turn in one rotation, however many blocks there are.
     pub fn carry(&mut self, at: u32, end: u32)
         requires { ParcelAt self.old at end }
@@ -161,7 +161,7 @@ pub(crate) fn follow(records: &mut Records, kind: Kind, contents: u32)
     records.set_slot(handle.number(), Slot::Full(flags, contents));
 }
 
-/// Makes the slots of the handles whose blocks stand from an address up to another say where these stand.
+/// Makes the slots of the handles whose blocks are from an address up to another say where these are.
 fn follow_run(records: &mut Records, start: u32, end: u32)
     requires { Misplaced records.old start end }
     ensures { (run : Misplaced records.old start end) → records.new ≡ records_of run.zone }

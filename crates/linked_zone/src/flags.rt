@@ -1,4 +1,4 @@
-//! Where a handle's flags stand: in its slot in a zone of 24-bit blocks, and in its block's header in one of 32-bit
+//! Where a handle's flags are: in its slot in a zone of 24-bit blocks, and in its block's header in one of 32-bit
 //! blocks.
 
 ghost use Rattle.std.specs.Prelude.{◌≡◌};
@@ -10,7 +10,7 @@ use mac_base::block::{Entry, Flags, HeadKind, Kind};
 use mac_base::handle::Handle;
 use zone_records::{Records, Slot};
 
-/// The flags of the handle whose slot says these, and whose block's header stands at an address.
+/// The flags of the handle whose slot says these, and whose block's header is at an address.
 pub fn read(records: &Records, slot: Flags, at: u32) -> Flags
     requires { HandleBlockAt records.now at }
     ensures { (b : HandleBlockAt records.now at) → result ≡ flags_there records.now.shape.heads slot b.flags }

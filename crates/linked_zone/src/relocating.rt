@@ -12,7 +12,7 @@ impl LinkedZone {
     ghost use Rattle.linked_zone.specs.Places.{RoomFor};
 
     /// The block of a handle in a new place: the free block at an address is its block now, with `length` bytes: those
-    /// that it had, as far as they go, and zeros behind them; the old block is free. Flags stay.
+    /// that it had, as far as they go, and zeros after them; the old block is free. Flags stay.
     pub fn relocate(&mut self, handle: Handle, at: u32, length: u32)
         requires full { IsTrue (is_full self.old.heap.table handle) }
         requires here { IsFalse (is_lent self.old.heap.table handle) }

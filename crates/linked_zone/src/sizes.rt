@@ -1,4 +1,4 @@
-//! How many bytes a handle or a pointer has where its block stands, and what is written to them.
+//! How many bytes a handle or a pointer has where its block is, and what is written to them.
 
 use crate::zone::LinkedZone;
 
@@ -21,7 +21,7 @@ impl LinkedZone {
         self.records.hold(at, size, length);
     }
 
-    /// Gives a handle or a pointer `length` bytes in the first `size` bytes of its block and the free one right behind
+    /// Gives a handle or a pointer `length` bytes in the first `size` bytes of its block and the free one right after
     /// it; the others are free. Bytes that it had stay as far as they go, and those that are added are zero.
     pub fn grow(&mut self, block: u32, size: u32, length: u32)
         requires room { CanGrow self.old block size length }

@@ -49,7 +49,7 @@ impl LinkedZone {
     ghost use Rattle.mac_base.specs.Loans.{most_loans, LoansFit};
     ghost use Rattle.mac_base.specs.Suits.{slots, wanted_length};
     ghost use Rattle.mac_base.specs.BlockReport.{report_at};
-    ghost use Rattle.mac_base.specs.ZoneMap.{address_behind, free_bytes, contents_of};
+    ghost use Rattle.mac_base.specs.ZoneMap.{address_after, free_bytes, contents_of};
     ghost use Rattle.mac_base.specs.ZoneState.{own_memory};
     ghost use Rattle.linked_zone.specs.Changes.{bare_zone, taken, given_back, pointed, without_block, fixed, unfixed, held_there, enlarged, cut_in_two, joined_pair, with_master, flagged};
     ghost use Rattle.linked_zone.specs.Fit.{Fits, HasSizes};
@@ -225,8 +225,8 @@ impl LinkedZone {
     /// The address of the first free block from an address on, if there is one.
     pub fn next_free(&self, from: u32) -> Option<u32>
         requires { SplitAt self.now from }
-        ensures next { IfSome result (λ at. (split : SplitAt self.now from) → FirstFree split.behind from at) }
-        ensures none { IfNone result ((split : SplitAt self.now from) → IsTrue (none_free split.behind)) }
+        ensures next { IfSome result (λ at. (split : SplitAt self.now from) → FirstFree split.after from at) }
+        ensures none { IfNone result ((split : SplitAt self.now from) → IsTrue (none_free split.after)) }
     {
         self.records.next_free(from)
     }
@@ -234,7 +234,7 @@ impl LinkedZone {
     /// The address of the last free block before an address, if there is one.
     pub fn last_free(&self, end: u32) -> Option<u32>
         requires { SplitAt self.now end }
-        ensures last { IfSome result (λ at. (split : SplitAt self.now end) → LastFree split.before (address_behind self.now.shape []) at) }
+        ensures last { IfSome result (λ at. (split : SplitAt self.now end) → LastFree split.before (address_after self.now.shape []) at) }
         ensures none { IfNone result ((split : SplitAt self.now end) → IsTrue (none_free split.before)) }
     {
         self.records.last_free(end)
@@ -263,14 +263,14 @@ impl LinkedZone {
         self.records.entry_at(at)
     }
 
-    /// The block behind the one at an address, if there is one.
-    pub fn behind(&self, at: u32) -> Option<u32>
+    /// The block after the one at an address, if there is one.
+    pub fn after(&self, at: u32) -> Option<u32>
         requires { EntryAt self.now at }
         ensures next { IfSome result (λ next. (e : EntryAt self.now at) → next ≡ at + e.here.size) }
         ensures there { IfSome result (λ next. EntryAt self.now next) }
-        ensures last { IfNone result ((e : EntryAt self.now at) → e.behind ≡ []) }
+        ensures last { IfNone result ((e : EntryAt self.now at) → e.after ≡ []) }
     {
-        self.records.behind(at)
+        self.records.after(at)
     }
 
     /// The block before the one at an address, if there is one.
@@ -283,7 +283,7 @@ impl LinkedZone {
         self.records.before(at)
     }
 
-    /// The block whose header stands at this address, if one does.
+    /// The block whose header is at this address, if one does.
     pub fn entry(&self, at: u32) -> Option<Block>
         ensures { result ≡ report_at self.now.shape self.now.heap at }
     {

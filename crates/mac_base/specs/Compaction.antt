@@ -7,15 +7,15 @@ use Rattle.mac_base.specs.Gap.{Gap, gaps, filled, lowest_gap, own_gap, is_fixed}
 use Rattle.mac_base.specs.Arrangement.{down, high}
 
 -- all gaps arranged down; the run is what lies before, in the lowest gap
-abbrev pub all_down_behind : HandleTable → ZoneMap → ZoneMap → ZoneMap
-all_down_behind t run [] = down run
-all_down_behind t run (e ∷ es) = if is_fixed t e.kind then down run ++ e ∷ all_down_behind t [] es else all_down_behind t (run ++ e ∷ []) es
+abbrev pub all_down_after : HandleTable → ZoneMap → ZoneMap → ZoneMap
+all_down_after t run [] = down run
+all_down_after t run (e ∷ es) = if is_fixed t e.kind then down run ++ e ∷ all_down_after t [] es else all_down_after t (run ++ e ∷ []) es
 
 -- all gaps arranged down
 abbrev pub all_down : HandleTable → ZoneMap → ZoneMap
-all_down t m = all_down_behind t [] m
+all_down t m = all_down_after t [] m
 
--- compaction for n bytes: nothing where they stand free, else the lowest gap with room, else all gaps
+-- compaction for n bytes: nothing where they are free, else the lowest gap with room, else all gaps
 abbrev pub compacted : HandleTable → ℕ → ZoneMap → ZoneMap
 compacted t n m = if nat_le n (largest_free m) then m else option_map_or (λ (g : Gap). filled g (down g.blocks)) (lowest_gap n (gaps t m)) (all_down t m)
 

@@ -18,7 +18,7 @@ abbrev pub address_end : HeadKind → ℕ
 address_end Bits24 = 0x100_0000
 address_end Bits32 = 0xFFFF_FFFF
 
--- the bytes of the zone header; blocks begin behind it
+-- the bytes of the zone header; blocks begin after it
 abbrev pub zone_header : ℕ
 zone_header = 52
 

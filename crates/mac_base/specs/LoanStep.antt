@@ -41,14 +41,14 @@ tests_of_loan (loan_call.Return x) = IsBlock x ∷ IsLent x ∷ []
 abbrev pub loan_refusal : Shape → Heap → LoanCall → Option OsErr
 loan_refusal s heap call = first_refusal s heap (tests_of_loan call)
 
--- the loans behind a call that is not refused: a loan begins with the bytes of the block
+-- the loans after a call that is not refused: a loan begins with the bytes of the block
 abbrev pub loans_after : LoanCall → HandleTable → Loans → Loans
 loans_after (loan_call.Lend x) t loans = loans ++ (x, bytes_of t x) ∷ []
 loans_after (loan_call.LentPeek x at n) t loans = loans
 loans_after (loan_call.LentPoke x at bytes) t loans = with_held x (written at bytes (held_bytes x loans)) loans
 loans_after (loan_call.Return x) t loans = without_loan x loans
 
--- the heap behind it: what comes back has the bytes that its holder left
+-- the heap after it: what comes back has the bytes that its holder left
 abbrev pub heap_after_loan : LoanCall → Loans → Heap → Heap
 heap_after_loan (loan_call.Lend x) loans heap = lent_out x heap
 heap_after_loan (loan_call.LentPeek x at n) loans heap = heap

@@ -37,7 +37,7 @@ may_be_lent t x = (is_pointer t x || is_locked t x) && nat_lt (length t.lent) mo
 abbrev pub with_lent : List ℕ → HandleTable → HandleTable
 with_lent xs t = record t { lent = xs }
 
--- the heap once x is lent. Those that are lent stand in the order of their blocks
+-- the heap once x is lent. Those that are lent are in the order of their blocks
 abbrev pub lent_out : ℕ → Heap → Heap
 lent_out x heap = with_table (with_lent (filter (λ y. y == x || is_lent heap.table y) (owners heap.map)) heap.table) heap
 
@@ -45,7 +45,7 @@ lent_out x heap = with_table (with_lent (filter (λ y. y == x || is_lent heap.ta
 abbrev pub returned : ℕ → List ℕ → Heap → Heap
 returned x bytes heap = with_table (with_lent (filter (λ y. not (y == x)) heap.table.lent) (with_bytes x bytes heap.table)) heap
 
--- those that are lent have blocks, are few, and stand in the order of these, each once
+-- those that are lent have blocks, are few, and are in the order of these, each once
 pub record LoansFit (heap : Heap) : Type 0 where
   pub in_order : heap.table.lent ≡ filter (is_lent heap.table) (owners heap.map)
   pub few : length heap.table.lent ≤ most_loans

@@ -2,7 +2,7 @@
 use Rattle.std.specs.Prelude.{Result, Ok, Err, ℕ, ◌+◌, ◌-◌, [], length, take, drop, unwrap_or}
 use Rattle.mac_base.specs.declared.error.OsErr.{OsErr}
 use Rattle.mac_base.specs.HeadKind.{Shape, zone_header}
-use Rattle.mac_base.specs.ZoneMap.{ZoneMap, address_behind, total_size, free_bytes, largest_free, contents_of, handle_at}
+use Rattle.mac_base.specs.ZoneMap.{ZoneMap, address_after, total_size, free_bytes, largest_free, contents_of, handle_at}
 use Rattle.mac_base.specs.HandleTable.{bytes_of, flags_of}
 use Rattle.mac_base.specs.Reports.{largest_room, purge_space, largest_purge_space}
 use Rattle.mac_base.specs.Heap.{Heap}
@@ -34,7 +34,7 @@ outcome_of s heap memory_call.MaxMem = Ok (TwoNumbers (largest_free heap.map) (g
 outcome_of s heap memory_call.PurgeSpace = Ok (TwoNumbers (purge_space heap.table heap.map) (largest_purge_space heap.table heap.map))
 outcome_of s heap memory_call.MaxBlock = Ok (Number (largest_room heap.table heap.map))
 outcome_of s heap memory_call.FreeMem = Ok (Number (free_bytes heap.map))
-outcome_of s heap memory_call.ZoneMap = Ok (Blocks (reports_from heap.table (address_behind s []) heap.map))
+outcome_of s heap memory_call.ZoneMap = Ok (Blocks (reports_from heap.table (address_after s []) heap.map))
 outcome_of s heap _ = Ok Nothing
 
 -- the results of a call whose request gave the number x

@@ -8,7 +8,7 @@ use Rattle.mac_base.specs.declared.request.Request.TheVariants.{NewBlock, NewEmp
 use Rattle.mac_base.specs.HeadKind.{Shape, need, master_length}
 use Rattle.mac_base.specs.ZoneMap.{ZoneMap, is_named, handle_of, sizes, released}
 use Rattle.mac_base.specs.HandleTable.{HandleTable, is_locked, is_pointer, is_purgeable}
-use Rattle.mac_base.specs.Gap.{Gap, gaps, room, some_gap_has, own_gap, gap_behind}
+use Rattle.mac_base.specs.Gap.{Gap, gaps, room, some_gap_has, own_gap, gap_after}
 
 -- the bytes of contents that it asks for
 abbrev pub length_asked : Request → ℕ
@@ -39,13 +39,13 @@ size_of x m = sum (sizes (is_named x) m)
 
 -- the gap in which the block of x can grow without a new place
 abbrev pub gap_to_grow : HandleTable → ℕ → ZoneMap → Option Gap
-gap_to_grow t x m = if stays t x then gap_behind x (gaps t m) else own_gap x (gaps t m)
+gap_to_grow t x m = if stays t x then gap_after x (gaps t m) else own_gap x (gaps t m)
 
 -- the room of a gap, if there is one
 abbrev pub room_of : Option Gap → ℕ
 room_of g = option_map_or room g 0
 
--- whether the block of x can be made k bytes long. One that stays can use only the gap right behind it
+-- whether the block of x can be made k bytes long. One that stays can use only the gap right after it
 abbrev pub can_grow : HandleTable → ℕ → ℕ → ZoneMap → Bool
 can_grow t x k m = nat_le k (size_of x m + room_of (gap_to_grow t x m)) || (not (stays t x) && some_gap_has k (gaps t m))
 
@@ -67,9 +67,9 @@ is_among xs x = list_any (λ y. y == x) xs
 abbrev pub candidates_in : HandleTable → List ℕ → ZoneMap → List ℕ
 candidates_in t protected m = filter (λ h. is_purgeable t h && not (is_among protected h)) (filter_map (λ (e : Entry). handle_of e.kind) m)
 
--- the blocks among which a request may purge: for one that stays and grows those of the gap right behind it
+-- the blocks among which a request may purge: for one that stays and grows those of the gap right after it
 abbrev pub blocks_to_purge : HandleTable → Request → ZoneMap → ZoneMap
-blocks_to_purge t (Resize x n) m = if stays t x then option_map_or (λ (g : Gap). g.blocks) (gap_behind x (gaps t m)) [] else m
+blocks_to_purge t (Resize x n) m = if stays t x then option_map_or (λ (g : Gap). g.blocks) (gap_after x (gaps t m)) [] else m
 blocks_to_purge t _ m = m
 
 -- the handles that may be purged for a request, in order of address

@@ -19,7 +19,7 @@ own_memory region = record { region = region; kept = None }
 abbrev pub woken_in : Memory → Ptr → Memory
 woken_in slept region = record { region = region; kept = Some slept.region }
 
--- the memory that a zone stands in, where it lies and how far it may grow, and its heap
+-- the memory that a zone is in, where it lies and how far it may grow, and its heap
 pub record ZoneState : Type 0 where
   pub memory : Memory
   pub shape : Shape

@@ -104,7 +104,7 @@ impl Entry {
     }
 }
 
-/// The flags of a handle, which stand in its master pointer.
+/// The flags of a handle, which are in its master pointer.
 #[derive(Clone, Copy, Debug, PartialEq, Eq)]
 pub struct Flags {
     pub lock: bool,

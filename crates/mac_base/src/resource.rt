@@ -40,7 +40,7 @@ impl ResType {
 }
 
 /// The attributes of a resource (Inside Macintosh: More Macintosh Toolbox, chapter 1). The two bits without a name are
-/// kept as they stand.
+/// kept as they are.
 #[derive(Clone, Copy, Debug, PartialEq, Eq)]
 pub struct ResAttrs(u8);
 

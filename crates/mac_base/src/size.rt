@@ -9,7 +9,7 @@ use crate::block::HeadKind;
 /// The largest size, offset or count that a call takes, in bytes (Inside Macintosh: Memory, maxSize).
 pub const MAX_SIZE: u32 = 0x80_0000;
 
-/// The bytes of a zone's header. Blocks begin behind it.
+/// The bytes of a zone's header. Blocks begin after it.
 pub const ZONE_HEADER: u32 = 52;
 
 /// The master pointers of a master block.

@@ -167,7 +167,7 @@ fork_told : (id at offset : ℕ) (text fork : List ℕ) → part_of id text ≡ 
 fork_told id at offset text fork is there =
     ap (λ (o : Option Part). told_bytes o text) is ∙ told_part offset (length fork) text fork refl there
 
--- Where what is told stands.
+-- Where what is told is.
 
 record Laid (text : List ℕ) (file : Parts) (base : ℕ) (rest : List ℕ) : Type 0 where
   says : SaysTold text file base

@@ -75,7 +75,7 @@ asked_length names now files openings asked =
     sym (length-map files Ok) ∙ ap length (sym asked.files_are) ∙ length-map openings (λ o. o.1)
     ∙ sym (length-map openings (λ o. o.0)) ∙ ap length asked.paths_are ∙ length-map names now
 
--- what stands at an index that is there
+-- what is at an index that is there
 pub same_default : {B : Type 0} (xs : List B) (at : ℕ) (d e : B) → at < length xs → get_or xs at d ≡ get_or xs at e
 same_default [] at d e lt = absurd (omega (arith, lt))
 same_default (x ∷ xs) zero d e lt = refl

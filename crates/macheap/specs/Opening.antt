@@ -5,7 +5,7 @@ use Rattle.std.specs.declared.io.ErrorKind.TheVariants as kind
 use Rattle.macheap.specs.declared.opened.NotOpened.{NotOpened}
 use Rattle.macheap.specs.declared.opened.NotOpened.TheVariants.{NoFolder, Folder, Denied, ReadOnly, Other}
 
--- the reason and what to do, behind the name of the file
+-- the reason and what to do, after the name of the file
 abbrev pub reason : NotOpened → List ℕ
 reason NoFolder = codes ": there is no such folder; make it first\n"
 reason Folder = codes ": it is a folder; name a file\n"

@@ -38,7 +38,7 @@ pub enum Asked<'a> {
 /// Why the words ask for nothing.
 #[derive(Debug, Drop, Error)]
 pub enum NotAsked {
-    /// A word is no option, an option stands twice or has no value.
+    /// A word is no option, an option is twice or has no value.
     #[error("{0}")]
     Words(clap::Error),
     /// There are more files than a run may have.
@@ -72,7 +72,7 @@ impl From<AllocError> for NotAsked {
     }
 }
 
-/// The option of this name, which stands once at most and takes a number.
+/// The option of this name, which is once at most and takes a number.
 fn number_option<'a>(alloc: Global, name: &'a str, help: &'a str) -> Arg<'a>
     ensures rule { rule_of result ≡ option_named name.entry.now }
     ensures local { result.global ≡ false }
@@ -84,7 +84,7 @@ fn number_option<'a>(alloc: Global, name: &'a str, help: &'a str) -> Arg<'a>
         .help(help)
 }
 
-/// The option of this name, which names a file. It may stand several times.
+/// The option of this name, which names a file. It may be several times.
 fn file_option<'a>(alloc: Global, name: &'a str, help: &'a str) -> Arg<'a>
     ensures rule { rule_of result ≡ file_option name.entry.now }
     ensures local { result.global ≡ false }
@@ -96,7 +96,7 @@ fn file_option<'a>(alloc: Global, name: &'a str, help: &'a str) -> Arg<'a>
         .help(help)
 }
 
-/// The option of this name, which stands alone, once at most.
+/// The option of this name, which is alone, once at most.
 fn flag_option<'a>(alloc: Global, name: &'a str, help: &'a str) -> Arg<'a>
     ensures rule { rule_of result ≡ flag_option name.entry.now }
     ensures local { result.global ≡ false }
@@ -208,7 +208,7 @@ fn not_matched<'a>(error: clap::Error) -> Result<Asked<'a>, NotAsked>
     }
 }
 
-/// The number that an option's value gives in decimal digits, or this one where the option doesn't stand there.
+/// The number that an option's value gives in decimal digits, or this one where the option isn't there.
 fn number(option: &'static str, value: Option<&str>, default: u32) -> Result<u32, NotAsked>
     ensures number { IfOk result (IsNumberOf (option_map (λ text. text.now) value.entry) default) }
     ensures none { OnErr result (IsNoNumber (option_map (λ text. text.now) value.entry)) }

@@ -46,7 +46,7 @@ impl NotOpened {
         }
     }
 
-    /// The reason, and what to do, behind the name of the file.
+    /// The reason, and what to do, after the name of the file.
     pub fn reason(self) -> &'static [u8]
         ensures { result.now ≡ reason self }
     {

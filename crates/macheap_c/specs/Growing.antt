@@ -33,7 +33,7 @@ places_of a = a.first ∷ a.second ∷ a.third ∷ a.fourth ∷ a.fifth ∷ a.si
 abbrev pub answer_of : MhAnswer → Option Answer
 answer_of a = if list_all is_known (places_of a) then Some (record { calls = flat_map option_to_list (map release_of (places_of a)); value = a.value }) else None
 
--- the answer waits behind the others, and nothing was asked, unless it is refused
+-- the answer waits after the others, and nothing was asked, unless it is refused
 abbrev pub QueuedUnless : Option OsErr → State → Answer → ℤ → Option State → Type 0
 QueuedUnless None old answer code new = (code ≡ pos 0) × (new ≡ Some (record old { left = old.left ++ answer ∷ []; asks = [] }))
 QueuedUnless (Some refusal) old answer code new = (code ≡ code_of refusal) × (new ≡ Some old)

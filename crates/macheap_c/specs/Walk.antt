@@ -6,7 +6,7 @@ use Rattle.mac_base.specs.declared.block.Block.{Block}
 use Rattle.mac_base.specs.declared.block.Kind.{Kind}
 use Rattle.mac_base.specs.declared.block.Kind.TheVariants.{Free, Master, Ptr, Rel}
 use Rattle.mac_base.specs.FlagState.{state_of}
-use Rattle.mac_base.specs.ZoneMap.{address_behind}
+use Rattle.mac_base.specs.ZoneMap.{address_after}
 use Rattle.macheap_c.specs.declared.walk.MhBlock.{MhBlock}
 use Rattle.held_zone.specs.State.{State}
 use Rattle.held_zone.specs.Told.{no_zone}
@@ -29,7 +29,7 @@ owner_number (Rel handle) = handle
 abbrev pub shown_block : Block → MhBlock
 shown_block b = record { address = b.address; size = b.entry.size; kind = kind_number b.entry.kind; owner = owner_number b.entry.kind; length = b.length; flags = state_of b.flags }
 
--- the block at an address is shown; where no header stands there, the answer is memWZErr
+-- the block at an address is shown; where no header is there, the answer is memWZErr
 abbrev pub ShowsBlock : Option Block → ℤ → MhBlock → MhBlock → Type 0
 ShowsBlock (Some found) code before block = (code ≡ pos 0) × (block ≡ shown_block found)
 ShowsBlock None code before block = (code ≡ minus 111) × (block ≡ before)
@@ -39,7 +39,7 @@ abbrev pub BlockTold : Option State → ℕ → ℤ → MhBlock → MhBlock → 
 BlockTold None at code before block new = (code ≡ no_zone) × (block ≡ before) × (new ≡ None)
 BlockTold (Some old) at code before block new = ShowsBlock (report_at old.zone.shape old.zone.heap at) code before block × (new ≡ Some old)
 
--- C is told where the first block header stands, and the state stays.
+-- C is told where the first block header is, and the state stays.
 abbrev pub FirstTold : Option State → ℤ → ℕ → ℕ → Option State → Type 0
 FirstTold None code before at new = (code ≡ no_zone) × (at ≡ before) × (new ≡ None)
-FirstTold (Some old) code before at new = (code ≡ pos 0) × (at ≡ address_behind old.zone.shape []) × (new ≡ Some old)
+FirstTold (Some old) code before at new = (code ≡ pos 0) × (at ≡ address_after old.zone.shape []) × (new ≡ Some old)

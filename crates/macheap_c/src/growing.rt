@@ -1,4 +1,4 @@
-//! The grow-zone procedure of C: answers that are queued before a call, and what a call asked, which is read behind it.
+//! The grow-zone procedure of C: answers that are queued before a call, and what a call asked, which is read after it.
 
 ghost use Rattle.std.specs.Prelude.{◌≡◌, option_map};
 ghost use Rattle.std.specs.List.{list_all, slice_get};
@@ -67,7 +67,7 @@ pub struct MhCarried {
     pub code: i16,
 }
 
-/// Queues an answer behind the others, for the calls to come. Sixteen may wait.
+/// Queues an answer after the others, for the calls to come. Sixteen may wait.
 #[unsafe(no_mangle)]
 pub extern "C" fn mh_queue_answer(alloc: Global, zone: &mut MhZone, answer: &MhAnswer) -> i16
     ensures { AnswerTold zone.old.held.session answer.now result zone.new.held.session }

@@ -1,4 +1,4 @@
--- Behind a trial that fails and a turn of the procedure the request can be made again.
+-- After a trial that fails and a turn of the procedure the request can be made again.
 use Rattle.std.proofs.Common.{◌≡◌, ℕ, Bool, true, List, None, subst, sym}
 use Rattle.mac_base.specs.HeadKind.{Shape}
 use Rattle.mac_base.specs.Heap.{Heap}
@@ -12,7 +12,7 @@ use Rattle.mem_calls.proofs.Keeping.{Keeps, keeps-both, keeps-prepared, keeps-ca
 
 -- what is protected stays as it is
 pub keeps-again : (s t : Shape) (protected : List ℕ) (r : Request) (old mid new : Heap) (before after : List Ask) (again : Bool) → IsTrial s protected r old None mid → IsTurn t protected r mid before again after new → Keeps protected old new
-keeps-again s t protected r old mid new before after again trial (answer, behind, worth, is) =
+keeps-again s t protected r old mid new before after again trial (answer, following, worth, is) =
     keeps-both protected old mid new
     (subst (λ heap. Keeps protected old heap) (sym trial.1) (keeps-prepared s protected r old))
     (subst (λ heap. Keeps protected mid heap) (sym is) (keeps-carried_out t protected (calls_in answer) mid))

@@ -37,10 +37,10 @@ overwritten-whole old new same =
 -- what a write to a part of some bytes leaves
 part_written : (old bytes : List ℕ) (at : ℕ) → at + length bytes ≤ length old → overwritten old (take at old ++ (bytes ++ drop (length bytes) (drop at old))) ≡ written at bytes old
 part_written old bytes at within =
-    let behind : drop (length bytes) (drop at old) ≡ drop (at + length bytes) old = drop-drop (length bytes) at old in
+    let after : drop (length bytes) (drop at old) ≡ drop (at + length bytes) old = drop-drop (length bytes) at old in
     let front : length (take at old) ≡ at = omega (arith, length-take at old) in
     let whole : length (take at old ++ (bytes ++ drop (at + length bytes) old)) ≡ length old = simp (length-append, length-drop) (omega arith) in
-    rw behind (overwritten-whole old (take at old ++ (bytes ++ drop (at + length bytes) old)) whole ∙ sym (append_assoc (take at old) bytes (drop (at + length bytes) old)))
+    rw after (overwritten-whole old (take at old ++ (bytes ++ drop (at + length bytes) old)) whole ∙ sym (append_assoc (take at old) bytes (drop (at + length bytes) old)))
 
 -- what it leaves of the zone
 pub block_written : (zone : ZoneState) (x at : ℕ) (bytes contents copied : List ℕ) → at + length bytes ≤ length (bytes_of zone.heap.table x) → contents ≡ bytes_of zone.heap.table x → copied ≡ bytes
@@ -62,7 +62,7 @@ KeepsLoans-written zone x bytes full = (
 
 -- ---- the block that a request gave
 
--- it takes bytes behind its first ones, of which there are so many, up to its end
+-- it takes bytes after its first ones, of which there are so many, up to its end
 pub record Takes (mid : Heap) (to offset n : ℕ) : Type 0 where
   pub full : status_of mid.table to ≡ Full
   pub long : length (bytes_of mid.table to) ≡ offset + n
@@ -88,7 +88,7 @@ module _ (s : Shape) (n : ℕ) (asks : List Ask) (old mid : Heap) (result : Resu
 
     -- its first bytes are those that it had
     pub begins-resized : offset ≤ length (bytes_of old.table to) → take offset (bytes_of mid.table to) ≡ take offset (bytes_of old.table to)
-    begins-resized behind =
+    begins-resized after =
         let served = called s (to ∷ []) (Resize to (offset + n)) asks old mid result x run given among sound fixed (full-has_block old.table to target) in
         let keeps = keeps-resized (to ∷ []) (offset + n) to x old mid served among target in
-        keeps.begins offset (omega arith) behind
+        keeps.begins offset (omega arith) after

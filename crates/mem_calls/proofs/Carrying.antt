@@ -1,4 +1,4 @@
--- The calls of an answer, one behind another, and what the procedure is told of them.
+-- The calls of an answer, one after another, and what the procedure is told of them.
 use Rattle.std.proofs.Common.{◌≡◌, ℕ, ◌+◌, ◌<◌, ◌≤◌, Bool, true, false, cond, List, [], ◌∷◌, ◌++◌, length, Option, Some, refl, ap, sym, ◌∙◌, arith, append-nil, append_assoc, length-append, nat_lt}
 use Rattle.std.proofs.lemmas.Bool.Decides.{nat_tests}
 use Rattle.mac_base.specs.declared.error.OsErr.{OsErr}

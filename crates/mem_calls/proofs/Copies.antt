@@ -93,7 +93,7 @@ keeps-other protected r n x z l old new served is y apart among full =
     let g = served.grants in
     keeps-same n old.table new.table y (ap (λ t. live_at t y) is ∙ (with_live_agrees z l g.before).others y apart ∙ g.protects y among) served.lent full
 
--- n bytes of one number can be copied over the last of another's, behind those before, and are these bytes then
+-- n bytes of one number can be copied over the last of another's, after those before, and are these bytes then
 pub record Copies (t : HandleTable) (from to offset n : ℕ) (bytes : List ℕ) : Type 0 where
   pub source : status_of t from ≡ Full
   pub target : status_of t to ≡ Full
@@ -101,7 +101,7 @@ pub record Copies (t : HandleTable) (from to offset n : ℕ) (bytes : List ℕ) 
   pub within_target : offset + n ≤ length (bytes_of t to)
   pub writes : written offset (take n (drop 0 (bytes_of t from))) (bytes_of t to) ≡ bytes
 
--- nothing is behind them
+-- nothing is after them
 written-last : (offset n : ℕ) (source target : List ℕ) → n ≤ length source → length target ≡ offset + n → written offset (take n (drop 0 source)) target ≡ take offset target ++ take n source
 written-last offset n source target few long =
     ap (λ rest. take offset target ++ take n source ++ rest) (drop_of_length-le target {i = offset + length (take n source)} (omega (arith, long, length-take n source))) ∙ append-nil (take offset target ++ take n source)
@@ -130,10 +130,10 @@ module _ (s : Shape) (from n : ℕ) (asks : List Ask) (old mid : Heap) (result :
       other t true same block none = absurd (cc (sym block ∙ ap (λ y. has_block t y) (eqb-true from x same) ∙ ap (λ o. live_full o || live_pointer o) none))
       other t false apart block none = apart
 
-  -- behind the first bytes of a block
-  pub copies-behind : (to offset : ℕ) → status_of old.table to ≡ Full → offset ≤ length (bytes_of old.table to) → IsCallRun s (from ∷ to ∷ []) (Resize to (offset + n)) asks old result mid
+  -- after the first bytes of a block
+  pub copies-after : (to offset : ℕ) → status_of old.table to ≡ Full → offset ≤ length (bytes_of old.table to) → IsCallRun s (from ∷ to ∷ []) (Resize to (offset + n)) asks old result mid
       → Copies mid.table from to offset n (take offset (bytes_of old.table to) ++ take n (bytes_of old.table from))
-  copies-behind to offset target behind run =
+  copies-after to offset target after run =
       let protected = from ∷ to ∷ [] in
       let among : is_among protected to ≡ true = or_right (eqb from to) (eqb to to || false) (ap (λ b. b || false) (eqb_same to)) in
       let served = called s protected (Resize to (offset + n)) asks old mid result x run given among sound fixed (full-has_block old.table to target) in
@@ -148,7 +148,7 @@ module _ (s : Shape) (from n : ℕ) (asks : List Ask) (old mid : Heap) (result :
         target = there.full;
         within_source = omega (arith, few);
         within_target = omega (arith, long);
-        writes = written-last offset n (bytes_of mid.table from) (bytes_of mid.table to) few long ∙ ap (λ bytes. bytes ++ take n (bytes_of mid.table from)) (there.begins offset (omega arith) behind)
+        writes = written-last offset n (bytes_of mid.table from) (bytes_of mid.table to) few long ∙ ap (λ bytes. bytes ++ take n (bytes_of mid.table from)) (there.begins offset (omega arith) after)
             ∙ ap (λ bytes. take offset (bytes_of old.table to) ++ bytes) (here.begins n (omega arith) within);
       }
     where
@@ -156,7 +156,7 @@ module _ (s : Shape) (from n : ℕ) (asks : List Ask) (old mid : Heap) (result :
       by_case {m = m} true same there other = subst (λ y. Keeps m old.table mid.table y) (sym (eqb-true from _ same)) there
       by_case false apart there other = other apart
 
--- the request of a call, and bytes that come into its block behind it
+-- the request of a call, and bytes that come into its block after it
 pub filled-run : (s : Shape) (protected : List ℕ) (r : Request) (asks : List Ask) (old : Heap) (result : Result ℕ OsErr) (x to : ℕ) (bytes : List ℕ) (mid new : Heap) → IsCallRun s protected r asks old result mid
     → result ≡ Ok x → block_given r x ≡ to → new ≡ with_table (with_bytes to bytes mid.table) mid → IsCopyRun s protected r bytes asks old (Ok x) new
 filled-run s protected r asks old result x to bytes mid new run given place is = record {
@@ -165,7 +165,7 @@ filled-run s protected r asks old result x to bytes mid new run given place is =
   fills = is ∙ ap (λ y. with_table (with_bytes y bytes mid.table) mid) (sym place);
 }
 
--- the request of a call and the copy behind it
+-- the request of a call and the copy after it
 pub copied-run : (s : Shape) (protected : List ℕ) (r : Request) (asks : List Ask) (old : Heap) (result : Result ℕ OsErr) (x from to offset n : ℕ) (bytes : List ℕ) (mid new : ZoneState) → IsCallRun s protected r asks old result mid.heap
     → result ≡ Ok x → block_given r x ≡ to → Copies mid.heap.table from to offset n bytes → new ≡ copied from 0 to offset n mid → IsCopyRun s protected r bytes asks old (Ok x) new.heap
 copied-run s protected r asks old result x from to offset n bytes mid new run given place copies is =

@@ -11,7 +11,7 @@ use Rattle.mac_base.specs.HandleTable.{Live, EmptyHandle, FullHandle, Pointer, b
 use Rattle.mac_base.specs.HeadKind.{head_size, slot_count}
 use Rattle.mac_base.specs.Heap.{with_table}
 use Rattle.mac_base.specs.Sound.{Sound}
-use Rattle.mac_base.specs.ZoneMap.{address_behind}
+use Rattle.mac_base.specs.ZoneMap.{address_after}
 use Rattle.mac_base.specs.ZoneState.{ZoneState}
 use Rattle.raw_region.specs.Bytes.{part, written}
 use Rattle.raw_region.specs.State.{State as Region}
@@ -42,9 +42,9 @@ written-all old new n all long = ap (written old 0) (take_all n new (omega arith
 -- ---- flags
 
 -- no handle is as low as the first block
-no_handle-low : (z : ZoneState) (x : ℕ) → Sound z.shape z.heap → x ≤ address_behind z.shape [] → is_handle z.heap.table x ≡ false
+no_handle-low : (z : ZoneState) (x : ℕ) → Sound z.shape z.heap → x ≤ address_after z.shape [] → is_handle z.heap.table x ≡ false
 no_handle-low z x sound low = false_from_ne_true (is_handle z.heap.table x) (λ live.
-    let above = slots_at-above (head_size z.shape.heads) slot_count (address_behind z.shape []) z.heap.map x (rooms-suits z.shape z.heap.table z.heap.map sound.suits) (sound.suits.coherent.in_slots x live) in
+    let above = slots_at-above (head_size z.shape.heads) slot_count (address_after z.shape []) z.heap.map x (rooms-suits z.shape z.heap.table z.heap.map sound.suits) (sound.suits.coherent.in_slots x live) in
     let head = head_size_some z.shape.heads in
     absurd (omega arith))
   where
@@ -63,7 +63,7 @@ none-said z bytes x none = ap live_flags (shown-at z bytes x) ∙ by_case (live_
     by_case (Some (Pointer old)) none = refl
 
 -- at first it has those of the handles up to the first block
-pub flags-begin : (z : ZoneState) (bytes : List ℕ) (from : ℕ) → Sound z.shape z.heap → from ≡ address_behind z.shape [] → HasFlagsTo z bytes from z
+pub flags-begin : (z : ZoneState) (bytes : List ℕ) (from : ℕ) → Sound z.shape z.heap → from ≡ address_after z.shape [] → HasFlagsTo z bytes from z
 flags-begin z bytes from sound first = record {
   flags = λ x low. none-said z bytes x (no_handle-low z x sound (omega arith));
   others = refl;

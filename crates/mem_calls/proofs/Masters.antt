@@ -1,4 +1,4 @@
--- The run of a call's request behind one for a master block.
+-- The run of a call's request after one for a master block.
 use Rattle.std.proofs.Common.{◌≡◌, ℕ, ◌-◌, Bool, true, false, cond, eqb, List, [], ◌∷◌, ◌++◌, length, Option, Some, None, refl, ap, sym, ◌∙◌, arith}
 use Rattle.std.specs.Prelude.{is_some, ◌&&◌}
 use Rattle.std.specs.List.{list_all}
@@ -11,7 +11,7 @@ use Rattle.mac_base.specs.declared.request.Request.TheVariants.{NewMaster}
 use Rattle.mac_base.specs.Serve.{serve}
 use Rattle.mac_base.specs.GrowZone.{Answer, Ask, answers_in, most_answers, carried_out}
 use Rattle.mac_base.specs.ExactRequest.{Ending, unserved, served_or, after_ask, asked, prepared, request_run}
-use Rattle.mac_base.specs.ExactStep.{behind_master}
+use Rattle.mac_base.specs.ExactStep.{after_master}
 use Rattle.zone_heap.specs.Attempts.{lacks_slot}
 use Rattle.mac_base.specs.Request.{makes_handle}
 use Rattle.mem_calls.specs.Requesting.{MayAskMore, IsRun, IsCallRun, call_run, given_or_full}
@@ -61,7 +61,7 @@ pub run-slot : (s : Shape) (protected : List ℕ) (x : ℕ) (allowed : ℕ) (ans
     → has_none (request_run s protected NewMaster allowed answers heap).heap.free_slots ≡ false
 run-slot s protected x = by_run s protected NewMaster x (λ answers e. has_none e.heap.free_slots ≡ false) (λ answers mid found other. refl) (λ a later ask e answered given rest. rest)
 
--- a run that is served leaves the answers behind its own
+-- a run that is served leaves the answers after its own
 pub run-longer : (s : Shape) (protected : List ℕ) (r : Request) (x allowed : ℕ) (answers rest : List Answer) (heap : Heap) → (request_run s protected r allowed answers heap).given ≡ Some x → (request_run s protected r allowed answers heap).left ≡ []
     → request_run s protected r allowed (answers ++ rest) heap ≡ record (request_run s protected r allowed answers heap) { left = rest }
 run-longer s protected r x allowed [] [] heap given none = let e = request_run s protected r allowed [] heap in ap (λ left. record e { left = left }) none
@@ -95,9 +95,9 @@ run-longer s protected r x allowed (a ∷ later) rest heap given none =
     by_case mid after ask b d e longer (Some found) more h none = absurd (cc none)
 
 module _ (s : Shape) (protected : List ℕ) (r : Request) (before : List Ask) (unasked : before ≡ []) (old : Heap) where
-  -- what is behind the run for a master block
+  -- what is after the run for a master block
   abbrev finished : Ending → Ending
-  finished master = let e = behind_master s protected r master master.given in record e { asks = master.asks ++ e.asks }
+  finished master = let e = after_master s protected r master master.given in record e { asks = master.asks ++ e.asks }
 
   -- the number of a run that is served
   pub given_master : (left : ℕ) (between : List Ask) (mid : Heap) (o : Option ℕ) → is_some o ≡ true → IsRun s protected NewMaster most_answers left before between old o mid
@@ -106,10 +106,10 @@ module _ (s : Shape) (protected : List ℕ) (r : Request) (before : List Ask) (u
   given_master left between mid (Some x) h run = (x, run)
 
   -- it is given
-  pub call-behind_master : (left more x : ℕ) (between after : List Ask) (given : Option ℕ) (mid new : Heap) → lacks_slot r old ≡ true → IsRun s protected NewMaster most_answers left before between old (Some x) mid
+  pub call-after_master : (left more x : ℕ) (between after : List Ask) (given : Option ℕ) (mid new : Heap) → lacks_slot r old ≡ true → IsRun s protected NewMaster most_answers left before between old (Some x) mid
       → IsRun s protected r left more between after mid given new → IsCallRun s protected r after old (given_or_full given) new
-  call-behind_master left more x between after given mid new slot first run =
-      let behind : after ≡ first.asks ++ run.asks = run.behind ∙ ap (λ asks. asks ++ run.asks) (first.behind ∙ ap (λ asks. asks ++ first.asks) unasked) in
+  call-after_master left more x between after given mid new slot first run =
+      let following : after ≡ first.asks ++ run.asks = run.after ∙ ap (λ asks. asks ++ run.asks) (first.after ∙ ap (λ asks. asks ++ first.asks) unasked) in
       let counted = first.counted in
       let still : most_answers - length first.asks ≡ left = omega (arith, counted) in
       let answers = answers_in run.asks in
@@ -119,17 +119,17 @@ module _ (s : Shape) (protected : List ℕ) (r : Request) (before : List Ask) (u
       record {
         given = given;
         result_is = refl;
-        run = ap (call_run s protected r (answers_in after) old) slot ∙ ap (λ asks. finished (request_run s protected NewMaster most_answers (answers_in asks) old)) behind
+        run = ap (call_run s protected r (answers_in after) old) slot ∙ ap (λ asks. finished (request_run s protected NewMaster most_answers (answers_in asks) old)) following
             ∙ ap (λ answers. finished (request_run s protected NewMaster most_answers answers old)) (filter_map-append (λ (a : Ask). a.answer) first.asks run.asks)
             ∙ ap finished longer
             ∙ ap (λ n. let e = request_run s protected r n answers mid in record e { asks = first.asks ++ e.asks }) still
             ∙ ap (λ (e : Ending). record e { asks = first.asks ++ e.asks }) run.run
-            ∙ ap (λ (asks : List Ask). record { given = given; heap = new; asks = asks; left = [] }) (sym behind);
+            ∙ ap (λ (asks : List Ask). record { given = given; heap = new; asks = asks; left = [] }) (sym following);
       }
 
   -- a slot is free then
-  pub slot-behind_master : (left x : ℕ) (between : List Ask) (mid : Heap) → IsRun s protected NewMaster most_answers left before between old (Some x) mid → lacks_slot r mid ≡ false
-  slot-behind_master left x between mid first = by_need (makes_handle r)
+  pub slot-after_master : (left x : ℕ) (between : List Ask) (mid : Heap) → IsRun s protected NewMaster most_answers left before between old (Some x) mid → lacks_slot r mid ≡ false
+  slot-after_master left x between mid first = by_need (makes_handle r)
       (sym (ap (λ (e : Ending). has_none e.heap.free_slots) first.run) ∙ run-slot s protected x most_answers (answers_in first.asks) old (ap (λ (e : Ending). e.given) first.run))
     where
       by_need : (b : Bool) → has_none mid.free_slots ≡ false → (b && has_none mid.free_slots) ≡ false
@@ -137,13 +137,13 @@ module _ (s : Shape) (protected : List ℕ) (r : Request) (before : List Ask) (u
       by_need false h = refl
 
   -- and the procedure may still answer
-  pub more-behind_master : (left x : ℕ) (between : List Ask) (mid : Heap) → IsRun s protected NewMaster most_answers left before between old (Some x) mid → MayAskMore left between
-  more-behind_master left x between mid first =
-      let behind : between ≡ first.asks = first.behind ∙ ap (λ asks. asks ++ first.asks) unasked in
+  pub more-after_master : (left x : ℕ) (between : List Ask) (mid : Heap) → IsRun s protected NewMaster most_answers left before between old (Some x) mid → MayAskMore left between
+  more-after_master left x between mid first =
+      let following : between ≡ first.asks = first.after ∙ ap (λ asks. asks ++ first.asks) unasked in
       let counted = first.counted in
-      let long = ap (λ (asks : List Ask). length asks) behind in
+      let long = ap (λ (asks : List Ask). length asks) following in
       record {
         few = omega (arith, counted, long);
-        answered = ap (list_all (λ (a : Ask). is_some a.answer)) behind ∙ sym (ap (λ (e : Ending). list_all (λ (a : Ask). is_some a.answer) e.asks) first.run)
+        answered = ap (list_all (λ (a : Ask). is_some a.answer)) following ∙ sym (ap (λ (e : Ending). list_all (λ (a : Ask). is_some a.answer) e.asks) first.run)
             ∙ run-all_answered s protected NewMaster x most_answers (answers_in first.asks) old (ap (λ (e : Ending). e.given) first.run);
       }

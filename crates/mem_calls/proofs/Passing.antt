@@ -1,4 +1,4 @@
--- What several tests of a call's operands answer, one behind another.
+-- What several tests of a call's operands answer, one after another.
 use Rattle.std.proofs.Common.{◌≡◌, ℕ, nat_le, List, [], ◌∷◌, ◌++◌, Option, Some, None, refl, ap, ◌∙◌}
 use Rattle.std.specs.Option.{option_or}
 use Rattle.mac_base.specs.declared.error.OsErr.{OsErr}

@@ -9,7 +9,7 @@ use Rattle.mac_base.specs.ZoneMap.{ZoneMap, handle_of}
 use Rattle.mac_base.specs.HandleTable.{HandleTable, EmptyHandle, live_flags, flags_of, is_full, is_locked, is_purgeable}
 use Rattle.mac_base.specs.Gap.{is_fixed}
 use Rattle.mac_base.specs.Arrangement.{down}
-use Rattle.mac_base.specs.Compaction.{all_down, all_down_behind}
+use Rattle.mac_base.specs.Compaction.{all_down, all_down_after}
 use Rattle.mac_base.specs.Heap.{Heap, with_emptied, with_all_emptied, all_purged}
 use Rattle.mac_base.specs.Request.{candidates_in, is_among}
 use Rattle.zone_laws.proofs.Tables.{by_number, with_live_agrees, live_at-with_live_same}
@@ -42,12 +42,12 @@ same_fixed t u same Master = refl
 same_fixed t u same (Ptr p) = refl
 same_fixed t u same (Rel h) = same h
 
-same_down : (t u : HandleTable) → ((y : ℕ) → is_locked u y ≡ is_locked t y) → (run m : ZoneMap) → all_down_behind u run m ≡ all_down_behind t run m
+same_down : (t u : HandleTable) → ((y : ℕ) → is_locked u y ≡ is_locked t y) → (run m : ZoneMap) → all_down_after u run m ≡ all_down_after t run m
 same_down t u same run [] = refl
 same_down t u same run (e ∷ es) =
-    ap (λ b. cond b (down run ++ e ∷ all_down_behind u [] es) (all_down_behind u (run ++ e ∷ []) es)) (same_fixed t u same e.kind)
-    ∙ ap (λ m. cond (is_fixed t e.kind) (down run ++ e ∷ m) (all_down_behind u (run ++ e ∷ []) es)) (same_down t u same [] es)
-    ∙ ap (λ m. cond (is_fixed t e.kind) (down run ++ e ∷ all_down_behind t [] es) m) (same_down t u same (run ++ e ∷ []) es)
+    ap (λ b. cond b (down run ++ e ∷ all_down_after u [] es) (all_down_after u (run ++ e ∷ []) es)) (same_fixed t u same e.kind)
+    ∙ ap (λ m. cond (is_fixed t e.kind) (down run ++ e ∷ m) (all_down_after u (run ++ e ∷ []) es)) (same_down t u same [] es)
+    ∙ ap (λ m. cond (is_fixed t e.kind) (down run ++ e ∷ all_down_after t [] es) m) (same_down t u same (run ++ e ∷ []) es)
 
 -- the gaps are those of the table before the purging
 pub all_down-purged : (heap : Heap) → all_down (all_purged heap).table (all_purged heap).map ≡ all_down heap.table (all_purged heap).map

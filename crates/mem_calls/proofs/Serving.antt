@@ -11,11 +11,11 @@ use Rattle.mac_base.specs.declared.request.Request.{Request}
 use Rattle.mac_base.specs.declared.request.Request.TheVariants.{NewMaster}
 use Rattle.mac_base.specs.Request.{makes_handle}
 use Rattle.mac_base.specs.ExactRequest.{Ending, request_run}
-use Rattle.mac_base.specs.ExactStep.{behind_master}
+use Rattle.mac_base.specs.ExactStep.{after_master}
 use Rattle.mac_base.specs.GrowZone.{Answer, Ask, answers_in, most_answers}
 use Rattle.zone_laws.proofs.SoundServed.{MayServe}
 use Rattle.zone_laws.proofs.LentSteps.{LoansKept, NewHere, loans-fixed, new-here, ran-lent, run-kept}
-use Rattle.zone_laws.proofs.RunPermitted.{Gives, Grants, Guards, grants-behind, run-facts}
+use Rattle.zone_laws.proofs.RunPermitted.{Gives, Grants, Guards, grants-after, run-facts}
 use Rattle.zone_laws.proofs.RunTables.{Ran}
 use Rattle.zone_laws.proofs.StepPermitted.{may_serve-from, operand-handle, slot-free, makes-first}
 use Rattle.zone_laws.proofs.StepRequests.{HasOperand}
@@ -44,9 +44,9 @@ module _ (s : Shape) (protected : List ℕ) (r : Request) (guards : Guards prote
         lent = ran-lent r x heap.table e.heap.table ran;
       }
 
-  -- or by one behind that for a master block
+  -- or by one after that for a master block
   by_master : (answers : List Answer) (old : Heap) → Sound s old → LoansAreFixed old → makes_handle r ≡ true → (x : ℕ) → let master = request_run s protected NewMaster most_answers answers old in
-      (given : Option ℕ) → master.given ≡ given → (behind_master s protected r master given).given ≡ Some x → Served protected r x old (behind_master s protected r master given).heap
+      (given : Option ℕ) → master.given ≡ given → (after_master s protected r master given).given ≡ Some x → Served protected r x old (after_master s protected r master given).heap
   by_master answers old sound fixed makes x None none h = absurd (cc h)
   by_master answers old sound fixed makes x (Some m) first h =
       let master = request_run s protected NewMaster most_answers answers old in
@@ -58,7 +58,7 @@ module _ (s : Shape) (protected : List ℕ) (r : Request) (guards : Guards prote
       let allowed = most_answers - length master.asks in
       let then = by_run allowed master.left master.heap facts.sound (loans-fixed old master.heap keeps fixed) (may_serve-from master.heap r (operand-handle master.heap r makes) (λ _. slots)) x h in
       record {
-        grants = grants-behind protected r old master.heap (request_run s protected r allowed master.left master.heap).heap (Some x)
+        grants = grants-after protected r old master.heap (request_run s protected r allowed master.left master.heap).heap (Some x)
             (record { free = λ _. slots; protects = λ y among. ap (λ t. live_at t y) grants.table ∙ grants.protects y among }) then.grants;
         gives = then.gives;
         here = then.here;

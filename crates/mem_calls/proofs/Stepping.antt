@@ -14,7 +14,7 @@ use Rattle.mac_base.specs.declared.memory_call.MemoryCall.{MemoryCall}
 use Rattle.mac_base.specs.Tests.{refusal, protected_by}
 use Rattle.mac_base.specs.GrowZone.{Answer, Ask, answers_in, most_answers}
 use Rattle.mac_base.specs.ExactRequest.{Ending, request_run}
-use Rattle.mac_base.specs.ExactStep.{StepEnd, rearranged, quiet_outcome, request_end, behind_master, request_step, step_asking, step_unless, IsExactStep}
+use Rattle.mac_base.specs.ExactStep.{StepEnd, rearranged, quiet_outcome, request_end, after_master, request_step, step_asking, step_unless, IsExactStep}
 use Rattle.mac_base.specs.Effect.{request_of, table_copied, effect_of}
 use Rattle.mac_base.specs.declared.reply.Results.TheVariants.{Handle, Pointer, Nothing}
 use Rattle.mac_base.specs.Outcomes.{Outcome, done_outcome, given_results, handle_outcome, pointer_outcome}
@@ -37,16 +37,16 @@ exact-quiet s old call passed none = ap (step_unless s [] old call) passed ∙ a
 abbrev request_ended : MemoryCall → HandleTable → Ending → StepEnd
 request_ended call entry e = request_end call entry [] e e.given
 
-behind_asks : (call : MemoryCall) (entry : HandleTable) (asks : List Ask) (e : Ending) (o : Option ℕ) → request_end call entry asks e o ≡ request_end call entry [] (record e { asks = asks ++ e.asks }) o
-behind_asks call entry asks e None = refl
-behind_asks call entry asks e (Some x) = refl
+after_asks : (call : MemoryCall) (entry : HandleTable) (asks : List Ask) (e : Ending) (o : Option ℕ) → request_end call entry asks e o ≡ request_end call entry [] (record e { asks = asks ++ e.asks }) o
+after_asks call entry asks e None = refl
+after_asks call entry asks e (Some x) = refl
 
 by_request : (s : Shape) (answers : List Answer) (old : Heap) (call : MemoryCall) (r : Request) (b : Bool) → request_step s answers old call b r ≡ request_ended call old.table (call_run s (protected_by call) r answers old b)
 by_request s answers old call r false = refl
 by_request s answers old call r true =
     let master = request_run s (protected_by call) NewMaster most_answers answers old in
-    let e = behind_master s (protected_by call) r master master.given in
-    behind_asks call old.table master.asks e e.given
+    let e = after_master s (protected_by call) r master master.given in
+    after_asks call old.table master.asks e e.given
 
 -- the outcome of a call by what its request gave
 abbrev pub request_outcome : MemoryCall → Result ℕ OsErr → Outcome

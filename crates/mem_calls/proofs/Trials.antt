@@ -22,7 +22,7 @@ zone_grown z = with_heap (grown z.shape z.heap) z
 abbrev pub zone_purged : List ℕ → Request → ZoneState → ZoneState
 zone_purged protected r z = with_heap (purged z.shape protected r z.heap) z
 
--- what is grown behind an attempt that has changed nothing
+-- what is grown after an attempt that has changed nothing
 pub is_grown : (old tried larger : ZoneState) → tried ≡ old → larger ≡ zone_grown tried → larger ≡ zone_grown old
 is_grown old tried larger first then = then ∙ ap zone_grown first
 
@@ -33,7 +33,7 @@ trial-grown protected r x old tried larger new first then misses given =
     let served = subst (λ z. EndsAttempt z r (Some x) new) (is_grown old tried larger first then) given in
     ap (attempted old.shape r) (prepared-grown old.shape protected r old.heap misses served.0) ∙ served.1
 
--- what is purged behind it
+-- what is purged after it
 pub is_purged : (protected : List ℕ) (r : Request) (old tried larger again last_zone : ZoneState) → tried ≡ old → larger ≡ zone_grown tried → again ≡ larger → last_zone ≡ zone_purged protected r again
     → last_zone ≡ zone_purged protected r (zone_grown old)
 is_purged protected r old tried larger again last_zone first then same last = last ∙ ap (zone_purged protected r) (same ∙ is_grown old tried larger first then)

@@ -15,7 +15,7 @@ use Rattle.mac_base.specs.declared.request.Request.TheVariants.{NewMaster, Resiz
 use Rattle.mac_base.specs.Request.{fits}
 use Rattle.mac_base.specs.GrowZone.{Answer, Ask, new_ask, answers_in, most_answers, carried_out}
 use Rattle.mac_base.specs.ExactRequest.{Ending, asked, prepared, request_run}
-use Rattle.mac_base.specs.ExactStep.{behind_master}
+use Rattle.mac_base.specs.ExactStep.{after_master}
 use Rattle.zone_heap.specs.Attempts.{lacks_slot}
 
 -- an attempt where a slot is free for a new handle: it gives a number just where the request fits
@@ -58,19 +58,19 @@ pub record MayAskMore (allowed : ℕ) (asks : List Ask) : Type 0 where
   pub few : length asks + allowed ≤ most_answers
   pub answered : IsTrue (list_all (λ (a : Ask). is_some a.answer) asks)
 
--- a request runs with some asks behind those before, and leaves so many answers of those that are allowed
+-- a request runs with some asks after those before, and leaves so many answers of those that are allowed
 pub record IsRun (s : Shape) (protected : List ℕ) (r : Request) (allowed left : ℕ) (before after : List Ask) (old : Heap) (given : Option ℕ) (new : Heap) : Type 0 where
   pub asks : List Ask
-  pub behind : after ≡ before ++ asks
+  pub after : after ≡ before ++ asks
   pub run : request_run s protected r allowed (answers_in asks) old ≡ record { given = given; heap = new; asks = asks; left = [] }
   pub counted : length asks + left ≡ allowed
 
--- the run of a call's request, behind one for a master block where no slot is free for its handle
+-- the run of a call's request, after one for a master block where no slot is free for its handle
 abbrev pub call_run : Shape → List ℕ → Request → List Answer → Heap → Bool → Ending
 call_run s protected r answers heap false = request_run s protected r most_answers answers heap
 call_run s protected r answers heap true =
     let master = request_run s protected NewMaster most_answers answers heap in
-    let e = behind_master s protected r master master.given in
+    let e = after_master s protected r master master.given in
     record e { asks = master.asks ++ e.asks }
 
 -- what it gave, or memFullErr

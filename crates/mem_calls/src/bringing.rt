@@ -49,8 +49,8 @@ fn test_handle_for(zone: &Zone, handle: Handle, bytes: &[u8]) -> Result<(), OsEr
     test_count(bytes)
 }
 
-/// Writes bytes over all that a block has behind the first `offset`.
-fn write_behind(zone: &mut Zone, block: u32, offset: u32, bytes: &[u8])
+/// Writes bytes over all that a block has after the first `offset`.
+fn write_after(zone: &mut Zone, block: u32, offset: u32, bytes: &[u8])
     requires full { status_of zone.old.heap.table block ≡ Status.Full }
     requires long { length (bytes_of zone.old.heap.table block) ≡ offset + length bytes.now }
     ensures zone { zone.new ≡ with_heap (with_table (with_bytes block (take offset (bytes_of zone.old.heap.table block) ++ bytes.now) zone.old.heap.table) zone.old.heap) zone.old }
@@ -77,12 +77,12 @@ fn bring_new<G: GrowZone>(zone: &mut Zone, bytes: &[u8], procedure: &mut G) -> R
     prove!(zone.first_block() > 0);
     let count = bytes.len() as u32;
     let new = request(zone, &Request::NewBlock(count), &[], procedure)?;
-    write_behind(zone, new, 0, bytes);
+    write_after(zone, new, 0, bytes);
     Ok(Handle::new(new))
 }
 
-/// Gives a block these bytes behind the first `offset` of its own, and no more. It isn't purged for it.
-fn bring_behind<G: GrowZone>(
+/// Gives a block these bytes after the first `offset` of its own, and no more. It isn't purged for it.
+fn bring_after<G: GrowZone>(
     zone: &mut Zone,
     to: u32,
     offset: u32,
@@ -92,7 +92,7 @@ fn bring_behind<G: GrowZone>(
     requires limit { zone.old.shape.limit ≤ 0x4000_0000 }
     requires few { length bytes.now ≤ 0x80_0000 }
     requires target { status_of zone.old.heap.table to ≡ Status.Full }
-    requires behind { offset ≤ length (bytes_of zone.old.heap.table to) }
+    requires after { offset ≤ length (bytes_of zone.old.heap.table to) }
     requires unasked { G.asks procedure.old ≡ [] }
     ensures run { (given : Result ℕ OsErr) × (result ≡ done given) × IsCopyRun zone.old.shape (to ∷ []) (Resize to (offset + length bytes.now)) (take offset (bytes_of zone.old.heap.table to) ++ bytes.now) (G.asks procedure.new) zone.old.heap given zone.new.heap }
     ensures source { G.source procedure.new ≡ G.source procedure.old }
@@ -107,7 +107,7 @@ fn bring_behind<G: GrowZone>(
     let count = bytes.len() as u32;
     let resize = Request::Resize(to, offset + count);
     request(zone, &resize, &[to], procedure)?;
-    write_behind(zone, to, offset, bytes);
+    write_after(zone, to, offset, bytes);
     Ok(())
 }
 
@@ -150,7 +150,7 @@ impl MemoryManager {
     {
         test_handle_for(&self.zone, handle, bytes)?;
         let block = handle.number();
-        bring_behind(&mut self.zone, block, 0, bytes, procedure)
+        bring_after(&mut self.zone, block, 0, bytes, procedure)
     }
 
     /// PtrAndHand of bytes from outside the zone: appends these to those of the handle's block. The codes are those of
@@ -172,6 +172,6 @@ impl MemoryManager {
         test_handle_for(&self.zone, handle, bytes)?;
         let block = handle.number();
         let length = self.zone.linked().length(block);
-        bring_behind(&mut self.zone, block, length, bytes, procedure)
+        bring_after(&mut self.zone, block, length, bytes, procedure)
     }
 }

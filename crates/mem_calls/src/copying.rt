@@ -50,9 +50,9 @@ fn copy_to_new<G: GrowZone>(
     Ok(Handle::new(new))
 }
 
-/// Gives a block the first `count` bytes of another behind `offset` of its own, and no more. It may be the other;
+/// Gives a block the first `count` bytes of another after `offset` of its own, and no more. It may be the other;
 /// neither is purged for it.
-fn copy_behind<G: GrowZone>(
+fn copy_after<G: GrowZone>(
     zone: &mut Zone,
     from: u32,
     count: u32,
@@ -64,7 +64,7 @@ fn copy_behind<G: GrowZone>(
     requires full { status_of zone.old.heap.table from ≡ Status.Full }
     requires within { count ≤ length (bytes_of zone.old.heap.table from) }
     requires target { status_of zone.old.heap.table to ≡ Status.Full }
-    requires behind { offset ≤ length (bytes_of zone.old.heap.table to) }
+    requires after { offset ≤ length (bytes_of zone.old.heap.table to) }
     requires unasked { G.asks procedure.old ≡ [] }
     ensures run { (given : Result ℕ OsErr) × (result ≡ done given) × IsCopyRun zone.old.shape (from ∷ to ∷ []) (Resize to (offset + count)) (take offset (bytes_of zone.old.heap.table to) ++ take count (bytes_of zone.old.heap.table from)) (G.asks procedure.new) zone.old.heap given zone.new.heap }
     ensures source { G.source procedure.new ≡ G.source procedure.old }
@@ -150,7 +150,7 @@ impl MemoryManager {
         test_pointer_for(&self.zone, pointer, handle, count)?;
         let from = pointer.number();
         let to = handle.number();
-        copy_behind(&mut self.zone, from, count, to, 0, procedure)
+        copy_after(&mut self.zone, from, count, to, 0, procedure)
     }
 
     /// PtrAndHand: appends the first `count` bytes of the pointer's block to those of the handle's. The codes are those
@@ -174,11 +174,11 @@ impl MemoryManager {
         let from = pointer.number();
         let to = handle.number();
         let length = self.zone.linked().length(to);
-        copy_behind(&mut self.zone, from, count, to, length, procedure)
+        copy_after(&mut self.zone, from, count, to, length, procedure)
     }
 
     /// HandAndHand: appends the bytes of the first handle's block to those of the second's. It may be one handle: then
-    /// its bytes stand there twice. Neither is purged. For each of them in turn nilHandleErr where it is 0 or empty,
+    /// its bytes are there twice. Neither is purged. For each of them in turn nilHandleErr where it is 0 or empty,
     /// memWZErr where it isn't live, memLockedErr where it is lent; memFullErr where there is no room, or the result is
     /// too long (Inside Macintosh: Memory, Manipulating Blocks of Memory).
     pub fn hand_and_hand<G: GrowZone>(
@@ -200,7 +200,7 @@ impl MemoryManager {
         let to = other.number();
         let count = self.zone.linked().length(from);
         let length = self.zone.linked().length(to);
-        copy_behind(&mut self.zone, from, count, to, length, procedure)
+        copy_after(&mut self.zone, from, count, to, length, procedure)
     }
 
     /// BlockMove: `count` bytes of a block, from `start` on, over those from `offset` on of another. It may be the

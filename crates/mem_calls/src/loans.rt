@@ -35,7 +35,7 @@ impl MemoryManager {
         Ok(self.zone.lend(block))
     }
 
-    /// Takes back the bytes of a block that is lent, as the holder of the loan left them. The block stands where it
+    /// Takes back the bytes of a block that is lent, as the holder of the loan left them. The block is where it
     /// did.
     pub fn give_back(&mut self, block: u32, loan: Lent)
         requires { IsLoanOf self.old block loan }

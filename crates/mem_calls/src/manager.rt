@@ -49,7 +49,7 @@ impl MemoryManager {
     ghost use Rattle.mac_base.specs.Sound.{Sound};
     ghost use Rattle.mac_base.specs.ZoneSizes.{shape_of};
     ghost use Rattle.mac_base.specs.ZoneState.{own_memory};
-    ghost use Rattle.mac_base.specs.ZoneMap.{address_behind};
+    ghost use Rattle.mac_base.specs.ZoneMap.{address_after};
     ghost use Rattle.mem_calls.specs.WritingBack.{WritesBackContents};
 
     /// A new zone: a master block with 64 free slots, and the rest free. It takes all the memory that the zone will
@@ -107,14 +107,14 @@ impl MemoryManager {
     /// The address of the zone's first block header. What the zone shows is a sound heap, and its addresses have 32
     /// bits.
     pub fn first_block(&self) -> u32
-        ensures address { result ≡ address_behind self.now.shape [] }
+        ensures address { result ≡ address_after self.now.shape [] }
         ensures sound { Sound self.now.shape self.now.heap }
         ensures reach { self.now.shape.base + self.now.shape.limit ≤ 0xFFFF_FFFF }
     {
         self.zone.first_block()
     }
 
-    /// The block whose header stands at this address, if one does.
+    /// The block whose header is at this address, if one does.
     pub fn entry(&self, at: u32) -> Option<Block>
         ensures { result ≡ report_at self.now.shape self.now.heap at }
     {

@@ -1,4 +1,4 @@
-//! The calls about where relocatable blocks stand.
+//! The calls about where relocatable blocks are.
 
 ghost use Rattle.std.specs.Prelude.{◌≡◌, []};
 ghost use Rattle.linked_zone.specs.Loans.{KeepsLoans};

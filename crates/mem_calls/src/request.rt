@@ -142,7 +142,7 @@ fn turn<G: GrowZone>(
 }
 
 /// Runs a request: trials, and turns of the procedure between them while it may still answer. It counts the answers
-/// down, and calls itself behind each turn: 17 deep at most, since a call begins with 16 answers.
+/// down, and calls itself after each turn: 17 deep at most, since a call begins with 16 answers.
 fn run<G: GrowZone>(
     zone: &mut Zone,
     request: &Request,
@@ -189,7 +189,7 @@ fn given_or_full(given: Option<u32>) -> Result<u32, OsErr>
     }
 }
 
-/// Runs the request of a call, behind one for a master block where it is for a new handle and no slot is free. In both
+/// Runs the request of a call, after one for a master block where it is for a new handle and no slot is free. In both
 /// the grow-zone procedure may answer 16 times at most.
 pub(crate) fn request<G: GrowZone>(
     zone: &mut Zone,

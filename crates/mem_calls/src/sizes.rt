@@ -60,7 +60,7 @@ impl MemoryManager {
     }
 
     /// SetPtrSize: gives the pointer's block `size` bytes where it is; bytes that are added are zero. The relocatable
-    /// blocks of the gap right behind it make way; where there is no room, the zone grows and purges there, and asks
+    /// blocks of the gap right after it make way; where there is no room, the zone grows and purges there, and asks
     /// the grow-zone procedure, as for NewHandle. memWZErr where the pointer isn't live, memLockedErr where it is lent,
     /// paramErr where `size` is over 8,388,608, memFullErr where there is no room (Inside Macintosh: Memory, Changing
     /// the Sizes of Relocatable and Nonrelocatable Blocks).

@@ -4,7 +4,7 @@ use mac_base::block::{Block, Flags, Kind};
 use mem_calls::MemoryManager;
 use std::io;
 
-/// Prints all blocks, lowest first: each stands right behind the one before it.
+/// Prints all blocks, lowest first: each is right after the one before it.
 pub(crate) fn print_blocks(rt: &HostRuntime, memory: &MemoryManager) -> Result<(), io::Error> {
     let mut at = memory.first_block();
     while let Some(block) = memory.entry(at) {

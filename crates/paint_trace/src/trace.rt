@@ -80,7 +80,7 @@ fn next_block(words: &mut SplitWhitespace<'_>) -> Result<usize, NoStep>
     }
 }
 
-/// The bytes that a step asks for, behind its block.
+/// The bytes that a step asks for, after its block.
 fn next_size(words: &mut SplitWhitespace<'_>) -> Result<u32, NoStep> {
     let word = words.next().ok_or(NoStep::Size)?;
     word.parse::<u32>().map_err(|_| NoStep::Size)

@@ -8,12 +8,12 @@ use Rattle.place_numbers.specs.Shifted.{copied, shifted_down, shifted_up}
 use Rattle.place_numbers.proofs.Moved.{shifted-down, shifted-up, only-down, only-up, same-place}
 use Rattle.place_numbers.proofs.Copied.{is-copied, only-copied}
 
--- 0 stands from a place up to another, and the others stay
+-- 0 is from a place up to another, and the others stay
 pub record IsCleared (xs ys : List ℕ) (from end : ℕ) : Type 0 where
   pub len : length ys ≡ length xs
   pub below : (j : ℕ) → j < from → get_or ys j 0 ≡ get_or xs j 0
   pub zeros : (j : ℕ) → from ≤ j → j < end → get_or ys j 0 ≡ 0
-  pub behind : (j : ℕ) → end ≤ j → get_or ys j 0 ≡ get_or xs j 0
+  pub after : (j : ℕ) → end ≤ j → get_or ys j 0 ≡ get_or xs j 0
 
 -- so it is where none was moved down
 pub is-cleared : (xs : List ℕ) (from end : ℕ) → from ≤ end → end ≤ length xs → IsCleared xs (shifted_down end from 0 xs) from end
@@ -23,7 +23,7 @@ is-cleared xs from end order inside =
       len = all.len;
       below = all.below;
       zeros = λ j past low. all.zeros j past (omega arith) (omega arith);
-      behind = λ j past. all.behind j (omega arith);
+      after = λ j past. all.after j (omega arith);
     }
 
 pub only-cleared : (xs ys : List ℕ) (from end : ℕ) → from ≤ end → end ≤ length xs → IsCleared xs ys from end → ys ≡ shifted_down end from 0 xs
@@ -34,7 +34,7 @@ only-cleared xs ys from end order inside it =
       below = it.below;
       moved = λ j past low. absurd (omega arith);
       zeros = λ j past moved low. it.zeros j past (omega arith);
-      behind = λ j past. it.behind j (omega arith);
+      after = λ j past. it.after j (omega arith);
     }
     (shifted-down xs end from 0 order (omega arith))
 
@@ -48,7 +48,7 @@ module _ (xs ys : List ℕ) (from place : ℕ) (done : IsCleared xs ys from plac
       | inl early ↦ done.zeros j past early
       | inr late ↦ let zero = none j late low in omega (arith, zero)
     ];
-    behind = λ j past. done.behind j (omega arith);
+    after = λ j past. done.after j (omega arith);
   }
 
   -- and some are written
@@ -60,7 +60,7 @@ module _ (xs ys : List ℕ) (from place : ℕ) (done : IsCleared xs ys from plac
       | inl early ↦ put.before j early ∙ done.zeros j past early
       | inr late ↦ same-place zs j (place + (j - place)) (omega arith) ∙ put.there (j - place) (omega arith) ∙ bit_at-zero (j - place)
     ];
-    behind = λ j past. put.behind j past ∙ done.behind j (omega arith);
+    after = λ j past. put.after j past ∙ done.after j (omega arith);
   }
 
 -- marks of a word that are read at one place and written at another are copied
@@ -72,11 +72,11 @@ copied-word xs ys from to n m few from-in to-in read put =
       len = put.len;
       below = put.before;
       there = λ j past low. same-place ys j (to + (j - to)) (omega arith) ∙ put.there (j - to) (omega arith) ∙ read (j - to) (omega arith);
-      behind = put.behind;
+      after = put.after;
     }
     (is-copied xs from to n from-in to-in)
 
--- zeros are copied where those that stood there are taken away
+-- zeros are copied where those that was there are taken away
 pub copied-zeros : (xs : List ℕ) (from to n end : ℕ) → end ≡ to + n → from + n ≤ length xs → to + n ≤ length xs → ((j : ℕ) → from ≤ j → j < from + n → get_or xs j 0 < 1)
     → shifted_down end to 0 xs ≡ copied from to n xs
 copied-zeros xs from to n end is from-in to-in none =
@@ -86,11 +86,11 @@ copied-zeros xs from to n end is from-in to-in none =
       len = all.len;
       below = all.below;
       there = λ j past low. let zero = none (from + (j - to)) (omega arith) (omega arith) in all.zeros j past (omega arith) ∙ (let e : 0 ≡ get_or xs (from + (j - to)) 0 = omega (arith, zero) in e);
-      behind = λ j past. all.behind j (omega arith);
+      after = λ j past. all.after j (omega arith);
     }
     (is-copied xs from to n from-in to-in)
 
--- numbers are moved down where they are copied, and those behind the copies taken away
+-- numbers are moved down where they are copied, and those after the copies taken away
 pub down-cleared : (xs : List ℕ) (from to n : ℕ) → to ≤ from → from + n ≤ length xs → shifted_down (from + n) (to + n) 0 (copied from to n xs) ≡ shifted_down from to n xs
 down-cleared xs from to n down inside =
     let ys = copied from to n xs in let first = is-copied xs from to n inside (omega arith) in
@@ -102,7 +102,7 @@ down-cleared xs from to n down inside =
       below = λ j low. then.below j (omega arith) ∙ first.below j low;
       moved = λ j past low. then.below j (omega arith) ∙ first.there j past (omega arith) ∙ same-place xs (from + (j - to)) (j + (from - to)) (omega arith);
       zeros = λ j past moved low. then.zeros j (omega arith) low;
-      behind = λ j past. then.behind j past ∙ first.behind j (omega arith);
+      after = λ j past. then.after j past ∙ first.after j (omega arith);
     }
     (shifted-down xs from to n down inside)
 
@@ -117,7 +117,7 @@ up-cleared xs from to n up inside =
       len = then.len ∙ first.len;
       below = λ j low. then.below j low ∙ first.below j (omega arith);
       zeros = λ j past moved low. then.zeros j past (omega arith);
-      moved = λ j past low. then.behind j (omega arith) ∙ first.there j (omega arith) low ∙ same-place xs (from + (j - to)) (j - (to - from)) (omega arith);
-      behind = λ j past. then.behind j (omega arith) ∙ first.behind j past;
+      moved = λ j past low. then.after j (omega arith) ∙ first.there j (omega arith) low ∙ same-place xs (from + (j - to)) (j - (to - from)) (omega arith);
+      after = λ j past. then.after j (omega arith) ∙ first.after j past;
     }
     (shifted-up xs from to n up inside)

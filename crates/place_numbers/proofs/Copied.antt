@@ -5,12 +5,12 @@ use Rattle.std.proofs.lemmas.List.{ext_get_or, get_or_append_left, get_or-append
 use Rattle.place_numbers.specs.Shifted.{copied}
 use Rattle.place_numbers.proofs.Moved.{same-place}
 
--- n numbers of xs from a place on stand in ys from another on, and the others where they stood
+-- n numbers of xs from a place on are in ys from another on, and the others where they were
 pub record IsCopied (xs ys : List ℕ) (from to n : ℕ) : Type 0 where
   pub len : length ys ≡ length xs
   pub below : (j : ℕ) → j < to → get_or ys j 0 ≡ get_or xs j 0
   pub there : (j : ℕ) → to ≤ j → j < to + n → get_or ys j 0 ≡ get_or xs (from + (j - to)) 0
-  pub behind : (j : ℕ) → to + n ≤ j → get_or ys j 0 ≡ get_or xs j 0
+  pub after : (j : ℕ) → to + n ≤ j → get_or ys j 0 ≡ get_or xs j 0
 
 -- so it is in the list with a copy
 pub is-copied : (xs : List ℕ) (from to n : ℕ) → from + n ≤ length xs → to + n ≤ length xs → IsCopied xs (copied from to n xs) from to n
@@ -25,7 +25,7 @@ is-copied xs from to n from-in to-in =
       below = λ j low. get_or_append_left (ks ++ ls) ms 0 j (omega arith) ∙ get_or_append_left ks ls 0 j (omega arith) ∙ get_or-take to xs j 0 low;
       there = λ j past before. get_or_append_left (ks ++ ls) ms 0 j (omega arith) ∙ get_or-append_right ks ls to j 0 one past
           ∙ get_or-take n (drop from xs) (j - to) 0 (omega arith) ∙ get_or-drop from xs (j - to) 0;
-      behind = λ j past. get_or-append_right (ks ++ ls) ms (to + n) j 0 both past ∙ get_or-drop (to + n) xs (j - (to + n)) 0 ∙ same-place xs (to + n + (j - (to + n))) j (omega arith);
+      after = λ j past. get_or-append_right (ks ++ ls) ms (to + n) j 0 both past ∙ get_or-drop (to + n) xs (j - (to + n)) 0 ∙ same-place xs (to + n + (j - (to + n))) j (omega arith);
     }
 
 -- and that is all there is to say of it
@@ -34,11 +34,11 @@ only-copied xs ys zs from to n one other = ext_get_or 0 ys zs (one.len ∙ sym o
   | inl low ↦ one.below j low ∙ sym (other.below j low)
   | inr past ↦ elim (cases_lt j (to + n)) [
     | inl before ↦ one.there j past before ∙ sym (other.there j past before)
-    | inr behind ↦ one.behind j behind ∙ sym (other.behind j behind)
+    | inr after ↦ one.after j after ∙ sym (other.after j after)
   ]
 ])
 
--- the first m numbers are copied down, and the k behind them follow
+-- the first m numbers are copied down, and the k after them follow
 pub down-more : (xs : List ℕ) (from to m k : ℕ) → to ≤ from → from + (m + k) ≤ length xs
     → copied (from + m) (to + m) k (copied from to m xs) ≡ copied from to (m + k) xs
 down-more xs from to m k down inside =
@@ -52,9 +52,9 @@ down-more xs from to m k down inside =
       below = λ j low. next.below j (omega arith) ∙ first.below j low;
       there = λ j past before. elim (cases_lt j (to + m)) [
         | inl early ↦ next.below j early ∙ first.there j past early
-        | inr late ↦ next.there j late (omega arith) ∙ first.behind (from + m + (j - (to + m))) (omega arith) ∙ same-place xs (from + m + (j - (to + m))) (from + (j - to)) (omega arith)
+        | inr late ↦ next.there j late (omega arith) ∙ first.after (from + m + (j - (to + m))) (omega arith) ∙ same-place xs (from + m + (j - (to + m))) (from + (j - to)) (omega arith)
       ];
-      behind = λ j past. next.behind j (omega arith) ∙ first.behind j (omega arith);
+      after = λ j past. next.after j (omega arith) ∙ first.after j (omega arith);
     }
     (is-copied xs from to (m + k) inside (omega arith))
 
@@ -72,8 +72,8 @@ up-more xs from to k m up inside =
       below = λ j low. next.below j low ∙ first.below j (omega arith);
       there = λ j past before. elim (cases_lt j (to + k)) [
         | inl early ↦ next.there j past early ∙ first.below (from + (j - to)) (omega arith)
-        | inr late ↦ next.behind j late ∙ first.there j late (omega arith) ∙ same-place xs (from + k + (j - (to + k))) (from + (j - to)) (omega arith)
+        | inr late ↦ next.after j late ∙ first.there j late (omega arith) ∙ same-place xs (from + k + (j - (to + k))) (from + (j - to)) (omega arith)
       ];
-      behind = λ j past. next.behind j (omega arith) ∙ first.behind j (omega arith);
+      after = λ j past. next.after j (omega arith) ∙ first.after j (omega arith);
     }
     (is-copied xs from to (k + m) (omega arith) inside)

@@ -209,7 +209,7 @@ pub record IsWrite (words ys : List ℕ) (count place k n m : ℕ) : Type 0 wher
   pub apart : (j : ℕ) → j ≢ place / 64 → get_or ys j 0 ≡ get_or words j 0
   pub here : (i : ℕ) → i < k → bit_at n (place % 64 + i) ≡ bit_at m i
   pub before : (i : ℕ) → i < place % 64 → bit_at n i ≡ bit_at (get_or words (place / 64) 0) i
-  pub behind : (i : ℕ) → place % 64 + k ≤ i → i < 64 → bit_at n i ≡ bit_at (get_or words (place / 64) 0) i
+  pub after : (i : ℕ) → place % 64 + k ≤ i → i < 64 → bit_at n i ≡ bit_at (get_or words (place / 64) 0) i
 
 module _ (words ys : List ℕ) (count place k n m : ℕ) (write : IsWrite words ys count place k n m) where
   in-it : (i : ℕ) → i < k → bit_of ys (place + i) ≡ bit_at m i
@@ -223,7 +223,7 @@ module _ (words ys : List ℕ) (count place k n m : ℕ) (write : IsWrite words 
         (λ t. bit_at (get_or ys (same t) 0) (j % 64)) ∙ ap (λ (w : ℕ). bit_at w (j % 64)) write.word
         ∙ (elim away [
           | inl low ↦ write.before (j % 64) (omega arith)
-          | inr after ↦ write.behind (j % 64) (omega arith) (omega arith)
+          | inr after ↦ write.after (j % 64) (omega arith) (omega arith)
         ])
         ∙ (λ t. bit_at (get_or words (sym same t) 0) (j % 64))
     | inr other ↦ ap (λ (w : ℕ). bit_at w (j % 64)) (write.apart (j / 64) other)
@@ -237,7 +237,7 @@ module _ (words ys : List ℕ) (count place k n m : ℕ) (write : IsWrite words 
     len = length-bits ys count ∙ sym (length-bits words count);
     there = λ i low. new (place + i) ∙ in-it i low;
     before = λ j low. new j ∙ beside j (inl low) ∙ sym (old j);
-    behind = λ j after. new j ∙ beside j (inr after) ∙ sym (old j);
+    after = λ j after. new j ∙ beside j (inr after) ∙ sym (old j);
   }
     where
       old : (j : ℕ) → get_or (bits_of words count) j 0 ≡ bit_of words j
@@ -272,6 +272,6 @@ set-written xs ys p m b inside is put = ext_get_or 0 ys (set xs p (mark_of b)) (
   | inl same ↦ rw same (same-place ys p (p + 0) (omega arith) ∙ put.there 0 (omega arith) ∙ ap (λ (k : ℕ). bit_at k 0) is ∙ lowest b ∙ sym (get_or-set_same xs p (mark_of b) 0 inside))
   | inr other ↦ (elim (cases_lt j p) [
     | inl low ↦ put.before j low
-    | inr high ↦ let apart : j ≢ p = other in put.behind j (omega arith)
+    | inr high ↦ let apart : j ≢ p = other in put.after j (omega arith)
   ]) ∙ sym (get_or-set_other xs p j (mark_of b) 0 other)
 ])

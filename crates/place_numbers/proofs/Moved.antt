@@ -10,24 +10,24 @@ zeros-at zero j = refl
 zeros-at (suc k) zero = refl
 zeros-at (suc k) (suc j) = zeros-at k j
 
--- those of xs from `to + gap` up to `place` have moved down by `gap`, and 0 stands in all other places from `to` on
+-- those of xs from `to + gap` up to `place` have moved down by `gap`, and 0 is in all other places from `to` on
 pub record MovedDown (xs ys : List ℕ) (to gap place : ℕ) : Type 0 where
   pub len : length ys ≡ length xs
   pub below : (j : ℕ) → j < to → get_or ys j 0 ≡ get_or xs j 0
   pub moved : (j : ℕ) → to ≤ j → j + gap < place → get_or ys j 0 ≡ get_or xs (j + gap) 0
   pub zeros : (j : ℕ) → to ≤ j → place ≤ j + gap → j < place → get_or ys j 0 ≡ 0
-  pub behind : (j : ℕ) → place ≤ j → get_or ys j 0 ≡ get_or xs j 0
+  pub after : (j : ℕ) → place ≤ j → get_or ys j 0 ≡ get_or xs j 0
 
--- those of xs from `place` on have moved up by `gap`, as far as this is before `end`, and 0 stands in all other places
+-- those of xs from `place` on have moved up by `gap`, as far as this is before `end`, and 0 is in all other places
 -- up to there
 pub record MovedUp (xs ys : List ℕ) (end gap place : ℕ) : Type 0 where
   pub len : length ys ≡ length xs
   pub below : (j : ℕ) → j < place → get_or ys j 0 ≡ get_or xs j 0
   pub zeros : (j : ℕ) → place ≤ j → j < place + gap → j < end → get_or ys j 0 ≡ 0
   pub moved : (j : ℕ) → place + gap ≤ j → j < end → get_or ys j 0 ≡ get_or xs (j - gap) 0
-  pub behind : (j : ℕ) → end ≤ j → get_or ys j 0 ≡ get_or xs j 0
+  pub after : (j : ℕ) → end ≤ j → get_or ys j 0 ≡ get_or xs j 0
 
--- what stands where in a list of four parts
+-- what is where in a list of four parts
 module _ (ks ls ms ns : List ℕ) (k l m j : ℕ) (k-is : length ks ≡ k) (l-is : length (ks ++ ls) ≡ l) (m-is : length ((ks ++ ls) ++ ms) ≡ m) where
   first : k ≤ l → l ≤ m → j < k → get_or (((ks ++ ls) ++ ms) ++ ns) j 0 ≡ get_or ks j 0
   first kl lm in-it =
@@ -62,7 +62,7 @@ shifted-down xs from to n down inside =
       moved = λ j low high. second ks ls ms ns to (to + n) (from + n) j one one-two to-three (omega arith) low (omega arith)
           ∙ get_or-take n (drop from xs) (j - to) 0 (omega arith) ∙ get_or-drop from xs (j - to) 0 ∙ same-place xs (from + (j - to)) (j + (from - to)) (omega arith);
       zeros = λ j low past high. third ks ls ms ns to (to + n) (from + n) j one one-two to-three (omega arith) high ∙ zeros-at (from - to) (j - (to + n));
-      behind = λ j past. fourth ks ls ms ns to (to + n) (from + n) j one one-two to-three past ∙ get_or-drop (from + n) xs (j - (from + n)) 0 ∙ same-place xs (from + n + (j - (from + n))) j (omega arith);
+      after = λ j past. fourth ks ls ms ns to (to + n) (from + n) j one one-two to-three past ∙ get_or-drop (from + n) xs (j - (from + n)) 0 ∙ same-place xs (from + n + (j - (from + n))) j (omega arith);
     }
 
 pub shifted-up : (xs : List ℕ) (from to n : ℕ) → from ≤ to → to + n ≤ length xs → MovedUp xs (shifted_up from to n xs) (to + n) (to - from) from
@@ -80,7 +80,7 @@ shifted-up xs from to n up inside =
       zeros = λ j low past high. second ks ls ms ns from to (to + n) j one one-two to-three (omega arith) low (omega arith) ∙ zeros-at (to - from) (j - from);
       moved = λ j past high. third ks ls ms ns from to (to + n) j one one-two to-three (omega arith) high
           ∙ get_or-take n (drop from xs) (j - to) 0 (omega arith) ∙ get_or-drop from xs (j - to) 0 ∙ same-place xs (from + (j - to)) (j - (to - from)) (omega arith);
-      behind = λ j past. fourth ks ls ms ns from to (to + n) j one one-two to-three past ∙ get_or-drop (to + n) xs (j - (to + n)) 0 ∙ same-place xs (to + n + (j - (to + n))) j (omega arith);
+      after = λ j past. fourth ks ls ms ns from to (to + n) j one one-two to-three past ∙ get_or-drop (to + n) xs (j - (to + n)) 0 ∙ same-place xs (to + n + (j - (to + n))) j (omega arith);
     }
 
 -- that is all there is to say of the list
@@ -91,7 +91,7 @@ only-down xs ys zs to gap place one other = ext_get_or 0 ys zs (one.len ∙ sym 
     | inl early ↦ one.moved j from early ∙ sym (other.moved j from early)
     | inr late ↦ elim (cases_lt j place) [
       | inl before ↦ one.zeros j from late before ∙ sym (other.zeros j from late before)
-      | inr past ↦ one.behind j past ∙ sym (other.behind j past)
+      | inr past ↦ one.after j past ∙ sym (other.after j past)
     ]
   ]
 ])
@@ -104,6 +104,6 @@ only-up xs ys zs end gap place one other = ext_get_or 0 ys zs (one.len ∙ sym o
       | inl early ↦ one.zeros j from early before ∙ sym (other.zeros j from early before)
       | inr late ↦ one.moved j late before ∙ sym (other.moved j late before)
     ]
-    | inr past ↦ one.behind j past ∙ sym (other.behind j past)
+    | inr past ↦ one.after j past ∙ sym (other.after j past)
   ]
 ])

@@ -22,7 +22,7 @@ module _ (xs ys old new : List ℕ) (from to n : ℕ) (some : 0 < n) (from-in : 
       let all = is-copied xs from to n from-in to-in in
       ap (λ (l : List ℕ). get_or l j 0) is ∙ (elim away [
         | inl low ↦ all.below j (omega arith)
-        | inr high ↦ all.behind j (omega arith)
+        | inr high ↦ all.after j (omega arith)
       ])
 
   -- and so notes are right where those of the words with copies are

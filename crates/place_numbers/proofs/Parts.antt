@@ -128,7 +128,7 @@ down-moves n from to count order inside = record {
       | inl early ↦ (j + (from - to), λ xs is. (shifted-down xs from to count order (omega arith)).moved j past early)
       | inr late ↦ elim (cases_lt j (from + count)) [
         | inl before ↦ (n, λ xs is. (shifted-down xs from to count order (omega arith)).zeros j past late before ∙ sym (get_or_past xs n 0 (omega arith)))
-        | inr end ↦ (j, λ xs is. (shifted-down xs from to count order (omega arith)).behind j end)
+        | inr end ↦ (j, λ xs is. (shifted-down xs from to count order (omega arith)).after j end)
       ]
     ]
   ];
@@ -144,7 +144,7 @@ up-moves n from to count order inside = record {
         | inl early ↦ (n, λ xs is. (shifted-up xs from to count order (omega arith)).zeros j past early before ∙ sym (get_or_past xs n 0 (omega arith)))
         | inr late ↦ (j - (to - from), λ xs is. (shifted-up xs from to count order (omega arith)).moved j late before)
       ]
-      | inr end ↦ (j, λ xs is. (shifted-up xs from to count order (omega arith)).behind j end)
+      | inr end ↦ (j, λ xs is. (shifted-up xs from to count order (omega arith)).after j end)
     ]
   ];
 }

@@ -18,7 +18,7 @@ raised-bit x k i low from = whole x k i low ∙ bit_at_cat_high x k 0 i (pow_pos
 raised-none : (x k i : ℕ) → i < 64 → i < k → bit_at (x * 2 ^ k % 2 ^ 64) i ≡ 0
 raised-none x k i low below = whole x k i low ∙ bit_at_cat_low x k 0 i below ∙ bit_at-zero i
 
--- the bits of a word from a place on, and those of the next behind them
+-- the bits of a word from a place on, and those of the next after them
 module _ (word next place : ℕ) (small : word < 2 ^ 64) where
   abbrev both : ℕ
   both = bit_or (word / 2 ^ place) (next * 2 ^ (64 - place) % 2 ^ 64)
@@ -55,8 +55,8 @@ module _ (place n : ℕ) (fits : place + n ≤ 64) where
   mask-before : (i : ℕ) → i < place → bit_at (mask place n) i ≡ 0
   mask-before i low = raised-none ((2 ^ 64 - 1) / 2 ^ (64 - n)) place i (omega arith) low
 
-  mask-behind : (i : ℕ) → place + n ≤ i → i < 64 → bit_at (mask place n) i ≡ 0
-  mask-behind i past low =
+  mask-after : (i : ℕ) → place + n ≤ i → i < 64 → bit_at (mask place n) i ≡ 0
+  mask-after i past low =
       raised-bit ((2 ^ 64 - 1) / 2 ^ (64 - n)) place i low (omega arith) ∙ ap (λ (m : ℕ). bit_at m (i - place)) (ones n (omega arith)) ∙ bit_at_ones_above n (i - place) (omega arith)
 
   module _ (word bits : ℕ) where
@@ -84,5 +84,5 @@ module _ (place n : ℕ) (fits : place + n ≤ 64) where
     pub put-before : (i : ℕ) → i < place → bit_at put i ≡ bit_at word i
     put-before i low = other i (omega arith) (mask-before i low)
 
-    pub put-behind : (i : ℕ) → place + n ≤ i → i < 64 → bit_at put i ≡ bit_at word i
-    put-behind i past low = other i low (mask-behind i past low)
+    pub put-after : (i : ℕ) → place + n ≤ i → i < 64 → bit_at put i ≡ bit_at word i
+    put-after i past low = other i low (mask-after i past low)

@@ -52,7 +52,7 @@ pub record AreWritten (xs ys : List ℕ) (place n word : ℕ) : Type 0 where
   pub len : length ys ≡ length xs
   pub there : (i : ℕ) → i < n → slice_index ys (place + i) ≡ bit_at word i
   pub before : (j : ℕ) → j < place → slice_index ys j ≡ slice_index xs j
-  pub behind : (j : ℕ) → place + n ≤ j → slice_index ys j ≡ slice_index xs j
+  pub after : (j : ℕ) → place + n ≤ j → slice_index ys j ≡ slice_index xs j
 
 -- the words from one to another have their notes, and the others have theirs as before
 pub record AreNotedAt (xs old new : List ℕ) (first last : ℕ) : Type 0 where

@@ -52,7 +52,7 @@ pub fn with_bits(word: u64, place: usize, count: usize, bits: u64) -> u64
     requires inside { place + count ≤ 64 }
     ensures here { (i : ℕ) → i < count → bit_at result (place + i) ≡ bit_at bits i }
     ensures before { (i : ℕ) → i < place → bit_at result i ≡ bit_at word i }
-    ensures behind { (i : ℕ) → place + count ≤ i → i < 64 → bit_at result i ≡ bit_at word i }
+    ensures after { (i : ℕ) → place + count ≤ i → i < 64 → bit_at result i ≡ bit_at word i }
 {
     let mask = u64::MAX >> (64 - count) << place;
     word & !mask | bits << place & mask

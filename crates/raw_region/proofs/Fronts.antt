@@ -12,7 +12,7 @@ take_all (suc n) (w ∷ ws) is = ap (λ vs. w ∷ vs) (take_all n ws (omega arit
 pub written-all : (xs : List ℕ) (at n : ℕ) (ws : List ℕ) → length ws ≡ n → written xs at (take n ws) ≡ written xs at ws
 written-all xs at n ws is = ap (written xs at) (take_all n ws is)
 
--- what is written behind the end is not written
+-- what is written after the end is not written
 pub written-within : (xs ws : List ℕ) → written xs 0 (take (length xs) ws) ≡ written xs 0 ws
 written-within [] ws = refl
 written-within (x ∷ xs) [] = refl

@@ -30,17 +30,17 @@ before (x ∷ xs) (suc at) ws (suc a) n l = let l' : suc a + n ≤ suc at = l in
 before (x ∷ xs) (suc at) ws zero zero l = refl
 before (x ∷ xs) (suc at) ws zero (suc n) l = let l' : 0 + suc n ≤ suc at = l in ap (λ (t : List ℕ). x ∷ t) (before xs at ws 0 n (omega arith))
 
-behind : (xs : List ℕ) (at : ℕ) (ws : List ℕ) (a : ℕ) → at + length ws ≤ a → drop a (written xs at ws) ≡ drop a xs
-behind [] at ws a l = refl
-behind (x ∷ xs) zero [] a l = refl
-behind (x ∷ xs) zero (w ∷ ws) zero l = let l' : 0 + suc (length ws) ≤ 0 = l in absurd (not-suc-le-zero {n = 0} (omega arith))
-behind (x ∷ xs) zero (w ∷ ws) (suc a) l = let l' : 0 + suc (length ws) ≤ suc a = l in behind xs 0 ws a (omega arith)
-behind (x ∷ xs) (suc at) ws zero l = let l' : suc at + length ws ≤ 0 = l in absurd (not-suc-le-zero {n = 0} (omega arith))
-behind (x ∷ xs) (suc at) ws (suc a) l = let l' : suc at + length ws ≤ suc a = l in behind xs at ws a (omega arith)
+after : (xs : List ℕ) (at : ℕ) (ws : List ℕ) (a : ℕ) → at + length ws ≤ a → drop a (written xs at ws) ≡ drop a xs
+after [] at ws a l = refl
+after (x ∷ xs) zero [] a l = refl
+after (x ∷ xs) zero (w ∷ ws) zero l = let l' : 0 + suc (length ws) ≤ 0 = l in absurd (not-suc-le-zero {n = 0} (omega arith))
+after (x ∷ xs) zero (w ∷ ws) (suc a) l = let l' : 0 + suc (length ws) ≤ suc a = l in after xs 0 ws a (omega arith)
+after (x ∷ xs) (suc at) ws zero l = let l' : suc at + length ws ≤ 0 = l in absurd (not-suc-le-zero {n = 0} (omega arith))
+after (x ∷ xs) (suc at) ws (suc a) l = let l' : suc at + length ws ≤ suc a = l in after xs at ws a (omega arith)
 
 -- bytes outside the range are unchanged
 pub part-written-apart : (xs : List ℕ) (at : ℕ) (ws : List ℕ) (a n : ℕ) → (a + n ≤ at) ⊎ (at + length ws ≤ a) → part (written xs at ws) a n ≡ part xs a n
-part-written-apart xs at ws a n off = ⊎_elim (λ p. before xs at ws a n p) (λ p. ap (take n) (behind xs at ws a p)) off
+part-written-apart xs at ws a n off = ⊎_elim (λ p. before xs at ws a n p) (λ p. ap (take n) (after xs at ws a p)) off
 
 -- what was written is read
 pub part-written : (xs : List ℕ) (at : ℕ) (ws : List ℕ) → at + length ws ≤ length xs → part (written xs at ws) at (length ws) ≡ ws
@@ -48,7 +48,7 @@ part-written xs at ws fits =
     let long = length-take-le at xs (omega arith) in
     ap (λ (l : List ℕ). take (length ws) (drop at l)) (written_is xs at ws fits) ∙ ap (take (length ws)) (drop_at (take at xs) (ws ++ drop (length ws) (drop at xs)) at long) ∙ take_at ws (drop (length ws) (drop at xs)) (length ws) refl
 
--- one write behind another
+-- one write after another
 pub written-append : (xs : List ℕ) (at : ℕ) (us vs : List ℕ) → written (written xs at us) (at + length us) vs ≡ written xs at (us ++ vs)
 written-append [] at us vs = refl
 written-append (x ∷ xs) zero [] vs = refl

@@ -6,7 +6,7 @@ use Rattle.core.specs.List.{copy_within}
 use Rattle.raw_region.proofs.Lists.{written_is, rewritten}
 use Rattle.raw_region.proofs.Laws.{length-part, part-part, part-written-apart, written-written}
 
--- a range that is copied to one apart is written again where it stands
+-- a range that is copied to one apart is written again where it is
 pub copied_back : (xs : List ℕ) (from to n : ℕ) → from + n ≤ length xs → to + n ≤ length xs → (from + n ≤ to) ⊎ (to + n ≤ from)
     → written (written xs to (part xs from n)) from (part xs from n) ≡ written xs to (part xs from n)
 copied_back xs from to n fits fits' off =

@@ -19,7 +19,7 @@ written-before (x ∷ xs) zero (u ∷ us) vs =
 written-before (x ∷ xs) (suc at) us vs =
     ap (λ (j : ℕ). written (written (x ∷ xs) j vs) (suc at) us) (let e : suc at + length us ≡ suc (at + length us) = omega arith in e) ∙ ap (λ (t : List ℕ). x ∷ t) (written-before xs at us vs)
 
--- the first m bytes have moved down, and the k behind them follow
+-- the first m bytes have moved down, and the k after them follow
 pub down_more : (xs : List ℕ) (from to m k : ℕ) → to ≤ from → from + (m + k) ≤ length xs
     → written (written xs to (part xs from m)) (to + m) (part (written xs to (part xs from m)) (from + m) k) ≡ written xs to (part xs from (m + k))
 down_more xs from to m k down fits =

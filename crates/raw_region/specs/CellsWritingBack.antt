@@ -18,6 +18,6 @@ with_written c at ws = record { at = c.at; len = c.len; home = c.home; from = c.
 abbrev pub with_part : Cells → ℕ → ℕ → List ℕ → Cells
 with_part c at n ws = with_written c at (take n ws)
 
--- the n bytes of c from `at` on end with what is left behind the slice r
+-- the n bytes of c from `at` on end with what is left after the slice r
 abbrev pub WritesBackPart : MutBor Cells → ℕ → ℕ → MutBor (List ℕ) → Fml
 WritesBackPart c at n r = follows the_row (Array u8 0) c.ghost_name r.ghost_name (with_part c.now at n)

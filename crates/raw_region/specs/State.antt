@@ -8,7 +8,7 @@ use Rattle.raw_region.specs.Span.{Span, covers, is_here}
 abbrev pub Name : Type 0
 Name = Ptr
 
--- a region: its bytes by offset, and the ranges that are lent. At a lent offset stands the byte that was there when it
+-- a region: its bytes by offset, and the ranges that are lent. At a lent offset is the byte that was there when it
 -- was lent, and no call can read it
 pub record State : Type 0 where
   pub name : Name
@@ -29,7 +29,7 @@ pub record Loan : Type 0 where
 abbrev pub with_loan : Loan → List ℕ → Loan
 with_loan l ws = record { name = l.name; at = l.at; bytes = written l.bytes 0 ws }
 
--- the region as a finite map from offsets: the byte at k, unless k is lent or behind the end
+-- the region as a finite map from offsets: the byte at k, unless k is lent or after the end
 abbrev pub byte_at : State → ℕ → Option ℕ
 byte_at r k = if is_here r.lent k && nat_lt k (length r.bytes) then Some (slice_index r.bytes k) else None
 

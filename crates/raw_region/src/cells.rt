@@ -1,4 +1,4 @@
-//! Bytes behind a raw pointer.
+//! Bytes after a raw pointer.
 
 ghost use Rattle.std.specs.Prelude.{◌≡◌, ℕ, ◌^◌, ◌<◌, List, length, true};
 ghost use denote.RawPtr.{Ptr, ◌+ₚ◌};
@@ -10,7 +10,7 @@ use std::marker::Model;
 mod lends;
 mod moves;
 
-/// `len` bytes from `at` on, of which those in the ranges `lent` are someone else's. They lie `from` bytes behind
+/// `len` bytes from `at` on, of which those in the ranges `lent` are someone else's. They lie `from` bytes after
 /// `home`, where the first byte of their region is.
 pub(crate) struct Cells {
     pub(crate) at: *mut u8,

@@ -28,7 +28,7 @@ all_counts-mapped f kind (file ∷ files) =
     ∙ ap (λ (n : ℕ). count_of_type kind (all_rows files) + n) (count_of_type-mapped (f file.number) kind file.table.rows)
     ∙ sym (counts_add kind (all_rows files) file.table.rows)
 
--- where the i-th stands
+-- where the i-th is
 pub ith_place-mapped : {D E : Type 0} (f : ℕ → D → E) (kind : List ℕ) (i : ℕ) (files : List (OpenFile D)) → ith_place kind i (mapped_files f files) ≡ ith_place kind i files
 ith_place-mapped f kind i [] = refl
 ith_place-mapped {D} {E} f kind i (file ∷ files) =

@@ -1,4 +1,4 @@
--- The row that is found stands where it was found.
+-- The row that is found is where it was found.
 use Rattle.std.proofs.Common.{◌≡◌, refl, sym, ap, ◌∙◌, subst, arith, ℕ, zero, suc, ℤ, ◌+◌, ◌-◌, ◌<◌, ◌≤◌, List, [], ◌∷◌, length, map, take, slice_get, get_or, position, find, Bool, true, false, cond, Option, None, Some, IfSome, IsSome, IsTrue}
 use Rattle.std.specs.Prelude.{◌||◌, ◌==◌, nat_le, if◌then◌else◌}
 use Rattle.std.specs.List.{list_any, AllByRecursion}
@@ -36,7 +36,7 @@ first_row {D} test (r ∷ rows) i is =
     let at = position-Some test (r ∷ rows) i r is in
     (get_or (r ∷ rows) i r, slice_get-get_or (r ∷ rows) i r at.0, at.1)
 
--- a row that passes stands at the place
+-- a row that passes is at the place
 record Passes {D : Type 0} (test : Row D → Bool) (files : List (OpenFile D)) (place : RowPlace) : Type 0 where
   row : Row D
   there : row_in place files ≡ Some row
@@ -109,7 +109,7 @@ same_number {D} k (h ∷ files) g is = pick (is_numbered k h) refl is (same_numb
     pick true same here deeper = ap (λ (file : OpenFile D). file.number) (sym (same_Some h g here)) ∙ eqb-true h.number k same
     pick false same here deeper = deeper here
 
--- a row of the current file that passes a test stands where it is found
+-- a row of the current file that passes a test is where it is found
 passing_there : {D : Type 0} (test : Row D → Bool) (files : OpenFiles D)
     → IfSome (option_and_then (λ k. option_and_then (place_in test) (find (is_numbered k) files.files)) files.current) (λ place. IsSome (row_at place files))
 passing_there {D} test files = by files.current

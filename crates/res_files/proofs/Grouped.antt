@@ -1,4 +1,4 @@
--- The rows of each type stand together: rows with the same types, one row less, and one row more.
+-- The rows of each type are together: rows with the same types, one row less, and one row more.
 use Rattle.std.proofs.Common.{◌≡◌, ◌≢◌, refl, sym, ap, ◌∙◌, subst, ℕ, zero, suc, ◌+◌, List, [], ◌∷◌, map, set, remove, slice_get, Bool, true, false, not, Option, None, Some, AllPairs, bytes_eq, if◌then◌else◌, ◌⊎◌, inl, inr, ◌||◌}
 use Rattle.std.specs.Prelude.{◌&&◌}
 use Rattle.std.specs.List.{list_any, AllByRecursion}
@@ -105,9 +105,9 @@ apart_before other kind (first ∷ types) differ apart = by (bytes_eq kind first
     by true = (differ, apart.1)
     by false = (differ, apart)
 
-apart_behind : (other kind : List ℕ) (types : List TypeCount) → Apart counted other (counted_before kind 1 types) → (other ≢ kind) × Apart counted other types
-apart_behind other kind [] apart = (apart.0, tt)
-apart_behind other kind (first ∷ types) apart = by (bytes_eq kind first.kind) refl apart
+apart_after : (other kind : List ℕ) (types : List TypeCount) → Apart counted other (counted_before kind 1 types) → (other ≢ kind) × Apart counted other types
+apart_after other kind [] apart = (apart.0, tt)
+apart_after other kind (first ∷ types) apart = by (bytes_eq kind first.kind) refl apart
   where
     by : (b : Bool) → bytes_eq kind first.kind ≡ b → Apart counted other (if b then record { kind = kind; count = 1 + first.count } ∷ types else record { kind = kind; count = 1 } ∷ first ∷ types)
         → (other ≢ kind) × Apart counted other (first ∷ types)
@@ -124,9 +124,9 @@ distinct_before kind (first ∷ types) ahead distinct = by (bytes_eq kind first.
     by false is (inl same) = absurd (not_from_Decides (bytes_eq kind first.kind) (bytes_eq-Decides kind first.kind) is same)
     by false is (inr apart) = (apart, distinct)
 
-distinct_behind : (kind : List ℕ) (types : List TypeCount) → Distinct counted (counted_before kind 1 types) → (Heads kind types ⊎ Apart counted kind types) × Distinct counted types
-distinct_behind kind [] distinct = (inr tt, tt)
-distinct_behind kind (first ∷ types) distinct = by (bytes_eq kind first.kind) refl distinct
+distinct_after : (kind : List ℕ) (types : List TypeCount) → Distinct counted (counted_before kind 1 types) → (Heads kind types ⊎ Apart counted kind types) × Distinct counted types
+distinct_after kind [] distinct = (inr tt, tt)
+distinct_after kind (first ∷ types) distinct = by (bytes_eq kind first.kind) refl distinct
   where
     by : (b : Bool) → bytes_eq kind first.kind ≡ b → Distinct counted (if b then record { kind = kind; count = 1 + first.count } ∷ types else record { kind = kind; count = 1 } ∷ first ∷ types)
         → ((kind ≡ first.kind) ⊎ Apart counted kind (first ∷ types)) × Distinct counted (first ∷ types)
@@ -158,7 +158,7 @@ abbrev Starts : List ℕ → List (Row Place) → Type 0
 Starts kind [] = ⊥
 Starts kind (r ∷ rows) = kind ≡ r.resource.kind
 
--- behind each row stands one of its type, or none of its type is left
+-- after each row is one of its type, or none of its type is left
 abbrev AreTogether : List (Row Place) → Type 0
 AreTogether [] = Unit {0}
 AreTogether (r ∷ rows) = (Starts r.resource.kind rows ⊎ NoneOf r.resource.kind rows) × AreTogether rows
@@ -169,7 +169,7 @@ none_apart kind (r ∷ rows) none = apart_before kind r.resource.kind (types_of 
 
 apart_none : (kind : List ℕ) (rows : List (Row Place)) → Apart counted kind (types_of (bare rows)) → NoneOf kind rows
 apart_none kind [] apart = tt
-apart_none kind (r ∷ rows) apart = let both = apart_behind kind r.resource.kind (types_of (bare rows)) apart in (both.0, apart_none kind rows both.1)
+apart_none kind (r ∷ rows) apart = let both = apart_after kind r.resource.kind (types_of (bare rows)) apart in (both.0, apart_none kind rows both.1)
 
 starts_heads : (kind : List ℕ) (rows : List (Row Place)) → Starts kind rows → Heads kind (types_of (bare rows))
 starts_heads kind [] starts = starts
@@ -191,7 +191,7 @@ types_of_next kind rows (inr none) = inr (none_apart kind rows none)
 together_from : (rows : List (Row Place)) → Distinct counted (types_of (bare rows)) → AreTogether rows
 together_from [] distinct = tt
 together_from (r ∷ rows) distinct =
-    let both = distinct_behind r.resource.kind (types_of (bare rows)) distinct in (next_of_types r.resource.kind rows both.0, together_from rows both.1)
+    let both = distinct_after r.resource.kind (types_of (bare rows)) distinct in (next_of_types r.resource.kind rows both.0, together_from rows both.1)
 
 together_to : (rows : List (Row Place)) → AreTogether rows → Distinct counted (types_of (bare rows))
 together_to [] together = tt

@@ -52,7 +52,7 @@ place-mapped g test own same [] = refl
 place-mapped g test own same (x ∷ xs) =
     ap (λ b. cond (not b) (1 + position_or_len test (map g xs)) 0) (same x) ∙ ap (λ (n : ℕ). cond (not (own x)) (1 + n) 0) (place-mapped g test own same xs)
 
--- where the first that passes stands
+-- where the first that passes is
 pub position-mapped : {X Y : Type 0} (g : X → Y) (test : Y → Bool) (own : X → Bool) → ((x : X) → test (g x) ≡ own x) → (xs : List X) → position test (map g xs) ≡ position own xs
 position-mapped g test own same xs =
     ap (λ (n : ℕ). cond (nat_lt n (length (map g xs))) (Some n) None) (place-mapped g test own same xs)
@@ -82,7 +82,7 @@ pub append-mapped : {X Y : Type 0} (g : X → Y) (xs ys : List X) → map g xs +
 append-mapped g [] ys = refl
 append-mapped g (x ∷ xs) ys = ap (λ (zs : List _). g x ∷ zs) (append-mapped g xs ys)
 
--- where a row stands in a file
+-- where a row is in a file
 pub place_in-mapped : {D E : Type 0} (f : ℕ → D → E) (test : Row E → Bool) (own : Row D → Bool) → ((g : D → E) (r : Row D) → test (mapped_row g r) ≡ own r)
     → (file : OpenFile D) → place_in test (mapped_file f file) ≡ place_in own file
 place_in-mapped f test own same file =
@@ -219,7 +219,7 @@ removed-mapped f at rows =
     ∙ ap (λ (back : List (Row _)). mapped_rows f (take at rows) ++ back) (drop-mapped (mapped_row f) (suc at) rows)
     ∙ append-mapped (mapped_row f) (take at rows) (drop (suc at) rows)
 
--- a new row stands in the same place
+-- a new row is in the same place
 pub added-mapped : {D E : Type 0} (f : D → E) (new : Row D) (rows : List (Row D)) → added (mapped_row f new) (mapped_rows f rows) ≡ mapped_rows f (added new rows)
 added-mapped f new [] = refl
 added-mapped {D} {E} f new (r ∷ rows) =

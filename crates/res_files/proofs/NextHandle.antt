@@ -19,8 +19,8 @@ HasNone r = r.handle ≡ None
 
 -- this is the first row with a handle from an index on
 abbrev pub IsNext : {D : Type 0} → ℕ → List (Row D) → ℕ × ℕ → Type 0
-IsNext {D} from rows found = (before : List (Row D)) × (r : Row D) × (behind : List (Row D))
-    × (drop from rows ≡ before ++ r ∷ behind) × All HasNone before × (r.handle ≡ Some found.1) × (found.0 ≡ from + length before)
+IsNext {D} from rows found = (before : List (Row D)) × (r : Row D) × (after : List (Row D))
+    × (drop from rows ≡ before ++ r ∷ after) × All HasNone before × (r.handle ≡ Some found.1) × (found.0 ≡ from + length before)
 
 get_dropped : {X : Type 0} (from n : ℕ) (xs : List X) → slice_get (drop from xs) n ≡ slice_get xs (from + n)
 get_dropped zero n xs = ap (slice_get xs) (let e : n ≡ 0 + n = omega arith in e)
@@ -80,12 +80,12 @@ module _ {S : Type 0} (fork : S → List ℕ) (chain : OpenFiles Place) (loads :
   next_seen table is from None next = tt
   next_seen table is from (Some found) next =
       let g = bytes_in (map fork stores) k in
-      let before = next.0 in let r = next.1 in let behind = next.2 in
-      let parts : drop from (mapped_rows g table.rows) ≡ mapped_rows g before ++ mapped_row g r ∷ mapped_rows g behind =
-      drop-mapped (mapped_row g) from table.rows ∙ ap (mapped_rows g) next.3 ∙ sym (append-mapped (mapped_row g) before (r ∷ behind)) in
+      let before = next.0 in let r = next.1 in let after = next.2 in
+      let parts : drop from (mapped_rows g table.rows) ≡ mapped_rows g before ++ mapped_row g r ∷ mapped_rows g after =
+      drop-mapped (mapped_row g) from table.rows ∙ ap (mapped_rows g) next.3 ∙ sym (append-mapped (mapped_row g) before (r ∷ after)) in
       let long = length-map before (mapped_row g) in let at = next.6 in
       subst (λ (rows : List FileRow). IsNext from rows found) (rows_seen (Some table) is)
-      (mapped_rows g before, mapped_row g r, mapped_rows g behind, parts, all_mapped g before next.4, next.5, omega (arith, long, at))
+      (mapped_rows g before, mapped_row g r, mapped_rows g after, parts, all_mapped g before next.4, next.5, omega (arith, long, at))
 
   -- none of a table is none of them
   pub none_seen : (table : ResourceTable Place) → table_of k chain ≡ Some table → (from : ℕ) (result : Option (ℕ × ℕ)) → IfNone result (All HasNone (drop from table.rows)) → IfNone result (All HasNone (drop from (rows_of k now.files)))

@@ -1,4 +1,4 @@
--- A file is opened on its store: how the files stand then, and how they are seen.
+-- A file is opened on its store: how the files are then, and how they are seen.
 use Rattle.std.proofs.Common.{◌≡◌, refl, sym, ap, ◌∙◌, subst, arith, ℕ, ◌-◌, ◌<◌, ◌≤◌, List, [], length, map, set, get_or, slice_get, unwrap_or, Bool, false, Option, Some, Result, Ok, Err, OnOk, OnErr, IfOk, ◌⊎◌, inl, inr}
 use Rattle.std.specs.Prelude.{IsFalse, ⊤}
 use Rattle.std.specs.Option.{option_map, option_map_or}
@@ -53,7 +53,7 @@ module _ {S : Type 0} (store : Ghosts S) (chain : OpenFiles Place) (loads : Bool
   pub here : slice_get stores (k - 1) ≡ Some old
   here = slice_get_read stores (length stores) (k - 1) old refl within value
 
-  -- the files stand on the stores still
+  -- the files are on the stores still
   pub stand_kept : StandOn store.fork store.is_ready store.is_honest stores chain → StandOn store.fork store.is_ready store.is_honest (set stores (k - 1) new) chain
   stand_kept stand = stand_set store.fork store.is_ready store.is_honest stores (k - 1) new old
       (λ h. (subst store.is_honest value (same h), forks h ∙ ap store.fork value, λ ready. (known h).still (subst store.is_ready (sym value) ready))) chain stand
@@ -71,7 +71,7 @@ module _ {S : Type 0} (store : Ghosts S) (chain : OpenFiles Place) (loads : Bool
   pub closed_there : IsFalse (is_open k now.files) → is_open k chain ≡ false
   closed_there closed = asked store.fork chain loads stores now view_is (is_open k) (is_open k chain) (sym (open-mapped (bytes_in (map store.fork stores)) k chain)) ∙ closed
 
-  -- the files that are open are seen as before: none of them stands on this store
+  -- the files that are open are seen as before: none of them is on this store
   pub files_kept : StandOn store.fork store.is_ready store.is_honest stores chain → IsFalse (is_open k now.files) → files_on (map store.fork (set stores (k - 1) new)) chain ≡ now.files
   files_kept stand closed =
       ap (λ (forks : List (List ℕ)). files_on forks chain) (sym (set-mapped store.fork stores (k - 1) new))

@@ -74,7 +74,7 @@ table_changed {D} k change (f ∷ files) = by (is_numbered k f) refl (table_chan
     by true is deeper = ap (λ (b : Bool). cond b (Some (with_rows change f)) (find (is_numbered k) files)) is
     by false is deeper = ap (λ (b : Bool). cond b (Some f) (find (is_numbered k) (changed_file k change files))) is ∙ deeper
 
--- what was written at an index stands there
+-- what was written at an index is there
 get_set : {X : Type 0} (xs : List X) (i : ℕ) (x y : X) → slice_get xs i ≡ Some x → slice_get (set xs i y) i ≡ Some y
 get_set [] i x y is = absurd (cc is)
 get_set (z ∷ xs) zero x y is = refl
@@ -143,8 +143,8 @@ pub none_placed : (selection : Selection) (at : ℕ) (rows : List (Row Place)) �
 none_placed selection at [] = refl
 none_placed selection at (r ∷ rows) = refl
 
-pub changed_behind : (n : ℕ) (change : Row Place → Row Place) (r : Row Place) (rows : List (Row Place)) → changed_at (suc n) change (r ∷ rows) ≡ r ∷ changed_at n change rows
-changed_behind n change r rows = by (slice_get rows n)
+pub changed_after : (n : ℕ) (change : Row Place → Row Place) (r : Row Place) (rows : List (Row Place)) → changed_at (suc n) change (r ∷ rows) ≡ r ∷ changed_at n change rows
+changed_after n change r rows = by (slice_get rows n)
   where
     by : (found : Option (Row Place)) → option_map_or (λ x. r ∷ set rows n (change x)) found (r ∷ rows) ≡ r ∷ option_map_or (λ x. set rows n (change x)) found rows
     by None = refl
@@ -167,7 +167,7 @@ one_more_placed selection at (suc i) (r ∷ rows) (p ∷ places) d within =
     ap (λ (n : ℕ). rows_placed selection at (r ∷ rows) (take n (p ∷ places))) count
     ∙ ap (λ (others : List (Row Place)). first ∷ others) (one_more_placed selection (at + 1) i rows places d (omega arith))
     ∙ ap (λ (j : ℕ). first ∷ changed_at i (λ x. row_placed (is_selected selection j x) (get_or places i d) x) (rows_placed selection (at + 1) rows (take i places))) index
-    ∙ sym (changed_behind i (λ x. row_placed (is_selected selection (at + suc i) x) (get_or places i d) x) first (rows_placed selection (at + 1) rows (take i places)))
+    ∙ sym (changed_after i (λ x. row_placed (is_selected selection (at + suc i) x) (get_or places i d) x) first (rows_placed selection (at + 1) rows (take i places)))
 
 -- one place more, from the first row on
 pub next_placed : (selection : Selection) (i : ℕ) (rows : List (Row Place)) (places : List Place) (d : Place) → i < length places

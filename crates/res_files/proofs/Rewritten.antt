@@ -1,4 +1,4 @@
--- The store of an open file is written anew: how the files stand then, and how they are seen.
+-- The store of an open file is written anew: how the files are then, and how they are seen.
 use Rattle.std.proofs.Common.{◌≡◌, refl, sym, ap, ◌∙◌, subst, arith, ℕ, zero, suc, ◌+◌, ◌-◌, ◌<◌, ◌≤◌, List, [], ◌∷◌, length, map, set, get_or, slice_get, unwrap_or, Bool, true, false, Option, None, Some, Result, Ok, Err, IfSome, All, IsTrue}
 use Rattle.std.specs.Global.{Global}
 use Rattle.std.specs.Prelude.{◌↔◌, ◌&&◌, IsFalse, IsErrOf, Vec, if◌then◌else◌}
@@ -267,7 +267,7 @@ module _ {S : Type 0} (store : Ghosts S) (chain : OpenFiles Place) (loads : Bool
           of_table (λ shown. may_leave (written (saved_table (updated t selection shown))) (fork_of store.fork k now.stores) (fork_of store.fork k (set stores (k - 1) new)))
           (rw (fork_is, fork_new) (is (honest_here honest)))
 
-      -- the files stand, once it is written
+      -- the files are, once it is written
       pub stand_written : (selection : Selection) (places : List Place) (more : OpenFiles Place) → more ≡ rows_changed k (λ rows. rows_placed selection 0 rows places) chain
           → length places ≡ length table.rows → All IsNear places → (store.is_honest new → All (IsInside (store.fork new)) places) → (store.is_honest new → store.is_ready new)
           → StandOn store.fork store.is_ready store.is_honest (set stores (k - 1) new) more

@@ -1,4 +1,4 @@
--- One row more: where it stands, how many types there are then, and whether all names fit.
+-- One row more: where it is, how many types there are then, and whether all names fit.
 use Rattle.std.proofs.Common.{◌≡◌, refl, sym, ap, ◌∙◌, arith, ℕ, zero, suc, ◌+◌, ◌-◌, ◌*◌, ◌<◌, ◌≤◌, List, [], ◌∷◌, ◌++◌, length, take, drop, slice_get, filter, Bool, true, false, not, cond, bytes_eq, Option, None, Some}
 use Rattle.std.specs.Prelude.{if◌then◌else◌, ◌||◌, ◌&&◌, nat_le}
 use Rattle.std.specs.List.{list_any}
@@ -14,7 +14,7 @@ use Rattle.fork_bytes.specs.declared.place.Place.{Place}
 use Rattle.mac_base.specs.declared.resource.Resource.{Resource}
 use Rattle.res_table.specs.declared.row.Row.{Row}
 use Rattle.res_table.specs.Rows.{is_of_type, added, name_size, names_size, ith, indexes_from, index_of_ith, count_of_type}
-use Rattle.res_table.specs.Behind.{end_of_type}
+use Rattle.res_table.specs.After.{end_of_type}
 use Rattle.res_table.specs.Saved.{bare, saved_row, row_types}
 use Rattle.res_table.proofs.Adding.{up_to_last, last-is, insert-at-end}
 use Rattle.res_table.proofs.Types.{first_kind, one_before}
@@ -48,9 +48,9 @@ last_found : {D : Type 0} (kind : List ℕ) (at : ℕ) (rows : List (Row D)) →
 last_found kind at [] some = absurd (cc some)
 last_found {D} kind at (r ∷ rows) some = by (is_of_type kind r) (list_any (is_of_type kind) rows) refl some (last_found kind (at + 1) rows)
   where
-    behind : (n : ℕ) (k : ℕ) (xs : List ℕ) → ith n xs ≡ Some k → slice_get (at ∷ xs) n ≡ Some k
-    behind zero k xs is = absurd (cc is)
-    behind (suc n) k xs is = is
+    after : (n : ℕ) (k : ℕ) (xs : List ℕ) → ith n xs ≡ Some k → slice_get (at ∷ xs) n ≡ Some k
+    after zero k xs is = absurd (cc is)
+    after (suc n) k xs is = is
 
     by : (mine others : Bool) → list_any (is_of_type kind) rows ≡ others → (mine || others) ≡ true
         → (list_any (is_of_type kind) rows ≡ true → (k : ℕ) × (ith (count_of_type kind rows) (indexes_from (at + 1) (is_of_type kind) rows) ≡ Some k) × (k + 1 ≡ (at + 1) + up_to_last kind rows))
@@ -59,14 +59,14 @@ last_found {D} kind at (r ∷ rows) some = by (is_of_type kind r) (list_any (is_
         × (k + 1 ≡ at + (if others then suc (up_to_last kind rows) else 1))
     by true true more is later =
         let deeper = later more in let same = deeper.2 in
-        (deeper.0, behind (count_of_type kind rows) deeper.0 (indexes_from (at + 1) (is_of_type kind) rows) deeper.1, omega (arith, same))
+        (deeper.0, after (count_of_type kind rows) deeper.0 (indexes_from (at + 1) (is_of_type kind) rows) deeper.1, omega (arith, same))
     by false true more is later = let deeper = later more in let same = deeper.2 in (deeper.0, deeper.1, omega (arith, same))
     by true false more is later = (at, ap (slice_get (at ∷ indexes_from (at + 1) (is_of_type kind) rows)) (none_counted kind rows more), refl)
     by false false more is later = absurd (cc is)
 
--- behind it a new row belongs
-pub end_behind : {D : Type 0} (kind : List ℕ) (rows : List (Row D)) (last : ℕ) → index_of_ith kind (count_of_type kind rows) rows ≡ Some last → last + 1 ≡ end_of_type kind rows
-end_behind {D} kind rows last is = by (list_any (is_of_type kind) rows) refl ∙ sym (last-is kind (length rows) 0 rows)
+-- after it a new row belongs
+pub end_after : {D : Type 0} (kind : List ℕ) (rows : List (Row D)) (last : ℕ) → index_of_ith kind (count_of_type kind rows) rows ≡ Some last → last + 1 ≡ end_of_type kind rows
+end_after {D} kind rows last is = by (list_any (is_of_type kind) rows) refl ∙ sym (last-is kind (length rows) 0 rows)
   where
     by : (some : Bool) → list_any (is_of_type kind) rows ≡ some → last + 1 ≡ (if some then 0 + up_to_last kind rows else length rows)
     by true more =
@@ -249,7 +249,7 @@ few_names at (r ∷ rows) few =
     by None low others = others
     by (Some name) low others = ap (λ b. b && names_fit (at + suc (length name)) (bare rows)) (le-leb at 65534 (omega (arith, low))) ∙ others
 
--- and so do they with one more, wherever that stands
+-- and so do they with one more, wherever that is
 pub few_with : (new : Row Place) (rows : List (Row Place)) (name : Option (List ℕ)) → new.resource.name ≡ name → names_size rows + length (name_text name) ≤ 65535
     → names_fit 0 (bare (added new rows)) ≡ true
 few_with new rows name named few =

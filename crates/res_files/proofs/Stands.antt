@@ -1,4 +1,4 @@
--- The files stand on their stores: what follows of a row, and what keeps it.
+-- The files are on their stores: what follows of a row, and what keeps it.
 use Rattle.std.proofs.Common.{◌≡◌, refl, sym, ap, ◌∙◌, subst, arith, ℕ, zero, suc, ◌-◌, ◌<◌, ◌≤◌, List, [], ◌∷◌, ◌++◌, length, map, set, slice_get, get_or, Bool, true, false, not, cond, Option, None, Some, find, remove, IfSome, IsTrue, All, take, drop, ◌||◌, if◌then◌else◌}
 use Rattle.std.specs.Prelude.{◌==◌, ◌&&◌}
 use Rattle.std.specs.List.{list_any, AllByRecursion}
@@ -18,7 +18,7 @@ use Rattle.res_update.specs.Placed.{AreInside, IsInside, IsNear, Holds}
 use Rattle.res_files.specs.Standing.{AreSmall, StandsOn, AreApart, StandOn, placed_rows, placed_rows_of}
 use Rattle.res_files.proofs.Grouped.{changed_grouped, removed_grouped, forgotten_grouped, added_grouped}
 
--- a change of rows after which they stand where they stood
+-- a change of rows after which they are where they were
 pub record Keeps (change : List (Row Place) → List (Row Place)) : Type 0 where
   pub small : (rows : List (Row Place)) → AreSmall rows → AreSmall (change rows)
   pub inside : (fork : List ℕ) (rows : List (Row Place)) → AreInside fork rows → AreInside fork (change rows)
@@ -124,7 +124,7 @@ module _ {S : Type 0} (fork : S → List ℕ) (is_ready is_honest : S → Type 0
       by true same here deeper = let e = same_Some g f here in (subst (StandsOn fork is_ready is_honest stores) e each.0, ap (λ (file : OpenFile Place). file.number) (sym e) ∙ eqb-true g.number k same)
       by false same here deeper = deeper here
 
-  -- where the table of a number stands
+  -- where the table of a number is
   pub table_stands : (k : ℕ) (chain : OpenFiles Place) (table : ResourceTable Place) → StandOn fork is_ready is_honest stores chain → table_of k chain ≡ Some table
       → (1 ≤ k) × (k ≤ length stores) × AreSmall table.rows × IfSome (slice_get stores (k - 1)) (Holds fork is_ready is_honest table.rows)
   table_stands k chain table stand is = by (find (is_numbered k) chain.files) refl is
@@ -408,7 +408,7 @@ module _ {S : Type 0} (fork : S → List ℕ) (is_ready is_honest : S → Type 0
       by (Some n) open_now = subst IsTrue (sym (any_changed n k (added new) chain.files)) open_now
 
 module _ {S : Type 0} (fork : S → List ℕ) (is_ready is_honest : S → Type 0) (stores : List S) where
-  -- where a row stands on its store
+  -- where a row is on its store
   pub row_stands : (place : RowPlace) (chain : OpenFiles Place) (r : Row Place) → StandOn fork is_ready is_honest stores chain → row_at place chain ≡ Some r
       → (1 ≤ place.file) × (place.file ≤ length stores) × IfSome (slice_get stores (place.file - 1)) (λ s. is_honest s → is_ready s × IsInside (fork s) r.resource.datum)
   row_stands place chain r stand is = by (table_of place.file chain) refl is

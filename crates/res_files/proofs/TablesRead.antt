@@ -54,7 +54,7 @@ reads_fork disk placed rows is within stands =
     let P : List FileRow → Type 0 = λ rs. Reads disk (Ok (record { rows = rs; extra = placed.extra; map_attributes = placed.map_attributes })) in
     subst P (sym (ap (rows_on disk) is ∙ rows_read disk placed.rows within)) (device.fork (filled disk placed) stands)
 
--- whatever bytes stand at the places, the rows are such as an opening gives
+-- whatever bytes are at the places, the rows are such as an opening gives
 rows_opened : (fork : List ℕ) (rows : List PlacedRow) → rows_on fork (map opened_row rows) ≡ map opened_row (map (with_bytes fork) rows)
 rows_opened fork [] = refl
 rows_opened fork (r ∷ rows) = ap (λ (rs : List FileRow). row_on fork (opened_row r) ∷ rs) (rows_opened fork rows)

@@ -36,18 +36,18 @@ module _ (t : HandleTable) (old new : List ℕ) where
       ap (λ (row : FileRow). row ∷ rows_on new (rows_placed AllChanged (at + 1) rows places)) (row_seen (is_changed r) place r (ap first is))
       ∙ ap (λ (rs : List FileRow). updated_if_changed t (row_on old r) ∷ rs) (all_placed (at + 1) rows places (ap (drop 1) is))
 
-  -- none behind the index
+  -- none after the index
   none_placed : (index at : ℕ) (rows : List (Row Place)) (places : List Place) → index < at → map (bytes_on new) places ≡ map bytes_of_row (rows_on old rows)
       → rows_on new (rows_placed (RowAt index) at rows places) ≡ rows_on old rows
-  none_placed index at [] places behind is = refl
-  none_placed index at (r ∷ rows) [] behind is = absurd (cc is)
-  none_placed index at (r ∷ rows) (place ∷ places) behind is =
-      ap (λ b. row_on new (row_placed b place r) ∷ rows_on new (rows_placed (RowAt index) (at + 1) rows places)) (ne_eqb at index (λ same. omega (arith, same, behind)))
+  none_placed index at [] places after is = refl
+  none_placed index at (r ∷ rows) [] after is = absurd (cc is)
+  none_placed index at (r ∷ rows) (place ∷ places) after is =
+      ap (λ b. row_on new (row_placed b place r) ∷ rows_on new (rows_placed (RowAt index) (at + 1) rows places)) (ne_eqb at index (λ same. omega (arith, same, after)))
       ∙ ap (λ (row : FileRow). row ∷ rows_on new (rows_placed (RowAt index) (at + 1) rows places)) (row_seen false place r (ap first is))
-      ∙ ap (λ (rs : List FileRow). row_on old r ∷ rs) (none_placed index (at + 1) rows places (omega (arith, behind)) (ap (drop 1) is))
+      ∙ ap (λ (rs : List FileRow). row_on old r ∷ rs) (none_placed index (at + 1) rows places (omega (arith, after)) (ap (drop 1) is))
 
-  changed_behind : (n : ℕ) (change : FileRow → FileRow) (r : FileRow) (rows : List FileRow) → changed_at (suc n) change (r ∷ rows) ≡ r ∷ changed_at n change rows
-  changed_behind n change r rows = by (slice_get rows n)
+  changed_after : (n : ℕ) (change : FileRow → FileRow) (r : FileRow) (rows : List FileRow) → changed_at (suc n) change (r ∷ rows) ≡ r ∷ changed_at n change rows
+  changed_after n change r rows = by (slice_get rows n)
     where
       by : (found : Option FileRow) → option_map_or (λ x. r ∷ set rows n (change x)) found (r ∷ rows) ≡ r ∷ option_map_or (λ x. set rows n (change x)) found rows
       by None = refl
@@ -59,16 +59,16 @@ module _ (t : HandleTable) (old new : List ℕ) where
   one_placed zero at [] places is = refl
   one_placed (suc n) at [] places is = refl
   one_placed zero at (r ∷ rows) [] is = absurd (cc is)
-  one_placed (suc n) at (r ∷ rows) [] is = absurd (cc (is ∙ ap (map bytes_of_row) (changed_behind n (updated_row t) (row_on old r) (rows_on old rows))))
+  one_placed (suc n) at (r ∷ rows) [] is = absurd (cc (is ∙ ap (map bytes_of_row) (changed_after n (updated_row t) (row_on old r) (rows_on old rows))))
   one_placed zero at (r ∷ rows) (place ∷ places) is =
       ap (λ b. row_on new (row_placed b place r) ∷ rows_on new (rows_placed (RowAt (at + zero)) (at + 1) rows places)) (eq-eqb at (at + zero) (omega arith))
       ∙ ap (λ (row : FileRow). row ∷ rows_on new (rows_placed (RowAt (at + zero)) (at + 1) rows places)) (row_seen true place r (ap first is))
       ∙ ap (λ (rs : List FileRow). updated_row t (row_on old r) ∷ rs) (none_placed (at + zero) (at + 1) rows places (omega arith) (ap (drop 1) is))
   one_placed (suc n) at (r ∷ rows) (place ∷ places) is =
-      let split = is ∙ ap (map bytes_of_row) (changed_behind n (updated_row t) (row_on old r) (rows_on old rows)) in
+      let split = is ∙ ap (map bytes_of_row) (changed_after n (updated_row t) (row_on old r) (rows_on old rows)) in
       let index : at + suc n ≡ (at + 1) + n = omega arith in
       ap (λ b. row_on new (row_placed b place r) ∷ rows_on new (rows_placed (RowAt (at + suc n)) (at + 1) rows places)) (ne_eqb at (at + suc n) (λ same. omega (arith, same)))
       ∙ ap (λ (row : FileRow). row ∷ rows_on new (rows_placed (RowAt (at + suc n)) (at + 1) rows places)) (row_seen false place r (ap first split))
       ∙ ap (λ (i : ℕ). row_on old r ∷ rows_on new (rows_placed (RowAt i) (at + 1) rows places)) index
       ∙ ap (λ (rs : List FileRow). row_on old r ∷ rs) (one_placed n (at + 1) rows places (ap (drop 1) split))
-      ∙ sym (changed_behind n (updated_row t) (row_on old r) (rows_on old rows))
+      ∙ sym (changed_after n (updated_row t) (row_on old r) (rows_on old rows))

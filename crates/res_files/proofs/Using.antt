@@ -22,11 +22,11 @@ module _ {S : Type 0} (fork : S → List ℕ) (is_honest : S → Type 0) (chain 
   stores_are : now.stores ≡ stores
   stores_are = ap (λ (v : FilesOn S). v.stores) (sym view_is)
 
-  -- the store is honest behind the call
+  -- the store is honest after the call
   pub mine : IfSome (slice_get (set stores at new) at) is_honest → is_honest new
   mine honest = subst (λ (found : Option S). IfSome found is_honest) (get_set stores at new within) honest
 
-  -- at each place stands the same store, or this one
+  -- at each place is the same store, or this one
   each : (R : Option S → Option S → Type 0) → ((o : Option S) → R o o) → R (Some old) (Some new) → (i : ℕ) → R (slice_get now.stores i) (slice_get (set stores at new) i)
   each R same step i = subst (λ (xs : List S). R (slice_get xs i) (slice_get (set stores at new) i)) (sym stores_are)
       (each_store R same stores at new old (subst (λ (s : S). R (Some s) (Some new)) value step) i)
@@ -50,7 +50,7 @@ module _ {S : Type 0} (fork : S → List ℕ) (is_honest : S → Type 0) (chain 
       ∙ sym (ap default (slice_get-map fork stores (k - 1))) in
       same_known known (map fork (set stores at new)) (map fork stores) here chain ∙ ap (λ (v : FilesOn S). known_files known v.files) view_is
 
-  -- the files stand still
+  -- the files are still
   pub stand_still : (is_ready : S → Type 0) → (is_honest new → is_honest old) → (is_honest new → fork new ≡ fork old) → (is_honest new → is_ready new)
       → StandOn fork is_ready is_honest stores chain → StandOn fork is_ready is_honest (set stores at new) chain
   stand_still is_ready same forks ready stand =

@@ -1,4 +1,4 @@
--- One fork is written anew: the other files stay as they are, and stand as they stood.
+-- One fork is written anew: the other files stay as they are, and are as they were.
 use Rattle.std.proofs.Common.{◌≡◌, refl, sym, ap, ◌∙◌, subst, arith, ℕ, ◌-◌, ◌≤◌, List, [], ◌∷◌, map, set, slice_get, unwrap_or, Bool, true, false, cond, Option, Some, IfSome, find}
 use Rattle.std.specs.Prelude.{◌||◌, if◌then◌else◌}
 use Rattle.std.specs.List.{list_any, AllByRecursion}
@@ -97,7 +97,7 @@ module _ (k : ℕ) (low : 1 ≤ k) where
             ∙ ap (λ (all : List (OpenFile (List ℕ))). file_on forks f ∷ all) deeper
 
   module _ {S : Type 0} (fork : S → List ℕ) (is_ready is_honest : S → Type 0) (stores : List S) (new : S) where
-    -- another file stands on its own store
+    -- another file is on its own store
     other_stands : (f : OpenFile Place) → is_numbered k f ≡ false → StandsOn fork is_ready is_honest stores f → StandsOn fork is_ready is_honest (set stores (k - 1) new) f
     other_stands f other stands = record {
       from_one = stands.from_one;
@@ -112,7 +112,7 @@ module _ (k : ℕ) (low : 1 ≤ k) where
     others_stand [] none each = each
     others_stand (f ∷ files) none each = let both = none_left f files none in (other_stands f both.0 each.0, others_stand files both.1 each.1)
 
-    -- the one of the number stands on the new one
+    -- the one of the number is on the new one
     pub one_stands : (own : List (Row Place) → List (Row Place)) (files : List (OpenFile Place)) → AreApart files
         → IfSome (option_map table_in (find (is_numbered k) files)) (λ table. AreSmall (own table.rows) × Holds fork is_ready is_honest (own table.rows) new)
         → AllByRecursion (StandsOn fork is_ready is_honest stores) files → AllByRecursion (StandsOn fork is_ready is_honest (set stores (k - 1) new)) (changed_file k own files)
@@ -139,7 +139,7 @@ module _ (k : ℕ) (low : 1 ≤ k) where
         by true mine held deeper = (mine_stands mine held.0 held.1, others_stand files (only_here f files mine apart.0) each.1)
         by false other held deeper = (other_stands f other each.0, deeper held)
 
-    -- without it the others stand as they stood
+    -- without it the others are as they were
     pub rest_stands : (files : List (OpenFile Place)) → AreApart files → AllByRecursion (StandsOn fork is_ready is_honest stores) files
         → AllByRecursion (StandsOn fork is_ready is_honest (set stores (k - 1) new)) (without k files)
     rest_stands [] apart each = each

@@ -1,4 +1,4 @@
--- How the open files stand on the stores: by the places of their rows' bytes in the forks.
+-- How the open files are on the stores: by the places of their rows' bytes in the forks.
 use Rattle.std.specs.Prelude.{◌≡◌, ℕ, ◌-◌, ◌≤◌, false, List, [], ◌∷◌, length, map, slice_get, unwrap_or, IfSome, IsTrue}
 use Rattle.std.specs.List.{list_any, AllByRecursion}
 use Rattle.std.specs.Option.{option_map_or}
@@ -25,13 +25,13 @@ file_on forks file = record { number = file.number; table = table_on (fork_at fo
 abbrev pub files_on : List (List ℕ) → OpenFiles Place → Files
 files_on forks chain = record { files = map (file_on forks) chain.files; current = chain.current }
 
--- rows that a fork may have: not too many, those of each type together, and no place ends behind the longest fork
+-- rows that a fork may have: not too many, those of each type together, and no place ends after the longest fork
 pub record AreSmall (rows : List (Row Place)) : Type 0 where
   pub few : length rows ≤ max_rows
   pub grouped : IsGrouped (bare rows)
   pub near : AreNear rows
 
--- a file stands on the store of its number
+-- a file is on the store of its number
 pub record StandsOn {S : Type 0} (fork : S → List ℕ) (is_ready is_honest : S → Type 0) (stores : List S) (file : OpenFile Place) : Type 0 where
   pub from_one : 1 ≤ file.number
   pub to_count : file.number ≤ length stores
@@ -47,7 +47,7 @@ AreApart (file ∷ files) = (list_any (is_numbered file.number) files ≡ false)
 abbrev pub most_files : ℕ
 most_files = 255
 
--- the open files stand on at most so many stores, each on its own, and the current file is one of them
+-- the open files are on at most so many stores, each on its own, and the current file is one of them
 pub record StandOn {S : Type 0} (fork : S → List ℕ) (is_ready is_honest : S → Type 0) (stores : List S) (chain : OpenFiles Place) : Type 0 where
   pub few : length stores ≤ most_files
   pub each : AllByRecursion (StandsOn fork is_ready is_honest stores) chain.files

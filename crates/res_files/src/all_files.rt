@@ -19,7 +19,7 @@ impl<S: ForkStore> ResourceFiles<S> {
         all_files::count_of_type(self.chain.files(), kind) as u32
     }
 
-    /// Where the resource of a type with this index, from 1 on, stands in all open files: those of the latest file come
+    /// Where the resource of a type with this index, from 1 on, is in all open files: those of the latest file come
     /// first.
     pub fn find_ith_in_all(&self, kind: ResType, index: u32) -> Option<RowPlace>
         ensures value { result ≡ ith_place kind index self.now.files.files }

@@ -1,4 +1,4 @@
-//! The resource files of a run, and how they stand on their stores.
+//! The resource files of a run, and how they are on their stores.
 
 ghost use Rattle.std.specs.Prelude.{◌≡◌, ℕ, ◌≤◌, length, true, IsTrue};
 ghost use Rattle.res_table.specs.OpenFiles.{no_files, is_open};

@@ -7,7 +7,7 @@ ghost use Rattle.fork_bytes.specs.Written.{name_text};
 ghost use Rattle.fork_bytes.specs.declared.place.Place.{Place};
 ghost use Rattle.mac_base.specs.declared.resource.Resource.{Resource};
 ghost use Rattle.res_table.specs.declared.row.Row.{Row};
-ghost use Rattle.res_table.specs.Behind.{end_of_type};
+ghost use Rattle.res_table.specs.After.{end_of_type};
 ghost use Rattle.res_table.specs.Rows.{added, names_size};
 ghost use Rattle.res_table.specs.Saved.{bare, row_types};
 ghost use Rattle.res_update.specs.Changes.{FileRow, current_rows};
@@ -63,8 +63,8 @@ fn name_of(row: &Row<Place>) -> Option<&[u8]>
     }
 }
 
-/// The offset behind a name that is to stand at this one, if two bytes hold that.
-fn behind(start: usize, name: Option<&[u8]>) -> Option<usize>
+/// The offset after a name that is to be at this one, if two bytes hold that.
+fn after(start: usize, name: Option<&[u8]>) -> Option<usize>
     ensures { (row : Resource (List ℕ)) → (rest : List (Resource (List ℕ))) → row.name ≡ option_copied name.entry
         → names_fit start (row ∷ rest) ≡ option_map_or (λ end. names_fit end rest) result false }
 {
@@ -77,7 +77,7 @@ fn behind(start: usize, name: Option<&[u8]>) -> Option<usize>
     Some(start + 1 + name.len())
 }
 
-/// The offset behind the names of the rows between two indexes, where the first is to stand at this one, if two bytes
+/// The offset after the names of the rows between two indexes, where the first is to be at this one, if two bytes
 /// hold each.
 fn names_end(rows: &Rows<Place>, from: usize, to: usize, start: usize) -> Option<usize>
     requires order { from ≤ to }
@@ -88,7 +88,7 @@ fn names_end(rows: &Rows<Place>, from: usize, to: usize, start: usize) -> Option
     let mut next = start;
     let mut at = from;
     while at < to {
-        let Some(end) = behind(next, name_of(rows.row(at))) else {
+        let Some(end) = after(next, name_of(rows.row(at))) else {
             return None;
         };
         next = end;
@@ -105,7 +105,7 @@ fn names_fit_with(rows: &Rows<Place>, at: usize, name: Option<&[u8]>) -> bool
     let Some(here) = names_end(rows, 0, at, 0) else {
         return false;
     };
-    let Some(next) = behind(here, name) else {
+    let Some(next) = after(here, name) else {
         return false;
     };
     names_end(rows, at, rows.len(), next).is_some()
@@ -121,7 +121,7 @@ fn size_of(name: Option<&[u8]>) -> usize
     }
 }
 
-/// Whether the names take so few bytes, with one more, that two bytes hold each offset in whatever order they stand.
+/// Whether the names take so few bytes, with one more, that two bytes hold each offset in whatever order they are.
 fn names_are_few(rows: &Rows<Place>, name: Option<&[u8]>) -> bool
     ensures { IsTrue result ↔ (names_size rows.now + length (name_text (option_copied name.entry)) ≤ 65535) }
 {

@@ -12,8 +12,8 @@ use res_table::rows::Rows;
 
 /// The first row with a handle from an index on, and the handle.
 pub(crate) fn next_handle(rows: &Rows<Place>, from: usize) -> Option<(usize, Handle)>
-    ensures some { IfSome result (λ found. (before : List (Row Place)) × (r : Row Place) × (behind : List (Row Place))
-        × (drop from rows.now ≡ before ++ r ∷ behind) × All (λ other. other.handle ≡ None) before
+    ensures some { IfSome result (λ found. (before : List (Row Place)) × (r : Row Place) × (after : List (Row Place))
+        × (drop from rows.now ≡ before ++ r ∷ after) × All (λ other. other.handle ≡ None) before
         × (r.handle ≡ Some found.1) × (found.0 ≡ from + length before)) }
     ensures none { IfNone result (All (λ r. r.handle ≡ None) (drop from rows.now)) }
 {

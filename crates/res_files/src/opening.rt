@@ -14,7 +14,7 @@ use fork_disk::store::ForkStore;
 use mac_base::error::{HostFull, OsErr};
 
 impl<S: ForkStore> ResourceFiles<S> {
-    /// Opens the file of a number, which isn't open, behind the others, and makes it the current one. Without bytes it
+    /// Opens the file of a number, which isn't open, after the others, and makes it the current one. Without bytes it
     /// has no resources. The code is eofErr where there are fewer than 16, mapReadErr where they are no fork, and ioErr
     /// where the device failed; then, and without host memory, no file is opened.
     pub fn open(&mut self, number: u8) -> Result<Result<(), OsErr>, HostFull>

@@ -40,7 +40,7 @@ impl<S: ForkStore> ResourceFiles<S> {
         self.chain.is_open(number)
     }
 
-    /// Where the resource of a type and an id stands: in the current file, or else in the latest before it that has
+    /// Where the resource of a type and an id is: in the current file, or else in the latest before it that has
     /// one.
     pub fn find(&self, kind: ResType, id: i16) -> Option<RowPlace>
         ensures value { result ≡ place_of_resource kind id self.now.files }
@@ -49,7 +49,7 @@ impl<S: ForkStore> ResourceFiles<S> {
         self.chain.find(kind, id)
     }
 
-    /// Where it stands in the current file.
+    /// Where it is in the current file.
     pub fn find_here(&self, kind: ResType, id: i16) -> Option<RowPlace>
         ensures value { result ≡ place_here kind id self.now.files }
         ensures there { IfSome result (λ place. IsSome (row_at place self.now.files)) }
@@ -57,7 +57,7 @@ impl<S: ForkStore> ResourceFiles<S> {
         self.chain.find_here(kind, id)
     }
 
-    /// Where the first row of a type and a name stands: in the current file, or else in the latest before it that has
+    /// Where the first row of a type and a name is: in the current file, or else in the latest before it that has
     /// one.
     pub fn find_named(&self, kind: ResType, name: &[u8]) -> Option<RowPlace>
         ensures value { result ≡ place_of_name kind name.now self.now.files }
@@ -66,7 +66,7 @@ impl<S: ForkStore> ResourceFiles<S> {
         self.chain.find_named(kind, name)
     }
 
-    /// Where it stands in the current file.
+    /// Where it is in the current file.
     pub fn find_named_here(&self, kind: ResType, name: &[u8]) -> Option<RowPlace>
         ensures value { result ≡ name_here kind name.now self.now.files }
         ensures there { IfSome result (λ place. IsSome (row_at place self.now.files)) }
@@ -74,7 +74,7 @@ impl<S: ForkStore> ResourceFiles<S> {
         self.chain.find_named_here(kind, name)
     }
 
-    /// Where the resource of a type with this index, from 1 on, stands in the current file.
+    /// Where the resource of a type with this index, from 1 on, is in the current file.
     pub fn find_ith(&self, kind: ResType, index: u32) -> Option<RowPlace>
         ensures value { result ≡ option_and_then (λ k. option_map (λ at. record { file = k; index = at }) (index_of_ith kind index (current_rows self.now.files))) self.now.files.current }
         ensures there { IfSome result (λ place. IsSome (row_at place self.now.files)) }
@@ -91,7 +91,7 @@ impl<S: ForkStore> ResourceFiles<S> {
         Some(RowPlace { file, index })
     }
 
-    /// Where the row with a handle stands, in any open file.
+    /// Where the row with a handle is, in any open file.
     pub fn row_of_handle(&self, handle: Handle) -> Option<RowPlace>
         ensures value { result ≡ place_of_handle handle self.now.files }
         ensures there { IfSome result (λ place. IsSomeAnd (row_at place self.now.files) (λ r. r.handle ≡ Some handle)) }
@@ -149,8 +149,8 @@ impl<S: ForkStore> ResourceFiles<S> {
 
     /// The handle of a row of the file of a number, from an index on: the first that is there.
     pub fn next_handle(&self, number: u8, from: usize) -> Option<(usize, Handle)>
-        ensures some { IfSome result (λ found. (before : List FileRow) × (r : FileRow) × (behind : List FileRow)
-            × (drop from (rows_of number self.now.files) ≡ before ++ r ∷ behind) × All (λ other. other.handle ≡ None) before
+        ensures some { IfSome result (λ found. (before : List FileRow) × (r : FileRow) × (after : List FileRow)
+            × (drop from (rows_of number self.now.files) ≡ before ++ r ∷ after) × All (λ other. other.handle ≡ None) before
             × (r.handle ≡ Some found.1) × (found.0 ≡ from + length before)) }
         ensures none { IfNone result (All (λ r. r.handle ≡ None) (drop from (rows_of number self.now.files))) }
         ensures few { length (rows_of number self.now.files) ≤ max_rows }

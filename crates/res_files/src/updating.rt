@@ -20,7 +20,7 @@ use res_update::fault::UpdateFault;
 use res_update::selection::Selection;
 use res_update::write_table;
 
-/// Whether the device failed behind the first write.
+/// Whether the device failed after the first write.
 fn is_later(fault: UpdateFault) -> bool
     ensures { IsTrue result ↔ (fault ≡ UpdateFault.Device ReplaceFault.Later) }
 {
@@ -37,7 +37,7 @@ fn close_file(chain: &mut Chain<Place>, number: u8)
 impl<S: ForkStore> ResourceFiles<S> {
     /// Writes the file of a number anew, which is open. The selected rows have the bytes of their handles then, and are
     /// no longer changed; all others keep what they have on the disk. The new fork stands for the table: it is read as
-    /// it. TooBig comes exactly where no fork holds the table. Where the device failed behind the first write, the file
+    /// it. TooBig comes exactly where no fork holds the table. Where the device failed after the first write, the file
     /// is closed; in any other case of an error nothing is changed.
     pub fn update<C: Contents>(
         &mut self,

@@ -28,7 +28,7 @@ files_same k at f g (file ∷ files) r is same = by_case (is_numbered k file) (�
         ap (λ rows. other rows ∷ files) (row_same at f g file.table.rows r here same)
     by_case false rest later = ap (λ (others : List (OpenFile (List ℕ))). file ∷ others) (rest later)
 
--- a row is changed so or so, where both make the same of the row that stands there
+-- a row is changed so or so, where both make the same of the row that is there
 pub changed_same : (p : RowPlace) (f g : FileRow → FileRow) (files : Files) (r : FileRow) → row_at p files ≡ Some r → f r ≡ g r → row_changed p f files ≡ row_changed p g files
 changed_same p f g files r is same = ap (λ fs. record files { files = fs }) (files_same p.file p.index f g files.files r is same)
 

@@ -15,7 +15,7 @@ use Rattle.res_update.specs.Answered.{IsAnswered}
 use Rattle.res_update.specs.Device.{Device, device_works}
 use Rattle.res_update.specs.Device as device
 use Rattle.res_update.specs.Files.{ResState, ResourceEnd}
-use Rattle.res_update.specs.Updates.{Update, behind_update, disposed, fits_fork, handles_of, update_end}
+use Rattle.res_update.specs.Updates.{Update, after_update, disposed, fits_fork, handles_of, update_end}
 use Rattle.res_files.specs.FilesOn.{FailedAt, FilesOn, HonestAt, NoneFailed}
 use Rattle.res_manager.specs.Ends.{IsUnwritten, Writes, WritesFile}
 use Rattle.res_manager.specs.Steps.{state_of}
@@ -33,7 +33,7 @@ module _ {S : Type 0} (store : Ghosts S) (zone new : ZoneState) (on mid after : 
       not_given code is = cc (sym given ∙ ap is_err is)
 
       closing : ResState → ResState
-      closing state = behind_update (Writing (CloseResFile None)) u.file state
+      closing state = after_update (Writing (CloseResFile None)) u.file state
 
       closed_state : closing (state_of store.fork zone mid) ≡ state_of store.fork new after
       closed_state = same_state store.fork (closing (state_of store.fork zone mid)) new after (sym shape) (sym heap) (ap (λ (on : FilesOn S). on.files) (sym closed)) (ap (λ (on : FilesOn S). on.loads) (sym closed))

@@ -1,4 +1,4 @@
--- What a start may find behind a crash in a call, by what the call did to the stores.
+-- What a start may find after a crash in a call, by what the call did to the stores.
 use Rattle.std.proofs.Common.{◌≡◌, ℕ, Bool, true, false, cond, List, [], Option, Some, None, Result, Ok, Err, refl, sym, ap, subst, ◌∙◌, inl, inr, ⊎_elim}
 use Rattle.std.specs.Prelude.{IfOk, OnOk, OnErr, IfSome}
 use Rattle.std.specs.Option.{option_map_or}

@@ -1,4 +1,4 @@
--- Handles that the rows forget, one behind another.
+-- Handles that the rows forget, one after another.
 use Rattle.std.proofs.Common.{◌≡◌, ℕ, zero, suc, true, false, List, [], ◌∷◌, map, Option, Some, None, refl, ap, ◌∙◌}
 use Rattle.std.specs.Prelude.{◌==◌, find, slice_get, option_map, option_and_then, if◌then◌else◌}
 use Rattle.mac_base.specs.declared.resource.Resource.{Resource}

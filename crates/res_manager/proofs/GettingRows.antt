@@ -29,7 +29,7 @@ use Rattle.res_update.specs.Device.{Device, DiskRelations, Works as Working, Fai
 use Rattle.res_update.specs.Files.{ResState, ResourceEnd, disk_of, refused_with, with_heap, with_files}
 use Rattle.res_update.specs.Loads.{found_end, loads_bytes, placing, loaded, unloaded, loaded_results, read_fails, load_end, placed_end}
 use Rattle.mac_base.specs.Released.{disposed_in}
-use Rattle.res_update.specs.Steps.{GetsPlace, GetsRow, behind_memory, Memory}
+use Rattle.res_update.specs.Steps.{GetsPlace, GetsRow, after_memory, Memory}
 use Rattle.fork_disk.specs.declared.store.ForkStore.{Ghosts}
 use Rattle.res_files.specs.FilesOn.{FailedAt, FilesOn, HonestAt, fork_of}
 use Rattle.res_manager.specs.Loading.{AreAnswered, HasBytes, LoadSteps, LoadsTo, flags_for, handle_placed, loaded_outcome, loaded_with, place_call}
@@ -90,7 +90,7 @@ module _ (disks : ℕ → DiskRelations) (old : ResState) (p : RowPlace) (loads 
     (asks : List Ask) (heap : Heap) (outcome : Outcome) (step : Memory old.shape old.heap (place_call own size loads) asks outcome heap) where
   -- the state that the call of the Memory Manager left
   abbrev placed_state : ResState
-  placed_state = behind_memory asks heap old
+  placed_state = after_memory asks heap old
 
   gets_place : (device : Device) (call : ResourceCall) (end : ResourceEnd) → loads_bytes old call ≡ loads → end ≡ placed_end device loads call p r outcome placed_state
       → GetsPlace Memory disks device old call asks end p (row_at p old.files)
@@ -164,7 +164,7 @@ module _ {S : Type 0} (store : Ghosts S) (old : ZoneState) (on : FilesOn S) (p :
   abbrev begun : ResState
   begun = state_of store.fork old on
 
-  made_state : state_of store.fork mid mid_files ≡ behind_memory asks mid.heap begun
+  made_state : state_of store.fork mid mid_files ≡ after_memory asks mid.heap begun
   made_state = rw (shape, forgotten) refl
 
   mid_stores : mid_files.stores ≡ on.stores
@@ -177,9 +177,9 @@ module _ {S : Type 0} (store : Ghosts S) (old : ZoneState) (on : FilesOn S) (p :
       record {
         device = Working;
         before = begun;
-        after = behind_memory asks mid.heap begun;
+        after = after_memory asks mid.heap begun;
         was = itself honest begun;
-        becomes = subst (λ (s : ResState). IsAnswered honest s (behind_memory asks mid.heap begun)) (sym made_state) (itself honest (behind_memory asks mid.heap begun));
+        becomes = subst (λ (s : ResState). IsAnswered honest s (after_memory asks mid.heap begun)) (sym made_state) (itself honest (after_memory asks mid.heap begun));
         step = refuses (answered_disks honest store.may_leave) begun p loads own size r got asks mid.heap outcome step code is;
         cause = ap (map store.failures) mid_stores;
       }
@@ -196,7 +196,7 @@ module _ {S : Type 0} (store : Ghosts S) (old : ZoneState) (on : FilesOn S) (p :
         → LoadSteps store old on p loads asks (Err IoErr) new new_files
     failed_load is some heap cause =
         let honest = HonestAt store.is_honest new_files.stores in
-        let last : ResState = with_heap (unloaded h r mid.heap) (behind_memory asks mid.heap begun) in
+        let last : ResState = with_heap (unloaded h r mid.heap) (after_memory asks mid.heap begun) in
         record {
           device = FailsBefore;
           before = begun;
@@ -220,7 +220,7 @@ module _ {S : Type 0} (store : Ghosts S) (old : ZoneState) (on : FilesOn S) (p :
         let kept : (now : FileRow) × (row_at p mid_files.files ≡ Some now) × (now.resource ≡ r.resource) = rw forgotten (row_forgotten (disposed_in asks) p on.files r got.here) in
         let there : IsSome (row_at p new_files.files) = rw (unread, kept.1) refl in
         let is = attached there in
-        let placed : ResState = behind_memory asks mid.heap begun in
+        let placed : ResState = after_memory asks mid.heap begun in
         let last : ResState = with_files (row_changed p (with_handle (Some h)) placed.files) placed in
         let ends : state_of store.fork new last_files ≡ last = rw (is, new_shape, heap, unread, shape, forgotten) refl in
         let chosen : (if loads then with_heap (loaded h r mid.heap) placed else placed) ≡ placed = second loads (with_heap (loaded h r mid.heap) placed) placed none in
@@ -252,7 +252,7 @@ module _ {S : Type 0} (store : Ghosts S) (old : ZoneState) (on : FilesOn S) (p :
         let same_bytes : (known : ℕ → Bool) → AreHonest honest known → known_bytes (known p.file) bytes ≡ known_bytes (known p.file) r.resource.datum =
         λ known are. known-same (known p.file) bytes r.resource.datum long (λ is. mine (are p.file is)) in
         let before : ResState = with_files (row_changed p (with_datum bytes) on.files) begun in
-        let placed : ResState = behind_memory asks mid.heap before in
+        let placed : ResState = after_memory asks mid.heap before in
         let last : ResState = with_files (row_changed p (with_handle (Some h)) placed.files) (with_heap (loaded h shown mid.heap) placed) in
         let got_now : IsGot before p loads own size shown = record { here = row_changed_there p (with_datum bytes) on.files r got.here; same = got.same; long = sym answered.long; needs = got.needs } in
         let chosen : (if loads then with_heap (loaded h shown mid.heap) placed else placed) ≡ with_heap (loaded h shown mid.heap) placed = first loads (with_heap (loaded h shown mid.heap) placed) placed is in

@@ -12,7 +12,7 @@ use Rattle.mac_base.specs.declared.memory_call.MemoryCall.{MemoryCall}
 use Rattle.mac_base.specs.declared.reply.Results.{Results}
 use Rattle.mac_base.specs.Effect.{request_of, table_copied}
 use Rattle.mac_base.specs.GrowZone.{Ask, Answer, carried_out, most_answers}
-use Rattle.mac_base.specs.MemoryStep.{MemoryStep, StepUnless, StepAsking, RequestStep, BehindMaster, EndsRequest}
+use Rattle.mac_base.specs.MemoryStep.{MemoryStep, StepUnless, StepAsking, RequestStep, AfterMaster, EndsRequest}
 use Rattle.mac_base.specs.Outcomes.{Outcome, given_results}
 use Rattle.mac_base.specs.RequestRun.{RequestRun, EndsUnserved}
 use Rattle.mac_base.specs.Tests.{refusal, protected_by}
@@ -55,7 +55,7 @@ module _ (s : Shape) (old new : Heap) (call : MemoryCall) (r : Request) (given :
       let g = run-granted s (protected_by call) r x allowed heap mid asks run in
       (x, ok_of given (given_results call x) ends.0, (g.0, ends.1 ∙ same x mid.table ∙ g.1))
 
-  by_master : (allowed : ℕ) (mid : Heap) (asks : List Ask) (o : Option ℕ) → BehindMaster RequestRun s call old.table r allowed o mid asks (Ok given) new → Gave
+  by_master : (allowed : ℕ) (mid : Heap) (asks : List Ask) (o : Option ℕ) → AfterMaster RequestRun s call old.table r allowed o mid asks (Ok given) new → Gave
   by_master allowed mid asks None h = absurd (cc h.1)
   by_master allowed mid asks (Some m) h = by_run allowed mid h.1 asks h.0 h.2 h.3
 

@@ -34,9 +34,9 @@ passed_over [] rest none = refl
 passed_over (r ∷ rows) rest none =
     without_handle r (rows ++ rest) (All-head (λ (x : FileRow). x.handle ≡ None) r rows none) ∙ passed_over rows rest (All-tail (λ (x : FileRow). x.handle ≡ None) r rows none)
 
-behind_found : (before : List FileRow) (r : FileRow) (behind : List FileRow) → drop (suc (length before)) (before ++ r ∷ behind) ≡ behind
-behind_found [] r behind = refl
-behind_found (x ∷ before) r behind = behind_found before r behind
+after_found : (before : List FileRow) (r : FileRow) (after : List FileRow) → drop (suc (length before)) (before ++ r ∷ after) ≡ after
+after_found [] r after = refl
+after_found (x ∷ before) r after = after_found before r after
 
 -- what is known of the next row with a handle
 pub record Next (rows : List FileRow) (from index h : ℕ) : Type 0 where
@@ -44,13 +44,13 @@ pub record Next (rows : List FileRow) (from index h : ℕ) : Type 0 where
   pub within : index < length rows
   pub later : from ≤ index
 
-pub next_found : (rows : List FileRow) (from index h : ℕ) (before : List FileRow) (r : FileRow) (behind : List FileRow) → drop from rows ≡ before ++ r ∷ behind → All (λ (other : FileRow). other.handle ≡ None) before → r.handle ≡ Some h
+pub next_found : (rows : List FileRow) (from index h : ℕ) (before : List FileRow) (r : FileRow) (after : List FileRow) → drop from rows ≡ before ++ r ∷ after → All (λ (other : FileRow). other.handle ≡ None) before → r.handle ≡ Some h
     → index ≡ from + length before → Next rows from index h
-next_found rows from index h before r behind is none has at =
-    let rest : drop (index + 1) rows ≡ behind = rw at (sym (drop-drop (length before + 1) from rows ∙ ap (λ n. drop n rows) (omega arith)) ∙ ap (drop (length before + 1)) is ∙ rw (add-one) (behind_found before r behind)) in
-    let long : length (drop from rows) ≡ length before + suc (length behind) = ap length is ∙ length-append before (r ∷ behind) in
+next_found rows from index h before r after is none has at =
+    let rest : drop (index + 1) rows ≡ after = rw at (sym (drop-drop (length before + 1) from rows ∙ ap (λ n. drop n rows) (omega arith)) ∙ ap (drop (length before + 1)) is ∙ rw (add-one) (after_found before r after)) in
+    let long : length (drop from rows) ≡ length before + suc (length after) = ap length is ∙ length-append before (r ∷ after) in
     record {
-      handles = ap handles_of is ∙ passed_over before (r ∷ behind) none ∙ with_its_handle r behind h has ∙ ap (λ (rs : List FileRow). h ∷ handles_of rs) (sym rest);
+      handles = ap handles_of is ∙ passed_over before (r ∷ after) none ∙ with_its_handle r after h has ∙ ap (λ (rs : List FileRow). h ∷ handles_of rs) (sym rest);
       within = omega (arith, long, length-drop from rows);
       later = omega arith;
     }

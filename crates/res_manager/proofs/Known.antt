@@ -17,7 +17,7 @@ use Rattle.res_update.proofs.Answering.{none}
 use Rattle.res_update.specs.Changes.{FileRow, FileTable, Files, current_rows, handles_forgotten, row_changed, rows_in, rows_of}
 use Rattle.res_update.specs.Device.{Disk}
 use Rattle.res_update.specs.Files.{ResState, disk_of, with_files, with_heap}
-use Rattle.res_update.specs.Updates.{behind_update, disposed, handles_of}
+use Rattle.res_update.specs.Updates.{after_update, disposed, handles_of}
 use Rattle.mac_base.specs.HeadKind.{Shape}
 use Rattle.mac_base.specs.Heap.{Heap}
 use Rattle.res_update.specs.Loads.{row_wanted}
@@ -200,7 +200,7 @@ handles-of-file known k files = ap (λ (found : Option FileTable). handles_of (o
 
 -- a file is closed as the devices answered
 pub closed-answered : (honest : ℕ → Type 0) (k : ℕ) (state answered : ResState) → IsAnswered honest state answered
-    → IsAnswered honest (behind_update (Writing (CloseResFile None)) k state) (behind_update (Writing (CloseResFile None)) k answered)
+    → IsAnswered honest (after_update (Writing (CloseResFile None)) k state) (after_update (Writing (CloseResFile None)) k answered)
 closed-answered honest k state answered is known are =
     let same = is known are in
     let files : known_files known answered.files ≡ known_files known state.files = ap (λ (s : ResState). s.files) same in

@@ -23,7 +23,7 @@ unless_refused s heap c (Some code) same = refl
 lent_disposing : (s : Shape) (h : ℕ) (heap : Heap) → (exact_step s [] heap (DisposeHandle h)).heap.table.lent ≡ heap.table.lent
 lent_disposing s h heap = unless_refused s heap (DisposeHandle h) (refusal s heap (DisposeHandle h)) refl
 
--- handles that are disposed of, one behind another
+-- handles that are disposed of, one after another
 pub lent_disposed : (s : Shape) (hs : List ℕ) (heap : Heap) → (disposed s hs heap).table.lent ≡ heap.table.lent
 lent_disposed s [] heap = refl
 lent_disposed s (h ∷ hs) heap = lent_disposed s hs (exact_step s [] heap (DisposeHandle h)).heap ∙ lent_disposing s h heap

@@ -55,7 +55,7 @@ longer n own read more long =
     ap (λ (b : List ℕ). b ++ zeros (n - length read)) (take_all n read (omega (arith, more, long))) ∙ ap (λ (k : ℕ). read ++ zeros (n - k)) long in
     ap (λ (b : List ℕ). read ++ b) (drop-replicate (length own) n 0) ∙ sym same ∙ ap (resized n) (sym whole)
 
--- bytes put over what was read and the zeros behind it
+-- bytes put over what was read and the zeros after it
 over : (at : ℕ) (bytes own read : List ℕ) (size : ℕ) → at ≤ length own → size ≡ length (put_at at bytes own) → length read ≡ length own
     → put_at at bytes (read ++ drop (length own) (zeros size)) ≡ put_at at bytes (read ++ drop (length own) own)
 over at bytes own read size within is long =

@@ -1,4 +1,4 @@
--- The place for a row's bytes: what stands in the heap once it is made, and which handles serve as they are.
+-- The place for a row's bytes: what is in the heap once it is made, and which handles serve as they are.
 use Rattle.std.proofs.Common.{◌≡◌, ℕ, Bool, true, false, cond, List, [], Option, Some, None, Result, Ok, Err, refl, ap, sym, ◌∙◌, subst, arith}
 use Rattle.std.specs.Prelude.{◌==◌, ◌||◌, IfOk, is_ok}
 use Rattle.std.specs.Option.{option_or}
@@ -12,7 +12,7 @@ use Rattle.mac_base.specs.HandleTable.{HandleTable, Live, EmptyHandle, FullHandl
 use Rattle.mac_base.specs.Heap.{Heap}
 use Rattle.mac_base.specs.Loans.{LoansAreFixed}
 use Rattle.mac_base.specs.Sound.{Sound}
-use Rattle.mac_base.specs.ZoneMap.{address_behind}
+use Rattle.mac_base.specs.ZoneMap.{address_after}
 use Rattle.mac_base.specs.ZoneState.{ZoneState}
 use Rattle.mac_base.specs.declared.request.Request.TheVariants.{NewBlock, Replace}
 use Rattle.mac_base.specs.declared.memory_call.MemoryCall.TheVariants.{NewHandle, ReallocateHandle, HGetState}
@@ -34,7 +34,7 @@ pub handle-not_nil : (s : Shape) (heap : Heap) (h : ℕ) → Sound s heap → is
 handle-not_nil s heap h sound live =
     let suits = sound.suits in
     let coherent = suits.coherent in
-    let above = slots_at-above (head_size s.heads) slot_count (address_behind s []) heap.map h (rooms-suits s heap.table heap.map suits) (coherent.in_slots h live) in
+    let above = slots_at-above (head_size s.heads) slot_count (address_after s []) heap.map h (rooms-suits s heap.table heap.map suits) (coherent.in_slots h live) in
     grind (arith, nat_tests, above)
 
 -- a new block of a table whose loans are fixed isn't lent

@@ -1,4 +1,4 @@
--- The update of one row, and where it stands.
+-- The update of one row, and where it is.
 use Rattle.std.proofs.Common.{◌≡◌, ℕ, Bool, true, false, cond, ◌||◌, List, [], ◌∷◌, find, Option, Some, None, slice_get, option_map, option_and_then, refl}
 use Rattle.std.specs.Prelude.{IsTrue, IsSomeAnd}
 use Rattle.std.specs.List.{list_any}

@@ -112,8 +112,8 @@ module _ {S : Type 0} (fork : S → List ℕ) (zone : ZoneState) (on : FilesOn S
       let P : ResourceCall → Type 0 = λ d. first_refused_for (state_of fork zone on) (early_tests d) ≡ None in
       let state : ResState = state_of fork zone on in
       let all : first_refused_for state (HasFile ∷ IsOpen named ∷ AllUnlent named ∷ []) ≡ None = subst P call passed in
-      let behind = both_passed (refused_for state HasFile) (first_refused_for state (IsOpen named ∷ AllUnlent named ∷ [])) all in
-      let last = both_passed (refused_for state (IsOpen named)) (first_refused_for state (AllUnlent named ∷ [])) behind.1 in
+      let following = both_passed (refused_for state HasFile) (first_refused_for state (IsOpen named ∷ AllUnlent named ∷ [])) all in
+      let last = both_passed (refused_for state (IsOpen named)) (first_refused_for state (AllUnlent named ∷ [])) following.1 in
       let unlent : list_any (is_lent_row zone.heap.table) (rows_named named on.files) ≡ false = passed_not MemLockedErr _ (sym (or_none _) ∙ last.1) in
       let Q : Option ℕ → Type 0 = λ o. list_any (is_lent_row zone.heap.table) (option_map_or (λ j. rows_of j on.files) o []) ≡ false in
       any_fewer is_changed (is_lent_row zone.heap.table) (rows_of k on.files) (subst Q file unlent)

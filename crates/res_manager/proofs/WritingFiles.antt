@@ -20,7 +20,7 @@ use Rattle.res_update.specs.Answered.{AnswersFor, IsAnswered, known_files}
 use Rattle.res_update.specs.Device.{Device, Disk}
 use Rattle.res_update.specs.Device as device
 use Rattle.res_update.specs.Files.{ResState, with_disk, with_files}
-use Rattle.res_update.specs.Updates.{Update, behind_update, fits_fork, update_end, update_of}
+use Rattle.res_update.specs.Updates.{Update, after_update, fits_fork, update_end, update_of}
 use Rattle.res_files.specs.FilesOn.{FailedAt, FilesOn, HonestAt, NoneFailed, fork_of}
 use Rattle.res_table.specs.OpenFiles.{file_closed, rows_changed, table_of}
 use Rattle.res_manager.specs.Ends.{IsUnwritten, Writes, WritesFile}
@@ -156,8 +156,8 @@ module _ {S : Type 0} (store : Ghosts S) (zone : ZoneState) (on after : FilesOn 
   writes_faulted BeforeFirstWrite room before forks closed later cause cause_later = writes_none room (before refl) (λ honest. forks honest refl) (cause refl)
   writes_faulted Later room before forks closed later cause cause_later = writes_part room (closed refl) (λ honest. later honest refl) (cause_later refl)
 
--- calls that do the same behind an update end alike
-pub writes_as : {S : Type 0} (store : Ghosts S) (zone new : ZoneState) (on after : FilesOn S) (u : Update) (d c : ResourceCall) (outcome : Outcome) → ((k : ℕ) (state : ResState) → behind_update c k state ≡ behind_update d k state)
+-- calls that do the same after an update end alike
+pub writes_as : {S : Type 0} (store : Ghosts S) (zone new : ZoneState) (on after : FilesOn S) (u : Update) (d c : ResourceCall) (outcome : Outcome) → ((k : ℕ) (state : ResState) → after_update c k state ≡ after_update d k state)
     → WritesFile store zone on d u outcome new after → WritesFile store zone on c u outcome new after
 writes_as store zone new on after u d c outcome same all = by_case (fits_fork u.table) all
   where

@@ -1,4 +1,4 @@
--- What a start may find behind a crash in a call of the Resource Manager.
+-- What a start may find after a crash in a call of the Resource Manager.
 use Rattle.std.specs.Prelude.{◌≡◌, ℕ, ◌≤◌, ◌⊎◌, List, Option, Some, None, Result, IfSome, IfOk, OnOk, OnErr}
 use Rattle.std.specs.Option.{IsSomeAnd}
 use Rattle.mac_base.specs.ZoneState.{ZoneState}

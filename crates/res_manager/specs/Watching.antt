@@ -5,7 +5,7 @@ use Rattle.mac_base.specs.Released.{disposed_in}
 use Rattle.res_files.specs.FilesOn.{FilesOn}
 use Rattle.res_update.specs.Changes.{handles_forgotten}
 
--- the files behind these asks: no row has a handle of which their answers disposed
+-- the files after these asks: no row has a handle of which their answers disposed
 abbrev pub files_after : {S : Type 0} → List Ask → FilesOn S → FilesOn S
 files_after asks files = record files { files = handles_forgotten (disposed_in asks) files.files }
 

@@ -1,4 +1,4 @@
-//! The bytes behind handles, for an update.
+//! The bytes after handles, for an update.
 
 ghost use Rattle.std.specs.Prelude.{◌≡◌, ◌≤◌, length, IsFalse};
 ghost use Rattle.fork_bytes.specs.Fork.{max_fork};
@@ -11,7 +11,7 @@ use mem_calls::MemoryManager;
 use res_update::contents::Contents;
 use std::marker::Model;
 
-/// Where the bytes behind handles are.
+/// Where the bytes after handles are.
 #[derive(Drop)]
 enum Source<'a> {
     /// In the blocks of a zone.
@@ -20,14 +20,14 @@ enum Source<'a> {
     Alone(Handle, &'a [u8]),
 }
 
-/// The bytes behind handles, of which a contract sees the handle table. They have one type, so that an update is
+/// The bytes after handles, of which a contract sees the handle table. They have one type, so that an update is
 /// compiled once.
 #[derive(Drop)]
-pub(crate) struct Behind<'a> {
+pub(crate) struct After<'a> {
     source: Source<'a>,
 }
 
-impl<'a> Model for Behind<'a> {
+impl<'a> Model for After<'a> {
     ghost use Rattle.mac_base.specs.HandleTable.{HandleTable};
     ghost use Rattle.res_manager.specs.Contents.{is_small, table_of};
 
@@ -38,22 +38,22 @@ impl<'a> Model for Behind<'a> {
     ghost invariant = { λ b. is_small b.source };
 }
 
-impl<'a> Behind<'a> {
-    /// The bytes behind the handles of this zone.
-    pub(crate) fn zone(memory: &'a MemoryManager) -> Behind<'a>
+impl<'a> After<'a> {
+    /// The bytes after the handles of this zone.
+    pub(crate) fn zone(memory: &'a MemoryManager) -> After<'a>
         ensures { result ≡ memory.now.heap.table }
     {
-        Behind {
+        After {
             source: Source::Zone(memory),
         }
     }
 
     /// These bytes, for the row with a handle.
-    pub(crate) fn alone(handle: Handle, bytes: &'a [u8]) -> Behind<'a>
+    pub(crate) fn alone(handle: Handle, bytes: &'a [u8]) -> After<'a>
         requires { length bytes.now ≤ max_fork }
         ensures { result ≡ live_alone handle bytes.now }
     {
-        Behind {
+        After {
             source: Source::Alone(handle, bytes),
         }
     }
@@ -71,7 +71,7 @@ fn bytes_in(memory: &MemoryManager, handle: Handle) -> &[u8]
     }
 }
 
-impl<'a> Contents for Behind<'a> {
+impl<'a> Contents for After<'a> {
     ghost table = { λ table. table };
 
     fn bytes(&self, handle: Handle) -> &[u8] {

@@ -75,7 +75,7 @@ pub(crate) fn get_row<S: ForkStore, G: GrowZone>(
     Ok(handle)
 }
 
-/// Gives the row at a place a handle, where a row stands there.
+/// Gives the row at a place a handle, where a row is there.
 fn attach<S: ForkStore>(files: &mut ResourceFiles<S>, place: RowPlace, handle: Handle)
     ensures attached { IsSome (row_at place files.old.files) → files.new ≡ record files.old { files = row_changed place (with_handle (Some handle)) files.old.files } }
     ensures stores { files.new.stores ≡ files.old.stores }

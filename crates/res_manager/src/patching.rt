@@ -17,7 +17,7 @@ ghost use Rattle.res_manager.specs.Ends.{WritesFile};
 ghost use Rattle.res_manager.specs.Patching.{HasHandle, LeavesPatch, MakesOf, PatchesAt, PatchesOn, ends_within, put_over, update_with};
 ghost use Rattle.res_manager.specs.Steps.{state_of};
 
-use crate::contents::Behind;
+use crate::contents::After;
 use crate::partial::{end_of_part, length_at};
 use crate::quiet::attributes_at;
 use crate::tests::is_full;
@@ -217,7 +217,7 @@ fn write_bytes<S: ForkStore>(
     ensures same { OnErr result (files.new ≡ files.old) }
 {
     let attributes = attributes_at(files, place);
-    let contents = Behind::alone(handle, bytes);
+    let contents = After::alone(handle, bytes);
     match files.update(place.file, Selection::RowAt(place.index), &contents) {
         Ok(()) => {
             files.set_attributes(place, attributes);

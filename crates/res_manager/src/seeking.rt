@@ -42,7 +42,7 @@ pub fn seek<S: ForkStore, G: GrowZone>(
     }
 }
 
-/// Where the resource stands that a call seeks, or why the call is refused.
+/// Where the resource is that a call seeks, or why the call is refused.
 fn find_sought<S: ForkStore>(
     files: &ResourceFiles<S>,
     call: &SeekingCall<'_>,
@@ -56,7 +56,7 @@ fn find_sought<S: ForkStore>(
     find_place(files, call).ok_or(OsErr::ResNotFound)
 }
 
-/// Where the resource stands that a call seeks, if there is one.
+/// Where the resource is that a call seeks, if there is one.
 fn find_place<S: ForkStore>(files: &ResourceFiles<S>, call: &SeekingCall<'_>) -> Option<RowPlace>
     ensures value { result ≡ place_sought call.now files.now.files }
     ensures there { IfSome result (λ place. IsSome (row_at place files.now.files)) }

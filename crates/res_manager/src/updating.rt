@@ -14,7 +14,7 @@ ghost use Rattle.res_manager.specs.Tests.{AreLent};
 ghost use Rattle.res_table.specs.OpenFiles.{is_open};
 ghost use Rattle.res_update.specs.Selected.{updated, reads_lent};
 
-use crate::contents::Behind;
+use crate::contents::After;
 use crate::tests::{test_changed, test_closing, test_written};
 use fork_disk::store::ForkStore;
 use mac_base::error::{HostFull, OsErr};
@@ -108,7 +108,7 @@ fn close<S: ForkStore>(
 }
 
 /// Writes a file anew. The selected rows have the bytes of their handles then, and are no longer changed. After a fault
-/// behind the first write the file is closed.
+/// after the first write the file is closed.
 fn write_file<S: ForkStore>(
     files: &mut ResourceFiles<S>,
     memory: &MemoryManager,
@@ -126,7 +126,7 @@ fn write_file<S: ForkStore>(
     ensures fits { OnErr result ((u : Update)
         → update_of number (updated memory.now.heap.table selection) files.old.files ≡ Some u → IsTrue (fits_fork u.table)) }
 {
-    let contents = Behind::zone(memory);
+    let contents = After::zone(memory);
     match files.update(number, selection, &contents) {
         Ok(()) => Ok(Ok(Results::Nothing)),
         Err(UpdateFault::TooBig) => Ok(Err(OsErr::DskFulErr)),

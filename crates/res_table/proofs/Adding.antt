@@ -1,12 +1,12 @@
--- A new row put in behind the last of its type.
+-- A new row put in after the last of its type.
 use Rattle.std.proofs.Common.{◌≡◌, refl, subst, sym, ap, ◌∙◌, arith, ℕ, suc, ◌+◌, ◌≤◌, List, [], ◌∷◌, length, Bool, true, false, not}
 use Rattle.std.specs.Prelude.{if◌then◌else◌, insert, ◌||◌, ◌&&◌}
 use Rattle.std.specs.List.{list_any}
 use Rattle.res_table.specs.declared.row.Row.{Row}
 use Rattle.res_table.specs.Rows.{is_of_type, added}
-use Rattle.res_table.specs.Behind.{last_of_type, end_of_type}
+use Rattle.res_table.specs.After.{last_of_type, end_of_type}
 
--- how many rows stand up to the last of a type
+-- how many rows are up to the last of a type
 abbrev pub up_to_last : {D : Type 0} → List ℕ → List (Row D) → ℕ
 up_to_last kind [] = 0
 up_to_last kind (r ∷ rows) = if list_any (is_of_type kind) rows then suc (up_to_last kind rows) else 1

@@ -1,4 +1,4 @@
--- All open files: how many resources and types they have, and where the i-th one stands.
+-- All open files: how many resources and types they have, and where the i-th one is.
 use Rattle.std.proofs.Common.{◌≡◌, refl, sym, ap, ◌∙◌, arith, ℕ, zero, suc, ◌+◌, ◌-◌, ◌<◌, ◌≤◌, pos, List, [], ◌∷◌, ◌++◌, length, get_or, take, drop, filter, slice_get, Bool, true, false, not, cond, ◌||◌, ◌≢◌, Option, Some, None, append_assoc, if◌then◌else◌}
 use Rattle.std.specs.Prelude.{nat_le, is_some}
 use Rattle.std.specs.List.{list_any}
@@ -38,7 +38,7 @@ pub counts_here : {D : Type 0} (kind : List ℕ) (files : List (OpenFile D)) (i 
 counts_here kind files i d within =
     at_drop_more (λ fs. count_of_type kind (all_rows fs)) files i d within ∙ counts_add kind (all_rows (drop (i + 1) files)) (get_or files i d).table.rows
 
--- the last of some files, behind the others
+-- the last of some files, after the others
 counts_last : {D : Type 0} (kind : List ℕ) (files : List (OpenFile D)) (f : OpenFile D) → count_of_type kind (all_rows (files ++ f ∷ [])) ≡ count_of_type kind (all_rows files) + count_of_type kind f.table.rows
 counts_last kind [] f = omega arith
 counts_last kind (g ∷ files) f =
@@ -77,7 +77,7 @@ any_of_all test (g ∷ files) zero d within any = list_any-append test (all_rows
     or_true false = refl
 any_of_all test (g ∷ files) (suc i) d within any = list_any-append test (all_rows files) g.table.rows ∙ ap (λ (b : Bool). b || list_any test g.table.rows) (any_of_all test files i d (omega arith) any)
 
--- no row stands behind the last of a type
+-- no row is after the last of a type
 as_many_indexes : {D : Type 0} (kind : List ℕ) (at : ℕ) (rows : List (Row D)) → length (indexes_from at (is_of_type kind) rows) ≡ count_of_type kind rows
 as_many_indexes kind at [] = refl
 as_many_indexes kind at (r ∷ rows) = by (is_of_type kind r) (as_many_indexes kind (at + 1) rows)
@@ -93,10 +93,10 @@ past_last (suc i) [] past = refl
 past_last (suc zero) (x ∷ xs) past = absurd (omega arith)
 past_last (suc (suc i)) (x ∷ xs) past = past_last (suc i) xs (omega arith)
 
-none_behind_last : {D : Type 0} (kind : List ℕ) (i : ℕ) (rows : List (Row D)) → count_of_type kind rows < i → index_of_ith kind i rows ≡ None
-none_behind_last kind i rows past = let many = as_many_indexes kind 0 rows in past_last i (indexes_from 0 (is_of_type kind) rows) (omega arith)
+none_after_last : {D : Type 0} (kind : List ℕ) (i : ℕ) (rows : List (Row D)) → count_of_type kind rows < i → index_of_ith kind i rows ≡ None
+none_after_last kind i rows past = let many = as_many_indexes kind 0 rows in past_last i (indexes_from 0 (is_of_type kind) rows) (omega arith)
 
--- where the i-th stands in a file, if it has so many
+-- where the i-th is in a file, if it has so many
 abbrev pub place_here : {D : Type 0} → List ℕ → ℕ → OpenFile D → Option RowPlace
 place_here kind i f = option_map (λ at. record { file = f.number; index = at }) (index_of_ith kind i f.table.rows)
 
@@ -114,7 +114,7 @@ ith_later {D} kind i [] f = by i (nat_le i (count_of_type kind f.table.rows)) re
     by (suc i) true is = let same : suc i - 0 ≡ suc i = omega arith in some i ∙ ap (λ (n : ℕ). place_here kind n f) same
     by (suc i) false is =
         let same : suc i - 0 ≡ suc i = omega arith in
-        some i ∙ ap (λ (n : ℕ). place_here kind n f) same ∙ ap (option_map (λ at. let place : RowPlace = record { file = f.number; index = at } in place)) (none_behind_last kind (suc i) f.table.rows (leb-false (suc i) _ is))
+        some i ∙ ap (λ (n : ℕ). place_here kind n f) same ∙ ap (option_map (λ at. let place : RowPlace = record { file = f.number; index = at } in place)) (none_after_last kind (suc i) f.table.rows (leb-false (suc i) _ is))
 ith_later {D} kind i (g ∷ files) f =
     ap (λ (n : ℕ). if nat_le i n then ith_place kind i (files ++ f ∷ []) else place_here kind (i - n) g) many
     ∙ ap (λ (p : Option RowPlace). if nat_le i (m + n) then p else place_here kind (i - (m + n)) g) (ith_later kind i files f)
@@ -218,7 +218,7 @@ all_types_few (f ∷ fs) =
     let mine = filter_few (λ kind. not (has_type kind fs)) (types_in f.table.rows) in let types = types_few f.table.rows in let deeper = all_types_few fs in
     let long = length-append (all_types fs) (new_types f.table.rows fs) in let rows = length-append (all_rows fs) f.table.rows in omega arith
 
--- those of earlier files stand behind them
+-- those of earlier files are after them
 pub types_before : {D : Type 0} (files : List (OpenFile D)) (i : ℕ) → (earlier : List (List ℕ)) × (all_types files ≡ all_types (drop i files) ++ earlier)
 types_before files zero = ([], sym (append-nil (all_types files)))
 types_before [] (suc i) = ([], refl)
@@ -226,7 +226,7 @@ types_before (f ∷ fs) (suc i) =
     let deeper = types_before fs i in
     (deeper.0 ++ new_types f.table.rows fs, ap (λ (ts : List (List ℕ)). ts ++ new_types f.table.rows fs) deeper.1 ∙ append_assoc (all_types (drop i fs)) deeper.0 (new_types f.table.rows fs))
 
--- the i-th of some things before others and behind others
+-- the i-th of some things before others and after others
 pub ith_between : {X : Type 0} (i j : ℕ) (front xs back : List X) → j + length front ≡ i → (j ≡ 0 → i ≡ 0) → j ≤ length xs → ith j xs ≡ ith i ((front ++ xs) ++ back)
 ith_between zero zero front xs back sum none few = refl
 ith_between (suc i) zero front xs back sum none few = let some = none refl in absurd (omega arith)
@@ -243,10 +243,10 @@ ith_between {X} i (suc j) front xs back sum none few = let e : i ≡ suc (length
 
 -- ids are taken further on
 pub taken_through : {D : Type 0} (kind : List ℕ) (first id to : ℕ) (rows : List (Row D)) → AreTaken kind first id rows → AreTaken kind id to rows → AreTaken kind first to rows
-taken_through kind first id to rows before behind k least less = by (nat_le id k) refl
+taken_through kind first id to rows before after k least less = by (nat_le id k) refl
   where
     by : (b : Bool) → nat_le id k ≡ b → list_any (is_resource kind (pos k)) rows ≡ true
-    by true is = behind k (leb-true id k is) less
+    by true is = after k (leb-true id k is) less
     by false is = before k least (leb-false id k is)
 
 -- those that one file takes

@@ -44,11 +44,11 @@ any_from test h (p ∷ ps) none = by (is_before p (record { key = h; place = 0 }
     by true e deeper = ap (λ (t : Bool). t || list_any test ps) (none p (ltb-true p.key h (sym (starts p h) ∙ e))) ∙ deeper
     by false e deeper = refl
 
--- where none with the key of a pair or a larger one passes it, none behind that pair does
-pub none_behind : (test : Pair → Bool) (p : Pair) (ps : List Pair) → NoneBefore p ps → ((q : Pair) → p.key ≤ q.key → test q ≡ false) → list_any test ps ≡ false
-none_behind test p [] order none = refl
-none_behind test p (q ∷ qs) order none =
-    ap (λ (t : Bool). t || list_any test qs) (none q (at_least q.key p.key q.place p.place order.0)) ∙ none_behind test p qs order.1 none
+-- where none with the key of a pair or a larger one passes it, none after that pair does
+pub none_after : (test : Pair → Bool) (p : Pair) (ps : List Pair) → NoneBefore p ps → ((q : Pair) → p.key ≤ q.key → test q ≡ false) → list_any test ps ≡ false
+none_after test p [] order none = refl
+none_after test p (q ∷ qs) order none =
+    ap (λ (t : Bool). t || list_any test qs) (none q (at_least q.key p.key q.place p.place order.0)) ∙ none_after test p qs order.1 none
 
 -- those from a key on have no ltb-true key
 pub least_key : (h : ℕ) (ps : List Pair) (i : ℕ) (d : Pair) → AreInOrder ps → i < length (drop (rank (record { key = h; place = 0 }) ps) ps) → h ≤ (get_or (drop (rank (record { key = h; place = 0 }) ps) ps) i d).key

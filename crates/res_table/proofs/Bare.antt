@@ -123,11 +123,11 @@ pub type_here : {D : Type 0} (rows : List (Row D)) (i : ℕ) (r : Row D) → i <
 type_here rows i r within is =
     ap (λ (types : List TypeCount). ith 1 (map kind_of types)) (run_first rows i r r.resource.kind within is refl) ∙ first_kind r.resource.kind 1 (types_of (drop (i + 1) (bare rows)))
 
--- behind a run there is one type less to pass over
-pub type_behind : {D : Type 0} (rows : List (Row D)) (i j left : ℕ) → i < length rows → left ≢ 1
+-- after a run there is one type less to pass over
+pub type_after : {D : Type 0} (rows : List (Row D)) (i j left : ℕ) → i < length rows → left ≢ 1
     → IfSome (slice_get (bare rows) i) (λ row. types_of (drop i (bare rows)) ≡ record { kind = row.kind; count = j - i } ∷ types_of (drop j (bare rows)))
     → ith (left - 1) (map kind_of (types_of (drop j (bare rows)))) ≡ ith left (map kind_of (types_of (drop i (bare rows))))
-type_behind {D} rows i j left within other run = by_case (drop i (bare rows)) refl
+type_after {D} rows i j left within other run = by_case (drop i (bare rows)) refl
   where
     inside : i < length (bare rows)
     inside = subst (λ (n : ℕ). i < n) (sym (length-saved (λ (_ : D). []) rows)) within

@@ -15,7 +15,7 @@ use Rattle.res_table.specs.Indexed.{handle_key, pairs_from, pairs_of}
 use Rattle.res_table.proofs.HandleKeys.{key_tells}
 use Rattle.res_table.proofs.Pairs.{order_dropped}
 use Rattle.res_table.proofs.RowPairs.{order_kept, places_below, row_is}
-use Rattle.res_table.proofs.AnyPair.{below, above, any_with, any_from, none_behind, least_key}
+use Rattle.res_table.proofs.AnyPair.{below, above, any_with, any_from, none_after, least_key}
 
 -- whether a pair has the key, and its row is changed
 abbrev pub is_changed_pair : {D : Type 0} → ℕ → List (Row D) → Pair → Bool
@@ -82,9 +82,9 @@ module _ {D : Type 0} (h k : ℕ) (rows : List (Row D)) (ps rest : List Pair) (k
       let least = subst (λ (qs : List Pair). i < length qs → k ≤ (get_or qs i d).key) (sym part) (least_key k ps i d order) within in
       let more : k < (get_or rest i d).key = omega (arith, least, other) in
       let ordered : AreInOrder rest = subst AreInOrder (sym part) (order_dropped ps (rank (record { key = k; place = 0 }) ps) order) in
-      let behind = subst AreInOrder (drop_more rest i d within) (order_dropped rest i ordered) in
+      let after = subst AreInOrder (drop_more rest i d within) (order_dropped rest i ordered) in
       this i d within ∙ ap (λ (t : Bool). t || list_any test (drop (i + 1) rest)) (larger (get_or rest i d) more)
-      ∙ none_behind test (get_or rest i d) (drop (i + 1) rest) behind.0 (λ q from. larger q (omega (arith, more, from)))
+      ∙ none_after test (get_or rest i d) (drop (i + 1) rest) after.0 (λ q from. larger q (omega (arith, more, from)))
 
   -- one with the key, by its row
   pub by_row : (i : ℕ) (d : Pair) (r : Row D) (changed : Bool) → i < length rest → (get_or rest i d).key ≡ k → r ≡ get_or rows (get_or rest i d).place r → changed ≡ is_changed r

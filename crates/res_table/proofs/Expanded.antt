@@ -50,12 +50,12 @@ place_here kind k at zero left ks is less = absurd (omega arith)
 place_here kind k at (suc n) zero ks is less = rw is (let e : at + 0 ≡ at = omega arith in ap Some (sym e))
 place_here kind k at (suc n) (suc left) ks is less = rw is (place_here kind k (at + 1) n left ks is (omega arith) ∙ (let e : at + 1 + left ≡ at + suc left = omega arith in ap Some e))
 
-pub place_behind : (kind k : List ℕ) (at n left : ℕ) (ks : List (List ℕ)) → bytes_eq k kind ≡ true → n ≤ left → slice_get (places_of at kind (replicate n k ++ ks)) left ≡ slice_get (places_of (at + n) kind ks) (left - n)
-place_behind kind k at zero left ks is least = let e : at + 0 ≡ at = omega arith in let f : left - 0 ≡ left = omega arith in rw (e, f) refl
-place_behind kind k at (suc n) zero ks is least = absurd (omega arith)
-place_behind kind k at (suc n) (suc left) ks is least =
+pub place_after : (kind k : List ℕ) (at n left : ℕ) (ks : List (List ℕ)) → bytes_eq k kind ≡ true → n ≤ left → slice_get (places_of at kind (replicate n k ++ ks)) left ≡ slice_get (places_of (at + n) kind ks) (left - n)
+place_after kind k at zero left ks is least = let e : at + 0 ≡ at = omega arith in let f : left - 0 ≡ left = omega arith in rw (e, f) refl
+place_after kind k at (suc n) zero ks is least = absurd (omega arith)
+place_after kind k at (suc n) (suc left) ks is least =
     let e : at + 1 + n ≡ at + suc n = omega arith in let f : suc left - suc n ≡ left - n = omega arith in
-    rw (is, f) (place_behind kind k (at + 1) n left ks is (omega arith) ∙ ap (λ (a : ℕ). slice_get (places_of a kind ks) (left - n)) e)
+    rw (is, f) (place_after kind k (at + 1) n left ks is (omega arith) ∙ ap (λ (a : ℕ). slice_get (places_of a kind ks) (left - n)) e)
 
 pub place_other : (kind k : List ℕ) (at n : ℕ) (ks : List (List ℕ)) → bytes_eq k kind ≡ false → places_of at kind (replicate n k ++ ks) ≡ places_of (at + n) kind ks
 place_other kind k at zero ks is = let e : at + 0 ≡ at = omega arith in ap (λ (a : ℕ). places_of a kind ks) (sym e)
@@ -65,7 +65,7 @@ pub long_run : (k : List ℕ) (n : ℕ) (ks : List (List ℕ)) → length (repli
 long_run k zero ks = omega arith
 long_run k (suc n) ks = let deeper = long_run k n ks in omega arith
 
--- runs before one, it, and those behind
+-- runs before one, it, and those after
 pub run_at : (runs : List TypeCount) (i : ℕ) (d : TypeCount) → i < length runs → expanded (drop i runs) ≡ replicate (get_or runs i d).count (get_or runs i d).kind ++ expanded (drop (suc i) runs)
 run_at [] i d within = absurd (omega arith)
 run_at (run ∷ runs) zero d within = refl
@@ -98,49 +98,49 @@ runs_more [] run = append-nil (replicate run.count run.kind)
 runs_more (first ∷ runs) run = ap (λ (ks : List (List ℕ)). replicate first.count first.kind ++ ks) (runs_more runs run) ∙ sym (append_assoc (replicate first.count first.kind) (expanded runs) (replicate run.count run.kind))
 
 -- one of a run is taken out
-pub run_less : (k : List ℕ) (before : List (List ℕ)) (n place left : ℕ) (behind : List (List ℕ)) → place ≡ length before + left → left < n
-    → remove (before ++ (replicate n k ++ behind)) place ≡ before ++ (replicate (n - 1) k ++ behind)
-run_less k [] zero place left behind is less = absurd (omega arith)
-run_less k [] (suc n) place zero behind is less = let e : place ≡ 0 = omega arith in let f : suc n - 1 ≡ n = omega arith in rw (e, f) refl
-run_less k [] (suc zero) place (suc left) behind is less = absurd (omega arith)
-run_less k [] (suc (suc n)) place (suc left) behind is less =
+pub run_less : (k : List ℕ) (before : List (List ℕ)) (n place left : ℕ) (after : List (List ℕ)) → place ≡ length before + left → left < n
+    → remove (before ++ (replicate n k ++ after)) place ≡ before ++ (replicate (n - 1) k ++ after)
+run_less k [] zero place left after is less = absurd (omega arith)
+run_less k [] (suc n) place zero after is less = let e : place ≡ 0 = omega arith in let f : suc n - 1 ≡ n = omega arith in rw (e, f) refl
+run_less k [] (suc zero) place (suc left) after is less = absurd (omega arith)
+run_less k [] (suc (suc n)) place (suc left) after is less =
     let e : place ≡ suc left = omega arith in let f : suc (suc n) - 1 ≡ suc n = omega arith in let h : suc n - 1 ≡ n = omega arith in
-    rw (e, f) (ap (λ (ks : List (List ℕ)). k ∷ ks) (run_less k [] (suc n) left left behind (omega arith) (omega arith) ∙ ap (λ (m : ℕ). replicate m k ++ behind) h))
-run_less k (b ∷ bs) n place left behind is less =
+    rw (e, f) (ap (λ (ks : List (List ℕ)). k ∷ ks) (run_less k [] (suc n) left left after (omega arith) (omega arith) ∙ ap (λ (m : ℕ). replicate m k ++ after) h))
+run_less k (b ∷ bs) n place left after is less =
     let e : place ≡ suc (length bs + left) = omega arith in
-    rw e (ap (λ (ks : List (List ℕ)). b ∷ ks) (run_less k bs n (length bs + left) left behind refl less))
+    rw e (ap (λ (ks : List (List ℕ)). b ∷ ks) (run_less k bs n (length bs + left) left after refl less))
 
--- one more of a run, behind the last of the type
-any_within : (kind k : List ℕ) (before : List (List ℕ)) (n : ℕ) (behind : List (List ℕ)) → bytes_eq k kind ≡ true → 0 < n → has_kind kind (before ++ (replicate n k ++ behind)) ≡ true
-any_within kind k [] zero behind is some = absurd (omega arith)
-any_within kind k [] (suc n) behind is some = rw is refl
-any_within kind k (b ∷ bs) n behind is some = rw (any_within kind k bs n behind is some) (by (bytes_eq b kind))
+-- one more of a run, after the last of the type
+any_within : (kind k : List ℕ) (before : List (List ℕ)) (n : ℕ) (after : List (List ℕ)) → bytes_eq k kind ≡ true → 0 < n → has_kind kind (before ++ (replicate n k ++ after)) ≡ true
+any_within kind k [] zero after is some = absurd (omega arith)
+any_within kind k [] (suc n) after is some = rw is refl
+any_within kind k (b ∷ bs) n after is some = rw (any_within kind k bs n after is some) (by (bytes_eq b kind))
   where
     by : (c : Bool) → (c || true) ≡ true
     by true = refl
     by false = refl
 
-pub run_longer : (kind k : List ℕ) (before : List (List ℕ)) (n : ℕ) (behind : List (List ℕ)) → bytes_eq k kind ≡ true → 0 < n → has_kind kind behind ≡ false
-    → with_kind kind (before ++ (replicate n k ++ behind)) ≡ before ++ (replicate (n + 1) k ++ behind)
-run_longer kind k [] zero behind is some none = absurd (omega arith)
-run_longer kind k [] (suc zero) behind is some none = rw (is, none) (ap (λ (j : List ℕ). k ∷ j ∷ behind) (sym ((bytes_eq-Decides k kind).0 is)))
-run_longer kind k [] (suc (suc n)) behind is some none =
-    let any : has_kind kind (replicate (suc n) k ++ behind) ≡ true = any_within kind k [] (suc n) behind is (omega arith) in
+pub run_longer : (kind k : List ℕ) (before : List (List ℕ)) (n : ℕ) (after : List (List ℕ)) → bytes_eq k kind ≡ true → 0 < n → has_kind kind after ≡ false
+    → with_kind kind (before ++ (replicate n k ++ after)) ≡ before ++ (replicate (n + 1) k ++ after)
+run_longer kind k [] zero after is some none = absurd (omega arith)
+run_longer kind k [] (suc zero) after is some none = rw (is, none) (ap (λ (j : List ℕ). k ∷ j ∷ after) (sym ((bytes_eq-Decides k kind).0 is)))
+run_longer kind k [] (suc (suc n)) after is some none =
+    let any : has_kind kind (replicate (suc n) k ++ after) ≡ true = any_within kind k [] (suc n) after is (omega arith) in
     let e : suc (suc n) + 1 ≡ suc (suc n + 1) = omega arith in
-    ap (λ (b : Bool). if bytes_eq k kind && not b then k ∷ kind ∷ (replicate (suc n) k ++ behind) else k ∷ with_kind kind (replicate (suc n) k ++ behind)) any
+    ap (λ (b : Bool). if bytes_eq k kind && not b then k ∷ kind ∷ (replicate (suc n) k ++ after) else k ∷ with_kind kind (replicate (suc n) k ++ after)) any
     ∙ by (bytes_eq k kind)
-    ∙ ap (λ (ks : List (List ℕ)). k ∷ ks) (run_longer kind k [] (suc n) behind is (omega arith) none)
-    ∙ ap (λ (m : ℕ). replicate m k ++ behind) (sym e)
+    ∙ ap (λ (ks : List (List ℕ)). k ∷ ks) (run_longer kind k [] (suc n) after is (omega arith) none)
+    ∙ ap (λ (m : ℕ). replicate m k ++ after) (sym e)
   where
-    by : (b : Bool) → (if b && not true then k ∷ kind ∷ (replicate (suc n) k ++ behind) else k ∷ with_kind kind (replicate (suc n) k ++ behind)) ≡ k ∷ with_kind kind (replicate (suc n) k ++ behind)
+    by : (b : Bool) → (if b && not true then k ∷ kind ∷ (replicate (suc n) k ++ after) else k ∷ with_kind kind (replicate (suc n) k ++ after)) ≡ k ∷ with_kind kind (replicate (suc n) k ++ after)
     by true = refl
     by false = refl
-run_longer kind k (b ∷ bs) n behind is some none =
-    ap (λ (c : Bool). if bytes_eq b kind && not c then b ∷ kind ∷ (bs ++ (replicate n k ++ behind)) else b ∷ with_kind kind (bs ++ (replicate n k ++ behind))) (any_within kind k bs n behind is some)
+run_longer kind k (b ∷ bs) n after is some none =
+    ap (λ (c : Bool). if bytes_eq b kind && not c then b ∷ kind ∷ (bs ++ (replicate n k ++ after)) else b ∷ with_kind kind (bs ++ (replicate n k ++ after))) (any_within kind k bs n after is some)
     ∙ by (bytes_eq b kind)
-    ∙ ap (λ (ks : List (List ℕ)). b ∷ ks) (run_longer kind k bs n behind is some none)
+    ∙ ap (λ (ks : List (List ℕ)). b ∷ ks) (run_longer kind k bs n after is some none)
   where
-    by : (c : Bool) → (if c && not true then b ∷ kind ∷ (bs ++ (replicate n k ++ behind)) else b ∷ with_kind kind (bs ++ (replicate n k ++ behind))) ≡ b ∷ with_kind kind (bs ++ (replicate n k ++ behind))
+    by : (c : Bool) → (if c && not true then b ∷ kind ∷ (bs ++ (replicate n k ++ after)) else b ∷ with_kind kind (bs ++ (replicate n k ++ after))) ≡ b ∷ with_kind kind (bs ++ (replicate n k ++ after))
     by true = refl
     by false = refl
 
@@ -153,9 +153,9 @@ kind_last kind (k ∷ ks) none = by (bytes_eq k kind) none (kind_last kind ks)
     by false is deeper = ap (λ (js : List (List ℕ)). k ∷ js) (deeper is)
 
 -- no run of the type from here on
-pub none_run : (kind k : List ℕ) (n : ℕ) (behind : List (List ℕ)) → bytes_eq k kind ≡ false → has_kind kind behind ≡ false → has_kind kind (replicate n k ++ behind) ≡ false
-none_run kind k zero behind is none = none
-none_run kind k (suc n) behind is none = rw is (none_run kind k n behind is none)
+pub none_run : (kind k : List ℕ) (n : ℕ) (after : List (List ℕ)) → bytes_eq k kind ≡ false → has_kind kind after ≡ false → has_kind kind (replicate n k ++ after) ≡ false
+none_run kind k zero after is none = none
+none_run kind k (suc n) after is none = rw is (none_run kind k n after is none)
 
 -- a run of one
 pub one_more : (k : List ℕ) (n : ℕ) → replicate (n + 1) k ≡ replicate n k ++ k ∷ []
@@ -197,7 +197,7 @@ place_some kind run at left ks is less = place_here kind run.kind at run.count l
 
 pub place_past : (kind : List ℕ) (run : TypeCount) (at left : ℕ) (ks : List (List ℕ)) → is_run_of kind run ≡ true → run.count ≤ left
     → slice_get (places_of at kind (replicate run.count run.kind ++ ks)) left ≡ slice_get (places_of (at + run.count) kind ks) (left - run.count)
-place_past kind run at left ks is least = place_behind kind run.kind at run.count left ks (some_of kind run is).0 least
+place_past kind run at left ks is least = place_after kind run.kind at run.count left ks (some_of kind run is).0 least
 
 pub place_not : (kind : List ℕ) (run : TypeCount) (at : ℕ) (ks : List (List ℕ)) → is_run_of kind run ≡ false → places_of at kind (replicate run.count run.kind ++ ks) ≡ places_of (at + run.count) kind ks
 place_not kind run at ks is = elim (none_of kind run is) [
@@ -289,7 +289,7 @@ pub run_shorter : (runs : List TypeCount) (i place : ℕ) (run : TypeCount) → 
     → expanded (set runs i (record { kind = run.kind; count = run.count - 1 })) ≡ remove (expanded runs) place
 run_shorter runs i place run within is start end = runs_set runs i (record { kind = run.kind; count = run.count - 1 }) within ∙ sym (left_in runs i place run within is start end)
 
--- a row that is there stands behind fewer runs than all
+-- a row that is there is after fewer runs than all
 pub run_inside : (runs : List TypeCount) (i left place : ℕ) → place ≡ length (expanded (take i runs)) + left → place < length (expanded runs) → i < length runs
 run_inside runs i left place all some = elim (cases_lt i (length runs)) [
   | inl inside ↦ inside

@@ -56,9 +56,9 @@ earliest_in test files i f index within is found =
     ∙ ap (λ (file : OpenFile _). option_or (place_in test file) (earliest_place test (drop (i + 1) files))) (sym is)
     ∙ ap (λ (at : Option ℕ). option_or (option_map (λ i. let place : RowPlace = record { file = f.number; index = i } in place) at) (earliest_place test (drop (i + 1) files))) found
 
-pub earliest_behind : {D : Type 0} (test : Row D → Bool) (files : List (OpenFile D)) (i : ℕ) (f : OpenFile D) → i < length files → f ≡ get_or files i f
+pub earliest_after : {D : Type 0} (test : Row D → Bool) (files : List (OpenFile D)) (i : ℕ) (f : OpenFile D) → i < length files → f ≡ get_or files i f
     → position test f.table.rows ≡ None → earliest_place test (drop (i + 1) files) ≡ earliest_place test (drop i files)
-earliest_behind test files i f within is none =
+earliest_after test files i f within is none =
     sym (ap (earliest_place test) (drop_more files i f within)
     ∙ ap (λ (file : OpenFile _). option_or (place_in test file) (earliest_place test (drop (i + 1) files))) (sym is)
     ∙ ap (λ (at : Option ℕ). option_or (option_map (λ i. let place : RowPlace = record { file = f.number; index = i } in place) at) (earliest_place test (drop (i + 1) files))) none)

@@ -7,9 +7,9 @@ use Rattle.std.proofs.lemmas.Bool.Decides.{nat_tests}
 use Rattle.res_table.specs.declared.row.Row.{Row}
 use Rattle.res_table.specs.Rows.{has_handle, with_handle, changed_at, forgetting, forgotten}
 
--- a change behind the first row
-pub changed_behind : {D : Type 0} (change : Row D → Row D) (r : Row D) (rows : List (Row D)) (i : ℕ) → changed_at (suc i) change (r ∷ rows) ≡ r ∷ changed_at i change rows
-changed_behind change r rows i = by (slice_get rows i)
+-- a change after the first row
+pub changed_after : {D : Type 0} (change : Row D → Row D) (r : Row D) (rows : List (Row D)) (i : ℕ) → changed_at (suc i) change (r ∷ rows) ≡ r ∷ changed_at i change rows
+changed_after change r rows i = by (slice_get rows i)
   where
     by : (found : Option _) → option_map_or (λ x. set (r ∷ rows) (suc i) (change x)) found (r ∷ rows) ≡ r ∷ option_map_or (λ x. set rows i (change x)) found rows
     by None = refl
@@ -35,7 +35,7 @@ pub forgets_at : {D : Type 0} (h : ℕ) (rows : List (Row D)) (i : ℕ) (d : Row
 forgets_at h [] i d within has = absurd (omega arith)
 forgets_at h (r ∷ rows) zero d within has = ap (λ (b : Bool). (if b then with_handle None r else r) ∷ forgotten h rows) (sym has)
 forgets_at h (r ∷ rows) (suc i) d within has =
-    ap (forgotten h) (changed_behind (with_handle None) r rows i) ∙ ap (λ rs. forgetting h r ∷ rs) (forgets_at h rows i d (omega arith) has)
+    ap (forgotten h) (changed_after (with_handle None) r rows i) ∙ ap (λ rs. forgetting h r ∷ rs) (forgets_at h rows i d (omega arith) has)
 
 -- how many rows have a handle
 abbrev pub holders : {D : Type 0} → ℕ → List (Row D) → ℕ
@@ -51,7 +51,7 @@ fewer_have h (r ∷ rows) zero d within has = by (has_handle h r) has
     by : (b : Bool) → b ≡ true → holders h rows < (if b then holders h rows + 1 else holders h rows)
     by true is = omega arith
     by false is = absurd (cc is)
-fewer_have h (r ∷ rows) (suc i) d within has = rw (changed_behind (with_handle None) r rows i) (by (has_handle h r) (fewer_have h rows i d (omega arith) has))
+fewer_have h (r ∷ rows) (suc i) d within has = rw (changed_after (with_handle None) r rows i) (by (has_handle h r) (fewer_have h rows i d (omega arith) has))
   where
     by : (b : Bool) → holders h (changed_at i (with_handle None) rows) < holders h rows
         → (if b then holders h (changed_at i (with_handle None) rows) + 1 else holders h (changed_at i (with_handle None) rows)) < (if b then holders h rows + 1 else holders h rows)

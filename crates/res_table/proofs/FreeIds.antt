@@ -78,8 +78,8 @@ free_after kind rows (suc n) first (suc place) few taken free =
     ∙ next
 
 -- it isn't among those that are taken
-free_behind : {D : Type 0} (kind : List ℕ) (rows : List (Row D)) (n first place : ℕ) → place ≤ n → AreTaken kind first (first + place) rows → first + place ≤ free_id_from n first kind rows
-free_behind kind rows n first zero few taken = least n first
+free_past : {D : Type 0} (kind : List ℕ) (rows : List (Row D)) (n first place : ℕ) → place ≤ n → AreTaken kind first (first + place) rows → first + place ≤ free_id_from n first kind rows
+free_past kind rows n first zero few taken = least n first
   where
     least : (n first : ℕ) → first + 0 ≤ free_id_from n first kind rows
     least zero first = omega arith
@@ -88,9 +88,9 @@ free_behind kind rows n first zero few taken = least n first
         by : (b : Bool) → first + 1 + 0 ≤ free_id_from n (first + 1) kind rows → first + 0 ≤ (if b then free_id_from n (first + 1) kind rows else first)
         by true deeper = omega arith
         by false deeper = omega arith
-free_behind kind rows zero first (suc place) few taken = absurd (omega arith)
-free_behind kind rows (suc n) first (suc place) few taken =
-    let deeper = free_behind kind rows n (first + 1) place (omega arith) (λ id least less. taken id (omega arith) (omega arith)) in
+free_past kind rows zero first (suc place) few taken = absurd (omega arith)
+free_past kind rows (suc n) first (suc place) few taken =
+    let deeper = free_past kind rows n (first + 1) place (omega arith) (λ id least less. taken id (omega arith) (omega arith)) in
     let here = ap (λ (b : Bool). if b then free_id_from n (first + 1) kind rows else first) (taken first (omega arith) (omega arith)) in
     omega (arith, here, deeper)
 
@@ -172,4 +172,4 @@ unique_is kind id rows least taken free =
 pub none_unique : {D : Type 0} (kind : List ℕ) (rows : List (Row D)) → AreTaken kind 128 (largest_id + 1) rows → (largest_id < unique_id kind rows) × (32640 ≤ length rows)
 none_unique kind rows taken =
     let few = few_taken kind 128 (largest_id + 1) rows taken in
-    let behind = free_behind kind rows (length rows) 128 32640 (omega arith) taken in (omega arith, omega arith)
+    let after = free_past kind rows (length rows) 128 32640 (omega arith) taken in (omega arith, omega arith)

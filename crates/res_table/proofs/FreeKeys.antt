@@ -6,15 +6,15 @@ use Rattle.std.proofs.lemmas.Bool.{eq-eqb}
 use Rattle.res_table.specs.declared.keyed.Pair.{Pair}
 use Rattle.res_table.specs.Keyed.{rank, has_pair, NoneBefore, AreInOrder}
 use Rattle.res_table.proofs.Pairs.{order_dropped}
-use Rattle.res_table.proofs.AnyPair.{below, above, any_from, none_behind}
+use Rattle.res_table.proofs.AnyPair.{below, above, any_from, none_after}
 
 -- no pair before the first one of a key has it, or a larger one
-behind_rank : (h k : ℕ) (ps : List Pair) → h ≤ k → has_pair k ps ≡ has_pair k (drop (rank (record { key = h; place = 0 }) ps) ps)
-behind_rank h k ps least = any_from (λ p. p.key == k) h ps (λ p less. below p.key k (omega arith))
+after_rank : (h k : ℕ) (ps : List Pair) → h ≤ k → has_pair k ps ≡ has_pair k (drop (rank (record { key = h; place = 0 }) ps) ps)
+after_rank h k ps least = any_from (λ p. p.key == k) h ps (λ p less. below p.key k (omega arith))
 
--- nor does one behind a pair with a larger one
+-- nor does one after a pair with a larger one
 none_has : (p : Pair) (ps : List Pair) (k : ℕ) → NoneBefore p ps → k < p.key → has_pair k ps ≡ false
-none_has p ps k none less = none_behind (λ q. q.key == k) p ps none (λ q least. above q.key k (omega arith))
+none_has p ps k none less = none_after (λ q. q.key == k) p ps none (λ q least. above q.key k (omega arith))
 
 -- pairs have the keys up to this one, and from it on those that are left tell
 abbrev pub AreTaken : ℕ → ℕ → List Pair → List Pair → Type 0
@@ -22,7 +22,7 @@ AreTaken key free ps rest = ((k : ℕ) → key ≤ k → k < free → has_pair k
 
 pub taken_first : (h start : ℕ) (ps rest : List Pair) → start ≡ rank (record { key = h; place = 0 }) ps → rest ≡ drop start ps → AreTaken h h ps rest
 taken_first h start ps rest is left =
-    (λ k least less. absurd (omega arith), λ k least. behind_rank h k ps least ∙ ap (λ (n : ℕ). has_pair k (drop n ps)) (sym is) ∙ ap (has_pair k) (sym left))
+    (λ k least less. absurd (omega arith), λ k least. after_rank h k ps least ∙ ap (λ (n : ℕ). has_pair k (drop n ps)) (sym is) ∙ ap (has_pair k) (sym left))
 
 -- one more pair is looked at
 looked_at : (i k : ℕ) (d : Pair) (rest : List Pair) → i < length rest → has_pair k (drop i rest) ≡ (((get_or rest i d).key == k) || has_pair k (drop (i + 1) rest))
@@ -54,9 +54,9 @@ taken_more key free i d ps rest within same before =
 -- or a larger one, as all that are left
 pub free_before : (key free i : ℕ) (d : Pair) (ps rest : List Pair) → i < length rest → AreInOrder rest → free < (get_or rest i d).key → AreTaken key free ps (drop i rest) → has_pair free ps ≡ false
 free_before key free i d ps rest within order less before =
-    let behind = subst AreInOrder (drop_more rest i d within) (order_dropped rest i order) in
+    let after = subst AreInOrder (drop_more rest i d within) (order_dropped rest i order) in
     before.1 free (omega arith) ∙ looked_at i free d rest within ∙ ap (λ (t : Bool). t || has_pair free (drop (i + 1) rest)) (above (get_or rest i d).key free less)
-    ∙ none_has (get_or rest i d) (drop (i + 1) rest) free behind.0 less
+    ∙ none_has (get_or rest i d) (drop (i + 1) rest) free after.0 less
 
 -- or there is none
 pub free_last : (key free i : ℕ) (ps rest : List Pair) → length rest ≤ i → AreTaken key free ps (drop i rest) → has_pair free ps ≡ false

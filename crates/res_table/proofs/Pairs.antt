@@ -6,7 +6,7 @@ use Rattle.std.proofs.lemmas.Bool.Decides.{nat_tests}
 use Rattle.res_table.specs.declared.keyed.Pair.{Pair}
 use Rattle.res_table.specs.Keyed.{is_before, rank, with_pair, without_pair, with_key, without_key, pushed_back, pulled_up, first_place, NoneBefore, AreInOrder}
 
--- pairs stand in an order
+-- pairs are in an order
 by_numbers : (g h a b : ℕ) → (nat_lt g h || (g == h && nat_lt a b)) ≡ true → (nat_lt h g || (h == g && nat_lt b a)) ≡ false
 by_numbers g h a b is = grind (arith, nat_tests)
 
@@ -22,7 +22,7 @@ none_through p q r first second = through p.key q.key r.key p.place q.place r.pl
 onto : (g h i a b c : ℕ) → (nat_lt g h || (g == h && nat_lt a b)) ≡ true → (nat_lt g i || (g == i && nat_lt a c)) ≡ false → (nat_lt i h || (i == h && nat_lt c b)) ≡ true
 onto g h i a b c first second = grind (arith, nat_tests)
 
--- what stands before one, and not before another
+-- what is before one, and not before another
 pub between : (z x y : Pair) → is_before z x ≡ true → is_before z y ≡ false → is_before y x ≡ true
 between z x y first second = onto z.key x.key y.key z.place x.place y.place first second
 
@@ -69,7 +69,7 @@ commute_key None h a b ps = refl
 commute_key (Some g) None a b ps = refl
 commute_key (Some g) (Some h) a b ps = commute _ _ ps
 
--- a pair stands at its rank
+-- a pair is at its rank
 pub insert_is : (p : Pair) (ps : List Pair) → insert ps (rank p ps) p ≡ with_pair p ps
 insert_is p [] = refl
 insert_is p (q ∷ qs) = by (is_before q p) (insert_is p qs)
@@ -118,8 +118,8 @@ pub push_at : (k a b : ℕ) (h : Option ℕ) (ps : List Pair) → ((g : ℕ) →
 push_at k a b None ps is = refl
 push_at k a b (Some g) ps is = push_with k _ ps ∙ ap (λ (p : Pair). with_pair p (map (pushed_back k) ps)) (is g)
 
-pub behind : (k a : ℕ) (g : ℕ) → k ≤ a → pushed_back k (record { key = g; place = a }) ≡ record { key = g; place = a + 1 }
-behind k a g at_least = let e : nat_le k a ≡ true = grind (arith, nat_tests) in rw e refl
+pub after : (k a : ℕ) (g : ℕ) → k ≤ a → pushed_back k (record { key = g; place = a }) ≡ record { key = g; place = a + 1 }
+after k a g at_least = let e : nat_le k a ≡ true = grind (arith, nat_tests) in rw e refl
 
 pub before : (k a : ℕ) (g : ℕ) → a < k → pushed_back k (record { key = g; place = a }) ≡ record { key = g; place = a }
 before k a g below = let e : nat_le k a ≡ false = grind (arith, nat_tests) in rw e refl
@@ -145,7 +145,7 @@ length-with p (q ∷ qs) = by (is_before q p) (length-with p qs)
     by true deeper = ap suc deeper
     by false deeper = refl
 
--- they stand in order
+-- they are in order
 none_before_with : (q p : Pair) (ps : List Pair) → is_before p q ≡ false → NoneBefore q ps → NoneBefore q (with_pair p ps)
 none_before_with q p [] first none = (first, tt)
 none_before_with q p (r ∷ rs) first none = by (is_before r p) (none_before_with q p rs first none.1)
@@ -183,7 +183,7 @@ pub order_without : (h : Option ℕ) (a : ℕ) (ps : List Pair) → AreInOrder p
 order_without None a ps order = order
 order_without (Some g) a ps order = order_removed ps _ order
 
--- those before a pair stand at the front
+-- those before a pair are at the front
 pub none_at : (p : Pair) (ps : List Pair) (j : ℕ) (d : Pair) → NoneBefore p ps → j < length ps → is_before (get_or ps j d) p ≡ false
 none_at p [] j d none within = absurd (omega arith)
 none_at p (q ∷ qs) zero d none within = none.0
@@ -206,7 +206,7 @@ rank_is x (p ∷ ps) zero within below above = rw (above 0 p (omega arith) (omeg
 rank_is x (p ∷ ps) (suc i) within below above =
     rw (below 0 p (omega arith)) (ap suc (rank_is x ps i (omega arith) (λ k d less. below (suc k) d (omega arith)) (λ k d least less. above (suc k) d (omega arith) (omega arith))))
 
--- a pair belongs behind those before it, and not behind others
+-- a pair belongs after those before it, and not after others
 pub rank_over : (x : Pair) (ps : List Pair) (i : ℕ) (d : Pair) → AreInOrder ps → i < length ps → is_before (get_or ps i d) x ≡ true → i < rank x ps
 rank_over x [] i d order within is = absurd (omega arith)
 rank_over x (p ∷ ps) zero d order within is = rw is (omega arith)
@@ -255,7 +255,7 @@ rank_between x ps from to least most =
     let e = rank_dropped x ps from least in
     let f : rank x (take (to - from) (drop from ps)) ≡ rank x (drop from ps) = rank_taken x (drop from ps) (to - from) (omega arith) in omega arith
 
--- some of them in a row stand in order too
+-- some of them in a row are in order too
 pub order_dropped : (ps : List Pair) (n : ℕ) → AreInOrder ps → AreInOrder (drop n ps)
 order_dropped ps zero order = order
 order_dropped [] (suc n) order = tt
@@ -305,7 +305,7 @@ first_some h (p ∷ ps) d within = by (is_before p (record { key = h; place = 0 
     by true less deeper = deeper (omega arith)
     by false less deeper = refl
 
--- what stands before the pairs of a key
+-- what is before the pairs of a key
 starts_at : (g h a : ℕ) → (nat_lt g h || (g == h && nat_lt a 0)) ≡ nat_lt g h
 starts_at g h a = grind (arith, nat_tests)
 
@@ -316,12 +316,12 @@ less_or_same : (g h : ℕ) → nat_lt g h ≡ true → (g == h) ≡ true → ⊥
 less_or_same g h less same = grind (arith, nat_tests)
 
 found_before : (g h q a b : ℕ) → a < b → (nat_lt q g || (q == g && nat_lt b a)) ≡ true → nat_lt q h ≡ false → (g == h) ≡ true → ⊥
-found_before g h q a b behind_it first least same = grind (arith, nat_tests)
+found_before g h q a b after_it first least same = grind (arith, nat_tests)
 
 past_it : (g h q a b : ℕ) → (nat_lt q g || (q == g && nat_lt b a)) ≡ false → nat_lt g h ≡ false → (g == h) ≡ false → (nat_lt q h ≡ false) × ((q == h) ≡ false)
 past_it g h q a b first least other = (grind (arith, nat_tests), grind (arith, nat_tests))
 
--- all of the rows of pairs stand from this index on
+-- all of the rows of pairs are from this index on
 abbrev pub AreFrom : ℕ → List Pair → Type 0
 AreFrom low [] = Unit {0}
 AreFrom low (p ∷ ps) = (low ≤ p.place) × AreFrom low ps
@@ -374,7 +374,7 @@ first_with h at g (q ∷ qs) all =
         rw (starts p h) (later (nat_lt g h) (g == h) refl refl first ∙ ap (λ (t : Bool). if t then Some at else first_place h (q ∷ qs)) same
         ∙ ap (λ (t : Bool). if f then Some at else if t then first_place h qs else here) least)
 
--- all of them stand before this one
+-- all of them are before this one
 abbrev pub AreBelow : ℕ → List Pair → Type 0
 AreBelow high [] = Unit {0}
 AreBelow high (p ∷ ps) = (p.place < high) × AreBelow high ps

@@ -3,7 +3,7 @@ use Rattle.std.proofs.Common.{◌≡◌, refl, ap, ◌∙◌, arith, ℕ, zero, 
 use Rattle.std.specs.List.{list_any}
 use Rattle.res_table.specs.declared.row.Row.{Row}
 use Rattle.res_table.specs.Rows.{is_of_type, added, indexes_from, count_of_type}
-use Rattle.res_table.specs.Behind.{last_of_type}
+use Rattle.res_table.specs.After.{last_of_type}
 use Rattle.res_table.specs.Kinds.{has_kind, count_of, places_of, end_of, with_kind}
 use Rattle.res_table.specs.Indexed.{kinds_of}
 

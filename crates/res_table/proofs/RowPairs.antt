@@ -12,13 +12,13 @@ use Rattle.res_table.specs.Rows.{has_handle, changed_at, opened_row}
 use Rattle.res_table.specs.Keyed.{key_of_handle, key_of_resource, with_pair, with_key, without_key, pushed_back, pulled_up, first_place, AreInOrder, in_order}
 use Rattle.res_table.specs.Indexed.{handle_key, resource_key, pairs_from, pairs_of}
 use Rattle.res_table.proofs.HandleKeys.{key_tells}
-use Rattle.res_table.proofs.Pairs.{AreBelow, AreFrom, before, behind, below_at, below_with, commute_key, first_with, from_less, from_with, length-with, order_pushed_from, order_with, pull_push, push_at, without_key_with}
+use Rattle.res_table.proofs.Pairs.{AreBelow, AreFrom, before, after, below_at, below_with, commute_key, first_with, from_less, from_with, length-with, order_pushed_from, order_with, pull_push, push_at, without_key_with}
 
--- all rows stand behind
+-- all rows are after
 pub push_all : {D : Type 0} (key : Row D → Option ℕ) (k at : ℕ) (rows : List (Row D)) → k ≤ at → map (pushed_back k) (pairs_from key at rows) ≡ pairs_from key (at + 1) rows
 push_all key k at [] least = refl
 push_all key k at (r ∷ rows) least =
-    push_at k at (at + 1) (key r) (pairs_from key (at + 1) rows) (λ g. behind k at g least)
+    push_at k at (at + 1) (key r) (pairs_from key (at + 1) rows) (λ g. after k at g least)
     ∙ ap (with_key (key r) (at + 1)) (push_all key k (at + 1) rows (omega arith))
 
 -- a row is put in
@@ -82,7 +82,7 @@ few_pairs key at (r ∷ rows) = by (key r) (few_pairs key (at + 1) rows)
     by None deeper = omega arith
     by (Some k) deeper = let one = length-with (record { key = k; place = at }) (pairs_from key (at + 1) rows) in omega arith
 
--- they stand in order
+-- they are in order
 pub pairs_in_order : {D : Type 0} (key : Row D → Option ℕ) (at : ℕ) (rows : List (Row D)) → AreInOrder (pairs_from key at rows)
 pairs_in_order key at [] = tt
 pairs_in_order key at (r ∷ rows) = by (key r) (pairs_in_order key (at + 1) rows)
@@ -196,7 +196,7 @@ pub replaced_few : {D : Type 0} (key : Row D → Option ℕ) (i : ℕ) (new : Ro
 replaced_few key i new rows ps room is few =
     let count = ap (λ (qs : List Pair). length qs) is in let less = few_pairs key 0 (set rows i new) in let n = length-set rows i new in omega arith
 
--- the pairs of rows as they come, of which the first stands here
+-- the pairs of rows as they come, of which the first is here
 abbrev pub listed : {D : Type 0} → ℕ → List (Row D) → List Pair
 listed at [] = []
 listed at (r ∷ rows) = record { key = key_of_resource r.resource.kind r.resource.id; place = at } ∷ listed (at + 1) rows

@@ -27,7 +27,7 @@ not_other kind (suc n) ks =
 some_rows : (n : ℕ) → nat_lt 0 (suc n) ≡ true
 some_rows n = lt-ltb 0 (suc n) (omega arith)
 
--- a run behind a type: it has one more, if it has rows of another
+-- a run after a type: it has one more, if it has rows of another
 pub run_counted : (last : Option (List ℕ)) (kind : List ℕ) (n : ℕ) (ks : List (List ℕ))
     → changes last (replicate n kind ++ ks) ≡ (if is_other last kind && nat_lt 0 n then 1 else 0) + changes (if nat_lt 0 n then Some kind else last) ks
 run_counted last kind zero ks = by (is_other last kind)
@@ -61,13 +61,13 @@ other_is kind last = by (bytes_eq last.kind kind) (nat_lt 0 last.count) refl
     by true false is = refl
     by false false is = refl
 
--- how many types there are behind the last run with rows, told by the next run
+-- how many types there are after the last run with rows, told by the next run
 pub run_told : (last run next : TypeCount) (ks : List (List ℕ)) → kind_in next ≡ (if nat_lt 0 run.count then Some run.kind else kind_in last)
     → changes (kind_in last) (replicate run.count run.kind ++ ks) ≡ (if not (is_run_of run.kind last) && nat_lt 0 run.count then 1 else 0) + changes (kind_in next) ks
-run_told last run next ks behind =
+run_told last run next ks after =
     run_counted (kind_in last) run.kind run.count ks
     ∙ ap (λ (b : Bool). (if b && nat_lt 0 run.count then 1 else 0) + changes (if nat_lt 0 run.count then Some run.kind else kind_in last) ks) (sym (other_is run.kind last))
-    ∙ ap (λ (k : Option (List ℕ)). (if not (is_run_of run.kind last) && nat_lt 0 run.count then 1 else 0) + changes k ks) (sym behind)
+    ∙ ap (λ (k : Option (List ℕ)). (if not (is_run_of run.kind last) && nat_lt 0 run.count then 1 else 0) + changes k ks) (sym after)
 
 -- the i-th of some types
 pub ith_kind : (types : List TypeCount) (i : ℕ) (d : TypeCount) → 1 ≤ i → i ≤ length types → Some (get_or types (i - 1) d).kind ≡ ith i (map kind_of types)

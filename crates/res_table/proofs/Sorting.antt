@@ -41,7 +41,7 @@ swap_kept (d ∷ ds) i j first second = swapped (d ∷ ds) i j d first second
 permuted : (xs ys : List Pair) → IsPermutation xs ys → in_order ys ≡ in_order xs
 permuted xs ys = IsPermutation-keeps xs (λ l. in_order l ≡ in_order xs) refl (λ l i j first second is. swap_kept l i j first second ∙ is) ys
 
--- and those that stand in order stay
+-- and those that are in order stay
 stays : (p : Pair) (ps : List Pair) → NoneBefore p ps → with_pair p ps ≡ p ∷ ps
 stays p [] none = refl
 stays p (q ∷ qs) none = ap (λ (b : Bool). if b then q ∷ with_pair p qs else p ∷ q ∷ qs) none.0

@@ -13,7 +13,7 @@ use Rattle.res_table.specs.Keyed.{key_of_resource, rank, NoneBefore, AreInOrder}
 use Rattle.res_table.specs.Indexed.{resource_key, pairs_from, pairs_of, IsKept, IsTold}
 use Rattle.res_table.specs.Rows.{is_of_type}
 use Rattle.res_table.proofs.Pairs.{order_dropped}
-use Rattle.res_table.proofs.AnyPair.{any_with, any_from, none_behind, least_key}
+use Rattle.res_table.proofs.AnyPair.{any_with, any_from, none_after, least_key}
 
 -- whether a key is of a type and any id, where this is that of the type and 0
 abbrev is_key_of : ℕ → ℕ → Bool
@@ -114,4 +114,4 @@ module _ {D : Type 0} (kind : List ℕ) (rows : List (Row D)) (ps rest : List Pa
           step false e =
               let far = ltb-false p.key (first + 65536) e in
               ap (λ (b : Bool). b || list_any (λ p. is_key_of first p.key) qs) (past_range first p.key far)
-              ∙ none_behind (λ p. is_key_of first p.key) p qs (subst (λ (x : Pair). NoneBefore x qs) (sym read) order.0) (λ x behind. past_range first x.key (omega (arith, far, behind)))
+              ∙ none_after (λ p. is_key_of first p.key) p qs (subst (λ (x : Pair). NoneBefore x qs) (sym read) order.0) (λ x after. past_range first x.key (omega (arith, far, after)))

@@ -31,13 +31,13 @@ first_kind kind next n (first ∷ others) = pick (bytes_eq next first.kind)
     pick true = refl
     pick false = refl
 
--- the types of rows behind one of a type
-types_behind : {D : Type 0} (kind : List ℕ) (n : ℕ) (rows : List (Row D)) → length (counted_before kind n (row_types rows)) ≡ suc (changes (Some kind) (kinds_of rows))
-types_behind kind n [] = refl
-types_behind {D} kind n (r ∷ rows) =
+-- the types of rows after one of a type
+types_after : {D : Type 0} (kind : List ℕ) (n : ℕ) (rows : List (Row D)) → length (counted_before kind n (row_types rows)) ≡ suc (changes (Some kind) (kinds_of rows))
+types_after kind n [] = refl
+types_after {D} kind n (r ∷ rows) =
     one_before kind n (row_types (r ∷ rows))
     ∙ ap (λ (b : Bool). if b then length (row_types (r ∷ rows)) else suc (length (row_types (r ∷ rows)))) (first_kind kind r.resource.kind 1 (row_types rows))
-    ∙ ap (λ (m : ℕ). if bytes_eq kind r.resource.kind then m else suc m) (types_behind r.resource.kind 1 rows)
+    ∙ ap (λ (m : ℕ). if bytes_eq kind r.resource.kind then m else suc m) (types_after r.resource.kind 1 rows)
     ∙ pick (bytes_eq kind r.resource.kind)
   where
     pick : (b : Bool) → (if b then suc (changes (Some r.resource.kind) (kinds_of rows)) else suc (suc (changes (Some r.resource.kind) (kinds_of rows))))
@@ -48,7 +48,7 @@ types_behind {D} kind n (r ∷ rows) =
 -- the types of rows are those that differ from the one before
 pub types_are : {D : Type 0} (rows : List (Row D)) → changes None (kinds_of rows) ≡ length (row_types rows)
 types_are [] = refl
-types_are (r ∷ rows) = sym (types_behind r.resource.kind 1 rows)
+types_are (r ∷ rows) = sym (types_after r.resource.kind 1 rows)
 
 -- the names of rows take as much where one has changed that keeps its name
 pub names_kept : {D : Type 0} (i : ℕ) (r new : Row D) (rows : List (Row D)) → i < length rows → r ≡ get_or rows i r → name_size new ≡ name_size r → names_size (set rows i new) ≡ names_size rows

@@ -1,4 +1,4 @@
--- What all open files have together, where the earliest stands first.
+-- What all open files have together, where the earliest is first.
 use Rattle.std.specs.Prelude.{ℕ, ◌-◌, nat_le, Bool, not, if◌then◌else◌, List, [], ◌∷◌, ◌++◌, map, filter, Option, None, Some, option_map}
 use Rattle.std.specs.List.{list_any}
 use Rattle.res_table.specs.declared.row.Row.{Row}
@@ -12,7 +12,7 @@ abbrev pub all_rows : {D : Type 0} → List (OpenFile D) → List (Row D)
 all_rows [] = []
 all_rows (f ∷ fs) = all_rows fs ++ f.table.rows
 
--- where the i-th resource of a type stands, counted from 1: in a later file, if the later ones have so many, or else in
+-- where the i-th resource of a type is, counted from 1: in a later file, if the later ones have so many, or else in
 -- this one, by what is left of the index
 abbrev pub ith_place : {D : Type 0} → List ℕ → ℕ → List (OpenFile D) → Option RowPlace
 ith_place kind i [] = None

@@ -14,7 +14,7 @@ handle_key r = option_map key_of_handle r.handle
 abbrev pub resource_key : {D : Type 0} → Row D → Option ℕ
 resource_key r = Some (key_of_resource r.resource.kind r.resource.id)
 
--- the pairs of rows, of which the first stands here
+-- the pairs of rows, of which the first is here
 abbrev pub pairs_from : {D : Type 0} → (Row D → Option ℕ) → ℕ → List (Row D) → List Pair
 pairs_from key at [] = []
 pairs_from key at (r ∷ rows) = with_key (key r) at (pairs_from key (at + 1) rows)

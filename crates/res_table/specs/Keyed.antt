@@ -4,11 +4,11 @@ use Rattle.std.specs.Int.{w16, w32, cast_unsigned, from_be_bytes}
 use Rattle.std.specs.List.{list_any}
 use Rattle.res_table.specs.declared.keyed.Pair.{Pair}
 
--- the key of a handle: handles that stand close have keys that are spread evenly
+-- the key of a handle: handles that are close have keys that are spread evenly
 abbrev pub key_of_handle : ℕ → ℕ
 key_of_handle h = ((h * 2654435761) % 4294967296) * 4294967296 + h
 
--- the key of a type and an id: the four bytes of the type, and behind them the two of the id
+-- the key of a type and an id: the four bytes of the type, and after them the two of the id
 abbrev pub key_of_resource : List ℕ → ℤ → ℕ
 key_of_resource kind id = from_be_bytes w32 kind * 65536 + cast_unsigned w16 id
 
@@ -17,11 +17,11 @@ pub record KeyedPairs : Type 0 where
   pub pairs : List Pair
   pub room : ℕ
 
--- whether a pair stands before another
+-- whether a pair is before another
 abbrev pub is_before : Pair → Pair → Bool
 is_before p q = nat_lt p.key q.key || (p.key == q.key && nat_lt p.place q.place)
 
--- how many pairs at the front stand before this one
+-- how many pairs at the front are before this one
 abbrev pub rank : Pair → List Pair → ℕ
 rank p [] = 0
 rank p (q ∷ qs) = if is_before q p then suc (rank p qs) else 0
@@ -36,7 +36,7 @@ abbrev pub in_order : List Pair → List Pair
 in_order [] = []
 in_order (p ∷ ps) = with_pair p (in_order ps)
 
--- the pairs without the one that stands where this one belongs
+-- the pairs without the one that is where this one belongs
 abbrev pub without_pair : Pair → List Pair → List Pair
 without_pair p ps = remove ps (rank p ps)
 
@@ -58,7 +58,7 @@ pushed_back at p = if nat_le at p.place then record { key = p.key; place = p.pla
 abbrev pub pulled_up : ℕ → Pair → Pair
 pulled_up at p = if nat_lt at p.place then record { key = p.key; place = p.place - 1 } else p
 
--- the least place of a row with the key, where pairs stand in order
+-- the least place of a row with the key, where pairs are in order
 abbrev pub first_place : ℕ → List Pair → Option ℕ
 first_place k [] = None
 first_place k (p ∷ ps) = if is_before p (record { key = k; place = 0 }) then first_place k ps else if p.key == k then Some p.place else None
@@ -67,12 +67,12 @@ first_place k (p ∷ ps) = if is_before p (record { key = k; place = 0 }) then f
 abbrev pub has_pair : ℕ → List Pair → Bool
 has_pair k ps = list_any (λ p. p.key == k) ps
 
--- no pair stands before this one
+-- no pair is before this one
 abbrev pub NoneBefore : Pair → List Pair → Type 0
 NoneBefore p [] = Unit {0}
 NoneBefore p (q ∷ qs) = (is_before q p ≡ false) × NoneBefore p qs
 
--- pairs stand in order
+-- pairs are in order
 abbrev pub AreInOrder : List Pair → Type 0
 AreInOrder [] = Unit {0}
 AreInOrder (p ∷ ps) = NoneBefore p ps × AreInOrder ps

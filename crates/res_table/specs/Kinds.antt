@@ -39,27 +39,27 @@ kind_in run = if nat_lt 0 run.count then Some run.kind else None
 abbrev pub is_other : Option (List ℕ) → List ℕ → Bool
 is_other last kind = not (option_map_or (λ k. bytes_eq k kind) last false)
 
--- how many of some types differ from the one before them, where this one stands before the first
+-- how many of some types differ from the one before them, where this one is before the first
 abbrev pub changes : Option (List ℕ) → List (List ℕ) → ℕ
 changes last [] = 0
 changes last (k ∷ ks) = if is_other last k then suc (changes (Some k) ks) else changes (Some k) ks
 
--- whether each run has rows, and of another type than the run before it, where this type stands before the first
+-- whether each run has rows, and of another type than the run before it, where this type is before the first
 abbrev pub are_types : Option (List ℕ) → List TypeCount → Bool
 are_types last [] = true
 are_types last (run ∷ runs) = (nat_lt 0 run.count && is_other last run.kind) && are_types (Some run.kind) runs
 
--- where those of some types stand that are this one, where the first stands here
+-- where those of some types are that are this one, where the first is here
 abbrev pub places_of : ℕ → List ℕ → List (List ℕ) → List ℕ
 places_of at kind [] = []
 places_of at kind (k ∷ ks) = if bytes_eq k kind then at ∷ places_of (at + 1) kind ks else places_of (at + 1) kind ks
 
--- the index behind the last that is this one, where the first stands at `at`; `end` where none is
+-- the index after the last that is this one, where the first is at `at`; `end` where none is
 abbrev pub end_of : List ℕ → ℕ → ℕ → List (List ℕ) → ℕ
 end_of kind end at [] = end
 end_of kind end at (k ∷ ks) = end_of kind (if bytes_eq k kind then at + 1 else end) (at + 1) ks
 
--- some types with one more, behind the last of the same, or last
+-- some types with one more, after the last of the same, or last
 abbrev pub with_kind : List ℕ → List (List ℕ) → List (List ℕ)
 with_kind kind [] = kind ∷ []
 with_kind kind (k ∷ ks) = if bytes_eq k kind && not (has_kind kind ks) then k ∷ kind ∷ ks else k ∷ with_kind kind ks

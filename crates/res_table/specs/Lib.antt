@@ -2,7 +2,7 @@ pub mod Attributes
 pub mod Rows
 pub mod Names
 pub mod Saved
-pub mod Behind
+pub mod After
 pub mod OpenFiles
 pub mod Indexed
 pub mod Keyed

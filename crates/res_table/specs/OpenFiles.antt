@@ -34,21 +34,21 @@ table_in f = f.table
 abbrev pub table_of : {D : Type 0} → ℕ → OpenFiles D → Option (ResourceTable D)
 table_of k chain = option_map table_in (find (is_numbered k) chain.files)
 
--- where the first row that passes a test stands in a file
+-- where the first row that passes a test is in a file
 abbrev pub place_in : {D : Type 0} → (Row D → Bool) → OpenFile D → Option RowPlace
 place_in test f = option_map (λ i. record { file = f.number; index = i }) (position test f.table.rows)
 
--- where it stands in the earliest of some files that has such a row
+-- where it is in the earliest of some files that has such a row
 abbrev pub earliest_place : {D : Type 0} → (Row D → Bool) → List (OpenFile D) → Option RowPlace
 earliest_place test [] = None
 earliest_place test (f ∷ fs) = option_or (place_in test f) (earliest_place test fs)
 
--- where it stands in the latest of some files that has such a row
+-- where it is in the latest of some files that has such a row
 abbrev pub latest_place : {D : Type 0} → (Row D → Bool) → List (OpenFile D) → Option RowPlace
 latest_place test [] = None
 latest_place test (f ∷ fs) = option_or (latest_place test fs) (place_in test f)
 
--- how many files stand up to the one of a number
+-- how many files are up to the one of a number
 abbrev pub count_up_to : {D : Type 0} → List (OpenFile D) → ℕ → ℕ
 count_up_to files k = option_map_or (λ at. at + 1) (position (is_numbered k) files) 0
 
@@ -56,11 +56,11 @@ count_up_to files k = option_map_or (λ at. at + 1) (position (is_numbered k) fi
 abbrev pub searched : {D : Type 0} → OpenFiles D → ℕ
 searched chain = option_map_or (count_up_to chain.files) chain.current 0
 
--- where the resource of a type and an id stands: in the current file, or else in the latest before it
+-- where the resource of a type and an id is: in the current file, or else in the latest before it
 abbrev pub place_of_resource : {D : Type 0} → List ℕ → ℤ → OpenFiles D → Option RowPlace
 place_of_resource kind id chain = latest_place (is_resource kind id) (take (searched chain) chain.files)
 
--- where the row with the handle stands, in any open file
+-- where the row with the handle is, in any open file
 abbrev pub place_of_handle : {D : Type 0} → ℕ → OpenFiles D → Option RowPlace
 place_of_handle h chain = earliest_place (has_handle h) chain.files
 
@@ -102,23 +102,23 @@ file_closed k chain = if is_open k chain then record { files = without k chain.f
 abbrev pub row_at : {D : Type 0} → RowPlace → OpenFiles D → Option (Row D)
 row_at place chain = option_and_then (λ table. slice_get table.rows place.index) (table_of place.file chain)
 
--- where the resource of a type and an id stands in the file of a number, if it is open
+-- where the resource of a type and an id is in the file of a number, if it is open
 abbrev pub place_in_file : {D : Type 0} → List ℕ → ℤ → OpenFiles D → ℕ → Option RowPlace
 place_in_file kind id chain k = option_and_then (place_in (is_resource kind id)) (find (is_numbered k) chain.files)
 
--- where it stands in the current file
+-- where it is in the current file
 abbrev pub place_here : {D : Type 0} → List ℕ → ℤ → OpenFiles D → Option RowPlace
 place_here kind id chain = option_and_then (place_in_file kind id chain) chain.current
 
--- where the first row of a type and a name stands: in the current file, or else in the latest before it that has one
+-- where the first row of a type and a name is: in the current file, or else in the latest before it that has one
 abbrev pub place_of_name : {D : Type 0} → List ℕ → List ℕ → OpenFiles D → Option RowPlace
 place_of_name kind name chain = latest_place (is_named kind name) (take (searched chain) chain.files)
 
--- where it stands in the file of a number, if it is open
+-- where it is in the file of a number, if it is open
 abbrev pub named_in_file : {D : Type 0} → List ℕ → List ℕ → OpenFiles D → ℕ → Option RowPlace
 named_in_file kind name chain k = option_and_then (place_in (is_named kind name)) (find (is_numbered k) chain.files)
 
--- where it stands in the current file
+-- where it is in the current file
 abbrev pub name_here : {D : Type 0} → List ℕ → List ℕ → OpenFiles D → Option RowPlace
 name_here kind name chain = option_and_then (named_in_file kind name chain) chain.current
 

@@ -27,7 +27,7 @@ is_resource kind id r = is_of_type kind r && int_eq r.resource.id id
 abbrev pub is_changed : {D : Type 0} → Row D → Bool
 is_changed r = is_marked r.resource.attributes
 
--- the handle of a changed row, if it has one: an update takes the bytes behind it
+-- the handle of a changed row, if it has one: an update takes the bytes after it
 abbrev pub changed_handle : {D : Type 0} → Row D → Option ℕ
 changed_handle r = if is_changed r then r.handle else None
 
@@ -71,7 +71,7 @@ changed_at at change rows = option_map_or (λ r. set rows at (change r)) (slice_
 abbrev pub removed_at : {D : Type 0} → ℕ → List (Row D) → List (Row D)
 removed_at at rows = remove rows at
 
--- the rows with a new one, behind the last of its type, or last
+-- the rows with a new one, after the last of its type, or last
 abbrev pub added : {D : Type 0} → Row D → List (Row D) → List (Row D)
 added new [] = new ∷ []
 added new (r ∷ rows) = if is_of_type new.resource.kind r && not (list_any (is_of_type new.resource.kind) rows) then r ∷ new ∷ rows else r ∷ added new rows

@@ -30,7 +30,7 @@ saved text extra map_attributes rows = record { rows = saved_rows text rows; ext
 abbrev pub bare : {D : Type 0} → List (Row D) → List (Resource (List ℕ))
 bare rows = saved_rows (λ _. []) rows
 
--- the types of rows in the order of their first rows, each with how many rows of it stand together
+-- the types of rows in the order of their first rows, each with how many rows of it are together
 abbrev pub row_types : {D : Type 0} → List (Row D) → List TypeCount
 row_types rows = types_of (bare rows)
 

@@ -1,4 +1,4 @@
-//! What all open files have together, where the earliest stands first.
+//! What all open files have together, where the earliest is first.
 
 ghost use Rattle.std.specs.Prelude.{◌≡◌, ◌<◌, ◌≤◌, ◌+◌, ◌^◌, length, not, Some, None, IfSome, IfNone, if◌then◌else◌};
 ghost use Rattle.std.specs.Option.{option_and_then};
@@ -21,7 +21,7 @@ pub fn count_of_type<D>(files: &[OpenFile<D>], kind: ResType) -> usize
     count
 }
 
-/// Where the i-th resource of a type stands, counted from 1: those of the latest file come first.
+/// Where the i-th resource of a type is, counted from 1: those of the latest file come first.
 pub fn place_of_ith<D>(files: &[OpenFile<D>], kind: ResType, i: usize) -> Option<RowPlace>
     ensures { result ≡ ith_place kind i files.now }
 {

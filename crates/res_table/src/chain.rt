@@ -12,7 +12,7 @@ use std::marker::Model;
 /// The table of an open file.
 #[derive(Drop)]
 pub struct ResourceTable<D> {
-    /// The rows. Those of one type stand together.
+    /// The rows. Those of one type are together.
     pub rows: Rows<D>,
     /// The 112 bytes for the system and the 128 for the application.
     pub extra: [u8; 240],
@@ -27,7 +27,7 @@ pub struct OpenFile<D> {
     pub table: ResourceTable<D>,
 }
 
-/// Where a row stands: the number of its file, and its index in the table.
+/// Where a row is: the number of its file, and its index in the table.
 #[derive(Clone, Copy)]
 pub struct RowPlace {
     pub file: u8,
@@ -80,7 +80,7 @@ impl<D> Chain<D> {
         &self.files
     }
 
-    /// Where in the order of opening the file of a number stands.
+    /// Where in the order of opening the file of a number is.
     fn position_of(&self, number: u8) -> Option<usize>
         ensures { result ≡ position (is_numbered number) self.now.files }
     {
@@ -94,7 +94,7 @@ impl<D> Chain<D> {
         self.files.iter().any(|file| file.number == number)
     }
 
-    /// Adds a file behind the others and makes it the current one (OpenResFile). Without host memory nothing is
+    /// Adds a file after the others and makes it the current one (OpenResFile). Without host memory nothing is
     /// changed.
     pub fn open(&mut self, number: u8, table: ResourceTable<D>) -> Result<(), HostFull>
     where
@@ -127,7 +127,7 @@ impl<D> Chain<D> {
         }
     }
 
-    /// Where the resource of a type and an id stands: in the current file, or else in the latest before it that has one
+    /// Where the resource of a type and an id is: in the current file, or else in the latest before it that has one
     /// (GetResource).
     pub fn find(&self, kind: ResType, id: i16) -> Option<RowPlace>
         ensures { result ≡ place_of_resource kind id self.now }
@@ -146,7 +146,7 @@ impl<D> Chain<D> {
         None
     }
 
-    /// Where the first row of a type and a name stands: in the current file, or else in the latest before it that has
+    /// Where the first row of a type and a name is: in the current file, or else in the latest before it that has
     /// one (GetNamedResource).
     pub fn find_named(&self, kind: ResType, name: &[u8]) -> Option<RowPlace>
         ensures { result ≡ place_of_name kind name.now self.now }
@@ -165,7 +165,7 @@ impl<D> Chain<D> {
         None
     }
 
-    /// Where the row with a handle stands, in any open file.
+    /// Where the row with a handle is, in any open file.
     pub fn row_of_handle(&self, handle: Handle) -> Option<RowPlace>
         ensures { result ≡ place_of_handle handle self.now }
     {
@@ -251,7 +251,7 @@ impl<D> Chain<D> {
         Some(table.rows.row(place.index))
     }
 
-    /// Where the resource of a type and an id stands in the file of a number, if it is open and has one.
+    /// Where the resource of a type and an id is in the file of a number, if it is open and has one.
     fn find_in(&self, number: u8, kind: ResType, id: i16) -> Option<RowPlace>
         ensures { result ≡ place_in_file kind id self.now number }
     {
@@ -268,7 +268,7 @@ impl<D> Chain<D> {
         })
     }
 
-    /// Where the resource of a type and an id stands in the current file (Get1Resource).
+    /// Where the resource of a type and an id is in the current file (Get1Resource).
     pub fn find_here(&self, kind: ResType, id: i16) -> Option<RowPlace>
         ensures { result ≡ place_here kind id self.now }
     {
@@ -278,7 +278,7 @@ impl<D> Chain<D> {
         }
     }
 
-    /// Where the first row of a type and a name stands in the file of a number, if it is open and has one.
+    /// Where the first row of a type and a name is in the file of a number, if it is open and has one.
     fn find_named_in(&self, number: u8, kind: ResType, name: &[u8]) -> Option<RowPlace>
         ensures { result ≡ named_in_file kind name.now self.now number }
     {
@@ -295,7 +295,7 @@ impl<D> Chain<D> {
         })
     }
 
-    /// Where the first row of a type and a name stands in the current file (Get1NamedResource).
+    /// Where the first row of a type and a name is in the current file (Get1NamedResource).
     pub fn find_named_here(&self, kind: ResType, name: &[u8]) -> Option<RowPlace>
         ensures { result ≡ name_here kind name.now self.now }
     {
@@ -355,7 +355,7 @@ impl<D> Chain<D> {
         Some(self.files[at].table.rows.remove(place.index))
     }
 
-    /// Adds a row to the file of a number, which has fewer than 8,192, behind the last of its type, or last where there
+    /// Adds a row to the file of a number, which has fewer than 8,192, after the last of its type, or last where there
     /// is none. Without host memory nothing is changed.
     pub fn add(&mut self, number: u8, row: Row<D>) -> Result<(), HostFull>
     where

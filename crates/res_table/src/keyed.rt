@@ -1,4 +1,4 @@
-//! Where the rows stand that have a key.
+//! Where the rows are that have a key.
 
 ghost use Rattle.std.specs.Prelude.{◌≡◌, ◌<◌, ◌≤◌, ◌+◌, ◌^◌, ◌↔◌, ℕ, true, false, [], length, drop, map, All, OnOk, IfSome, IsTrue};
 ghost use Rattle.res_table.specs.Keyed.{in_order, is_before, rank, with_pair, without_pair, with_key, without_key, pushed_back, pulled_up, first_place, has_pair, AreInOrder};
@@ -7,12 +7,12 @@ use mac_base::error::HostFull;
 use std::alloc::Global;
 use std::marker::Model;
 
-/// How far from where a pair should stand it is looked for first, and then.
+/// How far from where a pair should be it is looked for first, and then.
 const NEAR: usize = 4;
 
 const FAR: usize = 64;
 
-/// The key of a row that has one, and where the row stands.
+/// The key of a row that has one, and where the row is.
 #[derive(Clone, Copy, PartialEq, Eq, PartialOrd, Ord)]
 pub struct Pair {
     pub key: u64,
@@ -20,7 +20,7 @@ pub struct Pair {
 }
 
 impl Pair {
-    /// Whether the pair stands before another.
+    /// Whether the pair is before another.
     fn is_before(self, other: Pair) -> bool
         ensures { result ≡ is_before self other }
     {
@@ -76,12 +76,12 @@ fn pull_up(pairs: &mut [Pair], at: usize)
     }
 }
 
-/// How many of so many keys that are spread evenly stand in a distance.
+/// How many of so many keys that are spread evenly are in a distance.
 fn count_within(distance: u64, count: usize) -> usize {
     ((distance >> 32).wrapping_mul(count as u64) >> 32) as usize
 }
 
-/// Where a pair should stand, if the keys are spread evenly: as told by a pair that stands near.
+/// Where a pair should be, if the keys are spread evenly: as told by a pair that is near.
 fn guess(pairs: &[Pair], pair: Pair) -> usize
     ensures { result ≤ length pairs.now }
 {
@@ -98,7 +98,7 @@ fn guess(pairs: &[Pair], pair: Pair) -> usize
     }
 }
 
-/// Whether a pair stands, or belongs, at an index or behind it.
+/// Whether a pair is, or belongs, at an index or after it.
 fn is_from(pairs: &[Pair], pair: Pair, index: usize) -> bool
     requires order { AreInOrder pairs.now }
     requires within { index ≤ length pairs.now }
@@ -107,7 +107,7 @@ fn is_from(pairs: &[Pair], pair: Pair, index: usize) -> bool
     index == 0 || pairs[index - 1].is_before(pair)
 }
 
-/// Whether a pair stands, or belongs, at an index or before it.
+/// Whether a pair is, or belongs, at an index or before it.
 fn is_up_to(pairs: &[Pair], pair: Pair, index: usize) -> bool
     requires order { AreInOrder pairs.now }
     ensures { IsTrue result ↔ rank pair pairs.now ≤ index }
@@ -115,7 +115,7 @@ fn is_up_to(pairs: &[Pair], pair: Pair, index: usize) -> bool
     index >= pairs.len() || !pairs[index].is_before(pair)
 }
 
-/// Where a pair stands, or belongs, among pairs: by halving.
+/// Where a pair is, or belongs, among pairs: by halving.
 fn rank_by_halving(pairs: &[Pair], pair: Pair) -> usize
     requires { AreInOrder pairs.now }
     ensures { result ≡ rank pair pairs.now }
@@ -123,7 +123,7 @@ fn rank_by_halving(pairs: &[Pair], pair: Pair) -> usize
     pairs.partition_point(|other| other.is_before(pair))
 }
 
-/// Where a pair stands, or belongs, if that is so near to an index.
+/// Where a pair is, or belongs, if that is so near to an index.
 fn rank_near(pairs: &[Pair], pair: Pair, index: usize, reach: usize) -> Option<usize>
     requires order { AreInOrder pairs.now }
     requires within { index ≤ length pairs.now }
@@ -137,7 +137,7 @@ fn rank_near(pairs: &[Pair], pair: Pair, index: usize, reach: usize) -> Option<u
     Some(from + rank_by_halving(&pairs[from..to], pair))
 }
 
-/// Where a pair stands, or belongs: behind all others, or near to where it should stand, or else by halving.
+/// Where a pair is, or belongs: after all others, or near to where it should be, or else by halving.
 fn rank(pairs: &[Pair], pair: Pair) -> usize
     requires { AreInOrder pairs.now }
     ensures { result ≡ rank pair pairs.now }
@@ -156,7 +156,7 @@ fn rank(pairs: &[Pair], pair: Pair) -> usize
 }
 
 /// The rows that have a key, in the order of keys, and among those with the same key in the order of rows. So a row is
-/// found where its key says that it should stand, or else by halving. A contract sees the pairs, and how many there is
+/// found where its key says that it should be, or else by halving. A contract sees the pairs, and how many there is
 /// room for.
 #[derive(Drop)]
 pub struct Keyed {
@@ -201,7 +201,7 @@ impl Keyed {
         Ok(())
     }
 
-    /// Where a pair stands, or belongs.
+    /// Where a pair is, or belongs.
     fn rank(&self, pair: Pair) -> usize
         requires { AreInOrder self.now.pairs }
         ensures { result ≡ rank pair self.now.pairs }
@@ -209,7 +209,7 @@ impl Keyed {
         rank(&self.pairs, pair)
     }
 
-    /// Where the first row with a key stands.
+    /// Where the first row with a key is.
     pub fn find(&self, key: u64) -> Option<usize>
         requires { AreInOrder self.now.pairs }
         ensures { result ≡ first_place key self.now.pairs }
@@ -226,7 +226,7 @@ impl Keyed {
         }
     }
 
-    /// The pairs from the first one with a key on, or from where it would stand.
+    /// The pairs from the first one with a key on, or from where it would be.
     pub fn from_key(&self, key: u64) -> &[Pair]
         requires { AreInOrder self.now.pairs }
         ensures { result.now ≡ drop (rank (record { key = key; place = 0 }) self.now.pairs) self.now.pairs }
@@ -283,7 +283,7 @@ impl Keyed {
         }
     }
 
-    /// Moves the pairs behind a row that is put in at an index of so many rows. Behind all of them no pair moves.
+    /// Moves the pairs after a row that is put in at an index of so many rows. After all of them no pair moves.
     pub fn push_back(&mut self, at: usize, count: usize)
         requires { All (λ p. p.place < count) self.old.pairs }
         ensures pairs { self.new.pairs ≡ map (pushed_back at) self.old.pairs }
@@ -294,7 +294,7 @@ impl Keyed {
         }
     }
 
-    /// Moves the pairs behind a row that is taken out.
+    /// Moves the pairs after a row that is taken out.
     pub fn pull_up(&mut self, at: usize)
         ensures pairs { self.new.pairs ≡ map (pulled_up at) self.old.pairs }
         ensures room { self.new.room ≡ self.old.room }

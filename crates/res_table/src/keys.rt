@@ -7,7 +7,7 @@ ghost use Rattle.res_table.specs.Keyed.{key_of_handle, key_of_resource};
 use mac_base::handle::Handle;
 use mac_base::resource::ResType;
 
-/// What handles are multiplied by: those of one zone, which stand close, are then spread evenly.
+/// What handles are multiplied by: those of one zone, which are close, are then spread evenly.
 const SPREAD: u32 = 2_654_435_761;
 
 /// The key of a handle: the upper half spreads handles evenly, the lower one is the handle.
@@ -26,7 +26,7 @@ fn number_of(kind: ResType) -> u32
     u32::from_be_bytes(kind.bytes())
 }
 
-/// The key of a type and an id: the four bytes of the type, and behind them the two of the id. Both can be read from it
+/// The key of a type and an id: the four bytes of the type, and after them the two of the id. Both can be read from it
 /// again.
 pub fn key_of_resource(kind: ResType, id: i16) -> u64
     ensures key { result ≡ key_of_resource kind id }

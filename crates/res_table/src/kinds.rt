@@ -1,4 +1,4 @@
-//! The types of rows, in order: how many rows of one type stand together.
+//! The types of rows, in order: how many rows of one type are together.
 
 ghost use Rattle.std.specs.Prelude.{◌≡◌, ◌≤◌, ◌<◌, ◌+◌, ◌^◌, ◌++◌, ◌∷◌, [], length, map, take, drop, get_or, remove, true, false, not, bytes_eq, nat_lt, ◌&&◌, if◌then◌else◌, Some, None, IfSome, IfNone, IsTrue, OnOk};
 ghost use Rattle.res_table.specs.Kinds.{are_types, is_run_of, is_other, expanded, has_kind, kind_in, count_of, changes, places_of, end_of, with_kind, ith, kind_of};
@@ -74,7 +74,7 @@ fn run_with(runs: &[TypeCount], place: usize) -> usize
     index
 }
 
-/// Whether a run is of the type that stands before it, if there is one.
+/// Whether a run is of the type that is before it, if there is one.
 fn repeats(last: Option<ResType>, run: &TypeCount) -> bool
     ensures { not result ≡ is_other last run.now.kind }
 {
@@ -108,12 +108,12 @@ pub fn ith_type(types: &[TypeCount], i: usize) -> Option<ResType>
     Some(types[i - 1].kind)
 }
 
-/// The types of rows, in order: each with how many rows of it stand together. So what is asked of a type doesn't go
+/// The types of rows, in order: each with how many rows of it are together. So what is asked of a type doesn't go
 /// through the rows. A contract sees these runs, and how many there is room for.
 #[derive(Drop)]
 pub struct Kinds {
     runs: Vec<TypeCount>,
-    /// It was seen that no run is of the type of the run before it: so it is while the rows of each type stand
+    /// It was seen that no run is of the type of the run before it: so it is while the rows of each type are
     /// together.
     seen: bool,
 }
@@ -163,7 +163,7 @@ impl Kinds {
         if self.seen { Some(&self.runs) } else { None }
     }
 
-    /// Adds the type of a row behind all others. Whether the runs are types is to be seen again.
+    /// Adds the type of a row after all others. Whether the runs are types is to be seen again.
     pub fn push(&mut self, kind: ResType) -> Result<(), HostFull>
         requires { length (expanded self.old.runs) + 1 < 2 ^ 64 }
         ensures { OnOk result (expanded self.new.runs ≡ expanded self.old.runs ++ kind ∷ []) }
@@ -196,7 +196,7 @@ impl Kinds {
         count
     }
 
-    /// How many types there are, where one is counted anew behind another.
+    /// How many types there are, where one is counted anew after another.
     pub fn count_types(&self) -> usize
         ensures { result ≡ changes None (expanded self.now.runs) }
     {
@@ -214,7 +214,7 @@ impl Kinds {
         count
     }
 
-    /// Where the i-th row of a type stands, counted from 1.
+    /// Where the i-th row of a type is, counted from 1.
     pub fn ith(&self, kind: ResType, i: usize) -> Option<usize>
         requires { length (expanded self.now.runs) < 2 ^ 64 }
         ensures { result ≡ ith i (places_of 0 kind (expanded self.now.runs)) }
@@ -252,7 +252,7 @@ impl Kinds {
         end
     }
 
-    /// Adds the type of a row behind the last of the same type, or last where there is none.
+    /// Adds the type of a row after the last of the same type, or last where there is none.
     pub fn add(&mut self, kind: ResType)
         requires small { length (expanded self.old.runs) + 1 < 2 ^ 64 }
         requires room { length self.old.runs < self.old.room }
@@ -262,7 +262,7 @@ impl Kinds {
         self.settle();
     }
 
-    /// Counts one more of a type, in its last run or in one behind all others.
+    /// Counts one more of a type, in its last run or in one after all others.
     fn count_one_more(&mut self, kind: ResType)
         requires small { length (expanded self.old.runs) + 1 < 2 ^ 64 }
         requires room { length self.old.runs < self.old.room }

@@ -1,5 +1,5 @@
-//! The rows of open resource files, and the chain of open files. `keyed` and `kinds` say where rows stand that have a
-//! key, and how many rows of one type stand together.
+//! The rows of open resource files, and the chain of open files. `keyed` and `kinds` say where rows are that have a
+//! key, and how many rows of one type are together.
 #![tactic(auto)]
 
 pub mod all_files;

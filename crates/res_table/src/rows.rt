@@ -59,7 +59,7 @@ impl<D> Rows<D> {
     ghost use Rattle.res_table.specs.Saved.{row_types, kind_of, RowsFit};
     ghost use Rattle.res_table.specs.Names.{is_named};
     ghost use Rattle.res_table.specs.Rows.{has_handle, has_changed, is_resource, is_of_type, added, forgotten, changed_at, with_handle, with_attributes, with_datum, opened_row, count_of_type, index_of_ith, ith, names_size, unique_id, largest_id, AreTaken, IsFree, changed_handle};
-    ghost use Rattle.res_table.specs.Behind.{end_of_type};
+    ghost use Rattle.res_table.specs.After.{end_of_type};
 
     /// No rows. This takes no memory of the host.
     pub fn new(alloc: Global) -> Rows<D>
@@ -127,7 +127,7 @@ impl<D> Rows<D> {
         &self.rows[index]
     }
 
-    /// Where the first row of a type and an id stands.
+    /// Where the first row of a type and an id is.
     pub fn find(&self, kind: ResType, id: i16) -> Option<usize>
         ensures { result ≡ position (is_resource kind id) self.now }
     {
@@ -136,14 +136,14 @@ impl<D> Rows<D> {
         Some(index)
     }
 
-    /// Where the first row of a type stands whose name is this one but for the case of letters.
+    /// Where the first row of a type is whose name is this one but for the case of letters.
     pub fn find_named(&self, kind: ResType, name: &[u8]) -> Option<usize>
         ensures { result ≡ position (is_named kind name.now) self.now }
     {
         self.rows.iter().position(|row| row.is_named(kind, name))
     }
 
-    /// Where the first row with a handle stands.
+    /// Where the first row with a handle is.
     pub fn row_of_handle(&self, handle: Handle) -> Option<usize>
         ensures { result ≡ position (has_handle handle) self.now }
     {
@@ -212,7 +212,7 @@ impl<D> Rows<D> {
         self.kinds.end(kind, self.rows.len())
     }
 
-    /// Adds a row behind the last of its type, or last where there is none, to fewer than 8,192. Without host memory
+    /// Adds a row after the last of its type, or last where there is none, to fewer than 8,192. Without host memory
     /// nothing is changed.
     pub fn add(&mut self, row: Row<D>) -> Result<(), HostFull>
     where
@@ -292,7 +292,7 @@ impl<D> Rows<D> {
         &self.changed
     }
 
-    /// How many types there are (CountTypes). Rows of one type stand together.
+    /// How many types there are (CountTypes). Rows of one type are together.
     pub fn count_types(&self) -> usize
         ensures types { result ≡ length (row_types self.now) }
         ensures few { result ≤ length self.now }
@@ -313,7 +313,7 @@ impl<D> Rows<D> {
         }
     }
 
-    /// The type of the i-th run of rows that stand together, counted from 1.
+    /// The type of the i-th run of rows that are together, counted from 1.
     fn type_of_ith_run(&self, i: usize) -> Option<ResType>
         ensures { result ≡ ith i (map kind_of (row_types self.now)) }
     {

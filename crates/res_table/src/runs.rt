@@ -1,4 +1,4 @@
-//! Rows of one type that stand together, and the names of rows.
+//! Rows of one type that are together, and the names of rows.
 
 ghost use Rattle.std.specs.Prelude.{◌≡◌, ◌<◌, ◌≤◌, ◌-◌, ◌∷◌, length, drop, slice_get, IfSome, IsTrue, ◌↔◌};
 ghost use Rattle.fork_bytes.specs.Written.{types_of, NamesFit};
@@ -13,7 +13,7 @@ pub(crate) const MAX_NAME_OFFSET: usize = 65534;
 /// The largest offset of a list in the map.
 pub(crate) const MAX_OFFSET: usize = 65535;
 
-/// Where the rows end that have the type of the row at `start` and stand together with it.
+/// Where the rows end that have the type of the row at `start` and are together with it.
 pub(crate) fn run_end<D>(rows: &[Row<D>], start: usize) -> usize
     requires { start < length rows.now }
     ensures some { start < result }

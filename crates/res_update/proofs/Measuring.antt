@@ -21,7 +21,7 @@ use Rattle.res_update.specs.Drafts.{rows_with, fits_as_fork, HasKind}
 use Rattle.res_update.proofs.Selecting.{drop_here}
 use Rattle.res_update.proofs.Shaping.{same_types, same_count, same_offset, same_fit}
 
--- the bytes of a row and those behind it
+-- the bytes of a row and those after it
 pub data_here : (f : ℕ → Row Place → List ℕ) (rows : List (Row Place)) (i : ℕ) (r : Row Place) → slice_get rows i ≡ Some r
     → length (data_text (rows_with f i (drop i rows))) ≡ 4 + length (f i r) + length (data_text (rows_with f (i + 1) (drop (i + 1) rows)))
 data_here f rows i r is =
@@ -157,7 +157,7 @@ pub length-over : (table : Table) → length (data_text table.rows) + length (na
 length-over table =
     let rows = table.rows in
     let whole = length-append (front_text table) (data_text rows ++ map_text table) in
-    let behind = length-append (data_text rows) (map_text table) in
+    let after = length-append (data_text rows) (map_text table) in
     let start = map_header_text (header_for rows) table.map_attributes (names_offset rows) in
     let map = length-append start (types_text rows ++ (references_text 0 0 rows ++ names_text rows)) in
     let types = length-append (types_text rows) (references_text 0 0 rows ++ names_text rows) in

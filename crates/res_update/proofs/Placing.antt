@@ -35,7 +35,7 @@ EachInside fork rows = AllByRecursion (λ (r : Row Place). IsInside fork r.resou
 pub each_inside : (fork : List ℕ) (rows : List (Row Place)) → AreInside fork rows → EachInside fork rows
 each_inside fork rows inside = recursion_from_All (λ (r : Row Place). IsInside fork r.resource.datum) rows inside
 
--- bytes are put where others stood
+-- bytes are put where others were
 put_is : (at : ℕ) (before old bytes after : List ℕ) → length before ≡ at → length old ≡ length bytes → put_at at bytes (before ++ (old ++ after)) ≡ (before ++ bytes) ++ after
 put_is at before old bytes after long short =
     let both = length-append before old in
@@ -43,15 +43,15 @@ put_is at before old bytes after long short =
     ∙ ap (λ (xs : List ℕ). (before ++ bytes) ++ drop (at + length bytes) xs) (sym (append_assoc before old after))
     ∙ ap (λ (xs : List ℕ). (before ++ bytes) ++ xs) (drop_at (before ++ old) after (at + length bytes) (omega arith))
 
--- what stands before the bytes of the first row, and behind them
+-- what is before the bytes of the first row, and after them
 regroup : (a b c d e : List ℕ) → a ++ (((b ++ c) ++ d) ++ e) ≡ ((a ++ b) ++ c) ++ (d ++ e)
 regroup a b c d e = simp append_assoc
 
 regroup_old : (a b c d e : List ℕ) → a ++ (((b ++ c) ++ d) ++ e) ≡ (a ++ b) ++ (c ++ (d ++ e))
 regroup_old a b c d e = simp append_assoc
 
-long_behind : (start : ℕ) (before bytes : List ℕ) (n : ℕ) → length before ≡ start → length ((before ++ big_bytes 4 n) ++ bytes) ≡ start + 4 + length bytes
-long_behind start before bytes n long =
+long_after : (start : ℕ) (before bytes : List ℕ) (n : ℕ) → length before ≡ start → length ((before ++ big_bytes 4 n) ++ bytes) ≡ start + 4 + length bytes
+long_after start before bytes n long =
     let whole = length-append (before ++ big_bytes 4 n) bytes in
     let front = length-append before (big_bytes 4 n) in
     let four = length-big_bytes 4 n in omega arith
@@ -85,13 +85,13 @@ filled_is disk t s at start before after (r ∷ rows) long inside =
     by true filled =
         let bytes = row_bytes t true r in let n = length bytes in
         ap (gathered disk (others n)) (regroup before (big_bytes 4 n) bytes drafted after)
-        ∙ filled (start + 4 + n) ((before ++ big_bytes 4 n) ++ bytes) (long_behind start before bytes n long)
+        ∙ filled (start + 4 + n) ((before ++ big_bytes 4 n) ++ bytes) (long_after start before bytes n long)
         ∙ sym (regroup before (big_bytes 4 n) bytes final after)
     by false filled =
         let zeros = row_bytes t false r in let n = length zeros in let bytes = new_bytes disk t false r in
         let short : n ≡ length bytes = length-replicate r.resource.datum.length 0 ∙ sym (length-on disk r.resource.datum) in
         let front : length (before ++ big_bytes 4 n) ≡ start + 4 = length-append before (big_bytes 4 n) ∙ (let four = length-big_bytes 4 n in omega arith) in
-        let next : length ((before ++ big_bytes 4 n) ++ bytes) ≡ start + 4 + n = long_behind start before bytes n long ∙ ap (λ (m : ℕ). start + 4 + m) (sym short) in
+        let next : length ((before ++ big_bytes 4 n) ++ bytes) ≡ start + 4 + n = long_after start before bytes n long ∙ ap (λ (m : ℕ). start + 4 + m) (sym short) in
         ap (λ (kept_bytes : List ℕ). gathered disk (others n) (put_at (start + 4) kept_bytes (before ++ (((big_bytes 4 n ++ zeros) ++ drafted) ++ after)))) (sym (on-inside disk r.resource.datum inside.0))
         ∙ ap (λ (fork : List ℕ). gathered disk (others n) (put_at (start + 4) bytes fork)) (regroup_old before (big_bytes 4 n) zeros drafted after)
         ∙ ap (gathered disk (others n)) (put_is (start + 4) (before ++ big_bytes 4 n) zeros bytes (drafted ++ after) front short)
@@ -112,7 +112,7 @@ read_is start before after (r ∷ rows) whole long is =
     ∙ ap (λ (xs : List ℕ). take n (xs ++ replicate n 0)) (drop_at (before ++ size) (r.datum ++ rest) (start + 4) front)
     ∙ ap (take n) (append_assoc r.datum rest (replicate n 0)) ∙ take_at r.datum (rest ++ replicate n 0) n refl in
     ap (λ (x : List ℕ). x ∷ map (bytes_on whole) (new_places (start + 4 + n) rows)) here
-    ∙ ap (λ (xs : List (List ℕ)). r.datum ∷ xs) (read_is (start + 4 + n) ((before ++ size) ++ r.datum) after rows whole (long_behind start before r.datum n long) next)
+    ∙ ap (λ (xs : List (List ℕ)). r.datum ∷ xs) (read_is (start + 4 + n) ((before ++ size) ++ r.datum) after rows whole (long_after start before r.datum n long) next)
 
 -- places lie before the end of the data
 pub places_inside : (n start : ℕ) (rows : List forks.Row) → start + length (data_text rows) ≤ n → AllByRecursion (λ (p : Place). p.offset + p.length ≤ n) (new_places start rows)
@@ -162,7 +162,7 @@ pub length-places : (start : ℕ) (rows : List forks.Row) → length (new_places
 length-places start [] = refl
 length-places start (r ∷ rows) = ap suc (length-places (start + 4 + length r.datum) rows)
 
--- how many bytes stand before the data
+-- how many bytes are before the data
 length-front : (table : Table) → length table.extra ≡ 240 → length (front_text table) ≡ 256
 length-front table long = length-append (header_text (header_for table.rows)) table.extra ∙ omega arith
 
@@ -238,7 +238,7 @@ module _ (t : HandleTable) (s : Selection) (table : ResourceTable Place) (draft 
         ∙ filled_is disk t s 0 256 (front_text final) (map_text final) table.rows (length-front final is.extra) (each_inside disk table.rows inside)
         ∙ ap written (sym (final_is disk t s table))
 
-    -- the bytes of the updated rows stand at the places
+    -- the bytes of the updated rows are at the places
     pub places_read : IsDraft t s table draft places kept → map (bytes_on new_fork) places ≡ map (λ (r : FileRow). r.resource.datum) (updated t s (table_on disk table)).rows
     places_read is =
         let final = final_table disk t s table in

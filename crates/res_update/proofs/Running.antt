@@ -16,7 +16,7 @@ use Rattle.res_update.specs.Device as device
 use Rattle.res_update.specs.Files.{ResState, ResourceEnd, refused_with, with_heap, disk_of}
 use Rattle.res_update.specs.Loads.{placing, loads_bytes, placed_end, found_end}
 use Rattle.res_update.specs.Quiet.{quiet_end}
-use Rattle.res_update.specs.Steps.{Work, Gets, Updates, Opens, Quiet, work_of, behind_memory, opened_end}
+use Rattle.res_update.specs.Steps.{Work, Gets, Updates, Opens, Quiet, work_of, after_memory, opened_end}
 use Rattle.res_update.specs.Tests.{resource_refusal}
 use Rattle.res_update.specs.Updates.{update_end}
 
@@ -29,9 +29,9 @@ abbrev pub got : ResState → ResourceCall → RowPlace → FileRow → Option M
 got old call p r None = found_end call r old
 got old call p r (Some inner) =
     let e = exact_step old.shape [] old.heap inner in
-    placed_end device.Works (loads_bytes old call) call p r e.outcome (behind_memory e.asks e.heap old)
+    placed_end device.Works (loads_bytes old call) call p r e.outcome (after_memory e.asks e.heap old)
 
--- the same for the row that stands at a place
+-- the same for the row that is at a place
 abbrev pub got_at : ResState → ResourceCall → RowPlace → Option FileRow → ResourceEnd
 got_at old call p (Some r) = got old call p r (placing old.heap.table (loads_bytes old call) r)
 got_at old call p None = quiet_end call old
@@ -62,7 +62,7 @@ pub data AnyOutcome : Type 0 where
   of_memory : Outcome → AnyOutcome
   of_resources : Outcome → AnyOutcome
 
--- the outcomes of a run, and the state behind it
+-- the outcomes of a run, and the state after it
 pub record Ran : Type 0 where
   pub outcomes : List AnyOutcome
   pub state : ResState

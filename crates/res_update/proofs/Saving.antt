@@ -54,7 +54,7 @@ changed_are fork t (r ∷ rows) at =
     ap (λ (x : forks.Row). x ∷ saved_rows itself (map (updated_if_changed t) (rows_on fork rows))) (saved_is fork t r (is_changed r))
     ∙ ap (λ (rest : List forks.Row). saved_row (λ (_ : Place). new_bytes fork t (is_changed r) r) r ∷ rest) (changed_are fork t rows (at + 1))
 
--- rows behind the one that is updated
+-- rows after the one that is updated
 others_are : (fork : List ℕ) (t : HandleTable) (k : ℕ) (rows : List (Row Place)) (at : ℕ) → k < at
     → saved_rows itself (rows_on fork rows) ≡ rows_with (final_bytes fork t (RowAt k)) at rows
 others_are fork t k [] at past = refl
@@ -63,9 +63,9 @@ others_are fork t k (r ∷ rows) at past =
     sym (ap (λ (b : Bool). saved_row (λ (_ : Place). new_bytes fork t b r) r ∷ saved_rows itself (rows_on fork rows)) other)
     ∙ ap (λ (rest : List forks.Row). saved_row (λ (_ : Place). new_bytes fork t (at == k) r) r ∷ rest) (others_are fork t k rows (at + 1) (omega arith))
 
--- a change behind the first row
-behind : (change : FileRow → FileRow) (r : FileRow) (rows : List FileRow) (j : ℕ) → changed_at (suc j) change (r ∷ rows) ≡ r ∷ changed_at j change rows
-behind change r rows j = by (slice_get rows j)
+-- a change after the first row
+after : (change : FileRow → FileRow) (r : FileRow) (rows : List FileRow) (j : ℕ) → changed_at (suc j) change (r ∷ rows) ≡ r ∷ changed_at j change rows
+after change r rows j = by (slice_get rows j)
   where
     by : (o : Option FileRow) → option_map_or (λ (x : FileRow). set (r ∷ rows) (suc j) (change x)) o (r ∷ rows) ≡ r ∷ option_map_or (λ (x : FileRow). set rows j (change x)) o rows
     by None = refl
@@ -82,7 +82,7 @@ one_is fork t k zero (r ∷ rows) at is =
     ∙ ap (λ (rest : List forks.Row). saved_row (λ (_ : Place). new_bytes fork t (at == k) r) r ∷ rest) (others_are fork t k rows (at + 1) (omega arith))
 one_is fork t k (suc j) (r ∷ rows) at is =
     let other : (at == k) ≡ false = ne_eqb at k (λ same. let e : at ≡ k = same in absurd (omega arith)) in
-    ap (saved_rows itself) (behind (updated_row t) (row_on fork r) (rows_on fork rows) j)
+    ap (saved_rows itself) (after (updated_row t) (row_on fork r) (rows_on fork rows) j)
     ∙ sym (ap (λ (b : Bool). saved_row (λ (_ : Place). new_bytes fork t b r) r ∷ saved_rows itself (changed_at j (updated_row t) (rows_on fork rows))) other)
     ∙ ap (λ (rest : List forks.Row). saved_row (λ (_ : Place). new_bytes fork t (at == k) r) r ∷ rest) (one_is fork t k j rows (at + 1) (omega arith))
 

@@ -78,9 +78,9 @@ same_references f g at next place [] alike = refl
 same_references f g at next place (r ∷ rows) alike =
     let one = saved_row (λ (_ : Place). f at r) r in let other = saved_row (λ (_ : Place). g at r) r in
     let long : length (datum one) ≡ length (datum other) = datum_long one ∙ ap (λ (n : ℕ). 4 + n) alike.0 ∙ sym (datum_long other) in
-    let behind = next + length (name_text r.resource.name) in
-    ap (λ (n : ℕ). reference_text next place one ++ references_text behind (place + n) (rows_with f (at + 1) rows)) long
-    ∙ ap (λ (xs : List ℕ). reference_text next place one ++ xs) (same_references f g (at + 1) behind (place + length (datum other)) rows alike.1)
+    let after = next + length (name_text r.resource.name) in
+    ap (λ (n : ℕ). reference_text next place one ++ references_text after (place + n) (rows_with f (at + 1) rows)) long
+    ∙ ap (λ (xs : List ℕ). reference_text next place one ++ xs) (same_references f g (at + 1) after (place + length (datum other)) rows alike.1)
 
 -- the same numbers are the same header
 same_header : (f g : ℕ → Row Place → List ℕ) (at : ℕ) (rows : List (Row Place)) → AreAlike f g at rows → header_for (rows_with f at rows) ≡ header_for (rows_with g at rows)

@@ -26,7 +26,7 @@ pairs [] = []
 pairs (odd ∷ []) = []
 pairs (high ∷ low ∷ digits) = (16 * digit_value high + digit_value low) ∷ pairs digits
 
--- the same, where spaces may stand between the digits
+-- the same, where spaces may be between the digits
 abbrev hex : List ℕ → List ℕ
 hex digits = pairs (filter (λ digit. not (eqb digit 32)) digits)
 

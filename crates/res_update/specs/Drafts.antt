@@ -52,7 +52,7 @@ fits_as_fork table = rows_fit table.rows && nat_le (length (written table)) max_
 abbrev pub HasKind : Row Place → Type 0
 HasKind r = length r.resource.kind ≡ 4
 
--- where the bytes of rows stand in a fork, each behind four bytes of length, where the data of the first stand at this
+-- where the bytes of rows are in a fork, each after four bytes of length, where the data of the first are at this
 -- offset
 abbrev pub new_places : ℕ → List fork.Row → List Place
 new_places at [] = []

@@ -23,7 +23,7 @@ pub record ResourceEnd : Type 0 where
   pub outcome : Outcome
   pub state : ResState
 
--- a call's refusal, with this state behind it
+-- a call's refusal, with this state after it
 abbrev pub refused_with : OsErr → ResState → ResourceEnd
 refused_with code state = record { outcome = Err code; state = state }
 

@@ -5,7 +5,7 @@ use Rattle.fork_bytes.specs.Fork.{max_rows}
 use Rattle.fork_bytes.specs.Rows.{Row}
 use Rattle.fork_bytes.specs.Written.{names_offset, name_text}
 
--- whether two bytes hold the offset of each name, where the first stands at this one
+-- whether two bytes hold the offset of each name, where the first is at this one
 abbrev pub names_fit : ℕ → List Row → Bool
 names_fit at [] = true
 names_fit at (row ∷ rows) = option_map_or (λ name. nat_le at 65534) row.name true && names_fit (at + length (name_text row.name)) rows

@@ -38,7 +38,7 @@ module _ (honest : ℕ → Type 0) (worked : Type 0) (Failed : ℕ → Type 0) (
   ReadsData k own (Refused code) = (code ≡ IoErr) × (0 < length before) × Failed k
   ReadsData k own end = (end ≡ end_of_part in_memory) × (honest k → after ≡ bytes_at (length before) at own) × worked
 
-  -- by where they stand, or how the call ends that reads none
+  -- by where they are, or how the call ends that reads none
   abbrev pub ReadsPart : Files → Result RowPlace PartialEnd → PartialEnd → Type 0
   ReadsPart files (Ok p) end = ReadsData p.file (data_at p files) end
   ReadsPart files (Err refusal) end = (end ≡ refusal) × (after ≡ before) × worked

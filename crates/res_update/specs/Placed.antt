@@ -1,4 +1,4 @@
--- Rows that keep where their bytes stand in the fork, and the same rows with these bytes.
+-- Rows that keep where their bytes are in the fork, and the same rows with these bytes.
 use Rattle.std.specs.Prelude.{ℕ, ◌+◌, ◌≤◌, ◌++◌, List, length, take, drop, replicate, map, All}
 use Rattle.fork_bytes.specs.declared.place.Place.{Place}
 use Rattle.fork_bytes.specs.Fork.{max_fork}

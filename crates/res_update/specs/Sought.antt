@@ -19,7 +19,7 @@ use Rattle.res_update.specs.Files.{ResState, ResourceEnd, refused_with}
 use Rattle.res_update.specs.Loads.{placing}
 use Rattle.res_update.specs.Steps.{GetsRow, MemoryRelation}
 
--- where the resource stands that a call seeks, if there is one
+-- where the resource is that a call seeks, if there is one
 abbrev pub place_sought : SeekingCall → Files → Option RowPlace
 place_sought (GetNamedResource kind name) files = place_of_name kind name files
 place_sought (Get1NamedResource kind name) files = name_here kind name files

@@ -46,10 +46,10 @@ work_of state (Writing (CloseResFile named)) = updating (file_update state named
 work_of state (OpenResFile k) = if is_open k state.files then Quiet else Opens k
 work_of state call = option_map_or Gets (row_wanted state call) Quiet
 
--- the state behind a call of the Memory Manager that asked so and left this heap: rows have forgotten what answers
+-- the state after a call of the Memory Manager that asked so and left this heap: rows have forgotten what answers
 -- disposed of
-abbrev pub behind_memory : List Ask → Heap → ResState → ResState
-behind_memory asks heap state = with_heap heap (with_files (handles_forgotten (disposed_in asks) state.files) state)
+abbrev pub after_memory : List Ask → Heap → ResState → ResState
+after_memory asks heap state = with_heap heap (with_files (handles_forgotten (disposed_in asks) state.files) state)
 
 -- the end of a call that opens a file, of which this was read
 abbrev pub opened_end : ℕ → ResState → Result (FileTable) OsErr → ResourceEnd
@@ -76,9 +76,9 @@ module _ (Memory : MemoryRelation) (disks : ℕ → DiskRelations) where
   GetsRow device old call asks end p r None = (asks ≡ []) × (end ≡ found_end call r old)
   GetsRow device old call asks end p r (Some inner) = (outcome : Outcome) × (heap : Heap)
       × Memory old.shape old.heap inner asks outcome heap
-      × (end ≡ placed_end device (loads_bytes old call) call p r outcome (behind_memory asks heap old))
+      × (end ≡ placed_end device (loads_bytes old call) call p r outcome (after_memory asks heap old))
 
-  -- the same for the row that stands there
+  -- the same for the row that is there
   abbrev pub GetsPlace : Device → ResState → ResourceCall → List Ask → ResourceEnd → RowPlace → Option FileRow → Type 0
   GetsPlace device old call asks end p (Some r) = GetsRow device old call asks end p r (placing old.heap.table (loads_bytes old call) r)
   GetsPlace device old call asks end p None = ⊥

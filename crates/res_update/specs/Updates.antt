@@ -81,17 +81,17 @@ handles_of rows = filter_map (λ (r : FileRow). r.handle) rows
 abbrev pub disposed : Shape → List ℕ → Heap → Heap
 disposed s hs heap = heap_after s heap (map DisposeHandle hs)
 
--- the state behind an update: CloseResFile disposes of the handles of the file's rows, in order, and closes it
-abbrev pub behind_update : ResourceCall → ℕ → ResState → ResState
-behind_update (Writing (CloseResFile named)) k state = with_heap (disposed state.shape (handles_of (rows_of k state.files)) state.heap) (with_files (file_closed k state.files) state)
-behind_update _ k state = state
+-- the state after an update: CloseResFile disposes of the handles of the file's rows, in order, and closes it
+abbrev pub after_update : ResourceCall → ℕ → ResState → ResState
+after_update (Writing (CloseResFile named)) k state = with_heap (disposed state.shape (handles_of (rows_of k state.files)) state.heap) (with_files (file_closed k state.files) state)
+after_update _ k state = state
 
 -- The end of a call that makes an update. A fault before the first write changes nothing; a later one closes the file,
 -- and its handles live on.
 abbrev pub update_end : Device → ResourceCall → Update → ResState → ResourceEnd
 update_end Works call u state = record {
   outcome = Ok Nothing;
-  state = behind_update call u.file (with_disk u.file (written (saved_table u.table)) (with_files (rows_changed u.file (λ _. u.table.rows) state.files) state));
+  state = after_update call u.file (with_disk u.file (written (saved_table u.table)) (with_files (rows_changed u.file (λ _. u.table.rows) state.files) state));
 }
 update_end FailsBefore call u state = refused_with IoErr state
 update_end (FailsWriting left) call u state = refused_with IoErr (with_disk u.file left (with_files (file_closed u.file state.files) state))

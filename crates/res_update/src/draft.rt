@@ -1,4 +1,4 @@
-//! The draft of a fork: zeros stand where bytes are kept that only the disk has.
+//! The draft of a fork: zeros are where bytes are kept that only the disk has.
 
 ghost use Rattle.std.specs.Prelude.{◌≡◌, length, true, IfOk, IsFalse};
 ghost use Rattle.res_table.specs.Rows.{contents};

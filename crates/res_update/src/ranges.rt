@@ -1,4 +1,4 @@
-//! Where the bytes of rows stand in the new fork, and which it keeps of the old one.
+//! Where the bytes of rows are in the new fork, and which it keeps of the old one.
 
 ghost use Rattle.std.specs.Prelude.{◌≡◌, ◌≤◌, length, IfOk};
 ghost use Rattle.fork_bytes.specs.Fork.{max_fork};
@@ -14,10 +14,10 @@ use mac_base::error::HostFull;
 use res_table::rows::Rows;
 use std::alloc::Global;
 
-/// Where the data begin in a fork that is written: behind the header and the extra bytes.
+/// Where the data begin in a fork that is written: after the header and the extra bytes.
 const DATA_OFFSET: u32 = 256;
 
-/// Where the bytes of rows stand in their fork.
+/// Where the bytes of rows are in their fork.
 pub(crate) fn new_places<'a>(alloc: Global, rows: &[DraftRow<'a>]) -> Result<Vec<Place>, HostFull>
     requires { length (data_text rows.now) ≤ max_fork }
     ensures { IfOk result (λ places. places.items ≡ new_places 256 rows.now) }

@@ -26,7 +26,7 @@ use res_table::chain::ResourceTable;
 use std::alloc::Global;
 
 /// What an update needs of the host's memory: the new fork without the bytes that it keeps of the old one, where these
-/// stand, and where the bytes of each row stand in the new fork.
+/// are, and where the bytes of each row are in the new fork.
 #[derive(Drop)]
 struct Draft {
     fork: Vec<u8>,
@@ -67,9 +67,9 @@ fn make_draft<C: Contents>(
 }
 
 /// Writes the fork of a table in which the selected rows have the bytes of their handles and all others those at their
-/// places in the old fork, and answers where the bytes of each row stand then. All that the new fork keeps is read
+/// places in the old fork, and answers where the bytes of each row are then. All that the new fork keeps is read
 /// before the first write. TooBig comes exactly where no fork holds the table, and HostFull where the host has no
-/// memory for it; the device is not asked then. Where the rows of each type stand together, the new fork stands for the
+/// memory for it; the device is not asked then. Where the rows of each type are together, the new fork stands for the
 /// table: it is read as it.
 pub fn write_table<S: ForkStore, C: Contents>(
     alloc: Global,

@@ -23,7 +23,7 @@ use std::alloc::{AllocError, Global};
 enum Place {
     /// In the file.
     Inside,
-    /// In no file that is known: a resource fork stands alone.
+    /// In no file that is known: a resource fork is alone.
     Nowhere,
     /// In a file beside an AppleDouble file.
     Beside,
@@ -97,7 +97,7 @@ fn check_fork(rt: &HostRuntime, bytes: &[u8]) -> Result<(), Problem> {
     Ok(())
 }
 
-/// The data fork of the new file, which `--data` names where it stands in a file of its own.
+/// The data fork of the new file, which `--data` names where it is in a file of its own.
 fn data_for(
     rt: &HostRuntime,
     asked: &Conversion<'_>,

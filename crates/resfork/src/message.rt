@@ -74,7 +74,7 @@ pub enum Problem {
     Rez(RezFault),
     /// A folder isn't one to which resources were unpacked.
     Pack(PackFault),
-    /// A resource stands apart from one before it of its type.
+    /// A resource is apart from one before it of its type.
     Apart(String),
     /// A file of a folder is no text.
     NoText(String),

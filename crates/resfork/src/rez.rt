@@ -75,7 +75,7 @@ fn is_container(rt: &HostRuntime, name: &str) -> bool {
     }
 }
 
-/// The first row that stands apart from one before it of its type.
+/// The first row that is apart from one before it of its type.
 fn apart<'r, 'a>(rows: &'r [Row<'a>]) -> Option<&'r Row<'a>> {
     for at in 1..rows.len() {
         let kind = rows[at].kind;
@@ -86,7 +86,7 @@ fn apart<'r, 'a>(rows: &'r [Row<'a>]) -> Option<&'r Row<'a>> {
     None
 }
 
-/// Refuses rows of which some of one type stand apart: a fork can't say so.
+/// Refuses rows of which some of one type are apart: a fork can't say so.
 fn check_together(alloc: Global, rows: &[Row<'_>]) -> Result<(), Problem> {
     let Some(row) = apart(rows) else {
         return Ok(());

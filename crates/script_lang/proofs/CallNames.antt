@@ -102,7 +102,7 @@ named_again name.AddResource = refl
 pub one_call : (a b : CallName) → (signature a).name ≡ (signature b).name → a ≡ b
 one_call a b e = let same : Some a ≡ Some b = sym (named_again a) ∙ ap call_named e ∙ named_again b in cc
 
--- where a call stands that was found
+-- where a call is that was found
 record StandsAt (test : CallName → Bool) (calls : List CallName) : Type 0 where
   place : ℕ
   within : place < length calls

@@ -27,7 +27,7 @@ with_value-old [] place value within = absurd (omega arith)
 with_value-old (old ∷ others) zero value within = refl
 with_value-old (old ∷ others) (suc place) value within = ap (λ (t : List ℕ). old ∷ t) (with_value-old others place value (omega arith))
 
--- a value behind all others, which is written over a zero
+-- a value after all others, which is written over a zero
 pub with_value-new : (variables : Variables) (place more value : ℕ) → more + length variables ≡ place + 1 → slice_set (variables ++ replicate more 0) place value ≡ with_value variables place value
 with_value-new [] zero zero value e = absurd (omega arith)
 with_value-new [] zero (suc zero) value e = refl

@@ -37,7 +37,7 @@ address n = 36 ∷ in_digits (to_be_bytes w32 n)
 abbrev pub is_plain : ℕ → ℕ → Bool
 is_plain quote byte = nat_le 32 byte && nat_le byte 126 && not (byte == quote)
 
--- bytes between these quotes where each can stand there, else as `$"` hexadecimal digits `"`
+-- bytes between these quotes where each can be there, else as `$"` hexadecimal digits `"`
 abbrev pub between : ℕ → List ℕ → List ℕ
 between quote bytes = if list_all (is_plain quote) bytes then quote ∷ bytes ++ quote ∷ [] else 36 ∷ 34 ∷ in_digits bytes ++ 34 ∷ []
 
@@ -77,7 +77,7 @@ results_text (results.Blocks blocks) = spaced (decimal (length blocks))
 results_text (results.Kind kind) = spaced (type_text kind)
 results_text (results.Info info) = spaced (info_text info)
 
--- the results, and the code behind them; a refusal has no results
+-- the results, and the code after them; a refusal has no results
 abbrev pub outcome_text : Result Results OsErr → List ℕ
 outcome_text (Ok results) = results_text results ++ codes " 0"
 outcome_text (Err error) = spaced (signed_decimal (code_of error))
@@ -114,7 +114,7 @@ call_text number name reply = decimal number ++ spaced name ++ outcome_text repl
 abbrev pub asked_text : Asked → List ℕ
 asked_text asked = codes "  gz " ++ decimal asked.needed ++ spaced (decimal asked.value) ++ 10 ∷ []
 
--- what is printed for the reply to the call of a line with this number, and behind it for each ask that had an answer
+-- what is printed for the reply to the call of a line with this number, and after it for each ask that had an answer
 abbrev pub reply_text : ℕ → CallName → Reply → List Asked → List ℕ
 reply_text number call reply asked = call_text number (signature call).name reply ++ flat_map asked_text asked
 

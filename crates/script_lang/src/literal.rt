@@ -81,7 +81,7 @@ fn are_plain(quote: u8, bytes: &[u8]) -> bool
     most <= b'~' - b' ' && !has_quote
 }
 
-/// Adds bytes between these quotes where each can stand there, else as `$"`, hexadecimal digits and `"`.
+/// Adds bytes between these quotes where each can be there, else as `$"`, hexadecimal digits and `"`.
 fn push_quoted(text: &mut Vec<u8>, quote: u8, bytes: &[u8]) -> Result<(), HostFull>
     ensures { Adds text.old text.new result (texts.between quote bytes.now) }
 {

@@ -106,7 +106,7 @@ fn flag_letters(flags: Flags) -> [u8; 3]
     ]
 }
 
-/// Adds what stands in a block, whose owner has so many bytes and these flags.
+/// Adds what is in a block, whose owner has so many bytes and these flags.
 fn push_kind(text: &mut Vec<u8>, kind: Kind, length: u32, flags: Flags) -> Result<(), HostFull>
     ensures { Adds text.old text.new result (texts.kind_text kind length flags) }
 {

@@ -50,12 +50,12 @@ abbrev answering : GivenAnswer → Seen → Seen
 answering answer x = record x { before = record x.before { answers = x.before.answers ++ answer ∷ [] } }
 
 -- what the opening of file 1 leaves
-abbrev behind_opening : Seen → Ended → Seen
-behind_opening x e = record x { before = record x.before { tools = e.tools; answers = e.left } }
+abbrev after_opening : Seen → Ended → Seen
+after_opening x e = record x { before = record x.before { tools = e.tools; answers = e.left } }
 
 -- what the call of a line leaves
-abbrev behind : Seen → CallLine → Ended → Seen
-behind x line e =
+abbrev after : Seen → CallLine → Ended → Seen
+after x line e =
     let call = call_of x.variables line in
     let refused = refused_after x.before.refused call e.outcome in
     let resource_refused = resource_refused_after x.before.resource_refused call e.outcome in record {
@@ -131,7 +131,7 @@ module _ {S : Type 0} (store : Ghosts S) where
 
   -- the opening of file 1
   abbrev OpeningGoes : Seen → List ℕ → Seen → Type 0
-  OpeningGoes x text y = Goes x (Resource (OpenResFile 1)) (λ e. opening_text e.outcome) (behind_opening x) text y
+  OpeningGoes x text y = Goes x (Resource (OpenResFile 1)) (λ e. opening_text e.outcome) (after_opening x) text y
 
   opening-goes : (old : Machine S) (text : List ℕ) (new : Machine S) → AllHonest new.toolbox → DevicesWorked store old new
       → OpensFirst store old text new → OpeningGoes (seen old) text (seen new)
@@ -152,13 +152,13 @@ module _ {S : Type 0} (store : Ghosts S) where
 
   -- a statement
   StatementGoes : Seen → ℕ → Statement → List ℕ → Seen → Type 0
-  StatementGoes x number (CallStatement line) text y = Goes x (call_of x.variables line) (printed number line) (behind x line) text y
+  StatementGoes x number (CallStatement line) text y = Goes x (call_of x.variables line) (printed number line) (after x line) text y
   StatementGoes x number (Answer line) text y = (text ≡ []) × (y ≡ answering (answer_with x.variables line) x)
 
   one-stated : (x : Seen) (number : ℕ) (statement : Statement) (text text' : List ℕ) (y y' : Seen)
       → StatementGoes x number statement text y → StatementGoes x number statement text' y' → (text ≡ text') × (y ≡ y')
   unfolding StatementGoes
-  one-stated x number (CallStatement line) text text' y y' a b = one-goes x (call_of x.variables line) (printed number line) (behind x line) text text' y y' a b
+  one-stated x number (CallStatement line) text text' y y' a b = one-goes x (call_of x.variables line) (printed number line) (after x line) text text' y y' a b
   one-stated x number (Answer line) text text' y y' a b = (a.0 ∙ sym b.0, a.1 ∙ sym b.1)
 
   statement-goes : (old : Machine S) (number : ℕ) (statement : Statement) (text : List ℕ) (new : Machine S) → AllHonest new.toolbox → DevicesWorked store old new
@@ -211,6 +211,6 @@ runs-agree store sizes one other lines (text ∷ texts) (text' ∷ texts') last 
     let moved = subst (λ x. OpeningGoes store x text (seen store run.0)) same (opening-goes store start text run.0 (λ k. before-lines store run.0 lines texts last run.2 k (each k)) worked.0 run.1) in
     let opens = opening-goes store start' text' run'.0 (λ k. before-lines store run'.0 lines texts' last' run'.2 k (each' k)) worked'.0 run'.1 in
     let x = seen store start' in
-    let first = one-goes store x (Resource (OpenResFile 1)) (λ e. opening_text e.outcome) (behind_opening x) text text' (seen store run.0) (seen store run'.0) moved opens in
+    let first = one-goes store x (Resource (OpenResFile 1)) (λ e. opening_text e.outcome) (after_opening x) text text' (seen store run.0) (seen store run'.0) moved opens in
     let rest = lines-agree store run.0 run'.0 lines texts texts' last last' each each' first.1 run.2 worked.1 run'.2 worked'.1 in
     (ap (λ t. t ∷ texts) first.0 ∙ ap (λ ts. text' ∷ ts) rest.0, ap (λ (x : Seen). x.before.tools) rest.1)

@@ -1,4 +1,4 @@
--- A device that is honest behind lines was so before them.
+-- A device that is honest after lines was so before them.
 use Rattle.std.proofs.Common.{◌≡◌, ℕ, ◌-◌, List, [], ◌∷◌, Option, None, Some, slice_get, All, IfSome, refl, subst}
 use Rattle.std.proofs.lemmas.Option.{get_or_from_slice_get, slice_get_within}
 use Rattle.fork_disk.specs.declared.store.ForkStore.{Ghosts}

@@ -75,7 +75,7 @@ CallDoes store old number line text new = (reply : Reply)
     × (new.variables ≡ assigned line.assigned (first_number reply.outcome) old.variables)
     × (text ≡ reply_text number (name_of line.call) reply (answered asks))
 
--- From old, an answer prints nothing and leaves new: it is queued behind the others, with the values that its operands
+-- From old, an answer prints nothing and leaves new: it is queued after the others, with the values that its operands
 -- have.
 abbrev pub AnswerDoes : {S : Type 0} → Machine S → WrittenAnswer → List ℕ → Machine S → Type 0
 AnswerDoes old line text new = (text ≡ [])

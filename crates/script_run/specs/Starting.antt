@@ -1,4 +1,4 @@
--- What stands ready before the first line of a script is run.
+-- What is ready before the first line of a script is run.
 use Rattle.std.specs.Prelude.{◌≡◌, ◌⊎◌, ℕ, List, [], Result, Ok, Err, Vec, ⊤}
 use Rattle.std.specs.Global.{Global}
 use Rattle.script_text.specs.Script.{IsScript, IsFaultAt}
@@ -21,7 +21,7 @@ abbrev pub Reads : List ℕ → Result (Vec ℕ Global) NoScript → Type 0
 Reads input (Ok text) = text.items ≡ input
 Reads input (Err fault) = IsNoScript input fault
 
--- what stands ready for this input: its script, or why not
+-- what is ready for this input: its script, or why not
 abbrev pub IsReady : List ℕ → Result Ready NoScript → Type 0
 IsReady input (Ok ready) = IsScript input ready.script.items
 IsReady input (Err fault) = IsNoScript input fault

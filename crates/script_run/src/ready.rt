@@ -1,4 +1,4 @@
-//! What stands ready before the first line of a script is run.
+//! What is ready before the first line of a script is run.
 
 ghost use Rattle.std.specs.Prelude.{◌≡◌, ℕ, List, [], Err, IfOk, IsErrOf};
 ghost use Rattle.script_run.specs.Starting.{IsReady, Reads};

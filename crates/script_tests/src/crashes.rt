@@ -104,7 +104,7 @@ fn recovered(rt: &impl Abort, alloc: Global, found: &MemPair) -> Result<Vec<u8>,
     copied(alloc, &store)
 }
 
-/// Recovers each outcome of a recovery that was stopped behind so many calls: always the same fork. How many there are.
+/// Recovers each outcome of a recovery that was stopped after so many calls: always the same fork. How many there are.
 fn check_recoveries(
     rt: &impl Abort,
     alloc: Global,
@@ -123,7 +123,7 @@ fn check_recoveries(
     Ok(count)
 }
 
-/// Stops a recovery behind each of its calls, and recovers each outcome of that: always the same fork. How many were
+/// Stops a recovery after each of its calls, and recovers each outcome of that: always the same fork. How many were
 /// seen.
 fn stop_recovery(
     rt: &impl Abort,
@@ -149,7 +149,7 @@ fn is_either(fork: &[u8], either: (&[u8], &[u8])) -> bool {
     fork == either.0 || fork == either.1
 }
 
-/// Recovers the n-th outcome of an update that was stopped behind so many calls: one of both forks. Then it stops that
+/// Recovers the n-th outcome of an update that was stopped after so many calls: one of both forks. Then it stops that
 /// recovery. How many outcomes of that were seen.
 fn check_outcome(
     rt: &impl Abort,
@@ -180,7 +180,7 @@ fn check_outcomes(
     Ok(seen)
 }
 
-/// Stops an update behind each of its calls, and each recovery of each outcome. How many outcomes were seen.
+/// Stops an update after each of its calls, and each recovery of each outcome. How many outcomes were seen.
 fn stop_update(
     rt: &impl Abort,
     alloc: Global,
@@ -202,8 +202,8 @@ fn stop_update(
     Ok(seen)
 }
 
-/// The same behind a journal of this gate, with these bytes.
-fn stop_behind(
+/// The same after a journal of this gate, with these bytes.
+fn stop_after(
     rt: &impl Abort,
     alloc: Global,
     old: &[u8],
@@ -214,7 +214,7 @@ fn stop_behind(
     stop_update(rt, alloc, old, &journal, new)
 }
 
-/// An update where there is no journal yet, and one behind a gate that is open over too short a text.
+/// An update where there is no journal yet, and one after a gate that is open over too short a text.
 fn stop_forth(
     rt: &impl Abort,
     alloc: Global,
@@ -222,7 +222,7 @@ fn stop_forth(
     second: &[u8],
 ) -> Result<u64, AllocError> {
     let seen = stop_update(rt, alloc, first, &[], second)?;
-    let more = stop_behind(rt, alloc, first, (1, front(second, 311)), second)?;
+    let more = stop_after(rt, alloc, first, (1, front(second, 311)), second)?;
     Ok(seen.saturating_add(more))
 }
 
@@ -234,8 +234,8 @@ fn stop_back(
     second: &[u8],
 ) -> Result<u64, AllocError> {
     let ones = vec![in alloc; 1; 400]?;
-    let seen = stop_behind(rt, alloc, second, (0, second), first)?;
-    let more = stop_behind(rt, alloc, second, (2, &ones), first)?;
+    let seen = stop_after(rt, alloc, second, (0, second), first)?;
+    let more = stop_after(rt, alloc, second, (2, &ones), first)?;
     Ok(seen.saturating_add(more))
 }
 

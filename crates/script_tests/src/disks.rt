@@ -18,8 +18,8 @@ GetHandleSize h
 CurResFile
 ";
 
-/// Numbers of calls, up to which they fail from the first one on, in the next words the fork that stands then; and what
-/// is printed. The last row is behind all calls.
+/// Numbers of calls, up to which they fail from the first one on, in the next words the fork that is then; and what
+/// is printed. The last row is after all calls.
 const RUNS: &str = "\
 1 6 old
 0 OpenResFile -36
@@ -92,7 +92,7 @@ const NEW: (&[u8], &[u8]) = (
     b"\x00\x00\x00\x01a\x00\x00\x00\x00",
 );
 
-/// The map of both behind its copy of the header.
+/// The map of both after its copy of the header.
 const MAP: &[u8] = b"\x00\x00\x00\x00\x00\x00\x00\x00\x00\x1c\x00\x3e\x00\x00TEXT\x00\x01\x00\x0a\
 \x00\x05\xff\xff\x00\x00\x00\x00\x00\x00\x00\x00\x00\x05\xff\xff\x00\x00\x00\x05\x00\x00\x00\x00";
 
@@ -106,7 +106,7 @@ fn fork_of(alloc: Global, (header, data): (&[u8], &[u8])) -> Result<Vec<u8>, All
     Ok(fork)
 }
 
-/// A fork by its name: the new one, also with the last byte of the old one behind it, or the old one.
+/// A fork by its name: the new one, also with the last byte of the old one after it, or the old one.
 fn fork_named(alloc: Global, name: &str) -> Result<Vec<u8>, AllocError> {
     if name == "old" {
         return fork_of(alloc, OLD);

@@ -42,14 +42,14 @@ pub fn two_rows(alloc: Global) -> Result<Vec<u8>, AllocError> {
     )
 }
 
-/// A journal with this gate, that tells 312 bytes, and with these behind it.
+/// A journal with this gate, that tells 312 bytes, and with these after it.
 pub fn journal_of(alloc: Global, gate: u8, bytes: &[u8]) -> Result<Vec<u8>, AllocError> {
     let mut journal = vec![in alloc; gate, 0, 0, 1, 0x38]?;
     journal.extend_from_slice(bytes)?;
     Ok(journal)
 }
 
-/// A store as a start finds it with these bytes, whose pair stops behind so many writes, cuts and syncs.
+/// A store as a start finds it with these bytes, whose pair stops after so many writes, cuts and syncs.
 pub fn started(
     alloc: Global,
     fork: &[u8],

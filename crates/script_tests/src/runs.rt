@@ -27,7 +27,7 @@ pub(crate) struct Plan<'a> {
     pub(crate) fails: (bool, bool),
 }
 
-/// A reader of bytes that gives at most `piece` of them in a read, and fails behind them or ends there.
+/// A reader of bytes that gives at most `piece` of them in a read, and fails after them or ends there.
 #[derive(Drop)]
 struct Pieces<'a> {
     rest: &'a [u8],
@@ -83,7 +83,7 @@ pub(crate) struct Seen {
 }
 
 impl Seen {
-    /// Whether the run ended so, behind so many failures of the reader and the writer, and wrote this.
+    /// Whether the run ended so, after so many failures of the reader and the writer, and wrote this.
     pub(crate) fn is_as(&self, end: RunEnd, failures: (u64, u64), text: &[u8]) -> bool {
         let (reads, writes) = self.failures;
         self.end == end

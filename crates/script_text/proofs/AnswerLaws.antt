@@ -23,13 +23,13 @@ pub record Calling (names : List (List ℕ)) (tokens rest : List Token) (calls :
 pub calling_none : (names : List (List ℕ)) (tokens : List Token) → Calling names tokens tokens []
 calling_none names tokens = record { there = λ more h. h; back = λ all h. (all, refl, h) }
 
-one_more : (names : List (List ℕ)) (name operand : Token) (behind : List Token) (written : WrittenCall) (more : List WrittenCall) → IsWrittenCall names name operand written → MayFollow behind → AreCalls names (drop 1 behind) more → AreCalls names (name ∷ operand ∷ behind) (written ∷ more)
+one_more : (names : List (List ℕ)) (name operand : Token) (after : List Token) (written : WrittenCall) (more : List WrittenCall) → IsWrittenCall names name operand written → MayFollow after → AreCalls names (drop 1 after) more → AreCalls names (name ∷ operand ∷ after) (written ∷ more)
 one_more names name operand [] written [] is may h = is
 one_more names name operand [] written (other ∷ more) is may h = absurd h
 one_more names name operand (mark ∷ []) written more is may h = absurd (may.1 refl)
 one_more names name operand (mark ∷ token ∷ tokens) written more is may h = (is, may.0, h)
 
-one_less : (names : List (List ℕ)) (name operand : Token) (behind : List Token) (written : WrittenCall) (all : List WrittenCall) → IsWrittenCall names name operand written → AreCalls names (name ∷ operand ∷ behind) all → (others : List WrittenCall) × (all ≡ written ∷ others) × AreCalls names (drop 1 behind) others
+one_less : (names : List (List ℕ)) (name operand : Token) (after : List Token) (written : WrittenCall) (all : List WrittenCall) → IsWrittenCall names name operand written → AreCalls names (name ∷ operand ∷ after) all → (others : List WrittenCall) × (all ≡ written ∷ others) × AreCalls names (drop 1 after) others
 one_less names name operand [] written [] is h = absurd h
 one_less names name operand [] written (first ∷ second ∷ others) is h = absurd h
 one_less names name operand [] written (first ∷ []) is h = ([], ap (λ (w : WrittenCall). w ∷ []) (one_written names name operand first written h is), tt)
@@ -38,24 +38,24 @@ one_less names name operand (mark ∷ token ∷ tokens) written [] is h = absurd
 one_less names name operand (mark ∷ token ∷ tokens) written (first ∷ others) is h = (others, ap (λ (w : WrittenCall). w ∷ others) (one_written names name operand first written h.0 is), h.2)
 
 -- one call more
-pub calling_more : (names : List (List ℕ)) (tokens : List Token) (calls : List WrittenCall) (name operand : Token) (behind : List Token) (written : WrittenCall) → Calling names tokens (name ∷ operand ∷ behind) calls → IsWrittenCall names name operand written → MayFollow behind → Calling names tokens (drop 1 behind) (calls ++ written ∷ [])
-calling_more names tokens calls name operand behind written c is may = record { there = there; back = back }
+pub calling_more : (names : List (List ℕ)) (tokens : List Token) (calls : List WrittenCall) (name operand : Token) (after : List Token) (written : WrittenCall) → Calling names tokens (name ∷ operand ∷ after) calls → IsWrittenCall names name operand written → MayFollow after → Calling names tokens (drop 1 after) (calls ++ written ∷ [])
+calling_more names tokens calls name operand after written c is may = record { there = there; back = back }
   where
-    there : (more : List WrittenCall) → AreCalls names (drop 1 behind) more → AreCalls names tokens ((calls ++ written ∷ []) ++ more)
+    there : (more : List WrittenCall) → AreCalls names (drop 1 after) more → AreCalls names tokens ((calls ++ written ∷ []) ++ more)
     there more h =
-        subst (λ (t : List WrittenCall). AreCalls names tokens t) (sym (append_assoc calls (written ∷ []) more)) (c.there (written ∷ more) (one_more names name operand behind written more is may h))
+        subst (λ (t : List WrittenCall). AreCalls names tokens t) (sym (append_assoc calls (written ∷ []) more)) (c.there (written ∷ more) (one_more names name operand after written more is may h))
 
-    back : (all : List WrittenCall) → AreCalls names tokens all → (more : List WrittenCall) × (all ≡ (calls ++ written ∷ []) ++ more) × AreCalls names (drop 1 behind) more
+    back : (all : List WrittenCall) → AreCalls names tokens all → (more : List WrittenCall) × (all ≡ (calls ++ written ∷ []) ++ more) × AreCalls names (drop 1 after) more
     back all h =
         let found = c.back all h in
-        let split = one_less names name operand behind written found.0 is found.2 in
+        let split = one_less names name operand after written found.0 is found.2 in
         (split.0, found.1 ∙ ap (λ (t : List WrittenCall). calls ++ t) split.1 ∙ sym (append_assoc calls (written ∷ []) split.0), split.2)
 
 -- two tokens that are no call
-pub calling_fails : (names : List (List ℕ)) (tokens : List Token) (calls : List WrittenCall) (name operand : Token) (behind : List Token) → Calling names tokens (name ∷ operand ∷ behind) calls → ((written : WrittenCall) → ¬ IsWrittenCall names name operand written) → (all : List WrittenCall) → ¬ AreCalls names tokens all
-calling_fails names tokens calls name operand behind c none all h = no_more behind (c.back all h).0 (c.back all h).2
+pub calling_fails : (names : List (List ℕ)) (tokens : List Token) (calls : List WrittenCall) (name operand : Token) (after : List Token) → Calling names tokens (name ∷ operand ∷ after) calls → ((written : WrittenCall) → ¬ IsWrittenCall names name operand written) → (all : List WrittenCall) → ¬ AreCalls names tokens all
+calling_fails names tokens calls name operand after c none all h = no_more after (c.back all h).0 (c.back all h).2
   where
-    no_more : (behind : List Token) (more : List WrittenCall) → ¬ AreCalls names (name ∷ operand ∷ behind) more
+    no_more : (after : List Token) (more : List WrittenCall) → ¬ AreCalls names (name ∷ operand ∷ after) more
     no_more [] [] h = absurd h
     no_more [] (written ∷ other ∷ more) h = absurd h
     no_more [] (written ∷ []) h = none written h
@@ -63,11 +63,11 @@ calling_fails names tokens calls name operand behind c none all h = no_more behi
     no_more (mark ∷ token ∷ tokens) [] h = absurd h
     no_more (mark ∷ token ∷ tokens) (written ∷ more) h = none written h.0
 
--- what may not stand behind a call
-pub calling_halts : (names : List (List ℕ)) (tokens : List Token) (calls : List WrittenCall) (name operand : Token) (behind : List Token) → Calling names tokens (name ∷ operand ∷ behind) calls → ¬ MayFollow behind → (all : List WrittenCall) → ¬ AreCalls names tokens all
-calling_halts names tokens calls name operand behind c none all h = no_more behind (c.back all h).0 none (c.back all h).2
+-- what may not are after a call
+pub calling_halts : (names : List (List ℕ)) (tokens : List Token) (calls : List WrittenCall) (name operand : Token) (after : List Token) → Calling names tokens (name ∷ operand ∷ after) calls → ¬ MayFollow after → (all : List WrittenCall) → ¬ AreCalls names tokens all
+calling_halts names tokens calls name operand after c none all h = no_more after (c.back all h).0 none (c.back all h).2
   where
-    no_more : (behind : List Token) (more : List WrittenCall) → ¬ MayFollow behind → ¬ AreCalls names (name ∷ operand ∷ behind) more
+    no_more : (after : List Token) (more : List WrittenCall) → ¬ MayFollow after → ¬ AreCalls names (name ∷ operand ∷ after) more
     no_more [] more none h = none tt
     no_more (mark ∷ []) more none h = absurd h
     no_more (mark ∷ token ∷ tokens) [] none h = absurd h
@@ -92,24 +92,24 @@ pub calling_ends : (names : List (List ℕ)) (tokens rest : List Token) (calls :
 calling_ends names tokens rest calls true c short e = calling_all names tokens rest calls c (nil_from_length rest (eqb-true (length rest) 0 (sym e)))
 calling_ends names tokens rest calls false c short e = calling_odd names tokens rest calls c short (λ none. eqb-false (length rest) 0 (sym e) (ap length none))
 
--- what stands behind the keyword is a value and the calls
-behind : (names : List (List ℕ)) (tokens rest : List Token) (answer : WrittenAnswer) → tokens ≡ Word (codes "gz") ∷ rest → (is : IsAnswer names tokens answer) → rest ≡ is.0 ∷ is.1
-behind names tokens rest answer begins is = let same : Word (codes "gz") ∷ rest ≡ Word (codes "gz") ∷ is.0 ∷ is.1 = sym begins ∙ is.2 in cc
+-- what is after the keyword is a value and the calls
+after : (names : List (List ℕ)) (tokens rest : List Token) (answer : WrittenAnswer) → tokens ≡ Word (codes "gz") ∷ rest → (is : IsAnswer names tokens answer) → rest ≡ is.0 ∷ is.1
+after names tokens rest answer begins is = let same : Word (codes "gz") ∷ rest ≡ Word (codes "gz") ∷ is.0 ∷ is.1 = sym begins ∙ is.2 in cc
 
 -- a token that is no value
 pub not_a_value : (names : List (List ℕ)) (tokens : List Token) (value : Token) (calls : List Token) → tokens ≡ Word (codes "gz") ∷ value ∷ calls → ((x : NumberOperand) → ¬ IsNumberOperand names value x) → (answer : WrittenAnswer) → ¬ IsAnswer names tokens answer
 not_a_value names tokens value calls begins none answer is =
-    let same : value ∷ calls ≡ is.0 ∷ is.1 = behind names tokens (value ∷ calls) answer begins is in
+    let same : value ∷ calls ≡ is.0 ∷ is.1 = after names tokens (value ∷ calls) answer begins is in
     let this : is.0 ≡ value = cc in
     none answer.value (subst (λ (t : Token). IsNumberOperand names t answer.value) this is.3)
 
 calls_are : (names : List (List ℕ)) (tokens : List Token) (value : Token) (calls : List Token) (answer : WrittenAnswer) → tokens ≡ Word (codes "gz") ∷ value ∷ calls → IsAnswer names tokens answer → AreCalls names calls answer.calls
 calls_are names tokens value calls answer begins is =
-    let same : value ∷ calls ≡ is.0 ∷ is.1 = behind names tokens (value ∷ calls) answer begins is in
+    let same : value ∷ calls ≡ is.0 ∷ is.1 = after names tokens (value ∷ calls) answer begins is in
     let these : is.1 ≡ calls = cc in
     subst (λ (t : List Token). AreCalls names t answer.calls) these is.4
 
--- tokens behind the value that are no calls, or too many
+-- tokens after the value that are no calls, or too many
 pub not_calls : (names : List (List ℕ)) (tokens : List Token) (value : Token) (calls : List Token) → tokens ≡ Word (codes "gz") ∷ value ∷ calls → ((xs : List WrittenCall) → ¬ AreFewCalls names calls xs) → (answer : WrittenAnswer) → ¬ IsAnswer names tokens answer
 not_calls names tokens value calls begins none answer is = none answer.calls (calls_are names tokens value calls answer begins is, is.5)
 
@@ -120,7 +120,7 @@ too_many names calls xs are many others few =
     let small = few.1 in
     absurd (omega (arith, same, small, many))
 
-next_drop : {X : Type 0} (behind : List X) (n : ℕ) → n ≡ min (length behind) 1 → drop n behind ≡ drop 1 behind
+next_drop : {X : Type 0} (after : List X) (n : ℕ) → n ≡ min (length after) 1 → drop n after ≡ drop 1 after
 next_drop [] n e = ap (λ (k : ℕ). drop k []) e
 next_drop (x ∷ xs) n e = let one : n ≡ 1 = omega arith in ap (λ (k : ℕ). drop k (x ∷ xs)) one
 
@@ -128,9 +128,9 @@ map-drop : {X Y : Type 0} (f : X → Y) (xs : List X) → map f (drop 1 xs) ≡ 
 map-drop f [] = refl
 map-drop f (x ∷ xs) = refl
 
--- what is left behind a call and its semicolon, if there is one
-pub next_tokens : {X Y : Type 0} (f : X → Y) (behind : List X) (n : ℕ) → n ≡ min (length behind) 1 → drop 1 (map f behind) ≡ map f (take (length behind - n) (drop n behind))
-next_tokens f behind n e = sym (ap (λ (t : List _). map f t) (take_rest behind n ∙ next_drop behind n e) ∙ map-drop f behind)
+-- what is left after a call and its semicolon, if there is one
+pub next_tokens : {X Y : Type 0} (f : X → Y) (after : List X) (n : ℕ) → n ≡ min (length after) 1 → drop 1 (map f after) ≡ map f (take (length after - n) (drop n after))
+next_tokens f after n e = sym (ap (λ (t : List _). map f t) (take_rest after n ∙ next_drop after n e) ∙ map-drop f after)
 
 -- two words of which a test says that they don't differ
 pub same_word : (a b : List ℕ) (differs : Bool) → differs ≡ not (bytes_eq a b) → differs ≡ false → a ≡ b

@@ -17,29 +17,29 @@ pub record Parted (tokens : List Token) (name : Option (List ℕ)) (rest : List 
   pub parts : tokens ≡ assignment name ++ rest
   pub by : name ≡ assigned_by tokens
 
--- behind the assignment stand the call's name and its operands
-behind_by : (names : List (List ℕ)) (tokens rest : List Token) (o : Option (List ℕ)) (x : CallLine) → Parted tokens o rest → (p : List Token) → AreOperands names p (operands_of x.call) → (a : Option (List ℕ)) → tokens ≡ assignment a ++ Word (signature (name_of x.call)).name ∷ p → rest ≡ Word (signature (name_of x.call)).name ∷ p
-behind_by names tokens rest None x parted p are None e = sym parted.parts ∙ e
-behind_by names tokens rest None x parted p are (Some a) e = let bad : None ≡ Some a = parted.by ∙ ap assigned_by e in absurd cc
-behind_by names tokens rest (Some o) x parted p are None e =
+-- after the assignment are the call's name and its operands
+after_by : (names : List (List ℕ)) (tokens rest : List Token) (o : Option (List ℕ)) (x : CallLine) → Parted tokens o rest → (p : List Token) → AreOperands names p (operands_of x.call) → (a : Option (List ℕ)) → tokens ≡ assignment a ++ Word (signature (name_of x.call)).name ∷ p → rest ≡ Word (signature (name_of x.call)).name ∷ p
+after_by names tokens rest None x parted p are None e = sym parted.parts ∙ e
+after_by names tokens rest None x parted p are (Some a) e = let bad : None ≡ Some a = parted.by ∙ ap assigned_by e in absurd cc
+after_by names tokens rest (Some o) x parted p are None e =
     let same : Word o ∷ Equals ∷ rest ≡ Word (signature (name_of x.call)).name ∷ p = sym parted.parts ∙ e in
     let begins : p ≡ Equals ∷ rest = cc in
     absurd (operands_no_equals names rest (operands_of x.call) (subst (λ (t : List Token). AreOperands names t (operands_of x.call)) begins are))
-behind_by names tokens rest (Some o) x parted p are (Some a) e =
+after_by names tokens rest (Some o) x parted p are (Some a) e =
     let same : Word o ∷ Equals ∷ rest ≡ Word a ∷ Equals ∷ Word (signature (name_of x.call)).name ∷ p = sym parted.parts ∙ e in
     cc
 
-behind : (names : List (List ℕ)) (tokens rest : List Token) (o : Option (List ℕ)) (x : CallLine) → Parted tokens o rest → (p : IsCall names tokens x) → rest ≡ Word (signature (name_of x.call)).name ∷ p.1
-behind names tokens rest o x parted p = behind_by names tokens rest o x parted p.1 p.5 p.0 p.2
+after : (names : List (List ℕ)) (tokens rest : List Token) (o : Option (List ℕ)) (x : CallLine) → Parted tokens o rest → (p : IsCall names tokens x) → rest ≡ Word (signature (name_of x.call)).name ∷ p.1
+after names tokens rest o x parted p = after_by names tokens rest o x parted p.1 p.5 p.0 p.2
 
--- tokens without the name of a call behind the assignment make no call
+-- tokens without the name of a call after the assignment make no call
 pub no_named : (names : List (List ℕ)) (tokens rest : List Token) (o : Option (List ℕ)) → Parted tokens o rest → HasNoCall rest → (x : CallLine) → ¬ IsCall names tokens x
-no_named names tokens rest o parted none x p = none (name_of x.call) p.1 (behind names tokens rest o x parted p)
+no_named names tokens rest o parted none x p = none (name_of x.call) p.1 (after names tokens rest o x parted p)
 
--- the word is the call's name, and behind it stand the operands
+-- the word is the call's name, and after it are the operands
 name_and_operands : (names : List (List ℕ)) (tokens others : List Token) (word : List ℕ) (o : Option (List ℕ)) (x : CallLine) → Parted tokens o (Word word ∷ others) → (p : IsCall names tokens x) → ((signature (name_of x.call)).name ≡ word) × (p.1 ≡ others)
 name_and_operands names tokens others word o x parted p =
-    let same : Word word ∷ others ≡ Word (signature (name_of x.call)).name ∷ p.1 = behind names tokens (Word word ∷ others) o x parted p in (cc, cc)
+    let same : Word word ∷ others ≡ Word (signature (name_of x.call)).name ∷ p.1 = after names tokens (Word word ∷ others) o x parted p in (cc, cc)
 
 -- the name that a call's tokens assign may be assigned, and so may the call's result
 assigned_may : (names : List (List ℕ)) (tokens rest : List Token) (word : List ℕ) (x : CallLine) → Parted tokens (Some word) rest → (p : List Token) → AreOperands names p (operands_of x.call) → (a : Option (List ℕ)) → tokens ≡ assignment a ++ Word (signature (name_of x.call)).name ∷ p

@@ -49,7 +49,7 @@ many_none number names text many tokens are may = by tokens (many tokens are) ma
     by [] more may = omega arith
     by (t ∷ ts) more may = let few = few_tokens names (t ∷ ts) may.0.statement may.1.2 in omega arith
 
--- nor is one behind the last
+-- nor is one after the last
 pub beyond_none : (number : ℕ) (names : List (List ℕ)) (text : List ℕ) → max_lines < number → IsNoLine number names text
 beyond_none number names text beyond tokens are may = by tokens may
   where

@@ -39,7 +39,7 @@ none_within : (test : List ℕ → Bool) (names : List (List ℕ)) → list_any 
 none_within test [] e = refl
 none_within test (name ∷ names) e = none_by (test name) (list_any test names) (position_or_len test names) (length names) e (none_within test names)
 
--- a name keeps its place when another stands behind it
+-- a name keeps its place when another is after it
 pushed_kept : (names : List (List ℕ)) (a b : List ℕ) (place : ℕ) → place_of names a ≡ Some place → place_of (names ++ b ∷ []) a ≡ Some place
 pushed_kept names a b place e =
     let found = position_found (bytes_eq a) names place e in
@@ -56,7 +56,7 @@ kept_by names a b place false e = pushed_kept names a b place e
 pub keeps_place : KeepsPlace
 keeps_place names a b place e = kept_by names a b place (is_named names b) e
 
--- a new name stands last
+-- a new name is last
 pushed_taken : (names : List (List ℕ)) (a : List ℕ) → is_named names a ≡ false → place_of (names ++ a ∷ []) a ≡ Some (place_for names a)
 pushed_taken names a e =
     let last = none_within (bytes_eq a) names e in

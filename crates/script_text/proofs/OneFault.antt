@@ -9,7 +9,7 @@ use Rattle.script_text.specs.Tokens.{Token, AreTokens}
 use Rattle.script_text.specs.Script.{AreLines, AreParted, MayStand, IsNoLine, IsFaultAt, OneFault, NoFault, names_after, names_of}
 use Rattle.script_text.proofs.OneScript.{one_parted}
 
--- the tokens of the texts before a text, and its own, which may stand there
+-- the tokens of the texts before a text, and its own, which may be there
 record HasLine (number : ℕ) (names texts : List (List ℕ)) (i : ℕ) (here : List ℕ) : Type 0 where
   front : List (List Token)
   parts : AreParted (take i texts) front

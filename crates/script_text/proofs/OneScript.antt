@@ -24,7 +24,7 @@ use Rattle.script_text.proofs.OneAnswer.{one_answer, not_both}
 abbrev made : Option Name → NamedCall → CallLine
 made assigned call = record { assigned = assigned; call = call }
 
--- what stands behind a name and `=`, and what stands behind a call
+-- what is after a name and `=`, and what is after a call
 one_assignment : (names : List (List ℕ)) (a b : CallLine) (p q : List Token) → AreOperands names p (operands_of a.call) → AreOperands names q (operands_of b.call) → (x y : Option (List ℕ)) → assignment x ++ Word (signature (name_of a.call)).name ∷ p ≡ assignment y ++ Word (signature (name_of b.call)).name ∷ q → (x ≡ y) × ((signature (name_of a.call)).name ≡ (signature (name_of b.call)).name) × (p ≡ q)
 one_assignment names a b p q here there None None e = (refl, cc, cc)
 one_assignment names a b p q here there (Some x) (Some y) e = (cc, cc, cc)

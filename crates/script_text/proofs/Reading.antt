@@ -8,13 +8,13 @@ pub record Reading (line rest : List ℕ) (read : List Token) : Type 0 where
   pub back : (all : List Token) → AreTokens line all → (more : List Token) × (all ≡ read ++ more) × AreTokens rest more
 
 -- one token more
-pub reading_more : (line rest behind : List ℕ) (read : List Token) (token : Token) → Reading line rest read → TakesToken rest token behind → Reading line behind (read ++ token ∷ [])
-reading_more line rest behind read token r takes = record { there = there; back = back }
+pub reading_more : (line rest after : List ℕ) (read : List Token) (token : Token) → Reading line rest read → TakesToken rest token after → Reading line after (read ++ token ∷ [])
+reading_more line rest after read token r takes = record { there = there; back = back }
   where
-    there : (more : List Token) → AreTokens behind more → AreTokens line ((read ++ token ∷ []) ++ more)
+    there : (more : List Token) → AreTokens after more → AreTokens line ((read ++ token ∷ []) ++ more)
     there more h = subst (λ (t : List Token). AreTokens line t) (sym (append_assoc read (token ∷ []) more)) (r.there (token ∷ more) ((takes (token ∷ more)).1 (more, refl, h)))
 
-    back : (all : List Token) → AreTokens line all → (more : List Token) × (all ≡ (read ++ token ∷ []) ++ more) × AreTokens behind more
+    back : (all : List Token) → AreTokens line all → (more : List Token) × (all ≡ (read ++ token ∷ []) ++ more) × AreTokens after more
     back all h =
         let found = r.back all h in
         let next = (takes found.0).0 found.2 in

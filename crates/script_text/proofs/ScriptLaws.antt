@@ -7,7 +7,7 @@ use Rattle.script_lang.specs.declared.line.Line.{Line}
 use Rattle.script_text.specs.declared.script.Fault.{Fault}
 use Rattle.script_text.specs.declared.script.Fault.TheVariants as fault
 use Rattle.script_text.specs.Tokens.{Token, AreTokens}
-use Rattle.script_text.specs.Script.{AreLines, AreParted, IsFaultAt, IsNoLine, StopsBehind, IsFault, names_after, names_of, max_lines, max_script}
+use Rattle.script_text.specs.Script.{AreLines, AreParted, IsFaultAt, IsNoLine, StopsAfter, IsFault, names_after, names_of, max_lines, max_script}
 use Rattle.script_text.specs.Reading.{Says, Reads, Fails}
 
 -- one text more
@@ -67,11 +67,11 @@ pub parsing_none : (text : List ℕ) → Parsing text text 0 [] []
 parsing_none text = record { front = []; parted = []; texts = refl; parts = tt; are = tt; named = refl; count = refl; few = omega arith }
 
 -- one text more
-pub parsing_more : (text rest behind here : List ℕ) (number : ℕ) (names new : List (List ℕ)) (script : List Line) (found : Option Line) → Parsing text rest number names script → lines rest ≡ here ∷ lines behind → Reads (number + 1) names here found new → Parsing text behind (number + 1) new (script ++ option_to_list found)
-parsing_more text rest behind here number names new script found p split reads = record {
+pub parsing_more : (text rest after here : List ℕ) (number : ℕ) (names new : List (List ℕ)) (script : List Line) (found : Option Line) → Parsing text rest number names script → lines rest ≡ here ∷ lines after → Reads (number + 1) names here found new → Parsing text after (number + 1) new (script ++ option_to_list found)
+parsing_more text rest after here number names new script found p split reads = record {
   front = p.front ++ here ∷ [];
   parted = p.parted ++ reads.tokens ∷ [];
-  texts = p.texts ∙ ap (λ (t : List (List ℕ)). p.front ++ t) split ∙ sym (append_assoc p.front (here ∷ []) (lines behind));
+  texts = p.texts ∙ ap (λ (t : List (List ℕ)). p.front ++ t) split ∙ sym (append_assoc p.front (here ∷ []) (lines after));
   parts = AreParted-push p.front p.parted here reads.tokens p.parts reads.are;
   are = AreLines-push 1 [] p.parted script reads.tokens found p.are (subst (λ (n : ℕ). Says n (names_of [] p.parted) reads.tokens found) same (subst (λ (t : List (List ℕ)). Says (number + 1) t reads.tokens found) p.named reads.says));
   named = reads.named ∙ ap (λ (t : List (List ℕ)). names_after t reads.tokens) p.named ∙ sym (names_of-push [] p.parted reads.tokens);
@@ -85,27 +85,27 @@ parsing_more text rest behind here number names new script found p split reads =
     counted : number + 1 ≡ length (p.front ++ here ∷ [])
     counted = let c = p.count in omega (arith, length_push p.front here)
 
-slice_get-at : (front : List (List ℕ)) (here : List ℕ) (behind : List (List ℕ)) → slice_get (front ++ here ∷ behind) (length front) ≡ Some here
-slice_get-at [] here behind = refl
-slice_get-at (text ∷ front) here behind = slice_get-at front here behind
+slice_get-at : (front : List (List ℕ)) (here : List ℕ) (after : List (List ℕ)) → slice_get (front ++ here ∷ after) (length front) ≡ Some here
+slice_get-at [] here after = refl
+slice_get-at (text ∷ front) here after = slice_get-at front here after
 
 -- a text that is no line
-pub parsing_fails : (text rest behind here : List ℕ) (number : ℕ) (names : List (List ℕ)) (script : List Line) (found : Fault) → length text ≤ max_script → Parsing text rest number names script → lines rest ≡ here ∷ lines behind → Fails (number + 1) names here found → IsFault text found
-parsing_fails text rest behind here number names script fault.HostFull small p split none = tt
-parsing_fails text rest behind here number names script (fault.Line n wrong) small p split none =
+pub parsing_fails : (text rest after here : List ℕ) (number : ℕ) (names : List (List ℕ)) (script : List Line) (found : Fault) → length text ≤ max_script → Parsing text rest number names script → lines rest ≡ here ∷ lines after → Fails (number + 1) names here found → IsFault text found
+parsing_fails text rest after here number names script fault.HostFull small p split none = tt
+parsing_fails text rest after here number names script (fault.Line n wrong) small p split none =
     subst (λ (k : ℕ). IsFaultAt text k) (sym (none.0 ∙ add-one number)) stops
   where
-    whole : lines text ≡ p.front ++ here ∷ lines behind
+    whole : lines text ≡ p.front ++ here ∷ lines after
     whole = p.texts ∙ ap (λ (t : List (List ℕ)). p.front ++ t) split
 
-    stops : StopsBehind text number
+    stops : StopsAfter text number
     stops = record {
       small = small;
       parted = p.parted;
-      parts = subst (λ (t : List (List ℕ)). AreParted t p.parted) (sym (ap (take number) whole ∙ take_at p.front (here ∷ lines behind) number (sym p.count))) p.parts;
+      parts = subst (λ (t : List (List ℕ)). AreParted t p.parted) (sym (ap (take number) whole ∙ take_at p.front (here ∷ lines after) number (sym p.count))) p.parts;
       front = script;
       before = p.are;
       here = here;
-      next = ap (λ (t : List (List ℕ)). slice_get t number) whole ∙ ap (slice_get (p.front ++ here ∷ lines behind)) p.count ∙ slice_get-at p.front here (lines behind);
+      next = ap (λ (t : List (List ℕ)). slice_get t number) whole ∙ ap (slice_get (p.front ++ here ∷ lines after)) p.count ∙ slice_get-at p.front here (lines after);
       none = subst (λ (t : List (List ℕ)). IsNoLine (number + 1) t here) p.named none.1;
     }

@@ -4,9 +4,9 @@ use Rattle.std.specs.Prelude.{Option, None, Some, Result, Ok, Err, IfOk, IfSome,
 use Rattle.std.specs.Borrow.{Bor}
 use Rattle.script_text.specs.declared.token.Token.{Token as Read}
 use Rattle.script_text.specs.Tokens.{Token, Equals, Semicolon, Word, Single, Double, Hexadecimal, is_blank, spelled, IsToken, AreTokens, TakesToken}
-use Rattle.script_text.specs.Front.{End, Taken, Fault, front, behind, is_no_blank, token_front, first_front, view, Shows}
+use Rattle.script_text.specs.Front.{End, Taken, Fault, front, after, is_no_blank, token_front, first_front, view, Shows}
 use Rattle.script_text.proofs.ByteTests.{passes_twice, passes_back}
-use Rattle.script_text.proofs.FrontParts.{behind-append, front-passes, behind-halts, front-behind}
+use Rattle.script_text.proofs.FrontParts.{after-append, front-passes, after-halts, front-after}
 use Rattle.script_text.proofs.TokenAgain.{token_again, end_again, token_halts, comment_halts}
 use Rattle.script_text.proofs.TokenFound.{token_found, end_found}
 
@@ -15,30 +15,30 @@ pub front_of_tokens : (line : List ℕ) (token : Token) (tokens : List Token) �
 front_of_tokens line token tokens a =
     let gap = a.0 in
     let rest = a.1 in
-    let skipped : behind is_no_blank line ≡ spelled token ++ rest = ap (behind is_no_blank) a.5 ∙ ap (behind is_no_blank) (append_assoc gap (spelled token) rest) ∙ behind-append is_no_blank gap (spelled token ++ rest) (passes_twice is_blank gap a.2) (token_halts token rest a.3) in
+    let skipped : after is_no_blank line ≡ spelled token ++ rest = ap (after is_no_blank) a.5 ∙ ap (after is_no_blank) (append_assoc gap (spelled token) rest) ∙ after-append is_no_blank gap (spelled token ++ rest) (passes_twice is_blank gap a.2) (token_halts token rest a.3) in
     (rest, ap token_front skipped ∙ token_again token rest a.3 a.4, a.6)
 
 -- a line without tokens is read as the end
 pub front_of_end : (line : List ℕ) → AreTokens line [] → first_front line ≡ End
 front_of_end line a =
-    ap (λ (t : List ℕ). token_front (behind is_no_blank t)) a.4 ∙ ap token_front (behind-append is_no_blank a.0 a.1 (passes_twice is_blank a.0 a.2) (comment_halts a.1 a.3)) ∙ end_again a.1 a.3
+    ap (λ (t : List ℕ). token_front (after is_no_blank t)) a.4 ∙ ap token_front (after-append is_no_blank a.0 a.1 (passes_twice is_blank a.0 a.2) (comment_halts a.1 a.3)) ∙ end_again a.1 a.3
 
 -- a token that is read is the first of the line
 pub tokens_of_front : (line : List ℕ) (token : Token) (rest : List ℕ) (tokens : List Token) → first_front line ≡ Taken token rest → AreTokens rest tokens → AreTokens line (token ∷ tokens)
 tokens_of_front line token rest tokens e more =
-    let found = token_found (behind is_no_blank line) token rest (behind-halts is_no_blank line) e in (
+    let found = token_found (after is_no_blank line) token rest (after-halts is_no_blank line) e in (
       front is_no_blank line,
       rest,
       passes_back is_blank (front is_no_blank line) (front-passes is_no_blank line),
       found.is,
       found.ended,
-      sym (front-behind is_no_blank line) ∙ ap (λ (t : List ℕ). front is_no_blank line ++ t) found.text ∙ sym (append_assoc (front is_no_blank line) (spelled token) rest),
+      sym (front-after is_no_blank line) ∙ ap (λ (t : List ℕ). front is_no_blank line ++ t) found.text ∙ sym (append_assoc (front is_no_blank line) (spelled token) rest),
       more,
     )
 
 -- a line that is read as the end has no tokens
 pub tokens_of_end : (line : List ℕ) → first_front line ≡ End → AreTokens line []
-tokens_of_end line e = (front is_no_blank line, behind is_no_blank line, passes_back is_blank (front is_no_blank line) (front-passes is_no_blank line), end_found (behind is_no_blank line) e, sym (front-behind is_no_blank line))
+tokens_of_end line e = (front is_no_blank line, after is_no_blank line, passes_back is_blank (front is_no_blank line) (front-passes is_no_blank line), end_found (after is_no_blank line) e, sym (front-after is_no_blank line))
 
 -- no line has two lists of tokens
 pub one_tokens : (line : List ℕ) (a b : List Token) → AreTokens line a → AreTokens line b → a ≡ b
@@ -84,10 +84,10 @@ spelled_some (Word (byte ∷ bytes)) is = omega arith
 -- what follows a token is shorter than the line
 shorter_front : (line : List ℕ) (token : Token) (rest : List ℕ) → first_front line ≡ Taken token rest → length rest < length line
 shorter_front line token rest e =
-    let found = token_found (behind is_no_blank line) token rest (behind-halts is_no_blank line) e in
+    let found = token_found (after is_no_blank line) token rest (after-halts is_no_blank line) e in
     let some = spelled_some token found.is in
-    let all : length (behind is_no_blank line) ≡ length (spelled token) + length rest = ap length found.text ∙ length-append (spelled token) rest in
-    let whole : length (front is_no_blank line) + length (behind is_no_blank line) ≡ length line = sym (length-append (front is_no_blank line) (behind is_no_blank line)) ∙ ap length (front-behind is_no_blank line) in
+    let all : length (after is_no_blank line) ≡ length (spelled token) + length rest = ap length found.text ∙ length-append (spelled token) rest in
+    let whole : length (front is_no_blank line) + length (after is_no_blank line) ≡ length line = sym (length-append (front is_no_blank line) (after is_no_blank line)) ∙ ap length (front-after is_no_blank line) in
     omega (arith, some, all, whole)
 
 -- what a function returned as the rest is shorter than the line

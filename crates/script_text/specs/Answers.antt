@@ -43,7 +43,7 @@ IsAnswer names tokens answer =
     × AreCalls names calls answer.calls
     × (length answer.calls ≤ most_calls)
 
--- these tokens may stand behind a call in an answer: none, or a `;` and then others
+-- these tokens may be after a call in an answer: none, or a `;` and then others
 abbrev pub MayFollow : List Token → Type 0
 MayFollow [] = Unit {0}
 MayFollow (mark ∷ tokens) = (mark ≡ Semicolon) × (tokens ≢ [])

@@ -16,7 +16,7 @@ view (Single inner) = tokens.Single inner.now
 view (Double inner) = tokens.Double inner.now
 view (Hexadecimal inner) = tokens.Hexadecimal inner.now
 
--- what stands at the front of a line: no token any more, a token and the rest, or what is no token
+-- what is at the front of a line: no token any more, a token and the rest, or what is no token
 pub data Front : Type 0 where
   End : Front
   Taken : tokens.Token → List ℕ → Front
@@ -27,14 +27,14 @@ abbrev pub front : (ℕ → Bool) → List ℕ → List ℕ
 front stops bytes = take (position_or_len stops bytes) bytes
 
 -- the bytes from the first that stops on
-abbrev pub behind : (ℕ → Bool) → List ℕ → List ℕ
-behind stops bytes = drop (position_or_len stops bytes) bytes
+abbrev pub after : (ℕ → Bool) → List ℕ → List ℕ
+after stops bytes = drop (position_or_len stops bytes) bytes
 
 -- whether a byte is no blank
 abbrev pub is_no_blank : ℕ → Bool
 is_no_blank byte = not (is_blank byte)
 
--- whether a byte stands in no word
+-- whether a byte is in no word
 abbrev pub is_no_word_byte : ℕ → Bool
 is_no_word_byte byte = not (is_word_byte byte)
 
@@ -42,7 +42,7 @@ is_no_word_byte byte = not (is_word_byte byte)
 abbrev pub bounded : tokens.Token → List ℕ → Front
 bounded token rest = if is_at_boundary rest then Taken token rest else Fault
 
--- a text that ends at its quote, read from behind the first quote
+-- a text that ends at its quote, read from after the first quote
 abbrev pub closed_at : tokens.Token → List ℕ → Front
 closed_at token [] = Fault
 closed_at token (quote ∷ rest) = bounded token rest
@@ -56,28 +56,28 @@ abbrev pub starts_quote : List ℕ → Bool
 starts_quote [] = false
 starts_quote (byte ∷ rest) = byte == 34
 
--- a text in single quotes, read from behind the first quote
+-- a text in single quotes, read from after the first quote
 abbrev pub single_front : List ℕ → Front
-single_front rest = closed_at (tokens.Single (front (is_quote 39) rest)) (behind (is_quote 39) rest)
+single_front rest = closed_at (tokens.Single (front (is_quote 39) rest)) (after (is_quote 39) rest)
 
--- a text in double quotes, read from behind the first quote
+-- a text in double quotes, read from after the first quote
 abbrev pub double_front : List ℕ → Front
-double_front rest = closed_at (tokens.Double (front (is_quote 34) rest)) (behind (is_quote 34) rest)
+double_front rest = closed_at (tokens.Double (front (is_quote 34) rest)) (after (is_quote 34) rest)
 
--- hexadecimal digits in quotes, read from behind the first quote
+-- hexadecimal digits in quotes, read from after the first quote
 abbrev pub hexadecimal_front : List ℕ → Front
-hexadecimal_front rest = closed_at (tokens.Hexadecimal (front (is_quote 34) rest)) (behind (is_quote 34) rest)
+hexadecimal_front rest = closed_at (tokens.Hexadecimal (front (is_quote 34) rest)) (after (is_quote 34) rest)
 
 -- a word
 abbrev pub word_front : List ℕ → Front
-word_front line = bounded (tokens.Word (front is_no_word_byte line)) (behind is_no_word_byte line)
+word_front line = bounded (tokens.Word (front is_no_word_byte line)) (after is_no_word_byte line)
 
 -- hexadecimal digits in quotes, where `$"` begins them, and else a word
 abbrev pub hexadecimal_or_word_front : List ℕ → Front
 hexadecimal_or_word_front [] = word_front []
 hexadecimal_or_word_front (byte ∷ rest) = if byte == 36 && starts_quote rest then hexadecimal_front (drop 1 rest) else word_front (byte ∷ rest)
 
--- the first token, where no blank stands before it
+-- the first token, where no blank is before it
 abbrev pub token_front : List ℕ → Front
 token_front [] = End
 token_front (byte ∷ rest) =
@@ -90,7 +90,7 @@ token_front (byte ∷ rest) =
 
 -- the first token
 abbrev pub first_front : List ℕ → Front
-first_front line = token_front (behind is_no_blank line)
+first_front line = token_front (after is_no_blank line)
 
 -- what a function returned is this front
 abbrev pub Shows : {E : Type 0} → Result (Option (Token × Bor (List ℕ))) E → Front → Type 0

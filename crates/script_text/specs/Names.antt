@@ -12,7 +12,7 @@ is_named names word = list_any (bytes_eq word) names
 abbrev pub place_of : List (List ℕ) → List ℕ → Option ℕ
 place_of names word = position (bytes_eq word) names
 
--- the place of a word that is assigned now: a new one stands behind all names
+-- the place of a word that is assigned now: a new one is after all names
 abbrev pub place_for : List (List ℕ) → List ℕ → ℕ
 place_for names word = position_or_len (bytes_eq word) names
 

@@ -40,7 +40,7 @@ abbrev pub is_name : List ℕ → Bool
 is_name [] = false
 is_name (first ∷ others) = is_ascii_alphabetic first && list_all is_name_byte others && nat_le (length others) 30
 
--- a byte that may stand in quotes: of ASCII, and no control character
+-- a byte that may be in quotes: of ASCII, and no control character
 abbrev pub is_printable : ℕ → Bool
 is_printable byte = nat_le 32 byte && nat_le byte 126
 

@@ -20,7 +20,7 @@ abbrev pub assignment : Option (List ℕ) → List Token
 assignment None = []
 assignment (Some name) = Word name ∷ Equals ∷ []
 
--- the name that tokens begin with, if `=` stands behind it
+-- the name that tokens begin with, if `=` is after it
 abbrev pub assigned_by : List Token → Option (List ℕ)
 assigned_by (Word name ∷ Equals ∷ others) = Some name
 assigned_by tokens = None
@@ -96,7 +96,7 @@ abbrev pub names_of : List (List ℕ) → List (List Token) → List (List ℕ)
 names_of names [] = names
 names_of names (tokens ∷ texts) = names_of (names_after names tokens) texts
 
--- these tokens may stand in a line with this number: they are nothing, or make a call, or queue an answer
+-- these tokens may be in a line with this number: they are nothing, or make a call, or queue an answer
 abbrev pub MayStand : ℕ → List (List ℕ) → List Token → Type 0
 MayStand number names [] = number ≤ max_lines
 MayStand number names (token ∷ tokens) = (line : Line) × IsLine number names (token ∷ tokens) line
@@ -106,7 +106,7 @@ abbrev pub IsNoLine : ℕ → List (List ℕ) → List ℕ → Type 0
 IsNoLine number names text = (tokens : List Token) → AreTokens text tokens → ¬ MayStand number names tokens
 
 -- so many texts are lines, and the next one is none
-pub record StopsBehind (text : List ℕ) (count : ℕ) : Type 0 where
+pub record StopsAfter (text : List ℕ) (count : ℕ) : Type 0 where
   pub small : length text ≤ max_script
   pub parted : List (List Token)
   pub parts : AreParted (take count (lines text)) parted
@@ -119,7 +119,7 @@ pub record StopsBehind (text : List ℕ) (count : ℕ) : Type 0 where
 -- The bytes are no script, and this is the first line that is none: 0 where there are too many bytes.
 abbrev pub IsFaultAt : List ℕ → ℕ → Type 0
 IsFaultAt text zero = max_script < length text
-IsFaultAt text (suc count) = StopsBehind text count
+IsFaultAt text (suc count) = StopsAfter text count
 
 -- the reason why bytes are no script holds; want of memory may come at any time
 abbrev pub IsFault : List ℕ → Fault → Type 0

@@ -9,7 +9,7 @@ pub data Token : Type 0 where
   Semicolon : Token
   -- a word without quotes: a call, a name, a number
   Word : List ℕ → Token
-  -- what stands in '..', in ".." and in $".."
+  -- what is in '..', in ".." and in $".."
   Single : List ℕ → Token
   Double : List ℕ → Token
   Hexadecimal : List ℕ → Token
@@ -49,7 +49,7 @@ abbrev pub is_at_boundary : List ℕ → Bool
 is_at_boundary [] = true
 is_at_boundary (byte ∷ rest) = is_boundary byte
 
--- what may follow a token: anything behind `=` and `;`, and a boundary behind the others
+-- what may follow a token: anything after `=` and `;`, and a boundary after the others
 abbrev pub ends : Token → List ℕ → Bool
 ends Equals rest = true
 ends Semicolon rest = true

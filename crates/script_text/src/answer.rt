@@ -54,11 +54,11 @@ fn written_call(name: Token<'_>, operand: Token<'_>, names: &Names<'_>) -> Optio
     }
 }
 
-/// Whether tokens may stand behind a call: none, or a `;` and then others.
-fn may_follow(behind: &[Token<'_>]) -> bool
-    ensures { MatchBool result (MayFollow (map view behind.now)) (¬ MayFollow (map view behind.now)) }
+/// Whether tokens may be after a call: none, or a `;` and then others.
+fn may_follow(after: &[Token<'_>]) -> bool
+    ensures { MatchBool result (MayFollow (map view after.now)) (¬ MayFollow (map view after.now)) }
 {
-    match behind {
+    match after {
         [] => true,
         [Token::Semicolon, _, ..] => true,
         _ => false,
@@ -77,8 +77,8 @@ fn read_calls<'a>(
         ((calls : List WrittenCall) → ¬ AreCalls names.now (map view tokens.now) calls)) }
 {
     let mut rest = tokens;
-    while let [name, operand, behind @ ..] = rest {
-        if !may_follow(behind) {
+    while let [name, operand, after @ ..] = rest {
+        if !may_follow(after) {
             return Ok(false);
         }
         // The call is taken apart so that its operand's type, of another crate, is named here.
@@ -86,7 +86,7 @@ fn read_calls<'a>(
             return Ok(false);
         };
         calls.push(WrittenCall { call, operand })?;
-        rest = &behind[behind.len().min(1)..];
+        rest = &after[after.len().min(1)..];
     }
     Ok(rest.is_empty())
 }
@@ -106,7 +106,7 @@ fn written_calls<'a>(
     Ok(Some(WrittenCalls::new(into_bump_slice(calls))))
 }
 
-/// The token of the value and those behind it, if a line queues an answer.
+/// The token of the value and those after it, if a line queues an answer.
 fn value_and_calls<'a, 'b>(line: &'b [Token<'a>]) -> Option<(Token<'a>, &'b [Token<'a>])>
     ensures found { IfSome result (λ parts.
         map view line.now ≡ tokens.Word (codes "gz") ∷ view parts.0 ∷ map view parts.1.now) }

@@ -56,7 +56,7 @@ fn positive_id(digits: &[u8]) -> Option<i16>
     }
 }
 
-/// The id that decimal digits behind a `-` are.
+/// The id that decimal digits after a `-` are.
 fn id_below_zero(digits: &[u8]) -> Option<i16>
     ensures { Finds result (IsNegativeId (45 ∷ digits.now)) }
 {
@@ -86,14 +86,14 @@ fn id(word: &[u8]) -> Option<i16>
     }
 }
 
-/// Whether a byte may stand in a name, behind its first letter.
+/// Whether a byte may be in a name, after its first letter.
 fn is_name_byte(byte: u8) -> bool
     ensures { result ≡ is_name_byte byte }
 {
     byte.is_ascii_alphanumeric() || byte == b'_'
 }
 
-/// Whether all bytes may stand in a name, behind its first letter.
+/// Whether all bytes may be in a name, after its first letter.
 fn are_name_bytes(bytes: &[u8]) -> bool
     ensures { result ≡ list_all is_name_byte bytes.now }
 {
@@ -112,14 +112,14 @@ pub fn is_name(word: &[u8]) -> bool
     }
 }
 
-/// Whether a byte may stand in quotes.
+/// Whether a byte may be in quotes.
 fn is_printable(byte: u8) -> bool
     ensures { result ≡ is_printable byte }
 {
     matches!(byte, b' '..=b'~')
 }
 
-/// Whether all bytes may stand in quotes.
+/// Whether all bytes may be in quotes.
 pub(crate) fn are_printable(bytes: &[u8]) -> bool
     ensures { result ≡ list_all is_printable bytes.now }
 {
@@ -211,12 +211,12 @@ fn bytes_of_digits<'a>(arena: &'a Bump, digits: &[u8]) -> Result<Option<&'a [u8]
 {
     let mut bytes = Vec::with_capacity(arena, digits.len() / 2)?;
     let mut rest = digits;
-    while let [high, low, behind @ ..] = rest {
+    while let [high, low, after @ ..] = rest {
         let Some(byte) = byte_of_digits(*high, *low) else {
             return Ok(None);
         };
         bytes.push(byte)?;
-        rest = behind;
+        rest = after;
     }
     if !rest.is_empty() {
         return Ok(None);
@@ -245,7 +245,7 @@ fn quoted_bytes<'a>(inner: &'a [u8]) -> Option<Span<'a>>
     Some(Span::new(inner))
 }
 
-/// The bytes of a text in quotes behind `$`.
+/// The bytes of a text in quotes after `$`.
 fn hexadecimal_bytes<'a>(arena: &'a Bump, digits: &[u8]) -> Result<Option<Span<'a>>, HostFull>
     ensures { IfOk result (λ found. Finds found (IsBytesOperand (Hexadecimal digits.now))) }
 {
@@ -286,7 +286,7 @@ fn quoted_type(inner: &[u8]) -> Option<ResType>
     type_of_bytes(inner)
 }
 
-/// The type that a text in quotes behind `$` is.
+/// The type that a text in quotes after `$` is.
 fn hexadecimal_type(arena: &Bump, digits: &[u8]) -> Result<Option<ResType>, HostFull>
     ensures { IfOk result (λ found. Finds found (IsTypeOperand (Hexadecimal digits.now))) }
 {

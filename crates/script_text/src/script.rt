@@ -61,14 +61,14 @@ fn without_carriage_return(line: &[u8]) -> &[u8]
     }
 }
 
-/// Where the first newline stands.
+/// Where the first newline is.
 fn first_newline(text: &[u8]) -> Option<usize>
     ensures { result ≡ position (λ byte. byte == 10) text.now }
 {
     memchr(b'\n', text)
 }
 
-/// The first line of a text, and the text behind it.
+/// The first line of a text, and the text after it.
 fn first_line(text: &[u8]) -> Option<(&[u8], &[u8])>
     ensures lines { MatchOption result (lines text.now ≡ []) (λ parts.
         lines text.now ≡ parts.0.now ∷ lines parts.1.now) }
@@ -114,7 +114,7 @@ fn add_line<'a>(
 
 /// The lines of a script that say something. The text is a script exactly where each of its lines makes a call, queues
 /// an answer or says nothing; a fault names the first that does none of them. The lines show bytes of the text; others
-/// stand in the arena.
+/// are in the arena.
 pub fn parse_script<'a>(
     alloc: Global,
     arena: &'a Bump,
@@ -131,10 +131,10 @@ pub fn parse_script<'a>(
     let mut tokens = Vec::new(alloc);
     let mut rest = text;
     let mut number = 0;
-    while let Some((line, behind)) = first_line(rest) {
+    while let Some((line, after)) = first_line(rest) {
         number += 1;
         add_line(arena, number, line, &mut tokens, &mut names, &mut script)?;
-        rest = behind;
+        rest = after;
     }
     Ok(script)
 }

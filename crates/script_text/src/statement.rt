@@ -19,7 +19,7 @@ use bumpalo::Bump;
 use mac_base::error::HostFull;
 use script_lang::{CallLine, CallName, Name, Statement};
 
-/// The name that a line assigns, if it begins so, and the tokens behind `name =`.
+/// The name that a line assigns, if it begins so, and the tokens after `name =`.
 pub(crate) fn assigned_name<'a, 'b>(line: &'b [Token<'a>]) -> (Option<&'a [u8]>, &'b [Token<'a>])
     ensures parts { map view line.now
         ≡ assignment (option_copied result.0) ++ map view result.1.now }
@@ -31,7 +31,7 @@ pub(crate) fn assigned_name<'a, 'b>(line: &'b [Token<'a>]) -> (Option<&'a [u8]>,
     }
 }
 
-/// The word that the tokens begin with, and those behind it.
+/// The word that the tokens begin with, and those after it.
 pub(crate) fn first_word<'a, 'b>(line: &'b [Token<'a>]) -> Option<(&'a [u8], &'b [Token<'a>])>
     ensures found { IfSome result (λ parts.
         map view line.now ≡ tokens.Word parts.0.now ∷ map view parts.1.now) }
@@ -55,7 +55,7 @@ fn add_assigned<'a>(names: &mut Names<'a>, word: Option<&'a [u8]>) -> Result<Opt
     }
 }
 
-/// The call whose name the tokens begin with, and those behind it.
+/// The call whose name the tokens begin with, and those after it.
 fn named_call<'a, 'b>(line: &'b [Token<'a>]) -> Option<(CallName, &'b [Token<'a>])>
     ensures found { IfSome result (λ parts.
         map view line.now ≡ tokens.Word (signature parts.0).name ∷ map view parts.1.now) }

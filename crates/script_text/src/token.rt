@@ -2,7 +2,7 @@
 
 ghost use Rattle.std.specs.Prelude.{◌≡◌, List, [], ◌<◌, length, map, position, MatchBool, IfOk, IfSome, IfNone, OnErr};
 ghost use Rattle.script_text.specs.Tokens as tokens;
-ghost use Rattle.script_text.specs.Front.{view, front, behind, is_no_blank, is_no_word_byte, is_quote, closed_at, Taken, Fault, Shows, token_front, single_front, double_front, hexadecimal_front, word_front, hexadecimal_or_word_front};
+ghost use Rattle.script_text.specs.Front.{view, front, after, is_no_blank, is_no_word_byte, is_quote, closed_at, Taken, Fault, Shows, token_front, single_front, double_front, hexadecimal_front, word_front, hexadecimal_or_word_front};
 
 use mac_base::error::HostFull;
 use memchr::memchr;
@@ -14,7 +14,7 @@ pub enum Token<'a> {
     Semicolon,
     /// A word without quotes.
     Word(&'a [u8]),
-    /// What stands in '..', in ".." and in $"..".
+    /// What is in '..', in ".." and in $"..".
     Single(&'a [u8]),
     Double(&'a [u8]),
     Hexadecimal(&'a [u8]),
@@ -71,13 +71,13 @@ fn first_quote(line: &[u8], quote: u8) -> Option<usize>
 
 /// What is left of a line when the blanks at its front are skipped.
 fn skip_blanks(line: &[u8]) -> &[u8]
-    ensures { result.now ≡ behind is_no_blank line.now }
+    ensures { result.now ≡ after is_no_blank line.now }
 {
     line.split_at(first_no_blank(line).unwrap_or(line.len())).1
 }
 
 fn after_blanks(line: &[u8]) -> &[u8]
-    ensures { result.now ≡ behind is_no_blank line.now }
+    ensures { result.now ≡ after is_no_blank line.now }
 {
     match line {
         // Most tokens have no blank in front.
@@ -88,14 +88,14 @@ fn after_blanks(line: &[u8]) -> &[u8]
 
 fn split_word(line: &[u8]) -> (&[u8], &[u8])
     ensures word { result.0.now ≡ front is_no_word_byte line.now }
-    ensures rest { result.1.now ≡ behind is_no_word_byte line.now }
+    ensures rest { result.1.now ≡ after is_no_word_byte line.now }
 {
     line.split_at(first_no_word_byte(line).unwrap_or(line.len()))
 }
 
 fn split_quote(line: &[u8], quote: u8) -> (&[u8], &[u8])
     ensures inner { result.0.now ≡ front (is_quote quote) line.now }
-    ensures rest { result.1.now ≡ behind (is_quote quote) line.now }
+    ensures rest { result.1.now ≡ after (is_quote quote) line.now }
 {
     line.split_at(first_quote(line, quote).unwrap_or(line.len()))
 }
@@ -105,9 +105,9 @@ fn closed(line: &[u8], quote: u8) -> Option<(&[u8], &[u8])>
     ensures inner { IfSome result (λ parts. parts.0.now ≡ front (is_quote quote) line.now) }
     ensures rest { IfSome result (λ parts.
         (token : tokens.Token) →
-        closed_at token (behind (is_quote quote) line.now) ≡ Taken token parts.1.now) }
+        closed_at token (after (is_quote quote) line.now) ≡ Taken token parts.1.now) }
     ensures fault { IfNone result ((token : tokens.Token) →
-        closed_at token (behind (is_quote quote) line.now) ≡ Fault) }
+        closed_at token (after (is_quote quote) line.now) ≡ Fault) }
 {
     match split_quote(line, quote) {
         (inner, [_, rest @ ..]) if is_at_boundary(rest) => Some((inner, rest)),
@@ -115,7 +115,7 @@ fn closed(line: &[u8], quote: u8) -> Option<(&[u8], &[u8])>
     }
 }
 
-/// The text in single quotes from behind its first quote, and what follows it.
+/// The text in single quotes from after its first quote, and what follows it.
 fn single(line: &[u8]) -> Result<Option<(Token<'_>, &[u8])>, NotAToken>
     ensures { Shows result (single_front line.now) }
 {
@@ -125,7 +125,7 @@ fn single(line: &[u8]) -> Result<Option<(Token<'_>, &[u8])>, NotAToken>
     Ok(Some((Token::Single(inner), rest)))
 }
 
-/// The text in double quotes from behind its first quote, and what follows it.
+/// The text in double quotes from after its first quote, and what follows it.
 fn double(line: &[u8]) -> Result<Option<(Token<'_>, &[u8])>, NotAToken>
     ensures { Shows result (double_front line.now) }
 {
@@ -135,7 +135,7 @@ fn double(line: &[u8]) -> Result<Option<(Token<'_>, &[u8])>, NotAToken>
     Ok(Some((Token::Double(inner), rest)))
 }
 
-/// The hexadecimal digits in quotes from behind the first quote, and what follows them.
+/// The hexadecimal digits in quotes from after the first quote, and what follows them.
 fn hexadecimal(line: &[u8]) -> Result<Option<(Token<'_>, &[u8])>, NotAToken>
     ensures { Shows result (hexadecimal_front line.now) }
 {
@@ -211,13 +211,13 @@ pub fn read_tokens<'a>(line: &'a [u8], read: &mut Vec<Token<'a>>) -> Result<bool
         let Ok(first) = first_token(rest) else {
             return Ok(false);
         };
-        let Some((token, behind)) = first else {
+        let Some((token, after)) = first else {
             return Ok(true);
         };
         if read.len() >= MAX_TOKENS {
             return Ok(false);
         }
         read.push(token)?;
-        rest = behind;
+        rest = after;
     }
 }

@@ -65,7 +65,7 @@ pub enum Wrong {
     /// There are more words and marks than any line has.
     #[error("the line has more words than any call takes")]
     TooManyWords,
-    /// No word stands where the name of a call is wanted.
+    /// No word is where the name of a call is wanted.
     #[error("a line is a call, as `ZoneMap` or `h = NewHandle 100`, or begins with `gz`")]
     NoCall,
     /// There is no call of this name.
@@ -225,10 +225,10 @@ fn wrong_operands(
     Wrong::TooManyOperands(Word::of(call), kinds.len())
 }
 
-/// What is wrong with the tokens behind `gz`.
+/// What is wrong with the tokens after `gz`.
 fn wrong_answer(tokens: &[Token<'_>], names: &Names<'_>) -> Wrong {
     for (place, token) in tokens.iter().enumerate() {
-        // The value stands first, and each call has a name, an operand and a mark.
+        // The value is first, and each call has a name, an operand and a mark.
         let is_operand = place == 0 || place % 3 == 2;
         if let (true, Some(name)) = (is_operand, unassigned(Some(token), names)) {
             return Wrong::NotAssigned(name);

@@ -1,4 +1,4 @@
--- While stale sums are measured again, sums of before and of now stand side by side. There is room for what they come
+-- While stale sums are measured again, sums of before and of now are side by side. There is room for what they come
 -- to.
 use Rattle.std.proofs.Common.{◌≡◌, ℕ, suc, inl, inr, ◌⊎◌, ◌+◌, ◌*◌, ◌^◌, ◌<◌, ◌≤◌, List, [], ◌∷◌, ◌++◌, map, length, get_or, ap, ◌∙◌, sym, arith}
 use Rattle.std.proofs.lemmas.List.{map-append}

@@ -18,7 +18,7 @@ no_span = Whole 0
 abbrev pub parts : ℕ → ℕ → ℕ → Span
 parts first most last = Parted (record { first = first; most = most; last = last })
 
--- blocks and those behind them
+-- blocks and those after them
 abbrev pub joined : Span → Span → Span
 joined (Whole n) (Whole k) = Whole (n + k)
 joined (Whole n) (Parted q) = parts (n + q.first) q.most q.last

@@ -21,7 +21,7 @@ pub struct Parts {
     pub first: u32,
     /// The most that there are between two fixed ones.
     pub most: u32,
-    /// Those behind the last fixed one.
+    /// Those after the last fixed one.
     pub last: u32,
 }
 

@@ -43,9 +43,9 @@ use Rattle.res_update.specs.Device.{Device, DiskRelations, Works as DeviceWorks,
 use Rattle.res_update.specs.Files.{ResState, ResourceEnd, refused_with, with_disk, with_files, with_heap}
 use Rattle.res_update.specs.Loads.{handle_made, load_end, loaded, loaded_flags, loaded_results, loads_bytes, placed_end, placing, row_wanted, unloaded}
 use Rattle.res_update.specs.Quiet.{quiet_state}
-use Rattle.res_update.specs.Steps.{GetsPlace, GetsRow, ResourceStepBy, StepsUnless, Work, Gets, Updates, Opens, Quiet, Works, behind_memory, opened_end, updating, work_of, Memory}
+use Rattle.res_update.specs.Steps.{GetsPlace, GetsRow, ResourceStepBy, StepsUnless, Work, Gets, Updates, Opens, Quiet, Works, after_memory, opened_end, updating, work_of, Memory}
 use Rattle.res_update.specs.Tests.{resource_refusal}
-use Rattle.res_update.specs.Updates.{Update, behind_update, disposed, file_update, handles_of, row_passes, row_update, update_end}
+use Rattle.res_update.specs.Updates.{Update, after_update, disposed, file_update, handles_of, row_passes, row_update, update_end}
 use Rattle.zone_laws.proofs.Tables.{live_at-with_live_same}
 use Rattle.zone_laws.specs.Act.{Act, Calls, Does, Done, AreDone, Loads, Moment, Unloads, moment_after}
 use Rattle.zone_laws.proofs.Fewer.{Ended, quiet, refused, served, step-ended, unserved}
@@ -127,7 +127,7 @@ module _ (loans : Loans) where
     pub has : live_at t h ≡ Some (FullHandle no_flags (zeros n))
     pub here : is_lent t h ≡ false
 
-  -- the same are lent behind a call
+  -- the same are lent after a call
   here-still : (s : Shape) (old : Heap) (call : MemoryCall) (asks : List Ask) (outcome : Outcome) (new : Heap) (h : ℕ) → MemoryStep s old call asks outcome new → is_lent old.table h ≡ false → is_lent new.table h ≡ false
   here-still s old call asks outcome new h step here = ap (list_any (λ y. y == h)) (step_keeps_lent s old call asks outcome new step) ∙ here
 
@@ -173,7 +173,7 @@ module _ (loans : Loans) where
             let same : inner ≡ memory_call.ReallocateHandle h (length r.resource.datum) = cc is in
             replaced-place s before h (length r.resource.datum) r asks res new handle (subst (λ inner. MemoryStep s before inner asks (Ok res) new) same step)
 
-    -- the load behind it
+    -- the load after it
     load-done : (device : Device) (loads : Bool) (h : ℕ) (state : ResState) → (loads ≡ true → HasPlace state.heap.table h (length r.resource.datum)) → MadeOf s (IsActOf old rc) state.heap (load_end device loads rc p r h state).state.heap
     load-done device false h state place = none-done s (IsActOf old rc) state.heap state.heap refl
     load-done device true h state place = elim (not (length r.resource.datum == 0) && not (device_works device)) as (λ b. MadeOf s (IsActOf old rc) state.heap (cond b
@@ -204,10 +204,10 @@ module _ (loans : Loans) where
 
     -- where the place was made
     placed-done : (device : Device) (loads : Bool) (inner : MemoryCall) (asks : List Ask) (outcome : Outcome) (heap : Heap) → placing old.heap.table loads r ≡ Some inner → Memory s old.heap inner asks outcome heap
-        → MadeOf s (IsActOf old rc) heap (placed_end device loads rc p r outcome (behind_memory asks heap old)).state.heap
+        → MadeOf s (IsActOf old rc) heap (placed_end device loads rc p r outcome (after_memory asks heap old)).state.heap
     placed-done device loads inner asks (Err code) heap is step = none-done s (IsActOf old rc) heap heap refl
     placed-done device loads inner asks (Ok res) heap is step =
-        load-done device loads (handle_made r (Ok res)) (behind_memory asks heap old) (λ loading. place-made old.heap fixed r.handle loads inner asks res heap refl loading is step.0)
+        load-done device loads (handle_made r (Ok res)) (after_memory asks heap old) (λ loading. place-made old.heap fixed r.handle loads inner asks res heap refl loading is step.0)
 
     -- its place is made by the call that it needs
     wanted-inner : (rc' : ResourceCall) (inner : MemoryCall) → row_wanted old rc' ≡ Some p → placing old.heap.table (loads_bytes old rc') r ≡ Some inner → IsInner old rc' inner
@@ -220,7 +220,7 @@ module _ (loans : Loans) where
         let step : Memory s old.heap inner asks gets.0 gets.1 = subst (λ s. Memory s old.heap inner asks gets.0 gets.1) shape gets.2 in
         let rest = placed-done device (loads_bytes old rc) inner asks gets.0 gets.1 is step in
         subst (λ (e : ResourceEnd). MadeOf s (IsActOf old rc) old.heap e.state.heap) (sym gets.3)
-        (one-first s (IsActOf old rc) (Calls inner asks gets.0) old.heap gets.1 (placed_end device (loads_bytes old rc) rc p r gets.0 (behind_memory asks gets.1 old)).state.heap (step.1, refl) (wanted-inner rc inner wanted is) rest)
+        (one-first s (IsActOf old rc) (Calls inner asks gets.0) old.heap gets.1 (placed_end device (loads_bytes old rc) rc p r gets.0 (after_memory asks gets.1 old)).state.heap (step.1, refl) (wanted-inner rc inner wanted is) rest)
 
   -- ---- all work
 
@@ -246,8 +246,8 @@ module _ (loans : Loans) where
     same-done : (new : Heap) → new ≡ old.heap → Made new
     same-done new same = none-done old.shape (IsActOf old rc) old.heap new same
 
-    -- the heap behind an update that succeeded
-    update-done : (rc' : ResourceCall) (k : ℕ) (state : ResState) → state.shape ≡ old.shape → state.heap ≡ old.heap → MadeOf old.shape (IsActOf old rc') old.heap (behind_update rc' k state).heap
+    -- the heap after an update that succeeded
+    update-done : (rc' : ResourceCall) (k : ℕ) (state : ResState) → state.shape ≡ old.shape → state.heap ≡ old.heap → MadeOf old.shape (IsActOf old rc') old.heap (after_update rc' k state).heap
     update-done (Writing (CloseResFile named)) k state shape heap =
         let hs = handles_of (rows_of k state.files) in
         let May = IsActOf old (Writing (CloseResFile named)) in

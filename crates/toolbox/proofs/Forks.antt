@@ -25,7 +25,7 @@ use Rattle.fork_bytes.specs.Fork.{StandsFor}
 use Rattle.fork_bytes.specs.Written.{written}
 use Rattle.mac_base.specs.declared.resource.ResAttrs.{ResAttrs}
 use Rattle.res_table.specs.Attributes.{is_marked, unmarked}
-use Rattle.res_table.specs.Behind.{end_of_type}
+use Rattle.res_table.specs.After.{end_of_type}
 use Rattle.res_table.specs.OpenFiles.{changed_file, file_closed, file_forgotten, handle_forgotten, is_current, is_numbered, is_open, last_number, no_files, place_of_handle, row_at, rows_changed, table_in, with_rows, without}
 use Rattle.res_table.specs.Rows.{added, changed_at, forgetting, has_handle, is_changed, opened_row, removed_at, with_attributes, with_handle}
 use Rattle.res_table.specs.Saved.{saved_row}
@@ -38,7 +38,7 @@ use Rattle.res_update.specs.Device.{Anything, Device, Disk, ReadsBy, Works as De
 use Rattle.res_update.specs.Files.{ResState, ResourceEnd, disk_of, file_named, refused_with, with_disk, with_files, with_heap}
 use Rattle.res_update.specs.Loads.{found_end, handle_made, loaded, loaded_results, loads_bytes, placed_end, placing, read_fails, row_wanted, unloaded}
 use Rattle.res_update.specs.Quiet.{attributes_changed, quiet_end, quiet_state}
-use Rattle.res_update.specs.Steps.{Gets, GetsPlace, GetsRow, IsSaved, Memory, Opens, Quiet, ReadsBack, StepsUnless, Work, Works, behind_memory, opened_end, update_in, updating, work_of}
+use Rattle.res_update.specs.Steps.{Gets, GetsPlace, GetsRow, IsSaved, Memory, Opens, Quiet, ReadsBack, StepsUnless, Work, Works, after_memory, opened_end, update_in, updating, work_of}
 use Rattle.res_update.specs.Tests.{resource_refusal}
 use Rattle.res_update.specs.Updates.{Update, disposed, new_row, row_passes, update_end, update_of, updated_at, updated_table}
 use Rattle.res_update.specs.Answered.{AreHonest, IsAnswered, WasAnswered, answered_disks, known_file, known_row}
@@ -66,8 +66,8 @@ module _ (P : FileRow → Type 0) where
   row-added : (new : FileRow) → P new → (rows : List FileRow) → All P rows → All P (added new rows)
   row-added new is rows all =
       let i = end_of_type new.resource.kind rows in
-      let behind = All-cons P new (drop i rows) is (All-drop P i rows all) in
-      subst (All P) (insert-at-end new rows) (All-append P (take i rows) (new ∷ drop i rows) (All-take P i rows all) behind)
+      let following = All-cons P new (drop i rows) is (All-drop P i rows all) in
+      subst (All P) (insert-at-end new rows) (All-append P (take i rows) (new ∷ drop i rows) (All-take P i rows all) following)
 
 -- the rows have the bytes of a fork
 abbrev HaveBytes : Disk → List FileRow → Type 0
@@ -131,10 +131,10 @@ module _ (honest : ℕ → Type 0) where
         let both = or_parts (is_numbered k f) (list_any (is_numbered k) fs) none in
         (there f both.0 kept.0, others-kept (IsApart f P) (IsApart f Q) (apart P Q f there) fs both.1 kept.1)
 
-    -- the files behind the one that has it
-    behind-kept : (P Q : File → Type 0) → Elsewhere P Q → (f : File) → is_numbered k f ≡ true → (fs : List File)
+    -- the files after the one that has it
+    after-kept : (P Q : File → Type 0) → Elsewhere P Q → (f : File) → is_numbered k f ≡ true → (fs : List File)
         → AreKept (IsApart f P) fs → AreKept (IsApart f Q) fs
-    behind-kept P Q there f here fs kept =
+    after-kept P Q there f here fs kept =
         let differ = λ (g : File). subst (λ n. is_numbered n g ≡ false) (eqb-true f.number k here) in
         all-kept (IsApart f P) (IsApart f Q) (λ g is. (is.0, there g (differ g is.0) is.1)) fs kept
 
@@ -149,7 +149,7 @@ module _ (honest : ℕ → Type 0) where
       where
         by : (b : Bool) → is_numbered k f ≡ b → AreKept (IsApart f Q) (changed_file k change fs)
             → AreKept Q (if b then with_rows change f ∷ fs else f ∷ changed_file k change fs)
-        by true is deeper = (here f (eqb-true f.number k is) kept.0, behind-kept P Q there f is fs kept.1)
+        by true is deeper = (here f (eqb-true f.number k is) kept.0, after-kept P Q there f is fs kept.1)
         by false is deeper = (there f is kept.0, deeper)
 
     -- it is closed
@@ -160,7 +160,7 @@ module _ (honest : ℕ → Type 0) where
       where
         by : (b : Bool) → is_numbered k f ≡ b → AreKept (IsApart f Q) (without k fs)
             → AreKept Q (if b then fs else f ∷ without k fs)
-        by true is deeper = all-kept (IsApart f Q) Q (λ g is. is.1) fs (behind-kept P Q there f is fs kept.1)
+        by true is deeper = all-kept (IsApart f Q) Q (λ g is. is.1) fs (after-kept P Q there f is fs kept.1)
         by false is deeper = (there f is kept.0, deeper)
 
     closed-kept : (P Q : File → Type 0) → Elsewhere P Q → (files : Files) → AreKept P files.files
@@ -400,9 +400,9 @@ module _ (honest : ℕ → Type 0) where
         → GetsRow Memory (answered_disks honest Anything) device old rc asks end p r o → Kept end.state
     row-gets rc p r None gets = ended (found_end rc r old) gets.1 kept
     row-gets rc p r (Some inner) gets =
-        let behind = behind_memory asks gets.1 old in
-        let placed = placed-kept rc p r (loads_bytes old rc) gets.0 behind (forgotten-kept old (disposed_in asks) old.files kept) in
-        ended (placed_end device (loads_bytes old rc) rc p r gets.0 behind) gets.3 placed
+        let following = after_memory asks gets.1 old in
+        let placed = placed-kept rc p r (loads_bytes old rc) gets.0 following (forgotten-kept old (disposed_in asks) old.files kept) in
+        ended (placed_end device (loads_bytes old rc) rc p r gets.0 following) gets.3 placed
 
     place-gets : (rc : ResourceCall) (p : RowPlace) (o : Option FileRow) → GetsPlace Memory (answered_disks honest Anything) device old rc asks end p o
         → Kept end.state

@@ -22,7 +22,7 @@ use Rattle.res_update.specs.Changes.{FileRow, FileTable, opened_table}
 use Rattle.res_update.specs.Device.{Device, Disk, LeaveRelation, Reads, empty, fork, short, damaged, read_truly, Works as DeviceWorks}
 use Rattle.res_update.specs.Files.{ResState, ResourceEnd, disk_of, with_heap}
 use Rattle.res_update.specs.Loads.{loads_bytes, placed_end, placing}
-use Rattle.res_update.specs.Steps.{GetsPlace, GetsRow, MemoryRelation, ResourceStepBy, StepsUnless, Work, Gets, Updates, Opens, Quiet, Works, behind_memory, opened_end, work_of}
+use Rattle.res_update.specs.Steps.{GetsPlace, GetsRow, MemoryRelation, ResourceStepBy, StepsUnless, Work, Gets, Updates, Opens, Quiet, Works, after_memory, opened_end, work_of}
 use Rattle.res_update.specs.Tests.{resource_refusal}
 use Rattle.toolbox.specs.Tools.{ToolDoes, Tools, with_rows_forgotten}
 
@@ -60,7 +60,7 @@ module _ (answers left left' : List Answer) (MayLeave : LeaveRelation) (old : Re
   row-agrees p r None a b = (a.0 ∙ sym b.0, a.1 ∙ sym b.1)
   row-agrees p r (Some inner) a b =
       let same = sym a.2 ∙ b.2 in
-      (ap (λ (e : StepEnd). e.asks) same, a.3 ∙ ap (λ (e : StepEnd). placed_end DeviceWorks (loads_bytes old rc) rc p r e.outcome (behind_memory e.asks e.heap old)) same ∙ sym b.3)
+      (ap (λ (e : StepEnd). e.asks) same, a.3 ∙ ap (λ (e : StepEnd). placed_end DeviceWorks (loads_bytes old rc) rc p r e.outcome (after_memory e.asks e.heap old)) same ∙ sym b.3)
 
   place-agrees : (p : RowPlace) (o : Option FileRow) → GetsPlace (Exactly answers left) (read_truly MayLeave) DeviceWorks old rc asks end p o
       → GetsPlace (Exactly answers left') (read_truly MayLeave) DeviceWorks old rc asks' end' p o → Same

@@ -44,7 +44,7 @@ module _ {S : Type 0} (store : Ghosts S) where
   tool-does honest old MemError asks outcome new g shape all = (states old new old.resources shape g.4 ∙ ap (λ h. state old.shape h old.resources) g.2, g.3)
   tool-does honest old ResError asks outcome new g shape all = (states old new old.resources shape g.4 ∙ ap (λ h. state old.shape h old.resources) g.2, g.3)
 
-  -- a device that is honest behind a call was so before it
+  -- a device that is honest after a call was so before it
   same-stores : (old new : FilesOn S) (k : ℕ) → new.stores ≡ old.stores → HonestAt store.is_honest new.stores k → HonestAt store.is_honest old.stores k
   same-stores old new k same honest = subst (λ stores. HonestAt store.is_honest stores k) same honest
 

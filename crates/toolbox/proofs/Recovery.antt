@@ -23,7 +23,7 @@ use Rattle.res_update.specs.Device as device
 use Rattle.res_update.specs.Files.{ResState, ResourceEnd, disk_of, with_disk, with_files}
 use Rattle.res_update.specs.Steps.{Gets, IsSaved, MemoryRelation, Memory as MayStep, Opens, Quiet, ResourceStepBy, StepsUnless, Updates, Work, Works, update_in, work_of}
 use Rattle.res_update.specs.Tests.{resource_refusal}
-use Rattle.res_update.specs.Updates.{Update, behind_update, update_end}
+use Rattle.res_update.specs.Updates.{Update, after_update, update_end}
 use Rattle.res_update.specs.Answered.{WasAnswered, answered_disks}
 use Rattle.res_update.proofs.Answering.{disk_answered, gets_none}
 use Rattle.res_files.specs.Crash.{history_of}
@@ -69,7 +69,7 @@ module _ (honest : ℕ → Type 0) (Inner : MemoryRelation) (disks : ℕ → Dis
     abbrev with_saved : Update → ResState
     with_saved u = with_disk u.file (written (saved_table u.table)) (with_files (rows_changed u.file (λ _. u.table.rows) old.files) old)
 
-    same-disks : (rc : ResourceCall) (k : ℕ) (state : ResState) → (behind_update rc k state).disks ≡ state.disks
+    same-disks : (rc : ResourceCall) (k : ℕ) (state : ResState) → (after_update rc k state).disks ≡ state.disks
     same-disks (Writing (CloseResFile named)) k state = refl
     same-disks rc k state = refl
 

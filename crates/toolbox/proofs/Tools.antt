@@ -118,8 +118,8 @@ module _ (honest : ℕ → Type 0) where
   part-promised : (s : Shape) (from : Moment) (first part later : List Done) (put : LastPut) (set : LastSet) → Standing s from put set → AreDone s from (first ++ (part ++ later))
       → Promised s (moment_after from first) part (put_in first put) (set_in first set)
   part-promised s from first part later put set stands is =
-      let behind = run-later s from first (part ++ later) is in
-      promised s (moment_after from first) part (put_in first put) (set_in first set) (stand-run s from first put set stands (run-first s from first (part ++ later) is)) (run-first s (moment_after from first) part later behind)
+      let after = run-later s from first (part ++ later) is in
+      promised s (moment_after from first) part (put_in first put) (set_in first set) (stand-run s from first put set stands (run-first s from first (part ++ later) is)) (run-first s (moment_after from first) part later after)
 
   -- each call of a run was made
   call-made : (start : Tools) (first later : List Called) (called : Called) → IsToolRun honest start (first ++ (called ∷ later)) → ToolDoes honest (tools_after start first) called.call called.asks called.outcome called.tools

@@ -4,10 +4,10 @@ use Rattle.std.specs.List.{list_all}
 use Rattle.std.proofs.lemmas.Bool.{and_from, and_parts}
 use Rattle.mac_base.specs.declared.block.Entry.{Entry}
 use Rattle.mac_base.specs.Arrangement.{down, used_blocks}
-use Rattle.mac_base.specs.Compaction.{all_down, all_down_behind}
+use Rattle.mac_base.specs.Compaction.{all_down, all_down_after}
 use Rattle.mac_base.specs.Gap.{Gap, is_fixed}
 use Rattle.mac_base.specs.HandleTable.{HandleTable}
-use Rattle.mac_base.specs.ZoneMap.{ZoneMap, address_behind, free_block, free_bytes, total_size}
+use Rattle.mac_base.specs.ZoneMap.{ZoneMap, address_after, free_block, free_bytes, total_size}
 use Rattle.mac_base.specs.ZoneState.{ZoneState}
 use Rattle.zone_laws.proofs.Arranging.{down-IsArrangement, used_blocks-down}
 use Rattle.zone_laws.proofs.GapParts.{IsGap, first_gap, first_gap-before, first_gap-IsGap}
@@ -28,38 +28,38 @@ use Rattle.zone_heap.proofs.Sweeping.{all_down-fixed, all_down-last}
 down-down : (b : ZoneMap) → down (down b) ≡ down b
 down-down b = ap (λ u. u ++ free_block (free_bytes (down b))) (used_blocks-down b) ∙ ap (λ n. used_blocks b ++ free_block n) (down-IsArrangement b).same_free
 
--- all gaps arranged down are the same where those behind a fixed block are
-behind_fixed : (t : HandleTable) (run : ZoneMap) (e : Entry) (es a b : ZoneMap) → ends_fixed t (e ∷ es) ≡ true → all_down t a ≡ all_down t b → all_down_behind t run (e ∷ es ++ a) ≡ all_down_behind t run (e ∷ es ++ b)
-behind_fixed t run e [] a b ends same =
-    ap (λ c. cond c (down run ++ e ∷ all_down_behind t [] a) (all_down_behind t (run ++ e ∷ []) a)) ends
+-- all gaps arranged down are the same where those after a fixed block are
+after_fixed : (t : HandleTable) (run : ZoneMap) (e : Entry) (es a b : ZoneMap) → ends_fixed t (e ∷ es) ≡ true → all_down t a ≡ all_down t b → all_down_after t run (e ∷ es ++ a) ≡ all_down_after t run (e ∷ es ++ b)
+after_fixed t run e [] a b ends same =
+    ap (λ c. cond c (down run ++ e ∷ all_down_after t [] a) (all_down_after t (run ++ e ∷ []) a)) ends
     ∙ ap (λ m. down run ++ e ∷ m) same
-    ∙ sym (ap (λ c. cond c (down run ++ e ∷ all_down_behind t [] b) (all_down_behind t (run ++ e ∷ []) b)) ends)
-behind_fixed t run e (f ∷ fs) a b ends same =
-    let stands = behind_fixed t [] f fs a b ends same in
-    let joins = behind_fixed t (run ++ e ∷ []) f fs a b ends same in
-    elim (is_fixed t e.kind) as (λ c. cond c (down run ++ e ∷ all_down_behind t [] (f ∷ fs ++ a)) (all_down_behind t (run ++ e ∷ []) (f ∷ fs ++ a)) ≡ cond c (down run ++ e ∷ all_down_behind t [] (f ∷ fs ++ b)) (all_down_behind t (run ++ e ∷ []) (f ∷ fs ++ b))) [
+    ∙ sym (ap (λ c. cond c (down run ++ e ∷ all_down_after t [] b) (all_down_after t (run ++ e ∷ []) b)) ends)
+after_fixed t run e (f ∷ fs) a b ends same =
+    let stands = after_fixed t [] f fs a b ends same in
+    let joins = after_fixed t (run ++ e ∷ []) f fs a b ends same in
+    elim (is_fixed t e.kind) as (λ c. cond c (down run ++ e ∷ all_down_after t [] (f ∷ fs ++ a)) (all_down_after t (run ++ e ∷ []) (f ∷ fs ++ a)) ≡ cond c (down run ++ e ∷ all_down_after t [] (f ∷ fs ++ b)) (all_down_after t (run ++ e ∷ []) (f ∷ fs ++ b))) [
       | true ↦ ap (λ m. down run ++ e ∷ m) stands
       | false ↦ joins
     ]
 
 -- the lowest gap arranged down
-first_down : (t : HandleTable) (blocks behind : ZoneMap) → none_fixed t blocks ≡ true → begins_fixed t behind ≡ true → all_down t (down blocks ++ behind) ≡ all_down t (blocks ++ behind)
-first_down t blocks behind moves above = by_behind behind above
+first_down : (t : HandleTable) (blocks following : ZoneMap) → none_fixed t blocks ≡ true → begins_fixed t following ≡ true → all_down t (down blocks ++ following) ≡ all_down t (blocks ++ following)
+first_down t blocks following moves above = by_after following above
   where
     kept : none_fixed t (down blocks) ≡ true
     kept = (down-IsArrangement blocks).kept (λ (e : Entry). not (is_fixed t e.kind)) moves (inr refl)
 
-    by_behind : (m : ZoneMap) → begins_fixed t m ≡ true → all_down t (down blocks ++ m) ≡ all_down t (blocks ++ m)
-    by_behind [] above = all_down-last t (down blocks) kept ∙ down-down blocks ∙ sym (all_down-last t blocks moves)
-    by_behind (e ∷ es) above = all_down-fixed t (down blocks) e es kept above ∙ ap (λ d. d ++ e ∷ all_down t es) (down-down blocks) ∙ sym (all_down-fixed t blocks e es moves above)
+    by_after : (m : ZoneMap) → begins_fixed t m ≡ true → all_down t (down blocks ++ m) ≡ all_down t (blocks ++ m)
+    by_after [] above = all_down-last t (down blocks) kept ∙ down-down blocks ∙ sym (all_down-last t blocks moves)
+    by_after (e ∷ es) above = all_down-fixed t (down blocks) e es kept above ∙ ap (λ d. d ++ e ∷ all_down t es) (down-down blocks) ∙ sym (all_down-fixed t blocks e es moves above)
 
 -- any gap arranged down changes nothing of all gaps arranged down
-all_down-around : (t : HandleTable) (before blocks behind : ZoneMap) → none_fixed t blocks ≡ true → ends_fixed t before ≡ true → begins_fixed t behind ≡ true
-    → all_down t (before ++ (down blocks ++ behind)) ≡ all_down t (before ++ (blocks ++ behind))
-all_down-around t [] blocks behind moves below above = first_down t blocks behind moves above
-all_down-around t (e ∷ es) blocks behind moves below above = behind_fixed t [] e es (down blocks ++ behind) (blocks ++ behind) below (first_down t blocks behind moves above)
+all_down-around : (t : HandleTable) (before blocks following : ZoneMap) → none_fixed t blocks ≡ true → ends_fixed t before ≡ true → begins_fixed t following ≡ true
+    → all_down t (before ++ (down blocks ++ following)) ≡ all_down t (before ++ (blocks ++ following))
+all_down-around t [] blocks following moves below above = first_down t blocks following moves above
+all_down-around t (e ∷ es) blocks following moves below above = after_fixed t [] e es (down blocks ++ following) (blocks ++ following) below (first_down t blocks following moves above)
 
--- Blocks up to the last fixed one, and those behind it.
+-- Blocks up to the last fixed one, and those after it.
 record Cut (t : HandleTable) (m : ZoneMap) : Type 0 where
   pub before : ZoneMap
   pub lower : ZoneMap
@@ -84,18 +84,18 @@ pub around_entry : (z : ZoneState) (at : ℕ) → EntryAt z at → AroundAt z at
 around_entry z at e =
     let t : HandleTable = z.heap.table in
     let low = cut t e.before in
-    let rest : ZoneMap = e.here ∷ e.behind in
+    let rest : ZoneMap = e.here ∷ e.after in
     let g : Gap = first_gap t rest in
     let is : IsGap t rest g = first_gap-IsGap t rest in
-    let parts : rest ≡ g.blocks ++ g.behind = is.parts ∙ ap (λ b. (b ++ g.blocks) ++ g.behind) (first_gap-before t rest) in
+    let parts : rest ≡ g.blocks ++ g.after = is.parts ∙ ap (λ b. (b ++ g.blocks) ++ g.after) (first_gap-before t rest) in
     record {
       before = low.before;
       lower = low.lower;
       upper = g.blocks;
-      behind = g.behind;
+      after = g.after;
       map = e.map ∙ ap (λ m. m ++ rest) low.is ∙ ap (λ m. (low.before ++ low.lower) ++ m) parts
-          ∙ append_assoc low.before low.lower (g.blocks ++ g.behind) ∙ ap (λ m. low.before ++ m) (sym (append_assoc low.lower g.blocks g.behind));
-      place = e.place ∙ ap (address_behind z.shape) low.is;
+          ∙ append_assoc low.before low.lower (g.blocks ++ g.after) ∙ ap (λ m. low.before ++ m) (sym (append_assoc low.lower g.blocks g.after));
+      place = e.place ∙ ap (address_after z.shape) low.is;
       moves = both low.lower g.blocks low.moves is.moves;
       below = low.below;
       above = is.above;
@@ -111,8 +111,8 @@ module _ (z : ZoneState) (at : ℕ) (a : AroundAt z at) where
   front_around = record {
     before = a.before;
     blocks = a.lower;
-    behind = a.upper ++ a.behind;
-    map = a.map ∙ ap (λ m. a.before ++ m) (append_assoc a.lower a.upper a.behind);
+    after = a.upper ++ a.after;
+    map = a.map ∙ ap (λ m. a.before ++ m) (append_assoc a.lower a.upper a.after);
     place = a.place;
     moves = (all_parts _ a.lower a.upper a.moves).0;
     below = a.below;
@@ -122,8 +122,8 @@ module _ (z : ZoneState) (at : ℕ) (a : AroundAt z at) where
   rest_around = record {
     before = a.before ++ a.lower;
     blocks = a.upper;
-    behind = a.behind;
-    map = a.map ∙ ap (λ m. a.before ++ m) (append_assoc a.lower a.upper a.behind) ∙ sym (append_assoc a.before a.lower (a.upper ++ a.behind));
+    after = a.after;
+    map = a.map ∙ ap (λ m. a.before ++ m) (append_assoc a.lower a.upper a.after) ∙ sym (append_assoc a.before a.lower (a.upper ++ a.after));
     place = a.place;
     moves = (all_parts _ a.lower a.upper a.moves).1;
     above = a.above;
@@ -131,22 +131,22 @@ module _ (z : ZoneState) (at : ℕ) (a : AroundAt z at) where
 
   -- they are a gap
   abbrev pub gap_around : Gap
-  gap_around = record { before = a.before; blocks = a.lower ++ a.upper; behind = a.behind }
+  gap_around = record { before = a.before; blocks = a.lower ++ a.upper; after = a.after }
 
   pub is_gap_around : IsGap z.heap.table z.heap.map gap_around
-  is_gap_around = record { parts = a.map ∙ sym (append_assoc a.before (a.lower ++ a.upper) a.behind); moves = a.moves; below = a.below; above = a.above }
+  is_gap_around = record { parts = a.map ∙ sym (append_assoc a.before (a.lower ++ a.upper) a.after); moves = a.moves; below = a.below; above = a.above }
 
   -- and a run
   abbrev pub run_around : (start end : ℕ) → Settled z → start + total_size a.lower ≡ at → end ≡ at + total_size a.upper → RunAt z start end
   run_around start end s low high = record {
     before = a.before;
     blocks = a.lower ++ a.upper;
-    behind = a.behind;
+    after = a.after;
     map = a.map;
     place = (let place = a.place in let all = total_size-append a.before a.lower in omega arith);
     long = (let all = total_size-append a.lower a.upper in omega arith);
     moves = all_move-unfixed z.heap (a.lower ++ a.upper) s.loans
-        (all_parts _ (a.lower ++ a.upper) a.behind (all_parts _ a.before ((a.lower ++ a.upper) ++ a.behind) (ap (list_all (λ (e : Entry). has_owner z.heap.table e.kind)) (sym a.map) ∙ owners-settled z s)).1).0 a.moves;
+        (all_parts _ (a.lower ++ a.upper) a.after (all_parts _ a.before ((a.lower ++ a.upper) ++ a.after) (ap (list_all (λ (e : Entry). has_owner z.heap.table e.kind)) (sym a.map) ∙ owners-settled z s)).1).0 a.moves;
     loose = a.moves;
   }
 
@@ -174,13 +174,13 @@ module _ (z new : ZoneState) (p : Partly z new) where
   same_all = ap (λ t. all_down t new.heap.map) table_is ∙ ap (all_down z.heap.table) map_is ∙ p.same
 
   -- and one more
-  pub partly_on : (at : ℕ) (a : AroundAt new at) (after : ZoneState) → after ≡ with_map (a.before ++ (down (a.lower ++ a.upper) ++ a.behind)) new → KeepsLoans new after → Settled after → Partly z after
+  pub partly_on : (at : ℕ) (a : AroundAt new at) (after : ZoneState) → after ≡ with_map (a.before ++ (down (a.lower ++ a.upper) ++ a.after)) new → KeepsLoans new after → Settled after → Partly z after
   partly_on at a after is loans settled =
-      let m : ZoneMap = a.before ++ (down (a.lower ++ a.upper) ++ a.behind) in
+      let m : ZoneMap = a.before ++ (down (a.lower ++ a.upper) ++ a.after) in
       record {
         map = m;
         zone = is ∙ ap (with_map m) p.zone;
-        same = ap (λ t. all_down t m) (sym table_is) ∙ all_down-around new.heap.table a.before (a.lower ++ a.upper) a.behind a.moves a.below a.above ∙ ap (all_down new.heap.table) (sym a.map) ∙ same_all;
+        same = ap (λ t. all_down t m) (sym table_is) ∙ all_down-around new.heap.table a.before (a.lower ++ a.upper) a.after a.moves a.below a.above ∙ ap (all_down new.heap.table) (sym a.map) ∙ same_all;
         loans = (loans.0 ∙ p.loans.0, λ x loan is. loans.1 x loan (p.loans.1 x loan is));
         settled = settled;
       }

@@ -7,7 +7,7 @@ use Rattle.mac_base.specs.declared.block.Entry.{Entry}
 use Rattle.mac_base.specs.declared.block.Kind.{Kind}
 use Rattle.mac_base.specs.declared.block.Kind.TheVariants.{Free, Master, Ptr, Rel}
 use Rattle.mac_base.specs.Arrangement.{down, used_blocks}
-use Rattle.mac_base.specs.Compaction.{all_down, all_down_behind}
+use Rattle.mac_base.specs.Compaction.{all_down, all_down_after}
 use Rattle.mac_base.specs.Gap.{is_fixed}
 use Rattle.mac_base.specs.HandleTable.{HandleTable}
 use Rattle.mac_base.specs.HeadKind.{Shape}
@@ -20,7 +20,7 @@ use Rattle.zone_index.specs.Weights.{in_order, weights}
 use Rattle.zone_index.proofs.SomeBytes.{all_both, some_bytes}
 use Rattle.zone_heap.proofs.Pressing.{free-push_free, used-push_free}
 
--- blocks in use, behind which a free one stands, or none
+-- blocks in use, after which a free one is, or none
 abbrev Ends : Bool → ZoneMap → Type 0
 Ends false run = none_free run ≡ true
 Ends true run = (used : ZoneMap) × (e : Entry) × (run ≡ used ++ e ∷ []) × (none_free used ≡ true) × (is_free e.kind ≡ true) × (0 < e.size)
@@ -65,7 +65,7 @@ pushed run e none some = by_free (is_free e.kind) refl
         (all_both (λ (e : Entry). not (is_free e.kind)) run (e ∷ []) none (ap (λ c. not c && true) is))
 
 -- what follows such blocks in order is arranged with them
-order-kept : (t : HandleTable) (s : Shape) (free : Bool) (run es : ZoneMap) → Ends free run → sizes_possible s es ≡ true → in_order free (weights t es) ≡ true → all_down_behind t run es ≡ run ++ es
+order-kept : (t : HandleTable) (s : Shape) (free : Bool) (run es : ZoneMap) → Ends free run → sizes_possible s es ≡ true → in_order free (weights t es) ≡ true → all_down_after t run es ≡ run ++ es
 order-kept t s free run [] ends sizes order = down-ends free run ends ∙ sym (append-nil run)
 order-kept t s free run (e ∷ es) ends sizes order =
     let size = and_parts (is_block_size s e.size) (sizes_possible s es) sizes in
@@ -73,14 +73,14 @@ order-kept t s free run (e ∷ es) ends sizes order =
     by_fixed free ends (is_fixed t e.kind) refl parts.0 parts.1 (some_bytes s e.size size.0) (λ f r en o. order-kept t s f r es en size.1 o)
   where
     by_fixed : (free : Bool) → Ends free run → (fixed : Bool) → is_fixed t e.kind ≡ fixed → (not free || is_fixed t e.kind) ≡ true → in_order (nat_lt 0 (free_size e)) (weights t es) ≡ true → 0 < e.size
-        → ((f : Bool) (r : ZoneMap) → Ends f r → in_order f (weights t es) ≡ true → all_down_behind t r es ≡ r ++ es) → all_down_behind t run (e ∷ es) ≡ run ++ e ∷ es
+        → ((f : Bool) (r : ZoneMap) → Ends f r → in_order f (weights t es) ≡ true → all_down_after t r es ≡ r ++ es) → all_down_after t run (e ∷ es) ≡ run ++ e ∷ es
     by_fixed free ends true is stands order some next =
-        ap (λ c. cond c (down run ++ e ∷ all_down_behind t [] es) (all_down_behind t (run ++ e ∷ []) es)) is
-        ∙ ap (λ d. d ++ e ∷ all_down_behind t [] es) (down-ends free run ends)
+        ap (λ c. cond c (down run ++ e ∷ all_down_after t [] es) (all_down_after t (run ++ e ∷ []) es)) is
+        ∙ ap (λ d. d ++ e ∷ all_down_after t [] es) (down-ends free run ends)
         ∙ ap (λ m. run ++ e ∷ m) (next false [] refl (subst (λ b. in_order b (weights t es) ≡ true) (fixed_used t e is) order))
     by_fixed true ends false is stands order some next = absurd (false≢true (sym is ∙ stands))
     by_fixed false ends false is stands order some next =
-        ap (λ c. cond c (down run ++ e ∷ all_down_behind t [] es) (all_down_behind t (run ++ e ∷ []) es)) is
+        ap (λ c. cond c (down run ++ e ∷ all_down_after t [] es) (all_down_after t (run ++ e ∷ []) es)) is
         ∙ next (nat_lt 0 (free_size e)) (run ++ e ∷ []) (pushed run e ends some) order ∙ append_assoc run (e ∷ []) es
 
 -- a zone in order is as it is once all gaps are arranged down

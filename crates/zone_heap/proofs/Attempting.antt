@@ -104,13 +104,13 @@ module _ (old new : ZoneState) (k at n : ℕ) (size : k ≡ need old.shape.heads
   front : FrontFree k (cleared k g.blocks)
   front = front_free k (cleared k g.blocks) (begins_free-cleared k g.blocks some (lowest_gap-is old.heap.table old.heap.map k g c.lowest).1)
 
-  map_parts : filled g (cleared k g.blocks) ≡ g.before ++ block Free front.size ∷ (front.back ++ g.behind)
-  map_parts = ap (filled g) front.was ∙ append_assoc g.before (block Free front.size ∷ front.back) g.behind
+  map_parts : filled g (cleared k g.blocks) ≡ g.before ++ block Free front.size ∷ (front.back ++ g.after)
+  map_parts = ap (filled g) front.was ∙ append_assoc g.before (block Free front.size ∷ front.back) g.after
 
   -- they are the lowest free block with room
   cleared_low : LowestAt new k at
   cleared_low = subst (λ w. LowestAt w k at) (sym c.zone) (let low : LowestAt (with_gap old g (cleared k g.blocks)) k at = record {
-    free = record { before = g.before; size = front.size; behind = front.back ++ g.behind; map = map_parts; place = c.start };
+    free = record { before = g.before; size = front.size; after = front.back ++ g.after; map = map_parts; place = c.start };
     large = front.large;
     lowest = before_none old.heap.table k old.heap.map g c.lowest;
   } in low)
@@ -135,8 +135,8 @@ module _ (old new : ZoneState) (k at n : ℕ) (size : k ≡ need old.shape.heads
           let block_there = taken s k (kind p) front.size in
           ap (option_and_then (λ (g : Gap). option_map (λ blocks. (contents_at_gap s g, filled g blocks)) (take_lowest s k (kind (contents_at_gap s g)) (cleared k g.blocks)))) c.lowest
           ∙ ap (option_map (λ blocks. (p, filled g blocks))) (ap (take_lowest s k (kind p)) front.was ∙ take_lowest-there s k (kind p) [] front.size front.back refl front.large)
-          ∙ ap (λ m. Some (p, m)) (append_assoc g.before (block_there ++ front.back) g.behind ∙ ap (λ m. g.before ++ m) (append_assoc block_there front.back g.behind))
-          ∙ sym (ap (option_map (λ m. (p, m))) (ap (take_lowest s k (kind p)) map_parts ∙ take_lowest-there s k (kind p) g.before front.size (front.back ++ g.behind) (before_none old.heap.table k old.heap.map g c.lowest) front.large))
+          ∙ ap (λ m. Some (p, m)) (append_assoc g.before (block_there ++ front.back) g.after ∙ ap (λ m. g.before ++ m) (append_assoc block_there front.back g.after))
+          ∙ sym (ap (option_map (λ m. (p, m))) (ap (take_lowest s k (kind p)) map_parts ∙ take_lowest-there s k (kind p) g.before front.size (front.back ++ g.after) (before_none old.heap.table k old.heap.map g c.lowest) front.large))
           ∙ ap (λ at. option_map (λ m. (at + head_size s.heads, m)) (take_lowest s k (kind (at + head_size s.heads)) (filled g (cleared k g.blocks)))) (sym c.start)
 
   -- a new pointer has its block in the zone in which room was made

@@ -4,7 +4,7 @@ use Rattle.std.proofs.lemmas.Bool.{and_parts}
 use Rattle.mac_base.specs.declared.block.Entry.{Entry}
 use Rattle.mac_base.specs.HeadKind.{Shape}
 use Rattle.mac_base.specs.Suits.{is_block_size}
-use Rattle.mac_base.specs.ZoneMap.{ZoneMap, total_size, address_behind}
+use Rattle.mac_base.specs.ZoneMap.{ZoneMap, total_size, address_after}
 use Rattle.mac_base.specs.ZoneState.{ZoneState}
 use Rattle.zone_laws.proofs.GapApart.{sizes_possible}
 use Rattle.linked_zone.specs.Fit.{HasSizes}
@@ -34,13 +34,13 @@ same_block s (g ∷ a) e b (h ∷ c) f d is sizes ends =
     (rest.0, omega arith)
 
 -- the block that ends where some blocks end is the last of them
-pub previous_block : (z : ZoneState) (start : ℕ) (front : ZoneMap) (f : Entry) (behind : ZoneMap) → HasSizes z → z.heap.map ≡ (front ++ f ∷ []) ++ behind → start ≡ address_behind z.shape (front ++ f ∷ [])
+pub previous_block : (z : ZoneState) (start : ℕ) (front : ZoneMap) (f : Entry) (after : ZoneMap) → HasSizes z → z.heap.map ≡ (front ++ f ∷ []) ++ after → start ≡ address_after z.shape (front ++ f ∷ [])
     → (last : ℕ) (e : EntryAt z last) → start ≡ last + (e.here).size → (e.here ≡ f) × (total_size e.before ≡ total_size front)
-previous_block z start front f behind sizes map place last e there =
-    let both : e.before ++ e.here ∷ e.behind ≡ front ++ f ∷ behind = sym e.map ∙ map ∙ append_assoc front (f ∷ []) behind in
+previous_block z start front f after sizes map place last e there =
+    let both : e.before ++ e.here ∷ e.after ≡ front ++ f ∷ after = sym e.map ∙ map ∙ append_assoc front (f ∷ []) after in
     let all = total_size-push front f in
     let first = e.place in
-    same_block z.shape e.before e.here e.behind front f behind both (ap (sizes_possible z.shape) (sym e.map) ∙ sizes) (omega arith)
+    same_block z.shape e.before e.here e.after front f after both (ap (sizes_possible z.shape) (sym e.map) ∙ sizes) (omega arith)
 
 -- two lists of the same blocks are cut alike where as many bytes are before
 same_front : (s : Shape) (a b c d : ZoneMap) → a ++ b ≡ c ++ d → sizes_possible s (a ++ b) ≡ true → total_size a ≡ total_size c → (a ≡ c) × (b ≡ d)
@@ -68,17 +68,17 @@ parcel_loose z start end sizes mine loose parcel =
     let l = parcel.long in
     let k = mine.long in
     ap (none_fixed z.heap.table)
-    (same_between z.shape z.heap.map parcel.before (parcel.here ∷ parcel.blocks) parcel.behind mine.before (mine.here ∷ mine.blocks) mine.behind sizes parcel.map mine.map (omega arith) (omega arith)) ∙ loose
+    (same_between z.shape z.heap.map parcel.before (parcel.here ∷ parcel.blocks) parcel.after mine.before (mine.here ∷ mine.blocks) mine.after sizes parcel.map mine.map (omega arith) (omega arith)) ∙ loose
 
--- or of one whose last block stands at the second
+-- or of one whose last block is at the second
 pub parcel_up_loose : (z : ZoneState) (start at : ℕ) → HasSizes z → (mine : ParcelUpTo z start at) → none_fixed z.heap.table (mine.blocks ++ mine.here ∷ []) ≡ true → (parcel : ParcelUpTo z start at) → IsTrue (none_fixed z.heap.table (parcel.blocks ++ parcel.here ∷ []))
 parcel_up_loose z start at sizes mine loose parcel =
     let p = parcel.place in
     let q = mine.place in
     let l = parcel.long in
     let k = mine.long in
-    let outer = same_front z.shape parcel.before (parcel.blocks ++ parcel.here ∷ parcel.behind) mine.before (mine.blocks ++ mine.here ∷ mine.behind) (sym parcel.map ∙ mine.map) (ap (sizes_possible z.shape) (sym parcel.map) ∙ sizes) (omega arith) in
-    let possible = (all_parts _ parcel.before (parcel.blocks ++ parcel.here ∷ parcel.behind) (ap (sizes_possible z.shape) (sym parcel.map) ∙ sizes)).1 in
-    let inner = same_front z.shape parcel.blocks (parcel.here ∷ parcel.behind) mine.blocks (mine.here ∷ mine.behind) outer.1 possible (omega arith) in
-    let head = heads parcel.here mine.here parcel.behind mine.behind inner.1 in
+    let outer = same_front z.shape parcel.before (parcel.blocks ++ parcel.here ∷ parcel.after) mine.before (mine.blocks ++ mine.here ∷ mine.after) (sym parcel.map ∙ mine.map) (ap (sizes_possible z.shape) (sym parcel.map) ∙ sizes) (omega arith) in
+    let possible = (all_parts _ parcel.before (parcel.blocks ++ parcel.here ∷ parcel.after) (ap (sizes_possible z.shape) (sym parcel.map) ∙ sizes)).1 in
+    let inner = same_front z.shape parcel.blocks (parcel.here ∷ parcel.after) mine.blocks (mine.here ∷ mine.after) outer.1 possible (omega arith) in
+    let head = heads parcel.here mine.here parcel.after mine.after inner.1 in
     ap (none_fixed z.heap.table) (ap (λ m. m ++ parcel.here ∷ []) inner.0 ∙ ap (λ e. mine.blocks ++ e ∷ []) head.0) ∙ loose

@@ -1,5 +1,5 @@
 -- The lowest gap with room is cleared, or arranged down: what the zone is then, and where its lowest free block with
--- room stands.
+-- room is.
 use Rattle.std.proofs.Common.{◌≡◌, ℕ, ◌+◌, ◌<◌, ◌≤◌, true, false, not, cond, [], ◌∷◌, ◌++◌, Some, refl, ap, sym, ◌∙◌, subst, append-nil, append_assoc, arith}
 use Rattle.std.specs.Prelude.{nat_le, option_map, option_and_then}
 use Rattle.std.specs.Option.{option_or}
@@ -12,7 +12,7 @@ use Rattle.mac_base.specs.declared.block.Kind.TheVariants.{Free}
 use Rattle.mac_base.specs.Arrangement.{down, up, used_blocks}
 use Rattle.mac_base.specs.Gap.{Gap, gaps, filled, lowest_gap, room}
 use Rattle.mac_base.specs.Serve.{begins_free, taken, take_lowest, placed_relocatable}
-use Rattle.mac_base.specs.ZoneMap.{ZoneMap, block, free_bytes, has_free, address_behind, total_size}
+use Rattle.mac_base.specs.ZoneMap.{ZoneMap, block, free_bytes, has_free, address_after, total_size}
 use Rattle.mac_base.specs.ZoneState.{ZoneState}
 use Rattle.zone_laws.proofs.Arranging.{IsArrangement, down-IsArrangement, up-IsArrangement}
 use Rattle.zone_laws.proofs.Fitting.{free_block-some}
@@ -41,15 +41,15 @@ opened_there z k at low = record {
   map = z.heap.map;
   zone = refl;
   low = low;
-  taken = λ kind. let there = ap (take_lowest z.shape k kind) (low.free).map ∙ take_lowest-there z.shape k kind (low.free).before (low.free).size (low.free).behind low.lowest low.large in
+  taken = λ kind. let there = ap (take_lowest z.shape k kind) (low.free).map ∙ take_lowest-there z.shape k kind (low.free).before (low.free).size (low.free).after low.lowest low.large in
       ap (λ o. option_or o (option_and_then (λ (g : Gap). option_map (filled g) (take_lowest z.shape k kind (down g.blocks))) (lowest_gap k (gaps z.heap.table z.heap.map)))) there ∙ sym there;
 }
 
 -- so it does once a free block is opened for it
-pub opened_taken : (z new : ZoneState) (k at : ℕ) (o : IsOpened z k at new) (kind : Kind) → placed_relocatable z.shape z.heap.table k kind z.heap.map ≡ Some (o.low.free.before ++ (taken new.shape k kind o.low.free.size ++ o.low.free.behind))
+pub opened_taken : (z new : ZoneState) (k at : ℕ) (o : IsOpened z k at new) (kind : Kind) → placed_relocatable z.shape z.heap.table k kind z.heap.map ≡ Some (o.low.free.before ++ (taken new.shape k kind o.low.free.size ++ o.low.free.after))
 opened_taken z new k at o kind =
     o.taken kind ∙ ap (λ (w : ZoneState). take_lowest w.shape k kind w.heap.map) (sym o.zone) ∙ ap (take_lowest new.shape k kind) o.low.free.map
-    ∙ take_lowest-there new.shape k kind o.low.free.before o.low.free.size o.low.free.behind o.low.lowest o.low.large
+    ∙ take_lowest-there new.shape k kind o.low.free.before o.low.free.size o.low.free.after o.low.lowest o.low.large
 
 -- no free block has room in blocks where none has in two parts of them
 both_none : (k : ℕ) (a b : ZoneMap) → NoneHas k a → NoneHas k b → NoneHas k (a ++ b)
@@ -66,13 +66,13 @@ module _ (z : ZoneState) (k at : ℕ) (some : 0 < k) (is : IsLowestGap z k at) w
   pub gap_free : 0 < free_bytes g.blocks
   gap_free = let fits = gap_is.1 in omega arith
 
-  -- the map with the gap arranged down: its free bytes are one block, behind the blocks that are used
-  down_map : filled g (down g.blocks) ≡ (g.before ++ used_blocks g.blocks) ++ block Free (free_bytes g.blocks) ∷ g.behind
+  -- the map with the gap arranged down: its free bytes are one block, after the blocks that are used
+  down_map : filled g (down g.blocks) ≡ (g.before ++ used_blocks g.blocks) ++ block Free (free_bytes g.blocks) ∷ g.after
   down_map =
       let used = used_blocks g.blocks in
       ap (λ free. filled g (used ++ free)) (free_block-some (free_bytes g.blocks) gap_free)
-      ∙ ap (λ m. m ++ g.behind) (sym (append_assoc g.before used (block Free (free_bytes g.blocks) ∷ [])))
-      ∙ append_assoc (g.before ++ used) (block Free (free_bytes g.blocks) ∷ []) g.behind
+      ∙ ap (λ m. m ++ g.after) (sym (append_assoc g.before used (block Free (free_bytes g.blocks) ∷ [])))
+      ∙ append_assoc (g.before ++ used) (block Free (free_bytes g.blocks) ∷ []) g.after
 
   -- nothing before it is free and has room
   below_none : NoneHas k (g.before ++ used_blocks g.blocks)
@@ -90,16 +90,16 @@ module _ (z : ZoneState) (k at : ℕ) (some : 0 < k) (is : IsLowestGap z k at) w
       ∙ ap (option_and_then in_gap) is.lowest
       ∙ ap (λ f. option_map (filled g) (take_lowest s k kind (used ++ f))) (free_block-some free gap_free)
       ∙ ap (option_map (filled g)) (take_lowest-there s k kind used free [] (used_none k g.blocks) gap_is.1)
-      ∙ ap Some (ap (λ m. filled g (used ++ m)) (append-nil front) ∙ ap (λ m. m ++ g.behind) (sym (append_assoc g.before used front)) ∙ append_assoc (g.before ++ used) front g.behind)
-      ∙ sym (ap (take_lowest s k kind) down_map ∙ take_lowest-there s k kind (g.before ++ used) free g.behind below_none gap_is.1)
+      ∙ ap Some (ap (λ m. filled g (used ++ m)) (append-nil front) ∙ ap (λ m. m ++ g.after) (sym (append_assoc g.before used front)) ∙ append_assoc (g.before ++ used) front g.after)
+      ∙ sym (ap (take_lowest s k kind) down_map ∙ take_lowest-there s k kind (g.before ++ used) free g.after below_none gap_is.1)
 
   -- arranged down, the gap has the lowest free block with room
-  pub opened_down : (new : ZoneState) (low : ℕ) → NoneHas k z.heap.map → new ≡ with_gap z g (down g.blocks) → low ≡ address_behind z.shape (g.before ++ used_blocks g.blocks) → IsOpened z k low new
+  pub opened_down : (new : ZoneState) (low : ℕ) → NoneHas k z.heap.map → new ≡ with_gap z g (down g.blocks) → low ≡ address_after z.shape (g.before ++ used_blocks g.blocks) → IsOpened z k low new
   opened_down new low none same place = record {
     map = filled g (down g.blocks);
     zone = same;
     low = subst (λ w. LowestAt w k low) (sym same) (let low : LowestAt (with_gap z g (down g.blocks)) k low = record {
-      free = record { before = g.before ++ used_blocks g.blocks; size = free_bytes g.blocks; behind = g.behind; map = down_map; place = place };
+      free = record { before = g.before ++ used_blocks g.blocks; size = free_bytes g.blocks; after = g.after; map = down_map; place = place };
       large = gap_is.1;
       lowest = below_none;
     } in low);
@@ -116,9 +116,9 @@ module _ (z : ZoneState) (k at : ℕ) (some : 0 < k) (is : IsLowestGap z k at) w
   pub sound_up : (new : ZoneState) → SoundZone z → new ≡ with_gap z g (up g.blocks) → SoundZone new
   sound_up new s same = sound-arranged z new g (up g.blocks) s gap_is.0 (up-IsArrangement g.blocks) same
 
-  -- it stands there
+  -- it is there
   abbrev pub entry_first : EntryAt z at
-  entry_first = record { before = g.before ++ (is.first).used; here = block Free (is.first).size; behind = (is.first).rest ++ g.behind; map = map_from z at from; place = (is.first).place }
+  entry_first = record { before = g.before ++ (is.first).used; here = block Free (is.first).size; after = (is.first).rest ++ g.after; map = map_from z at from; place = (is.first).place }
 
   module _ (start : ℕ) (there : start + total_size (is.first).used ≡ at) where
     -- the gap begins there

@@ -7,7 +7,7 @@ use Rattle.std.proofs.lemmas.Bool.{eqb-true, le-leb, leb-true, or_parts}
 use Rattle.mac_base.specs.declared.block.Entry.{Entry}
 use Rattle.mac_base.specs.declared.block.Kind.{Kind}
 use Rattle.mac_base.specs.declared.block.Kind.TheVariants.{Free, Master, Ptr, Rel}
-use Rattle.mac_base.specs.Gap.{Gap, further, gap_behind, gaps, has_named, is_fixed, lowest_gap, own_gap, room, some_gap_has}
+use Rattle.mac_base.specs.Gap.{Gap, further, gap_after, gaps, has_named, is_fixed, lowest_gap, own_gap, room, some_gap_has}
 use Rattle.mac_base.specs.HandleTable.{HandleTable, has_block, is_full, is_handle, is_locked, is_pointer}
 use Rattle.mac_base.specs.Request.{gap_to_grow, room_of, size_of, stays}
 use Rattle.mac_base.specs.ZoneMap.{ZoneMap, block, free_size, is_free, is_named, joined, released, sizes}
@@ -76,7 +76,7 @@ reaches-gaps t k r (e ∷ es) =
     let zero_rest = reaches-gaps t k 0 es in
     let on_rest = reaches-gaps t k (r + free_size e) es in
     elim (is_fixed t e.kind) as (λ c. cond c (nat_le k r || reaches t k 0 es) (reaches t k (r + free_size e) es)
-    ≡ (nat_le k (r + room (let g = first_gap t es in cond c (record { before = []; blocks = []; behind = e ∷ es }) (record g { blocks = e ∷ g.blocks }))) || list_any (λ g. nat_le k (room g)) (map (further e) (cond c (first_gap t es ∷ later_gaps t es) (later_gaps t es))))) [
+    ≡ (nat_le k (r + room (let g = first_gap t es in cond c (record { before = []; blocks = []; after = e ∷ es }) (record g { blocks = e ∷ g.blocks }))) || list_any (λ g. nat_le k (room g)) (map (further e) (cond c (first_gap t es ∷ later_gaps t es) (later_gaps t es))))) [
       | true ↦ ap (λ c. c || reaches t k 0 es) (no_bytes_more k r)
           ∙ ap (λ c. nat_le k (r + 0) || c) (zero_rest ∙ ap (λ n. nat_le k n || list_any (λ g. nat_le k (room g)) (later_gaps t es)) (let e : 0 + room (first_gap t es) ≡ room (first_gap t es) = omega arith in e)
           ∙ ap (λ c. nat_le k (room (first_gap t es)) || c) (sym (any_further k e (later_gaps t es))))
@@ -135,7 +135,7 @@ module _ (t : HandleTable) (k n h : ℕ) (b : ZoneMap) (moves : is_locked t h �
   own_found : (r : ℕ) (a : ZoneMap) → sizes (is_named h) a ≡ [] → (let m = a ++ block (Rel h) n ∷ b in cond (has_named h (first_gap t m).blocks) (r + room (first_gap t m)) (room_of (find (λ (g : Gap). has_named h g.blocks) (later_gaps t m)))) ≡ own_room r a
   own_found r [] none =
       let g : Gap = first_gap t b in
-      ap (λ c. let f : Gap = cond c (record { before = []; blocks = []; behind = block (Rel h) n ∷ b }) (record g { blocks = block (Rel h) n ∷ g.blocks }) in
+      ap (λ c. let f : Gap = cond c (record { before = []; blocks = []; after = block (Rel h) n ∷ b }) (record g { blocks = block (Rel h) n ∷ g.blocks }) in
       cond (has_named h f.blocks) (r + room f) (room_of (find (λ (g : Gap). has_named h g.blocks) (map (further (block (Rel h) n)) (cond c (g ∷ later_gaps t b) (later_gaps t b)))))) moves
       ∙ ap (λ c. cond (c || has_named h g.blocks) (r + (0 + room g)) (room_of (find (λ (g : Gap). has_named h g.blocks) (map (further (block (Rel h) n)) (later_gaps t b))))) (eqb_same h)
       ∙ (let e : r + (0 + room g) ≡ r + room g = omega arith in e)
@@ -145,7 +145,7 @@ module _ (t : HandleTable) (k n h : ℕ) (b : ZoneMap) (moves : is_locked t h �
       let g : Gap = first_gap t m in
       let zero_rest = own_found 0 a parts.1 in
       let on_rest = own_found (r + free_size d) a parts.1 in
-      elim (is_fixed t d.kind) as (λ c. (let f : Gap = cond c (record { before = []; blocks = []; behind = d ∷ m }) (record g { blocks = d ∷ g.blocks }) in
+      elim (is_fixed t d.kind) as (λ c. (let f : Gap = cond c (record { before = []; blocks = []; after = d ∷ m }) (record g { blocks = d ∷ g.blocks }) in
       cond (has_named h f.blocks) (r + room f) (room_of (find (λ (g : Gap). has_named h g.blocks) (map (further d) (cond c (g ∷ later_gaps t m) (later_gaps t m)))))) ≡ cond c (own_room 0 a) (own_room (r + free_size d) a)) [
         | true ↦ room_further (λ (g : Gap). has_named h g.blocks) d (g ∷ later_gaps t m) (λ g. refl) ∙ found_first (has_named h g.blocks) g (find (λ (g : Gap). has_named h g.blocks) (later_gaps t m)) ∙ zero_rest
         | false ↦ ap (λ c. cond (c || has_named h g.blocks) (r + (free_size d + room g)) (room_of (find (λ (g : Gap). has_named h g.blocks) (map (further d) (later_gaps t m))))) parts.0
@@ -193,7 +193,7 @@ module _ (z : ZoneState) (h k : ℕ) (sound : SoundZone z) (live : is_handle z.h
           ∙ own_reaches t k n h b unlocked 0 a
           ∙ ap (λ c. nat_le k (n + own_room t k n h b unlocked 0 a) || c) (ap (reaches t k 0) (sym whole) ∙ sym (some_gap-reaches t k z.heap.map))
           ∙ ap (λ r. nat_le k (n + r) || some_gap_has k (gaps t z.heap.map)) (sym (own-room t k n h b unlocked a at.none_front) ∙ ap (λ m. room_of (own_gap h (gaps t m))) (sym whole)
-          ∙ ap (λ s. room_of (cond s (gap_behind h (gaps t z.heap.map)) (own_gap h (gaps t z.heap.map)))) (sym moves))
+          ∙ ap (λ s. room_of (cond s (gap_after h (gaps t z.heap.map)) (own_gap h (gaps t z.heap.map)))) (sym moves))
           ∙ ap (λ n. nat_le k (n + room_of (gap_to_grow t h z.heap.map)) || some_gap_has k (gaps t z.heap.map)) (sym (size_of-At h z.heap.map n one))
 
   -- where the handle has no block, the gaps are as they are

@@ -13,7 +13,7 @@ use Rattle.zone_heap.specs.Joins.{CanTake, with_front}
 
 -- the block that can be taken
 abbrev pub entry_taken : {z : ZoneState} {at size : ℕ} → CanTake z at size → EntryAt z at
-entry_taken take = record { before = take.free.before; here = block Free take.free.size; behind = take.free.behind; map = take.free.map; place = take.free.place }
+entry_taken take = record { before = take.free.before; here = block Free take.free.size; after = take.free.after; map = take.free.map; place = take.free.place }
 
 -- where enough is over, the block can be cut
 abbrev pub cut_taken : {z : ZoneState} {at size : ℕ} (take : CanTake z at size) → smallest_block z.shape.heads ≤ take.free.size - size → CanCut z at size
@@ -26,7 +26,7 @@ cut_taken {z = z} {size = size} take enough = record {
 
 -- it is then in two
 pub with_front-cut : (z : ZoneState) (at size : ℕ) (take : CanTake z at size) (enough : smallest_block z.shape.heads ≤ take.free.size - size) → cut_in_two size z take.free ≡ with_front z take
-with_front-cut z at size take enough = ap (λ b. with_map (take.free.before ++ (cond b (block Free take.free.size ∷ []) (block Free size ∷ block Free (take.free.size - size) ∷ []) ++ take.free.behind)) z)
+with_front-cut z at size take enough = ap (λ b. with_map (take.free.before ++ (cond b (block Free take.free.size ∷ []) (block Free size ∷ block Free (take.free.size - size) ∷ []) ++ take.free.after)) z)
     (sym (above (take.free.size - size) (smallest_block z.shape.heads) enough))
   where
     above : (n small : ℕ) → small ≤ n → nat_lt n small ≡ false
@@ -36,7 +36,7 @@ with_front-cut z at size take enough = ap (λ b. with_map (take.free.before ++ (
 pub with_front-whole : (z : ZoneState) (at size : ℕ) (take : CanTake z at size) → take.free.size - size < smallest_block z.shape.heads → z ≡ with_front z take
 with_front-whole z at size take few =
     ap (λ m. with_map m z) take.free.map
-    ∙ ap (λ b. with_map (take.free.before ++ (cond b (block Free take.free.size ∷ []) (block Free size ∷ block Free (take.free.size - size) ∷ []) ++ take.free.behind)) z)
+    ∙ ap (λ b. with_map (take.free.before ++ (cond b (block Free take.free.size ∷ []) (block Free size ∷ block Free (take.free.size - size) ∷ []) ++ take.free.after)) z)
     (sym (below (take.free.size - size) (smallest_block z.shape.heads) few))
   where
     below : (n small : ℕ) → n < small → nat_lt n small ≡ true

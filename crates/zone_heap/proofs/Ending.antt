@@ -2,7 +2,7 @@
 use Rattle.std.proofs.Common.{◌≡◌, ℕ, ◌+◌, ◌<◌, ◌≤◌, true, [], ◌∷◌, ◌++◌, ap, sym, ◌∙◌, append_assoc, arith}
 use Rattle.mac_base.specs.declared.block.Entry.{Entry}
 use Rattle.mac_base.specs.declared.block.Kind.TheVariants.{Free}
-use Rattle.mac_base.specs.ZoneMap.{ZoneMap, block, is_free, total_size, address_behind}
+use Rattle.mac_base.specs.ZoneMap.{ZoneMap, block, is_free, total_size, address_after}
 use Rattle.mac_base.specs.ZoneState.{ZoneState}
 use Rattle.linked_zone.specs.Fit.{HasSizes}
 use Rattle.linked_zone.specs.Places as places
@@ -41,8 +41,8 @@ module _ {start end : ℕ} (z : ZoneState) (run : RunAt z start end) where
   abbrev pub split_end : SplitAt z end
   split_end = record {
     before = run.before ++ run.blocks;
-    behind = run.behind;
-    map = run.map ∙ sym (append_assoc run.before run.blocks run.behind);
+    after = run.after;
+    map = run.map ∙ sym (append_assoc run.before run.blocks run.after);
     place = (let first = run.place in let long = run.long in let all = total_size-append run.before run.blocks in omega arith);
   }
 
@@ -50,14 +50,14 @@ module _ {start end : ℕ} (z : ZoneState) (run : RunAt z start end) where
   pub none_before : none_free (run.before ++ run.blocks) ≡ true → none_free run.blocks ≡ true
   none_before none = (all_parts _ run.before run.blocks none).1
 
-  module _ (at : ℕ) (f : places.LastFree (run.before ++ run.blocks) (address_behind z.shape []) at) where
+  module _ (at : ℕ) (f : places.LastFree (run.before ++ run.blocks) (address_after z.shape []) at) where
     -- it is a block of the zone
     abbrev entry_found : EntryAt z at
     entry_found = record {
       before = f.front;
       here = block Free f.size;
-      behind = f.passed ++ run.behind;
-      map = (split_end).map ∙ ap (λ m. m ++ run.behind) f.splits ∙ append_assoc f.front (block Free f.size ∷ f.passed) run.behind;
+      after = f.passed ++ run.after;
+      map = (split_end).map ∙ ap (λ m. m ++ run.after) f.splits ∙ append_assoc f.front (block Free f.size ∷ f.passed) run.after;
       place = (let there = f.place in omega arith);
     }
 
@@ -67,7 +67,7 @@ module _ {start end : ℕ} (z : ZoneState) (run : RunAt z start end) where
         let some : 0 < f.size = entry_size z at entry_found sizes in
         let there = f.place in
         let first = run.place in
-        let last = last_among (address_behind z.shape []) run.before run.blocks f.front f.size f.passed f.splits f.used (omega arith) (omega arith) in
+        let last = last_among (address_after z.shape []) run.before run.blocks f.front f.size f.passed f.splits f.used (omega arith) (omega arith) in
         let place = last.place in
         record { front = last.front; size = last.size; used = last.used; parts = last.parts; none = last.none; place = omega arith }
 
@@ -75,22 +75,22 @@ module _ {start end : ℕ} (z : ZoneState) (run : RunAt z start end) where
     pub last_below : at < start → none_free run.blocks ≡ true
     last_below below = let there = f.place in let first = run.place in none_among run.before run.blocks f.front f.size f.passed f.splits f.used (omega arith)
 
-  -- the blocks in use behind the last free one
+  -- the blocks in use after the last free one
   module _ (at : ℕ) (f : LastFree run.blocks start at) where
     abbrev pub entry_last : EntryAt z at
     entry_last = record {
       before = run.before ++ f.front;
       here = block Free f.size;
-      behind = f.used ++ run.behind;
-      map = run.map ∙ ap (λ b. run.before ++ (b ++ run.behind)) f.parts ∙ ap (λ m. run.before ++ m) (append_assoc f.front (block Free f.size ∷ f.used) run.behind) ∙ sym (append_assoc run.before f.front (block Free f.size ∷ (f.used ++ run.behind)));
+      after = f.used ++ run.after;
+      map = run.map ∙ ap (λ b. run.before ++ (b ++ run.after)) f.parts ∙ ap (λ m. run.before ++ m) (append_assoc f.front (block Free f.size ∷ f.used) run.after) ∙ sym (append_assoc run.before f.front (block Free f.size ∷ (f.used ++ run.after)));
       place = (let there = f.place in let first = run.place in let all = total_size-append run.before f.front in omega arith);
     }
 
     pub within_last : at + f.size ≤ end
     within_last = let there = f.place in let long = run.long in let all = ap total_size f.parts ∙ total_size-append f.front (block Free f.size ∷ f.used) in omega arith
 
-    pub used_behind : (low : ℕ) → low ≡ at + f.size → UsedFrom run.blocks start low
-    used_behind low is = record {
+    pub used_after : (low : ℕ) → low ≡ at + f.size → UsedFrom run.blocks start low
+    used_after low is = record {
       rest = f.front ++ block Free f.size ∷ [];
       used = f.used;
       parts = f.parts ∙ sym (append_assoc f.front (block Free f.size ∷ []) f.used);

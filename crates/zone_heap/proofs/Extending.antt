@@ -13,7 +13,7 @@ use Rattle.zone_laws.proofs.Joined.{joined-apart}
 use Rattle.zone_laws.proofs.Lent.{KeepsLent, contents_of-same}
 use Rattle.zone_laws.proofs.SoundGrown.{addresses-at_limit, or_rest}
 use Rattle.linked_zone.specs.Changes.{extended, with_map}
-use Rattle.linked_zone.proofs.ChangeExtended.{passes-behind}
+use Rattle.linked_zone.proofs.ChangeExtended.{passes-after}
 use Rattle.zone_heap.specs.Joins.{NewlyFree}
 
 -- what is lent is kept
@@ -32,13 +32,13 @@ module _ (z : ZoneState) (sound : Sound z.shape z.heap) where
   abbrev left : ℕ
   left = z.shape.limit - (zone_header + total_size z.heap.map)
 
-  -- the new block is free, and nothing stands behind it
+  -- the new block is free, and nothing is after it
   pub extended-newly : (at : ℕ) → at ≡ z.shape.base + (zone_header + total_size z.heap.map) → zone_header + total_size z.heap.map < z.shape.limit → NewlyFree (extended z) at
   extended-newly at place more = record {
-    free = record { before = z.heap.map; size = left; behind = []; map = ap (λ m. z.heap.map ++ m) (free_block-some left (omega arith)); place = omega arith };
+    free = record { before = z.heap.map; size = left; after = []; map = ap (λ m. z.heap.map ++ m) (free_block-some left (omega arith)); place = omega arith };
     before = sound.suits.apart;
-    behind = refl;
-    sizes = passes-behind (λ (e : Entry). is_block_size z.shape e.size) z.heap.map left sound.suits.sizes (λ some. or_rest (eqb left 0) (is_block_size z.shape left) sound.growth (not_zero left some));
+    after = refl;
+    sizes = passes-after (λ (e : Entry). is_block_size z.shape e.size) z.heap.map left sound.suits.sizes (λ some. or_rest (eqb left 0) (is_block_size z.shape left) sound.growth (not_zero left some));
   }
 
   -- where nothing is left up to the limit, the zone is the grown one

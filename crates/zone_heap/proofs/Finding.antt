@@ -59,13 +59,13 @@ few_none k rest e = elim (is_free e.kind) as (λ c. nat_le k (cond c e.size 0 + 
     numbers : (k n rest : ℕ) → nat_le k (n + rest) ≡ false → not (nat_le k n) ≡ true
     numbers k n rest h = grind (arith, nat_tests)
 
-few_behind : (k n rest : ℕ) → nat_le k (n + rest) ≡ false → nat_le k rest ≡ false
-few_behind k n rest h = grind (arith, nat_tests)
+few_after : (k n rest : ℕ) → nat_le k (n + rest) ≡ false → nat_le k rest ≡ false
+few_after k n rest h = grind (arith, nat_tests)
 
 -- no free block before the lowest gap with room has as many bytes
 pub before_none : (t : HandleTable) (k : ℕ) (m : ZoneMap) (g : Gap) → lowest_gap k (gaps t m) ≡ Some g → NoneHas k g.before
 before_none t k [] g h =
-    let empty : Gap = record { before = []; blocks = []; behind = [] } in
+    let empty : Gap = record { before = []; blocks = []; after = [] } in
     elim (nat_le k 0) as (λ c. cond c (Some empty) None ≡ Some g → NoneHas k g.before) [
       | true ↦ λ is. subst (λ (g : Gap). NoneHas k g.before) (let same : empty ≡ g = cc is in same) refl
       | false ↦ λ is. absurd (cc is)
@@ -74,7 +74,7 @@ before_none t k (e ∷ es) g h = by_kind (before_none t k es) (is_fixed t e.kind
   where
     by_kind : ((f : Gap) → lowest_gap k (gaps t es) ≡ Some f → NoneHas k f.before) → (b : Bool) → is_fixed t e.kind ≡ b → find (has_room k) (gaps_with b e es (gaps t es)) ≡ Some g → NoneHas k g.before
     by_kind before true fixed h =
-        let none : Gap = record { before = []; blocks = []; behind = e ∷ es } in
+        let none : Gap = record { before = []; blocks = []; after = e ∷ es } in
         elim (nat_le k 0) as (λ c. cond c (Some none) (find (has_room k) (map (further e) (gaps t es))) ≡ Some g → NoneHas k g.before) [
           | true ↦ λ is. subst (λ (g : Gap). NoneHas k g.before) (let same : none ≡ g = cc is in same) refl
           | false ↦ λ is. further_none k e (gaps t es) g (fixed_none t k e fixed) before is
@@ -86,7 +86,7 @@ before_none t k (e ∷ es) g h = by_kind (before_none t k es) (is_fixed t e.kind
         elim (has_room k longer) as (λ c. has_room k longer ≡ c → cond c (Some longer) (find (has_room k) (map (further e) later)) ≡ Some g → NoneHas k g.before) [
           | true ↦ λ _ is. subst (λ (g : Gap). NoneHas k g.before) (let same : longer ≡ g = cc is in same) (subst (NoneHas k) (sym (first_gap-before t es)) refl)
           | false ↦ λ few is. further_none k e later g (few_none k (free_bytes low.blocks) e few)
-              (λ f found. before f (ap (find (has_room k)) (gaps-first t es) ∙ ap (λ c. cond c (Some low) (find (has_room k) later)) (few_behind k _ (free_bytes low.blocks) few) ∙ found)) is
+              (λ f found. before f (ap (find (has_room k)) (gaps-first t es) ∙ ap (λ c. cond c (Some low) (find (has_room k) later)) (few_after k _ (free_bytes low.blocks) few) ∙ found)) is
         ] refl (sym (ap (λ gs. find (has_room k) (gaps_with false e es gs)) (gaps-first t es)) ∙ h)
 
 -- what is used isn't free

@@ -1,4 +1,4 @@
--- What callers of the arrangements cite: a gap that was found stands at its address, and a settled zone stays settled.
+-- What callers of the arrangements cite: a gap that was found is at its address, and a settled zone stays settled.
 use Rattle.std.proofs.Common.{◌≡◌, ℕ, ◌+◌, Bool, true, false, cond, List, [], ◌∷◌, length, refl, ap, sym, ◌∙◌, subst, Option, Some, None}
 use Rattle.std.specs.Prelude.{Contains, find, map, nat_le}
 use Rattle.std.specs.Option.{option_map_or}
@@ -10,7 +10,7 @@ use Rattle.mac_base.specs.Gap.{Gap, gaps, filled, is_fixed, own_gap, room}
 use Rattle.mac_base.specs.HandleTable.{HandleTable}
 use Rattle.mac_base.specs.HeadKind.{Shape, head_size}
 use Rattle.mac_base.specs.Suits.{Coherent, is_handle_block}
-use Rattle.mac_base.specs.ZoneMap.{ZoneMap, Rearranged, address_behind, contents_addresses, sizes}
+use Rattle.mac_base.specs.ZoneMap.{ZoneMap, Rearranged, address_after, contents_addresses, sizes}
 use Rattle.mac_base.specs.ZoneState.{ZoneState}
 use Rattle.zone_laws.proofs.Arranging.{IsArrangement}
 use Rattle.zone_laws.proofs.ArrangingNamed.{high-IsArrangement, open_at-IsArrangement}
@@ -40,8 +40,8 @@ gap_from z k at is = record { gap = is.gap; among = find-contains (λ g. nat_le 
 -- a rearrangement keeps that blocks and owners find each other
 pub coherent-rearranged : (s : Shape) (t : HandleTable) (old new : ZoneMap) → Rearranged s (is_fixed t) old new → Coherent s t old → Coherent s t new
 coherent-rearranged s t old new r c = record {
-  handles = λ h. length-addresses_from (address_behind s []) (is_handle_block h) new ∙ ap (λ test. length (sizes test new)) (handle_block-kind h) ∙ ap length (r.same_blocks (Rel h) refl)
-      ∙ ap (λ test. length (sizes test old)) (sym (handle_block-kind h)) ∙ sym (length-addresses_from (address_behind s []) (is_handle_block h) old) ∙ c.handles h;
+  handles = λ h. length-addresses_from (address_after s []) (is_handle_block h) new ∙ ap (λ test. length (sizes test new)) (handle_block-kind h) ∙ ap length (r.same_blocks (Rel h) refl)
+      ∙ ap (λ test. length (sizes test old)) (sym (handle_block-kind h)) ∙ sym (length-addresses_from (address_after s []) (is_handle_block h) old) ∙ c.handles h;
   pointers = λ p. ap (λ test. contents_addresses s test new) (pointer_block-kind p) ∙ ap (map (λ at. at + head_size s.heads)) (r.same_places (Ptr p) refl) ∙ ap (λ test. contents_addresses s test old) (sym (pointer_block-kind p)) ∙ c.pointers p;
   in_slots = λ h live. subst (λ ss. Contains ss h) (sym (slots-rearranged s (is_fixed t) old new refl r)) (c.in_slots h live);
   in_order = c.in_order;

@@ -5,7 +5,7 @@ use Rattle.mac_base.specs.declared.block.Entry.{Entry}
 use Rattle.mac_base.specs.declared.block.Kind.TheVariants.{Free}
 use Rattle.mac_base.specs.Arrangement.{used_blocks, up}
 use Rattle.mac_base.specs.Suits.{is_block_size}
-use Rattle.mac_base.specs.ZoneMap.{ZoneMap, block, free_block, is_free, total_size, free_bytes, address_behind}
+use Rattle.mac_base.specs.ZoneMap.{ZoneMap, block, free_block, is_free, total_size, free_bytes, address_after}
 use Rattle.mac_base.specs.ZoneState.{ZoneState}
 use Rattle.zone_laws.proofs.Arranging.{free_bytes-all_used, used_blocks-same, up-IsArrangement}
 use Rattle.zone_laws.proofs.GapAppend.{free_bytes-append}
@@ -47,7 +47,7 @@ pub record Lifting {start end : ℕ} (z : ZoneState) (run : RunAt z start end) (
   pub rest : ZoneMap
   pub done : ZoneMap
   pub parts : run.blocks ≡ rest ++ done
-  pub zone : new ≡ with_map (run.before ++ (rest ++ (up done ++ run.behind))) z
+  pub zone : new ≡ with_map (run.before ++ (rest ++ (up done ++ run.after))) z
   pub low_is : low ≡ start + total_size rest
   pub some : 0 < free_bytes done
 
@@ -73,8 +73,8 @@ module _ {start end : ℕ} (z : ZoneState) (run : RunAt z start end) where
         done = here ∷ f.used;
         parts = f.parts;
         zone = ap (λ m. with_map m z)
-            (run.map ∙ ap (λ b. run.before ++ (b ++ run.behind)) f.parts ∙ ap (λ m. run.before ++ m) (append_assoc f.front (here ∷ f.used) run.behind)
-            ∙ ap (λ u. run.before ++ (f.front ++ (u ++ run.behind))) (sym (up-first f.size f.used some f.none)));
+            (run.map ∙ ap (λ b. run.before ++ (b ++ run.after)) f.parts ∙ ap (λ m. run.before ++ m) (append_assoc f.front (here ∷ f.used) run.after)
+            ∙ ap (λ u. run.before ++ (f.front ++ (u ++ run.after))) (sym (up-first f.size f.used some f.none)));
         low_is = f.place;
         some = omega arith;
       }
@@ -85,23 +85,23 @@ module _ {start end : ℕ} (z : ZoneState) (run : RunAt z start end) where
 
     -- what lies above the free bytes
     abbrev tail : ZoneMap
-    tail = used_blocks l.done ++ run.behind
+    tail = used_blocks l.done ++ run.after
 
-    pub map_low : new.heap.map ≡ run.before ++ (l.rest ++ (up l.done ++ run.behind))
+    pub map_low : new.heap.map ≡ run.before ++ (l.rest ++ (up l.done ++ run.after))
     map_low = ap (λ (w : ZoneState). w.heap.map) l.zone
 
     pub map_free : new.heap.map ≡ run.before ++ (l.rest ++ block Free bytes ∷ tail)
-    map_free = map_low ∙ ap (λ b. run.before ++ (l.rest ++ ((b ++ used_blocks l.done) ++ run.behind))) (free_block-some bytes l.some)
+    map_free = map_low ∙ ap (λ b. run.before ++ (l.rest ++ ((b ++ used_blocks l.done) ++ run.after))) (free_block-some bytes l.some)
 
-    pub place_start : start ≡ address_behind new.shape run.before
-    place_start = run.place ∙ ap (λ (w : ZoneState). address_behind w.shape run.before) (sym l.zone)
+    pub place_start : start ≡ address_after new.shape run.before
+    place_start = run.place ∙ ap (λ (w : ZoneState). address_after w.shape run.before) (sym l.zone)
 
-    pub place_low : low ≡ address_behind new.shape (run.before ++ l.rest)
+    pub place_low : low ≡ address_after new.shape (run.before ++ l.rest)
     place_low = let first = place_start in let at = l.low_is in let all = total_size-append run.before l.rest in omega arith
 
     -- the free bytes are a block
     abbrev pub entry_low : EntryAt new low
-    entry_low = record { before = run.before ++ l.rest; here = block Free bytes; behind = tail; map = map_free ∙ sym (append_assoc run.before l.rest (block Free bytes ∷ tail)); place = place_low }
+    entry_low = record { before = run.before ++ l.rest; here = block Free bytes; after = tail; map = map_free ∙ sym (append_assoc run.before l.rest (block Free bytes ∷ tail)); place = place_low }
 
     pub moves_low : IsTrue (all_can_move new.heap.table l.rest)
     moves_low = ap (λ (w : ZoneState). all_can_move w.heap.table l.rest) l.zone ∙ (all_parts _ l.rest l.done (subst (λ m. all_can_move z.heap.table m ≡ true) l.parts run.moves)).0
@@ -111,12 +111,12 @@ module _ {start end : ℕ} (z : ZoneState) (run : RunAt z start end) where
 
     -- what is to come is a run
     abbrev pub run_low : RunAt new start low
-    run_low = record { before = run.before; blocks = l.rest; behind = up l.done ++ run.behind; map = map_low; place = place_start; long = l.low_is; moves = moves_low; loose = loose_low }
+    run_low = record { before = run.before; blocks = l.rest; after = up l.done ++ run.after; map = map_low; place = place_start; long = l.low_is; moves = moves_low; loose = loose_low }
 
-    run_parts : HasSizes z → (sizes_possible z.shape run.before ≡ true) × (sizes_possible z.shape run.blocks ≡ true) × (sizes_possible z.shape run.behind ≡ true)
+    run_parts : HasSizes z → (sizes_possible z.shape run.before ≡ true) × (sizes_possible z.shape run.blocks ≡ true) × (sizes_possible z.shape run.after ≡ true)
     run_parts sizes =
-        let outer = all_parts (λ (e : Entry). is_block_size z.shape e.size) run.before (run.blocks ++ run.behind) (ap (sizes_possible z.shape) (sym run.map) ∙ sizes) in
-        let inner = all_parts (λ (e : Entry). is_block_size z.shape e.size) run.blocks run.behind outer.1 in
+        let outer = all_parts (λ (e : Entry). is_block_size z.shape e.size) run.before (run.blocks ++ run.after) (ap (sizes_possible z.shape) (sym run.map) ∙ sizes) in
+        let inner = all_parts (λ (e : Entry). is_block_size z.shape e.size) run.blocks run.after outer.1 in
         (outer.0, inner.0, inner.1)
 
     rest_sizes : HasSizes z → (sizes_possible z.shape l.rest ≡ true) × (sizes_possible z.shape l.done ≡ true)
@@ -127,7 +127,7 @@ module _ {start end : ℕ} (z : ZoneState) (run : RunAt z start end) where
     sizes_low sizes =
         let p : Entry → Bool = λ e. is_block_size z.shape e.size in
         let middle : list_all p (up l.done) ≡ true = (up-IsArrangement l.done).kept p (rest_sizes sizes).1 (free_bytes-possible z.shape l.done (rest_sizes sizes).1) in
-        subst HasSizes (sym l.zone) (all_both p run.before (l.rest ++ (up l.done ++ run.behind)) (run_parts sizes).0 (all_both p l.rest (up l.done ++ run.behind) (rest_sizes sizes).0 (all_both p (up l.done) run.behind middle (run_parts sizes).2)))
+        subst HasSizes (sym l.zone) (all_both p run.before (l.rest ++ (up l.done ++ run.after)) (run_parts sizes).0 (all_both p l.rest (up l.done ++ run.after) (rest_sizes sizes).0 (all_both p (up l.done) run.after middle (run_parts sizes).2)))
 
     -- above the start a block lies below
     pub not_first : start < low → (entry_low).before ≡ [] → ⊥
@@ -139,10 +139,10 @@ module _ {start end : ℕ} (z : ZoneState) (run : RunAt z start end) where
         let at = l.low_is in
         let none = no_bytes z.shape l.rest (rest_sizes sizes).0 (omega arith) in
         let whole : l.done ≡ run.blocks = ap (λ m. m ++ l.done) (sym none) ∙ sym l.parts in
-        l.zone ∙ ap (λ m. with_map (run.before ++ (m ++ (up l.done ++ run.behind))) z) none ∙ ap (λ m. arranged z run (up m)) whole
+        l.zone ∙ ap (λ m. with_map (run.before ++ (m ++ (up l.done ++ run.after))) z) none ∙ ap (λ m. arranged z run (up m)) whole
 
     -- the step is done once the map is that of some blocks more
-    further : (rest m : ZoneMap) → l.rest ≡ rest ++ m → (after : ZoneState) (at : ℕ) (map : ZoneMap) → after ≡ with_map map new → map ≡ run.before ++ (rest ++ (up (m ++ l.done) ++ run.behind)) → at ≡ start + total_size rest → Lifting z run after at
+    further : (rest m : ZoneMap) → l.rest ≡ rest ++ m → (after : ZoneState) (at : ℕ) (map : ZoneMap) → after ≡ with_map map new → map ≡ run.before ++ (rest ++ (up (m ++ l.done) ++ run.after)) → at ≡ start + total_size rest → Lifting z run after at
     further rest m is after at map there same at_is = record {
       rest = rest;
       done = m ++ l.done;
@@ -163,7 +163,7 @@ module _ {start end : ℕ} (z : ZoneState) (run : RunAt z start end) where
         before = run.before ++ u.rest;
         blocks = u.used;
         here = block Free bytes;
-        behind = tail;
+        after = tail;
         map = map_free ∙ rest_is;
         place = (let first = place_start in let here = u.place in let all = total_size-append run.before u.rest in omega arith);
         long = (let low = l.low_is in let here = u.place in let all = ap total_size u.parts ∙ total_size-append u.rest u.used in omega arith);
@@ -181,9 +181,9 @@ module _ {start end : ℕ} (z : ZoneState) (run : RunAt z start end) where
       unfolding parcel_low
       sunk_low after is =
           let b : ZoneMap = block Free bytes ∷ [] in
-          let same : (run.before ++ u.rest) ++ (b ++ (u.used ++ tail)) ≡ run.before ++ (u.rest ++ ((b ++ (u.used ++ used_blocks l.done)) ++ run.behind)) = simp append_assoc in
+          let same : (run.before ++ u.rest) ++ (b ++ (u.used ++ tail)) ≡ run.before ++ (u.rest ++ ((b ++ (u.used ++ used_blocks l.done)) ++ run.after)) = simp append_assoc in
           further u.rest u.used u.parts after at _ (is parcel_low)
-          (same ∙ ap (λ b. run.before ++ (u.rest ++ ((b ++ (u.used ++ used_blocks l.done)) ++ run.behind))) (sym (free_block-some bytes l.some)) ∙ ap (λ u'. run.before ++ (u.rest ++ (u' ++ run.behind))) (sym (up-used u.used l.done u.none))) u.place
+          (same ∙ ap (λ b. run.before ++ (u.rest ++ ((b ++ (u.used ++ used_blocks l.done)) ++ run.after))) (sym (free_block-some bytes l.some)) ∙ ap (λ u'. run.before ++ (u.rest ++ (u' ++ run.after))) (sym (up-used u.used l.done u.none))) u.place
 
       -- where there are none a free block lies below
       pub under : HasSizes z → start < low → low ≤ at → Under l.rest
@@ -205,9 +205,9 @@ module _ {start end : ℕ} (z : ZoneState) (run : RunAt z start end) where
       -- the one that is read
       is_under : (e.here ≡ f.here) × (total_size e.before ≡ total_size (run.before ++ f.front))
       is_under = previous_block new low (run.before ++ f.front) f.here (block Free bytes ∷ tail) (sizes_low sizes) map_under
-          (place_low ∙ ap (λ r. address_behind new.shape (run.before ++ r)) f.is ∙ ap (address_behind new.shape) (sym (append_assoc run.before f.front (f.here ∷ [])))) below e there
+          (place_low ∙ ap (λ r. address_after new.shape (run.before ++ r)) f.is ∙ ap (address_after new.shape) (sym (append_assoc run.before f.front (f.here ∷ [])))) below e there
 
-      place_under : below ≡ address_behind new.shape (run.before ++ f.front)
+      place_under : below ≡ address_after new.shape (run.before ++ f.front)
       place_under = let same = is_under.1 in let here = e.place in omega arith
 
       -- with the free bytes above
@@ -216,7 +216,7 @@ module _ {start end : ℕ} (z : ZoneState) (run : RunAt z start end) where
         before = run.before ++ f.front;
         first = (f.here).size;
         second = bytes;
-        behind = tail;
+        after = tail;
         map = map_under ∙ append_assoc (run.before ++ f.front) (f.here ∷ []) (block Free bytes ∷ tail) ∙ ap (λ e. (run.before ++ f.front) ++ e ∷ block Free bytes ∷ tail) (free_entry f.here f.unused);
         place = place_under;
       }
@@ -231,5 +231,5 @@ module _ {start end : ℕ} (z : ZoneState) (run : RunAt z start end) where
           let here = place_under in
           let low = total_size-append run.before f.front in
           further f.front (f.here ∷ []) f.is after below _ (is pair_under)
-          (append_assoc run.before f.front (block Free all ∷ tail) ∙ ap (λ b. run.before ++ (f.front ++ ((b ++ used_blocks l.done) ++ run.behind))) (sym (free_block-some all (omega arith)))
-          ∙ ap (λ u. run.before ++ (f.front ++ (u ++ run.behind))) (sym (up-free f.here l.done f.unused))) (omega arith)
+          (append_assoc run.before f.front (block Free all ∷ tail) ∙ ap (λ b. run.before ++ (f.front ++ ((b ++ used_blocks l.done) ++ run.after))) (sym (free_block-some all (omega arith)))
+          ∙ ap (λ u. run.before ++ (f.front ++ (u ++ run.after))) (sym (up-free f.here l.done f.unused))) (omega arith)

@@ -28,7 +28,7 @@ same-loan old new x loan is lent memory shape contents long = record {
 pub keeps-loans : (old new : ZoneState) → new.memory ≡ old.memory → new.shape ≡ old.shape → KeepsLent old.shape old.heap new.heap → KeepsLoans old new
 keeps-loans old new memory shape keeps = (memory, λ x loan is. same-loan old new x loan is (ap (list_any (λ y. y == x)) keeps.lent ∙ is.lent) memory shape (keeps.contents x is.lent) (keeps.long x is.lent))
 
--- also where the zone before and the zone after it stand in other words
+-- also where the zone before and the zone after it are in other words
 pub changed-loans : (now z w new : ZoneState) → z ≡ now → new ≡ w → w.memory ≡ z.memory → w.shape ≡ z.shape → KeepsLent z.shape z.heap w.heap → KeepsLoans now new
 changed-loans now z w new was is memory shape keeps = subst (λ old. KeepsLoans old new) was (subst (KeepsLoans z) (sym is) (keeps-loans z w memory shape keeps))
 
@@ -36,7 +36,7 @@ changed-loans now z w new was is memory shape keeps = subst (λ old. KeepsLoans 
 pub changed-fixed : (z w new : ZoneState) → new ≡ w → KeepsLent z.shape z.heap w.heap → LoansAreFixed z.heap → LoansAreFixed new.heap
 changed-fixed z w new is keeps fixed = subst (λ (w : ZoneState). LoansAreFixed w.heap) (sym is) (fixed-kept z.shape z.heap w.heap keeps fixed)
 
--- so does one change behind another
+-- so does one change after another
 pub keeps-both : (old between new : ZoneState) → KeepsLoans old between → KeepsLoans between new → KeepsLoans old new
 keeps-both old between new first second = (second.0 ∙ first.0, λ x loan is. second.1 x loan (first.1 x loan is))
 

@@ -10,7 +10,7 @@ use Rattle.mac_base.specs.Gap.{Gap, gaps, filled, is_fixed, own_gap}
 use Rattle.mac_base.specs.HandleTable.{HandleTable, Live, EmptyHandle, FullHandle, Pointer, live_at, live_flags, live_full, live_pointer, is_full, is_locked, is_pointer}
 use Rattle.mac_base.specs.HeadKind.{Shape, head_size}
 use Rattle.mac_base.specs.Suits.{Coherent, is_handle_block, is_pointer_block}
-use Rattle.mac_base.specs.ZoneMap.{ZoneMap, Rearranged, address_behind, addresses, addresses_from, contents_of, is_named, sizes}
+use Rattle.mac_base.specs.ZoneMap.{ZoneMap, Rearranged, address_after, addresses, addresses_from, contents_of, is_named, sizes}
 use Rattle.mac_base.specs.ZoneState.{ZoneState}
 use Rattle.std.specs.Option.{option_map_or}
 use Rattle.std.proofs.lemmas.List.{nil_from_length}
@@ -60,11 +60,11 @@ addresses-pointer at x (e ∷ es) none =
 no_pointer : (s : Shape) (t : HandleTable) (m : ZoneMap) (x : ℕ) → Coherent s t m → is_pointer t x ≡ false → sizes (is_pointer_block x) m ≡ []
 no_pointer s t m x c other =
     let none = no_map _ _ (c.pointers x ∙ ap (λ b. cond b (x ∷ []) []) other) in
-    nil_from_length _ (sym (length-addresses_from (address_behind s []) (is_pointer_block x) m) ∙ ap length none)
+    nil_from_length _ (sym (length-addresses_from (address_after s []) (is_pointer_block x) m) ∙ ap length none)
 
 -- and one that is no handle with a block none as a handle
 pub no_handle : (s : Shape) (t : HandleTable) (m : ZoneMap) (x : ℕ) → Coherent s t m → is_full t x ≡ false → sizes (is_handle_block x) m ≡ []
-no_handle s t m x c other = nil_from_length _ (sym (length-addresses_from (address_behind s []) (is_handle_block x) m) ∙ c.handles x ∙ ap (λ b. cond b 1 0) other)
+no_handle s t m x c other = nil_from_length _ (sym (length-addresses_from (address_after s []) (is_handle_block x) m) ∙ c.handles x ∙ ap (λ b. cond b 1 0) other)
 
 -- a pointer is no handle
 pub pointer-no_full : (o : Option Live) → live_pointer o ≡ true → live_full o ≡ false
@@ -84,12 +84,12 @@ locked-full (Some (Pointer bytes)) h = absurd (cc h)
 addresses-kept : (s : Shape) (t : HandleTable) (old new : ZoneMap) (x : ℕ) → Coherent s t old → Rearranged s (is_fixed t) old new → (is_pointer t x ≡ true) ⊎ (is_locked t x ≡ true) → addresses s (is_named x) new ≡ addresses s (is_named x) old
 addresses-kept s t old new x c r (inl pointer) =
     let other = pointer-no_full (live_at t x) pointer in
-    let start : ℕ = address_behind s [] in
+    let start : ℕ = address_after s [] in
     addresses-pointer start x new (no_handle s t new x (coherent-rearranged s t old new r c) other) ∙ ap (λ test. addresses s test new) (pointer_block-kind x) ∙ r.same_places (Ptr x) refl
     ∙ ap (λ test. addresses s test old) (sym (pointer_block-kind x)) ∙ sym (addresses-pointer start x old (no_handle s t old x c other))
 addresses-kept s t old new x c r (inr locked) =
     let other = full-no_pointer t x (locked-full (live_at t x) locked) in
-    let start : ℕ = address_behind s [] in
+    let start : ℕ = address_after s [] in
     addresses-handle start x new (no_pointer s t new x (coherent-rearranged s t old new r c) other) ∙ ap (λ test. addresses s test new) (handle_block-kind x) ∙ r.same_places (Rel x) locked
     ∙ ap (λ test. addresses s test old) (sym (handle_block-kind x)) ∙ sym (addresses-handle start x old (no_pointer s t old x c other))
 

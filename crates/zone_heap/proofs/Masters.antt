@@ -9,7 +9,7 @@ use Rattle.mac_base.specs.HeadKind.{head_size, master_length, slot_count}
 use Rattle.mac_base.specs.Serve.{take_lowest, taken}
 use Rattle.mac_base.specs.Sound.{Sound}
 use Rattle.mac_base.specs.Suits.{is_block_size, slots_from}
-use Rattle.mac_base.specs.ZoneMap.{ZoneMap, block, is_named, address_behind, total_size}
+use Rattle.mac_base.specs.ZoneMap.{ZoneMap, block, is_named, address_after, total_size}
 use Rattle.mac_base.specs.ZoneState.{ZoneState}
 use Rattle.zone_laws.proofs.Lent.{KeepsLent, contents_of-same}
 use Rattle.zone_laws.proofs.Maps.{total_size-append}
@@ -27,8 +27,8 @@ use Rattle.zone_heap.proofs.Taking.{taken-parts, take_lowest-there}
 pub contents_near : (z : ZoneState) (at : ℕ) → Sound z.shape z.heap → FreeAt z at → at + head_size z.shape.heads ≤ z.shape.base + z.shape.limit
 contents_near z at sound f =
     let e = block Free f.size in
-    let all : total_size z.heap.map ≡ total_size f.before + (f.size + total_size f.behind) = ap total_size f.map ∙ total_size-append f.before (e ∷ f.behind) in
-    let large = head-within z.shape f.before e f.behind (subst (λ m. IsTrue (list_all (λ (e : Entry). is_block_size z.shape e.size) m)) f.map sound.suits.sizes) in
+    let all : total_size z.heap.map ≡ total_size f.before + (f.size + total_size f.after) = ap total_size f.map ∙ total_size-append f.before (e ∷ f.after) in
+    let large = head-within z.shape f.before e f.after (subst (λ m. IsTrue (list_all (λ (e : Entry). is_block_size z.shape e.size) m)) f.map sound.suits.sizes) in
     let within = sound.within in
     let place = f.place in
     omega arith
@@ -40,7 +40,7 @@ module _ (z : ZoneState) (k at : ℕ) (c : ChosenBlock z master_length k at) whe
 
   -- the map with the master block
   abbrev pub master_map : ZoneMap
-  master_map = c.low.free.before ++ (taken z.shape k Master c.low.free.size ++ c.low.free.behind)
+  master_map = c.low.free.before ++ (taken z.shape k Master c.low.free.size ++ c.low.free.after)
 
   -- and the zone
   abbrev pub master_zone : ZoneState
@@ -48,17 +48,17 @@ module _ (z : ZoneState) (k at : ℕ) (c : ChosenBlock z master_length k at) whe
 
   -- the map is what it was once the lowest block is taken
   pub master_taken : take_lowest z.shape k Master z.heap.map ≡ Some master_map
-  master_taken = ap (take_lowest z.shape k Master) c.low.free.map ∙ take_lowest-there z.shape k Master c.low.free.before c.low.free.size c.low.free.behind c.low.lowest c.low.large
+  master_taken = ap (take_lowest z.shape k Master) c.low.free.map ∙ take_lowest-there z.shape k Master c.low.free.before c.low.free.size c.low.free.after c.low.lowest c.low.large
 
   master_at : TakenAt z.shape k Master z.heap.map master_map
-  master_at = record { before = c.low.free.before; size = c.low.free.size; behind = c.low.free.behind; was = c.low.free.map; is = refl; fits = c.low.large }
+  master_at = record { before = c.low.free.before; size = c.low.free.size; after = c.low.free.after; was = c.low.free.map; is = refl; fits = c.low.large }
 
   -- the zone stays sound
   pub master-sound : Sound z.shape master_zone.heap
   master-sound =
-      subst (λ j. (a : TakenAt z.shape j Master z.heap.map master_map) → first_slot ≡ address_behind z.shape a.before + head_size z.shape.heads → Sound z.shape master_zone.heap) (sym c.size)
+      subst (λ j. (a : TakenAt z.shape j Master z.heap.map master_map) → first_slot ≡ address_after z.shape a.before + head_size z.shape.heads → Sound z.shape master_zone.heap) (sym c.size)
       (λ a here. sound-master_taken z.shape z.heap first_slot master_map c.sound a here)
-      (record { before = c.low.free.before; size = c.low.free.size; behind = c.low.free.behind; was = c.low.free.map; is = refl; fits = c.low.large })
+      (record { before = c.low.free.before; size = c.low.free.size; after = c.low.free.after; was = c.low.free.map; is = refl; fits = c.low.large })
       (ap (λ a. a + head_size z.shape.heads) c.low.free.place)
 
   -- and what is lent is kept
@@ -75,4 +75,4 @@ module _ (z : ZoneState) (k at : ℕ) (c : ChosenBlock z master_length k at) whe
   master-done cut last front build =
       subst (λ w. (r : RoomFor w at master_length) → last ≡ with_master w r.free) (cut-is z master_length k at c cut front) build (block_room z master_length k at c)
       ∙ ap (λ m. let new : ZoneState = record { memory = z.memory; shape = z.shape; heap = record { table = z.heap.table; map = c.low.free.before ++ m; free_slots = slots_from slot_count first_slot ++ z.heap.free_slots } } in new)
-      (sym (taken-parts z.shape k Master c.low.free.size c.low.free.behind))
+      (sym (taken-parts z.shape k Master c.low.free.size c.low.free.after))

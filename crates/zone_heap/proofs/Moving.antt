@@ -18,7 +18,7 @@ use Rattle.mac_base.specs.Request.{stays}
 use Rattle.mac_base.specs.Serve.{placed_relocatable, renamed, resized_elsewhere, taken}
 use Rattle.mac_base.specs.Sound.{Sound}
 use Rattle.mac_base.specs.Suits.{free_apart, has_length, is_block_size}
-use Rattle.mac_base.specs.ZoneMap.{ZoneMap, address_behind, addresses_from, block, is_free, is_named, joined, joined_to, released, sizes, total_size}
+use Rattle.mac_base.specs.ZoneMap.{ZoneMap, address_after, addresses_from, block, is_free, is_named, joined, joined_to, released, sizes, total_size}
 use Rattle.mac_base.specs.ZoneState.{ZoneState}
 use Rattle.zone_laws.proofs.Fitting.{is_some-lowest_gap, is_some-placed_relocatable, size_needed-positive}
 use Rattle.zone_laws.proofs.GapAppend.{length-addresses_from, sizes-append}
@@ -31,7 +31,7 @@ use Rattle.zone_laws.proofs.SuitsNamed.{full-no_pointer, named_once}
 use Rattle.zone_laws.proofs.SuitsReleased.{addresses-released}
 use Rattle.zone_laws.proofs.SuitsTaken.{addresses-untaken, free_apart-kept}
 use Rattle.zone_laws.proofs.Tables.{eqb_same, eqb_swap, full_handle, with_live_agrees}
-use Rattle.zone_laws.proofs.Taken.{free_apart-behind, need-is_size, sizes-taken}
+use Rattle.zone_laws.proofs.Taken.{free_apart-after, need-is_size, sizes-taken}
 use Rattle.zone_laws.proofs.FittingResize.{one_size}
 use Rattle.zone_laws.proofs.SoundMoved.{sound-resized_elsewhere}
 use Rattle.zone_laws.proofs.SuitsNil.{named_none-nil, nil-no_handle, nil-no_pointer}
@@ -109,14 +109,14 @@ addresses_from-renamed at o x test (e ∷ es) new old =
       | false ↦ λ _. ap (λ found. cond (test e.kind) (at ∷ []) [] ++ found) (addresses_from-renamed (at + e.size) o x test es new old)
     ] refl
 
--- a block stands among these, so many bytes before it
+-- a block is among these, so many bytes before it
 record Again (m : ZoneMap) (f : Entry) (bytes : ℕ) : Type 0 where
   pub front : ZoneMap
   pub back : ZoneMap
   pub is : m ≡ front ++ f ∷ back
   pub long : total_size front ≡ bytes
 
--- a block of h stands where it stood, if another of the same size takes the place of one that isn't of h
+-- a block of h is where it was, if another of the same size takes the place of one that isn't of h
 again : (h : ℕ) (p : ZoneMap) (e g : Entry) (r a : ZoneMap) (f : Entry) (b : ZoneMap) → p ++ e ∷ r ≡ a ++ f ∷ b → is_named h e.kind ≡ false → is_named h f.kind ≡ true → g.size ≡ e.size → Again (p ++ g ∷ r) f (total_size a)
 again h [] e g r [] f b is other named size = let same = ap (λ (e : Entry). is_named h e.kind) (heads e f r b is).0 in absurd (cc (same, other, named))
 again h [] e g r (d ∷ a) f b is other named size =
@@ -132,8 +132,8 @@ again h (d ∷ p) e g r (c ∷ a) f b is other named size =
     record { front = c ∷ rest.front; back = rest.back; is = ap (λ d. d ∷ (p ++ g ∷ r)) parts.0 ∙ ap (λ m. c ∷ m) rest.is; long = ap (λ n. c.size + n) rest.long }
 
 -- what is left of a block has no owner
-rest-unnamed : (s : Shape) (k n x : ℕ) (behind : ZoneMap) → sizes (is_named x) (front_rest s k n ++ behind) ≡ sizes (is_named x) behind
-rest-unnamed s k n x behind = elim (nat_lt (n - k) (smallest_block s.heads)) as (λ c. sizes (is_named x) (cond c [] (block Free (n - k) ∷ []) ++ behind) ≡ sizes (is_named x) behind) [ true ↦ refl | false ↦ refl ]
+rest-unnamed : (s : Shape) (k n x : ℕ) (after : ZoneMap) → sizes (is_named x) (front_rest s k n ++ after) ≡ sizes (is_named x) after
+rest-unnamed s k n x after = elim (nat_lt (n - k) (smallest_block s.heads)) as (λ c. sizes (is_named x) (cond c [] (block Free (n - k) ∷ []) ++ after) ≡ sizes (is_named x) after) [ true ↦ refl | false ↦ refl ]
 
 -- nil is not lent
 nil-here : (s : Shape) (heap : Heap) (y : ℕ) → Sound s heap → LoansAreFixed heap → is_lent heap.table y ≡ true → eqb 0 y ≡ false
@@ -153,10 +153,10 @@ nil-here s heap y sound fixed lent = by_test (eqb 0 y) refl
 
 -- the zone in which h has n bytes in a place that was found
 abbrev pub moved : ℕ → ℕ → ℕ → ZoneState → ZoneMap → ℕ → ZoneMap → ZoneState
-moved h n k v before size behind = record {
+moved h n k v before size after = record {
   memory = v.memory;
   shape = v.shape;
-  heap = granted (Resize h n) h (renamed 0 h (released h (before ++ (taken v.shape k (Rel 0) size ++ behind)))) v.heap;
+  heap = granted (Resize h n) h (renamed 0 h (released h (before ++ (taken v.shape k (Rel 0) size ++ after)))) v.heap;
 }
 
 -- The place is found: a free block, of which the bytes that are needed are taken.
@@ -168,15 +168,15 @@ module _ (w : ZoneState) (h n k at : ℕ) (sound : Sound w.shape w.heap) (free :
   abbrev pub new_size : ℕ
   new_size = front_size w.shape k free.size
 
-  -- with these blocks behind
-  abbrev pub new_behind : ZoneMap
-  new_behind = front_rest w.shape k free.size ++ free.behind
+  -- with these blocks after
+  abbrev pub new_after : ZoneMap
+  new_after = front_rest w.shape k free.size ++ free.after
 
   front-possible : IsTrue (is_block_size w.shape k)
   front-possible = subst (λ j. IsTrue (is_block_size w.shape j)) (sym size) (need-is_size w.shape n)
 
   whole-possible : IsTrue (is_block_size w.shape free.size)
-  whole-possible = all-there possible free.before (block Free free.size) free.behind (subst (λ m. IsTrue (list_all possible m)) free.map sound.suits.sizes)
+  whole-possible = all-there possible free.before (block Free free.size) free.after (subst (λ m. IsTrue (list_all possible m)) free.map sound.suits.sizes)
 
   -- they can be
   pub can-take : CanTake w at k
@@ -184,48 +184,48 @@ module _ (w : ZoneState) (h n k at : ℕ) (sound : Sound w.shape w.heap) (free :
 
   -- the zone once they are
   abbrev pub cut_zone : ZoneState
-  cut_zone = with_map (free.before ++ block Free new_size ∷ new_behind) w
+  cut_zone = with_map (free.before ++ block Free new_size ∷ new_after) w
 
   pub cut-done : (v : ZoneState) → ((take : CanTake w at k) → v ≡ with_front w take) → v ≡ cut_zone
   unfolding can-take
-  cut-done v cut = cut can-take ∙ ap (λ m. with_map (free.before ++ m) w) (taken-parts w.shape k Free free.size free.behind)
+  cut-done v cut = cut can-take ∙ ap (λ m. with_map (free.before ++ m) w) (taken-parts w.shape k Free free.size free.after)
 
   -- they have room for the contents
   abbrev pub room : RoomFor cut_zone at n
   room = record {
-    free = record { before = free.before; size = new_size; behind = new_behind; map = refl; place = free.place };
+    free = record { before = free.before; size = new_size; after = new_after; map = refl; place = free.place };
     room = subst (λ j. IsTrue (has_length w.shape (front_size w.shape j free.size) n)) (sym size) (front-has_length w.shape n free.size (subst (λ j. j ≤ free.size) size large));
   }
 
   -- the map with the block under the number nil
   abbrev pub found : ZoneMap
-  found = free.before ++ (taken w.shape k (Rel 0) free.size ++ free.behind)
+  found = free.before ++ (taken w.shape k (Rel 0) free.size ++ free.after)
 
-  found-is : found ≡ free.before ++ block (Rel 0) new_size ∷ new_behind
-  found-is = ap (λ m. free.before ++ m) (taken-parts w.shape k (Rel 0) free.size free.behind)
+  found-is : found ≡ free.before ++ block (Rel 0) new_size ∷ new_after
+  found-is = ap (λ m. free.before ++ m) (taken-parts w.shape k (Rel 0) free.size free.after)
 
   abbrev taken-found : TakenAt w.shape k (Rel 0) w.heap.map found
-  taken-found = record { before = free.before; size = free.size; behind = free.behind; was = free.map; is = refl; fits = large }
+  taken-found = record { before = free.before; size = free.size; after = free.after; was = free.map; is = refl; fits = large }
 
   found-apart : free_apart found ≡ true
   found-apart = free_apart-kept w.shape k (Rel 0) w.heap.map found taken-found refl sound.suits.apart
 
   found-possible : list_all possible found ≡ true
   found-possible =
-      let all = sym (list_all-middle possible free.before (block Free free.size ∷ []) free.behind) ∙ ap (list_all possible) (sym free.map) ∙ sound.suits.sizes in
-      let first = and_parts (list_all possible free.before) (list_all possible (block Free free.size ∷ []) && list_all possible free.behind) all in
-      list_all-middle possible free.before (taken w.shape k (Rel 0) free.size) free.behind
+      let all = sym (list_all-middle possible free.before (block Free free.size ∷ []) free.after) ∙ ap (list_all possible) (sym free.map) ∙ sound.suits.sizes in
+      let first = and_parts (list_all possible free.before) (list_all possible (block Free free.size ∷ []) && list_all possible free.after) all in
+      list_all-middle possible free.before (taken w.shape k (Rel 0) free.size) free.after
       ∙ and_from (list_all possible free.before) _ first.0
-      (and_from (list_all possible (taken w.shape k (Rel 0) free.size)) (list_all possible free.behind)
+      (and_from (list_all possible (taken w.shape k (Rel 0) free.size)) (list_all possible free.after)
       (sizes-taken w.shape k (Rel 0) free.size front-possible whole-possible large)
-      (and_parts (list_all possible (block Free free.size ∷ [])) (list_all possible free.behind) first.1).1)
+      (and_parts (list_all possible (block Free free.size ∷ [])) (list_all possible free.after) first.1).1)
 
   -- no block was of nil
-  none-nil : (sizes (is_named 0) free.before ≡ []) × (sizes (is_named 0) new_behind ≡ [])
+  none-nil : (sizes (is_named 0) free.before ≡ []) × (sizes (is_named 0) new_after ≡ [])
   none-nil =
-      let parts = nil-append (sizes (is_named 0) free.before) (sizes (is_named 0) free.behind)
-      (sym (sizes-append (is_named 0) free.before (block Free free.size ∷ free.behind)) ∙ ap (sizes (is_named 0)) (sym free.map) ∙ named_none-nil w.shape w.heap.table w.heap.map sound.suits) in
-      (parts.0, rest-unnamed w.shape k free.size 0 free.behind ∙ parts.1)
+      let parts = nil-append (sizes (is_named 0) free.before) (sizes (is_named 0) free.after)
+      (sym (sizes-append (is_named 0) free.before (block Free free.size ∷ free.after)) ∙ ap (sizes (is_named 0)) (sym free.map) ∙ named_none-nil w.shape w.heap.table w.heap.map sound.suits) in
+      (parts.0, rest-unnamed w.shape k free.size 0 free.after ∙ parts.1)
 
   module _ (full : is_full w.heap.table h ≡ true) where
     -- h is not nil
@@ -239,34 +239,34 @@ module _ (w : ZoneState) (h n k at : ℕ) (sound : Sound w.shape w.heap) (free :
     -- h has one block still
     once-found : length (sizes (is_named h) found) ≡ 1
     once-found =
-        let start = address_behind w.shape [] in
+        let start = address_after w.shape [] in
         sym (length-addresses_from start (is_named h) found)
         ∙ ap length (addresses-untaken w.shape k (Rel 0) w.heap.map found taken-found (is_named h) refl apart_from_nil)
         ∙ length-addresses_from start (is_named h) w.heap.map
         ∙ named_once w.shape w.heap.table w.heap.map h sound.suits (ap (λ c. c || is_pointer w.heap.table h) full)
 
     -- the block of h and the one found, once h has its bytes in that and the other is free
-    relocated-is : freed h free.before ++ block (Rel h) new_size ∷ freed h new_behind ≡ renamed 0 h (freed h found)
+    relocated-is : freed h free.before ++ block (Rel h) new_size ∷ freed h new_after ≡ renamed 0 h (freed h found)
     relocated-is =
         let first = freed h free.before in
-        let last = freed h new_behind in
+        let last = freed h new_after in
         ap (λ m. m ++ block (Rel h) new_size ∷ last) (sym (renamed-freed 0 h free.before none-nil.0))
-        ∙ ap (λ m. renamed 0 h first ++ block (Rel h) new_size ∷ m) (sym (renamed-freed 0 h new_behind none-nil.1))
+        ∙ ap (λ m. renamed 0 h first ++ block (Rel h) new_size ∷ m) (sym (renamed-freed 0 h new_after none-nil.1))
         ∙ sym (map-append (put_under 0 h) first (block (Rel 0) new_size ∷ last))
         ∙ ap (λ c. renamed 0 h (first ++ cond c (block Free new_size) (block (Rel 0) new_size) ∷ last)) (sym apart_from_nil)
-        ∙ ap (renamed 0 h) (sym (map-append (λ (e : Entry). cond (is_named h e.kind) (block Free e.size) e) free.before (block (Rel 0) new_size ∷ new_behind)))
+        ∙ ap (renamed 0 h) (sym (map-append (λ (e : Entry). cond (is_named h e.kind) (block Free e.size) e) free.before (block (Rel 0) new_size ∷ new_after)))
         ∙ ap (λ m. renamed 0 h (freed h m)) (sym found-is)
 
     -- once neighbouring free blocks are joined, it is that zone
-    pub moved-done : (new last : ZoneState) → ((r : RoomFor cut_zone at n) → new ≡ relocated h n cut_zone r.free) → last ≡ all_joined new → last ≡ moved h n k w free.before free.size free.behind
+    pub moved-done : (new last : ZoneState) → ((r : RoomFor cut_zone at n) → new ≡ relocated h n cut_zone r.free) → last ≡ all_joined new → last ≡ moved h n k w free.before free.size free.after
     moved-done new last relocate join =
         let state : ZoneMap → ZoneState = λ m. record { memory = w.memory; shape = w.shape; heap = granted (Resize h n) h m w.heap } in
         join ∙ ap all_joined (relocate room) ∙ ap (λ m. state (joined m)) relocated-is ∙ ap state (sym (renamed-joined 0 h (freed h found)))
 
     -- the block of h as it was
     module _ (old : ℕ) (b : BlockOf cut_zone h old) where
-      there : Again (free.before ++ block (Rel 0) new_size ∷ new_behind) (block (Rel h) b.size) (total_size b.before)
-      there = again h free.before (block Free new_size) (block (Rel 0) new_size) new_behind b.before (block (Rel h) b.size) b.behind b.map refl (eqb_same h) refl
+      there : Again (free.before ++ block (Rel 0) new_size ∷ new_after) (block (Rel h) b.size) (total_size b.before)
+      there = again h free.before (block Free new_size) (block (Rel 0) new_size) new_after b.before (block (Rel h) b.size) b.after b.map refl (eqb_same h) refl
 
       found-there : found ≡ there.front ++ block (Rel h) b.size ∷ there.back
       found-there = found-is ∙ there.is
@@ -290,29 +290,29 @@ module _ (w : ZoneState) (h n k at : ℕ) (sound : Sound w.shape w.heap) (free :
             free = record {
               before = renamed 0 h there.front;
               size = b.size;
-              behind = renamed 0 h there.back;
+              after = renamed 0 h there.back;
               map = relocated-is ∙ ap (renamed 0 h) freed-there ∙ map-append (put_under 0 h) there.front (block Free b.size ∷ there.back);
               place = b.place ∙ ap (λ m. w.shape.base + zone_header + m) (sym (total_size-renamed 0 h there.front ∙ there.long));
             };
             before = free_apart-renamed 0 h there.front ∙ free_apart-front there.front (block (Rel h) b.size ∷ there.back) apart;
-            behind = free_apart-renamed 0 h there.back ∙ free_apart-behind there.front (block (Rel h) b.size ∷ there.back) apart;
+            after = free_apart-renamed 0 h there.back ∙ free_apart-after there.front (block (Rel h) b.size ∷ there.back) apart;
             sizes = ap (list_all possible) relocated-is ∙ sizes_possible-renamed w.shape 0 h (freed h found) ∙ ap (list_all possible) freed-there ∙ list_all-append possible there.front (block Free b.size ∷ there.back)
                 ∙ sym (list_all-append possible there.front (block (Rel h) b.size ∷ there.back)) ∙ was;
           })
 
     -- the zone is sound
-    pub moved-Sound : Sound w.shape (moved h n k w free.before free.size free.behind).heap
+    pub moved-Sound : Sound w.shape (moved h n k w free.before free.size free.after).heap
     moved-Sound =
         let s = w.shape in
-        let need_found = free.before ++ (taken s (need s.heads n) (Rel 0) free.size ++ free.behind) in
-        let at_need : TakenAt s (need s.heads n) (Rel 0) w.heap.map need_found = record { before = free.before; size = free.size; behind = free.behind; was = free.map; is = refl; fits = subst (λ j. j ≤ free.size) size large } in
-        subst (λ j. Sound s (moved h n j w free.before free.size free.behind).heap) (sym size) (sound-resized_elsewhere s w.heap h n need_found sound full (full-no_pointer w.heap.table h full) at_need h)
+        let need_found = free.before ++ (taken s (need s.heads n) (Rel 0) free.size ++ free.after) in
+        let at_need : TakenAt s (need s.heads n) (Rel 0) w.heap.map need_found = record { before = free.before; size = free.size; after = free.after; was = free.map; is = refl; fits = subst (λ j. j ≤ free.size) size large } in
+        subst (λ j. Sound s (moved h n j w free.before free.size free.after).heap) (sym size) (sound-resized_elsewhere s w.heap h n need_found sound full (full-no_pointer w.heap.table h full) at_need h)
 
     -- and what is lent is kept
-    pub moved-keeps : LoansAreFixed w.heap → is_lent w.heap.table h ≡ false → KeepsLent w.shape w.heap (moved h n k w free.before free.size free.behind).heap
+    pub moved-keeps : LoansAreFixed w.heap → is_lent w.heap.table h ≡ false → KeepsLent w.shape w.heap (moved h n k w free.before free.size free.after).heap
     moved-keeps fixed here =
         let s = w.shape in
-        let new = (moved h n k w free.before free.size free.behind).heap in
+        let new = (moved h n k w free.before free.size free.after).heap in
         let stay : Heap = record { table = new.table; map = w.heap.map; free_slots = new.free_slots } in
         let others = keeps-others s w.heap stay h here (with_live_agrees h (refilled (resized n (bytes_of w.heap.table h)) (live_at w.heap.table h)) w.heap.table) refl (λ y apart. refl) in
         record {
@@ -321,7 +321,7 @@ module _ (w : ZoneState) (h n k at : ℕ) (sound : Sound w.shape w.heap) (free :
               let apart = lent-apart w.heap.table h y here lent in
               let nil = nil-here s w.heap y sound fixed lent in
               contents_of-same s y w.heap.map new.map
-              (addresses_from-renamed (address_behind s []) 0 h (is_named y) (released h found) (eqb_swap h y ∙ apart) (other_named y 0 nil)
+              (addresses_from-renamed (address_after s []) 0 h (is_named y) (released h found) (eqb_swap h y ∙ apart) (other_named y 0 nil)
               ∙ addresses-released s h (is_named y) found refl (other_named h y apart)
               ∙ addresses-untaken s k (Rel 0) w.heap.map found taken-found (is_named y) refl nil);
           long = others.long;
@@ -342,14 +342,14 @@ module _ (z w : ZoneState) (h n k at : ℕ) (p : IsOpened z k at w) (size : k �
   moves = ap (λ c. c || is_locked z.heap.table h) (full-no_pointer z.heap.table h full) ∙ unlocked
 
   -- the zone in which h has moved there has the heap that is asked for
-  pub moved-away : (last : ZoneState) → last ≡ moved h n k w p.low.free.before p.low.free.size p.low.free.behind → (resized_away z.shape h n z.heap ≡ Some last.heap) × (last.shape ≡ z.shape)
+  pub moved-away : (last : ZoneState) → last ≡ moved h n k w p.low.free.before p.low.free.size p.low.free.after → (resized_away z.shape h n z.heap ≡ Some last.heap) × (last.shape ≡ z.shape)
   moved-away last is =
       let there : Option ZoneMap → Option Heap = option_map (λ m. granted (Resize h n) h m z.heap) in
       let tidy : ZoneMap → ZoneMap = λ m. renamed 0 h (released h m) in
-      let whole = is ∙ ap (λ v. moved h n k v p.low.free.before p.low.free.size p.low.free.behind) p.zone in (
+      let whole = is ∙ ap (λ v. moved h n k v p.low.free.before p.low.free.size p.low.free.after) p.zone in (
         ap (λ j. there (resized_elsewhere z.shape z.heap.table j h z.heap.map)) (sym size)
             ∙ ap (λ c. there (cond c None (option_map tidy (placed_relocatable z.shape z.heap.table k (Rel 0) z.heap.map)))) moves
-            ∙ ap (λ o. there (option_map tidy o)) (opened_taken z w k at p (Rel 0) ∙ ap (λ (v : ZoneState). Some (p.low.free.before ++ (taken v.shape k (Rel 0) p.low.free.size ++ p.low.free.behind))) p.zone) ∙ ap (λ (v : ZoneState). Some v.heap) (sym whole),
+            ∙ ap (λ o. there (option_map tidy o)) (opened_taken z w k at p (Rel 0) ∙ ap (λ (v : ZoneState). Some (p.low.free.before ++ (taken v.shape k (Rel 0) p.low.free.size ++ p.low.free.after))) p.zone) ∙ ap (λ (v : ZoneState). Some v.heap) (sym whole),
         ap (λ (v : ZoneState). v.shape) whole,
       )
 
@@ -370,17 +370,17 @@ not-away z h n k size none =
     either false = refl
 
 -- the zone in which h has moved is sound
-pub moved-sound : (z w last : ZoneState) (h n k at : ℕ) (p : IsOpened z k at w) → k ≡ need w.shape.heads n → is_full w.heap.table h ≡ true → is_lent w.heap.table h ≡ false → SoundZone w → last ≡ moved h n k w p.low.free.before p.low.free.size p.low.free.behind → SoundZone last
+pub moved-sound : (z w last : ZoneState) (h n k at : ℕ) (p : IsOpened z k at w) → k ≡ need w.shape.heads n → is_full w.heap.table h ≡ true → is_lent w.heap.table h ≡ false → SoundZone w → last ≡ moved h n k w p.low.free.before p.low.free.size p.low.free.after → SoundZone last
 moved-sound z w last h n k at p size full here sound is =
     subst SoundZone (sym is)
     (record {
       sound = moved-Sound w h n k at sound.sound p.low.free p.low.large size full;
-      fixed = fixed-kept w.shape w.heap (moved h n k w p.low.free.before p.low.free.size p.low.free.behind).heap (moved-keeps w h n k at sound.sound p.low.free p.low.large size full sound.fixed here) sound.fixed;
+      fixed = fixed-kept w.shape w.heap (moved h n k w p.low.free.before p.low.free.size p.low.free.after).heap (moved-keeps w h n k at sound.sound p.low.free p.low.large size full sound.fixed here) sound.fixed;
     })
 
 -- and has all loans
-pub moved-loans : (z w last : ZoneState) (h n k at : ℕ) (p : IsOpened z k at w) → k ≡ need w.shape.heads n → is_full w.heap.table h ≡ true → is_lent w.heap.table h ≡ false → SoundZone w → KeepsLoans z w → last ≡ moved h n k w p.low.free.before p.low.free.size p.low.free.behind
+pub moved-loans : (z w last : ZoneState) (h n k at : ℕ) (p : IsOpened z k at w) → k ≡ need w.shape.heads n → is_full w.heap.table h ≡ true → is_lent w.heap.table h ≡ false → SoundZone w → KeepsLoans z w → last ≡ moved h n k w p.low.free.before p.low.free.size p.low.free.after
     → KeepsLoans z last
 moved-loans z w last h n k at p size full here sound loans is =
-    let new = moved h n k w p.low.free.before p.low.free.size p.low.free.behind in
+    let new = moved h n k w p.low.free.before p.low.free.size p.low.free.after in
     subst (KeepsLoans z) (sym is) (keeps-both z w new loans (keeps-loans w new refl refl (moved-keeps w h n k at sound.sound p.low.free p.low.large size full sound.fixed here)))

@@ -20,7 +20,7 @@ use Rattle.linked_zone.specs.Places.{CanCut, RoomFor}
 abbrev pub master_of : ZoneSizes → ℕ
 master_of z = need z.heads master_length
 
--- what is left of a new zone behind it is a block
+-- what is left of a new zone after it is a block
 rest_size : (heads : HeadKind) (size : ℕ) → size % 4 ≡ 0 → 1024 ≤ size → (need heads master_length < size - 52) × (((size - 52 - need heads master_length) % 4 == 0) && nat_le (smallest_block heads) (size - 52 - need heads master_length)) ≡ true
 rest_size Bits24 size even large = (omega arith, grind (arith, nat_tests))
 rest_size Bits32 size even large = (omega arith, grind (arith, nat_tests))
@@ -28,7 +28,7 @@ rest_size Bits32 size even large = (omega arith, grind (arith, nat_tests))
 -- a master block can be cut off a new zone
 abbrev bare_cut : (memory : Memory) (z : ZoneSizes) → ArePossible z → CanCut (bare_zone memory z) (z.base + 52) (master_of z)
 bare_cut memory z possible = let rest = rest_size z.heads z.size possible.even_size possible.large_enough in record {
-  free = record { before = []; size = z.size - 52; behind = []; map = refl; place = omega arith };
+  free = record { before = []; size = z.size - 52; after = []; map = refl; place = omega arith };
   smaller = rest.0;
   front = need-is_size (shape_of z) master_length;
   rest = rest.1;
@@ -46,7 +46,7 @@ master_fits Bits32 = refl
 -- its first block can be the master block
 abbrev master_room : (memory : Memory) (z : ZoneSizes) → RoomFor (two_blocks memory z) (z.base + 52) master_length
 master_room memory z = record {
-  free = record { before = []; size = master_of z; behind = block Free (z.size - 52 - master_of z) ∷ []; map = refl; place = omega arith };
+  free = record { before = []; size = master_of z; after = block Free (z.size - 52 - master_of z) ∷ []; map = refl; place = omega arith };
   room = master_fits z.heads;
 }
 

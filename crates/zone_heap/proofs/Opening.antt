@@ -6,7 +6,7 @@ use Rattle.std.proofs.lemmas.List.Elements.{filter-append}
 use Rattle.mac_base.specs.declared.block.Entry.{Entry}
 use Rattle.mac_base.specs.Arrangement.{used_blocks, down, up, open_at}
 use Rattle.mac_base.specs.Gap.{Gap, filled, is_fixed}
-use Rattle.mac_base.specs.ZoneMap.{ZoneMap, free_block, free_bytes, is_free, total_size, address_behind}
+use Rattle.mac_base.specs.ZoneMap.{ZoneMap, free_block, free_bytes, is_free, total_size, address_after}
 use Rattle.mac_base.specs.ZoneState.{ZoneState}
 use Rattle.zone_laws.proofs.Arranging.{named-used, free_bytes-free_block, used_blocks-free_block, list_all-free_block, total_size-free_block, total_size-used}
 use Rattle.zone_laws.proofs.GapAppend.{free_bytes-append}
@@ -36,8 +36,8 @@ module _ (z : ZoneState) (h at : ℕ) (settled : Settled z) (o : Owned z h at) w
   abbrev pub lower : ZoneMap
   lower = (o.place).front ++ here_owned z h at o ∷ []
 
-  map_lower : z.heap.map ≡ (o.gap).before ++ (lower ++ ((o.place).back ++ (o.gap).behind))
-  map_lower = map_front z h at o ∙ ap (λ m. (o.gap).before ++ m) (sym (append_assoc (o.place).front (here_owned z h at o ∷ []) ((o.place).back ++ (o.gap).behind)))
+  map_lower : z.heap.map ≡ (o.gap).before ++ (lower ++ ((o.place).back ++ (o.gap).after))
+  map_lower = map_front z h at o ∙ ap (λ m. (o.gap).before ++ m) (sym (append_assoc (o.place).front (here_owned z h at o ∷ []) ((o.place).back ++ (o.gap).after)))
 
   -- the handle's block is in use
   pub used_here : is_free (o.place).kind ≡ false
@@ -56,7 +56,7 @@ module _ (z : ZoneState) (h at : ℕ) (settled : Settled z) (o : Owned z h at) w
       (all_both _ (o.place).front (here_owned z h at o ∷ []) loose.0 (and_from _ _ here.0 refl), here.1)
 
   module _ (start middle end : ℕ) (start_is : start + total_size (o.place).front ≡ at) (middle_is : middle ≡ at + o.size) (end_is : end ≡ at + (o.size + total_size (o.place).back)) where
-    place_lower : start ≡ address_behind z.shape (o.gap).before
+    place_lower : start ≡ address_after z.shape (o.gap).before
     place_lower = let here = o.at_is in let all = total_size-append (o.gap).before (o.place).front in omega arith
 
     long_lower : middle ≡ start + total_size lower
@@ -64,10 +64,10 @@ module _ (z : ZoneState) (h at : ℕ) (settled : Settled z) (o : Owned z h at) w
 
     -- they are a run
     pub run_lower : RunAt z start middle
-    run_lower = record { before = (o.gap).before; blocks = lower; behind = (o.place).back ++ (o.gap).behind; map = map_lower; place = place_lower; long = long_lower; moves = moves_lower.0; loose = loose_lower.0 }
+    run_lower = record { before = (o.gap).before; blocks = lower; after = (o.place).back ++ (o.gap).after; map = map_lower; place = place_lower; long = long_lower; moves = moves_lower.0; loose = loose_lower.0 }
 
     module _ (new : ZoneState) (free : ℕ) (pressed : (run : RunAt z start middle) → new ≡ arranged z run (down run.blocks)) (free_is : (run : RunAt z start middle) → free ≡ start + total_size (used_blocks run.blocks)) where
-      zone_lower : new ≡ with_map ((o.gap).before ++ (down lower ++ ((o.place).back ++ (o.gap).behind))) z
+      zone_lower : new ≡ with_map ((o.gap).before ++ (down lower ++ ((o.place).back ++ (o.gap).after))) z
       unfolding run_lower
       zone_lower = pressed run_lower
 
@@ -83,16 +83,16 @@ module _ (z : ZoneState) (h at : ℕ) (settled : Settled z) (o : Owned z h at) w
       abbrev pub upper : ZoneMap
       upper = free_block (free_bytes lower) ++ (o.place).back
 
-      map_upper : new.heap.map ≡ ((o.gap).before ++ used_blocks lower) ++ (upper ++ (o.gap).behind)
-      map_upper = ap (λ (w : ZoneState). w.heap.map) zone_lower ∙ regroup (o.gap).before (used_blocks lower) (free_block (free_bytes lower)) (o.place).back (o.gap).behind
+      map_upper : new.heap.map ≡ ((o.gap).before ++ used_blocks lower) ++ (upper ++ (o.gap).after)
+      map_upper = ap (λ (w : ZoneState). w.heap.map) zone_lower ∙ regroup (o.gap).before (used_blocks lower) (free_block (free_bytes lower)) (o.place).back (o.gap).after
 
-      place_upper : free ≡ address_behind new.shape ((o.gap).before ++ used_blocks lower)
+      place_upper : free ≡ address_after new.shape ((o.gap).before ++ used_blocks lower)
       place_upper =
           let first = place_lower in
           let here = free_lower in
           let all = total_size-append (o.gap).before (used_blocks lower) in
-          let there : free ≡ address_behind z.shape ((o.gap).before ++ used_blocks lower) = omega arith in
-          there ∙ ap (λ (w : ZoneState). address_behind w.shape ((o.gap).before ++ used_blocks lower)) (sym zone_lower)
+          let there : free ≡ address_after z.shape ((o.gap).before ++ used_blocks lower) = omega arith in
+          there ∙ ap (λ (w : ZoneState). address_after w.shape ((o.gap).before ++ used_blocks lower)) (sym zone_lower)
 
       long_upper : end ≡ free + total_size upper
       long_upper =
@@ -115,12 +115,12 @@ module _ (z : ZoneState) (h at : ℕ) (settled : Settled z) (o : Owned z h at) w
 
       -- they are a run
       pub run_upper : RunAt new free end
-      run_upper = record { before = (o.gap).before ++ used_blocks lower; blocks = upper; behind = (o.gap).behind; map = map_upper; place = place_upper; long = long_upper; moves = moves_upper; loose = loose_upper }
+      run_upper = record { before = (o.gap).before ++ used_blocks lower; blocks = upper; after = (o.gap).after; map = map_upper; place = place_upper; long = long_upper; moves = moves_upper; loose = loose_upper }
 
       -- what the zone is once that run is arranged
-      pub arranged_upper : (arrange : ZoneMap → ZoneMap) (after : ZoneState) → ((run : RunAt new free end) → after ≡ arranged new run (arrange run.blocks)) → after ≡ with_map (((o.gap).before ++ used_blocks lower) ++ (arrange upper ++ (o.gap).behind)) z
+      pub arranged_upper : (arrange : ZoneMap → ZoneMap) (after : ZoneState) → ((run : RunAt new free end) → after ≡ arranged new run (arrange run.blocks)) → after ≡ with_map (((o.gap).before ++ used_blocks lower) ++ (arrange upper ++ (o.gap).after)) z
       unfolding run_upper
-      arranged_upper arrange after is = is run_upper ∙ ap (with_map (((o.gap).before ++ used_blocks lower) ++ (arrange upper ++ (o.gap).behind))) zone_lower
+      arranged_upper arrange after is = is run_upper ∙ ap (with_map (((o.gap).before ++ used_blocks lower) ++ (arrange upper ++ (o.gap).after))) zone_lower
 
       -- and where its blocks in use end
       pub used_upper : (next : ℕ) → ((run : RunAt new free end) → next ≡ free + total_size (used_blocks run.blocks)) → next ≡ free + total_size (used_blocks upper)
@@ -128,13 +128,13 @@ module _ (z : ZoneState) (h at : ℕ) (settled : Settled z) (o : Owned z h at) w
       used_upper next is = is run_upper
 
       -- the gap is opened
-      opened_blocks : ((o.gap).before ++ used_blocks lower) ++ (up upper ++ (o.gap).behind) ≡ filled o.gap (open_at h (o.gap).blocks)
+      opened_blocks : ((o.gap).before ++ used_blocks lower) ++ (up upper ++ (o.gap).after) ≡ filled o.gap (open_at h (o.gap).blocks)
       opened_blocks =
           let a = (o.gap).before in
           let front : ZoneMap = used_blocks (o.place).front in
           let here = here_owned z h at o in
           let back : ZoneMap = used_blocks (o.place).back in
-          let c = (o.gap).behind in
+          let c = (o.gap).after in
           let n : ℕ = free_bytes lower + free_bytes (o.place).back in
           let bytes : n ≡ free_bytes (o.gap).blocks =
           ap (λ k. k + free_bytes (o.place).back) (free_bytes-append (o.place).front (here ∷ []))

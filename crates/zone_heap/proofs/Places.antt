@@ -38,15 +38,15 @@ pub large-first : (e : Entry) (es : ZoneMap) → IsTrue (all_large (e ∷ es)) �
 large-first e es h = some_bytes e.size (and_parts (nat_lt 0 e.size) (all_large es) h).0
 
 -- a map parted in two ways, by the blocks before and the block at a place
-pub record SamePlace (before : ZoneMap) (here : Entry) (behind : ZoneMap) (others : ZoneMap) (other : Entry) (rest : ZoneMap) : Type 0 where
+pub record SamePlace (before : ZoneMap) (here : Entry) (after : ZoneMap) (others : ZoneMap) (other : Entry) (rest : ZoneMap) : Type 0 where
   pub same_before : before ≡ others
   pub same_here : here ≡ other
-  pub same_behind : behind ≡ rest
+  pub same_after : after ≡ rest
 
 -- as many bytes before them make it one way
-pub same-place : (before : ZoneMap) (here : Entry) (behind : ZoneMap) (others : ZoneMap) (other : Entry) (rest : ZoneMap) → before ++ here ∷ behind ≡ others ++ other ∷ rest → IsTrue (all_large (before ++ here ∷ behind))
-    → total_size before ≡ total_size others → SamePlace before here behind others other rest
-same-place [] e es [] f fs is large as_many = let same = same_head e f es fs is in record { same_before = refl; same_here = same.0; same_behind = same.1 }
+pub same-place : (before : ZoneMap) (here : Entry) (after : ZoneMap) (others : ZoneMap) (other : Entry) (rest : ZoneMap) → before ++ here ∷ after ≡ others ++ other ∷ rest → IsTrue (all_large (before ++ here ∷ after))
+    → total_size before ≡ total_size others → SamePlace before here after others other rest
+same-place [] e es [] f fs is large as_many = let same = same_head e f es fs is in record { same_before = refl; same_here = same.0; same_after = same.1 }
 same-place [] e es (g ∷ gs) f fs is large as_many =
     let same = same_head e g es (gs ++ f ∷ fs) is in
     let size : e.size ≡ g.size = ap (λ (e : Entry). e.size) same.0 in
@@ -56,4 +56,4 @@ same-place (d ∷ ds) e es (g ∷ gs) f fs is large as_many =
     let same = same_head d g (ds ++ e ∷ es) (gs ++ f ∷ fs) is in
     let size : d.size ≡ g.size = ap (λ (e : Entry). e.size) same.0 in
     let rest = same-place ds e es gs f fs same.1 (and_parts (nat_lt 0 d.size) (all_large (ds ++ e ∷ es)) large).1 (omega arith) in
-    record { same_before = cc (same.0, rest.same_before); same_here = rest.same_here; same_behind = rest.same_behind }
+    record { same_before = cc (same.0, rest.same_before); same_here = rest.same_here; same_after = rest.same_after }

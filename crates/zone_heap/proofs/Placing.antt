@@ -39,7 +39,7 @@ pub record Chosen (z : ZoneState) (h n k at : ℕ) : Type 0 where
 pub whole-size : (z : ZoneState) (h n k at : ℕ) (p : Chosen z h n k at) → IsTrue (is_block_size z.shape p.low.free.size)
 whole-size z h n k at p =
     let possible : Entry → Bool = λ e. is_block_size z.shape e.size in
-    all-there possible p.low.free.before (block Free p.low.free.size) p.low.free.behind (subst (λ m. IsTrue (list_all possible m)) p.low.free.map p.sound.suits.sizes)
+    all-there possible p.low.free.before (block Free p.low.free.size) p.low.free.after (subst (λ m. IsTrue (list_all possible m)) p.low.free.map p.sound.suits.sizes)
 
 -- and so has its front
 pub front-size : (z : ZoneState) (h n k at : ℕ) → Chosen z h n k at → IsTrue (is_block_size z.shape k)
@@ -48,7 +48,7 @@ front-size z h n k at p = subst (λ k. IsTrue (is_block_size z.shape k)) (sym p.
 -- once the slot is taken, the front of the block can be
 abbrev taken_front : (z : ZoneState) (h n k at : ℕ) → Chosen z h n k at → CanTake (change.taken h z) at k
 taken_front z h n k at p = record {
-  free = record { before = p.low.free.before; size = p.low.free.size; behind = p.low.free.behind; map = p.low.free.map; place = p.low.free.place };
+  free = record { before = p.low.free.before; size = p.low.free.size; after = p.low.free.after; map = p.low.free.map; place = p.low.free.place };
   fits = p.low.large;
   front = front-size z h n k at p;
   whole = whole-size z h n k at p;
@@ -56,7 +56,7 @@ taken_front z h n k at p = record {
 
 -- the zone once it is
 abbrev cut_zone : (z : ZoneState) (h n k at : ℕ) → Chosen z h n k at → ZoneState
-cut_zone z h n k at p = with_map (p.low.free.before ++ block Free (front_size z.shape k p.low.free.size) ∷ (front_rest z.shape k p.low.free.size ++ p.low.free.behind)) (change.taken h z)
+cut_zone z h n k at p = with_map (p.low.free.before ++ block Free (front_size z.shape k p.low.free.size) ∷ (front_rest z.shape k p.low.free.size ++ p.low.free.after)) (change.taken h z)
 
 -- there is room for the bytes
 pub room-there : (z : ZoneState) (h n k at : ℕ) (p : Chosen z h n k at) → IsTrue (has_length z.shape (front_size z.shape k p.low.free.size) n)
@@ -66,13 +66,13 @@ room-there z h n k at p =
 -- in the block that was cut
 abbrev room : (z : ZoneState) (h n k at : ℕ) (p : Chosen z h n k at) → RoomFor (cut_zone z h n k at p) at n
 room z h n k at p = record {
-  free = record { before = p.low.free.before; size = front_size z.shape k p.low.free.size; behind = front_rest z.shape k p.low.free.size ++ p.low.free.behind; map = refl; place = p.low.free.place };
+  free = record { before = p.low.free.before; size = front_size z.shape k p.low.free.size; after = front_rest z.shape k p.low.free.size ++ p.low.free.after; map = refl; place = p.low.free.place };
   room = room-there z h n k at p;
 }
 
 -- the map with the block of the handle
 abbrev pub placed_map : (z : ZoneState) (h n k at : ℕ) → Chosen z h n k at → ZoneMap
-placed_map z h n k at p = p.low.free.before ++ (taken z.shape k (Rel h) p.low.free.size ++ p.low.free.behind)
+placed_map z h n k at p = p.low.free.before ++ (taken z.shape k (Rel h) p.low.free.size ++ p.low.free.after)
 
 -- and the zone
 abbrev pub placed_zone : (z : ZoneState) (h n k at : ℕ) → Chosen z h n k at → ZoneState
@@ -83,14 +83,14 @@ pointed_zone : (z : ZoneState) (h n k at : ℕ) (p : Chosen z h n k at) → poin
 pointed_zone z h n k at p =
     let state = λ (t : HandleTable) (m : ZoneMap). let new : ZoneState = record { memory = z.memory; shape = z.shape; heap = record { table = t; map = m; free_slots = drop 1 z.heap.free_slots } } in new in
     let full = FullHandle no_flags (zeros n) in
-    ap (λ t. state t (p.low.free.before ++ block (Rel h) (front_size z.shape k p.low.free.size) ∷ (front_rest z.shape k p.low.free.size ++ p.low.free.behind))) (with_live-twice h full EmptyHandle z.heap.table)
-    ∙ ap (λ m. state (with_live h full z.heap.table) (p.low.free.before ++ m)) (sym (taken-parts z.shape k (Rel h) p.low.free.size p.low.free.behind))
+    ap (λ t. state t (p.low.free.before ++ block (Rel h) (front_size z.shape k p.low.free.size) ∷ (front_rest z.shape k p.low.free.size ++ p.low.free.after))) (with_live-twice h full EmptyHandle z.heap.table)
+    ∙ ap (λ m. state (with_live h full z.heap.table) (p.low.free.before ++ m)) (sym (taken-parts z.shape k (Rel h) p.low.free.size p.low.free.after))
 
 -- it is what the map was once the lowest block is taken
 pub lowest-taken : (z : ZoneState) (h n k at : ℕ) (p : Chosen z h n k at) → take_lowest z.shape (need z.shape.heads n) (Rel h) z.heap.map ≡ Some (placed_map z h n k at p)
 lowest-taken z h n k at p =
     subst (λ j. take_lowest z.shape j (Rel h) z.heap.map ≡ Some (placed_map z h n k at p)) p.size
-    (ap (take_lowest z.shape k (Rel h)) p.low.free.map ∙ take_lowest-there z.shape k (Rel h) p.low.free.before p.low.free.size p.low.free.behind p.low.lowest p.low.large)
+    (ap (take_lowest z.shape k (Rel h)) p.low.free.map ∙ take_lowest-there z.shape k (Rel h) p.low.free.before p.low.free.size p.low.free.after p.low.lowest p.low.large)
 
 -- the zone stays sound
 pub placed-sound : (z : ZoneState) (h n k at : ℕ) (p : Chosen z h n k at) → Sound z.shape (placed_zone z h n k at p).heap
@@ -108,7 +108,7 @@ can-cut z new h n k at p slot = subst (λ w. CanTake w at k) (sym slot) (taken_f
 cut-done : (z new cut : ZoneState) (h n k at : ℕ) (p : Chosen z h n k at) → new ≡ change.taken h z → ((take : CanTake new at k) → cut ≡ with_front new take) → cut ≡ cut_zone z h n k at p
 cut-done z new cut h n k at p slot front =
     subst (λ w. (take : CanTake w at k) → cut ≡ with_front w take) slot front (taken_front z h n k at p)
-    ∙ ap (λ m. with_map (p.low.free.before ++ m) (change.taken h z)) (taken-parts z.shape k Free p.low.free.size p.low.free.behind)
+    ∙ ap (λ m. with_map (p.low.free.before ++ m) (change.taken h z)) (taken-parts z.shape k Free p.low.free.size p.low.free.after)
 
 -- in which the handle is empty
 pub can-point-empty : (z new cut : ZoneState) (h n k at : ℕ) → Chosen z h n k at → new ≡ change.taken h z → ((take : CanTake new at k) → cut ≡ with_front new take) → live_at cut.heap.table h ≡ Some EmptyHandle

@@ -6,7 +6,7 @@ use Rattle.std.proofs.lemmas.List.Elements.{filter-append}
 use Rattle.mac_base.specs.declared.block.Entry.{Entry}
 use Rattle.mac_base.specs.declared.block.Kind.{Kind}
 use Rattle.mac_base.specs.declared.block.Kind.TheVariants.{Free}
-use Rattle.mac_base.specs.ZoneMap.{ZoneMap, block, free_block, is_free, total_size, free_bytes, address_behind}
+use Rattle.mac_base.specs.ZoneMap.{ZoneMap, block, free_block, is_free, total_size, free_bytes, address_after}
 use Rattle.mac_base.specs.ZoneState.{ZoneState}
 use Rattle.mac_base.specs.Arrangement.{used_blocks, down}
 use Rattle.mac_base.specs.Suits.{is_block_size}
@@ -55,19 +55,19 @@ pub down-front : (used m : ZoneMap) → none_free used ≡ true → down (used +
 down-front used m none =
     ap (λ n. used_blocks (used ++ m) ++ free_block n) (free-front used m none) ∙ ap (λ u. u ++ free_block (free_bytes m)) (used-front used m none) ∙ append_assoc used (used_blocks m) (free_block (free_bytes m))
 
--- or behind others
-used-behind : (m used : ZoneMap) → none_free used ≡ true → used_blocks (m ++ used) ≡ used_blocks m ++ used
-used-behind m used none = filter-append _ m used ∙ ap (λ u. used_blocks m ++ u) (used_blocks-same used none)
+-- or after others
+used-after : (m used : ZoneMap) → none_free used ≡ true → used_blocks (m ++ used) ≡ used_blocks m ++ used
+used-after m used none = filter-append _ m used ∙ ap (λ u. used_blocks m ++ u) (used_blocks-same used none)
 
-down-behind : (m used : ZoneMap) → none_free used ≡ true → down (m ++ used) ≡ (used_blocks m ++ used) ++ free_block (free_bytes m)
-down-behind m used none =
+down-after : (m used : ZoneMap) → none_free used ≡ true → down (m ++ used) ≡ (used_blocks m ++ used) ++ free_block (free_bytes m)
+down-after m used none =
     let same : free_bytes (m ++ used) ≡ free_bytes m = let all = free_bytes-append m used in let no = free_bytes-all_used used none in omega arith in
-    ap (λ n. used_blocks (m ++ used) ++ free_block n) same ∙ ap (λ u. u ++ free_block (free_bytes m)) (used-behind m used none)
+    ap (λ n. used_blocks (m ++ used) ++ free_block n) same ∙ ap (λ u. u ++ free_block (free_bytes m)) (used-after m used none)
 
 -- The first blocks of a run are pressed down, the others are to come.
 pub record Pressed {start end : ℕ} (z : ZoneState) (run : RunAt z start end) (done rest : ZoneMap) (new : ZoneState) (free next : ℕ) : Type 0 where
   pub parts : run.blocks ≡ done ++ rest
-  pub zone : new ≡ with_map (run.before ++ (down done ++ (rest ++ run.behind))) z
+  pub zone : new ≡ with_map (run.before ++ (down done ++ (rest ++ run.after))) z
   pub free_is : free ≡ start + total_size (used_blocks done)
   pub next_is : next ≡ start + total_size done
 
@@ -102,16 +102,16 @@ module _ {start end : ℕ} (z : ZoneState) (run : RunAt z start end) where
   pub run_sizes : sizes_possible z.shape z.heap.map ≡ true → sizes_possible z.shape run.blocks ≡ true
   run_sizes sizes =
       let whole = subst (λ m. sizes_possible z.shape m ≡ true) run.map sizes in
-      (all_parts _ run.blocks run.behind (all_parts _ run.before (run.blocks ++ run.behind) whole).1).0
+      (all_parts _ run.blocks run.after (all_parts _ run.before (run.blocks ++ run.after) whole).1).0
 
   -- and stay so where it is pressed down
   pub sizes-pressed : HasSizes z → HasSizes (arranged z run (down run.blocks))
   sizes-pressed sizes =
       let p : Entry → Bool = λ e. is_block_size z.shape e.size in
-      let outer = all_parts p run.before (run.blocks ++ run.behind) (ap (sizes_possible z.shape) (sym run.map) ∙ sizes) in
-      let inner = all_parts p run.blocks run.behind outer.1 in
+      let outer = all_parts p run.before (run.blocks ++ run.after) (ap (sizes_possible z.shape) (sym run.map) ∙ sizes) in
+      let inner = all_parts p run.blocks run.after outer.1 in
       let middle : list_all p (down run.blocks) ≡ true = (down-IsArrangement run.blocks).kept p inner.0 (free_bytes-possible z.shape run.blocks inner.0) in
-      all_both p run.before (down run.blocks ++ run.behind) outer.0 (all_both p (down run.blocks) run.behind middle inner.1)
+      all_both p run.before (down run.blocks ++ run.after) outer.0 (all_both p (down run.blocks) run.after middle inner.1)
 
   module _ (new : ZoneState) (free next : ℕ) where
     -- the bytes that are left
@@ -133,7 +133,7 @@ module _ {start end : ℕ} (z : ZoneState) (run : RunAt z start end) where
     module _ (p : Pressing z run new free next) where
       -- what is to come, and what follows the run
       abbrev tail : ZoneMap
-      tail = p.rest ++ run.behind
+      tail = p.rest ++ run.after
 
       -- the blocks in use so far
       abbrev used : ZoneMap
@@ -145,14 +145,14 @@ module _ {start end : ℕ} (z : ZoneState) (run : RunAt z start end) where
       pub map_next : new.heap.map ≡ (run.before ++ down p.done) ++ tail
       map_next = ap (λ (w : ZoneState). w.heap.map) (p.is).zone ∙ sym (append_assoc run.before (down p.done) tail)
 
-      pub place_next : next ≡ address_behind new.shape (run.before ++ down p.done)
+      pub place_next : next ≡ address_after new.shape (run.before ++ down p.done)
       place_next =
           let first = run.place in
           let at = (p.is).next_is in
           let all = total_size-append run.before (down p.done) in
           let same = (down-IsArrangement p.done).same_total in
-          let here : next ≡ address_behind z.shape (run.before ++ down p.done) = omega arith in
-          here ∙ ap (λ (w : ZoneState). address_behind w.shape (run.before ++ down p.done)) (sym (p.is).zone)
+          let here : next ≡ address_after z.shape (run.before ++ down p.done) = omega arith in
+          here ∙ ap (λ (w : ZoneState). address_after w.shape (run.before ++ down p.done)) (sym (p.is).zone)
 
       table_next : new.heap.table ≡ z.heap.table
       table_next = ap (λ (w : ZoneState). w.heap.table) (p.is).zone
@@ -165,17 +165,17 @@ module _ {start end : ℕ} (z : ZoneState) (run : RunAt z start end) where
 
       -- what is to come is a run
       abbrev pub run_next : RunAt new next end
-      run_next = record { before = run.before ++ down p.done; blocks = p.rest; behind = run.behind; map = map_next; place = place_next; long = total-rest p.done p.rest p.is; moves = moves_next; loose = loose_next }
+      run_next = record { before = run.before ++ down p.done; blocks = p.rest; after = run.after; map = map_next; place = place_next; long = total-rest p.done p.rest p.is; moves = moves_next; loose = loose_next }
 
       -- sizes are possible
       pub sizes_next : HasSizes z → HasSizes new
       sizes_next sizes =
           let p' : Entry → Bool = λ e. is_block_size z.shape e.size in
-          let outer = all_parts p' run.before (run.blocks ++ run.behind) (ap (sizes_possible z.shape) (sym run.map) ∙ sizes) in
-          let inner = all_parts p' run.blocks run.behind outer.1 in
+          let outer = all_parts p' run.before (run.blocks ++ run.after) (ap (sizes_possible z.shape) (sym run.map) ∙ sizes) in
+          let inner = all_parts p' run.blocks run.after outer.1 in
           let parts = all_parts p' p.done p.rest (ap (sizes_possible z.shape) (sym (p.is).parts) ∙ inner.0) in
           let middle : list_all p' (down p.done) ≡ true = (down-IsArrangement p.done).kept p' parts.0 (free_bytes-possible z.shape p.done parts.0) in
-          subst HasSizes (sym (p.is).zone) (all_both p' run.before (down p.done ++ tail) outer.0 (all_both p' (down p.done) tail middle (all_both p' p.rest run.behind parts.1 inner.1)))
+          subst HasSizes (sym (p.is).zone) (all_both p' run.before (down p.done ++ tail) outer.0 (all_both p' (down p.done) tail middle (all_both p' p.rest run.after parts.1 inner.1)))
 
       rest_sizes : sizes_possible z.shape z.heap.map ≡ true → sizes_possible z.shape p.rest ≡ true
       rest_sizes sizes = (all_parts _ p.done p.rest (subst (λ m. sizes_possible z.shape m ≡ true) (p.is).parts (run_sizes sizes))).1
@@ -188,17 +188,17 @@ module _ {start end : ℕ} (z : ZoneState) (run : RunAt z start end) where
       none_before more = let all = total_size-used p.done in let f = (p.is).free_is in let n = (p.is).next_is in omega arith
 
       -- as many as lie between
-      pub next_is_behind : next ≡ free + bytes
-      next_is_behind = let all = total_size-used p.done in let f = (p.is).free_is in let n = (p.is).next_is in omega arith
+      pub next_is_after : next ≡ free + bytes
+      next_is_after = let all = total_size-used p.done in let f = (p.is).free_is in let n = (p.is).next_is in omega arith
 
       -- where they begin
-      place_free : free ≡ address_behind new.shape (run.before ++ used)
+      place_free : free ≡ address_after new.shape (run.before ++ used)
       place_free =
           let first = run.place in
           let f = (p.is).free_is in
           let all = total_size-append run.before used in
-          let here : free ≡ address_behind z.shape (run.before ++ used) = omega arith in
-          here ∙ ap (λ (w : ZoneState). address_behind w.shape (run.before ++ used)) (sym (p.is).zone)
+          let here : free ≡ address_after z.shape (run.before ++ used) = omega arith in
+          here ∙ ap (λ (w : ZoneState). address_after w.shape (run.before ++ used)) (sym (p.is).zone)
 
       -- the map
       map_whole : new.heap.map ≡ run.before ++ (down p.done ++ tail)
@@ -213,7 +213,7 @@ module _ {start end : ℕ} (z : ZoneState) (run : RunAt z start end) where
       map_none more = map_whole ∙ ap (λ f. run.before ++ ((used ++ f) ++ tail)) (no_free bytes (none_before more)) ∙ ap (λ u. run.before ++ (u ++ tail)) (append-nil used)
 
       -- the step is done once the map is that of some blocks more, and the addresses are right
-      further : (m rest : ZoneMap) → p.rest ≡ m ++ rest → (after : ZoneState) (low at : ℕ) (map : ZoneMap) → after ≡ with_map map new → map ≡ run.before ++ (down (p.done ++ m) ++ (rest ++ run.behind))
+      further : (m rest : ZoneMap) → p.rest ≡ m ++ rest → (after : ZoneState) (low at : ℕ) (map : ZoneMap) → after ≡ with_map map new → map ≡ run.before ++ (down (p.done ++ m) ++ (rest ++ run.after))
           → low ≡ start + total_size (used_blocks (p.done ++ m)) → at ≡ next + total_size m → Pressing z run after low at
       further m rest is after low at map there same low_is at_is = record {
         done = p.done ++ m;
@@ -228,8 +228,8 @@ module _ {start end : ℕ} (z : ZoneState) (run : RunAt z start end) where
 
       -- blocks in use come next, up to an address
       module _ (at : ℕ) (u : UsedUpTo p.rest next at) where
-        tail_is : tail ≡ u.used ++ (u.rest ++ run.behind)
-        tail_is = ap (λ r. r ++ run.behind) u.parts ∙ append_assoc u.used u.rest run.behind
+        tail_is : tail ≡ u.used ++ (u.rest ++ run.after)
+        tail_is = ap (λ r. r ++ run.after) u.parts ∙ append_assoc u.used u.rest run.after
 
         -- it lies within the run
         pub within_used : at ≤ end
@@ -245,10 +245,10 @@ module _ {start end : ℕ} (z : ZoneState) (run : RunAt z start end) where
           before = run.before ++ used;
           here = block Free bytes;
           blocks = u.used;
-          behind = u.rest ++ run.behind;
+          after = u.rest ++ run.after;
           map = map_free less ∙ ap (λ t. (run.before ++ used) ++ block Free bytes ∷ t) tail_is;
           place = place_free;
-          long = (let here = u.place in let n = next_is_behind in omega arith);
+          long = (let here = u.place in let n = next_is_after in omega arith);
           moves = (all_parts _ u.used u.rest (ap (all_can_move new.heap.table) (sym u.parts) ∙ moves_next)).0;
         }
 
@@ -261,7 +261,7 @@ module _ {start end : ℕ} (z : ZoneState) (run : RunAt z start end) where
         low_used =
             let f = (p.is).free_is in
             let here = u.place in
-            let all = ap total_size (used-behind p.done u.used u.none) ∙ total_size-append used u.used in
+            let all = ap total_size (used-after p.done u.used u.none) ∙ total_size-append used u.used in
             omega arith
 
         -- the free bytes are carried past them
@@ -269,19 +269,19 @@ module _ {start end : ℕ} (z : ZoneState) (run : RunAt z start end) where
         unfolding parcel_next
         passed after less is =
             let b : ZoneMap = block Free bytes ∷ [] in
-            let rest = u.rest ++ run.behind in
+            let rest = u.rest ++ run.after in
             let same : (run.before ++ used) ++ (u.used ++ (b ++ rest)) ≡ run.before ++ (((used ++ u.used) ++ b) ++ rest) = simp append_assoc in
             further u.used u.rest u.parts after (free + (at - next)) at _ (is (parcel_next less))
-            (same ∙ ap (λ f. run.before ++ (((used ++ u.used) ++ f) ++ rest)) (sym (free_block-some bytes (some_before less))) ∙ ap (λ d. run.before ++ (d ++ rest)) (sym (down-behind p.done u.used u.none))) low_used u.place
+            (same ∙ ap (λ f. run.before ++ (((used ++ u.used) ++ f) ++ rest)) (sym (free_block-some bytes (some_before less))) ∙ ap (λ d. run.before ++ (d ++ rest)) (sym (down-after p.done u.used u.none))) low_used u.place
 
         -- or where there are none they stay
         pub stayed : next ≤ free → Pressing z run new (free + (at - next)) at
         stayed more =
-            let rest = u.rest ++ run.behind in
+            let rest = u.rest ++ run.after in
             let same : used ++ (u.used ++ rest) ≡ ((used ++ u.used) ++ []) ++ rest = simp (append-nil, append_assoc) in
             further u.used u.rest u.parts new (free + (at - next)) at new.heap.map refl
             (map_none more ∙ ap (λ t. run.before ++ (used ++ t)) tail_is ∙ ap (λ m. run.before ++ m) same
-            ∙ ap (λ f. run.before ++ (((used ++ u.used) ++ f) ++ rest)) (sym (no_free bytes (none_before more))) ∙ ap (λ d. run.before ++ (d ++ rest)) (sym (down-behind p.done u.used u.none))) low_used u.place
+            ∙ ap (λ f. run.before ++ (((used ++ u.used) ++ f) ++ rest)) (sym (no_free bytes (none_before more))) ∙ ap (λ d. run.before ++ (d ++ rest)) (sym (down-after p.done u.used u.none))) low_used u.place
 
         -- where there are none a free block comes next
         pub ahead : sizes_possible z.shape z.heap.map ≡ true → next < end → at ≤ next → Ahead p.rest
@@ -302,13 +302,13 @@ module _ {start end : ℕ} (z : ZoneState) (run : RunAt z start end) where
       -- a free block comes next
       module _ (a : Ahead p.rest) where
         abbrev after_it : ZoneMap
-        after_it = a.more ++ run.behind
+        after_it = a.more ++ run.after
 
         pub tail_free : tail ≡ block Free (a.here).size ∷ after_it
-        tail_free = ap (λ r. r ++ run.behind) (a.is ∙ ap (λ e. e ∷ a.more) (free_entry a.here a.unused))
+        tail_free = ap (λ r. r ++ run.after) (a.is ∙ ap (λ e. e ∷ a.more) (free_entry a.here a.unused))
 
         abbrev pub entry_ahead : EntryAt new next
-        entry_ahead = record { before = run.before ++ down p.done; here = block Free (a.here).size; behind = after_it; map = map_next ∙ ap (λ t. (run.before ++ down p.done) ++ t) tail_free; place = place_next }
+        entry_ahead = record { before = run.before ++ down p.done; here = block Free (a.here).size; after = after_it; map = map_next ∙ ap (λ t. (run.before ++ down p.done) ++ t) tail_free; place = place_next }
 
         -- with the free bytes before it
         pub pair_ahead : free < next → FreePair new free
@@ -316,7 +316,7 @@ module _ {start end : ℕ} (z : ZoneState) (run : RunAt z start end) where
           before = run.before ++ used;
           first = bytes;
           second = (a.here).size;
-          behind = after_it;
+          after = after_it;
           map = map_free less ∙ ap (λ t. (run.before ++ used) ++ block Free bytes ∷ t) tail_free;
           place = place_free;
         }

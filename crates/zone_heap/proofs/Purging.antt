@@ -18,7 +18,7 @@ use Rattle.mac_base.specs.Purging.{purged, purged_for}
 use Rattle.mac_base.specs.Request.{blocks_to_purge, candidates, candidates_in, fits, is_among, purged_until}
 use Rattle.mac_base.specs.Sound.{Sound}
 use Rattle.mac_base.specs.Suits.{is_handle_block, is_pointer_block}
-use Rattle.mac_base.specs.ZoneMap.{ZoneMap, address_behind, block, handle_of, is_named, largest_free, released, sizes}
+use Rattle.mac_base.specs.ZoneMap.{ZoneMap, address_after, block, handle_of, is_named, largest_free, released, sizes}
 use Rattle.mac_base.specs.ZoneState.{ZoneState, with_heap}
 use Rattle.zone_laws.proofs.Owners.{no_pointer_block}
 use Rattle.zone_laws.proofs.SlotPlaces.{Contains-here}
@@ -26,7 +26,7 @@ use Rattle.zone_laws.proofs.SuitsNamed.{full-no_pointer, length-handle_blocks}
 use Rattle.zone_laws.proofs.Tables.{by_number, eqb_same, with_live_agrees}
 use Rattle.zone_laws.proofs.Emptied.{IsCandidate, candidate-is, keeps-unlocked, none_pass, purged_until-none}
 use Rattle.zone_laws.proofs.FixesSame.{blocks_to_purge-same, fits-same}
-use Rattle.zone_laws.proofs.PurgeBlocks.{blocks_to_purge-is, purge_blocks, purge_blocks-filter, purge_handles, purge_handles-used, run, run_behind, used-released}
+use Rattle.zone_laws.proofs.PurgeBlocks.{blocks_to_purge-is, purge_blocks, purge_blocks-filter, purge_handles, purge_handles-used, run, run_after, used-released}
 use Rattle.linked_zone.specs.Loans.{KeepsLoans}
 use Rattle.zone_heap.specs.Attempts.{CanAsk, SoundZone, is_ready}
 use Rattle.zone_heap.specs.Purge.{is_protected}
@@ -85,12 +85,12 @@ run-fewer t test (e ∷ es) = by_tests (is_fixed t e.kind) (test e.kind) (run-fe
     by_tests true c rest = omega arith
     by_tests false c rest = elim (test e.kind) as (λ c. length (cond c (e.size ∷ []) [] ++ sizes test (run t es)) ≤ length (cond c (e.size ∷ []) [] ++ sizes test es)) [ true ↦ omega (arith, rest) | false ↦ rest ]
 
-run_behind-fewer : (t : HandleTable) (x : ℕ) (test : Kind → Bool) (m : ZoneMap) → length (sizes test (run_behind t x m)) ≤ length (sizes test m)
-run_behind-fewer t x test [] = omega arith
-run_behind-fewer t x test (e ∷ es) = by_tests (is_fixed t e.kind) (is_named x e.kind) (test e.kind) (run-fewer t test es) (run_behind-fewer t x test es)
+run_after-fewer : (t : HandleTable) (x : ℕ) (test : Kind → Bool) (m : ZoneMap) → length (sizes test (run_after t x m)) ≤ length (sizes test m)
+run_after-fewer t x test [] = omega arith
+run_after-fewer t x test (e ∷ es) = by_tests (is_fixed t e.kind) (is_named x e.kind) (test e.kind) (run-fewer t test es) (run_after-fewer t x test es)
   where
-    by_tests : (b c d : Bool) → length (sizes test (run t es)) ≤ length (sizes test es) → length (sizes test (run_behind t x es)) ≤ length (sizes test es)
-        → length (sizes test (cond b (cond c (run t es) (run_behind t x es)) (run_behind t x es))) ≤ length (cond d (e.size ∷ []) [] ++ sizes test es)
+    by_tests : (b c d : Bool) → length (sizes test (run t es)) ≤ length (sizes test es) → length (sizes test (run_after t x es)) ≤ length (sizes test es)
+        → length (sizes test (cond b (cond c (run t es) (run_after t x es)) (run_after t x es))) ≤ length (cond d (e.size ∷ []) [] ++ sizes test es)
     by_tests true true true first rest = omega (arith, first)
     by_tests true true false first rest = first
     by_tests true false true first rest = omega (arith, rest)
@@ -105,7 +105,7 @@ blocks-fewer t test NewEmpty m = omega arith
 blocks-fewer t test (NewPointer n) m = omega arith
 blocks-fewer t test NewMaster m = omega arith
 blocks-fewer t test (Reserve n) m = omega arith
-blocks-fewer t test (Resize x n) m = elim (is_pointer t x || is_locked t x) as (λ c. length (sizes test (cond c (run_behind t x m) m)) ≤ length (sizes test m)) [ true ↦ run_behind-fewer t x test m | false ↦ omega arith ]
+blocks-fewer t test (Resize x n) m = elim (is_pointer t x || is_locked t x) as (λ c. length (sizes test (cond c (run_after t x m) m)) ≤ length (sizes test m)) [ true ↦ run_after-fewer t x test m | false ↦ omega arith ]
 blocks-fewer t test (Replace h n) m = omega arith
 
 -- ---- the others are left
@@ -190,7 +190,7 @@ module _ (s : Shape) (protected : List ℕ) (r : Request) (heap : Heap) (h : ℕ
       let may = first-candidate.may in
       let u : HandleTable = emptied h t in
       let q : Entry → Bool = λ (e : Entry). not (is_named h e.kind) in
-      let no_pointer = none_pass (address_behind s []) (is_pointer_block h) m (no_pointer_block s t m sound.suits h (full-no_pointer t h first-candidate.full)) in
+      let no_pointer = none_pass (address_after s []) (is_pointer_block h) m (no_pointer_block s t m sound.suits h (full-no_pointer t h first-candidate.full)) in
       let left : purge_handles u r (released h m) ≡ filter (λ g. not (eqb g h)) (purge_handles t r m) =
       ap handles (blocks_to_purge-same t u (fixes-emptied t h may.handle may.unlocked) r (released h m))
       ∙ purge_handles-used t r (released h m) ∙ ap (λ b. handles (purge_blocks t r b)) (used-released h m)

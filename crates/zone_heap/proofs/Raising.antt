@@ -12,7 +12,7 @@ use Rattle.mac_base.specs.Arrangement.{used_blocks, down, high}
 use Rattle.mac_base.specs.Compaction.{moved_high}
 use Rattle.mac_base.specs.Gap.{Gap, filled, is_fixed}
 use Rattle.mac_base.specs.Suits.{is_block_size}
-use Rattle.mac_base.specs.ZoneMap.{ZoneMap, block, free_block, free_bytes, is_free, is_named, sizes, total_size, address_behind}
+use Rattle.mac_base.specs.ZoneMap.{ZoneMap, block, free_block, free_bytes, is_free, is_named, sizes, total_size, address_after}
 use Rattle.mac_base.specs.ZoneState.{ZoneState}
 use Rattle.zone_laws.proofs.Arranging.{named-used, sizes-used, free_bytes-free_block, list_all-used, total_size-used, used_blocks-free_block}
 use Rattle.zone_laws.proofs.GapAppend.{free_bytes-append}
@@ -77,9 +77,9 @@ topped_blocks a front back e c =
     let same : (a ++ used_blocks front) ++ (used_blocks back ++ (f ++ e ∷ c)) ≡ (a ++ (((used_blocks front ++ used_blocks back) ++ f) ++ e ∷ [])) ++ c = simp append_assoc in
     same ∙ ap (λ u. (a ++ ((u ++ f) ++ e ∷ [])) ++ c) (sym (filter-append _ front back))
 
--- the blocks in use behind free bytes
-used-behind_free : (n : ℕ) (m : ZoneMap) → used_blocks (free_block n ++ m) ≡ used_blocks m
-used-behind_free n m = filter-append _ (free_block n) m ∙ ap (λ u. u ++ used_blocks m) (used_blocks-free_block n)
+-- the blocks in use after free bytes
+used-past_free : (n : ℕ) (m : ZoneMap) → used_blocks (free_block n ++ m) ≡ used_blocks m
+used-past_free n m = filter-append _ (free_block n) m ∙ ap (λ u. u ++ used_blocks m) (used_blocks-free_block n)
 
 -- the free bytes below a block and those above it, pressed down
 down_above : (front back : ZoneMap) (e : Entry) → is_free e.kind ≡ false → down (free_block (free_bytes (front ++ e ∷ [])) ++ back) ≡ used_blocks back ++ free_block (free_bytes (front ++ back))
@@ -91,7 +91,7 @@ down_above front back e used =
     let low = free-push_used front e used in
     let all = free_bytes-append front back in
     omega arith in
-    ap (λ n. used_blocks (free_block k ++ back) ++ free_block n) bytes ∙ ap (λ u. u ++ free_block (free_bytes (front ++ back))) (used-behind_free k back)
+    ap (λ n. used_blocks (free_block k ++ back) ++ free_block n) bytes ∙ ap (λ u. u ++ free_block (free_bytes (front ++ back))) (used-past_free k back)
 
 module _ (z : ZoneState) (h at : ℕ) (settled : Settled z) (o : Owned z h at) (start middle end : ℕ) (start_is : start + total_size (o.place).front ≡ at) (middle_is : middle ≡ at + o.size) (end_is : end ≡ at + (o.size + total_size (o.place).back))
     (new : ZoneState) (below : ℕ) (pressed : (run : RunAt z start middle) → new ≡ arranged z run (down run.blocks)) (below_is : (run : RunAt z start middle) → below ≡ start + total_size (used_blocks run.blocks)) where
@@ -116,8 +116,8 @@ module _ (z : ZoneState) (h at : ℕ) (settled : Settled z) (o : Owned z h at) (
       omega arith
 
   -- the block is below them
-  pub behind_it : o.size ≤ below
-  behind_it = let b = below_used in omega arith
+  pub after_it : o.size ≤ below
+  after_it = let b = below_used in omega arith
 
   module _ (next : ZoneState) (free : ℕ) (pressed_above : (run : RunAt new below end) → next ≡ arranged new run (down run.blocks)) (free_is : (run : RunAt new below end) → free ≡ below + total_size (used_blocks run.blocks)) where
     -- sizes stay possible
@@ -128,10 +128,10 @@ module _ (z : ZoneState) (h at : ℕ) (settled : Settled z) (o : Owned z h at) (
     abbrev bytes : ℕ
     bytes = free_bytes (front ++ back)
 
-    zone_above : next ≡ with_map (((o.gap).before ++ used_blocks front) ++ (here ∷ used_blocks back ++ (free_block bytes ++ (o.gap).behind))) z
+    zone_above : next ≡ with_map (((o.gap).before ++ used_blocks front) ++ (here ∷ used_blocks back ++ (free_block bytes ++ (o.gap).after))) z
     zone_above =
         let a = (o.gap).before in
-        let c = (o.gap).behind in
+        let c = (o.gap).after in
         let used = used_here z h at settled o in
         let u = used_blocks back in
         let f = free_block bytes in
@@ -140,17 +140,17 @@ module _ (z : ZoneState) (h at : ℕ) (settled : Settled z) (o : Owned z h at) (
         ∙ ap (λ m. with_map m z) (ap (λ u. (a ++ u) ++ (down (free_block (free_bytes (front ++ here ∷ [])) ++ back) ++ c)) (used_blocks-around front here [] used) ∙ ap (λ d. (a ++ (used_blocks front ++ here ∷ [])) ++ (d ++ c)) (down_above front back here used) ∙ same)
 
     free_above : free ≡ below + total_size (used_blocks back)
-    free_above = used_upper z h at settled o start middle end start_is middle_is end_is new below pressed below_is free free_is ∙ ap (λ m. below + total_size m) (used-behind_free (free_bytes (front ++ here ∷ [])) back)
+    free_above = used_upper z h at settled o start middle end start_is middle_is end_is new below pressed below_is free free_is ∙ ap (λ m. below + total_size m) (used-past_free (free_bytes (front ++ here ∷ [])) back)
 
     module _ (low : ℕ) (low_is : low + o.size ≡ below) where
-      place_packed : low ≡ address_behind next.shape ((o.gap).before ++ used_blocks front)
+      place_packed : low ≡ address_after next.shape ((o.gap).before ++ used_blocks front)
       place_packed =
           let there = o.at_is in
           let first = total_size-append (o.gap).before front in
           let all = total_size-append (o.gap).before (used_blocks front) in
           let b = below_used in
-          let here : low ≡ address_behind z.shape ((o.gap).before ++ used_blocks front) = omega arith in
-          here ∙ ap (λ (w : ZoneState). address_behind w.shape ((o.gap).before ++ used_blocks front)) (sym zone_above)
+          let here : low ≡ address_after z.shape ((o.gap).before ++ used_blocks front) = omega arith in
+          here ∙ ap (λ (w : ZoneState). address_after w.shape ((o.gap).before ++ used_blocks front)) (sym zone_above)
 
       ends_packed : end ≡ free + bytes
       ends_packed =
@@ -180,7 +180,7 @@ module _ (z : ZoneState) (h at : ℕ) (settled : Settled z) (o : Owned z h at) (
         here = here;
         blocks = used_blocks back;
         bytes = bytes;
-        behind = (o.gap).behind;
+        after = (o.gap).after;
         map = ap (λ (w : ZoneState). w.heap.map) zone_above;
         place = place_packed;
         long = (let f = free_above in omega arith);
@@ -189,25 +189,25 @@ module _ (z : ZoneState) (h at : ℕ) (settled : Settled z) (o : Owned z h at) (
         loose = loose_packed;
       }
 
-      raised_blocks : ((o.gap).before ++ used_blocks front) ++ (used_blocks back ++ (free_block bytes ++ here ∷ (o.gap).behind)) ≡ filled o.gap (high h (o.gap).blocks)
-      raised_blocks = topped_blocks (o.gap).before front back here (o.gap).behind
-          ∙ ap (λ b. ((o.gap).before ++ b) ++ (o.gap).behind) (sym (high-parts h (o.gap).blocks o.size front (o.place).kind back (o.place).at))
+      raised_blocks : ((o.gap).before ++ used_blocks front) ++ (used_blocks back ++ (free_block bytes ++ here ∷ (o.gap).after)) ≡ filled o.gap (high h (o.gap).blocks)
+      raised_blocks = topped_blocks (o.gap).before front back here (o.gap).after
+          ∙ ap (λ b. ((o.gap).before ++ b) ++ (o.gap).after) (sym (high-parts h (o.gap).blocks o.size front (o.place).kind back (o.place).at))
 
       -- put on top of them the block is raised
       pub raised : (after : ZoneState) → ((packed : PackedAt next low free end) → after ≡ topped next packed) → after ≡ with_map (moved_high z.heap.table h z.heap.map) z
       unfolding packed_above
       raised after is =
-          is packed_above ∙ ap (with_map (((o.gap).before ++ used_blocks front) ++ (used_blocks back ++ (free_block bytes ++ here ∷ (o.gap).behind)))) zone_above
+          is packed_above ∙ ap (with_map (((o.gap).before ++ used_blocks front) ++ (used_blocks back ++ (free_block bytes ++ here ∷ (o.gap).after)))) zone_above
           ∙ ap (λ m. with_map m z) (raised_blocks ∙ ap (λ found. option_map_or (λ (g : Gap). filled g (high h g.blocks)) found z.heap.map) (sym o.found))
 
 module _ (z : ZoneState) (at free end : ℕ) (sizes : HasSizes z) (packed : PackedAt z at free end) where
-  -- the block and those behind it
+  -- the block and those after it
   pub parcel_packed : ParcelAt z at free
   parcel_packed = record {
     before = packed.before;
     here = packed.here;
     blocks = packed.blocks;
-    behind = free_block packed.bytes ++ packed.behind;
+    after = free_block packed.bytes ++ packed.after;
     map = packed.map;
     place = packed.place;
     long = packed.long;
@@ -221,7 +221,7 @@ module _ (z : ZoneState) (at free end : ℕ) (sizes : HasSizes z) (packed : Pack
   module _ (new : ZoneState) (high : ℕ) (carried : (parcel : ParcelAt z at free) → new ≡ carried_up z parcel) (high_is : (parcel : ParcelAt z at free) → high + (parcel.here).size ≡ free) where
     -- the free bytes
     abbrev unused : ZoneMap
-    unused = free_block packed.bytes ++ packed.behind
+    unused = free_block packed.bytes ++ packed.after
 
     zone_carried : new ≡ with_map (packed.before ++ (packed.blocks ++ packed.here ∷ unused)) z
     unfolding parcel_packed
@@ -244,19 +244,19 @@ module _ (z : ZoneState) (at free end : ℕ) (sizes : HasSizes z) (packed : Pack
       some_bytes : 0 < packed.bytes
       some_bytes = let e = packed.ends in omega arith
 
-      map_carried : new.heap.map ≡ (packed.before ++ packed.blocks) ++ (packed.here ∷ [] ++ block Free packed.bytes ∷ packed.behind)
+      map_carried : new.heap.map ≡ (packed.before ++ packed.blocks) ++ (packed.here ∷ [] ++ block Free packed.bytes ∷ packed.after)
       map_carried =
-          ap (λ (w : ZoneState). w.heap.map) zone_carried ∙ ap (λ f. packed.before ++ (packed.blocks ++ packed.here ∷ (f ++ packed.behind))) (free_block-some packed.bytes some_bytes)
-          ∙ sym (append_assoc packed.before packed.blocks (packed.here ∷ block Free packed.bytes ∷ packed.behind))
+          ap (λ (w : ZoneState). w.heap.map) zone_carried ∙ ap (λ f. packed.before ++ (packed.blocks ++ packed.here ∷ (f ++ packed.after))) (free_block-some packed.bytes some_bytes)
+          ∙ sym (append_assoc packed.before packed.blocks (packed.here ∷ block Free packed.bytes ∷ packed.after))
 
-      place_carried : high ≡ address_behind new.shape (packed.before ++ packed.blocks)
+      place_carried : high ≡ address_after new.shape (packed.before ++ packed.blocks)
       place_carried =
           let first = packed.place in
           let long = packed.long in
           let there = high_carried in
           let all = total_size-append packed.before packed.blocks in
-          let here : high ≡ address_behind z.shape (packed.before ++ packed.blocks) = omega arith in
-          here ∙ ap (λ (w : ZoneState). address_behind w.shape (packed.before ++ packed.blocks)) (sym zone_carried)
+          let here : high ≡ address_after z.shape (packed.before ++ packed.blocks) = omega arith in
+          here ∙ ap (λ (w : ZoneState). address_after w.shape (packed.before ++ packed.blocks)) (sym zone_carried)
 
       -- with the block before them they are a parcel
       pub parcel_carried : ParcelUpTo new high free
@@ -264,7 +264,7 @@ module _ (z : ZoneState) (at free end : ℕ) (sizes : HasSizes z) (packed : Pack
         before = packed.before ++ packed.blocks;
         blocks = packed.here ∷ [];
         here = block Free packed.bytes;
-        behind = packed.behind;
+        after = packed.after;
         map = map_carried;
         place = place_carried;
         long = (let there = high_carried in omega arith);
@@ -282,14 +282,14 @@ module _ (z : ZoneState) (at free end : ℕ) (sizes : HasSizes z) (packed : Pack
       pub topped_some : (after : ZoneState) → ((parcel : ParcelUpTo new high free) → after ≡ sunk new parcel) → after ≡ topped z packed
       unfolding parcel_carried
       topped_some after is =
-          is parcel_carried ∙ ap (with_map ((packed.before ++ packed.blocks) ++ (block Free packed.bytes ∷ packed.here ∷ packed.behind))) zone_carried
-          ∙ ap (λ m. with_map m z) (append_assoc packed.before packed.blocks (block Free packed.bytes ∷ packed.here ∷ packed.behind)
-          ∙ ap (λ f. packed.before ++ (packed.blocks ++ (f ++ packed.here ∷ packed.behind))) (sym (free_block-some packed.bytes some_bytes)))
+          is parcel_carried ∙ ap (with_map ((packed.before ++ packed.blocks) ++ (block Free packed.bytes ∷ packed.here ∷ packed.after))) zone_carried
+          ∙ ap (λ m. with_map m z) (append_assoc packed.before packed.blocks (block Free packed.bytes ∷ packed.here ∷ packed.after)
+          ∙ ap (λ f. packed.before ++ (packed.blocks ++ (f ++ packed.here ∷ packed.after))) (sym (free_block-some packed.bytes some_bytes)))
 
     -- or there are none
     pub topped_none : end ≤ free → new ≡ topped z packed
     topped_none none =
         let e = packed.ends in
         let no = no_free packed.bytes (omega arith) in
-        zone_carried ∙ ap (λ f. with_map (packed.before ++ (packed.blocks ++ packed.here ∷ (f ++ packed.behind))) z) no
-        ∙ ap (λ f. with_map (packed.before ++ (packed.blocks ++ (f ++ packed.here ∷ packed.behind))) z) (sym no)
+        zone_carried ∙ ap (λ f. with_map (packed.before ++ (packed.blocks ++ packed.here ∷ (f ++ packed.after))) z) no
+        ∙ ap (λ f. with_map (packed.before ++ (packed.blocks ++ (f ++ packed.here ∷ packed.after))) z) (sym no)

@@ -1,4 +1,4 @@
--- Which handle's block has contents at an address, by the block whose header stands before them.
+-- Which handle's block has contents at an address, by the block whose header is before them.
 use Rattle.std.proofs.Common.{◌≡◌, ℕ, ◌+◌, ◌-◌, ◌<◌, ◌≤◌, true, false, cond, [], ◌∷◌, Option, Some, None, refl, ap, sym, ◌∙◌, arith, IsTrue}
 use Rattle.std.specs.Prelude.{find, ◌==◌, nat_lt}
 use Rattle.std.specs.Option.{option_or}
@@ -10,7 +10,7 @@ use Rattle.mac_base.specs.HandleTable.{HandleTable}
 use Rattle.mac_base.specs.HeadKind.{head_size}
 use Rattle.mac_base.specs.Suits.{wanted_length}
 use Rattle.mac_base.specs.Sound.{Sound}
-use Rattle.mac_base.specs.ZoneMap.{ZoneMap, handle_of, handle_found, handle_at, address_behind}
+use Rattle.mac_base.specs.ZoneMap.{ZoneMap, handle_of, handle_found, handle_at, address_after}
 use Rattle.mac_base.specs.ZoneState.{ZoneState}
 use Rattle.zone_heap.proofs.Places.{all_large, large-sizes, large-first}
 
@@ -54,12 +54,12 @@ found-reported t head x at (e ∷ es) large =
 module _ (z : ZoneState) (sound : Sound z.shape z.heap) (address head : ℕ) (is : head ≡ head_size z.shape.heads) where
   -- no contents begin below a header's size
   pub recovered-none : address < head → None ≡ handle_at z.shape address z.heap.map
-  recovered-none below = sym (found-below (address_behind z.shape [] + head_size z.shape.heads) address z.heap.map (omega arith))
+  recovered-none below = sym (found-below (address_after z.shape [] + head_size z.shape.heads) address z.heap.map (omega arith))
 
-  -- else the block is the one that stands a header before
+  -- else the block is the one that is a header before
   pub recovered : head ≤ address → (found : Option Block) → found ≡ report_at z.shape z.heap (address - head) → reported found ≡ handle_at z.shape address z.heap.map
   recovered above found said =
       ap reported said
-      ∙ sym (found-reported z.heap.table head (address - head) (address_behind z.shape []) z.heap.map (large-sizes z.shape z.heap.map sound.suits.sizes))
-      ∙ ap (λ n. handle_found (address_behind z.shape [] + n) (address - head + head) z.heap.map) is
+      ∙ sym (found-reported z.heap.table head (address - head) (address_after z.shape []) z.heap.map (large-sizes z.shape z.heap.map sound.suits.sizes))
+      ∙ ap (λ n. handle_found (address_after z.shape [] + n) (address - head + head) z.heap.map) is
       ∙ ap (λ a. handle_at z.shape a z.heap.map) (let e : address - head + head ≡ address = omega arith in e)

@@ -14,7 +14,7 @@ use Rattle.zone_laws.proofs.NamedPlace.{At, At-from}
 use Rattle.zone_laws.proofs.ReleasedBlocks.{marked, marked-append, marked-none}
 use Rattle.zone_laws.proofs.SuitsNamed.{named_once}
 use Rattle.zone_laws.proofs.Tables.{eqb_same}
-use Rattle.zone_laws.proofs.Taken.{free_apart-behind, free_apart-replaced}
+use Rattle.zone_laws.proofs.Taken.{free_apart-after, free_apart-replaced}
 use Rattle.linked_zone.specs.Changes.{freed}
 use Rattle.linked_zone.specs.Places.{BlockOf, NamedAt}
 use Rattle.zone_heap.specs.Joins.{NewlyFree}
@@ -49,15 +49,15 @@ with_freed x t z = record { memory = z.memory; shape = z.shape; heap = record { 
 pub newly-free : (z : ZoneState) (x at : ℕ) (t : HandleTable) → Sound z.shape z.heap → has_block z.heap.table x ≡ true → NamedAt z x at → NewlyFree (with_freed x t z) at
 newly-free z x at t sound has b =
     let possible : Entry → Bool = λ e. is_block_size z.shape e.size in
-    let is = freed-At x z.heap.map b.here b.before b.behind (named_alone z.shape z.heap.table z.heap.map x sound.suits has b.before b.here b.behind b.map b.named) in
-    let apart : IsTrue (free_apart (b.before ++ b.here ∷ b.behind)) = subst (λ m. IsTrue (free_apart m)) b.map sound.suits.apart in
+    let is = freed-At x z.heap.map b.here b.before b.after (named_alone z.shape z.heap.table z.heap.map x sound.suits has b.before b.here b.after b.map b.named) in
+    let apart : IsTrue (free_apart (b.before ++ b.here ∷ b.after)) = subst (λ m. IsTrue (free_apart m)) b.map sound.suits.apart in
     record {
-      free = record { before = b.before; size = b.here.size; behind = b.behind; map = is; place = b.place };
-      before = free_apart-front b.before (b.here ∷ b.behind) apart;
-      behind = free_apart-behind (b.before ++ b.here ∷ []) b.behind (subst (λ m. IsTrue (free_apart m)) (sym (append_assoc b.before (b.here ∷ []) b.behind)) apart);
-      sizes = ap (list_all possible) is ∙ list_all-append possible b.before (block Free b.here.size ∷ b.behind) ∙ sym (list_all-append possible b.before (b.here ∷ b.behind)) ∙ ap (list_all possible) (sym b.map) ∙ sound.suits.sizes;
+      free = record { before = b.before; size = b.here.size; after = b.after; map = is; place = b.place };
+      before = free_apart-front b.before (b.here ∷ b.after) apart;
+      after = free_apart-after (b.before ++ b.here ∷ []) b.after (subst (λ m. IsTrue (free_apart m)) (sym (append_assoc b.before (b.here ∷ []) b.after)) apart);
+      sizes = ap (list_all possible) is ∙ list_all-append possible b.before (block Free b.here.size ∷ b.after) ∙ sym (list_all-append possible b.before (b.here ∷ b.after)) ∙ ap (list_all possible) (sym b.map) ∙ sound.suits.sizes;
     }
 
 -- the block of a handle is one that its number names
 abbrev pub block_named : (z : ZoneState) (h at : ℕ) → BlockOf z h at → NamedAt z h at
-block_named z h at b = record { before = b.before; here = block (Rel h) b.size; behind = b.behind; map = b.map; place = b.place; named = eqb_same h }
+block_named z h at b = record { before = b.before; here = block (Rel h) b.size; after = b.after; map = b.map; place = b.place; named = eqb_same h }

@@ -99,14 +99,14 @@ module _ (z : ZoneState) (h n : ℕ) (asks : CanAsk z (Replace h n)) where
 
       -- the map with the new block
       abbrev pub replaced_map : ZoneMap
-      replaced_map = opened.low.free.before ++ (taken v.shape k (Rel h) opened.low.free.size ++ opened.low.free.behind)
+      replaced_map = opened.low.free.before ++ (taken v.shape k (Rel h) opened.low.free.size ++ opened.low.free.after)
 
       -- and the zone
       abbrev pub replaced_zone : ZoneState
       replaced_zone = record { memory = v.memory; shape = v.shape; heap = granted (Replace h n) h replaced_map v.heap }
 
       taken-there : TakenAt v.shape k (Rel h) v.heap.map replaced_map
-      taken-there = record { before = opened.low.free.before; size = opened.low.free.size; behind = opened.low.free.behind; was = opened.low.free.map; is = refl; fits = opened.low.large }
+      taken-there = record { before = opened.low.free.before; size = opened.low.free.size; after = opened.low.free.after; was = opened.low.free.map; is = refl; fits = opened.low.large }
 
       -- what becomes of the zone
       module _ (c : ZoneState) (cut : (take : CanTake v at k) → c ≡ with_front v take) where
@@ -124,7 +124,7 @@ module _ (z : ZoneState) (h n : ℕ) (asks : CanAsk z (Replace h n)) where
         replace-done last point =
             subst (λ w. (r : RoomFor w at n) → last ≡ pointed h n w r.free) (cut-off c cut) point (room v h n k at sound.sound opened.low.free opened.low.large size-there)
             ∙ ap (λ m. let new : ZoneState = record { memory = v.memory; shape = v.shape; heap = granted (Replace h n) h (opened.low.free.before ++ m) v.heap } in new)
-            (sym (taken-parts v.shape k (Rel h) opened.low.free.size opened.low.free.behind))
+            (sym (taken-parts v.shape k (Rel h) opened.low.free.size opened.low.free.after))
 
       -- the new block is where it is asked for
       placed-there : placed_relocatable z.shape z.heap.table k (Rel h) (released h z.heap.map) ≡ Some replaced_map

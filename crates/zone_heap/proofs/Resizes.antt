@@ -92,7 +92,7 @@ refused-all z new x n sound asks tight full none same =
       same,
     )
 
--- one that stays has only its place and the gap behind it
+-- one that stays has only its place and the gap after it
 pub refused-stays : (z new : ZoneState) (x n : ℕ) → SoundZone z → CanAsk z (Resize x n) → is_some (resized_in_place z.shape (need z.shape.heads n) x z.heap.map) ≡ false → is_some (resized_in_gap z.shape z.heap.table (need z.shape.heads n) x z.heap.map) ≡ false
     → stays z.heap.table x ≡ true → new ≡ z → IsRefused (Resize x n) z NoRoom new
 refused-stays z new x n sound asks tight full fixed same =

@@ -12,7 +12,7 @@ use Rattle.mac_base.specs.HandleTable.{HandleTable, Live, EmptyHandle, FullHandl
 use Rattle.mac_base.specs.Heap.{Heap}
 use Rattle.mac_base.specs.Loans.{LoansAreFixed}
 use Rattle.mac_base.specs.Suits.{is_handle_block}
-use Rattle.mac_base.specs.ZoneMap.{ZoneMap, address_behind, sizes, total_size}
+use Rattle.mac_base.specs.ZoneMap.{ZoneMap, address_after, sizes, total_size}
 use Rattle.mac_base.specs.ZoneState.{ZoneState}
 use Rattle.zone_laws.proofs.GapAppend.{sizes-append, length-addresses_from}
 use Rattle.zone_laws.proofs.GapParts.{IsGap, gap-IsGap}
@@ -64,7 +64,7 @@ owners_from t a (e ∷ es) one =
 
 -- the owners of a settled zone's blocks are live
 pub owners-settled : (z : ZoneState) → Settled z → HasOwners z
-owners-settled z s = owners_from z.heap.table [] z.heap.map (λ h. sym (length-addresses_from (address_behind z.shape []) (is_handle_block h) z.heap.map) ∙ (s.coherent).handles h)
+owners-settled z s = owners_from z.heap.table [] z.heap.map (λ h. sym (length-addresses_from (address_after z.shape []) (is_handle_block h) z.heap.map) ∙ (s.coherent).handles h)
 
 unlocked_here : (heap : Heap) (h : ℕ) → LoansAreFixed heap → is_handle heap.table h ≡ true → is_locked heap.table h ≡ false → not (is_lent heap.table h) ≡ true
 unlocked_here heap h loans live unlocked = by_lent (is_lent heap.table h) refl
@@ -95,18 +95,18 @@ abbrev pub rest_of_gap : (z : ZoneState) (start : ℕ) → GapAt z start → Res
 rest_of_gap z start at =
     let g : Gap = at.gap in
     let is : IsGap z.heap.table z.heap.map g = gap-IsGap z.heap.table z.heap.map g at.among in
-    record { before = g.before; blocks = g.blocks; behind = g.behind; map = is.parts ∙ append_assoc g.before g.blocks g.behind; place = at.place; moves = is.moves; above = is.above }
+    record { before = g.before; blocks = g.blocks; after = g.after; map = is.parts ∙ append_assoc g.before g.blocks g.after; place = at.place; moves = is.moves; above = is.above }
 
 -- they are a run
 abbrev pub run_of_rest : (z : ZoneState) (start end : ℕ) → Settled z → (rest : RestAt z start) → end ≡ start + total_size rest.blocks → RunAt z start end
 run_of_rest z start end s rest long = record {
   before = rest.before;
   blocks = rest.blocks;
-  behind = rest.behind;
+  after = rest.after;
   map = rest.map;
   place = rest.place;
   long = long;
   moves = all_move-unfixed z.heap rest.blocks s.loans
-      (all_parts _ rest.blocks rest.behind (all_parts _ rest.before (rest.blocks ++ rest.behind) (ap (list_all (λ (e : Entry). has_owner z.heap.table e.kind)) (sym rest.map) ∙ owners-settled z s)).1).0 rest.moves;
+      (all_parts _ rest.blocks rest.after (all_parts _ rest.before (rest.blocks ++ rest.after) (ap (list_all (λ (e : Entry). has_owner z.heap.table e.kind)) (sym rest.map) ∙ owners-settled z s)).1).0 rest.moves;
   loose = rest.moves;
 }

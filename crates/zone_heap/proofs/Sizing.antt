@@ -1,4 +1,4 @@
--- A block that gets another size where it stands: the one block of a handle or a pointer, the front of it that is held,
+-- A block that gets another size where it is: the one block of a handle or a pointer, the front of it that is held,
 -- and the sound heap then.
 use Rattle.std.proofs.Common.{◌≡◌, ℕ, ◌+◌, ◌-◌, ◌<◌, ◌≤◌, Bool, true, false, cond, List, [], ◌∷◌, ◌++◌, length, Some, refl, ap, sym, ◌∙◌, arith, subst, length-append, IsTrue, inl, inr}
 use Rattle.std.specs.Prelude.{◌==◌, ◌⊎◌, nat_lt, option_map}
@@ -36,11 +36,11 @@ only [] y [] h = refl
 only [] y (z ∷ zs) h = absurd (omega arith)
 only (x ∷ xs) y ys h = let all = length-append xs (y ∷ ys) in absurd (omega arith)
 
--- a block that a number names stands there
+-- a block that a number names is there
 abbrev pub entry_named : {z : ZoneState} {x at : ℕ} → NamedAt z x at → EntryAt z at
-entry_named named = record { before = named.before; here = named.here; behind = named.behind; map = named.map; place = named.place }
+entry_named named = record { before = named.before; here = named.here; after = named.after; map = named.map; place = named.place }
 
--- the block of x in a sound zone, where its header stands, and the size for n bytes of contents
+-- the block of x in a sound zone, where its header is, and the size for n bytes of contents
 pub record Standing (z : ZoneState) (x n k at : ℕ) : Type 0 where
   pub sound : Sound z.shape z.heap
   pub block : IsTrue (has_block z.heap.table x)
@@ -52,25 +52,25 @@ module _ (z : ZoneState) (x n k at : ℕ) (b : Standing z x n k at) where
   pub once : sizes (is_named x) z.heap.map ≡ b.named.here.size ∷ []
   once =
       let before = sizes (is_named x) b.named.before in
-      let behind = sizes (is_named x) b.named.behind in
-      let parts : sizes (is_named x) z.heap.map ≡ before ++ b.named.here.size ∷ behind =
-      ap (sizes (is_named x)) b.named.map ∙ sizes-append (is_named x) b.named.before (b.named.here ∷ b.named.behind) ∙ ap (λ c. before ++ (cond c (b.named.here.size ∷ []) [] ++ behind)) b.named.named in
-      parts ∙ only before b.named.here.size behind (ap length (sym parts) ∙ named_once z.shape z.heap.table z.heap.map x b.sound.suits b.block)
+      let after = sizes (is_named x) b.named.after in
+      let parts : sizes (is_named x) z.heap.map ≡ before ++ b.named.here.size ∷ after =
+      ap (sizes (is_named x)) b.named.map ∙ sizes-append (is_named x) b.named.before (b.named.here ∷ b.named.after) ∙ ap (λ c. before ++ (cond c (b.named.here.size ∷ []) [] ++ after)) b.named.named in
+      parts ∙ only before b.named.here.size after (ap length (sym parts) ∙ named_once z.shape z.heap.table z.heap.map x b.sound.suits b.block)
 
   -- so it is the one that x names
-  pub there : At x z.heap.map b.named.here.size b.named.before b.named.here.kind b.named.behind
-  there = At-from x z.heap.map b.named.here.size b.named.before b.named.here b.named.behind once b.named.map b.named.named
+  pub there : At x z.heap.map b.named.here.size b.named.before b.named.here.kind b.named.after
+  there = At-from x z.heap.map b.named.here.size b.named.before b.named.here b.named.after once b.named.map b.named.named
 
   -- its size is possible
   pub here-size : IsTrue (is_block_size z.shape b.named.here.size)
   here-size =
       let possible : Entry → Bool = λ e. is_block_size z.shape e.size in
-      all-there possible b.named.before b.named.here b.named.behind (subst (λ m. IsTrue (list_all possible m)) b.named.map b.sound.suits.sizes)
+      all-there possible b.named.before b.named.here b.named.after (subst (λ m. IsTrue (list_all possible m)) b.named.map b.sound.suits.sizes)
 
   -- it ends within the zone
-  pub end-there : at + b.named.here.size + total_size b.named.behind ≤ z.shape.base + z.shape.limit
+  pub end-there : at + b.named.here.size + total_size b.named.after ≤ z.shape.base + z.shape.limit
   end-there =
-      let all : total_size z.heap.map ≡ total_size b.named.before + (b.named.here.size + total_size b.named.behind) = ap total_size b.named.map ∙ total_size-append b.named.before (b.named.here ∷ b.named.behind) in
+      let all : total_size z.heap.map ≡ total_size b.named.before + (b.named.here.size + total_size b.named.after) = ap total_size b.named.map ∙ total_size-append b.named.before (b.named.here ∷ b.named.after) in
       omega (arith, b.sound.within, b.named.place)
 
   -- its size is that of the block of x
@@ -78,16 +78,16 @@ module _ (z : ZoneState) (x n k at : ℕ) (b : Standing z x n k at) where
   size-there = sym (size_of-At x z.heap.map b.named.here.size once)
 
   -- the map in which it has the size, where it can have it
-  in-place : resized_in_place z.shape (need z.shape.heads n) x z.heap.map ≡ option_map (λ m. b.named.before ++ m) (sized z.shape k b.named.here b.named.behind)
-  in-place = resized_in_place-At z.shape (need z.shape.heads n) x z.heap.map b.named.here.size b.named.before b.named.here.kind b.named.behind there
-      ∙ ap (λ j. option_map (λ m. b.named.before ++ m) (sized z.shape j b.named.here b.named.behind)) (sym b.size)
+  in-place : resized_in_place z.shape (need z.shape.heads n) x z.heap.map ≡ option_map (λ m. b.named.before ++ m) (sized z.shape k b.named.here b.named.after)
+  in-place = resized_in_place-At z.shape (need z.shape.heads n) x z.heap.map b.named.here.size b.named.before b.named.here.kind b.named.after there
+      ∙ ap (λ j. option_map (λ m. b.named.before ++ m) (sized z.shape j b.named.here b.named.after)) (sym b.size)
 
-  -- the zone in which x has n bytes, and its block and those behind it are these
+  -- the zone in which x has n bytes, and its block and those after it are these
   abbrev pub resized_zone : ZoneMap → ZoneState
   resized_zone m = record { memory = z.memory; shape = z.shape; heap = granted (Resize x n) x (b.named.before ++ m) z.heap }
 
   -- the heap is that, where the block can have the size
-  pub resized-there : (m : ZoneMap) (new : ZoneState) → sized z.shape k b.named.here b.named.behind ≡ Some m → new ≡ resized_zone m → resized_there z.shape x n z.heap ≡ Some new.heap
+  pub resized-there : (m : ZoneMap) (new : ZoneState) → sized z.shape k b.named.here b.named.after ≡ Some m → new ≡ resized_zone m → resized_there z.shape x n z.heap ≡ Some new.heap
   resized-there m new sizes is = ap (option_map (λ m. granted (Resize x n) x m z.heap)) (in-place ∙ ap (option_map (λ m. b.named.before ++ m)) sizes) ∙ ap (λ (w : ZoneState). Some w.heap) (sym is)
 
 -- the heap in which x has n bytes where its block is, is sound

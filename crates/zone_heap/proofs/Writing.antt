@@ -33,5 +33,5 @@ length-copied start offset n source target within_source within_target =
     let bytes : List ℕ = take n (drop start source) in
     let long : length bytes ≡ n = omega (arith, length-take n (drop start source), length-drop start source) in
     let front = length-append (take offset target) bytes in
-    let behind = length-drop (offset + length bytes) target in
+    let after = length-drop (offset + length bytes) target in
     length-append (take offset target ++ bytes) (drop (offset + length bytes) target) ∙ omega (arith, length-take offset target)

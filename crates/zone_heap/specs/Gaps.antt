@@ -6,7 +6,7 @@ use Rattle.mac_base.specs.Gap.{Gap, gaps, filled, own_gap}
 use Rattle.mac_base.specs.HandleTable.{HandleTable}
 use Rattle.mac_base.specs.Loans.{LoansAreFixed}
 use Rattle.mac_base.specs.Suits.{Coherent}
-use Rattle.mac_base.specs.ZoneMap.{ZoneMap, address_behind, total_size}
+use Rattle.mac_base.specs.ZoneMap.{ZoneMap, address_after, total_size}
 use Rattle.mac_base.specs.ZoneState.{ZoneState}
 use Rattle.linked_zone.specs.Changes.{with_map}
 use Rattle.linked_zone.specs.Fit.{HasSizes}
@@ -24,36 +24,36 @@ pub record Settled (z : ZoneState) : Type 0 where
 pub record GapAt (z : ZoneState) (start : ℕ) : Type 0 where
   pub gap : Gap
   pub among : Contains (gaps z.heap.table z.heap.map) gap
-  pub place : start ≡ address_behind z.shape gap.before
+  pub place : start ≡ address_after z.shape gap.before
 
 -- a gap begins at an address and ends at another
 pub record GapBetween (z : ZoneState) (start end : ℕ) : Type 0 where
   pub at : GapAt z start
   pub long : end ≡ start + total_size at.gap.blocks
 
--- the first free block of some gap stands at an address
+-- the first free block of some gap is at an address
 pub record GapFrom (z : ZoneState) (at : ℕ) : Type 0 where
   pub gap : Gap
   pub among : Contains (gaps z.heap.table z.heap.map) gap
   pub first : FirstFreeOf z gap at
 
--- the blocks around an address, from behind the last fixed one below it up to the next fixed one: those of a gap
+-- the blocks around an address, from after the last fixed one below it up to the next fixed one: those of a gap
 pub record AroundAt (z : ZoneState) (at : ℕ) : Type 0 where
   pub before : ZoneMap
   pub lower : ZoneMap
   pub upper : ZoneMap
-  pub behind : ZoneMap
-  pub map : z.heap.map ≡ before ++ ((lower ++ upper) ++ behind)
-  pub place : at ≡ address_behind z.shape (before ++ lower)
+  pub after : ZoneMap
+  pub map : z.heap.map ≡ before ++ ((lower ++ upper) ++ after)
+  pub place : at ≡ address_after z.shape (before ++ lower)
   pub moves : IsTrue (none_fixed z.heap.table (lower ++ upper))
   pub below : IsTrue (ends_fixed z.heap.table before)
-  pub above : IsTrue (begins_fixed z.heap.table behind)
+  pub above : IsTrue (begins_fixed z.heap.table after)
 
 -- the gap that a search gives is found
 pub record IsGapOf (z : ZoneState) (searched : Option Gap) (found : FoundGap) : Type 0 where
   pub gap : Gap
   pub is : searched ≡ Some gap
-  pub start : found.start ≡ address_behind z.shape gap.before
+  pub start : found.start ≡ address_after z.shape gap.before
   pub end : found.end ≡ found.start + total_size gap.blocks
 
 -- the zone with these blocks in a gap

@@ -5,7 +5,7 @@ use Rattle.mac_base.specs.declared.block.Kind.TheVariants.{Rel}
 use Rattle.mac_base.specs.declared.request.Request.{Request}
 use Rattle.mac_base.specs.declared.request.Request.TheVariants.{Resize, Replace}
 use Rattle.mac_base.specs.Request.{is_among}
-use Rattle.mac_base.specs.ZoneMap.{ZoneMap, address_behind, total_size}
+use Rattle.mac_base.specs.ZoneMap.{ZoneMap, address_after, total_size}
 use Rattle.mac_base.specs.ZoneState.{ZoneState}
 
 -- whether what a request resizes or replaces is among the protected
@@ -19,11 +19,11 @@ abbrev pub unprotected : List ℕ → Kind → Option ℕ
 unprotected protected (Rel h) = if is_among protected h then None else Some h
 unprotected protected _ = None
 
--- blocks stand between two addresses
+-- blocks are between two addresses
 pub record BlocksAt (z : ZoneState) (start end : ℕ) : Type 0 where
   pub before : ZoneMap
   pub blocks : ZoneMap
-  pub behind : ZoneMap
-  pub map : z.heap.map ≡ before ++ (blocks ++ behind)
-  pub place : start ≡ address_behind z.shape before
+  pub after : ZoneMap
+  pub map : z.heap.map ≡ before ++ (blocks ++ after)
+  pub place : start ≡ address_after z.shape before
   pub long : end ≡ start + total_size blocks

@@ -4,7 +4,7 @@ ghost use Rattle.std.specs.Prelude.{◌≡◌, ◌++◌, IsTrue, IsFalse};
 ghost use Rattle.mac_base.specs.Arrangement.{down, up, used_blocks};
 ghost use Rattle.mac_base.specs.Compaction.{all_down, moved_high};
 ghost use Rattle.mac_base.specs.HandleTable.{is_full, is_locked};
-ghost use Rattle.mac_base.specs.ZoneMap.{address_behind};
+ghost use Rattle.mac_base.specs.ZoneMap.{address_after};
 ghost use Rattle.linked_zone.specs.Changes.{with_map};
 ghost use Rattle.linked_zone.specs.Fit.{HasSizes};
 ghost use Rattle.linked_zone.specs.Loans.{KeepsLoans};
@@ -26,7 +26,7 @@ pub fn squeeze_down(zone: &mut IndexedZone, at: u32) -> u32
     requires gap { GapFrom zone.old at }
     requires settled { Settled zone.old }
     ensures zone { (from : GapFrom zone.old at) → zone.new ≡ with_gap zone.old from.gap (down from.gap.blocks) }
-    ensures free { (from : GapFrom zone.old at) → result ≡ address_behind zone.old.shape (from.gap.before ++ used_blocks from.gap.blocks) }
+    ensures free { (from : GapFrom zone.old at) → result ≡ address_after zone.old.shape (from.gap.before ++ used_blocks from.gap.blocks) }
     ensures loans { KeepsLoans zone.old zone.new }
     ensures settled { Settled zone.new }
 {
@@ -47,7 +47,7 @@ pub fn squeeze_up(zone: &mut IndexedZone, start: u32, end: u32)
 }
 
 /// Arranges the gap of an unlocked handle open at it: its block and those below are moved down, those above it up, and
-/// the gap's free bytes stand right behind it in one block.
+/// the gap's free bytes are right after it in one block.
 pub fn open_after(zone: &mut IndexedZone, handle: Handle)
     requires full { IsTrue (is_full zone.old.heap.table handle) }
     requires unlocked { IsFalse (is_locked zone.old.heap.table handle) }
@@ -65,7 +65,7 @@ pub fn open_after(zone: &mut IndexedZone, handle: Handle)
 }
 
 /// Moves the block of an unlocked handle to the high end of its gap: the others are moved down, and the gap's free
-/// bytes stand below it in one block. No free byte is moved. The bytes of a block below the handle's are moved once at
+/// bytes are below it in one block. No free byte is moved. The bytes of a block below the handle's are moved once at
 /// most, those of one above it twice, and its own three times.
 pub fn raise(zone: &mut IndexedZone, handle: Handle)
     requires full { IsTrue (is_full zone.old.heap.table handle) }
@@ -84,7 +84,7 @@ pub fn raise(zone: &mut IndexedZone, handle: Handle)
     put_on_top(zone, below - size, free, end);
 }
 
-/// Moves a block up past the blocks behind it, which end at `free`, and past the free bytes behind those, which end at
+/// Moves a block up past the blocks after it, which end at `free`, and past the free bytes after those, which end at
 /// `end`. The bytes of the blocks turn in one rotation, and then the block alone slides over the free bytes.
 fn put_on_top(zone: &mut IndexedZone, at: u32, free: u32, end: u32)
     requires packed { PackedAt zone.old at free end }
@@ -117,7 +117,7 @@ pub fn squeeze_all_down(zone: &mut IndexedZone)
 fn squeeze_around(zone: &mut IndexedZone, at: u32)
     requires around { AroundAt zone.old at }
     requires settled { Settled zone.old }
-    ensures zone { (around : AroundAt zone.old at) → zone.new ≡ with_map (around.before ++ (down (around.lower ++ around.upper) ++ around.behind)) zone.old }
+    ensures zone { (around : AroundAt zone.old at) → zone.new ≡ with_map (around.before ++ (down (around.lower ++ around.upper) ++ around.after)) zone.old }
     ensures loans { KeepsLoans zone.old zone.new }
     ensures settled { Settled zone.new }
 {

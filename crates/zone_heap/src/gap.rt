@@ -1,7 +1,7 @@
 //! A gap of a zone, and where the zone ends.
 
 ghost use Rattle.std.specs.Prelude.{◌≡◌, ◌≤◌};
-ghost use Rattle.mac_base.specs.ZoneMap.{address_behind};
+ghost use Rattle.mac_base.specs.ZoneMap.{address_after};
 
 use linked_zone::LinkedZone;
 
@@ -10,13 +10,13 @@ use linked_zone::LinkedZone;
 pub struct FoundGap {
     /// The address at which the gap begins.
     pub start: u32,
-    /// The address behind it.
+    /// The address after it.
     pub end: u32,
 }
 
-/// The address behind a zone's last block.
+/// The address after a zone's last block.
 pub fn zone_end(zone: &LinkedZone) -> u32
-    ensures address { result ≡ address_behind zone.now.shape zone.now.heap.map }
+    ensures address { result ≡ address_after zone.now.shape zone.now.heap.map }
     ensures reach { result ≤ 0xFFFF_FFFF }
 {
     let spec = zone.spec();

@@ -25,6 +25,6 @@ mod zone;
 pub use arrange::{open_after, raise, squeeze_all_down, squeeze_down, squeeze_up};
 pub use block_bytes::check;
 pub use gap::{FoundGap, zone_end};
-pub use room::{gap_behind, own_gap};
+pub use room::{gap_after, own_gap};
 pub use shortage::Shortage;
 pub use zone::Zone;

@@ -15,7 +15,7 @@ ghost use Rattle.zone_heap.specs.Purge.{is_protected, BlocksAt, unprotected};
 use crate::fitting::fits;
 use crate::size::stays;
 use crate::zone::{Zone, empty};
-use crate::{gap_behind, zone_end};
+use crate::{gap_after, zone_end};
 use mac_base::block::Kind;
 use mac_base::handle::Handle;
 use mac_base::request::Request;
@@ -83,7 +83,7 @@ fn next_for(zone: &IndexedZone, request: &Request, protected: &[u32]) -> Option<
 {
     match *request {
         Request::Resize(block, _) if stays(zone.linked(), block) => {
-            let gap = gap_behind(zone, block);
+            let gap = gap_after(zone, block);
             next_between(zone, gap.start, gap.end, protected)
         }
         _ => next_in_zone(zone, protected),

@@ -1,7 +1,7 @@
 //! The gap in which a block can grow.
 
 ghost use Rattle.std.specs.Prelude.{◌≡◌, IsTrue, IsFalse};
-ghost use Rattle.mac_base.specs.Gap.{gap_behind, gaps, own_gap};
+ghost use Rattle.mac_base.specs.Gap.{gap_after, gaps, own_gap};
 ghost use Rattle.mac_base.specs.HandleTable.{is_full, is_locked};
 ghost use Rattle.mac_base.specs.Request.{stays};
 ghost use Rattle.zone_heap.specs.Gaps.{Settled, IsGapOf};
@@ -23,11 +23,11 @@ pub fn own_gap(zone: &IndexedZone, handle: Handle) -> FoundGap
     FoundGap { start, end }
 }
 
-/// The gap right behind the block of a pointer or a locked handle.
-pub fn gap_behind(zone: &IndexedZone, block: u32) -> FoundGap
+/// The gap right after the block of a pointer or a locked handle.
+pub fn gap_after(zone: &IndexedZone, block: u32) -> FoundGap
     requires stays { IsTrue (stays zone.now.heap.table block) }
     requires settled { Settled zone.now }
-    ensures { IsGapOf zone.now (gap_behind block (gaps zone.now.heap.table zone.now.heap.map)) result }
+    ensures { IsGapOf zone.now (gap_after block (gaps zone.now.heap.table zone.now.heap.map)) result }
 {
     let at = zone.linked().place_of(block);
     prove!(zone_end(zone.linked()) <= u32::MAX);

@@ -23,13 +23,13 @@ pub(crate) fn press_down(zone: &mut IndexedZone, start: u32, end: u32) -> u32
     let mut free = start;
     let mut next = start;
     while next < end {
-        let behind = used_end(zone.linked(), next, end);
-        if next < behind {
+        let after = used_end(zone.linked(), next, end);
+        if next < after {
             if free < next {
-                zone.carry(free, behind);
+                zone.carry(free, after);
             }
-            free += behind - next;
-            next = behind;
+            free += after - next;
+            next = after;
         } else {
             let size = zone.linked().entry_at(next).size;
             if free < next {
@@ -41,7 +41,7 @@ pub(crate) fn press_down(zone: &mut IndexedZone, start: u32, end: u32) -> u32
     free
 }
 
-/// The address behind the blocks in use with which a run begins. No header is read.
+/// The address after the blocks in use with which a run begins. No header is read.
 pub(crate) fn used_end(zone: &LinkedZone, start: u32, end: u32) -> u32
     requires { RunAt zone.now start end }
     ensures { (run : RunAt zone.now start end) → UsedUpTo run.blocks start result }
@@ -100,7 +100,7 @@ fn used_start(zone: &LinkedZone, start: u32, end: u32) -> u32
     }
 }
 
-/// Moves a block up past the blocks between it and an address. Gives the address at which it stands then. The
+/// Moves a block up past the blocks between it and an address. Gives the address at which it is then. The
 /// bytes turn in one rotation.
 pub(crate) fn carry_up(zone: &mut IndexedZone, start: u32, end: u32) -> u32
     requires parcel { ParcelAt zone.old start end }

@@ -16,8 +16,8 @@ ghost use Rattle.zone_heap.specs.declared.shortage.Shortage.TheVariants.{NoRoom}
 
 use crate::place::open_lowest;
 use crate::shortage::Shortage;
-use crate::zone::{cut, free_behind, front, join, shrink};
-use crate::{FoundGap, gap_behind, open_after, own_gap, squeeze_up};
+use crate::zone::{cut, free_after, front, join, shrink};
+use crate::{FoundGap, gap_after, open_after, own_gap, squeeze_up};
 use linked_zone::LinkedZone;
 use mac_base::handle::{Handle, Ptr};
 use mac_base::size::need_for;
@@ -52,7 +52,7 @@ pub(crate) fn stays(zone: &LinkedZone, block: u32) -> bool
     zone.is_pointer(Ptr::new(block)) || zone.flags(Handle::new(block)).lock
 }
 
-/// Whether a block can have `length` bytes where it is, with those of the free block right behind it.
+/// Whether a block can have `length` bytes where it is, with those of the free block right after it.
 fn fits_there(zone: &LinkedZone, block: u32, length: u32) -> bool
     requires sound { SoundZone zone.now }
     requires block { IsTrue (has_block zone.now.heap.table block) }
@@ -62,10 +62,10 @@ fn fits_there(zone: &LinkedZone, block: u32, length: u32) -> bool
     let spec = zone.spec();
     prove!(spec.base() + spec.limit() <= u32::MAX);
     let at = zone.place_of(block);
-    need_for(spec.heads(), length) <= zone.entry_at(at).size + free_behind(zone, at)
+    need_for(spec.heads(), length) <= zone.entry_at(at).size + free_after(zone, at)
 }
 
-/// Gives a block `length` bytes where it is: its own, or with them those of the free block right behind it. What is
+/// Gives a block `length` bytes where it is: its own, or with them those of the free block right after it. What is
 /// over is free where it makes a block. Bytes that were in it stay, as far as they go, and those that are added are
 /// zero.
 fn resize_there(zone: &mut IndexedZone, block: u32, length: u32)
@@ -88,7 +88,7 @@ fn resize_there(zone: &mut IndexedZone, block: u32, length: u32)
     } else {
         let spec = linked.spec();
         prove!(spec.limit() <= LARGEST_LIMIT);
-        let whole = size + free_behind(linked, at);
+        let whole = size + free_after(linked, at);
         let taken = front(linked, whole, needed);
         zone.grow(block, taken, length);
     }
@@ -101,7 +101,7 @@ pub(crate) fn gap_to_grow(zone: &IndexedZone, block: u32) -> FoundGap
     ensures { IsGapOf zone.now (gap_to_grow zone.now.heap.table block zone.now.heap.map) result }
 {
     if stays(zone.linked(), block) {
-        gap_behind(zone, block)
+        gap_after(zone, block)
     } else {
         own_gap(zone, Handle::new(block))
     }
@@ -123,7 +123,7 @@ pub(crate) fn grows_to(zone: &mut IndexedZone, gap: FoundGap, block: u32, needed
     zone.has_room_at(gap.start, needed - size)
 }
 
-/// Lets the other blocks of its gap make way for a block, so that the free bytes of the gap stand right behind it,
+/// Lets the other blocks of its gap make way for a block, so that the free bytes of the gap are right after it,
 /// where it can then have `length` bytes. Else nothing has changed.
 fn make_way(zone: &mut IndexedZone, block: u32, length: u32) -> bool
     requires sound { SoundZone zone.old }

@@ -43,7 +43,7 @@ impl Drop for Zone {
 
 impl Zone {
     ghost use Rattle.std.specs.Prelude.{length, not, ◌||◌, ◌≡◌, ◌+◌, ◌≤◌, IfOk, IsTrue, IsFalse, MatchResult, Some, None, []};
-    ghost use Rattle.mac_base.specs.ZoneMap.{address_behind, contents_of};
+    ghost use Rattle.mac_base.specs.ZoneMap.{address_after, contents_of};
     ghost use Rattle.std.specs.Borrow.{sem};
     ghost use Rattle.mac_base.specs.BlockStatus.{status_of};
     ghost use Rattle.mac_base.specs.HandleTable.{is_full, is_handle, is_lent, is_pointer, bytes_of, flags_of, with_flags};
@@ -183,7 +183,7 @@ impl Zone {
     /// The address of the zone's first block header. What the zone shows is a sound heap, and its addresses have 32
     /// bits.
     pub fn first_block(&self) -> u32
-        ensures address { result ≡ address_behind self.now.shape [] }
+        ensures address { result ≡ address_after self.now.shape [] }
         ensures sound { Sound self.now.shape self.now.heap }
         ensures reach { self.now.shape.base + self.now.shape.limit ≤ 0xFFFF_FFFF }
     {
@@ -224,7 +224,7 @@ pub(crate) fn join(pointers: &mut IndexedZone, at: u32)
     ensures { pointers.new ≡ all_joined pointers.old }
 {
     let linked = pointers.linked();
-    if let Some(next) = linked.behind(at) {
+    if let Some(next) = linked.after(at) {
         if linked.entry_at(next).kind.is_free() {
             pointers.merge(at);
         }
@@ -255,13 +255,13 @@ pub(crate) fn empty(pointers: &mut IndexedZone, handle: Handle)
     }
 }
 
-/// The size of the free block right behind the one at an address, and 0 where none stands there.
-pub(crate) fn free_behind(pointers: &LinkedZone, at: u32) -> u32
+/// The size of the free block right after the one at an address, and 0 where none is there.
+pub(crate) fn free_after(pointers: &LinkedZone, at: u32) -> u32
     requires sound { Sound pointers.now.shape pointers.now.heap }
     requires there { EntryAt pointers.now at }
-    ensures { (e : EntryAt pointers.now at) → result ≡ free_in_front e.behind }
+    ensures { (e : EntryAt pointers.now at) → result ≡ free_in_front e.after }
 {
-    if let Some(next) = pointers.behind(at) {
+    if let Some(next) = pointers.after(at) {
         let entry = pointers.entry_at(next);
         if entry.kind.is_free() {
             return entry.size;
@@ -284,7 +284,7 @@ pub(crate) fn front(pointers: &LinkedZone, whole: u32, needed: u32) -> u32
 }
 
 /// Gives the owner of a block `length` bytes, which need `needed` bytes of the block. What is over is free where it
-/// makes a block, and joined to the free block behind it.
+/// makes a block, and joined to the free block after it.
 pub(crate) fn shrink(pointers: &mut IndexedZone, block: u32, needed: u32, length: u32)
     requires sound { Sound pointers.old.shape pointers.old.heap }
     requires block { IsTrue (has_block pointers.old.heap.table block) }

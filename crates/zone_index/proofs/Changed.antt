@@ -8,7 +8,7 @@ use Rattle.mac_base.specs.Heap.{Heap}
 use Rattle.mac_base.specs.HandleTable.{EmptyHandle, FullHandle, Pointer, bytes_of, is_pointer, live_at, no_flags, resized, with_bytes, zeros}
 use Rattle.mac_base.specs.HeadKind.{head_size, zone_header}
 use Rattle.mac_base.specs.Loans.{lent_out, returned}
-use Rattle.mac_base.specs.ZoneMap.{ZoneMap, block, free_block, total_size, address_behind}
+use Rattle.mac_base.specs.ZoneMap.{ZoneMap, block, free_block, total_size, address_after}
 use Rattle.mac_base.specs.ZoneState.{ZoneState, with_heap}
 use Rattle.zone_laws.proofs.Arranging.{total_size-free_block}
 use Rattle.zone_laws.proofs.Maps.{total_size-append}
@@ -35,7 +35,7 @@ pub record Renews (z : ZoneState) (heap : Heap) (from to : ℕ) : Type 0 where
   pub map_is : heap.map ≡ front ++ (is ++ back)
   pub same_front : weights heap.table front ≡ weights z.heap.table front
   pub same_back : weights heap.table back ≡ weights z.heap.table back
-  pub place : from ≡ address_behind z.shape front
+  pub place : from ≡ address_after z.shape front
   pub below_was : AllBelow (to + 1) from was
   pub below_is : AllBelow (to + 1) from is
   pub ends : (back ≡ []) ⊎ (total_size is ≡ total_size was)
@@ -46,19 +46,19 @@ pub record OneOther (z : ZoneState) (heap : Heap) (at : ℕ) : Type 0 where
   pub was : Kind
   pub is : Kind
   pub size : ℕ
-  pub behind : ZoneMap
-  pub map_was : z.heap.map ≡ before ++ block was size ∷ behind
-  pub map_is : heap.map ≡ before ++ block is size ∷ behind
-  pub place : at ≡ address_behind z.shape before
+  pub after : ZoneMap
+  pub map_was : z.heap.map ≡ before ++ block was size ∷ after
+  pub map_is : heap.map ≡ before ++ block is size ∷ after
+  pub place : at ≡ address_after z.shape before
   pub same_front : weights heap.table before ≡ weights z.heap.table before
-  pub same_back : weights heap.table behind ≡ weights z.heap.table behind
+  pub same_back : weights heap.table after ≡ weights z.heap.table after
 
 abbrev pub other-renews : (z : ZoneState) (heap : Heap) (at : ℕ) → OneOther z heap at → Renews z heap at at
 other-renews z heap at o = record {
   front = o.before;
   was = block o.was o.size ∷ [];
   is = block o.is o.size ∷ [];
-  back = o.behind;
+  back = o.after;
   map_was = o.map_was;
   map_is = o.map_is;
   same_front = o.same_front;
@@ -71,15 +71,15 @@ other-renews z heap at o = record {
 
 -- the first of two free neighbours
 abbrev pub first_free : (z : ZoneState) {at : ℕ} → FreePair z at → FreeAt z at
-first_free z pair = record { before = pair.before; size = pair.first; behind = block Free pair.second ∷ pair.behind; map = pair.map; place = pair.place }
+first_free z pair = record { before = pair.before; size = pair.first; after = block Free pair.second ∷ pair.after; map = pair.map; place = pair.place }
 
--- the block behind a run
+-- the block after a run
 abbrev pub last_entry : (z : ZoneState) {start at : ℕ} → ParcelUpTo z start at → EntryAt z at
 last_entry z parcel = record {
   before = parcel.before ++ parcel.blocks;
   here = parcel.here;
-  behind = parcel.behind;
-  map = parcel.map ∙ sym (append_assoc parcel.before parcel.blocks (parcel.here ∷ parcel.behind));
+  after = parcel.after;
+  map = parcel.map ∙ sym (append_assoc parcel.before parcel.blocks (parcel.here ∷ parcel.after));
   place = (let all = total_size-append parcel.before parcel.blocks in let place = parcel.place in let long = parcel.long in omega arith);
 }
 
@@ -93,7 +93,7 @@ module _ (z : ZoneState) where
     front = can.free.before;
     was = block Free can.free.size ∷ [];
     is = block Free size ∷ block Free (can.free.size - size) ∷ [];
-    back = can.free.behind;
+    back = can.free.after;
     map_was = can.free.map;
     map_is = refl;
     same_front = refl;
@@ -109,7 +109,7 @@ module _ (z : ZoneState) where
     front = pair.before;
     was = block Free pair.first ∷ block Free pair.second ∷ [];
     is = block Free (pair.first + pair.second) ∷ [];
-    back = pair.behind;
+    back = pair.after;
     map_was = pair.map;
     map_is = refl;
     same_front = refl;
@@ -128,9 +128,9 @@ module _ (z : ZoneState) where
         front = parcel.before;
         was = parcel.here ∷ parcel.blocks;
         is = parcel.blocks ++ parcel.here ∷ [];
-        back = parcel.behind;
+        back = parcel.after;
         map_was = parcel.map;
-        map_is = ap (λ m. parcel.before ++ m) (sym (append_assoc parcel.blocks (parcel.here ∷ []) parcel.behind));
+        map_is = ap (λ m. parcel.before ++ m) (sym (append_assoc parcel.blocks (parcel.here ∷ []) parcel.after));
         same_front = refl;
         same_back = refl;
         place = parcel.place;
@@ -147,8 +147,8 @@ module _ (z : ZoneState) where
         front = parcel.before;
         was = parcel.blocks ++ parcel.here ∷ [];
         is = parcel.here ∷ parcel.blocks;
-        back = parcel.behind;
-        map_was = parcel.map ∙ ap (λ m. parcel.before ++ m) (sym (append_assoc parcel.blocks (parcel.here ∷ []) parcel.behind));
+        back = parcel.after;
+        map_was = parcel.map ∙ ap (λ m. parcel.before ++ m) (sym (append_assoc parcel.blocks (parcel.here ∷ []) parcel.after));
         map_is = refl;
         same_front = refl;
         same_back = refl;
@@ -158,7 +158,7 @@ module _ (z : ZoneState) where
         ends = inr (omega arith);
       }
 
-  abbrev pub held-renews : {x size n at : ℕ} (can : CanHold z x size n) → at ≡ address_behind z.shape can.before → Renews z (held_there z can).heap at (at + size)
+  abbrev pub held-renews : {x size n at : ℕ} (can : CanHold z x size n) → at ≡ address_after z.shape can.before → Renews z (held_there z can).heap at (at + size)
   held-renews {x} {size} {n} {at} can place =
       let bytes = resized n (bytes_of z.heap.table x) in
       let over = total_size-free_block (can.here.size - size) in
@@ -167,18 +167,18 @@ module _ (z : ZoneState) where
         front = can.before;
         was = can.here ∷ [];
         is = block can.here.kind size ∷ free_block (can.here.size - size);
-        back = can.behind;
+        back = can.after;
         map_was = can.map;
-        map_is = append_assoc can.before (block can.here.kind size ∷ free_block (can.here.size - size)) can.behind;
+        map_is = append_assoc can.before (block can.here.kind size ∷ free_block (can.here.size - size)) can.after;
         same_front = weights-bytes z.heap.table x bytes can.before;
-        same_back = weights-bytes z.heap.table x bytes can.behind;
+        same_back = weights-bytes z.heap.table x bytes can.after;
         place = place;
         below_was = (omega arith, tt);
         below_is = (omega arith, one_below (can.here.size - size) (at + size));
         ends = inr (omega arith);
       }
 
-  abbrev pub grown-renews : {x size n at : ℕ} (can : CanGrow z x size n) → at ≡ address_behind z.shape can.before → Renews z (enlarged z can).heap at (at + size)
+  abbrev pub grown-renews : {x size n at : ℕ} (can : CanGrow z x size n) → at ≡ address_after z.shape can.before → Renews z (enlarged z can).heap at (at + size)
   grown-renews {x} {size} {n} {at} can place =
       let bytes = resized n (bytes_of z.heap.table x) in
       let over = total_size-free_block (can.here.size + can.free - size) in
@@ -188,18 +188,18 @@ module _ (z : ZoneState) where
         front = can.before;
         was = can.here ∷ block Free can.free ∷ [];
         is = block can.here.kind size ∷ free_block (can.here.size + can.free - size);
-        back = can.behind;
+        back = can.after;
         map_was = can.map;
-        map_is = append_assoc can.before (block can.here.kind size ∷ free_block (can.here.size + can.free - size)) can.behind;
+        map_is = append_assoc can.before (block can.here.kind size ∷ free_block (can.here.size + can.free - size)) can.after;
         same_front = weights-bytes z.heap.table x bytes can.before;
-        same_back = weights-bytes z.heap.table x bytes can.behind;
+        same_back = weights-bytes z.heap.table x bytes can.after;
         place = place;
         below_was = (omega arith, (omega arith, tt));
         below_is = (omega arith, one_below (can.here.size + can.free - size) (at + size));
         ends = inr (omega arith);
       }
 
-  abbrev pub extended-renews : {end : ℕ} → end ≡ address_behind z.shape z.heap.map → Renews z (extended z).heap end end
+  abbrev pub extended-renews : {end : ℕ} → end ≡ address_after z.shape z.heap.map → Renews z (extended z).heap end end
   extended-renews {end} place = record {
     front = z.heap.map;
     was = [];
@@ -217,61 +217,61 @@ module _ (z : ZoneState) where
 
   module _ {at : ℕ} (free : FreeAt z at) where
     -- a free block is another's
-    abbrev given : (heap : Heap) (is : Kind) → heap.map ≡ free.before ++ block is free.size ∷ free.behind → weights heap.table free.before ≡ weights z.heap.table free.before → weights heap.table free.behind ≡ weights z.heap.table free.behind → OneOther z heap at
-    given heap is map front back = record { before = free.before; was = Free; is = is; size = free.size; behind = free.behind; map_was = free.map; map_is = map; place = free.place; same_front = front; same_back = back }
+    abbrev given : (heap : Heap) (is : Kind) → heap.map ≡ free.before ++ block is free.size ∷ free.after → weights heap.table free.before ≡ weights z.heap.table free.before → weights heap.table free.after ≡ weights z.heap.table free.after → OneOther z heap at
+    given heap is map front back = record { before = free.before; was = Free; is = is; size = free.size; after = free.after; map_was = free.map; map_is = map; place = free.place; same_front = front; same_back = back }
 
     abbrev pub pointed-other : (h k : ℕ) → live_at z.heap.table h ≡ Some EmptyHandle → OneOther z (pointed h k z free).heap at
     pointed-other h k empty =
         let same = weights-with_live h (FullHandle no_flags (zeros k)) z.heap.table (subst Bare (sym empty) bare-empty) (bare-new (zeros k)) in
-        given (pointed h k z free).heap (Rel h) refl (same free.before) (same free.behind)
+        given (pointed h k z free).heap (Rel h) refl (same free.before) (same free.after)
 
     abbrev pub fixed-other : (k : ℕ) → Fits (fixed k z free) → OneOther z (fixed k z free).heap at
     fixed-other k fits =
         let p : ℕ = at + head_size z.shape.heads in
-        let one = names-one (fixed k z free) p free.before (block (Ptr p) free.size) free.behind fits refl (eqb_same p) in
+        let one = names-one (fixed k z free) p free.before (block (Ptr p) free.size) free.after fits refl (eqb_same p) in
         let agree = with_live_agrees p (Pointer (zeros k)) z.heap.table in
-        given (fixed k z free).heap (Ptr p) refl (weights-apart p z.heap.table (fixed k z free).heap.table agree free.before one.front) (weights-apart p z.heap.table (fixed k z free).heap.table agree free.behind one.back)
+        given (fixed k z free).heap (Ptr p) refl (weights-apart p z.heap.table (fixed k z free).heap.table agree free.before one.front) (weights-apart p z.heap.table (fixed k z free).heap.table agree free.after one.back)
 
     abbrev pub master-other : OneOther z (with_master z free).heap at
     master-other = given (with_master z free).heap Master refl refl refl
 
   abbrev pub unfixed-other : {at : ℕ} (p : ℕ) → Fits z → NamedAt z p at → is_pointer z.heap.table p ≡ true → OneOther z (unfixed p z).heap at
   unfixed-other p fits b live =
-      let one = names-one z p b.before b.here b.behind fits b.map b.named in
+      let one = names-one z p b.before b.here b.after fits b.map b.named in
       let same = weights-without p z.heap.table (bare-pointer (live_at z.heap.table p) live) in
       record {
         before = b.before;
         was = b.here.kind;
         is = Free;
         size = b.here.size;
-        behind = b.behind;
+        after = b.after;
         map_was = b.map;
-        map_is = freed-one p z.heap.map b.before b.here b.behind b.map b.named one;
+        map_is = freed-one p z.heap.map b.before b.here b.after b.map b.named one;
         place = b.place;
         same_front = same b.before;
-        same_back = same b.behind;
+        same_back = same b.after;
       }
 
   module _ {at : ℕ} (h : ℕ) (fits : Fits z) (b : BlockOf z h at) where
     -- a handle's block is another, and the table is another for the handle alone
-    abbrev owned : (heap : Heap) (is : Kind) → heap.map ≡ b.before ++ block is b.size ∷ b.behind → weights heap.table b.before ≡ weights z.heap.table b.before → weights heap.table b.behind ≡ weights z.heap.table b.behind → OneOther z heap at
-    owned heap is map front back = record { before = b.before; was = Rel h; is = is; size = b.size; behind = b.behind; map_was = b.map; map_is = map; place = b.place; same_front = front; same_back = back }
+    abbrev owned : (heap : Heap) (is : Kind) → heap.map ≡ b.before ++ block is b.size ∷ b.after → weights heap.table b.before ≡ weights z.heap.table b.before → weights heap.table b.after ≡ weights z.heap.table b.after → OneOther z heap at
+    owned heap is map front back = record { before = b.before; was = Rel h; is = is; size = b.size; after = b.after; map_was = b.map; map_is = map; place = b.place; same_front = front; same_back = back }
 
-    abbrev one_block : NamesOne h b.before b.behind
-    one_block = names-one z h b.before (block (Rel h) b.size) b.behind fits b.map (eqb_same h)
+    abbrev one_block : NamesOne h b.before b.after
+    one_block = names-one z h b.before (block (Rel h) b.size) b.after fits b.map (eqb_same h)
 
-    pub map_freed : freed h z.heap.map ≡ b.before ++ block Free b.size ∷ b.behind
-    map_freed = freed-one h z.heap.map b.before (block (Rel h) b.size) b.behind b.map (eqb_same h) one_block
+    pub map_freed : freed h z.heap.map ≡ b.before ++ block Free b.size ∷ b.after
+    map_freed = freed-one h z.heap.map b.before (block (Rel h) b.size) b.after b.map (eqb_same h) one_block
 
     abbrev pub emptied-other : OneOther z (without_block h z).heap at
     emptied-other =
         let agree = with_live_agrees h EmptyHandle z.heap.table in
-        owned (without_block h z).heap Free map_freed (weights-apart h z.heap.table (without_block h z).heap.table agree b.before one_block.front) (weights-apart h z.heap.table (without_block h z).heap.table agree b.behind one_block.back)
+        owned (without_block h z).heap Free map_freed (weights-apart h z.heap.table (without_block h z).heap.table agree b.before one_block.front) (weights-apart h z.heap.table (without_block h z).heap.table agree b.after one_block.back)
 
     abbrev pub flagged-other : (flags : Flags) → OneOther z (flagged h flags z).heap at
     flagged-other flags =
         let agree = with_live_agrees h (FullHandle flags (bytes_of z.heap.table h)) z.heap.table in
-        owned (flagged h flags z).heap (Rel h) b.map (weights-apart h z.heap.table (flagged h flags z).heap.table agree b.before one_block.front) (weights-apart h z.heap.table (flagged h flags z).heap.table agree b.behind one_block.back)
+        owned (flagged h flags z).heap (Rel h) b.map (weights-apart h z.heap.table (flagged h flags z).heap.table agree b.before one_block.front) (weights-apart h z.heap.table (flagged h flags z).heap.table agree b.after one_block.back)
 
     -- relocated: the old block is free first, with as many bytes as wanted
     abbrev pub emptied_first : ℕ → Heap
@@ -280,7 +280,7 @@ module _ (z : ZoneState) where
     abbrev pub moved_out-other : (k : ℕ) → OneOther z (emptied_first k) at
     moved_out-other k =
         let bytes = resized k (bytes_of z.heap.table h) in
-        owned (emptied_first k) Free map_freed (weights-bytes z.heap.table h bytes b.before) (weights-bytes z.heap.table h bytes b.behind)
+        owned (emptied_first k) Free map_freed (weights-bytes z.heap.table h bytes b.before) (weights-bytes z.heap.table h bytes b.after)
 
     -- and then the free one is the handle's
     abbrev pub moved_in-other : (k : ℕ) {to : ℕ} (free : FreeAt z to) → OneOther (with_heap (emptied_first k) z) (relocated h k z free).heap to
@@ -289,8 +289,8 @@ module _ (z : ZoneState) where
       was = Free;
       is = Rel h;
       size = free.size;
-      behind = freed h free.behind;
-      map_was = freed-around h z.heap.map free.before free.size free.behind free.map;
+      after = freed h free.after;
+      map_was = freed-around h z.heap.map free.before free.size free.after free.map;
       map_is = refl;
       place = (let place = free.place in let same = total_size-marked h free.before in omega arith);
       same_front = refl;

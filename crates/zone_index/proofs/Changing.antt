@@ -1,7 +1,7 @@
 -- What each change leaves of what is remembered of pages.
 use Rattle.std.proofs.Common.{◌≡◌, ℕ, ◌+◌, List, Option}
 use Rattle.mac_base.specs.Heap.{Heap}
-use Rattle.mac_base.specs.ZoneMap.{address_behind}
+use Rattle.mac_base.specs.ZoneMap.{address_after}
 use Rattle.mac_base.specs.ZoneState.{ZoneState, with_heap}
 use Rattle.linked_zone.specs.Changes.{carried_up, cut_in_two, enlarged, extended, held_there, joined_pair, relocated, sunk}
 use Rattle.linked_zone.specs.Fit.{Fits}
@@ -24,13 +24,13 @@ module _ (z : ZoneState) (old new : List (Option Sums)) (a : ArePages z old) whe
   pub pages-sink : {start at : ℕ} (parcel : ParcelUpTo z start at) → Forgets old new (page z.shape start) (page z.shape (at + parcel.here.size)) → ArePages (sunk z parcel) new
   pages-sink {start} {at} parcel = pages-renewed z (sunk z parcel).heap start (at + parcel.here.size) old new a (sink-renews z parcel)
 
-  pub pages-held : {x size n at : ℕ} (can : CanHold z x size n) → at ≡ address_behind z.shape can.before → Forgets old new (page z.shape at) (page z.shape (at + size)) → ArePages (held_there z can) new
+  pub pages-held : {x size n at : ℕ} (can : CanHold z x size n) → at ≡ address_after z.shape can.before → Forgets old new (page z.shape at) (page z.shape (at + size)) → ArePages (held_there z can) new
   pages-held {size = size} {at = at} can place = pages-renewed z (held_there z can).heap at (at + size) old new a (held-renews z can place)
 
-  pub pages-grown : {x size n at : ℕ} (can : CanGrow z x size n) → at ≡ address_behind z.shape can.before → Forgets old new (page z.shape at) (page z.shape (at + size)) → ArePages (enlarged z can) new
+  pub pages-grown : {x size n at : ℕ} (can : CanGrow z x size n) → at ≡ address_after z.shape can.before → Forgets old new (page z.shape at) (page z.shape (at + size)) → ArePages (enlarged z can) new
   pages-grown {size = size} {at = at} can place = pages-renewed z (enlarged z can).heap at (at + size) old new a (grown-renews z can place)
 
-  pub pages-extended : {end : ℕ} → end ≡ address_behind z.shape z.heap.map → Forgets old new (page z.shape end) (page z.shape end) → ArePages (extended z) new
+  pub pages-extended : {end : ℕ} → end ≡ address_after z.shape z.heap.map → Forgets old new (page z.shape end) (page z.shape end) → ArePages (extended z) new
   pages-extended {end} place = pages-renewed z (extended z).heap end end old new a (extended-renews z place)
 
 -- the page in which a block begins was forgotten, and it is another

@@ -9,7 +9,7 @@ use Rattle.mac_base.specs.Gap.{Gap, gaps, is_fixed, lowest_gap, room}
 use Rattle.mac_base.specs.HandleTable.{HandleTable}
 use Rattle.mac_base.specs.Reports.{largest_room}
 use Rattle.mac_base.specs.declared.block.Kind.TheVariants.{Free}
-use Rattle.mac_base.specs.ZoneMap.{ZoneMap, address_behind, block, free_bytes, free_size, is_free, total_size}
+use Rattle.mac_base.specs.ZoneMap.{ZoneMap, address_after, block, free_bytes, free_size, is_free, total_size}
 use Rattle.mac_base.specs.ZoneState.{ZoneState}
 use Rattle.zone_laws.proofs.Arranging.{free_bytes-all_used}
 use Rattle.zone_laws.proofs.GapAppend.{free_bytes-append}
@@ -35,7 +35,7 @@ none-lowest t k m few = by_found (lowest_gap k (gaps t m)) refl
     by_found None none = none
     by_found (Some g) found =
         let is = lowest_gap-is t m k g found in
-        let parts = ap free_bytes is.0.parts ∙ free_bytes-append (g.before ++ g.blocks) g.behind in
+        let parts = ap free_bytes is.0.parts ∙ free_bytes-append (g.before ++ g.blocks) g.after in
         let inner = free_bytes-append g.before g.blocks in
         let fits = is.1 in
         absurd (omega arith)
@@ -68,27 +68,27 @@ module _ (t : HandleTable) where
   ] refl
 
   -- a run has no more
-  run-most : (r : ℕ) (run behind : ZoneMap) → none_fixed t run ≡ true → r + free_bytes run ≤ most_free t r (run ++ behind)
-  run-most r [] behind moves = let least = most-least r behind in omega arith
-  run-most r (e ∷ es) behind moves =
+  run-most : (r : ℕ) (run after : ZoneMap) → none_fixed t run ≡ true → r + free_bytes run ≤ most_free t r (run ++ after)
+  run-most r [] after moves = let least = most-least r after in omega arith
+  run-most r (e ∷ es) after moves =
       let both = and_parts (not (is_fixed t e.kind)) (none_fixed t es) moves in
-      let first = loose_first r e (es ++ behind) (not-true _ both.0) in
-      let rest = run-most (r + free_size e) es behind both.1 in
+      let first = loose_first r e (es ++ after) (not-true _ both.0) in
+      let rest = run-most (r + free_size e) es after both.1 in
       omega arith
 
   -- nor has any gap
-  gap-most : (r : ℕ) (before run behind : ZoneMap) → none_fixed t run ≡ true → ends_fixed t before ≡ true → free_bytes run ≤ most_free t r (before ++ (run ++ behind))
-  gap-most r [] run behind moves ends = let most = run-most r run behind moves in omega arith
-  gap-most r (e ∷ []) run behind moves ends = let first = fixed_first r e (run ++ behind) ends in let rest = run-most 0 run behind moves in omega arith
-  gap-most r (e ∷ f ∷ fs) run behind moves ends = elim (is_fixed t e.kind) as (λ b. is_fixed t e.kind ≡ b → free_bytes run ≤ most_free t r (e ∷ f ∷ (fs ++ (run ++ behind)))) [
-    | true ↦ λ is. let first = fixed_first r e (f ∷ (fs ++ (run ++ behind))) is in let rest = gap-most 0 (f ∷ fs) run behind moves ends in omega arith
-    | false ↦ λ is. let first = loose_first r e (f ∷ (fs ++ (run ++ behind))) is in let rest = gap-most (r + free_size e) (f ∷ fs) run behind moves ends in omega arith
+  gap-most : (r : ℕ) (before run after : ZoneMap) → none_fixed t run ≡ true → ends_fixed t before ≡ true → free_bytes run ≤ most_free t r (before ++ (run ++ after))
+  gap-most r [] run after moves ends = let most = run-most r run after moves in omega arith
+  gap-most r (e ∷ []) run after moves ends = let first = fixed_first r e (run ++ after) ends in let rest = run-most 0 run after moves in omega arith
+  gap-most r (e ∷ f ∷ fs) run after moves ends = elim (is_fixed t e.kind) as (λ b. is_fixed t e.kind ≡ b → free_bytes run ≤ most_free t r (e ∷ f ∷ (fs ++ (run ++ after)))) [
+    | true ↦ λ is. let first = fixed_first r e (f ∷ (fs ++ (run ++ after))) is in let rest = gap-most 0 (f ∷ fs) run after moves ends in omega arith
+    | false ↦ λ is. let first = loose_first r e (f ∷ (fs ++ (run ++ after))) is in let rest = gap-most (r + free_size e) (f ∷ fs) run after moves ends in omega arith
   ] refl
 
   -- the first of some gaps that end with a fixed block
   first-fixed : (r : ℕ) (c : Entry) (bs rest : ZoneMap) → is_fixed t c.kind ≡ true → r + room (first_gap t ((c ∷ bs) ++ rest)) ≤ most_free t r (c ∷ bs)
   first-fixed r c bs rest is =
-      let none : room (first_gap t ((c ∷ bs) ++ rest)) ≡ 0 = ap (λ f. let g = first_gap t (bs ++ rest) in room (cond f (record { before = []; blocks = []; behind = c ∷ (bs ++ rest) }) (record g { blocks = c ∷ g.blocks }))) is in
+      let none : room (first_gap t ((c ∷ bs) ++ rest)) ≡ 0 = ap (λ f. let g = first_gap t (bs ++ rest) in room (cond f (record { before = []; blocks = []; after = c ∷ (bs ++ rest) }) (record g { blocks = c ∷ g.blocks }))) is in
       let first = fixed_first r c bs is in
       omega arith
 
@@ -97,7 +97,7 @@ module _ (t : HandleTable) where
   first-most r c (d ∷ ds) rest ends = elim (is_fixed t c.kind) as (λ b. is_fixed t c.kind ≡ b → r + room (first_gap t ((c ∷ d ∷ ds) ++ rest)) ≤ most_free t r (c ∷ d ∷ ds)) [
     | true ↦ λ is. first-fixed r c (d ∷ ds) rest is
     | false ↦ λ is.
-        let all : room (first_gap t ((c ∷ d ∷ ds) ++ rest)) ≡ free_size c + room (first_gap t ((d ∷ ds) ++ rest)) = ap (λ f. let g = first_gap t ((d ∷ ds) ++ rest) in room (cond f (record { before = []; blocks = []; behind = c ∷ ((d ∷ ds) ++ rest) }) (record g { blocks = c ∷ g.blocks }))) is in
+        let all : room (first_gap t ((c ∷ d ∷ ds) ++ rest)) ≡ free_size c + room (first_gap t ((d ∷ ds) ++ rest)) = ap (λ f. let g = first_gap t ((d ∷ ds) ++ rest) in room (cond f (record { before = []; blocks = []; after = c ∷ ((d ∷ ds) ++ rest) }) (record g { blocks = c ∷ g.blocks }))) is in
         let first = loose_first r c (d ∷ ds) is in
         let later = first-most (r + free_size c) d ds rest ends in
         omega arith
@@ -116,12 +116,12 @@ module _ (t : HandleTable) where
         ((λ fixed. absurd (cc (sym is ∙ fixed))), few-below k (r + free_size b) c cs rest ends (omega arith))
   ] refl
 
-  -- then the gap behind them is the lowest that has
+  -- then the gap after them is the lowest that has
   lowest-begins : (k : ℕ) (before run rest : ZoneMap) → ends_fixed t before ≡ true → none_fixed t run ≡ true → begins_fixed t rest ≡ true → k ≤ free_bytes run → most_free t 0 before < k
-      → lowest_gap k (gaps t (before ++ (run ++ rest))) ≡ Some (record { before = before; blocks = run; behind = rest })
+      → lowest_gap k (gaps t (before ++ (run ++ rest))) ≡ Some (record { before = before; blocks = run; after = rest })
   lowest-begins k [] run rest ends moves above fits few =
       ap (lowest_gap k) (gaps-first t (run ++ rest)) ∙ ap (λ g. lowest_gap k (g ∷ later_gaps t (run ++ rest))) (first_run-is t run rest moves above)
-      ∙ ap (λ c. cond c (Some (record { before = []; blocks = run; behind = rest })) (lowest_gap k (later_gaps t (run ++ rest)))) (le-leb k (free_bytes run) fits)
+      ∙ ap (λ c. cond c (Some (record { before = []; blocks = run; after = rest })) (lowest_gap k (later_gaps t (run ++ rest)))) (le-leb k (free_bytes run) fits)
   lowest-begins k (b ∷ bs) run rest ends moves above fits few =
       let low = first-most 0 b bs (run ++ rest) ends in
       ap (lowest_gap k) (gaps-first t ((b ∷ bs) ++ (run ++ rest)))
@@ -129,7 +129,7 @@ module _ (t : HandleTable) where
       (false_from_ne_true _ (λ h. let le = leb-true k (room (first_gap t ((b ∷ bs) ++ (run ++ rest)))) h in omega arith))
       ∙ later-found t k b bs run rest ends moves above fits (few-below k 0 b bs (run ++ rest) ends few)
 
-  -- one more block behind a run adds no more than its free bytes to the run's
+  -- one more block after a run adds no more than its free bytes to the run's
   open-most : (r : ℕ) (run : ZoneMap) (here : Entry) → none_fixed t run ≡ true → most_free t r (run ++ here ∷ []) ≤ r + free_bytes run + free_size here
   open-most r [] here moves = by_fixed (is_fixed t here.kind) refl
     where
@@ -170,8 +170,8 @@ module _ (t : HandleTable) where
 -- no gap has more than the gap with most
 pub gap-within : (z : ZoneState) (start : ℕ) (rest : RestAt z start) → ends_fixed z.heap.table rest.before ≡ true → free_bytes rest.blocks ≤ largest_room z.heap.table z.heap.map
 gap-within z start rest below =
-    let most = gap-most z.heap.table 0 rest.before rest.blocks rest.behind rest.moves below in
-    let whole : most_free z.heap.table 0 z.heap.map ≡ most_free z.heap.table 0 (rest.before ++ (rest.blocks ++ rest.behind)) = ap (most_free z.heap.table 0) rest.map in
+    let most = gap-most z.heap.table 0 rest.before rest.blocks rest.after rest.moves below in
+    let whole : most_free z.heap.table 0 z.heap.map ≡ most_free z.heap.table 0 (rest.before ++ (rest.blocks ++ rest.after)) = ap (most_free z.heap.table 0) rest.map in
     let all = most-gaps z.heap.table (λ (w : Weight). w.free) free_bytes refl (λ e es. refl) z.heap.map in
     omega arith
 
@@ -182,16 +182,16 @@ module _ (z : ZoneState) (k : ℕ) (some : 0 < k) (at start : ℕ) (r : Reaches 
   abbrev last : LastRun t (r.entry).before
   last = last_run t (r.entry).before
 
-  abbrev first : FirstRun t ((r.entry).here ∷ (r.entry).behind)
-  first = first_run t ((r.entry).here ∷ (r.entry).behind)
+  abbrev first : FirstRun t ((r.entry).here ∷ (r.entry).after)
+  first = first_run t ((r.entry).here ∷ (r.entry).after)
 
   abbrev run : ZoneMap
   run = last.blocks ++ first.blocks
 
-  parts : z.heap.map ≡ last.before ++ (run ++ first.behind)
+  parts : z.heap.map ≡ last.before ++ (run ++ first.after)
   parts =
-      (r.entry).map ∙ ap (λ m. m ++ ((r.entry).here ∷ (r.entry).behind)) last.parts ∙ ap (λ m. (last.before ++ last.blocks) ++ m) first.parts
-      ∙ append_assoc last.before last.blocks (first.blocks ++ first.behind) ∙ ap (λ m. last.before ++ m) (sym (append_assoc last.blocks first.blocks first.behind))
+      (r.entry).map ∙ ap (λ m. m ++ ((r.entry).here ∷ (r.entry).after)) last.parts ∙ ap (λ m. (last.before ++ last.blocks) ++ m) first.parts
+      ∙ append_assoc last.before last.blocks (first.blocks ++ first.after) ∙ ap (λ m. last.before ++ m) (sym (append_assoc last.blocks first.blocks first.after))
 
   moves : none_fixed t run ≡ true
   moves = list_all-append (λ (e : Entry). not (is_fixed t e.kind)) last.blocks first.blocks ∙ and_from _ _ last.moves first.moves
@@ -201,38 +201,38 @@ module _ (z : ZoneState) (k : ℕ) (some : 0 < k) (at start : ℕ) (r : Reaches 
       let few = r.few in
       let enough = r.enough in
       let mine = last-room t k last.before last.blocks (r.entry).here last.below last.moves (subst (λ m. most_free t 0 m < k) last.parts few) (subst (λ m. k ≤ most_free t 0 (m ++ (r.entry).here ∷ [])) last.parts enough) in
-      let here = run-free t (r.entry).here (r.entry).behind in
+      let here = run-free t (r.entry).here (r.entry).after in
       let both = free_bytes-append last.blocks first.blocks in
       omega arith
 
-  lowest_is : lowest_gap k (gaps t z.heap.map) ≡ Some (record { before = last.before; blocks = run; behind = first.behind })
+  lowest_is : lowest_gap k (gaps t z.heap.map) ≡ Some (record { before = last.before; blocks = run; after = first.after })
   lowest_is =
       let few = r.few in
       let prefix = most-prefix t 0 last.before last.blocks in
       let same = ap (most_free t 0) last.parts in
-      ap (λ m. lowest_gap k (gaps t m)) parts ∙ lowest-begins t k last.before run first.behind last.below moves first.above has_room (omega arith)
+      ap (λ m. lowest_gap k (gaps t m)) parts ∙ lowest-begins t k last.before run first.after last.below moves first.above has_room (omega arith)
 
   -- the gap begins where its first blocks do
-  start_of : ((front : FrontAt z at) → start + total_size front.blocks ≡ at) → start ≡ address_behind z.shape last.before
+  start_of : ((front : FrontAt z at) → start + total_size front.blocks ≡ at) → start ≡ address_after z.shape last.before
   start_of begins =
       let there = begins (front_split z at (split_entry z at r.entry)) in
       let place = (r.entry).place in
       let all = ap total_size last.parts ∙ total_size-append last.before last.blocks in
       omega arith
 
-  first_free : start ≡ address_behind z.shape last.before → (free : ℕ) → FirstFree (run ++ first.behind) start free → IsLowestGap z k free
+  first_free : start ≡ address_after z.shape last.before → (free : ℕ) → FirstFree (run ++ first.after) start free → IsLowestGap z k free
   first_free start_is free f =
       let low : total_size f.passed < total_size run = elim (nat_lt (total_size f.passed) (total_size run)) as (λ b. nat_lt (total_size f.passed) (total_size run) ≡ b → total_size f.passed < total_size run) [
         | true ↦ λ is. grind (arith, nat_tests)
         | false ↦ λ is.
             let high : total_size run ≤ total_size f.passed = grind (arith, nat_tests) in
-            let none = none-among run first.behind f.passed f.size f.behind f.splits f.used high in
+            let none = none-among run first.after f.passed f.size f.after f.splits f.used high in
             let enough = has_room in
             absurd (omega (arith, none, enough, some))
       ] refl in
-      let among = free-among run first.behind f.passed f.size f.behind f.splits low in
+      let among = free-among run first.after f.passed f.size f.after f.splits low in
       record {
-        gap = record { before = last.before; blocks = run; behind = first.behind };
+        gap = record { before = last.before; blocks = run; after = first.after };
         lowest = lowest_is;
         first = record {
           used = f.passed;
@@ -244,32 +244,32 @@ module _ (z : ZoneState) (k : ℕ) (some : 0 < k) (at start : ℕ) (r : Reaches 
         };
       }
 
-  none_left : none_free (run ++ first.behind) ≡ true → lowest_gap k (gaps t z.heap.map) ≡ None
+  none_left : none_free (run ++ first.after) ≡ true → lowest_gap k (gaps t z.heap.map) ≡ None
   none_left used =
-      let both = free_bytes-append run first.behind in
-      let none = free_bytes-all_used (run ++ first.behind) used in
+      let both = free_bytes-append run first.after in
+      let none = free_bytes-all_used (run ++ first.after) used in
       let enough = has_room in
       absurd (omega (arith, both, none, enough, some))
 
   module _ (begins : (front : FrontAt z at) → start + total_size front.blocks ≡ at) where
     pub split_start : SplitAt z start
-    split_start = record { before = last.before; behind = run ++ first.behind; map = parts; place = start_of begins }
+    split_start = record { before = last.before; after = run ++ first.after; map = parts; place = start_of begins }
 
-    pub lowest-found : (o : Option ℕ) → IfSome o (λ free. (split : SplitAt z start) → FirstFree split.behind start free) → IfNone o ((split : SplitAt z start) → IsTrue (none_free split.behind))
+    pub lowest-found : (o : Option ℕ) → IfSome o (λ free. (split : SplitAt z start) → FirstFree split.after start free) → IfNone o ((split : SplitAt z start) → IsTrue (none_free split.after))
         → MatchOption o (lowest_gap k (gaps t z.heap.map) ≡ None) (λ free. IsLowestGap z k free)
     unfolding split_start
     lowest-found None next none = none_left (none split_start)
     lowest-found (Some free) next none = first_free (start_of begins) free (next split_start)
 
   -- where none of the blocks before it is free, the block is the first free one of that gap
-  pub first-found : none_free (r.entry).before ≡ true → (size : ℕ) → (r.entry).here ≡ block Free size → start ≡ address_behind z.shape last.before → IsLowestGap z k at
+  pub first-found : none_free (r.entry).before ≡ true → (size : ℕ) → (r.entry).here ≡ block Free size → start ≡ address_after z.shape last.before → IsLowestGap z k at
   first-found used size is start_is =
       let both = and_parts (none_free last.before) (none_free last.blocks) (sym (list_all-append (λ (e : Entry). not (is_free e.kind)) last.before last.blocks) ∙ ap none_free (sym last.parts) ∙ used) in
       first_free start_is at (record {
         passed = last.blocks;
         size = size;
-        behind = (r.entry).behind;
-        splits = append_assoc last.blocks first.blocks first.behind ∙ ap (λ m. last.blocks ++ m) (sym first.parts ∙ ap (λ e. e ∷ (r.entry).behind) is);
+        after = (r.entry).after;
+        splits = append_assoc last.blocks first.blocks first.after ∙ ap (λ m. last.blocks ++ m) (sym first.parts ∙ ap (λ e. e ∷ (r.entry).after) is);
         used = both.1;
         place = (let place = (r.entry).place in let all = ap total_size last.parts ∙ total_size-append last.before last.blocks in omega (arith, place, all, start_is));
       })
@@ -295,14 +295,14 @@ module _ (t : HandleTable) where
   ] refl
 
 -- the zone's lowest free block, where it alone has room: its gap is the lowest that has
-pub first-large : (z : ZoneState) (k : ℕ) → 0 < k → (from at : ℕ) → from ≡ address_behind z.shape [] → (f : FirstFree z.heap.map from at) → k ≤ f.size → IsLowestGap z k at
+pub first-large : (z : ZoneState) (k : ℕ) → 0 < k → (from at : ℕ) → from ≡ address_after z.shape [] → (f : FirstFree z.heap.map from at) → k ≤ f.size → IsLowestGap z k at
 first-large z k some from at begins f large =
     let t = z.heap.table in
     let few = idle-most t f.passed f.used in
     let enough = here-most t 0 f.passed f.size in
     let r : Reaches z k at = record {
-      entry = record { before = f.passed; here = block Free f.size; behind = f.behind; map = f.splits; place = (let place = f.place in omega arith) };
+      entry = record { before = f.passed; here = block Free f.size; after = f.after; map = f.splits; place = (let place = f.place in omega arith) };
       few = omega arith;
       enough = omega arith;
     } in
-    first-found z k some at (address_behind z.shape (last_run t f.passed).before) r f.used f.size refl refl
+    first-found z k some at (address_after z.shape (last_run t f.passed).before) r f.used f.size refl refl

@@ -10,7 +10,7 @@ use Rattle.mac_base.specs.declared.block.Entry.{Entry}
 use Rattle.mac_base.specs.declared.block.Kind.TheVariants.{Free}
 use Rattle.mac_base.specs.HandleTable.{HandleTable}
 use Rattle.mac_base.specs.HeadKind.{zone_header}
-use Rattle.mac_base.specs.ZoneMap.{ZoneMap, address_behind, block, free_size, has_free, is_free, largest_free, total_size}
+use Rattle.mac_base.specs.ZoneMap.{ZoneMap, address_after, block, free_size, has_free, is_free, largest_free, total_size}
 use Rattle.mac_base.specs.ZoneState.{ZoneState}
 use Rattle.zone_laws.proofs.Maps.{total_size-append}
 use Rattle.linked_zone.specs.Fit.{HasSizes}
@@ -72,23 +72,23 @@ larger-none : (x : Largest) → larger x no_block ≡ x
 larger-none x = ap of_size (let e : max x.bytes 0 ≡ x.bytes = omega arith in e)
 
 -- the next free block after some blocks
-abbrev pub next_free : (z : ZoneState) (before behind : ZoneMap) {from at : ℕ} → z.heap.map ≡ before ++ behind → from ≡ address_behind z.shape before → FirstFree behind from at → FreeAt z at
-next_free z before behind map place f = record {
+abbrev pub next_free : (z : ZoneState) (before after : ZoneMap) {from at : ℕ} → z.heap.map ≡ before ++ after → from ≡ address_after z.shape before → FirstFree after from at → FreeAt z at
+next_free z before after map place f = record {
   before = before ++ f.passed;
   size = f.size;
-  behind = f.behind;
-  map = map ∙ ap (λ m. before ++ m) f.splits ∙ sym (append_assoc before f.passed (block Free f.size ∷ f.behind));
+  after = f.after;
+  map = map ∙ ap (λ m. before ++ m) f.splits ∙ sym (append_assoc before f.passed (block Free f.size ∷ f.after));
   place = (let there = f.place in let all = total_size-append before f.passed in omega arith);
 }
 
 -- and the blocks up to its end
-passed_map : (z : ZoneState) (before behind : ZoneMap) {from at : ℕ} → z.heap.map ≡ before ++ behind → (f : FirstFree behind from at) (size : ℕ) → size ≡ f.size → z.heap.map ≡ (before ++ (f.passed ++ block Free size ∷ [])) ++ f.behind
-passed_map z before behind map f size is =
-    map ∙ ap (λ m. before ++ m) f.splits ∙ ap (λ n. before ++ (f.passed ++ block Free n ∷ f.behind)) (sym is)
-    ∙ ap (λ m. before ++ m) (sym (append_assoc f.passed (block Free size ∷ []) f.behind)) ∙ sym (append_assoc before (f.passed ++ block Free size ∷ []) f.behind)
+passed_map : (z : ZoneState) (before after : ZoneMap) {from at : ℕ} → z.heap.map ≡ before ++ after → (f : FirstFree after from at) (size : ℕ) → size ≡ f.size → z.heap.map ≡ (before ++ (f.passed ++ block Free size ∷ [])) ++ f.after
+passed_map z before after map f size is =
+    map ∙ ap (λ m. before ++ m) f.splits ∙ ap (λ n. before ++ (f.passed ++ block Free n ∷ f.after)) (sym is)
+    ∙ ap (λ m. before ++ m) (sym (append_assoc f.passed (block Free size ∷ []) f.after)) ∙ sym (append_assoc before (f.passed ++ block Free size ∷ []) f.after)
 
-passed_place : (z : ZoneState) (before behind : ZoneMap) {from at : ℕ} → from ≡ address_behind z.shape before → (f : FirstFree behind from at) (size : ℕ) → at + size ≡ address_behind z.shape (before ++ (f.passed ++ block Free size ∷ []))
-passed_place z before behind place f size =
+passed_place : (z : ZoneState) (before after : ZoneMap) {from at : ℕ} → from ≡ address_after z.shape before → (f : FirstFree after from at) (size : ℕ) → at + size ≡ address_after z.shape (before ++ (f.passed ++ block Free size ∷ []))
+passed_place z before after place f size =
     let there = f.place in
     let outer = total_size-append before (f.passed ++ block Free size ∷ []) in
     let inner = total_size-append f.passed (block Free size ∷ []) in
@@ -97,12 +97,12 @@ passed_place z before behind place f size =
 -- it has bytes, and ends within the zone
 module _ (z : ZoneState) (at : ℕ) (f : FreeAt z at) where
   abbrev free_entry : EntryAt z at
-  free_entry = record { before = f.before; here = block Free f.size; behind = f.behind; map = f.map; place = f.place }
+  free_entry = record { before = f.before; here = block Free f.size; after = f.after; map = f.map; place = f.place }
 
   pub free-some : HasSizes z → 0 < f.size
   free-some sizes = entry_size z at free_entry sizes
 
-  pub free-within : at + f.size ≤ address_behind z.shape z.heap.map
+  pub free-within : at + f.size ≤ address_after z.shape z.heap.map
   free-within = entry_within z at free_entry
 
 -- ---- the largest of a leaf
@@ -110,9 +110,9 @@ module _ (z : ZoneState) (at : ℕ) (f : FreeAt z at) where
 -- Of the blocks below an address those that begin between two places have so large a free one.
 pub record Counted (z : ZoneState) (low high from : ℕ) (x : Largest) : Type 0 where
   pub before : ZoneMap
-  pub behind : ZoneMap
-  pub map : z.heap.map ≡ before ++ behind
-  pub place : from ≡ address_behind z.shape before
+  pub after : ZoneMap
+  pub map : z.heap.map ≡ before ++ after
+  pub place : from ≡ address_after z.shape before
   pub floor : low ≤ zone_header + total_size before
   pub sum : x ≡ largest_of (begun low high zone_header (weights z.heap.table before))
 
@@ -122,7 +122,7 @@ none_counted z sizes low high start at is f =
     let e = f.block in
     record {
       before = e.before;
-      behind = e.here ∷ e.behind;
+      after = e.here ∷ e.after;
       map = e.map;
       place = e.place;
       floor = (let place = e.place in let reached = f.reached in omega arith);
@@ -138,43 +138,43 @@ module _ (z : ZoneState) (low high from : ℕ) (x : Largest) (c : Counted z low 
   t = z.heap.table
 
   abbrev pub counted_split : SplitAt z from
-  counted_split = record { before = c.before; behind = c.behind; map = c.map; place = c.place }
+  counted_split = record { before = c.before; after = c.after; map = c.map; place = c.place }
 
   -- that of the leaf is that of these and of those after them
-  counted_all : largest_of (begun low high zone_header (weights t z.heap.map)) ≡ larger x (largest_of (begun low high (zone_header + total_size c.before) (weights t c.behind)))
+  counted_all : largest_of (begun low high zone_header (weights t z.heap.map)) ≡ larger x (largest_of (begun low high (zone_header + total_size c.before) (weights t c.after)))
   counted_all =
-      ap (λ m. largest_of (begun low high zone_header (weights t m))) c.map ∙ sum-parts summing_largest largest_are t low high zone_header c.before c.behind
-      ∙ ap (λ y. larger y (largest_of (begun low high (zone_header + total_size c.before) (weights t c.behind)))) (sym c.sum)
+      ap (λ m. largest_of (begun low high zone_header (weights t m))) c.map ∙ sum-parts summing_largest largest_are t low high zone_header c.before c.after
+      ∙ ap (λ y. larger y (largest_of (begun low high (zone_header + total_size c.before) (weights t c.after)))) (sym c.sum)
 
   -- none of those after them is free
-  pub counted-last : none_free c.behind ≡ true → x ≡ largest_of (begun low high zone_header (weights t z.heap.map))
-  counted-last used = sym (counted_all ∙ ap (larger x) (used-none t low high (zone_header + total_size c.before) c.behind used) ∙ larger-none x)
+  pub counted-last : none_free c.after ≡ true → x ≡ largest_of (begun low high zone_header (weights t z.heap.map))
+  counted-last used = sym (counted_all ∙ ap (larger x) (used-none t low high (zone_header + total_size c.before) c.after used) ∙ larger-none x)
 
-  module _ (at : ℕ) (f : FirstFree c.behind from at) where
+  module _ (at : ℕ) (f : FirstFree c.after from at) where
     abbrev pub counted_free : FreeAt z at
-    counted_free = next_free z c.before c.behind c.map c.place f
+    counted_free = next_free z c.before c.after c.map c.place f
 
     pub counted-above : z.shape.base + low ≤ at
     counted-above = let floor = c.floor in let place = c.place in let there = f.place in omega arith
 
     -- the next free one begins after the leaf
-    pub counted-behind : z.shape.base + high ≤ at → x ≡ largest_of (begun low high zone_header (weights t z.heap.map))
-    counted-behind past = sym (counted_all ∙ ap (larger x) none ∙ larger-none x)
+    pub counted-after : z.shape.base + high ≤ at → x ≡ largest_of (begun low high zone_header (weights t z.heap.map))
+    counted-after past = sym (counted_all ∙ ap (larger x) none ∙ larger-none x)
       where
-        none : largest_of (begun low high (zone_header + total_size c.before) (weights t c.behind)) ≡ no_block
+        none : largest_of (begun low high (zone_header + total_size c.before) (weights t c.after)) ≡ no_block
         none =
             ap (λ m. largest_of (begun low high (zone_header + total_size c.before) (weights t m))) f.splits
-            ∙ sum-parts summing_largest largest_are t low high (zone_header + total_size c.before) f.passed (block Free f.size ∷ f.behind)
-            ∙ ap (λ y. larger y (largest_of (begun low high (zone_header + total_size c.before + total_size f.passed) (weights t (block Free f.size ∷ f.behind))))) (used-none t low high (zone_header + total_size c.before) f.passed f.used)
-            ∙ ap (λ ws. larger no_block (largest_of ws)) (begun-above low high (zone_header + total_size c.before + total_size f.passed) (weights t (block Free f.size ∷ f.behind)) (let place = c.place in let there = f.place in omega arith))
+            ∙ sum-parts summing_largest largest_are t low high (zone_header + total_size c.before) f.passed (block Free f.size ∷ f.after)
+            ∙ ap (λ y. larger y (largest_of (begun low high (zone_header + total_size c.before + total_size f.passed) (weights t (block Free f.size ∷ f.after))))) (used-none t low high (zone_header + total_size c.before) f.passed f.used)
+            ∙ ap (λ ws. larger no_block (largest_of ws)) (begun-above low high (zone_header + total_size c.before + total_size f.passed) (weights t (block Free f.size ∷ f.after)) (let place = c.place in let there = f.place in omega arith))
 
     -- or it is the leaf's
     pub counted-on : (size : ℕ) → size ≡ f.size → at < z.shape.base + high → Counted z low high (at + size) (larger x (of_size size))
     counted-on size is inside = record {
       before = c.before ++ (f.passed ++ block Free size ∷ []);
-      behind = f.behind;
-      map = passed_map z c.before c.behind c.map f size is;
-      place = passed_place z c.before c.behind c.place f size;
+      after = f.after;
+      map = passed_map z c.before c.after c.map f size is;
+      place = passed_place z c.before c.after c.place f size;
       floor = (let floor = c.floor in let all = total_size-append c.before (f.passed ++ block Free size ∷ []) in omega arith);
       sum = sym (sum-parts summing_largest largest_are t low high zone_header c.before (f.passed ++ block Free size ∷ [])
           ∙ ap (λ y. larger y (largest_of (begun low high (zone_header + total_size c.before) (weights t (f.passed ++ block Free size ∷ []))))) (sym c.sum)
@@ -201,7 +201,7 @@ module _ (z : ZoneState) (sizes : HasSizes z) (start k : ℕ) (b : SmallBelow z 
       let low = b.low in
       let all = filling-all z 0 (start - z.shape.base) e.before (record {
         before = [];
-        behind = e.here ∷ e.behind;
+        after = e.here ∷ e.after;
         map = e.map;
         below = tt;
         floor = omega arith;
@@ -211,7 +211,7 @@ module _ (z : ZoneState) (sizes : HasSizes z) (start k : ℕ) (b : SmallBelow z 
       let same = ap (λ ws. (largest_of ws).bytes) all ∙ largest_of-all z.heap.table e.before in
       let small = b.small in
       record {
-        split = record { before = e.before; behind = e.here ∷ e.behind; map = e.map; place = e.place };
+        split = record { before = e.before; after = e.here ∷ e.after; map = e.map; place = e.place };
         none = small-none k e.before (omega arith);
       }
 
@@ -225,12 +225,12 @@ module _ (z : ZoneState) (sizes : HasSizes z) (start k : ℕ) (b : SmallBelow z 
 
 module _ (z : ZoneState) (k from : ℕ) (n : NoneLarge z k from) where
   -- of all, where none of those after them is free
-  pub large-none : none_free n.split.behind ≡ true → none_large k z.heap.map ≡ true
-  large-none used = ap (none_large k) n.split.map ∙ all_both (λ (e : Entry). not (has_free k e)) n.split.before n.split.behind n.none (used-small k n.split.behind used)
+  pub large-none : none_free n.split.after ≡ true → none_large k z.heap.map ≡ true
+  large-none used = ap (none_large k) n.split.map ∙ all_both (λ (e : Entry). not (has_free k e)) n.split.before n.split.after n.none (used-small k n.split.after used)
 
-  module _ (at : ℕ) (f : FirstFree n.split.behind from at) where
+  module _ (at : ℕ) (f : FirstFree n.split.after from at) where
     abbrev pub large_free : FreeAt z at
-    large_free = next_free z n.split.before n.split.behind n.split.map n.split.place f
+    large_free = next_free z n.split.before n.split.after n.split.map n.split.place f
 
     passed_small : none_large k (n.split.before ++ f.passed) ≡ true
     passed_small = all_both (λ (e : Entry). not (has_free k e)) n.split.before f.passed n.none (used-small k f.passed f.used)
@@ -244,9 +244,9 @@ module _ (z : ZoneState) (k from : ℕ) (n : NoneLarge z k from) where
     large-on size is few = record {
       split = record {
         before = n.split.before ++ (f.passed ++ block Free size ∷ []);
-        behind = f.behind;
-        map = passed_map z n.split.before n.split.behind n.split.map f size is;
-        place = passed_place z n.split.before n.split.behind n.split.place f size;
+        after = f.after;
+        map = passed_map z n.split.before n.split.after n.split.map f size is;
+        place = passed_place z n.split.before n.split.after n.split.place f size;
       };
       none = all_both (λ (e : Entry). not (has_free k e)) n.split.before (f.passed ++ block Free size ∷ []) n.none
           (all_both (λ (e : Entry). not (has_free k e)) f.passed (block Free size ∷ []) (used-small k f.passed f.used) (small-none k (block Free size ∷ []) (omega arith)));
@@ -276,5 +276,5 @@ module _ (z : ZoneState) (kept : Stored Largest) (fresh : AllFresh summing_large
       small-none k z.heap.map (omega arith)
 
 -- the zone's first free block, where it alone has them
-pub first-lowest : (z : ZoneState) (k from at : ℕ) → from ≡ address_behind z.shape [] → (f : FirstFree z.heap.map from at) → k ≤ f.size → LowestAt z k at
-first-lowest z k from at begins f enough = large-found z k from (record { split = record { before = []; behind = z.heap.map; map = refl; place = begins }; none = refl }) at f enough
+pub first-lowest : (z : ZoneState) (k from at : ℕ) → from ≡ address_after z.shape [] → (f : FirstFree z.heap.map from at) → k ≤ f.size → LowestAt z k at
+first-lowest z k from at begins f enough = large-found z k from (record { split = record { before = []; after = z.heap.map; map = refl; place = begins }; none = refl }) at f enough

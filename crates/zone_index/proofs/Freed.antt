@@ -7,7 +7,7 @@ use Rattle.mac_base.specs.declared.block.Kind.{Kind}
 use Rattle.mac_base.specs.declared.block.Kind.TheVariants.{Free, Rel}
 use Rattle.mac_base.specs.Gap.{is_fixed}
 use Rattle.mac_base.specs.HandleTable.{EmptyHandle, bytes_of, is_locked, resized}
-use Rattle.mac_base.specs.ZoneMap.{ZoneMap, address_behind, block, is_named, total_size}
+use Rattle.mac_base.specs.ZoneMap.{ZoneMap, address_after, block, is_named, total_size}
 use Rattle.mac_base.specs.ZoneState.{ZoneState}
 use Rattle.zone_laws.proofs.GapApart.{sizes_possible}
 use Rattle.zone_laws.proofs.Tables.{eqb_same}
@@ -36,13 +36,13 @@ module _ (r : Rule) (z : ZoneState) (marks : List ℕ) (are : AreMarked r.test z
       let now = r.test new.heap.table in
       let none = r.free new.heap.table in
       let old = r.test z.heap.table in
-      cleared-there r.test z new marks at (total_size named.before) shape sizes (record { before = named.before; here = named.here; behind = named.behind; map = named.map; place = named.place }) (omega arith) inside
+      cleared-there r.test z new marks at (total_size named.before) shape sizes (record { before = named.before; here = named.here; after = named.after; map = named.map; place = named.place }) (omega arith) inside
       (λ n h. passing-freed now old (kinds-within r new.heap.table z.heap.table lives) none x z.heap.map n (subst (λ m. HasPassing now m n) map h))
-      (λ h. freed-gone now none z.shape x named.before named.here named.behind (ap (sizes_possible z.shape) (sym named.map) ∙ sizes) named.named (subst (λ m. HasPassing now m (total_size named.before)) (map ∙ ap (freed x) named.map) h)) are
+      (λ h. freed-gone now none z.shape x named.before named.here named.after (ap (sizes_possible z.shape) (sym named.map) ∙ sizes) named.named (subst (λ m. HasPassing now m (total_size named.before)) (map ∙ ap (freed x) named.map) h)) are
 
   pub emptied-marked : (h at : ℕ) → HasSizes z → BlockOf z h at → place z.shape at ≤ z.shape.limit / 4 → AreMarked r.test (without_block h z) (set marks (place z.shape at) 0)
   emptied-marked h at sizes b inside = freed-marked (without_block h z) h at refl (lives-with_live r h EmptyHandle z.heap.table r.empty) refl sizes
-      (record { before = b.before; here = block (Rel h) b.size; behind = b.behind; map = b.map; place = b.place; named = eqb_same h }) inside
+      (record { before = b.before; here = block (Rel h) b.size; after = b.after; map = b.map; place = b.place; named = eqb_same h }) inside
 
   pub unfixed-marked : (p at : ℕ) → HasSizes z → NamedAt z p at → place z.shape at ≤ z.shape.limit / 4 → AreMarked r.test (unfixed p z) (set marks (place z.shape at) 0)
   unfixed-marked p at sizes named inside = freed-marked (unfixed p z) p at refl (lives-without r p z.heap.table) refl sizes named inside
@@ -62,8 +62,8 @@ module _ (z : ZoneState) (marks : List ℕ) (are : AreMarked is_fixed z marks) w
       let within = kinds-within fixes new.heap.table z.heap.table (lives-with_bytes fixes h (resized n (bytes_of z.heap.table h)) z.heap.table) in
       still-marked is_fixed z new marks refl (λ k f.
       passing-freed p (is_fixed z.heap.table) within refl h z.heap.map k
-      (subst (λ m. HasPassing p m k) (sym (ap (freed h) free.map ∙ freed-append h free.before (block Free free.size ∷ free.behind)))
-      (passing-replaced p p (λ k is. is) refl (freed h free.before) (block Free free.size ∷ []) (block (Rel h) free.size ∷ []) (freed h free.behind) refl
+      (subst (λ m. HasPassing p m k) (sym (ap (freed h) free.map ∙ freed-append h free.before (block Free free.size ∷ free.after)))
+      (passing-replaced p p (λ k is. is) refl (freed h free.before) (block Free free.size ∷ []) (block (Rel h) free.size ∷ []) (freed h free.after) refl
       (λ j g. elim g [
         | inl here ↦ absurd (false≢true (sym unlocked ∙ within (Rel h) here.1))
         | inr later ↦ absurd later.2
@@ -87,15 +87,15 @@ module _ (z : ZoneState) (marks : List ℕ) (are : AreMarked may_go z marks) (si
   now = set cleared (place z.shape at) (slice_index marks (place z.shape old))
 
   abbrev free_entry : EntryAt z at
-  free_entry = record { before = free.before; here = block Free free.size; behind = free.behind; map = free.map; place = free.place }
+  free_entry = record { before = free.before; here = block Free free.size; after = free.after; map = free.map; place = free.place }
 
   abbrev old_entry : EntryAt z old
-  old_entry = record { before = b.before; here = block (Rel h) b.size; behind = b.behind; map = b.map; place = b.place }
+  old_entry = record { before = b.before; here = block (Rel h) b.size; after = b.after; map = b.map; place = b.place }
 
   -- another block passed before
-  other-block : (other k : ℕ) → other ≡ address_behind z.shape [] + k → HasPassing p (freed h free.before ++ block Free free.size ∷ freed h free.behind) k → 1 ≤ slice_index now (place z.shape other)
+  other-block : (other k : ℕ) → other ≡ address_after z.shape [] + k → HasPassing p (freed h free.before ++ block Free free.size ∷ freed h free.after) k → 1 ≤ slice_index now (place z.shape other)
   other-block other k there f =
-      let gone = subst (λ m. HasPassing p m k) (sym (ap (freed h) free.map ∙ freed-append h free.before (block Free free.size ∷ free.behind))) f in
+      let gone = subst (λ m. HasPassing p m k) (sym (ap (freed h) free.map ∙ freed-append h free.before (block Free free.size ∷ free.after))) f in
       let was = to-passing may_go z other k there (passing-freed p (may_go z.heap.table) within refl h z.heap.map k gone) in
       let whole = are.places in
       written-read cleared (place z.shape at) (place z.shape other) _ (let long = length-set marks (place z.shape old) 0 in omega arith)
@@ -104,7 +104,7 @@ module _ (z : ZoneState) (marks : List ℕ) (are : AreMarked may_go z marks) (si
       (λ same.
       let is = places-apart z old other sizes old_entry was.entry same in
       let here = b.place in
-      absurd (freed-gone p refl z.shape h b.before (block (Rel h) b.size) b.behind (ap (sizes_possible z.shape) (sym b.map) ∙ sizes) (eqb_same h)
+      absurd (freed-gone p refl z.shape h b.before (block (Rel h) b.size) b.after (ap (sizes_possible z.shape) (sym b.map) ∙ sizes) (eqb_same h)
       (subst (λ m. HasPassing p (freed h m) (total_size b.before)) b.map (subst (HasPassing p (freed h z.heap.map)) (let i : k ≡ total_size b.before = omega arith in i) gone))))
       (λ _. are.marked other was))
 
@@ -114,7 +114,7 @@ module _ (z : ZoneState) (marks : List ℕ) (are : AreMarked may_go z marks) (si
       marked : (other : ℕ) → PassesAt may_go new other → 1 ≤ slice_index now (place z.shape other)
       marked other f =
           let k = of-passing may_go new other f in
-          elim (passing-split p (freed h free.before) (block (Rel h) free.size ∷ freed h free.behind) k.0 k.2) [
+          elim (passing-split p (freed h free.before) (block (Rel h) free.size ∷ freed h free.after) k.0 k.2) [
             | inl low ↦ other-block other k.0 k.1 (passing-front p (freed h free.before) _ k.0 low)
             | inr up ↦ elim up.2 [
               | inl here ↦

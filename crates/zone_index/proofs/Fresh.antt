@@ -16,7 +16,7 @@ use Rattle.zone_laws.proofs.Tables.{AgreeBut, live_at-with_live_same, with_live_
 use Rattle.linked_zone.specs.Changes.{fixed, flagged, with_master}
 use Rattle.linked_zone.specs.Fit.{Fits, HasSizes}
 use Rattle.linked_zone.specs.Places.{BlockOf, EntryAt, FreeAt}
-use Rattle.linked_zone.proofs.ChangeEmptied.{emptied-none_before, emptied-none_behind}
+use Rattle.linked_zone.proofs.ChangeEmptied.{emptied-none_before, emptied-none_after}
 use Rattle.zone_index.specs.Marks.{AreMarked, place}
 use Rattle.zone_index.proofs.Passing.{HasPassing, passing-back, passing-front, passing-only, passing-split, passing-within}
 use Rattle.zone_index.proofs.MarksKept.{OneNew, cleared-there, marked-there}
@@ -41,7 +41,7 @@ others-within r new old h others (e ∷ es) n none f =
 
 -- a free block is a fixed one
 module _ (z : ZoneState) (marks : List ℕ) (are : AreMarked is_fixed z marks) where
-  taken-marked : (new : ZoneState) (at : ℕ) (free : FreeAt z at) (kind : Kind) → new.shape ≡ z.shape → Lives fixes new.heap.table z.heap.table → new.heap.map ≡ free.before ++ block kind free.size ∷ free.behind → place z.shape at ≤ z.shape.limit / 4
+  taken-marked : (new : ZoneState) (at : ℕ) (free : FreeAt z at) (kind : Kind) → new.shape ≡ z.shape → Lives fixes new.heap.table z.heap.table → new.heap.map ≡ free.before ++ block kind free.size ∷ free.after → place z.shape at ≤ z.shape.limit / 4
       → AreMarked is_fixed new (set marks (place z.shape at) 1)
   taken-marked new at free kind shape lives map inside =
       let here = free.place in
@@ -49,7 +49,7 @@ module _ (z : ZoneState) (marks : List ℕ) (are : AreMarked is_fixed z marks) w
       let old = is_fixed z.heap.table in
       marked-there is_fixed z new marks at (total_size free.before) shape (omega arith) inside (λ n h.
       subst (λ m. HasPassing old m n ⊎ (n ≡ total_size free.before)) (sym free.map)
-      (passing-added now old (kinds-within fixes new.heap.table z.heap.table lives) refl free.before (block Free free.size ∷ []) (block kind free.size ∷ []) free.behind refl (λ k f. elim f [
+      (passing-added now old (kinds-within fixes new.heap.table z.heap.table lives) refl free.before (block Free free.size ∷ []) (block kind free.size ∷ []) free.after refl (λ k f. elim f [
         | inl first ↦ first.0
         | inr later ↦ absurd later.2
       ]) n (subst (λ m. HasPassing now m n) map h))) are
@@ -79,16 +79,16 @@ module _ (r : Rule) (z : ZoneState) (marks : List ℕ) (are : AreMarked r.test z
   -- it may pass now
   passing-one : OneNew r.test z (flagged h flags z) (total_size b.before)
   passing-one n f = subst (λ m. HasPassing (r.test z.heap.table) m n ⊎ (n ≡ total_size b.before)) (sym b.map)
-      (elim (passing-split (r.test new) b.before (block (Rel h) b.size ∷ b.behind) n (subst (λ m. HasPassing (r.test new) m n) b.map f)) [
+      (elim (passing-split (r.test new) b.before (block (Rel h) b.size ∷ b.after) n (subst (λ m. HasPassing (r.test new) m n) b.map f)) [
         | inl low ↦ inl (passing-front (r.test z.heap.table) b.before _ n (others-within r new z.heap.table h others b.before n (emptied-none_before z h fits full at b) low))
         | inr up ↦ elim up.2 [
           | inl here ↦ inr (let none = here.0 in let there = up.1 in omega arith)
-          | inr later ↦ inl (passing-back (r.test z.heap.table) b.before _ n up.0 up.1 (inr (later.0, later.1, others-within r new z.heap.table h others b.behind later.0 (emptied-none_behind z h fits full at b) later.2)))
+          | inr later ↦ inl (passing-back (r.test z.heap.table) b.before _ n up.0 up.1 (inr (later.0, later.1, others-within r new z.heap.table h others b.after later.0 (emptied-none_after z h fits full at b) later.2)))
         ]
       ])
 
   abbrev entry : EntryAt z at
-  entry = record { before = b.before; here = block (Rel h) b.size; behind = b.behind; map = b.map; place = b.place }
+  entry = record { before = b.before; here = block (Rel h) b.size; after = b.after; map = b.map; place = b.place }
 
   passes-marked : AreMarked r.test (flagged h flags z) (set marks (place z.shape at) 1)
   passes-marked = let here = b.place in marked-there r.test z (flagged h flags z) marks at (total_size b.before) refl (omega arith) inside passing-one are
@@ -100,7 +100,7 @@ module _ (r : Rule) (z : ZoneState) (marks : List ℕ) (are : AreMarked r.test z
       cleared-there r.test z (flagged h flags z) marks at (total_size b.before) refl sizes entry (omega arith) inside
       (passing-within (r.test new) (r.test z.heap.table) (kinds-within r new z.heap.table (lives-with_live r h (FullHandle flags (bytes_of z.heap.table h)) z.heap.table fails)) z.heap.map)
       (λ f. false≢true (sym fails ∙ (sym (r.handle new h ∙ ap r.live (live_at-with_live_same h (FullHandle flags (bytes_of z.heap.table h)) z.heap.table))
-      ∙ passing-only (r.test new) z.shape b.before (block (Rel h) b.size) b.behind (ap (sizes_possible z.shape) (sym b.map) ∙ sizes) (subst (λ m. HasPassing (r.test new) m (total_size b.before)) b.map f)))) are
+      ∙ passing-only (r.test new) z.shape b.before (block (Rel h) b.size) b.after (ap (sizes_possible z.shape) (sym b.map) ∙ sizes) (subst (λ m. HasPassing (r.test new) m (total_size b.before)) b.map f)))) are
 
   -- the mark says which
   pub flagged-marked : (mark : ℕ) → (passes ≡ true → mark ≡ 1) → (passes ≡ false → mark ≡ 0) → AreMarked r.test (flagged h flags z) (set marks (place z.shape at) mark)

@@ -9,7 +9,7 @@ use Rattle.zone_index.specs.declared.sums.Sums.{Sums}
 use Rattle.zone_index.specs.Pages.{ArePages, page_weights}
 use Rattle.zone_index.specs.Spans.{IsSum}
 
--- what stands in a list in which one element was written
+-- what is in a list in which one element was written
 pub get-set : {X : Type 0} (xs : List X) (i j : ℕ) (w x : X) → slice_get (slice_set xs i w) j ≡ Some x → ((j ≡ i) × (w ≡ x)) ⊎ (slice_get xs j ≡ Some x)
 get-set [] i j w x is = inr is
 get-set (y ∷ ys) zero zero w x is = inl (refl, same_Some w x is)

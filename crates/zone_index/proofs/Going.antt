@@ -16,7 +16,7 @@ use Rattle.zone_index.specs.Search.{NextPassing, NonePassing}
 use Rattle.zone_index.proofs.Passing.{HasPassing, none_passing, of-passing, passing-back, passing-below, passing-found, passing-front, passing-split, to-passing}
 use Rattle.zone_index.proofs.Sizes.{all_parts}
 
--- where none stands none passes
+-- where none is none passes
 none-stands : (p : Kind → Bool) (m : ZoneMap) → ((n : ℕ) → HasPassing p m n → ⊥) → none_passing p m ≡ true
 none-stands p [] none = refl
 none-stands p (e ∷ es) none = and_from _ _ (first (p e.kind) refl) (none-stands p es (λ n h. none (e.size + n) (inr (n, refl, h))))
@@ -36,55 +36,55 @@ module _ (z : ZoneState) (sizes : HasSizes z) (from : ℕ) (split : SplitAt z fr
   abbrev p : Kind → Bool
   p = may_go z.heap.table
 
-  possible : (sizes_possible z.shape split.before ≡ true) × (sizes_possible z.shape split.behind ≡ true)
-  possible = all_parts _ split.before split.behind (ap (sizes_possible z.shape) (sym split.map) ∙ sizes)
+  possible : (sizes_possible z.shape split.before ≡ true) × (sizes_possible z.shape split.after ≡ true)
+  possible = all_parts _ split.before split.after (ap (sizes_possible z.shape) (sym split.map) ∙ sizes)
 
-  -- one from the address on stands behind
-  behind-from : (at : ℕ) → PassesAt may_go z at → from ≤ at → (k : ℕ) × (at ≡ from + k) × HasPassing p split.behind k
-  behind-from at f up =
+  -- one from the address on is after
+  after-from : (at : ℕ) → PassesAt may_go z at → from ≤ at → (k : ℕ) × (at ≡ from + k) × HasPassing p split.after k
+  after-from at f up =
       let n = of-passing may_go z at f in
       let there = n.1 in
       let here = split.place in
-      elim (passing-split p split.before split.behind n.0 (subst (λ m. HasPassing p m n.0) split.map n.2)) [
+      elim (passing-split p split.before split.after n.0 (subst (λ m. HasPassing p m n.0) split.map n.2)) [
         | inl low ↦ let below = passing-below p z.shape split.before n.0 possible.0 low in absurd (omega arith)
         | inr high ↦ (high.0, (let further = high.1 in omega arith), high.2)
       ]
 
-  -- and one behind there
-  from-behind : (k : ℕ) → HasPassing p split.behind k → PassesAt may_go z (from + k)
-  from-behind k h =
+  -- and one after there
+  from-after : (k : ℕ) → HasPassing p split.after k → PassesAt may_go z (from + k)
+  from-after k h =
       let here = split.place in
-      to-passing may_go z (from + k) (total_size split.before + k) (omega arith) (subst (λ m. HasPassing p m (total_size split.before + k)) (sym split.map) (passing-back p split.before split.behind _ k refl h))
+      to-passing may_go z (from + k) (total_size split.before + k) (omega arith) (subst (λ m. HasPassing p m (total_size split.before + k)) (sym split.map) (passing-back p split.before split.after _ k refl h))
 
-  pub first-going : (at : ℕ) → NextPassing may_go z from at → FirstPurgeable z.heap.table split.behind from at
+  pub first-going : (at : ℕ) → NextPassing may_go z from at → FirstPurgeable z.heap.table split.after from at
   first-going at next =
-      let k = behind-from at next.here next.above in
-      let f = passing-found p split.behind k.0 k.2 in
+      let k = after-from at next.here next.above in
+      let f = passing-found p split.after k.0 k.2 in
       let g = going z.heap.table (f.here).kind f.passes in
       let place : at ≡ from + total_size f.before = let there = k.1 in let here = f.place in omega arith in
       record {
         passed = f.before;
         handle = g.0;
         size = (f.here).size;
-        behind = f.behind;
-        splits = f.map ∙ ap (λ kind. f.before ++ block kind (f.here).size ∷ f.behind) g.1;
+        after = f.after;
+        splits = f.map ∙ ap (λ kind. f.before ++ block kind (f.here).size ∷ f.after) g.1;
         kept = none-stands p f.before (λ j h.
-            let less = passing-below p z.shape f.before j (all_parts _ f.before (f.here ∷ f.behind) (ap (sizes_possible z.shape) (sym f.map) ∙ possible.1)).0 h in
-            let least = next.first (from + j) (from-behind j (subst (λ m. HasPassing p m j) (sym f.map) (passing-front p f.before _ j h))) (omega arith) in
+            let less = passing-below p z.shape f.before j (all_parts _ f.before (f.here ∷ f.after) (ap (sizes_possible z.shape) (sym f.map) ∙ possible.1)).0 h in
+            let least = next.first (from + j) (from-after j (subst (λ m. HasPassing p m j) (sym f.map) (passing-front p f.before _ j h))) (omega arith) in
             omega arith);
         goes = g.2;
         place = place;
       }
 
-  pub none-going : NonePassing may_go z from → none_purgeable z.heap.table split.behind ≡ true
-  none-going none = none-stands p split.behind (λ k h. none (from + k) (from-behind k h) (omega arith))
+  pub none-going : NonePassing may_go z from → none_purgeable z.heap.table split.after ≡ true
+  none-going none = none-stands p split.after (λ k h. none (from + k) (from-after k h) (omega arith))
 
 -- so it is with what a search found
 module _ (z : ZoneState) (sizes : HasSizes z) (from : ℕ) where
-  pub some-first : (found : Option ℕ) → IfSome found (NextPassing may_go z from) → IfSome found (λ at. (split : SplitAt z from) → FirstPurgeable z.heap.table split.behind from at)
+  pub some-first : (found : Option ℕ) → IfSome found (NextPassing may_go z from) → IfSome found (λ at. (split : SplitAt z from) → FirstPurgeable z.heap.table split.after from at)
   some-first None h = h
   some-first (Some at) h = λ split. first-going z sizes from split at h
 
-  pub none-passes : (found : Option ℕ) → IfNone found (NonePassing may_go z from) → IfNone found ((split : SplitAt z from) → IsTrue (none_purgeable z.heap.table split.behind))
+  pub none-passes : (found : Option ℕ) → IfNone found (NonePassing may_go z from) → IfNone found ((split : SplitAt z from) → IsTrue (none_purgeable z.heap.table split.after))
   none-passes None h = λ split. none-going z sizes from split h
   none-passes (Some at) h = h

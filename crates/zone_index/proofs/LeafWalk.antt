@@ -6,7 +6,7 @@ use Rattle.mac_base.specs.declared.block.Entry.{Entry}
 use Rattle.mac_base.specs.HandleTable.{HandleTable}
 use Rattle.mac_base.specs.HeadKind.{zone_header}
 use Rattle.mac_base.specs.Suits.{is_block_size}
-use Rattle.mac_base.specs.ZoneMap.{ZoneMap, total_size, address_behind}
+use Rattle.mac_base.specs.ZoneMap.{ZoneMap, total_size, address_after}
 use Rattle.mac_base.specs.ZoneState.{ZoneState}
 use Rattle.zone_laws.proofs.GapApart.{sizes_possible}
 use Rattle.zone_laws.proofs.Maps.{total_size-append}
@@ -26,13 +26,13 @@ use Rattle.zone_index.proofs.SomeBytes.{no_bytes, total_size-push}
 use Rattle.zone_index.proofs.Walking.{Filling, filling-all, one_low}
 
 -- where all blocks that begin below one address begin below another, blocks that end there do
-pub all-below : (z : ZoneState) (from stop : ℕ) → ((other : ℕ) → EntryAt z other → other < stop → other < from) → (front blocks rest : ZoneMap) → z.heap.map ≡ front ++ (blocks ++ rest) → address_behind z.shape front + total_size blocks ≤ stop
+pub all-below : (z : ZoneState) (from stop : ℕ) → ((other : ℕ) → EntryAt z other → other < stop → other < from) → (front blocks rest : ZoneMap) → z.heap.map ≡ front ++ (blocks ++ rest) → address_after z.shape front + total_size blocks ≤ stop
     → sizes_possible z.shape blocks ≡ true → AllBelow (from - z.shape.base) (zone_header + total_size front) blocks
 all-below z from stop low front [] rest map end sizes = tt
 all-below z from stop low front (e ∷ es) rest map end sizes =
     let parts = and_parts (is_block_size z.shape e.size) (sizes_possible z.shape es) sizes in
     let some = first_bytes z.shape e es sizes in
-    let here = low (address_behind z.shape front) (record { before = front; here = e; behind = es ++ rest; map = map; place = refl }) (omega arith) in
+    let here = low (address_after z.shape front) (record { before = front; here = e; after = es ++ rest; map = map; place = refl }) (omega arith) in
     let push = total_size-push front e in
     let more = all-below z from stop low (front ++ e ∷ []) es rest (map ∙ sym (append_assoc front (e ∷ []) (es ++ rest))) (omega arith) parts.1 in
     (omega arith, subst (λ n. AllBelow (from - z.shape.base) n es) (let same : zone_header + total_size (front ++ e ∷ []) ≡ zone_header + total_size front + e.size = omega arith in same) more)
@@ -42,24 +42,24 @@ module _ (z : ZoneState) (from : ℕ) (sizes : HasSizes z) where
   pub first-below : (at : ℕ) (f : FirstFrom z from at) → AllBelow (from - z.shape.base) zone_header (f.block).before
   first-below at f =
       let place = (f.block).place in
-      all-below z from at (λ other e under. elim (cases_lt other from) [ inl low ↦ low | inr high ↦ let least = f.first other e high in absurd (omega arith) ]) [] (f.block).before ((f.block).here ∷ (f.block).behind) (f.block).map (omega arith)
-      (all_parts _ (f.block).before ((f.block).here ∷ (f.block).behind) (ap (sizes_possible z.shape) (sym (f.block).map) ∙ sizes)).0
+      all-below z from at (λ other e under. elim (cases_lt other from) [ inl low ↦ low | inr high ↦ let least = f.first other e high in absurd (omega arith) ]) [] (f.block).before ((f.block).here ∷ (f.block).after) (f.block).map (omega arith)
+      (all_parts _ (f.block).before ((f.block).here ∷ (f.block).after) (ap (sizes_possible z.shape) (sym (f.block).map) ∙ sizes)).0
 
   -- and all, where there is none
   pub none-below : NoneFrom z from → AllBelow (from - z.shape.base) zone_header z.heap.map
-  none-below none = all-below z from (address_behind z.shape z.heap.map) (λ other e under. none other e) [] z.heap.map [] (sym (append-nil z.heap.map)) (omega arith) sizes
+  none-below none = all-below z from (address_after z.shape z.heap.map) (λ other e under. none other e) [] z.heap.map [] (sym (append-nil z.heap.map)) (omega arith) sizes
 
 -- one more block
 pub sum-push : (t : HandleTable) (m : ZoneMap) (e : Entry) → room_sum (weights t (m ++ e ∷ [])) ≡ joined (room_sum (weights t m)) (room_of (weigh t e))
 sum-push t m e = ap room_sum (weights-append t m (e ∷ [])) ∙ room_sum-append (weights t m) (weigh t e ∷ []) ∙ ap (joined (room_sum (weights t m))) (span_laws.right_identity (room_of (weigh t e)))
 
--- Some blocks behind others, the next of which stands at an address, have a sum.
+-- Some blocks after others, the next of which is at an address, have a sum.
 pub record Gathered (z : ZoneState) (low high at : ℕ) (s : Span) : Type 0 where
   pub before : ZoneMap
   pub done : ZoneMap
-  pub behind : ZoneMap
-  pub map : z.heap.map ≡ before ++ (done ++ behind)
-  pub place : at ≡ address_behind z.shape before + total_size done
+  pub after : ZoneMap
+  pub map : z.heap.map ≡ before ++ (done ++ after)
+  pub place : at ≡ address_after z.shape before + total_size done
   pub below : AllBelow low zone_header before
   pub floor : low ≤ zone_header + total_size before
   pub inside : AllBelow high (zone_header + total_size before) done
@@ -73,7 +73,7 @@ none_gathered z sizes low high start at is f =
     record {
       before = e.before;
       done = [];
-      behind = e.here ∷ e.behind;
+      after = e.here ∷ e.after;
       map = e.map;
       place = (let place = e.place in omega arith);
       below = subst (λ n. AllBelow n zone_header e.before) same (first-below z start sizes at f);
@@ -83,25 +83,25 @@ none_gathered z sizes low high start at is f =
     }
 
 module _ (z : ZoneState) (low high at : ℕ) (s : Span) (g : Gathered z low high at s) where
-  gathered-end : address_behind z.shape z.heap.map ≡ at + total_size g.behind
+  gathered-end : address_after z.shape z.heap.map ≡ at + total_size g.after
   gathered-end =
       let all = ap total_size g.map in
-      let outer = total_size-append g.before (g.done ++ g.behind) in
-      let inner = total_size-append g.done g.behind in
+      let outer = total_size-append g.before (g.done ++ g.after) in
+      let inner = total_size-append g.done g.after in
       let place = g.place in
       omega arith
 
   -- below the zone's end a block comes next
-  pub gathered-next : at < address_behind z.shape z.heap.map → FirstIn g.behind
-  gathered-next under = let end = gathered-end in first_in g.behind (omega arith)
+  pub gathered-next : at < address_after z.shape z.heap.map → FirstIn g.after
+  gathered-next under = let end = gathered-end in first_in g.after (omega arith)
 
-  module _ (n : FirstIn g.behind) where
+  module _ (n : FirstIn g.after) where
     -- it is read
     abbrev pub gathered-entry : EntryAt z at
-    gathered-entry = entry_after z at g.before g.done g.behind g.map g.place n
+    gathered-entry = entry_after z at g.before g.done g.after g.map g.place n
 
     -- and there is room for the sum with it
-    pub gathered-fits : (e : Entry) → e ≡ n.here → address_behind z.shape z.heap.map < 2 ^ 32 → SpanFits (joined s (room_of (weigh z.heap.table e)))
+    pub gathered-fits : (e : Entry) → e ≡ n.here → address_after z.shape z.heap.map < 2 ^ 32 → SpanFits (joined s (room_of (weigh z.heap.table e)))
     gathered-fits e is few =
         let push = total_size-push g.done e in
         let size = ap (λ (e : Entry). e.size) is in
@@ -115,7 +115,7 @@ module _ (z : ZoneState) (low high at : ℕ) (s : Span) (g : Gathered z low high
     gathered-on e is under = record {
       before = g.before;
       done = g.done ++ e ∷ [];
-      behind = n.after;
+      after = n.after;
       map = g.map ∙ ap (λ r. g.before ++ (g.done ++ r)) n.is ∙ ap (λ h. g.before ++ (g.done ++ h ∷ n.after)) (sym is) ∙ ap (λ r. g.before ++ r) (sym (append_assoc g.done (e ∷ []) n.after));
       place = (let all = total_size-push g.done e in let place = g.place in omega arith);
       below = g.below;
@@ -129,17 +129,17 @@ module _ (z : ZoneState) (low high at : ℕ) (s : Span) (g : Gathered z low high
         below-push (d ∷ ds) from all last = (all.0, below-push ds (from + d.size) all.1 (omega arith))
 
   -- at the end of the leaf or of the zone all of the leaf are
-  pub gathered-all : HasSizes z → min (z.shape.base + high) (address_behind z.shape z.heap.map) ≤ at → s ≡ room_sum (begun low high zone_header (weights z.heap.table z.heap.map))
+  pub gathered-all : HasSizes z → min (z.shape.base + high) (address_after z.shape z.heap.map) ≤ at → s ≡ room_sum (begun low high zone_header (weights z.heap.table z.heap.map))
   gathered-all sizes end = g.sum ∙ ap room_sum (sym (filling-all z low high g.done filling))
     where
-      none : (address_behind z.shape z.heap.map ≤ at) ⊎ (z.shape.base + high ≤ at) → (g.behind ≡ []) ⊎ (high ≤ zone_header + total_size g.before + total_size g.done)
+      none : (address_after z.shape z.heap.map ≤ at) ⊎ (z.shape.base + high ≤ at) → (g.after ≡ []) ⊎ (high ≤ zone_header + total_size g.before + total_size g.done)
       none (inl past) =
           let whole = gathered-end in
-          inl (no_bytes z.shape g.behind (all_parts _ g.done g.behind (all_parts _ g.before (g.done ++ g.behind) (ap (sizes_possible z.shape) (sym g.map) ∙ sizes)).1).1 (omega arith))
+          inl (no_bytes z.shape g.after (all_parts _ g.done g.after (all_parts _ g.before (g.done ++ g.after) (ap (sizes_possible z.shape) (sym g.map) ∙ sizes)).1).1 (omega arith))
       none (inr past) = let place = g.place in inr (omega arith)
 
       filling : Filling z low high g.done
-      filling = record { before = g.before; behind = g.behind; map = g.map; below = g.below; floor = g.floor; inside = g.inside; above = none (one_low (z.shape.base + high) (address_behind z.shape z.heap.map) at end) }
+      filling = record { before = g.before; after = g.after; map = g.map; below = g.below; floor = g.floor; inside = g.inside; above = none (one_low (z.shape.base + high) (address_after z.shape z.heap.map) at end) }
 
 -- where none begins from a leaf on it has none
 pub none_begun : (z : ZoneState) (sizes : HasSizes z) (low high start : ℕ) → start ≡ z.shape.base + low → NoneFrom z start → room_sum (begun low high zone_header (weights z.heap.table z.heap.map)) ≡ no_span

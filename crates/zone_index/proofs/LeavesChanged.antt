@@ -3,7 +3,7 @@ use Rattle.std.proofs.Common.{◌≡◌, ℕ, ◌+◌, ◌<◌, ◌≤◌, true,
 use Rattle.std.specs.Prelude.{◌⊎◌, length}
 use Rattle.mac_base.specs.Heap.{Heap}
 use Rattle.mac_base.specs.HeadKind.{Shape}
-use Rattle.mac_base.specs.ZoneMap.{address_behind, total_size}
+use Rattle.mac_base.specs.ZoneMap.{address_after, total_size}
 use Rattle.mac_base.specs.ZoneState.{ZoneState, with_heap}
 use Rattle.linked_zone.specs.Changes.{carried_up, cut_in_two, enlarged, extended, held_there, joined_pair, relocated, sunk}
 use Rattle.linked_zone.specs.Fit.{Fits}
@@ -74,13 +74,13 @@ module _ (z : ZoneState) (old new : LeafSums) (a : AreLeaves z old) where
   pub leaves-merge : {at : ℕ} (pair : FreePair z at) → LeavesTouched z.shape old new (λ n. (n ≡ at) ⊎ (n ≡ at + pair.first)) → AreLeaves (joined_pair z pair) new
   leaves-merge {at} pair t = both z (joined_pair z pair) old new a refl t.rooms.sums (sums-merge summing_rooms rooms_are z old.rooms new.rooms a.rooms.are pair t.rooms) (sums-merge summing_largest largest_are z old.largest new.largest a.largest pair t.largest)
 
-  pub leaves-held : {x size n at : ℕ} (can : CanHold z x size n) → at ≡ address_behind z.shape can.before → LeavesTouched z.shape old new (λ m. (m ≡ at) ⊎ (m ≡ at + size)) → AreLeaves (held_there z can) new
+  pub leaves-held : {x size n at : ℕ} (can : CanHold z x size n) → at ≡ address_after z.shape can.before → LeavesTouched z.shape old new (λ m. (m ≡ at) ⊎ (m ≡ at + size)) → AreLeaves (held_there z can) new
   leaves-held {size = size} {at = at} can place t = both z (held_there z can) old new a refl t.rooms.sums (sums-held summing_rooms rooms_are z old.rooms new.rooms a.rooms.are can place t.rooms) (sums-held summing_largest largest_are z old.largest new.largest a.largest can place t.largest)
 
-  pub leaves-grown : {x size n at : ℕ} (can : CanGrow z x size n) → at ≡ address_behind z.shape can.before → LeavesTouched z.shape old new (λ m. ((m ≡ at) ⊎ (m ≡ at + can.here.size)) ⊎ (m ≡ at + size)) → AreLeaves (enlarged z can) new
+  pub leaves-grown : {x size n at : ℕ} (can : CanGrow z x size n) → at ≡ address_after z.shape can.before → LeavesTouched z.shape old new (λ m. ((m ≡ at) ⊎ (m ≡ at + can.here.size)) ⊎ (m ≡ at + size)) → AreLeaves (enlarged z can) new
   leaves-grown {size = size} {at = at} can place t = both z (enlarged z can) old new a refl t.rooms.sums (sums-grown summing_rooms rooms_are z old.rooms new.rooms a.rooms.are can place t.rooms) (sums-grown summing_largest largest_are z old.largest new.largest a.largest can place t.largest)
 
-  pub leaves-extended : {end : ℕ} → end ≡ address_behind z.shape z.heap.map → LeavesTouched z.shape old new (λ n. n ≡ end) → AreLeaves (extended z) new
+  pub leaves-extended : {end : ℕ} → end ≡ address_after z.shape z.heap.map → LeavesTouched z.shape old new (λ n. n ≡ end) → AreLeaves (extended z) new
   leaves-extended {end} place t = both z (extended z) old new a refl t.rooms.sums (sums-extended summing_rooms rooms_are z old.rooms new.rooms a.rooms.are place t.rooms) (sums-extended summing_largest largest_are z old.largest new.largest a.largest place t.largest)
 
 -- the block of one leaf is another

@@ -10,31 +10,31 @@ use Rattle.zone_laws.proofs.GapParts.{first_gap, later_gaps}
 use Rattle.zone_index.specs.Runs.{none_fixed, begins_fixed, ends_fixed}
 
 -- the lowest gap of a map that begins with one
-pub first_run-is : (t : HandleTable) (run rest : ZoneMap) → none_fixed t run ≡ true → begins_fixed t rest ≡ true → first_gap t (run ++ rest) ≡ record { before = []; blocks = run; behind = rest }
+pub first_run-is : (t : HandleTable) (run rest : ZoneMap) → none_fixed t run ≡ true → begins_fixed t rest ≡ true → first_gap t (run ++ rest) ≡ record { before = []; blocks = run; after = rest }
 first_run-is t [] [] moves above = refl
-first_run-is t [] (e ∷ es) moves above = ap (λ c. let g = first_gap t es in cond c (record { before = []; blocks = []; behind = e ∷ es }) (record g { blocks = e ∷ g.blocks })) above
+first_run-is t [] (e ∷ es) moves above = ap (λ c. let g = first_gap t es in cond c (record { before = []; blocks = []; after = e ∷ es }) (record g { blocks = e ∷ g.blocks })) above
 first_run-is t (d ∷ run) rest moves above =
     let parts = and_parts (not (is_fixed t d.kind)) (none_fixed t run) moves in
-    ap (λ c. let g = first_gap t (run ++ rest) in cond c (record { before = []; blocks = []; behind = d ∷ (run ++ rest) }) (record g { blocks = d ∷ g.blocks })) (not-true _ parts.0)
+    ap (λ c. let g = first_gap t (run ++ rest) in cond c (record { before = []; blocks = []; after = d ∷ (run ++ rest) }) (record g { blocks = d ∷ g.blocks })) (not-true _ parts.0)
     ∙ ap (λ (g : Gap). record g { blocks = d ∷ g.blocks }) (first_run-is t run rest parts.1 above)
 
 find-further : (k : ℕ) (e : Entry) (gs : List Gap) → lowest_gap k (map (further e) gs) ≡ option_map (further e) (lowest_gap k gs)
 find-further k e [] = refl
 find-further k e (g ∷ gs) = elim (nat_le k (room g)) as (λ c. cond c (Some (further e g)) (lowest_gap k (map (further e) gs)) ≡ option_map (further e) (cond c (Some g) (lowest_gap k gs))) [ true ↦ refl | false ↦ find-further k e gs ]
 
--- no gap behind the first of these blocks and below the last has room for k bytes
+-- no gap after the first of these blocks and below the last has room for k bytes
 abbrev pub FewBelow : HandleTable → ℕ → ZoneMap → ZoneMap → Type 0
 FewBelow t k [] rest = Unit {0}
 FewBelow t k (b ∷ []) rest = Unit {0}
 FewBelow t k (b ∷ c ∷ bs) rest = (is_fixed t b.kind ≡ true → room (first_gap t ((c ∷ bs) ++ rest)) < k) × FewBelow t k (c ∷ bs) rest
 
--- then the gap behind the last is the lowest of them
+-- then the gap after the last is the lowest of them
 pub later-found : (t : HandleTable) (k : ℕ) (b : Entry) (bs run rest : ZoneMap) → ends_fixed t (b ∷ bs) ≡ true → none_fixed t run ≡ true → begins_fixed t rest ≡ true → k ≤ free_bytes run → FewBelow t k (b ∷ bs) (run ++ rest)
-    → lowest_gap k (later_gaps t ((b ∷ bs) ++ (run ++ rest))) ≡ Some (record { before = b ∷ bs; blocks = run; behind = rest })
+    → lowest_gap k (later_gaps t ((b ∷ bs) ++ (run ++ rest))) ≡ Some (record { before = b ∷ bs; blocks = run; after = rest })
 later-found t k b [] run rest ends moves above fits few =
     find-further k b _ ∙ ap (λ c. option_map (further b) (lowest_gap k (cond c (first_gap t (run ++ rest) ∷ later_gaps t (run ++ rest)) (later_gaps t (run ++ rest))))) ends
     ∙ ap (λ g. option_map (further b) (lowest_gap k (g ∷ later_gaps t (run ++ rest)))) (first_run-is t run rest moves above)
-    ∙ ap (λ c. option_map (further b) (cond c (Some (record { before = []; blocks = run; behind = rest })) (lowest_gap k (later_gaps t (run ++ rest))))) (le-leb k (free_bytes run) fits)
+    ∙ ap (λ c. option_map (further b) (cond c (Some (record { before = []; blocks = run; after = rest })) (lowest_gap k (later_gaps t (run ++ rest))))) (le-leb k (free_bytes run) fits)
 later-found t k b (c ∷ bs) run rest ends moves above fits few =
     find-further k b _ ∙ ap (option_map (further b)) (by_fixed (is_fixed t b.kind) refl ∙ later-found t k c bs run rest ends moves above fits few.1)
   where

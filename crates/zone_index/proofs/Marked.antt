@@ -6,7 +6,7 @@ use Rattle.mac_base.specs.declared.block.Entry.{Entry}
 use Rattle.mac_base.specs.declared.block.Kind.{Kind}
 use Rattle.mac_base.specs.Gap.{is_fixed}
 use Rattle.mac_base.specs.HandleTable.{HandleTable}
-use Rattle.mac_base.specs.ZoneMap.{ZoneMap, address_behind, total_size}
+use Rattle.mac_base.specs.ZoneMap.{ZoneMap, address_after, total_size}
 use Rattle.mac_base.specs.ZoneState.{ZoneState}
 use Rattle.zone_laws.proofs.GapApart.{sizes_possible}
 use Rattle.zone_laws.proofs.Maps.{total_size-append}
@@ -25,8 +25,8 @@ pub record MarkedBelow (test : HandleTable → Kind → Bool) (z : ZoneState) (a
   pub marked : (other : ℕ) → PassesAt test z other → other < at → 1 ≤ slice_index marks (place z.shape other)
 
 module _ (test : HandleTable → Kind → Bool) (z : ZoneState) where
-  -- no block stands below the first
-  pub none_below : (at : ℕ) (marks : List ℕ) → length marks ≡ z.shape.limit / 4 + 1 → at ≡ address_behind z.shape [] → MarkedBelow test z at marks
+  -- no block is below the first
+  pub none_below : (at : ℕ) (marks : List ℕ) → length marks ≡ z.shape.limit / 4 + 1 → at ≡ address_after z.shape [] → MarkedBelow test z at marks
   none_below at marks places first = record { places = places; marked = λ other f low. let there = f.entry.place in absurd (omega arith) }
 
   -- a block that passes and begins below the end of another is that one, or begins below it
@@ -37,18 +37,18 @@ module _ (test : HandleTable → Kind → Bool) (z : ZoneState) where
       let there = n.1 in
       let place = e.place in
       let whole = ap (sizes_possible z.shape) (sym e.map) ∙ sizes in
-      elim (passing-split p e.before (e.here ∷ e.behind) n.0 (subst (λ m. HasPassing p m n.0) e.map n.2)) [
-        | inl front ↦ let below = passing-below p z.shape e.before n.0 (all_parts _ e.before (e.here ∷ e.behind) whole).0 front in inl (omega arith)
+      elim (passing-split p e.before (e.here ∷ e.after) n.0 (subst (λ m. HasPassing p m n.0) e.map n.2)) [
+        | inl front ↦ let below = passing-below p z.shape e.before n.0 (all_parts _ e.before (e.here ∷ e.after) whole).0 front in inl (omega arith)
         | inr back ↦ by_place back.0 back.1 back.2
       ]
     where
-      by_place : (k : ℕ) → (of-passing test z other f).0 ≡ total_size e.before + k → HasPassing (test z.heap.table) (e.here ∷ e.behind) k → (other < at) ⊎ (other ≡ at)
+      by_place : (k : ℕ) → (of-passing test z other f).0 ≡ total_size e.before + k → HasPassing (test z.heap.table) (e.here ∷ e.after) k → (other < at) ⊎ (other ≡ at)
       by_place k further h =
           let there = (of-passing test z other f).1 in
           let place = e.place in
           elim h [
             | inl here ↦ let first = here.0 in inr (omega arith)
-            | inr later ↦ let behind = later.1 in absurd (omega arith)
+            | inr later ↦ let after = later.1 in absurd (omega arith)
           ]
 
   -- with the mark of the next block
@@ -81,7 +81,7 @@ module _ (test : HandleTable → Kind → Bool) (z : ZoneState) where
       }
 
   -- where no block is left all are marked
-  pub marked-all : HasSizes z → (at : ℕ) (s : SplitAt z at) (marks : List ℕ) → s.behind ≡ [] → MarkedBelow test z at marks → AreMarked test z marks
+  pub marked-all : HasSizes z → (at : ℕ) (s : SplitAt z at) (marks : List ℕ) → s.after ≡ [] → MarkedBelow test z at marks → AreMarked test z marks
   marked-all sizes at s marks none below = record {
     places = below.places;
     marked = λ other f.
@@ -89,7 +89,7 @@ module _ (test : HandleTable → Kind → Bool) (z : ZoneState) where
         let there = n.1 in
         let place = s.place in
         let inside = passing-below (test z.heap.table) z.shape z.heap.map n.0 sizes n.2 in
-        let all = ap total_size s.map ∙ total_size-append s.before s.behind ∙ ap (λ (m : ZoneMap). total_size s.before + total_size m) none in
+        let all = ap total_size s.map ∙ total_size-append s.before s.after ∙ ap (λ (m : ZoneMap). total_size s.before + total_size m) none in
         below.marked other f (omega arith);
   }
 
@@ -103,14 +103,14 @@ pub record Marking (z : ZoneState) (at : ℕ) (marks purgeable : List ℕ) : Typ
 
 module _ (z : ZoneState) (at : ℕ) where
   pub marking-first : (marks purgeable : List ℕ) → length marks ≡ z.shape.limit / 4 + 1 → length purgeable ≡ z.shape.limit / 4 + 1
-      → at ≡ address_behind z.shape [] → Marking z at marks purgeable
+      → at ≡ address_after z.shape [] → Marking z at marks purgeable
   marking-first marks purgeable fixed goes first = record {
-    split = record { before = []; behind = z.heap.map; map = refl; place = first };
+    split = record { before = []; after = z.heap.map; map = refl; place = first };
     fixed = none_below is_fixed z at marks fixed first;
     goes = none_below may_go z at purgeable goes first;
   }
 
-  -- the marks of the block that stands there are written
+  -- the marks of the block that is there are written
   pub marking-on : HasSizes z → (e : EntryAt z at) (here : Entry) → here ≡ e.here → (p : ℕ) → p ≡ place z.shape at → place z.shape at ≤ z.shape.limit / 4
       → (marks purgeable fixed goes : List ℕ) → fixed ≡ (if is_fixed z.heap.table here.kind then set marks p 1 else marks)
       → goes ≡ (if may_go z.heap.table here.kind then set purgeable p 1 else purgeable) → Marking z at marks purgeable → Marking z (at + here.size) fixed goes
@@ -124,7 +124,7 @@ module _ (z : ZoneState) (at : ℕ) where
           let all = total_size-append e.before (e.here ∷ []) in
           let place_is = e.place in
           record {
-            split = record { before = e.before ++ e.here ∷ []; behind = e.behind; map = e.map ∙ sym (append_assoc e.before (e.here ∷ []) e.behind); place = omega arith };
+            split = record { before = e.before ++ e.here ∷ []; after = e.after; map = e.map ∙ sym (append_assoc e.before (e.here ∷ []) e.after); place = omega arith };
             fixed = subst (MarkedBelow is_fixed z (at + (e.here).size)) (sym (fixed_is ∙ ap (λ p. (if is_fixed z.heap.table (e.here).kind then set marks p 1 else marks)) there))
                 (marked-if is_fixed z sizes at e marks inside m.fixed);
             goes = subst (MarkedBelow may_go z (at + (e.here).size)) (sym (goes_is ∙ ap (λ p. (if may_go z.heap.table (e.here).kind then set purgeable p 1 else purgeable)) there))
@@ -132,8 +132,8 @@ module _ (z : ZoneState) (at : ℕ) where
           }
 
   -- at the zone's end each block that passes has its mark
-  pub marking-fixed : (marks purgeable : List ℕ) → HasSizes z → Marking z at marks purgeable → address_behind z.shape z.heap.map ≤ at → AreMarked is_fixed z marks
+  pub marking-fixed : (marks purgeable : List ℕ) → HasSizes z → Marking z at marks purgeable → address_after z.shape z.heap.map ≤ at → AreMarked is_fixed z marks
   marking-fixed marks purgeable sizes m end = marked-all is_fixed z sizes at m.split marks (split-none z at m.split sizes end) m.fixed
 
-  pub marking-goes : (marks purgeable : List ℕ) → HasSizes z → Marking z at marks purgeable → address_behind z.shape z.heap.map ≤ at → AreMarked may_go z purgeable
+  pub marking-goes : (marks purgeable : List ℕ) → HasSizes z → Marking z at marks purgeable → address_after z.shape z.heap.map ≤ at → AreMarked may_go z purgeable
   marking-goes marks purgeable sizes m end = marked-all may_go z sizes at m.split purgeable (split-none z at m.split sizes end) m.goes

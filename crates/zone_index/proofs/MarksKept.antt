@@ -6,7 +6,7 @@ use Rattle.std.proofs.lemmas.List.{length-set, get_or-set_same, get_or-set_other
 use Rattle.mac_base.specs.declared.block.Kind.{Kind}
 use Rattle.mac_base.specs.HandleTable.{HandleTable}
 use Rattle.mac_base.specs.HeadKind.{Shape}
-use Rattle.mac_base.specs.ZoneMap.{address_behind}
+use Rattle.mac_base.specs.ZoneMap.{address_after}
 use Rattle.mac_base.specs.ZoneState.{ZoneState}
 use Rattle.linked_zone.specs.Fit.{HasSizes}
 use Rattle.linked_zone.specs.Places.{EntryAt}
@@ -26,8 +26,8 @@ written-read marks i j v inside here other = elim (eqb j i) as (λ b. eqb j i �
 -- where blocks have bytes two of them have two places
 pub places-apart : (z : ZoneState) (at other : ℕ) → HasSizes z → EntryAt z at → EntryAt z other → place z.shape at ≡ place z.shape other → at ≡ other
 places-apart z at other sizes e f same =
-    let here = even_bytes z.shape e.before (all_parts _ e.before (e.here ∷ e.behind) (ap (sizes_possible z.shape) (sym e.map) ∙ sizes)).0 in
-    let there = even_bytes z.shape f.before (all_parts _ f.before (f.here ∷ f.behind) (ap (sizes_possible z.shape) (sym f.map) ∙ sizes)).0 in
+    let here = even_bytes z.shape e.before (all_parts _ e.before (e.here ∷ e.after) (ap (sizes_possible z.shape) (sym e.map) ∙ sizes)).0 in
+    let there = even_bytes z.shape f.before (all_parts _ f.before (f.here ∷ f.after) (ap (sizes_possible z.shape) (sym f.map) ∙ sizes)).0 in
     let first = e.place in
     let second = f.place in
     omega (arith, here, there, first, second, same)
@@ -37,7 +37,7 @@ module _ (test : HandleTable → Kind → Bool) where
   abbrev pub NoneNew : ZoneState → ZoneState → Type 0
   NoneNew old new = (n : ℕ) → HasPassing (test new.heap.table) new.heap.map n → HasPassing (test old.heap.table) old.heap.map n
 
-  -- or stands so many bytes behind the first
+  -- or is so many bytes after the first
   abbrev pub OneNew : ZoneState → ZoneState → ℕ → Type 0
   OneNew old new there = (n : ℕ) → HasPassing (test new.heap.table) new.heap.map n → HasPassing (test old.heap.table) old.heap.map n ⊎ (n ≡ there)
 
@@ -47,17 +47,17 @@ module _ (test : HandleTable → Kind → Bool) where
     places = are.places ∙ ap (λ (s : Shape). s.limit / 4 + 1) (sym shape);
     marked = λ at f.
         let n = of-passing test new at f in
-        subst (λ (s : Shape). 1 ≤ slice_index marks (place s at)) (sym shape) (are.marked at (to-passing test old at n.0 (n.1 ∙ ap (λ s. address_behind s [] + n.0) shape) (none n.0 n.2)));
+        subst (λ (s : Shape). 1 ≤ slice_index marks (place s at)) (sym shape) (are.marked at (to-passing test old at n.0 (n.1 ∙ ap (λ s. address_after s [] + n.0) shape) (none n.0 n.2)));
   }
 
-  -- a mark is set where the new one stands
-  pub marked-there : (old new : ZoneState) (marks : List ℕ) (at n : ℕ) → new.shape ≡ old.shape → at ≡ address_behind old.shape [] + n → place old.shape at ≤ old.shape.limit / 4 → OneNew old new n → AreMarked test old marks
+  -- a mark is set where the new one is
+  pub marked-there : (old new : ZoneState) (marks : List ℕ) (at n : ℕ) → new.shape ≡ old.shape → at ≡ address_after old.shape [] + n → place old.shape at ≤ old.shape.limit / 4 → OneNew old new n → AreMarked test old marks
       → AreMarked test new (set marks (place old.shape at) 1)
   marked-there old new marks at n shape there inside one are = record {
     places = length-set marks (place old.shape at) 1 ∙ (are.places ∙ ap (λ (s : Shape). s.limit / 4 + 1) (sym shape));
     marked = λ other f.
         let m = of-passing test new other f in
-        let stands : other ≡ address_behind old.shape [] + m.0 = m.1 ∙ ap (λ s. address_behind s [] + m.0) shape in
+        let stands : other ≡ address_after old.shape [] + m.0 = m.1 ∙ ap (λ s. address_after s [] + m.0) shape in
         subst (λ (s : Shape). 1 ≤ slice_index (set marks (place old.shape at) 1) (place s other)) (sym shape)
         (written-read marks (place old.shape at) (place old.shape other) 1 (let whole = are.places in omega arith) (λ _. omega arith) (λ apart. elim (one m.0 m.2) [
           | inl was ↦ are.marked other (to-passing test old other m.0 stands was)
@@ -66,13 +66,13 @@ module _ (test : HandleTable → Kind → Bool) where
   }
 
   -- the mark of a block that doesn't pass is cleared
-  pub cleared-there : (old new : ZoneState) (marks : List ℕ) (at n : ℕ) → new.shape ≡ old.shape → HasSizes old → EntryAt old at → at ≡ address_behind old.shape [] + n → place old.shape at ≤ old.shape.limit / 4
+  pub cleared-there : (old new : ZoneState) (marks : List ℕ) (at n : ℕ) → new.shape ≡ old.shape → HasSizes old → EntryAt old at → at ≡ address_after old.shape [] + n → place old.shape at ≤ old.shape.limit / 4
       → NoneNew old new → (HasPassing (test new.heap.table) new.heap.map n → ⊥) → AreMarked test old marks → AreMarked test new (set marks (place old.shape at) 0)
   cleared-there old new marks at n shape sizes entry there inside none gone are = record {
     places = length-set marks (place old.shape at) 0 ∙ (are.places ∙ ap (λ (s : Shape). s.limit / 4 + 1) (sym shape));
     marked = λ other f.
         let m = of-passing test new other f in
-        let stands : other ≡ address_behind old.shape [] + m.0 = m.1 ∙ ap (λ s. address_behind s [] + m.0) shape in
+        let stands : other ≡ address_after old.shape [] + m.0 = m.1 ∙ ap (λ s. address_after s [] + m.0) shape in
         let was = to-passing test old other m.0 stands (none m.0 m.2) in
         subst (λ (s : Shape). 1 ≤ slice_index (set marks (place old.shape at) 0) (place s other)) (sym shape)
         (written-read marks (place old.shape at) (place old.shape other) 0 (let whole = are.places in omega arith)

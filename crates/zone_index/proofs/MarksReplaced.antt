@@ -1,4 +1,4 @@
--- Where blocks that pass a test stand once other blocks stand in place of some.
+-- Where blocks that pass a test are once other blocks are in place of some.
 use Rattle.std.proofs.Common.{◌≡◌, ℕ, ◌+◌, Bool, true, false, [], ◌∷◌, ◌++◌, ap, sym, ◌∙◌, subst, inl, inr, arith}
 use Rattle.std.specs.Prelude.{◌⊎◌, if◌then◌else◌}
 use Rattle.std.proofs.lemmas.Bool.{and_parts, false≢true}
@@ -15,27 +15,27 @@ use Rattle.zone_index.proofs.Sizes.{first_bytes}
 
 module _ (new old : Kind → Bool) (within : Within new old) (free : new Free ≡ false) where
   -- where the new blocks have as many bytes, and pass only where the old ones did
-  pub passing-replaced : (before was is behind : ZoneMap) → total_size is ≡ total_size was → ((k : ℕ) → HasPassing new is k → HasPassing old was k)
-      → (n : ℕ) → HasPassing new (before ++ (is ++ behind)) n → HasPassing old (before ++ (was ++ behind)) n
-  passing-replaced before was is behind same inside n h = elim (passing-split new before (is ++ behind) n h) [
-    | inl low ↦ passing-front old before (was ++ behind) n (passing-within new old within before n low)
-    | inr up ↦ passing-back old before (was ++ behind) n up.0 up.1 (upper up.0 up.2)
+  pub passing-replaced : (before was is after : ZoneMap) → total_size is ≡ total_size was → ((k : ℕ) → HasPassing new is k → HasPassing old was k)
+      → (n : ℕ) → HasPassing new (before ++ (is ++ after)) n → HasPassing old (before ++ (was ++ after)) n
+  passing-replaced before was is after same inside n h = elim (passing-split new before (is ++ after) n h) [
+    | inl low ↦ passing-front old before (was ++ after) n (passing-within new old within before n low)
+    | inr up ↦ passing-back old before (was ++ after) n up.0 up.1 (upper up.0 up.2)
   ]
     where
-      upper : (k : ℕ) → HasPassing new (is ++ behind) k → HasPassing old (was ++ behind) k
-      upper k h = elim (passing-split new is behind k h) [
-        | inl mid ↦ passing-front old was behind k (inside k mid)
-        | inr high ↦ passing-back old was behind k high.0 (high.1 ∙ ap (λ m. m + high.0) same) (passing-within new old within behind high.0 high.2)
+      upper : (k : ℕ) → HasPassing new (is ++ after) k → HasPassing old (was ++ after) k
+      upper k h = elim (passing-split new is after k h) [
+        | inl mid ↦ passing-front old was after k (inside k mid)
+        | inr high ↦ passing-back old was after k high.0 (high.1 ∙ ap (λ m. m + high.0) same) (passing-within new old within after high.0 high.2)
       ]
 
   -- where the first of the new ones may pass too
-  pub passing-added : (before was is behind : ZoneMap) → total_size is ≡ total_size was → ((k : ℕ) → HasPassing new is k → k ≡ 0)
-      → (n : ℕ) → HasPassing new (before ++ (is ++ behind)) n → HasPassing old (before ++ (was ++ behind)) n ⊎ (n ≡ total_size before)
-  passing-added before was is behind same first n h = elim (passing-split new before (is ++ behind) n h) [
-    | inl low ↦ inl (passing-front old before (was ++ behind) n (passing-within new old within before n low))
-    | inr up ↦ elim (passing-split new is behind up.0 up.2) [
+  pub passing-added : (before was is after : ZoneMap) → total_size is ≡ total_size was → ((k : ℕ) → HasPassing new is k → k ≡ 0)
+      → (n : ℕ) → HasPassing new (before ++ (is ++ after)) n → HasPassing old (before ++ (was ++ after)) n ⊎ (n ≡ total_size before)
+  passing-added before was is after same first n h = elim (passing-split new before (is ++ after) n h) [
+    | inl low ↦ inl (passing-front old before (was ++ after) n (passing-within new old within before n low))
+    | inr up ↦ elim (passing-split new is after up.0 up.2) [
       | inl mid ↦ inr (let none = first up.0 mid in let place = up.1 in omega arith)
-      | inr high ↦ inl (passing-back old before (was ++ behind) n up.0 up.1 (passing-back old was behind up.0 high.0 (high.1 ∙ ap (λ m. m + high.0) same) (passing-within new old within behind high.0 high.2)))
+      | inr high ↦ inl (passing-back old before (was ++ after) n up.0 up.1 (passing-back old was after up.0 high.0 (high.1 ∙ ap (λ m. m + high.0) same) (passing-within new old within after high.0 high.2)))
     ]
   ]
 

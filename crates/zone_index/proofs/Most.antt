@@ -27,7 +27,7 @@ module _ (t : HandleTable) (sort : Weight → ℕ) (total : ZoneMap → ℕ) (no
   most-first : (r : ℕ) (m : ZoneMap) → most sort r (weights t m) ≡ max (r + total (first_gap t m).blocks) (largest (totals (later_gaps t m)))
   most-first r [] = let none = none in omega arith
   most-first r (e ∷ es) = elim (is_fixed t e.kind) as (λ c. cond c (max r (most sort 0 (weights t es))) (most sort (r + sort (weigh t e)) (weights t es))
-      ≡ max (r + total (let g = first_gap t es in cond c (record { before = []; blocks = []; behind = e ∷ es }) (record g { blocks = e ∷ g.blocks })).blocks) (largest (totals (map (further e) (cond c (first_gap t es ∷ later_gaps t es) (later_gaps t es)))))) [
+      ≡ max (r + total (let g = first_gap t es in cond c (record { before = []; blocks = []; after = e ∷ es }) (record g { blocks = e ∷ g.blocks })).blocks) (largest (totals (map (further e) (cond c (first_gap t es ∷ later_gaps t es) (later_gaps t es)))))) [
         | true ↦ (let rest = most-first 0 es in
             let none = none in
             let first : ℕ = total (first_gap t es).blocks in

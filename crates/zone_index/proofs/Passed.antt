@@ -1,4 +1,4 @@
--- None of some blocks is free where the next free one begins behind them.
+-- None of some blocks is free where the next free one begins after them.
 use Rattle.std.proofs.Common.{◌≡◌, ℕ, ◌≤◌, true, ap, sym, ◌∙◌, arith}
 use Rattle.mac_base.specs.ZoneMap.{free_bytes}
 use Rattle.mac_base.specs.ZoneState.{ZoneState}
@@ -9,11 +9,11 @@ use Rattle.zone_index.specs.Leaves.{IsUsed}
 use Rattle.zone_index.proofs.GapWalk.{none-among}
 
 module _ {z : ZoneState} {low : ℕ} (split : SplitAt z low) (high : ℕ) where
-  pub used-up_to : (at : ℕ) → FirstFree split.behind low at → high ≤ at → IsUsed split high
-  used-up_to at f past blocks behind is within = let place = f.place in none-among blocks behind f.passed f.size f.behind (sym is ∙ f.splits) f.used (omega arith)
+  pub used-up_to : (at : ℕ) → FirstFree split.after low at → high ≤ at → IsUsed split high
+  used-up_to at f past blocks after is within = let place = f.place in none-among blocks after f.passed f.size f.after (sym is ∙ f.splits) f.used (omega arith)
 
-  pub used-all : none_free split.behind ≡ true → IsUsed split high
-  used-all used blocks behind is within =
-      let none = free_bytes-all_used split.behind used in
-      let both = ap free_bytes is ∙ free_bytes-append blocks behind in
+  pub used-all : none_free split.after ≡ true → IsUsed split high
+  used-all used blocks after is within =
+      let none = free_bytes-all_used split.after used in
+      let both = ap free_bytes is ∙ free_bytes-append blocks after in
       omega arith

@@ -9,16 +9,16 @@ use Rattle.linked_zone.specs.Sizes.{sizes_of}
 use Rattle.zone_index.specs.Marks.{place}
 use Rattle.zone_laws.proofs.Maps.{total_size-append}
 
--- an address between blocks is none behind the zone's limit
+-- an address between blocks is none after the zone's limit
 pub split-within : (z : ZoneState) (at : ℕ) → ArePossible (sizes_of z) → SplitAt z at → (z.shape.base ≤ at) × (at ≤ z.shape.base + z.shape.limit)
 split-within z at possible s =
-    let all = ap total_size s.map ∙ total_size-append s.before s.behind in
+    let all = ap total_size s.map ∙ total_size-append s.before s.after in
     let there = s.place in
     let within = possible.within in
     (omega arith, omega arith)
 
 abbrev pub entry-split : {at : ℕ} (z : ZoneState) → EntryAt z at → SplitAt z at
-entry-split z e = record { before = e.before; behind = e.here ∷ e.behind; map = e.map; place = e.place }
+entry-split z e = record { before = e.before; after = e.here ∷ e.after; map = e.map; place = e.place }
 
 -- a block has a place
 pub place-within : (z : ZoneState) (at : ℕ) → ArePossible (sizes_of z) → EntryAt z at → place z.shape at ≤ z.shape.limit / 4

@@ -5,7 +5,7 @@ use Rattle.std.proofs.lemmas.Bool.Decides.{nat_tests}
 use Rattle.mac_base.specs.declared.block.Entry.{Entry}
 use Rattle.mac_base.specs.HeadKind.{zone_header}
 use Rattle.mac_base.specs.Reports.{largest_room}
-use Rattle.mac_base.specs.ZoneMap.{ZoneMap, total_size, address_behind}
+use Rattle.mac_base.specs.ZoneMap.{ZoneMap, total_size, address_after}
 use Rattle.mac_base.specs.ZoneState.{ZoneState}
 use Rattle.zone_laws.proofs.GapApart.{sizes_possible}
 use Rattle.zone_laws.proofs.Maps.{total_size-append}
@@ -31,9 +31,9 @@ use Rattle.zone_index.proofs.Walking.{filling-all}
 -- with the blocks below an address no gap has room for k bytes
 pub record Below (z : ZoneState) (k at : ℕ) (s : Span) : Type 0 where
   pub before : ZoneMap
-  pub behind : ZoneMap
-  pub map : z.heap.map ≡ before ++ behind
-  pub place : at ≡ address_behind z.shape before
+  pub after : ZoneMap
+  pub map : z.heap.map ≡ before ++ after
+  pub place : at ≡ address_after z.shape before
   pub sum : s ≡ room_sum (weights z.heap.table before)
   pub few : most_in s < k
 
@@ -45,12 +45,12 @@ module _ (z : ZoneState) (sizes : HasSizes z) (from k : ℕ) (s : Span) (b : Sum
       let low = b.low in
       record {
         before = e.before;
-        behind = e.here ∷ e.behind;
+        after = e.here ∷ e.after;
         map = e.map;
         place = e.place;
         sum = b.sum ∙ ap room_sum (filling-all z 0 (from - z.shape.base) e.before (record {
           before = [];
-          behind = e.here ∷ e.behind;
+          after = e.here ∷ e.after;
           map = e.map;
           below = tt;
           floor = omega arith;
@@ -69,32 +69,32 @@ module _ (z : ZoneState) (sizes : HasSizes z) (from k : ℕ) (s : Span) (b : Sum
       omega arith
 
 module _ (z : ZoneState) (k at : ℕ) (s : Span) (b : Below z k at s) where
-  below_end : address_behind z.shape z.heap.map ≡ at + total_size b.behind
-  below_end = let all = ap total_size b.map ∙ total_size-append b.before b.behind in let place = b.place in omega arith
+  below_end : address_after z.shape z.heap.map ≡ at + total_size b.after
+  below_end = let all = ap total_size b.map ∙ total_size-append b.before b.after in let place = b.place in omega arith
 
   -- a block comes next
-  pub follows : at < address_behind z.shape z.heap.map → FirstIn b.behind
-  follows under = let end = below_end in first_in b.behind (omega arith)
+  pub follows : at < address_after z.shape z.heap.map → FirstIn b.after
+  follows under = let end = below_end in first_in b.after (omega arith)
 
   -- at the zone's end no gap has room
-  pub below-all : HasSizes z → address_behind z.shape z.heap.map ≤ at → largest_room z.heap.table z.heap.map < k
+  pub below-all : HasSizes z → address_after z.shape z.heap.map ≤ at → largest_room z.heap.table z.heap.map < k
   below-all sizes past =
       let end = below_end in
-      let none = no_bytes z.shape b.behind (all_parts _ b.before b.behind (ap (sizes_possible z.shape) (sym b.map) ∙ sizes)).1 (omega arith) in
+      let none = no_bytes z.shape b.after (all_parts _ b.before b.after (ap (sizes_possible z.shape) (sym b.map) ∙ sizes)).1 (omega arith) in
       let whole : b.before ≡ z.heap.map = sym (b.map ∙ ap (λ m. b.before ++ m) none ∙ append-nil b.before) in
       let most = ap most_in (b.sum ∙ ap (λ m. room_sum (weights z.heap.table m)) whole) ∙ room_sum-largest z.heap.table z.heap.map in
       let few = b.few in
       omega arith
 
-  module _ (n : FirstIn b.behind) where
+  module _ (n : FirstIn b.after) where
     abbrev pub following : EntryAt z at
-    following = record { before = b.before; here = n.here; behind = n.after; map = b.map ∙ ap (λ m. b.before ++ m) n.is; place = b.place }
+    following = record { before = b.before; here = n.here; after = n.after; map = b.map ∙ ap (λ m. b.before ++ m) n.is; place = b.place }
 
     module _ (e : Entry) (is : e ≡ n.here) where
       with_one : joined s (room_of (weigh z.heap.table e)) ≡ room_sum (weights z.heap.table (b.before ++ n.here ∷ []))
       with_one = ap (λ s. joined s (room_of (weigh z.heap.table e))) b.sum ∙ ap (λ e. joined (room_sum (weights z.heap.table b.before)) (room_of (weigh z.heap.table e))) is ∙ sym (sum-push z.heap.table b.before n.here)
 
-      pub following-fits : address_behind z.shape z.heap.map < 2 ^ 32 → SpanFits (joined s (room_of (weigh z.heap.table e)))
+      pub following-fits : address_after z.shape z.heap.map < 2 ^ 32 → SpanFits (joined s (room_of (weigh z.heap.table e)))
       following-fits few =
           let push = total_size-push b.before n.here in
           let rest = ap total_size n.is in
@@ -114,7 +114,7 @@ module _ (z : ZoneState) (k at : ℕ) (s : Span) (b : Below z k at s) where
       pub following-on : most_in (joined s (room_of (weigh z.heap.table e))) < k → Below z k (at + e.size) (joined s (room_of (weigh z.heap.table e)))
       following-on few = record {
         before = b.before ++ n.here ∷ [];
-        behind = n.after;
+        after = n.after;
         map = b.map ∙ ap (λ m. b.before ++ m) n.is ∙ sym (append_assoc b.before (n.here ∷ []) n.after);
         place = (let push = total_size-push b.before n.here in let size = ap (λ (e : Entry). e.size) is in let place = b.place in omega arith);
         sum = with_one;

@@ -19,7 +19,7 @@ use Rattle.zone_index.proofs.Sizes.{all_parts, even_bytes}
 -- an address between blocks is that of its place
 pub place-back : (z : ZoneState) (at : ℕ) → HasSizes z → SplitAt z at → at ≡ z.shape.base + 4 * place z.shape at
 place-back z at sizes s =
-    let even = even_bytes z.shape s.before (all_parts _ s.before s.behind (ap (sizes_possible z.shape) (sym s.map) ∙ sizes)).0 in
+    let even = even_bytes z.shape s.before (all_parts _ s.before s.after (ap (sizes_possible z.shape) (sym s.map) ∙ sizes)).0 in
     let there = s.place in
     omega (arith, even, there)
 
@@ -49,7 +49,7 @@ module _ (test : HandleTable → Kind → Bool) (z : ZoneState) (marks : List �
       let here = place-back z from sizes s in
       record { above = omega (arith, here); passed = λ at f up. let there = marked-back at f in omega (arith, here, there, up) }
 
-  -- a place with a mark is the next at which one may stand
+  -- a place with a mark is the next at which one may be
   ahead-least : (from p found : ℕ) → Ahead test z from p → FirstAtLeast marks 1 p found → (at : ℕ) → PassesAt test z at → from ≤ at → found ≤ place z.shape at
   ahead-least from p found a first at f up = elim (nat_lt (place z.shape at) found) as (λ b. nat_lt (place z.shape at) found ≡ b → found ≤ place z.shape at) [
     | true ↦ λ is.
@@ -66,7 +66,7 @@ module _ (test : HandleTable → Kind → Bool) (z : ZoneState) (marks : List �
     first = λ other g up. let least = ahead-least from p found a first other g up in let there = marked-back other g in omega (arith, least, there);
   }
 
-  -- where none stands the search goes on
+  -- where none is the search goes on
   pub next-ahead : (from p found : ℕ) → Ahead test z from p → FirstAtLeast marks 1 p found → (PassesAt test z (z.shape.base + 4 * found) → ⊥) → Ahead test z from (found + 1)
   next-ahead from p found a first none = record {
     above = omega (arith, a.above, first.inside.0);

@@ -28,11 +28,11 @@ space_in t m = space_of (weights t m)
 
 -- f says of each handle of these blocks that may be purged how large its block is
 abbrev Sizes : HandleTable → (ℕ → ℕ) → ZoneMap → Type 0
-Sizes t f b = (h n : ℕ) (before behind : ZoneMap) → b ≡ before ++ block (Rel h) n ∷ behind → is_purgeable t h ≡ true → f h ≡ n
+Sizes t f b = (h n : ℕ) (before after : ZoneMap) → b ≡ before ++ block (Rel h) n ∷ after → is_purgeable t h ≡ true → f h ≡ n
 
 space-sum : (t : HandleTable) (f : ℕ → ℕ) (b : ZoneMap) → Sizes t f b → free_bytes b + sum_by f (candidates_in t [] b) ≡ space_in t b
 space-sum t f [] each = refl
-space-sum t f (e ∷ es) each = by_kind e.kind refl (space-sum t f es (λ h n before behind is. each h n (e ∷ before) behind (ap (λ m. e ∷ m) is)))
+space-sum t f (e ∷ es) each = by_kind e.kind refl (space-sum t f es (λ h n before after is. each h n (e ∷ before) after (ap (λ m. e ∷ m) is)))
   where
     by_kind : (k : Kind) → e.kind ≡ k → free_bytes es + sum_by f (candidates_in t [] es) ≡ space_in t es
         → free_bytes (block k e.size ∷ es) + sum_by f (candidates_in t [] (block k e.size ∷ es)) ≡ space_in t (block k e.size ∷ es)
@@ -52,13 +52,13 @@ sum-alone (k ∷ a) n b one = let all = length-append a (n ∷ b) in absurd (ome
 
 module _ (s : Shape) (t : HandleTable) (m : ZoneMap) (coherent : Coherent s t m) where
   -- some blocks of the map, each handle's among them once
-  space-part : (b before behind : ZoneMap) → m ≡ (before ++ b) ++ behind → purge_space t b ≡ space_in t b
-  space-part b before behind parts = space-sum t (λ h. size_of h b) b (λ h n front back is may.
+  space-part : (b before after : ZoneMap) → m ≡ (before ++ b) ++ after → purge_space t b ≡ space_in t b
+  space-part b before after parts = space-sum t (λ h. size_of h b) b (λ h n front back is may.
       let named = is_named h in
       let alone : length (sizes named m) ≡ 1 = named_alone s t m h coherent (and_parts (is_full t h) _ may).0 in
-      let outer : length (sizes named m) ≡ length (sizes named before) + length (sizes named b) + length (sizes named behind) =
-      ap (λ m. length (sizes named m)) parts ∙ ap length (sizes-append named (before ++ b) behind) ∙ length-append (sizes named (before ++ b)) (sizes named behind)
-      ∙ ap (λ n. n + length (sizes named behind)) (ap length (sizes-append named before b) ∙ length-append (sizes named before) (sizes named b)) in
+      let outer : length (sizes named m) ≡ length (sizes named before) + length (sizes named b) + length (sizes named after) =
+      ap (λ m. length (sizes named m)) parts ∙ ap length (sizes-append named (before ++ b) after) ∙ length-append (sizes named (before ++ b)) (sizes named after)
+      ∙ ap (λ n. n + length (sizes named after)) (ap length (sizes-append named before b) ∙ length-append (sizes named before) (sizes named b)) in
       let here : sizes named b ≡ sizes named front ++ n ∷ sizes named back =
       ap (sizes named) is ∙ sizes-append named front (block (Rel h) n ∷ back) ∙ ap (λ c. sizes named front ++ (cond c (n ∷ []) [] ++ sizes named back)) (eqb_same h) in
       let long = ap length here in
@@ -72,7 +72,7 @@ module _ (s : Shape) (t : HandleTable) (m : ZoneMap) (coherent : Coherent s t m)
   each_gap [] each = refl
   each_gap (g ∷ gs) each =
       let gap = All-head (IsGap t m) g gs each in
-      ap (λ n. n ∷ map (λ (g : Gap). purge_space t g.blocks) gs) (space-part g.blocks g.before g.behind gap.parts)
+      ap (λ n. n ∷ map (λ (g : Gap). purge_space t g.blocks) gs) (space-part g.blocks g.before g.after gap.parts)
       ∙ ap (λ ns. space_in t g.blocks ∷ ns) (each_gap gs (All-tail (IsGap t m) g gs each))
 
   -- also in each gap

@@ -13,10 +13,10 @@ use Rattle.sum_tree.specs.Span.{joined, most_in, parts}
 use Rattle.zone_index.specs.declared.sums.Sums.{Sums}
 use Rattle.zone_index.specs.declared.weight.Weight.{Weight}
 use Rattle.zone_index.specs.Weights.{is_space, space_size, weigh, weights, bytes_of, space_of, in_order, most}
-use Rattle.zone_index.specs.Spans.{span_of, passed, behind_of, ordered, order_of, passed_on, IsOrder, IsSpan, IsSum, IsWithin, both, one}
+use Rattle.zone_index.specs.Spans.{span_of, passed, after_of, ordered, order_of, passed_on, IsOrder, IsSpan, IsSum, IsWithin, both, one}
 use Rattle.zone_index.proofs.Begun.{bytes-weights}
 
--- what is said of blocks and those behind them
+-- what is said of blocks and those after them
 joined-passed : (s q : Span) (r : ℕ) (f : ℕ → ℕ) → passed (joined s q) r f ≡ passed s r (λ n. passed q n f)
 joined-passed (Whole n) (Whole k) r f = ap f (let e : r + (n + k) ≡ r + n + k = omega arith in e)
 joined-passed (Whole n) (Parted q) r f = omega arith
@@ -29,18 +29,18 @@ passed-same (Parted p) r f g same = ap (λ n. max (r + p.first) (max p.most n)) 
 
 -- of two parts
 pub span-join : (sort : Weight → ℕ) (a b : List Weight) (s q : Span) → IsSpan sort a s → IsSpan sort b q → IsSpan sort (a ++ b) (joined s q)
-span-join sort a b s q here there = λ r behind.
-    ap (most sort r) (append_assoc a b behind) ∙ here r (b ++ behind) ∙ passed-same s r (λ n. most sort n (b ++ behind)) (λ n. passed q n (λ m. most sort m behind)) (λ n. there n behind)
-    ∙ sym (joined-passed s q r (λ n. most sort n behind))
+span-join sort a b s q here there = λ r after.
+    ap (most sort r) (append_assoc a b after) ∙ here r (b ++ after) ∙ passed-same s r (λ n. most sort n (b ++ after)) (λ n. passed q n (λ m. most sort m after)) (λ n. there n after)
+    ∙ sym (joined-passed s q r (λ n. most sort n after))
 
 -- of none
 pub span-none : (sort : Weight → ℕ) → IsSpan sort [] (Whole 0)
-span-none sort = λ r behind. ap (λ n. most sort n behind) (let e : r ≡ r + 0 = omega arith in e)
+span-none sort = λ r after. ap (λ n. most sort n after) (let e : r ≡ r + 0 = omega arith in e)
 
 -- of one
 pub span-one : (sort : Weight → ℕ) (w : Weight) → IsSpan sort (w ∷ []) (span_of sort w)
-span-one sort w = λ r behind. elim w.fixed as (λ c. cond c (max r (most sort 0 behind)) (most sort (r + sort w) behind)
-    ≡ passed (cond c (parts 0 0 0) (Whole (sort w))) r (λ n. most sort n behind)) [ true ↦ omega arith | false ↦ refl ]
+span-one sort w = λ r after. elim w.fixed as (λ c. cond c (max r (most sort 0 after)) (most sort (r + sort w) after)
+    ≡ passed (cond c (parts 0 0 0) (Whole (sort w))) r (λ n. most sort n after)) [ true ↦ omega arith | false ↦ refl ]
 
 and-assoc : (a b c : Bool) → (a && (b && c)) ≡ ((a && b) && c)
 and-assoc true b c = refl
@@ -50,17 +50,17 @@ and-true : (a : Bool) → (a && true) ≡ a
 and-true true = refl
 and-true false = refl
 
--- what is found behind two parts
-behind-ordered : (s q : Order) (free : Bool) → behind_of (ordered s q) free ≡ passed_on (behind_of s free) q
-behind-ordered s q true = refl
-behind-ordered s q false = refl
+-- what is found after two parts
+after-ordered : (s q : Order) (free : Bool) → after_of (ordered s q) free ≡ passed_on (after_of s free) q
+after-ordered s q true = refl
+after-ordered s q false = refl
 
 -- the order of two parts
 pub order-join : (a b : List Weight) (s q : Order) → IsOrder a s → IsOrder b q → IsOrder (a ++ b) (ordered s q)
-order-join a b s q here there = λ free behind.
-    let p = behind_of s free in let r = behind_of q p.free in
-    ap (in_order free) (append_assoc a b behind) ∙ here free (b ++ behind) ∙ ap (λ c. p.arranged && c) (there p.free behind)
-    ∙ and-assoc p.arranged r.arranged (in_order r.free behind) ∙ sym (ap (λ (o : Passed). o.arranged && in_order o.free behind) (behind-ordered s q free))
+order-join a b s q here there = λ free after.
+    let p = after_of s free in let r = after_of q p.free in
+    ap (in_order free) (append_assoc a b after) ∙ here free (b ++ after) ∙ ap (λ c. p.arranged && c) (there p.free after)
+    ∙ and-assoc p.arranged r.arranged (in_order r.free after) ∙ sym (ap (λ (o : Passed). o.arranged && in_order o.free after) (after-ordered s q free))
 
 -- that of none
 abbrev pub no_order : Order
@@ -71,13 +71,13 @@ abbrev pub nothing : Sums
 nothing = record { bytes = 0; space = 0; spaces = Whole 0; order = no_order }
 
 pub order-none : IsOrder [] no_order
-order-none = λ free behind. elim free as (λ f. in_order f behind
-    ≡ ((behind_of no_order f).arranged
-    && in_order (behind_of no_order f).free behind)) [ true ↦ refl | false ↦ refl ]
+order-none = λ free after. elim free as (λ f. in_order f after
+    ≡ ((after_of no_order f).arranged
+    && in_order (after_of no_order f).free after)) [ true ↦ refl | false ↦ refl ]
 
 -- of one
 pub order-one : (w : Weight) → IsOrder (w ∷ []) (order_of w)
-order-one w = λ free behind. elim free as (λ f. ((not f || w.fixed) && in_order (nat_lt 0 w.free) behind) ≡ ((behind_of (order_of w) f).arranged && in_order (behind_of (order_of w) f).free behind)) [ true ↦ refl | false ↦ refl ]
+order-one w = λ free after. elim free as (λ f. ((not f || w.fixed) && in_order (nat_lt 0 w.free) after) ≡ ((after_of (order_of w) f).arranged && in_order (after_of (order_of w) f).free after)) [ true ↦ refl | false ↦ refl ]
 
 -- of all blocks
 pub order-all : (ws : List Weight) (o : Order) → IsOrder ws o → o.after_other.arranged ≡ in_order false ws

@@ -12,18 +12,18 @@ use Rattle.zone_index.specs.Runs.{none_fixed, begins_fixed, ends_fixed}
 -- the blocks up to the first fixed one, and the others
 pub record FirstRun (t : HandleTable) (m : ZoneMap) : Type 0 where
   pub blocks : ZoneMap
-  pub behind : ZoneMap
-  pub parts : m ≡ blocks ++ behind
+  pub after : ZoneMap
+  pub parts : m ≡ blocks ++ after
   pub moves : none_fixed t blocks ≡ true
-  pub above : begins_fixed t behind ≡ true
+  pub above : begins_fixed t after ≡ true
 
 -- with one more block in front
 longer_run : (t : HandleTable) (e : Entry) (es : ZoneMap) → FirstRun t es → (b : Bool) → is_fixed t e.kind ≡ b → FirstRun t (e ∷ es)
-longer_run t e es rest true fixed = record { blocks = []; behind = e ∷ es; parts = refl; moves = refl; above = fixed }
-longer_run t e es rest false moves = record { blocks = e ∷ rest.blocks; behind = rest.behind; parts = ap (λ m. e ∷ m) rest.parts; moves = and_from _ _ (ap not moves) rest.moves; above = rest.above }
+longer_run t e es rest true fixed = record { blocks = []; after = e ∷ es; parts = refl; moves = refl; above = fixed }
+longer_run t e es rest false moves = record { blocks = e ∷ rest.blocks; after = rest.after; parts = ap (λ m. e ∷ m) rest.parts; moves = and_from _ _ (ap not moves) rest.moves; above = rest.above }
 
 pub first_run : (t : HandleTable) (m : ZoneMap) → FirstRun t m
-first_run t [] = record { blocks = []; behind = []; parts = refl; moves = refl; above = refl }
+first_run t [] = record { blocks = []; after = []; parts = refl; moves = refl; above = refl }
 first_run t (e ∷ es) = longer_run t e es (first_run t es) (is_fixed t e.kind) refl
 
 -- a fixed block has no free bytes

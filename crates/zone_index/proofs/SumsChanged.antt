@@ -7,7 +7,7 @@ use Rattle.mac_base.specs.Gap.{is_fixed}
 use Rattle.mac_base.specs.HandleTable.{HandleTable}
 use Rattle.mac_base.specs.HeadKind.{zone_header}
 use Rattle.mac_base.specs.Heap.{Heap}
-use Rattle.mac_base.specs.ZoneMap.{ZoneMap, address_behind, block, free_block, free_bytes, free_size, total_size}
+use Rattle.mac_base.specs.ZoneMap.{ZoneMap, address_after, block, free_block, free_bytes, free_size, total_size}
 use Rattle.mac_base.specs.ZoneState.{ZoneState, with_heap}
 use Rattle.zone_laws.proofs.Maps.{total_size-append}
 use Rattle.linked_zone.specs.Changes.{carried_up, cut_in_two, enlarged, extended, held_there, joined_pair, relocated, sunk}
@@ -21,18 +21,18 @@ use Rattle.zone_index.specs.Weights.{weigh}
 use Rattle.zone_index.proofs.Summing.{IsSumming}
 use Rattle.zone_index.proofs.SumsRenewed.{Begins, sums-all_stale, sums-renewed}
 
--- the blocks behind the first of a parcel
+-- the blocks after the first of a parcel
 abbrev pub parcel_split : (z : ZoneState) {at end : ℕ} (parcel : ParcelAt z at end) (low : ℕ) → low ≡ at + parcel.here.size → SplitAt z low
 parcel_split z parcel low is = record {
   before = parcel.before ++ parcel.here ∷ [];
-  behind = parcel.blocks ++ parcel.behind;
-  map = parcel.map ∙ sym (append_assoc parcel.before (parcel.here ∷ []) (parcel.blocks ++ parcel.behind));
+  after = parcel.blocks ++ parcel.after;
+  map = parcel.map ∙ sym (append_assoc parcel.before (parcel.here ∷ []) (parcel.blocks ++ parcel.after));
   place = (let all = total_size-append parcel.before (parcel.here ∷ []) in let place = parcel.place in omega arith);
 }
 
--- a run and the block behind it
+-- a run and the block after it
 abbrev pub run_split : (z : ZoneState) {start at : ℕ} → ParcelUpTo z start at → SplitAt z start
-run_split z parcel = record { before = parcel.before; behind = parcel.blocks ++ parcel.here ∷ parcel.behind; map = parcel.map; place = parcel.place }
+run_split z parcel = record { before = parcel.before; after = parcel.blocks ++ parcel.here ∷ parcel.after; map = parcel.map; place = parcel.place }
 
 -- of blocks none of which is fixed the first aren't
 pub none_fixed-first : (t : HandleTable) (a b : ZoneMap) → none_fixed t (a ++ b) ≡ true → none_fixed t a ≡ true
@@ -40,8 +40,8 @@ none_fixed-first t [] b moves = refl
 none_fixed-first t (e ∷ es) b moves = let both = and_parts (not (is_fixed t e.kind)) (none_fixed t (es ++ b)) moves in and_from _ _ both.0 (none_fixed-first t es b both.1)
 
 -- the block that grows
-abbrev pub grown-entry : (z : ZoneState) {x size n at : ℕ} (can : CanGrow z x size n) → at ≡ address_behind z.shape can.before → EntryAt z at
-grown-entry z can place = record { before = can.before; here = can.here; behind = block Free can.free ∷ can.behind; map = can.map; place = place }
+abbrev pub grown-entry : (z : ZoneState) {x size n at : ℕ} (can : CanGrow z x size n) → at ≡ address_after z.shape can.before → EntryAt z at
+grown-entry z can place = record { before = can.before; here = can.here; after = block Free can.free ∷ can.after; map = can.map; place = place }
 
 module _ {M : Type 0} {fits : M → Type 0} (s : Summing M) (are : IsSumming s fits) where
   -- what is over may begin where it does
@@ -71,19 +71,19 @@ module _ {M : Type 0} {fits : M → Type 0} (s : Summing M) (are : IsSumming s f
         sums-renewed s are z (joined_pair z pair).heap at (at + pair.first) (merge-renews z pair) (λ n. (n ≡ at) ⊎ (n ≡ at + pair.first)) (inr (inl refl), (inr (inr refl), tt)) (inr (inl refl), tt) old new a t
         (λ n there. let place = pair.place in elim there [ inl is ↦ omega arith | inr is ↦ omega arith ])
 
-    pub sums-held : {x size n at : ℕ} (can : CanHold z x size n) → at ≡ address_behind z.shape can.before → Touched z.shape old new (λ m. (m ≡ at) ⊎ (m ≡ at + size)) → AreSums s (held_there z can) new
+    pub sums-held : {x size n at : ℕ} (can : CanHold z x size n) → at ≡ address_after z.shape can.before → Touched z.shape old new (λ m. (m ≡ at) ⊎ (m ≡ at + size)) → AreSums s (held_there z can) new
     sums-held {size = size} {at = at} can place t =
         sums-renewed s are z (held_there z can).heap at (at + size) (held-renews z can place) (λ m. (m ≡ at) ⊎ (m ≡ at + size)) (inr (inl refl), tt)
         (inr (inl refl), one_begins (held_there z can).heap.table (λ m. (m ≡ at) ⊎ (m ≡ at + size)) (can.here.size - size) (at + size) (inr refl)) old new a t
         (λ m there. elim there [ inl is ↦ omega arith | inr is ↦ omega arith ])
 
-    pub sums-grown : {x size n at : ℕ} (can : CanGrow z x size n) → at ≡ address_behind z.shape can.before → Touched z.shape old new (λ m. ((m ≡ at) ⊎ (m ≡ at + can.here.size)) ⊎ (m ≡ at + size)) → AreSums s (enlarged z can) new
+    pub sums-grown : {x size n at : ℕ} (can : CanGrow z x size n) → at ≡ address_after z.shape can.before → Touched z.shape old new (λ m. ((m ≡ at) ⊎ (m ≡ at + can.here.size)) ⊎ (m ≡ at + size)) → AreSums s (enlarged z can) new
     sums-grown {size = size} {at = at} can place t =
         sums-renewed s are z (enlarged z can).heap at (at + size) (grown-renews z can place) (λ m. ((m ≡ at) ⊎ (m ≡ at + can.here.size)) ⊎ (m ≡ at + size)) (inr (inl (inl refl)), (inr (inl (inr refl)), tt))
         (inr (inl (inl refl)), one_begins (enlarged z can).heap.table (λ m. ((m ≡ at) ⊎ (m ≡ at + can.here.size)) ⊎ (m ≡ at + size)) (can.here.size + can.free - size) (at + size) (inr refl)) old new a t
         (λ m there. elim there [ inl first ↦ elim first [ inl is ↦ omega arith | inr is ↦ omega arith ] | inr is ↦ omega arith ])
 
-    pub sums-extended : {end : ℕ} → end ≡ address_behind z.shape z.heap.map → Touched z.shape old new (λ n. n ≡ end) → AreSums s (extended z) new
+    pub sums-extended : {end : ℕ} → end ≡ address_after z.shape z.heap.map → Touched z.shape old new (λ n. n ≡ end) → AreSums s (extended z) new
     sums-extended {end} place t =
         sums-renewed s are z (extended z).heap end end (extended-renews z place) (λ n. n ≡ end) tt (one_begins (extended z).heap.table (λ n. n ≡ end) (z.shape.limit - (zone_header + total_size z.heap.map)) end refl) old new a t
         (λ n there. omega arith)
@@ -115,7 +115,7 @@ module _ {M : Type 0} {fits : M → Type 0} (s : Summing M) (are : IsSumming s f
           let P : ℕ → Type 0 = λ n. (n ≡ at) ⊎ (n ≡ at + total_size parcel.blocks) in
           let u : HandleTable = z.heap.table in
           let both = and_parts (not (is_fixed u parcel.here.kind)) (none_fixed u parcel.blocks) loose in
-          let free = none.0 parcel.blocks parcel.behind refl (let long = parcel.long in omega arith) in
+          let free = none.0 parcel.blocks parcel.after refl (let long = parcel.long in omega arith) in
           sums-renewed s are z (carried_up z parcel).heap at end (carry-renews z parcel) P
           (inr (inl refl), idle_begins u P (at + parcel.here.size) parcel.blocks both.1 free)
           (begins-append u P at parcel.blocks (parcel.here ∷ []) (idle_begins u P at parcel.blocks both.1 free) (inr (inr refl), tt))
@@ -129,7 +129,7 @@ module _ {M : Type 0} {fits : M → Type 0} (s : Summing M) (are : IsSumming s f
       | inl none ↦
           let P : ℕ → Type 0 = λ n. (n ≡ at) ⊎ (n ≡ start) in
           let u : HandleTable = z.heap.table in
-          let free = none.0 parcel.blocks (parcel.here ∷ parcel.behind) refl (let long = parcel.long in omega arith) in
+          let free = none.0 parcel.blocks (parcel.here ∷ parcel.after) refl (let long = parcel.long in omega arith) in
           sums-renewed s are z (sunk z parcel).heap start (at + parcel.here.size) (sink-renews z parcel) P
           (begins-append u P start parcel.blocks (parcel.here ∷ []) (idle_begins u P start parcel.blocks loose free) (inr (inl (sym parcel.long)), tt))
           (inr (inr refl), idle_begins u P (start + parcel.here.size) parcel.blocks loose free)

@@ -66,7 +66,7 @@ pub record Touched {M : Type 0} (s : Shape) (old new : Stored M) (at : ℕ → T
 
 -- none of the blocks between two addresses is free
 abbrev pub IsUsed : {z : ZoneState} {low : ℕ} → SplitAt z low → ℕ → Type 0
-IsUsed {low = low} split high = (blocks behind : ZoneMap) → split.behind ≡ blocks ++ behind → low + total_size blocks ≤ high → free_bytes blocks ≡ 0
+IsUsed {low = low} split high = (blocks after : ZoneMap) → split.after ≡ blocks ++ after → low + total_size blocks ≤ high → free_bytes blocks ≡ 0
 
 -- that is so and what was stale is, or all sums are stale
 abbrev pub IsPassed : {M : Type 0} {z : ZoneState} {low : ℕ} → Stored M → Stored M → SplitAt z low → ℕ → Type 0

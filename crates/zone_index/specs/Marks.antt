@@ -1,4 +1,4 @@
--- What is kept beside a zone: where its fixed blocks stand, and those of handles that may be purged.
+-- What is kept beside a zone: where its fixed blocks are, and those of handles that may be purged.
 use Rattle.std.specs.Prelude.{◌≡◌, ℕ, ◌+◌, ◌-◌, ◌/◌, ◌≤◌, Bool, List, length, slice_index, IsTrue}
 use Rattle.mac_base.specs.declared.block.Kind.{Kind}
 use Rattle.mac_base.specs.Gap.{is_fixed}
@@ -11,7 +11,7 @@ use Rattle.linked_zone.specs.Places.{EntryAt}
 abbrev pub place : Shape → ℕ → ℕ
 place s at = (at - s.base) / 4
 
--- the header of a block that passes a test stands at an address
+-- the header of a block that passes a test is at an address
 pub record PassesAt (test : HandleTable → Kind → Bool) (z : ZoneState) (at : ℕ) : Type 0 where
   pub entry : EntryAt z at
   pub passes : IsTrue (test z.heap.table (entry.here).kind)

@@ -23,13 +23,13 @@ may_go t (Rel h) = is_purgeable t h
 abbrev pub none_purgeable : HandleTable → ZoneMap → Bool
 none_purgeable t blocks = list_all (λ (e : Entry). not (may_go t e.kind)) blocks
 
--- the first of these blocks that may be purged stands at an address, where the first of all begins at another
+-- the first of these blocks that may be purged is at an address, where the first of all begins at another
 pub record FirstPurgeable (t : HandleTable) (blocks : ZoneMap) (from at : ℕ) : Type 0 where
   pub passed : ZoneMap
   pub handle : ℕ
   pub size : ℕ
-  pub behind : ZoneMap
-  pub splits : blocks ≡ passed ++ block (Rel handle) size ∷ behind
+  pub after : ZoneMap
+  pub splits : blocks ≡ passed ++ block (Rel handle) size ∷ after
   pub kept : IsTrue (none_purgeable t passed)
   pub goes : IsTrue (is_purgeable t handle)
   pub place : at ≡ from + total_size passed

@@ -4,7 +4,7 @@ use Rattle.std.specs.List.{list_all}
 use Rattle.mac_base.specs.declared.block.Entry.{Entry}
 use Rattle.mac_base.specs.Gap.{is_fixed}
 use Rattle.mac_base.specs.HandleTable.{HandleTable}
-use Rattle.mac_base.specs.ZoneMap.{ZoneMap, address_behind}
+use Rattle.mac_base.specs.ZoneMap.{ZoneMap, address_after}
 use Rattle.mac_base.specs.ZoneState.{ZoneState}
 
 -- whether none is fixed
@@ -26,18 +26,18 @@ ends_fixed t (e ∷ f ∷ es) = ends_fixed t (f ∷ es)
 pub record RestAt (z : ZoneState) (start : ℕ) : Type 0 where
   pub before : ZoneMap
   pub blocks : ZoneMap
-  pub behind : ZoneMap
-  pub map : z.heap.map ≡ before ++ (blocks ++ behind)
-  pub place : start ≡ address_behind z.shape before
+  pub after : ZoneMap
+  pub map : z.heap.map ≡ before ++ (blocks ++ after)
+  pub place : start ≡ address_after z.shape before
   pub moves : IsTrue (none_fixed z.heap.table blocks)
-  pub above : IsTrue (begins_fixed z.heap.table behind)
+  pub above : IsTrue (begins_fixed z.heap.table after)
 
--- the blocks behind the last fixed one below an address, or from the zone's start on
+-- the blocks after the last fixed one below an address, or from the zone's start on
 pub record FrontAt (z : ZoneState) (end : ℕ) : Type 0 where
   pub before : ZoneMap
   pub blocks : ZoneMap
-  pub behind : ZoneMap
-  pub map : z.heap.map ≡ before ++ (blocks ++ behind)
-  pub place : end ≡ address_behind z.shape (before ++ blocks)
+  pub after : ZoneMap
+  pub map : z.heap.map ≡ before ++ (blocks ++ after)
+  pub place : end ≡ address_after z.shape (before ++ blocks)
   pub moves : IsTrue (none_fixed z.heap.table blocks)
   pub below : IsTrue (ends_fixed z.heap.table before)

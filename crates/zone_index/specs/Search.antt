@@ -6,7 +6,7 @@ use Rattle.mac_base.specs.HandleTable.{HandleTable}
 use Rattle.mac_base.specs.ZoneState.{ZoneState}
 use Rattle.zone_index.specs.Marks.{FixedAt, PassesAt}
 
--- the first one from an address on stands at another
+-- the first one from an address on is at another
 pub record NextPassing (test : HandleTable → Kind → Bool) (z : ZoneState) (from at : ℕ) : Type 0 where
   pub here : PassesAt test z at
   pub above : from ≤ at
@@ -16,7 +16,7 @@ pub record NextPassing (test : HandleTable → Kind → Bool) (z : ZoneState) (f
 abbrev pub NonePassing : (HandleTable → Kind → Bool) → ZoneState → ℕ → Type 0
 NonePassing test z from = (at : ℕ) → PassesAt test z at → from ≤ at → ⊥
 
--- the first fixed block from an address on stands at another
+-- the first fixed block from an address on is at another
 abbrev pub NextFixed : ZoneState → ℕ → ℕ → Type 0
 NextFixed = NextPassing is_fixed
 
@@ -24,7 +24,7 @@ NextFixed = NextPassing is_fixed
 abbrev pub NoneFrom : ZoneState → ℕ → Type 0
 NoneFrom = NonePassing is_fixed
 
--- the last fixed block below an address stands at another
+-- the last fixed block below an address is at another
 pub record LastFixed (z : ZoneState) (end at : ℕ) : Type 0 where
   pub here : FixedAt z at
   pub below : at < end

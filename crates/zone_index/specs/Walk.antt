@@ -1,4 +1,4 @@
--- Where a walk from page to page stands.
+-- Where a walk from page to page is.
 use Rattle.std.specs.Prelude.{ℕ, ◌+◌, ◌<◌, ⊤, [], ◌∷◌}
 use Rattle.mac_base.specs.HeadKind.{zone_header}
 use Rattle.mac_base.specs.ZoneMap.{ZoneMap}
@@ -11,7 +11,7 @@ abbrev pub AllBelow : ℕ → ℕ → ZoneMap → Type 0
 AllBelow high at [] = ⊤
 AllBelow high at (e ∷ es) = (at < high) × AllBelow high (at + e.size) es
 
--- the first block of a page stands at an address
+-- the first block of a page is at an address
 pub record FirstOfPage (z : ZoneState) (at : ℕ) : Type 0 where
   pub entry : EntryAt z at
   pub below : AllBelow (page_start (page z.shape at)) zone_header entry.before

@@ -42,7 +42,7 @@ abbrev pub most : (Weight → ℕ) → ℕ → List Weight → ℕ
 most sort r [] = r
 most sort r (w ∷ ws) = if w.fixed then max r (most sort 0 ws) else most sort (r + sort w) ws
 
--- whether right behind a free block there is none or a fixed one, where the first stands behind a free one, or not:
+-- whether right after a free block there is none or a fixed one, where the first is after a free one, or not:
 -- then no block can be moved down
 abbrev pub in_order : Bool → List Weight → Bool
 in_order free [] = true

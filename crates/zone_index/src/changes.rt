@@ -44,7 +44,7 @@ impl IndexedZone {
         self.zone.release(handle);
     }
 
-    /// Grows the zone to its limit: the bytes up to there are a free block behind the last. Where the zone is as large
+    /// Grows the zone to its limit: the bytes up to there are a free block after the last. Where the zone is as large
     /// as its limit nothing changes.
     pub fn extend(&mut self)
         ensures { self.new ≡ extended self.old }
@@ -65,33 +65,33 @@ impl IndexedZone {
         ensures { (can : CanCut self.old at size) → self.new ≡ cut_in_two size self.old can.free }
     {
         let first = self.page(at);
-        let behind = at + size;
-        let last = self.page_at(behind);
+        let after = at + size;
+        let last = self.page_at(after);
         let low = self.leaf(at);
-        let high = self.leaf_at(behind);
+        let high = self.leaf_at(after);
         self.pages.forget(first, last);
         self.leaves.touch(low);
         self.leaves.touch(high);
         self.zone.split(at, size);
     }
 
-    /// Makes a free block and the free one behind it one block.
+    /// Makes a free block and the free one after it one block.
     pub fn merge(&mut self, at: u32)
         requires { FreePair self.old at }
         ensures { (pair : FreePair self.old at) → self.new ≡ joined_pair self.old pair }
     {
         let first = self.page(at);
-        let behind = at + self.zone.free_size(at);
-        let last = self.page_at(behind);
+        let after = at + self.zone.free_size(at);
+        let last = self.page_at(after);
         let low = self.leaf(at);
-        let high = self.leaf_at(behind);
+        let high = self.leaf_at(after);
         self.pages.forget(first, last);
         self.leaves.touch(low);
         self.leaves.touch(high);
         self.zone.merge(at);
     }
 
-    /// The block at an address changes places with those behind it up to an address, each of a handle or free. Every
+    /// The block at an address changes places with those after it up to an address, each of a handle or free. Every
     /// handle has the same bytes and flags. The bytes turn in one rotation, however many blocks there are.
     pub fn carry(&mut self, at: u32, end: u32)
         requires parcel { ParcelAt self.old at end }
@@ -243,7 +243,7 @@ impl IndexedZone {
     }
 
     /// The block of a handle in a new place: the free block at an address is its block now, with `length` bytes: those
-    /// that it had, as far as they go, and zeros behind them; the old block is free. Flags stay.
+    /// that it had, as far as they go, and zeros after them; the old block is free. Flags stay.
     pub fn relocate(&mut self, handle: Handle, at: u32, length: u32)
         requires full { IsTrue (is_full self.old.heap.table handle) }
         requires unlocked { IsFalse (is_locked self.old.heap.table handle) }
@@ -290,7 +290,7 @@ impl IndexedZone {
         self.lengths.note(block, length);
     }
 
-    /// Gives a handle or a pointer `length` bytes in the first `size` bytes of its block and the free one right behind
+    /// Gives a handle or a pointer `length` bytes in the first `size` bytes of its block and the free one right after
     /// it; the others are free. Bytes that it had stay as far as they go, and those that are added are zero.
     pub fn grow(&mut self, block: u32, size: u32, length: u32)
         requires room { CanGrow self.old block size length }
@@ -302,9 +302,9 @@ impl IndexedZone {
         let first = self.page(at);
         let end = at + size;
         let last = self.page_at(end);
-        let behind = at + self.zone.entry_at(at).size;
+        let after = at + self.zone.entry_at(at).size;
         let low = self.leaf(at);
-        let middle = self.leaf_at(behind);
+        let middle = self.leaf_at(after);
         let high = self.leaf_at(end);
         self.pages.forget(first, last);
         self.leaves.touch(low);

@@ -16,7 +16,7 @@ impl IndexedZone {
     ghost use Rattle.zone_index.specs.Disorder.{FirstOutOfOrder};
     ghost use Rattle.zone_index.specs.Weights.{in_order, weights};
 
-    /// The address of the first block that can be moved down, if there is one: right before it stands a free block, and
+    /// The address of the first block that can be moved down, if there is one: right before it is a free block, and
     /// it isn't fixed. Of the pages below only those are gone through that changed since they were last looked at, and
     /// the one in which it is found.
     pub fn first_out_of_order(&mut self) -> Option<u32>
@@ -39,11 +39,11 @@ fn first_by_pages(zone: &LinkedZone, pages: &mut Pages) -> Option<u32>
     let mut free = false;
     while at < end {
         let here = page_sums(zone, pages, at);
-        let behind = here.order.behind(free);
-        if !behind.arranged {
+        let after = here.order.after(free);
+        if !after.arranged {
             return first_from(zone, at, free);
         }
-        free = behind.free;
+        free = after.free;
         at += here.bytes;
     }
     None
@@ -58,14 +58,14 @@ fn first_from(zone: &LinkedZone, from: u32, free: bool) -> Option<u32>
     let spec = zone.spec();
     let end = spec.base() + spec.size();
     let mut at = from;
-    let mut behind_free = free;
+    let mut past_free = free;
     while at < end {
         let here = zone.entry_at(at);
         let weight = weigh(zone, here.size, here.kind);
-        if behind_free && !weight.fixed {
+        if past_free && !weight.fixed {
             return Some(at);
         }
-        behind_free = weight.free > 0;
+        past_free = weight.free > 0;
         at += here.size;
     }
     None

@@ -32,7 +32,7 @@ fn last_fixed(zone: &LinkedZone, marks: &Bits, end: u32) -> Option<u32>
     None
 }
 
-/// The address behind the gap that has the blocks from an address on.
+/// The address after the gap that has the blocks from an address on.
 pub(crate) fn gap_end(zone: &LinkedZone, marks: &Bits, start: u32) -> u32
     requires rest { RestAt zone.now start }
     requires marked { AreMarked is_fixed zone.now marks.now }

@@ -119,7 +119,7 @@ impl Lengths {
     }
 }
 
-/// Puts places of which nothing is remembered behind the others, up to so many in all. There is room for them.
+/// Puts places of which nothing is remembered after the others, up to so many in all. There is room for them.
 fn extend(places: &mut Vec<Remembered>, end: usize)
     requires { end ≤ vec_capacity places.old }
     ensures { (p n : ℕ) → slice_get places.new.items p ≡ Some (Some n) → slice_get places.old.items p ≡ Some (Some n) }

@@ -45,7 +45,7 @@ pub(crate) fn mark_blocks(zone: &LinkedZone, marks: &mut Bits, purgeable: &mut B
     }
 }
 
-/// Whether a mark stands from one place on up to another.
+/// Whether a mark is from one place on up to another.
 fn any_marked(marks: &Bits, first: usize, end: usize) -> bool
     requires { end ≤ length marks.now }
     ensures { IsFalse result → (j : ℕ) → first ≤ j → j < end → slice_index marks.now j ≡ 0 }
@@ -53,7 +53,7 @@ fn any_marked(marks: &Bits, first: usize, end: usize) -> bool
     marks.first_between(first, end).is_some()
 }
 
-/// The mark at a place goes behind those of `count` places that lie `step` places further on, which move down.
+/// The mark at a place goes after those of `count` places that lie `step` places further on, which move down.
 pub(crate) fn carry(marks: &mut Bits, first: usize, step: usize, count: usize)
     requires some { 0 < step }
     requires inside { first + step + count ≤ length marks.old }
@@ -67,7 +67,7 @@ pub(crate) fn carry(marks: &mut Bits, first: usize, step: usize, count: usize)
     }
 }
 
-/// The mark behind `count` places goes before theirs, which move up by `step` places.
+/// The mark after `count` places goes before theirs, which move up by `step` places.
 pub(crate) fn sink(marks: &mut Bits, first: usize, step: usize, count: usize)
     requires some { 0 < step }
     requires inside { first + step + count ≤ length marks.old }

@@ -1,20 +1,20 @@
 //! Whether blocks can be moved down.
 
 ghost use Rattle.std.specs.Prelude.{◌≡◌};
-ghost use Rattle.zone_index.specs.Spans.{behind_of, order_of, ordered, passed_on};
+ghost use Rattle.zone_index.specs.Spans.{after_of, order_of, ordered, passed_on};
 
 use crate::weight::Weight;
 
-/// What is found behind neighbouring blocks.
+/// What is found after neighbouring blocks.
 #[derive(Clone, Copy)]
 pub struct Passed {
-    /// Whether none of them can be moved down: right behind each free one stands a fixed one, if one does.
+    /// Whether none of them can be moved down: right after each free one is a fixed one, if one does.
     pub arranged: bool,
     /// Whether the last of them is free.
     pub free: bool,
 }
 
-/// What is found behind neighbouring blocks, by what stands before them.
+/// What is found after neighbouring blocks, by what is before them.
 #[derive(Clone, Copy)]
 pub struct Order {
     /// Where that is a free block.
@@ -24,14 +24,14 @@ pub struct Order {
 }
 
 impl Passed {
-    /// What is found behind these and other blocks.
+    /// What is found after these and other blocks.
     fn on(self, next: Order) -> Passed
         ensures { result ≡ passed_on self next }
     {
-        let behind = next.behind(self.free);
+        let after = next.after(self.free);
         Passed {
-            arranged: self.arranged && behind.arranged,
-            free: behind.free,
+            arranged: self.arranged && after.arranged,
+            free: after.free,
         }
     }
 }
@@ -66,9 +66,9 @@ impl Order {
         }
     }
 
-    /// What is found behind, where a free block stands before, or none.
-    pub fn behind(self, free: bool) -> Passed
-        ensures { result ≡ behind_of self free }
+    /// What is found after, where a free block is before, or none.
+    pub fn after(self, free: bool) -> Passed
+        ensures { result ≡ after_of self free }
     {
         if free {
             self.after_free
@@ -77,7 +77,7 @@ impl Order {
         }
     }
 
-    /// These blocks and those behind them.
+    /// These blocks and those after them.
     pub fn join(self, next: Order) -> Order
         ensures { result ≡ ordered self next }
     {

@@ -106,7 +106,7 @@ fn forget(pages: &mut [Option<Sums>], first: usize, last: usize)
     }
 }
 
-/// The sums of the page whose first block stands at an address. They are remembered.
+/// The sums of the page whose first block is at an address. They are remembered.
 pub fn page_sums(zone: &LinkedZone, pages: &mut Pages, at: u32) -> Sums
     requires first { FirstOfPage zone.now at }
     requires pages { ArePages zone.now pages.old }
@@ -122,7 +122,7 @@ pub fn page_sums(zone: &LinkedZone, pages: &mut Pages, at: u32) -> Sums
     sums
 }
 
-/// The sums of the page whose first block stands at an address, by a walk over its blocks.
+/// The sums of the page whose first block is at an address, by a walk over its blocks.
 fn measure(zone: &LinkedZone, first: u32) -> Sums
     requires { FirstOfPage zone.now first }
     ensures { IsSum (page_weights zone.now (page zone.now.shape first)) result }

@@ -23,8 +23,8 @@ impl IndexedZone {
     /// purgeable and not locked. Besides such blocks at most those are read that were so once.
     pub fn next_purgeable(&self, from: u32) -> Option<u32>
         requires { SplitAt self.now from }
-        ensures next { IfSome result (λ at. (split : SplitAt self.now from) → FirstPurgeable self.now.heap.table split.behind from at) }
-        ensures none { IfNone result ((split : SplitAt self.now from) → IsTrue (none_purgeable self.now.heap.table split.behind)) }
+        ensures next { IfSome result (λ at. (split : SplitAt self.now from) → FirstPurgeable self.now.heap.table split.after from at) }
+        ensures none { IfNone result ((split : SplitAt self.now from) → IsTrue (none_purgeable self.now.heap.table split.after)) }
     {
         let _spec = self.zone.spec();
         next_passing::<Going>(&self.zone, &self.purgeable, from)

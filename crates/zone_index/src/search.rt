@@ -58,7 +58,7 @@ impl BlockTest for Going {
 ghost use Rattle.std.specs.Prelude.{◌↔◌, IsTrue};
 ghost use Rattle.zone_index.specs.Marks.{PassesAt};
 
-/// Whether the header of a block that passes stands at this address. One header is read.
+/// Whether the header of a block that passes is at this address. One header is read.
 pub(crate) fn passes_at<T: BlockTest>(zone: &LinkedZone, at: u32) -> bool
     ensures { IsTrue result ↔ PassesAt T.test zone.now at }
 {

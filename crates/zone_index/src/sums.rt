@@ -57,7 +57,7 @@ impl Sums {
         }
     }
 
-    /// Those of these blocks and of others behind them.
+    /// Those of these blocks and of others after them.
     pub fn join(self, next: Sums) -> Sums
         requires here { IsWithin self }
         requires there { IsWithin next }

@@ -22,7 +22,7 @@ use sum_tree::{Span, StaleTree};
 pub struct IndexedZone {
     pub(crate) zone: LinkedZone,
     /// A mark at each fixed block: master blocks, nonrelocatable blocks and those of locked handles. There is room for
-    /// one at each four bytes of the zone. One may stand where no fixed block does.
+    /// one at each four bytes of the zone. One may be where no fixed block does.
     pub(crate) marks: Bits,
     /// The same of the blocks that may be purged.
     pub(crate) purgeable: Bits,
@@ -74,7 +74,7 @@ impl IndexedZone {
     ghost use Rattle.std.specs.Prelude.{◌≡◌, ◌+◌, ◌/◌, ◌^◌, ◌<◌, ◌≤◌, length, IfOk};
     ghost use Rattle.mac_base.specs.HandleTable.{bytes_of};
     ghost use Rattle.mac_base.specs.Reports.{largest_purge_space, largest_room, purge_space};
-    ghost use Rattle.mac_base.specs.ZoneMap.{address_behind, total_size};
+    ghost use Rattle.mac_base.specs.ZoneMap.{address_after, total_size};
     ghost use Rattle.mac_base.specs.ZoneSizes.{ArePossible};
     ghost use Rattle.mac_base.specs.ZoneState.{own_memory};
     ghost use Rattle.linked_zone.specs.Changes.{bare_zone};
@@ -102,7 +102,7 @@ impl IndexedZone {
         &self.zone
     }
 
-    /// The address behind the gap that has the blocks from an address on.
+    /// The address after the gap that has the blocks from an address on.
     pub fn gap_end(&self, start: u32) -> u32
         requires rest { RestAt self.now start }
         ensures { (rest : RestAt self.now start) → result ≡ start + total_size rest.blocks }
@@ -140,7 +140,7 @@ impl IndexedZone {
         }
     }
 
-    /// How many bytes a handle has, asked of the zone. This stands apart, so that the way of those that are remembered
+    /// How many bytes a handle has, asked of the zone. This is apart, so that the way of those that are remembered
     /// is short: a script may ask for thousands of them at each line.
     #[cold]
     #[inline(never)]
@@ -168,7 +168,7 @@ impl IndexedZone {
         requires { EntryAt self.now at }
         ensures value { result ≡ page self.now.shape at }
         ensures inside { result ≤ self.now.shape.limit / page_size }
-        ensures reach { address_behind self.now.shape self.now.heap.map < 2 ^ 32 }
+        ensures reach { address_after self.now.shape self.now.heap.map < 2 ^ 32 }
         ensures fits { Fits self.now }
         ensures sizes { HasSizes self.now }
     {
@@ -178,10 +178,10 @@ impl IndexedZone {
     /// The page of an address of the zone, or that at which it ends.
     pub(crate) fn page_at(&self, at: u32) -> usize
         requires low { self.now.shape.base ≤ at }
-        requires high { at ≤ address_behind self.now.shape self.now.heap.map }
+        requires high { at ≤ address_after self.now.shape self.now.heap.map }
         ensures value { result ≡ page self.now.shape at }
         ensures inside { result ≤ self.now.shape.limit / page_size }
-        ensures reach { address_behind self.now.shape self.now.heap.map < 2 ^ 32 }
+        ensures reach { address_after self.now.shape self.now.heap.map < 2 ^ 32 }
         ensures fits { Fits self.now }
         ensures sizes { HasSizes self.now }
     {
@@ -200,7 +200,7 @@ impl IndexedZone {
     /// The leaf of an address of the zone, or that at which it ends.
     pub(crate) fn leaf_at(&self, at: u32) -> usize
         requires low { self.now.shape.base ≤ at }
-        requires high { at ≤ address_behind self.now.shape self.now.heap.map }
+        requires high { at ≤ address_after self.now.shape self.now.heap.map }
         ensures value { result ≡ leaf self.now.shape at }
         ensures inside { result < leaf_count self.now }
     {

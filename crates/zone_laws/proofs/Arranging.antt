@@ -127,9 +127,9 @@ apart-cons : (e : Entry) (m : ZoneMap) → is_free e.kind ≡ false → free_apa
 apart-cons e m used = ap (λ b. not (b && starts_free m) && free_apart m) used
 
 -- and so do blocks in use
-pub free_apart-behind_used : (a b : ZoneMap) → all_used a ≡ true → free_apart (a ++ b) ≡ free_apart b
-free_apart-behind_used [] b h = refl
-free_apart-behind_used (e ∷ es) b h = let parts = and_parts _ _ h in apart-cons e (es ++ b) (not-true _ parts.0) ∙ free_apart-behind_used es b parts.1
+pub free_apart-after_used : (a b : ZoneMap) → all_used a ≡ true → free_apart (a ++ b) ≡ free_apart b
+free_apart-after_used [] b h = refl
+free_apart-after_used (e ∷ es) b h = let parts = and_parts _ _ h in apart-cons e (es ++ b) (not-true _ parts.0) ∙ free_apart-after_used es b parts.1
 
 -- blocks in use do not begin with a free one
 pub starts_free-all_used : (b : ZoneMap) → all_used b ≡ true → starts_free b ≡ false
@@ -144,11 +144,11 @@ free_apart-free_block n c h = elim (n == 0) as (λ b. free_apart (cond b [] (blo
 ]
 
 free_apart-all_used : (b : ZoneMap) → all_used b ≡ true → free_apart b ≡ true
-free_apart-all_used b h = ap free_apart (sym (append-nil b)) ∙ free_apart-behind_used b [] h
+free_apart-all_used b h = ap free_apart (sym (append-nil b)) ∙ free_apart-after_used b [] h
 
 -- free blocks are apart where blocks in use lie on both sides of one
 pub free_apart-around : (a c : ZoneMap) (n : ℕ) → all_used a ≡ true → all_used c ≡ true → free_apart (a ++ (free_block n ++ c)) ≡ true
-free_apart-around a c n ha hc = free_apart-behind_used a (free_block n ++ c) ha ∙ free_apart-free_block n c (starts_free-all_used c hc) ∙ free_apart-all_used c hc
+free_apart-around a c n ha hc = free_apart-after_used a (free_block n ++ c) ha ∙ free_apart-free_block n c (starts_free-all_used c hc) ∙ free_apart-all_used c hc
 
 -- An arrangement of blocks: those in use, kind by kind, and the free bytes in one block, if there are any.
 pub record IsArrangement (old new : ZoneMap) : Type 0 where

@@ -10,46 +10,46 @@ use Rattle.mac_base.specs.declared.block.Kind.TheVariants.{Free, Master, Ptr, Re
 use Rattle.mac_base.specs.ZoneMap.{ZoneMap, free_block, is_free, is_kind, is_named, total_size, free_size, free_bytes, sizes}
 use Rattle.mac_base.specs.Suits.{free_apart}
 use Rattle.mac_base.specs.Gap.{has_named}
-use Rattle.mac_base.specs.Arrangement.{used_blocks, put_behind, open_at, high}
+use Rattle.mac_base.specs.Arrangement.{used_blocks, put_after, open_at, high}
 use Rattle.zone_laws.proofs.GapAppend.{free_bytes-append, sizes-append}
-use Rattle.zone_laws.proofs.Arranging.{free_is, named-used, is_kind-free, all_used, used_blocks-all_used, list_all-used, has_named-used, sizes-used, total_size-used, free_bytes-all_used, total_size-free_block, free_bytes-free_block, sizes-free_block, list_all-free_block, free_apart-behind_used, free_apart-around, IsArrangement}
+use Rattle.zone_laws.proofs.Arranging.{free_is, named-used, is_kind-free, all_used, used_blocks-all_used, list_all-used, has_named-used, sizes-used, total_size-used, free_bytes-all_used, total_size-free_block, free_bytes-free_block, sizes-free_block, list_all-free_block, free_apart-after_used, free_apart-around, IsArrangement}
 use Rattle.zone_laws.proofs.Maps.{total_size-append}
 
--- what is put behind the first block that x names, where x names one
-total_size-put_behind : (x : ℕ) (f b : ZoneMap) → has_named x b ≡ true → total_size (put_behind x f b) ≡ total_size f + total_size b
-total_size-put_behind x f [] h = absurd (cc h)
-total_size-put_behind x f (e ∷ es) h = elim (is_named x e.kind) as (λ b. (b || has_named x es) ≡ true → total_size (cond b (e ∷ (f ++ es)) (e ∷ put_behind x f es)) ≡ total_size f + (e.size + total_size es)) [
+-- what is put after the first block that x names, where x names one
+total_size-put_after : (x : ℕ) (f b : ZoneMap) → has_named x b ≡ true → total_size (put_after x f b) ≡ total_size f + total_size b
+total_size-put_after x f [] h = absurd (cc h)
+total_size-put_after x f (e ∷ es) h = elim (is_named x e.kind) as (λ b. (b || has_named x es) ≡ true → total_size (cond b (e ∷ (f ++ es)) (e ∷ put_after x f es)) ≡ total_size f + (e.size + total_size es)) [
   | true ↦ λ here. let all = total_size-append f es in omega arith
-  | false ↦ λ behind. let rest = total_size-put_behind x f es behind in omega arith
+  | false ↦ λ after. let rest = total_size-put_after x f es after in omega arith
 ] h
 
-free_bytes-put_behind : (x : ℕ) (f b : ZoneMap) → has_named x b ≡ true → free_bytes (put_behind x f b) ≡ free_bytes f + free_bytes b
-free_bytes-put_behind x f [] h = absurd (cc h)
-free_bytes-put_behind x f (e ∷ es) h = elim (is_named x e.kind) as (λ b. (b || has_named x es) ≡ true → free_bytes (cond b (e ∷ (f ++ es)) (e ∷ put_behind x f es)) ≡ free_bytes f + (free_size e + free_bytes es)) [
+free_bytes-put_after : (x : ℕ) (f b : ZoneMap) → has_named x b ≡ true → free_bytes (put_after x f b) ≡ free_bytes f + free_bytes b
+free_bytes-put_after x f [] h = absurd (cc h)
+free_bytes-put_after x f (e ∷ es) h = elim (is_named x e.kind) as (λ b. (b || has_named x es) ≡ true → free_bytes (cond b (e ∷ (f ++ es)) (e ∷ put_after x f es)) ≡ free_bytes f + (free_size e + free_bytes es)) [
   | true ↦ λ here. let all = free_bytes-append f es in omega arith
-  | false ↦ λ behind. let rest = free_bytes-put_behind x f es behind in omega arith
+  | false ↦ λ after. let rest = free_bytes-put_after x f es after in omega arith
 ] h
 
-sizes-put_behind : (test : Kind → Bool) (x : ℕ) (f b : ZoneMap) → sizes test f ≡ [] → sizes test (put_behind x f b) ≡ sizes test b
-sizes-put_behind test x f [] h = refl
-sizes-put_behind test x f (e ∷ es) h = let first : List ℕ = if test e.kind then e.size ∷ [] else [] in
-    elim (is_named x e.kind) as (λ b. sizes test (cond b (e ∷ (f ++ es)) (e ∷ put_behind x f es)) ≡ first ++ sizes test es) [
+sizes-put_after : (test : Kind → Bool) (x : ℕ) (f b : ZoneMap) → sizes test f ≡ [] → sizes test (put_after x f b) ≡ sizes test b
+sizes-put_after test x f [] h = refl
+sizes-put_after test x f (e ∷ es) h = let first : List ℕ = if test e.kind then e.size ∷ [] else [] in
+    elim (is_named x e.kind) as (λ b. sizes test (cond b (e ∷ (f ++ es)) (e ∷ put_after x f es)) ≡ first ++ sizes test es) [
       | true ↦ ap (λ ns. first ++ ns) (sizes-append test f es ∙ ap (λ ns. ns ++ sizes test es) h)
-      | false ↦ ap (λ ns. first ++ ns) (sizes-put_behind test x f es h)
+      | false ↦ ap (λ ns. first ++ ns) (sizes-put_after test x f es h)
     ]
 
-list_all-put_behind : (p : Entry → Bool) (x : ℕ) (f b : ZoneMap) → list_all p f ≡ true → list_all p b ≡ true → list_all p (put_behind x f b) ≡ true
-list_all-put_behind p x f [] hf hb = refl
-list_all-put_behind p x f (e ∷ es) hf hb = let parts = and_parts _ _ hb in elim (is_named x e.kind) as (λ b. list_all p (cond b (e ∷ (f ++ es)) (e ∷ put_behind x f es)) ≡ true) [
+list_all-put_after : (p : Entry → Bool) (x : ℕ) (f b : ZoneMap) → list_all p f ≡ true → list_all p b ≡ true → list_all p (put_after x f b) ≡ true
+list_all-put_after p x f [] hf hb = refl
+list_all-put_after p x f (e ∷ es) hf hb = let parts = and_parts _ _ hb in elim (is_named x e.kind) as (λ b. list_all p (cond b (e ∷ (f ++ es)) (e ∷ put_after x f es)) ≡ true) [
   | true ↦ and_from _ _ parts.0 (list_all-append p f es ∙ and_from _ _ hf parts.1)
-  | false ↦ and_from _ _ parts.0 (list_all-put_behind p x f es hf parts.1)
+  | false ↦ and_from _ _ parts.0 (list_all-put_after p x f es hf parts.1)
 ]
 
-free_apart-put_behind : (x n : ℕ) (b : ZoneMap) → all_used b ≡ true → free_apart (put_behind x (free_block n) b) ≡ true
-free_apart-put_behind x n [] h = refl
-free_apart-put_behind x n (e ∷ es) h = let parts = and_parts _ _ h in elim (is_named x e.kind) as (λ b. free_apart (cond b (e ∷ (free_block n ++ es)) (e ∷ put_behind x (free_block n) es)) ≡ true) [
+free_apart-put_after : (x n : ℕ) (b : ZoneMap) → all_used b ≡ true → free_apart (put_after x (free_block n) b) ≡ true
+free_apart-put_after x n [] h = refl
+free_apart-put_after x n (e ∷ es) h = let parts = and_parts _ _ h in elim (is_named x e.kind) as (λ b. free_apart (cond b (e ∷ (free_block n ++ es)) (e ∷ put_after x (free_block n) es)) ≡ true) [
   | true ↦ free_apart-around (e ∷ []) es n (and_from _ _ parts.0 refl) parts.1
-  | false ↦ free_apart-behind_used (e ∷ []) (put_behind x (free_block n) es) (and_from _ _ parts.0 refl) ∙ free_apart-put_behind x n es parts.1
+  | false ↦ free_apart-after_used (e ∷ []) (put_after x (free_block n) es) (and_from _ _ parts.0 refl) ∙ free_apart-put_after x n es parts.1
 ]
 
 -- open at a block, where it is one of the blocks, is an arrangement
@@ -57,18 +57,18 @@ pub open_at-IsArrangement : (h : ℕ) (b : ZoneMap) → has_named h b ≡ true �
 open_at-IsArrangement h b named =
     let n : ℕ = free_bytes b in
     let there = has_named-used h b ∙ named in
-    let total = total_size-put_behind h (free_block n) (used_blocks b) there in
+    let total = total_size-put_after h (free_block n) (used_blocks b) there in
     let same = total_size-used b in
     let free = total_size-free_block n in
-    let free_total = free_bytes-put_behind h (free_block n) (used_blocks b) there in
+    let free_total = free_bytes-put_after h (free_block n) (used_blocks b) there in
     let free_used = free_bytes-all_used (used_blocks b) (used_blocks-all_used b) in
     let free_free = free_bytes-free_block n in
     record {
-      kept = λ p all free. list_all-put_behind p h (free_block n) (used_blocks b) (list_all-free_block p n free) (list_all-used p b all);
-      same_sizes = λ k used. sizes-put_behind (is_kind k) h (free_block n) (used_blocks b) (sizes-free_block (is_kind k) n (is_kind-free k used)) ∙ sizes-used (is_kind k) b (is_kind-free k used);
+      kept = λ p all free. list_all-put_after p h (free_block n) (used_blocks b) (list_all-free_block p n free) (list_all-used p b all);
+      same_sizes = λ k used. sizes-put_after (is_kind k) h (free_block n) (used_blocks b) (sizes-free_block (is_kind k) n (is_kind-free k used)) ∙ sizes-used (is_kind k) b (is_kind-free k used);
       same_total = omega arith;
       same_free = omega arith;
-      apart = free_apart-put_behind h n (used_blocks b) (used_blocks-all_used b);
+      apart = free_apart-put_after h n (used_blocks b) (used_blocks-all_used b);
     }
 
 -- two kinds that are one

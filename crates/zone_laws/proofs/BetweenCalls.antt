@@ -137,10 +137,10 @@ module _ (s : Shape) (heap : Heap) (call : MemoryCall) where
   unless-first (Some code) slot asked = absurd (asked refl)
   unless-first None slot asked = asking-first (request_of heap.table call) refl slot asked
 
--- where the call lacked no slot before it asked, it lacks none then, nor behind an answer
+-- where the call lacked no slot before it asked, it lacks none then, nor after an answer
 record LacksNone (s : Shape) (call : MemoryCall) (a : Answer) (heap : Heap) : Type 0 where
   first : lacks_slot (exact_step s [] heap call).heap call ≡ false
-  behind : lacks_slot (carried_between s call a (exact_step s [] heap call).heap).heap call ≡ false
+  following : lacks_slot (carried_between s call a (exact_step s [] heap call).heap).heap call ≡ false
 
 lacks-none : (s : Shape) (call : MemoryCall) (a : Answer) (heap : Heap) → lacks_slot heap call ≡ false
     → ((exact_step s [] heap call).asks ≡ [] → ⊥) → LacksNone s call a heap
@@ -155,7 +155,7 @@ lacks-none s call a heap slot asked =
     let here : (makes && has_none mid.free_slots) ≡ false = ap (λ xs. makes && has_none xs) known.slots ∙ slot in
     record {
       first = ap (λ o. option_map_or makes_handle o false && has_none mid.free_slots) one.request ∙ here;
-      behind = ap (λ o. option_map_or makes_handle o false && has_none after.free_slots) two.request
+      following = ap (λ o. option_map_or makes_handle o false && has_none after.free_slots) two.request
           ∙ slot-stays makes mid.free_slots after.free_slots (running-carried_out s (protected_by call) a.calls mid).free here;
     }
 
@@ -264,7 +264,7 @@ sparing_answers_suit s (a ∷ later) heap call spares may =
         let none = lacks-none s call a heap slot (λ none. cc (sym is ∙ none)) in
         let same = answers_are_calls s a first.heap call spares in
         let frees : FreesNoSlot call first.heap after = λ lacks. absurd (true≢false (sym lacks ∙ none.first)) in
-        inr (spares, inr (frees, rest (inl (ap (λ heap. lacks_slot heap call) same ∙ none.behind))))
+        inr (spares, inr (frees, rest (inl (ap (λ heap. lacks_slot heap call) same ∙ none.following))))
     by_asks (ask ∷ asks) is (inr none) spares rest =
         let first = exact_step s [] heap call in
         let both = and_parts (list_all disposes_of_none a.calls) (none_disposes later) none in

@@ -18,14 +18,14 @@ use Rattle.mac_base.specs.Heap.{Heap, all_purged, has_none, with_table}
 use Rattle.mac_base.specs.Reports.{largest_purge_space, purge_space}
 use Rattle.mac_base.specs.Request.{candidates_in, makes_handle}
 use Rattle.mac_base.specs.Suits.{wanted_length}
-use Rattle.mac_base.specs.ZoneMap.{ZoneMap, address_behind, largest_free}
+use Rattle.mac_base.specs.ZoneMap.{ZoneMap, address_after, largest_free}
 use Rattle.mac_base.specs.ZoneState.{written}
 use Rattle.mac_base.specs.declared.memory_call.MemoryCall.{MemoryCall}
 use Rattle.mac_base.specs.declared.memory_call.MemoryCall.TheVariants as memory_call
 use Rattle.mac_base.specs.declared.reply.Results.TheVariants.{Nothing}
 use Rattle.mac_base.specs.Effect.{effect_of, request_of, table_copied}
 use Rattle.mac_base.specs.ExactRequest.{Ending, request_run}
-use Rattle.mac_base.specs.ExactStep.{behind_master, exact_step, heap_after, outcomes_to, quiet_outcome, quiet_step, rearranged, request_end, request_step, step_asking, step_unless}
+use Rattle.mac_base.specs.ExactStep.{after_master, exact_step, heap_after, outcomes_to, quiet_outcome, quiet_step, rearranged, request_end, request_step, step_asking, step_unless}
 use Rattle.mac_base.specs.GrowZone.{Answer, Ask, most_answers}
 use Rattle.mac_base.specs.Outcomes.{given_results, outcome_of}
 use Rattle.mac_base.specs.Tests.{protected_by, refusal, tests_of}
@@ -99,9 +99,9 @@ module _ (cipher : ℕ → ℕ) where
   end-ciphered call entry asks e None = refl
 
   module _ (keeps : cipher 0 ≡ 0) where
-    behind_master-ciphered : (s : Shape) (protected : List ℕ) (r : Request) (e : Ending) (o : Option ℕ) → behind_master s protected r (ending_ciphered cipher e) o ≡ ending_ciphered cipher (behind_master s protected r e o)
-    behind_master-ciphered s protected r e (Some x) = run-ciphered cipher keeps s protected r (most_answers - length e.asks) e.left e.heap
-    behind_master-ciphered s protected r e None = refl
+    after_master-ciphered : (s : Shape) (protected : List ℕ) (r : Request) (e : Ending) (o : Option ℕ) → after_master s protected r (ending_ciphered cipher e) o ≡ ending_ciphered cipher (after_master s protected r e o)
+    after_master-ciphered s protected r e (Some x) = run-ciphered cipher keeps s protected r (most_answers - length e.asks) e.left e.heap
+    after_master-ciphered s protected r e None = refl
 
     request_step-ciphered : (s : Shape) (answers : List Answer) (heap : Heap) (call : MemoryCall) (master : Bool) (r : Request)
         → request_step s answers (heap_ciphered cipher heap) (call_ciphered cipher call) master r ≡ end_ciphered cipher (request_step s answers heap call master r)
@@ -110,8 +110,8 @@ module _ (cipher : ℕ → ℕ) where
         rw (protected-ciphered call, run-ciphered cipher keeps s (protected_by call) r most_answers answers heap) (end-ciphered call heap.table [] e e.given)
     request_step-ciphered s answers heap call true r =
         let master = request_run s (protected_by call) NewMaster most_answers answers heap in
-        let e = behind_master s (protected_by call) r master master.given in
-        rw (protected-ciphered call, run-ciphered cipher keeps s (protected_by call) NewMaster most_answers answers heap, behind_master-ciphered s (protected_by call) r master master.given)
+        let e = after_master s (protected_by call) r master master.given in
+        rw (protected-ciphered call, run-ciphered cipher keeps s (protected_by call) NewMaster most_answers answers heap, after_master-ciphered s (protected_by call) r master master.given)
         (end-ciphered call heap.table master.asks e e.given)
 
   -- ---- a call that makes none
@@ -189,7 +189,7 @@ module _ (cipher : ℕ → ℕ) where
   outcome_of-ciphered s heap (memory_call.Peek x at n) = rw (bytes-ciphered cipher heap.table x, slice-ciphered cipher at n (bytes_of heap.table x))
   outcome_of-ciphered s heap memory_call.PurgeSpace = rw (purge_space-ciphered heap.table heap.map, spaces-ciphered heap.table heap.map)
   outcome_of-ciphered s heap memory_call.MaxBlock = rw (gaps-same heap.table (table_ciphered cipher heap.table) (fixes-ciphered cipher heap.table) heap.map)
-  outcome_of-ciphered s heap memory_call.ZoneMap = rw (reports-ciphered heap.table (address_behind s []) heap.map)
+  outcome_of-ciphered s heap memory_call.ZoneMap = rw (reports-ciphered heap.table (address_after s []) heap.map)
   outcome_of-ciphered s heap (memory_call.Poke x at bytes) = refl
   outcome_of-ciphered s heap (memory_call.NewHandleOf bytes) = refl
   outcome_of-ciphered s heap (memory_call.SetHandleTo h bytes) = refl

@@ -9,7 +9,7 @@ use Rattle.mac_base.specs.declared.block.Entry.{Entry}
 use Rattle.mac_base.specs.declared.block.Kind.{Kind}
 use Rattle.mac_base.specs.declared.block.Kind.TheVariants.{Free, Master, Ptr, Rel}
 use Rattle.mac_base.specs.HeadKind.{Shape}
-use Rattle.mac_base.specs.ZoneMap.{ZoneMap, block, handle_of, is_free, is_named, released, total_size, address_behind, addresses_from}
+use Rattle.mac_base.specs.ZoneMap.{ZoneMap, block, handle_of, is_free, is_named, released, total_size, address_after, addresses_from}
 use Rattle.mac_base.specs.HandleTable.{HandleTable, EmptyHandle, live_at, live_flags, live_full, live_handle, live_pointer, emptied, flags_of, is_full, is_handle, is_locked, is_pointer, is_purgeable}
 use Rattle.mac_base.specs.Suits.{is_pointer_block}
 use Rattle.mac_base.specs.Gap.{is_fixed}
@@ -107,7 +107,7 @@ one_left : (s : Shape) (heap : Heap) (h : ℕ) → Sound s heap → MayEmpty hea
 one_left s heap h sound may r y c =
     let t = heap.table in
     let m = heap.map in
-    let no_pointer = none_pass (address_behind s []) (is_pointer_block h) m (no_pointer_block s t m sound.suits h (handle_no_pointer t h may.handle)) in
+    let no_pointer = none_pass (address_after s []) (is_pointer_block h) m (no_pointer_block s t m sound.suits h (handle_no_pointer t h may.handle)) in
     let q : Entry → Bool = λ (e : Entry). not (is_named h e.kind) in
     let is : purge_handles (emptied h t) r (released h m) ≡ filter_map (λ (e : Entry). handle_of e.kind) (filter q (purge_blocks t r (used_blocks m))) =
     ap (filter_map (λ (e : Entry). handle_of e.kind)) (blocks_to_purge-same t (emptied h t) (emptied-FixesSame t h may) r (released h m))

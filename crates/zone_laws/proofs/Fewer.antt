@@ -124,8 +124,8 @@ module _ (s : Shape) (protected : List ℕ) (r : Request) where
 -- where a request of a call begins, and where a trial of it does
 pub fewer-begun : (s : Shape) (old : Heap) (call : MemoryCall) (r : Request) (first : List Ask) (from : Heap) → Begins s old call r first from → Fewer (protected_by call) old.table from.table
 fewer-begun s old call r first from (inl at_entry) = fewer-same (protected_by call) old.table old.table from.table (ap (λ (heap : Heap). heap.table) at_entry.2) (fewer-refl (protected_by call) old.table)
-fewer-begun s old call r first from (inr behind) =
-    let made = behind.2 in
+fewer-begun s old call r first from (inr following) =
+    let made = following.2 in
     let serves = made.3 in
     let before = prepared_by s serves.0 made.0 in
     fewer-same (protected_by call) old.table before.table from.table serves.2.table

@@ -11,18 +11,18 @@ use Rattle.mac_base.specs.HeadKind.{Shape}
 use Rattle.mac_base.specs.ZoneMap.{ZoneMap, block, free_block, is_named, free_bytes, sizes, released}
 use Rattle.mac_base.specs.HandleTable.{HandleTable}
 use Rattle.mac_base.specs.Suits.{Suits}
-use Rattle.mac_base.specs.Gap.{Gap, gaps, filled, room, is_fixed, has_named, some_gap_has, own_gap, gap_behind}
+use Rattle.mac_base.specs.Gap.{Gap, gaps, filled, room, is_fixed, has_named, some_gap_has, own_gap, gap_after}
 use Rattle.mac_base.specs.Arrangement.{used_blocks, up, open_at}
 use Rattle.mac_base.specs.declared.request.Request.TheVariants.{Resize}
 use Rattle.mac_base.specs.Request.{size_needed, size_of, stays, gap_to_grow, room_of, can_grow, fits}
 use Rattle.mac_base.specs.Serve.{free_in_front, resized_in_place, opened_for, resized_in_gap, resized_elsewhere, resized_block, placed_relocatable, renamed, gives, serve}
 use Rattle.zone_laws.proofs.GapAppend.{free_bytes-append}
-use Rattle.zone_laws.proofs.GapParts.{IsGap, own_gap-is, gap_behind-is}
-use Rattle.zone_laws.proofs.GapRoom.{is_some-find, gap_of_block, gap_behind-found}
-use Rattle.zone_laws.proofs.NamedPlace.{InGap, BeforeGap, FirstNamed, first_named, At-from, own_gap-parts, gap_behind-parts, size_of-At}
+use Rattle.zone_laws.proofs.GapParts.{IsGap, own_gap-is, gap_after-is}
+use Rattle.zone_laws.proofs.GapRoom.{is_some-find, gap_of_block, gap_after-found}
+use Rattle.zone_laws.proofs.NamedPlace.{InGap, BeforeGap, FirstNamed, first_named, At-from, own_gap-parts, gap_after-parts, size_of-At}
 use Rattle.zone_laws.proofs.SuitsNamed.{stays-fixed}
 use Rattle.zone_laws.proofs.Fitting.{is_some-map, is_some-or, is_some-placed_relocatable, size_needed-positive}
-use Rattle.zone_laws.proofs.OpenedGap.{is_some-resized_in_place, opened_own-At, opened_behind-At, own-At, opened_front, free_in_front-le}
+use Rattle.zone_laws.proofs.OpenedGap.{is_some-resized_in_place, opened_own-At, opened_after-At, own-At, opened_front, free_in_front-le}
 
 -- what the block of x can have in the gap in which it can grow
 record GrowsIn (s : Shape) (t : HandleTable) (k x n : ℕ) (m : ZoneMap) (g : Gap) : Type 0 where
@@ -37,16 +37,16 @@ grows_own s t k x n m g moves i p =
     let at = p.at in
     record {
       in_gap = ap (λ c. is_some (resized_in_place s k x (filled g (cond c (up g.blocks) (open_at x g.blocks))))) moves
-          ∙ is_some-resized_in_place s k x (filled g (open_at x g.blocks)) n (g.before ++ used_blocks p.front) p.kind (free_block (room g) ++ used_blocks p.back ++ g.behind) (opened_own-At x g n p) ∙ ap (λ r. nat_le k (n + r)) (opened_front t g p.back i.above);
-      in_place = λ is. more_room k n (free_in_front (p.back ++ g.behind)) (room g) (sym (is_some-resized_in_place s k x m n (g.before ++ p.front) p.kind (p.back ++ g.behind) (own-At t m x g n i p)) ∙ is)
-          (let le = free_in_front-le t p.back g.behind i.above in let all = ap free_bytes at.was in let parts = free_bytes-append p.front (block p.kind n ∷ p.back) in omega arith);
+          ∙ is_some-resized_in_place s k x (filled g (open_at x g.blocks)) n (g.before ++ used_blocks p.front) p.kind (free_block (room g) ++ used_blocks p.back ++ g.after) (opened_own-At x g n p) ∙ ap (λ r. nat_le k (n + r)) (opened_front t g p.back i.above);
+      in_place = λ is. more_room k n (free_in_front (p.back ++ g.after)) (room g) (sym (is_some-resized_in_place s k x m n (g.before ++ p.front) p.kind (p.back ++ g.after) (own-At t m x g n i p)) ∙ is)
+          (let le = free_in_front-le t p.back g.after i.above in let all = ap free_bytes at.was in let parts = free_bytes-append p.front (block p.kind n ∷ p.back) in omega arith);
     }
 
-grows_behind : (s : Shape) (t : HandleTable) (k x n : ℕ) (m : ZoneMap) (g : Gap) → stays t x ≡ true → IsGap t m g → BeforeGap x m g n → GrowsIn s t k x n m g
-grows_behind s t k x n m g fixed i p = record {
+grows_after : (s : Shape) (t : HandleTable) (k x n : ℕ) (m : ZoneMap) (g : Gap) → stays t x ≡ true → IsGap t m g → BeforeGap x m g n → GrowsIn s t k x n m g
+grows_after s t k x n m g fixed i p = record {
   in_gap = ap (λ c. is_some (resized_in_place s k x (filled g (cond c (up g.blocks) (open_at x g.blocks))))) fixed
-      ∙ is_some-resized_in_place s k x (filled g (up g.blocks)) n p.front p.kind (free_block (room g) ++ used_blocks g.blocks ++ g.behind) (opened_behind-At x m g n p) ∙ ap (λ r. nat_le k (n + r)) (opened_front t g g.blocks i.above);
-  in_place = λ is. more_room k n (free_in_front (g.blocks ++ g.behind)) (room g) (sym (is_some-resized_in_place s k x m n p.front p.kind (g.blocks ++ g.behind) p.at) ∙ is) (free_in_front-le t g.blocks g.behind i.above);
+      ∙ is_some-resized_in_place s k x (filled g (up g.blocks)) n p.front p.kind (free_block (room g) ++ used_blocks g.blocks ++ g.after) (opened_after-At x m g n p) ∙ ap (λ r. nat_le k (n + r)) (opened_front t g g.blocks i.above);
+  in_place = λ is. more_room k n (free_in_front (g.blocks ++ g.after)) (room g) (sym (is_some-resized_in_place s k x m n p.front p.kind (g.blocks ++ g.after) p.at) ∙ is) (free_in_front-le t g.blocks g.after i.above);
 }
 
 list_any-weaker : (p q : Entry → Bool) (m : ZoneMap) → ((e : Entry) → p e ≡ true → q e ≡ true) → list_any p m ≡ true → list_any q m ≡ true
@@ -87,20 +87,20 @@ growing_own : (s : Shape) (t : HandleTable) (k x n : ℕ) (m : ZoneMap) (o : Opt
 growing_own s t k x n m None found there moves once = absurd (cc there)
 growing_own s t k x n m (Some g) found there moves once =
     let own = own_gap-is t m x g found in
-    record { gap = g; found = ap (λ c. cond c (gap_behind x (gaps t m)) (own_gap x (gaps t m))) moves ∙ found; grows = grows_own s t k x n m g moves own.0 (own_gap-parts t m g x n own.0 own.1 once) }
+    record { gap = g; found = ap (λ c. cond c (gap_after x (gaps t m)) (own_gap x (gaps t m))) moves ∙ found; grows = grows_own s t k x n m g moves own.0 (own_gap-parts t m g x n own.0 own.1 once) }
 
-growing_behind : (s : Shape) (t : HandleTable) (k x n : ℕ) (m : ZoneMap) (o : Option Gap) → gap_behind x (gaps t m) ≡ o → is_some o ≡ true → stays t x ≡ true → sizes (is_named x) m ≡ n ∷ [] → Growing s t k x n m
-growing_behind s t k x n m None found there fixed once = absurd (cc there)
-growing_behind s t k x n m (Some g) found there fixed once =
-    let behind = gap_behind-is t m x g found in
-    record { gap = g; found = ap (λ c. cond c (gap_behind x (gaps t m)) (own_gap x (gaps t m))) fixed ∙ found; grows = grows_behind s t k x n m g fixed behind.0 (gap_behind-parts t m g x n behind.0 behind.1 once) }
+growing_after : (s : Shape) (t : HandleTable) (k x n : ℕ) (m : ZoneMap) (o : Option Gap) → gap_after x (gaps t m) ≡ o → is_some o ≡ true → stays t x ≡ true → sizes (is_named x) m ≡ n ∷ [] → Growing s t k x n m
+growing_after s t k x n m None found there fixed once = absurd (cc there)
+growing_after s t k x n m (Some g) found there fixed once =
+    let after = gap_after-is t m x g found in
+    record { gap = g; found = ap (λ c. cond c (gap_after x (gaps t m)) (own_gap x (gaps t m))) fixed ∙ found; grows = grows_after s t k x n m g fixed after.0 (gap_after-parts t m g x n after.0 after.1 once) }
 
 growing : (s : Shape) (t : HandleTable) (k x n : ℕ) (m : ZoneMap) → Suits s t m → sizes (is_named x) m ≡ n ∷ [] → (f : FirstNamed x m) → Growing s t k x n m
 growing s t k x n m suits once f =
     let at = At-from x m n f.front f.block f.back once f.was f.named in
     let same = stays-fixed s t m x n f.front f.block.kind f.back suits at in
     elim (stays t x) as (λ c. stays t x ≡ c → Growing s t k x n m) [
-      | true ↦ λ fixed. growing_behind s t k x n m (gap_behind x (gaps t m)) refl (ap (λ m. is_some (gap_behind x (gaps t m))) f.was ∙ gap_behind-found t x f.front f.block f.back (sym same ∙ fixed) f.named) fixed once
+      | true ↦ λ fixed. growing_after s t k x n m (gap_after x (gaps t m)) refl (ap (λ m. is_some (gap_after x (gaps t m))) f.was ∙ gap_after-found t x f.front f.block f.back (sym same ∙ fixed) f.named) fixed once
       | false ↦ λ moves. growing_own s t k x n m (own_gap x (gaps t m)) refl (ap (λ m. is_some (own_gap x (gaps t m))) f.was ∙ own_gap-found t x f.front f.block f.back (sym same ∙ moves) f.named) moves once
     ] refl
 

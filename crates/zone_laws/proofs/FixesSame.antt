@@ -8,7 +8,7 @@ use Rattle.mac_base.specs.declared.block.Kind.TheVariants.{Free, Master, Ptr, Re
 use Rattle.mac_base.specs.HeadKind.{Shape}
 use Rattle.mac_base.specs.ZoneMap.{ZoneMap}
 use Rattle.mac_base.specs.HandleTable.{HandleTable, is_locked, is_pointer}
-use Rattle.mac_base.specs.Gap.{Gap, gaps, gaps_with, is_fixed, some_gap_has, own_gap, gap_behind}
+use Rattle.mac_base.specs.Gap.{Gap, gaps, gaps_with, is_fixed, some_gap_has, own_gap, gap_after}
 use Rattle.mac_base.specs.declared.request.Request.{Request}
 use Rattle.mac_base.specs.declared.request.Request.TheVariants.{NewBlock, NewEmpty, NewPointer, NewMaster, Reserve, Resize, Replace}
 use Rattle.mac_base.specs.Request.{stays, fits, size_of, room_of, size_needed, searched, blocks_to_purge}
@@ -48,7 +48,7 @@ gaps-same t u same (e ∷ es) = ap (λ b. gaps_with b e es (gaps u es)) (fixed-k
 
 -- whether x can have k bytes, by whether it stays and by the gaps
 can_grow_in : ℕ → ℕ → ZoneMap → Bool → List Gap → Bool
-can_grow_in x k m fixed gs = nat_le k (size_of x m + room_of (cond fixed (gap_behind x gs) (own_gap x gs))) || (not fixed && some_gap_has k gs)
+can_grow_in x k m fixed gs = nat_le k (size_of x m + room_of (cond fixed (gap_after x gs) (own_gap x gs))) || (not fixed && some_gap_has k gs)
 
 -- the same requests fit
 pub fits-same : (s : Shape) (t u : HandleTable) → FixesSame t u → (r : Request) (m : ZoneMap) → fits s u r m ≡ fits s t r m
@@ -69,6 +69,6 @@ blocks_to_purge-same t u same (NewPointer n) m = refl
 blocks_to_purge-same t u same NewMaster m = refl
 blocks_to_purge-same t u same (Reserve n) m = refl
 blocks_to_purge-same t u same (Resize x n) m =
-    ap (λ b. cond b (option_map_or (λ (g : Gap). g.blocks) (gap_behind x (gaps u m)) []) m) (stays-same t u same x)
-    ∙ ap (λ gs. cond (stays t x) (option_map_or (λ (g : Gap). g.blocks) (gap_behind x gs) []) m) (gaps-same t u same m)
+    ap (λ b. cond b (option_map_or (λ (g : Gap). g.blocks) (gap_after x (gaps u m)) []) m) (stays-same t u same x)
+    ∙ ap (λ gs. cond (stays t x) (option_map_or (λ (g : Gap). g.blocks) (gap_after x gs) []) m) (gaps-same t u same m)
 blocks_to_purge-same t u same (Replace h n) m = refl

@@ -12,7 +12,7 @@ use Rattle.mac_base.specs.declared.block.HeadKind.TheVariants.{Bits24, Bits32}
 use Rattle.mac_base.specs.declared.block.Kind.{Kind}
 use Rattle.mac_base.specs.declared.block.Kind.TheVariants.{Free, Master, Ptr, Rel}
 use Rattle.mac_base.specs.HeadKind.{Shape, head_size, smallest_block, slot_count, master_length, need}
-use Rattle.mac_base.specs.ZoneMap.{ZoneMap, block, is_free, is_master, total_size, free_bytes, address_behind, addresses_from, addresses, contents_addresses}
+use Rattle.mac_base.specs.ZoneMap.{ZoneMap, block, is_free, is_master, total_size, free_bytes, address_after, addresses_from, addresses, contents_addresses}
 use Rattle.mac_base.specs.HandleTable.{HandleTable, Live, EmptyHandle, FullHandle, Pointer, live_at, live_handle, live_pointer, is_handle, is_pointer}
 use Rattle.mac_base.specs.Suits.{Suits, slots_from, slots, has_owners_length, is_block_size, is_pointer_block}
 use Rattle.mac_base.specs.Gap.{Gap, room, is_fixed}
@@ -47,7 +47,7 @@ below_is_not n a x le h = let lt = ltb-true n a h in ap not (ne_eqb n x (λ same
 above_is_not : (n a x : ℕ) → x < a → nat_le a n ≡ true → not (n == x) ≡ true
 above_is_not n a x lt h = let le = leb-true a n h in ap not (ne_eqb n x (λ same. absurd (omega arith)))
 
--- blocks with possible sizes begin below the address behind them
+-- blocks with possible sizes begin below the address after them
 pub addresses-below : (s : Shape) (at : ℕ) (test : Kind → Bool) (b : ZoneMap) → sizes_possible s b ≡ true → list_all (λ n. nat_lt n (at + total_size b)) (addresses_from at test b) ≡ true
 addresses-below s at test [] h = refl
 addresses-below s at test (e ∷ es) h =
@@ -125,7 +125,7 @@ masters_whole-from s t (e ∷ es) h =
     one n (Rel g) h = refl
 
 -- A place in the map that no master block covers is no slot's.
-module _ (s : Shape) (t : HandleTable) (a c b m : ZoneMap) (x : ℕ) (suits : Suits s t m) (was : m ≡ a ++ (c ++ b)) (some : 0 < total_size c) (at : address_behind s a + head_size s.heads ≡ x) where
+module _ (s : Shape) (t : HandleTable) (a c b m : ZoneMap) (x : ℕ) (suits : Suits s t m) (was : m ≡ a ++ (c ++ b)) (some : 0 < total_size c) (at : address_after s a + head_size s.heads ≡ x) where
   fronts : (p : Entry → Bool) → list_all p m ≡ true → (list_all p a ≡ true) × (list_all p b ≡ true)
   fronts p h =
       let outer = and_parts (list_all p a) (list_all p (c ++ b)) (sym (list_all-append p a (c ++ b)) ∙ ap (list_all p) (sym was) ∙ h) in
@@ -133,7 +133,7 @@ module _ (s : Shape) (t : HandleTable) (a c b m : ZoneMap) (x : ℕ) (suits : Su
 
   no_slot : list_all (λ (e : Entry). not (is_master e.kind)) c ≡ true → none_is x (slots s m) ≡ true
   no_slot no_master =
-      let start : ℕ = address_behind s [] in
+      let start : ℕ = address_after s [] in
       let whole = fronts (λ (e : Entry). not (is_master e.kind) || nat_le (head_size s.heads + 256) e.size) (masters_whole-from s t m suits.lengths) in
       let below : none_is x (slots_at s start a) ≡ true = weaker (λ q. nat_le (start + head_size s.heads) q && nat_lt q (start + total_size a)) (λ q. not (q == x)) (slots_at s start a)
       (λ q both. below_is_not q (start + total_size a) x (omega arith) (and_parts (nat_le (start + head_size s.heads) q) (nat_lt q (start + total_size a)) both).1) (slots-between s start a whole.0) in
@@ -146,7 +146,7 @@ module _ (s : Shape) (t : HandleTable) (a c b m : ZoneMap) (x : ℕ) (suits : Su
 
   no_pointer : list_all (λ (e : Entry). not (is_pointer_block x e.kind)) c ≡ true → is_pointer t x ≡ false
   no_pointer none = false_from_ne_true (is_pointer t x) (λ live.
-      let start : ℕ = address_behind s [] in
+      let start : ℕ = address_after s [] in
       let test : Kind → Bool = is_pointer_block x in
       let possible = fronts (λ (e : Entry). is_block_size s e.size) suits.sizes in
       let far : ℕ = start + total_size a + total_size c in
@@ -188,11 +188,11 @@ not_a_handle s t m x suits none = false_from_ne_true (is_handle t x) (λ live. n
 pub gap_start-not_live : (s : Shape) (t : HandleTable) (m : ZoneMap) (g : Gap) → Suits s t m → IsGap t m g → 0 < room g → live_at t (contents_at_gap s g) ≡ None
 gap_start-not_live s t m g suits i some =
     let x : ℕ = contents_at_gap s g in
-    let was = i.parts ∙ append_assoc g.before g.blocks g.behind in
+    let was = i.parts ∙ append_assoc g.before g.blocks g.after in
     let bytes = free_bytes-le g.blocks in
     let large : 0 < total_size g.blocks = omega arith in
-    let slot = no_slot s t g.before g.blocks g.behind m x suits was large refl (block_weaker (λ (e : Entry). not (is_fixed t e.kind)) (λ (e : Entry). not (is_master e.kind)) g.blocks (λ e moves. moves_no_master t e.kind moves) i.moves) in
-    let pointer = no_pointer s t g.before g.blocks g.behind m x suits was large refl (block_weaker (λ (e : Entry). not (is_fixed t e.kind)) (λ (e : Entry). not (is_pointer_block x e.kind)) g.blocks (λ e moves. moves_no_pointer t x e.kind moves) i.moves) in
+    let slot = no_slot s t g.before g.blocks g.after m x suits was large refl (block_weaker (λ (e : Entry). not (is_fixed t e.kind)) (λ (e : Entry). not (is_master e.kind)) g.blocks (λ e moves. moves_no_master t e.kind moves) i.moves) in
+    let pointer = no_pointer s t g.before g.blocks g.after m x suits was large refl (block_weaker (λ (e : Entry). not (is_fixed t e.kind)) (λ (e : Entry). not (is_pointer_block x e.kind)) g.blocks (λ e moves. moves_no_pointer t x e.kind moves) i.moves) in
     not_live t x (not_a_handle s t m x suits slot) pointer
 
 -- the first block of a kind that passes a test
@@ -215,7 +215,7 @@ first_passing at test (e ∷ es) h = elim (test e.kind) as (λ c. test e.kind �
 -- a slot is no pointer
 pub slot-no_pointer : (s : Shape) (t : HandleTable) (m : ZoneMap) (x : ℕ) → Suits s t m → Contains (slots s m) x → is_pointer t x ≡ false
 slot-no_pointer s t m x suits there = false_from_ne_true (is_pointer t x) (λ live.
-    let start : ℕ = address_behind s [] in
+    let start : ℕ = address_after s [] in
     let test : Kind → Bool = is_pointer_block x in
     let one : contents_addresses s test m ≡ x ∷ [] = suits.coherent.pointers x ∙ ap (λ c. cond c (x ∷ []) []) live in
     let count : 0 < length (addresses s test m) = subst (λ n. 0 < n) (sym (ap length one) ∙ length-map (addresses s test m) (λ at. at + head_size s.heads)) (let some : 0 < 1 = omega arith in some) in
@@ -227,5 +227,5 @@ slot-no_pointer s t m x suits there = false_from_ne_true (is_pointer t x) (λ li
     let possible : sizes_possible s (f.block ∷ f.back) ≡ true = (and_parts (sizes_possible s f.front) (sizes_possible s (f.block ∷ f.back)) (sym (list_all-append (λ (e : Entry). is_block_size s e.size) f.front (f.block ∷ f.back)) ∙ ap (sizes_possible s) (sym f.was) ∙ suits.sizes)).1 in
     let some = size-positive s f.block.size (and_parts (is_block_size s f.block.size) (sizes_possible s f.back) possible).0 in
     let bytes : 0 < total_size (f.block ∷ []) = omega arith in
-    let at : address_behind s f.front + head_size s.heads ≡ x = (let e : address_behind s f.front + head_size s.heads ≡ start + total_size f.front + head_size s.heads = omega arith in e) ∙ number in
+    let at : address_after s f.front + head_size s.heads ≡ x = (let e : address_after s f.front + head_size s.heads ≡ start + total_size f.front + head_size s.heads = omega arith in e) ∙ number in
     none_is-contains x (slots s m) (no_slot s t f.front (f.block ∷ []) f.back m x suits f.was bytes at (and_from _ _ (ap not (pointer_not_master x f.block.kind f.passes)) refl)) there)

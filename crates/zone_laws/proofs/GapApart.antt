@@ -32,7 +32,7 @@ ends_free [] = false
 ends_free (e ∷ []) = is_free e.kind
 ends_free (e ∷ f ∷ es) = ends_free (f ∷ es)
 
--- two lists in which free blocks are apart, one behind the other
+-- two lists in which free blocks are apart, one after the other
 pub free_apart-append : (a b : ZoneMap) → free_apart a ≡ true → free_apart b ≡ true → (ends_free a && starts_free b) ≡ false → free_apart (a ++ b) ≡ true
 free_apart-append [] b ha hb h = hb
 free_apart-append (e ∷ []) b ha hb h = and_from _ _ (ap not h) hb
@@ -53,23 +53,23 @@ ends_free-fixed t (e ∷ f ∷ es) h = ends_free-fixed t (f ∷ es) h
 pub free_apart-filled : (t : HandleTable) (m : ZoneMap) (g : Gap) (b : ZoneMap) → IsGap t m g → free_apart m ≡ true → free_apart b ≡ true → free_apart (filled g b) ≡ true
 free_apart-filled t m g b i hm hb =
     let whole : free_apart (filled g g.blocks) ≡ true = ap free_apart (sym i.parts) ∙ hm in
-    let before = free_apart-front g.before g.blocks (free_apart-front (g.before ++ g.blocks) g.behind whole) in
-    let behind = free_apart-back (g.before ++ g.blocks) g.behind whole in
-    free_apart-append (g.before ++ b) g.behind (free_apart-append g.before b before hb (and_left _ _ (ends_free-fixed t g.before i.below))) behind (and_right _ _ (starts_free-fixed t g.behind i.above))
+    let before = free_apart-front g.before g.blocks (free_apart-front (g.before ++ g.blocks) g.after whole) in
+    let after = free_apart-back (g.before ++ g.blocks) g.after whole in
+    free_apart-append (g.before ++ b) g.after (free_apart-append g.before b before hb (and_left _ _ (ends_free-fixed t g.before i.below))) after (and_right _ _ (starts_free-fixed t g.after i.above))
 
 -- what holds of each block of a map, and of those now in a gap, holds of each block
 pub list_all-filled : (p : Entry → Bool) (t : HandleTable) (m : ZoneMap) (g : Gap) (b : ZoneMap) → IsGap t m g → list_all p m ≡ true → list_all p b ≡ true → list_all p (filled g b) ≡ true
 list_all-filled p t m g b i hm hb =
     let whole : list_all p (filled g g.blocks) ≡ true = ap (list_all p) (sym i.parts) ∙ hm in
-    let outer = and_parts _ _ (sym (list_all-append p (g.before ++ g.blocks) g.behind) ∙ whole) in
+    let outer = and_parts _ _ (sym (list_all-append p (g.before ++ g.blocks) g.after) ∙ whole) in
     let inner = and_parts _ _ (sym (list_all-append p g.before g.blocks) ∙ outer.0) in
-    list_all-append p (g.before ++ b) g.behind ∙ and_from _ _ (list_all-append p g.before b ∙ and_from _ _ inner.0 hb) outer.1
+    list_all-append p (g.before ++ b) g.after ∙ and_from _ _ (list_all-append p g.before b ∙ and_from _ _ inner.0 hb) outer.1
 
 -- what holds of each block of a map holds of each block of a gap
 pub list_all-gap : (p : Entry → Bool) (t : HandleTable) (m : ZoneMap) (g : Gap) → IsGap t m g → list_all p m ≡ true → list_all p g.blocks ≡ true
 list_all-gap p t m g i hm =
     let whole : list_all p (filled g g.blocks) ≡ true = ap (list_all p) (sym i.parts) ∙ hm in
-    let outer = and_parts _ _ (sym (list_all-append p (g.before ++ g.blocks) g.behind) ∙ whole) in
+    let outer = and_parts _ _ (sym (list_all-append p (g.before ++ g.blocks) g.after) ∙ whole) in
     (and_parts _ _ (sym (list_all-append p g.before g.blocks) ∙ outer.0)).1
 
 sum_possible : (s : Shape) (n r : ℕ) → is_block_size s n ≡ true → (r ≡ 0) ⊎ (is_block_size s r ≡ true) → is_block_size s (n + r) ≡ true

@@ -1,4 +1,4 @@
--- What is counted and listed of blocks, over two lists of blocks one behind the other.
+-- What is counted and listed of blocks, over two lists of blocks one after the other.
 use Rattle.std.proofs.Common.{◌≡◌, ℕ, suc, ◌+◌, Bool, true, false, not, cond, List, [], ◌∷◌, ◌++◌, length, refl, ap, sym, ◌∙◌, append_assoc, arith}
 use Rattle.std.specs.Prelude.{IsTrue, if◌then◌else◌}
 use Rattle.std.specs.List.{list_all}

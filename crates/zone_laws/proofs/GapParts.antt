@@ -7,7 +7,7 @@ use Rattle.std.proofs.lemmas.Bool.{and_from, leb-true}
 use Rattle.mac_base.specs.declared.block.Entry.{Entry}
 use Rattle.mac_base.specs.HandleTable.{HandleTable}
 use Rattle.mac_base.specs.ZoneMap.{ZoneMap}
-use Rattle.mac_base.specs.Gap.{Gap, gaps, gaps_with, further, filled, is_fixed, room, lowest_gap, own_gap, gap_behind, has_named, ends_with}
+use Rattle.mac_base.specs.Gap.{Gap, gaps, gaps_with, further, filled, is_fixed, room, lowest_gap, own_gap, gap_after, has_named, ends_with}
 
 -- whether all these blocks may move
 abbrev pub all_move : HandleTable → ZoneMap → Bool
@@ -29,12 +29,12 @@ pub record IsGap (t : HandleTable) (m : ZoneMap) (g : Gap) : Type 0 where
   pub parts : m ≡ filled g g.blocks
   pub moves : IsTrue (all_move t g.blocks)
   pub below : IsTrue (ends_fixed t g.before)
-  pub above : IsTrue (starts_fixed t g.behind)
+  pub above : IsTrue (starts_fixed t g.after)
 
 -- the lowest gap of a map
 abbrev pub first_gap : HandleTable → ZoneMap → Gap
-first_gap t [] = record { before = []; blocks = []; behind = [] }
-first_gap t (e ∷ es) = let g = first_gap t es in cond (is_fixed t e.kind) (record { before = []; blocks = []; behind = e ∷ es }) (record g { blocks = e ∷ g.blocks })
+first_gap t [] = record { before = []; blocks = []; after = [] }
+first_gap t (e ∷ es) = let g = first_gap t es in cond (is_fixed t e.kind) (record { before = []; blocks = []; after = e ∷ es }) (record g { blocks = e ∷ g.blocks })
 
 -- the gaps above it
 abbrev pub later_gaps : HandleTable → ZoneMap → List Gap
@@ -47,7 +47,7 @@ gaps-first t [] = refl
 gaps-first t (e ∷ es) = ap (gaps_with (is_fixed t e.kind) e es) (gaps-first t es) ∙ split (is_fixed t e.kind)
   where
     split : (b : Bool) → gaps_with b e es (first_gap t es ∷ later_gaps t es)
-        ≡ (let g = first_gap t es in cond b (record { before = []; blocks = []; behind = e ∷ es }) (record g { blocks = e ∷ g.blocks })) ∷ map (further e) (cond b (first_gap t es ∷ later_gaps t es) (later_gaps t es))
+        ≡ (let g = first_gap t es in cond b (record { before = []; blocks = []; after = e ∷ es }) (record g { blocks = e ∷ g.blocks })) ∷ map (further e) (cond b (first_gap t es ∷ later_gaps t es) (later_gaps t es))
     split true = refl
     split false = refl
 
@@ -59,14 +59,14 @@ has_blocks (e ∷ es) = true
 -- the lowest gap has nothing before it
 record IsFirst (t : HandleTable) (m : ZoneMap) (g : Gap) : Type 0 where
   pub none_before : g.before ≡ []
-  pub parts : m ≡ g.blocks ++ g.behind
+  pub parts : m ≡ g.blocks ++ g.after
   pub moves : IsTrue (all_move t g.blocks)
-  pub above : IsTrue (starts_fixed t g.behind)
+  pub above : IsTrue (starts_fixed t g.after)
 
 first_is : (t : HandleTable) (m : ZoneMap) → IsFirst t m (first_gap t m)
 first_is t [] = record { none_before = refl; parts = refl; moves = refl; above = refl }
 first_is t (e ∷ es) =
-    elim (is_fixed t e.kind) as (λ b. is_fixed t e.kind ≡ b → IsFirst t (e ∷ es) (let g = first_gap t es in cond b (record { before = []; blocks = []; behind = e ∷ es }) (record g { blocks = e ∷ g.blocks }))) [
+    elim (is_fixed t e.kind) as (λ b. is_fixed t e.kind ≡ b → IsFirst t (e ∷ es) (let g = first_gap t es in cond b (record { before = []; blocks = []; after = e ∷ es }) (record g { blocks = e ∷ g.blocks }))) [
       | true ↦ λ fixed. record { none_before = refl; parts = refl; moves = refl; above = fixed }
       | false ↦ λ moving. let rest = first_is t es in
           record { none_before = rest.none_before; parts = ap (λ m. e ∷ m) rest.parts; moves = and_from _ _ (ap not moving) rest.moves; above = rest.above }
@@ -79,7 +79,7 @@ first_gap-before t m = let f = first_is t m in f.none_before
 -- the lowest gap, with the other parts of a gap's description
 pub first_gap-IsGap : (t : HandleTable) (m : ZoneMap) → IsGap t m (first_gap t m)
 first_gap-IsGap t m = let f = first_is t m in
-    record { parts = f.parts ∙ ap (λ b. b ++ (first_gap t m).blocks ++ (first_gap t m).behind) (sym f.none_before); moves = f.moves; below = ap (ends_fixed t) f.none_before; above = f.above }
+    record { parts = f.parts ∙ ap (λ b. b ++ (first_gap t m).blocks ++ (first_gap t m).after) (sym f.none_before); moves = f.moves; below = ap (ends_fixed t) f.none_before; above = f.above }
 
 ends_fixed-cons : (t : HandleTable) (e : Entry) (b : ZoneMap) → ends_fixed t b ≡ true → (is_fixed t e.kind ≡ true) ⊎ (has_blocks b ≡ true) → ends_fixed t (e ∷ b) ≡ true
 ends_fixed-cons t e [] h (inl fixed) = fixed
@@ -128,9 +128,9 @@ lowest_gap-is t m k g found = let h = found_passes (IsGap t m) (λ g. nat_le k (
 pub own_gap-is : (t : HandleTable) (m : ZoneMap) (x : ℕ) (g : Gap) → own_gap x (gaps t m) ≡ Some g → IsGap t m g × (has_named x g.blocks ≡ true)
 own_gap-is t m x g found = found_passes (IsGap t m) (λ g. has_named x g.blocks) (gaps t m) g (gaps-IsGap t m) found
 
--- the gap right behind the block of x is a gap, and lies there
-pub gap_behind-is : (t : HandleTable) (m : ZoneMap) (x : ℕ) (g : Gap) → gap_behind x (gaps t m) ≡ Some g → IsGap t m g × (ends_with x g.before ≡ true)
-gap_behind-is t m x g found = found_passes (IsGap t m) (λ g. ends_with x g.before) (gaps t m) g (gaps-IsGap t m) found
+-- the gap right after the block of x is a gap, and lies there
+pub gap_after-is : (t : HandleTable) (m : ZoneMap) (x : ℕ) (g : Gap) → gap_after x (gaps t m) ≡ Some g → IsGap t m g × (ends_with x g.before ≡ true)
+gap_after-is t m x g found = found_passes (IsGap t m) (λ g. ends_with x g.before) (gaps t m) g (gaps-IsGap t m) found
 
 -- a gap among the gaps of a map
 pub gap-IsGap : (t : HandleTable) (m : ZoneMap) (g : Gap) → Contains (gaps t m) g → IsGap t m g

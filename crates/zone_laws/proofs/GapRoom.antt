@@ -6,7 +6,7 @@ use Rattle.std.proofs.lemmas.Bool.{and_parts, or_left, or_right, or_cases, leb-t
 use Rattle.mac_base.specs.declared.block.Entry.{Entry}
 use Rattle.mac_base.specs.ZoneMap.{ZoneMap, is_free, is_named, has_free, free_size, free_bytes}
 use Rattle.mac_base.specs.HandleTable.{HandleTable}
-use Rattle.mac_base.specs.Gap.{Gap, gaps, further, is_fixed, room, gap_behind, ends_with, some_gap_has}
+use Rattle.mac_base.specs.Gap.{Gap, gaps, further, is_fixed, room, gap_after, ends_with, some_gap_has}
 use Rattle.zone_laws.proofs.GapParts.{all_move, starts_fixed, ends_fixed, IsGap, first_gap, later_gaps, gaps-first, first_gap-before, first_gap-IsGap}
 use Rattle.zone_laws.proofs.Arranging.{free_is}
 
@@ -33,14 +33,14 @@ pub gap_of_block : (p : Entry → Bool) (t : HandleTable) (m : ZoneMap) → ((e 
 gap_of_block p t [] moves h = absurd (cc h)
 gap_of_block p t (e ∷ es) moves h =
     list_any-gaps (λ (g : Gap). list_any p g.blocks) t (e ∷ es)
-    ∙ elim (is_fixed t e.kind) as (λ c. is_fixed t e.kind ≡ c → (list_any p (let g = first_gap t es in cond c (record { before = []; blocks = []; behind = e ∷ es }) (record g { blocks = e ∷ g.blocks })).blocks || list_any (λ (g : Gap). list_any p g.blocks) (map (further e) (cond c (first_gap t es ∷ later_gaps t es) (later_gaps t es)))) ≡ true) [
-      | true ↦ λ fixed. list_any-further (λ (g : Gap). list_any p g.blocks) e (first_gap t es ∷ later_gaps t es) (λ g h. h) (sym (list_any-gaps (λ (g : Gap). list_any p g.blocks) t es) ∙ behind fixed (or_cases (p e) (list_any p es) h) (gap_of_block p t es moves))
+    ∙ elim (is_fixed t e.kind) as (λ c. is_fixed t e.kind ≡ c → (list_any p (let g = first_gap t es in cond c (record { before = []; blocks = []; after = e ∷ es }) (record g { blocks = e ∷ g.blocks })).blocks || list_any (λ (g : Gap). list_any p g.blocks) (map (further e) (cond c (first_gap t es ∷ later_gaps t es) (later_gaps t es)))) ≡ true) [
+      | true ↦ λ fixed. list_any-further (λ (g : Gap). list_any p g.blocks) e (first_gap t es ∷ later_gaps t es) (λ g h. h) (sym (list_any-gaps (λ (g : Gap). list_any p g.blocks) t es) ∙ after fixed (or_cases (p e) (list_any p es) h) (gap_of_block p t es moves))
       | false ↦ λ moving. here (or_cases (p e) (list_any p es) h) (λ there. sym (list_any-gaps (λ (g : Gap). list_any p g.blocks) t es) ∙ gap_of_block p t es moves there)
     ] refl
   where
-    behind : is_fixed t e.kind ≡ true → (p e ≡ true) ⊎ (list_any p es ≡ true) → (list_any p es ≡ true → list_any (λ (g : Gap). list_any p g.blocks) (gaps t es) ≡ true) → list_any (λ (g : Gap). list_any p g.blocks) (gaps t es) ≡ true
-    behind fixed (inl passes) rest = absurd (true≢false (sym fixed ∙ moves e passes))
-    behind fixed (inr there) rest = rest there
+    after : is_fixed t e.kind ≡ true → (p e ≡ true) ⊎ (list_any p es ≡ true) → (list_any p es ≡ true → list_any (λ (g : Gap). list_any p g.blocks) (gaps t es) ≡ true) → list_any (λ (g : Gap). list_any p g.blocks) (gaps t es) ≡ true
+    after fixed (inl passes) rest = absurd (true≢false (sym fixed ∙ moves e passes))
+    after fixed (inr there) rest = rest there
 
     above : (list_any p (first_gap t es).blocks ≡ true) ⊎ (list_any (λ (g : Gap). list_any p g.blocks) (later_gaps t es) ≡ true)
         → (p e || list_any p (first_gap t es).blocks || list_any (λ (g : Gap). list_any p g.blocks) (map (further e) (later_gaps t es))) ≡ true
@@ -57,35 +57,35 @@ list_any-map test f [] = refl
 list_any-map test f (g ∷ gs) = ap (λ b. test (f g) || b) (list_any-map test f gs)
 
 -- blocks that may move, before a fixed one or the end, are the lowest gap
-pub first_gap-is : (t : HandleTable) (blocks behind : ZoneMap) → all_move t blocks ≡ true → starts_fixed t behind ≡ true → first_gap t (blocks ++ behind) ≡ record { before = []; blocks = blocks; behind = behind }
+pub first_gap-is : (t : HandleTable) (blocks after : ZoneMap) → all_move t blocks ≡ true → starts_fixed t after ≡ true → first_gap t (blocks ++ after) ≡ record { before = []; blocks = blocks; after = after }
 first_gap-is t [] [] moves fixed = refl
-first_gap-is t [] (e ∷ es) moves fixed = ap (λ c. let g = first_gap t es in cond c (record { before = []; blocks = []; behind = e ∷ es }) (record g { blocks = e ∷ g.blocks })) fixed
-first_gap-is t (e ∷ es) behind moves fixed =
+first_gap-is t [] (e ∷ es) moves fixed = ap (λ c. let g = first_gap t es in cond c (record { before = []; blocks = []; after = e ∷ es }) (record g { blocks = e ∷ g.blocks })) fixed
+first_gap-is t (e ∷ es) after moves fixed =
     let parts = and_parts (not (is_fixed t e.kind)) (all_move t es) moves in
-    ap (λ c. let g = first_gap t (es ++ behind) in cond c (record { before = []; blocks = []; behind = e ∷ (es ++ behind) }) (record g { blocks = e ∷ g.blocks })) (not-true _ parts.0)
-    ∙ ap (λ (g : Gap). record g { blocks = e ∷ g.blocks }) (first_gap-is t es behind parts.1 fixed)
+    ap (λ c. let g = first_gap t (es ++ after) in cond c (record { before = []; blocks = []; after = e ∷ (es ++ after) }) (record g { blocks = e ∷ g.blocks })) (not-true _ parts.0)
+    ∙ ap (λ (g : Gap). record g { blocks = e ∷ g.blocks }) (first_gap-is t es after parts.1 fixed)
 
-later_among : (test : Gap → Bool) (t : HandleTable) (e : Entry) (before blocks behind : ZoneMap) → ends_fixed t (e ∷ before) ≡ true → all_move t blocks ≡ true → starts_fixed t behind ≡ true
-    → test (record { before = e ∷ before; blocks = blocks; behind = behind }) ≡ true → list_any test (later_gaps t (e ∷ (before ++ (blocks ++ behind)))) ≡ true
-later_among test t e [] blocks behind below moves above holds =
-    ap (λ c. list_any test (map (further e) (cond c (first_gap t (blocks ++ behind) ∷ later_gaps t (blocks ++ behind)) (later_gaps t (blocks ++ behind))))) below
-    ∙ or_left (test (further e (first_gap t (blocks ++ behind)))) _ (ap (λ (g : Gap). test (further e g)) (first_gap-is t blocks behind moves above) ∙ holds)
-later_among test t e (f ∷ fs) blocks behind below moves above holds =
-    let m : ZoneMap = f ∷ (fs ++ (blocks ++ behind)) in
-    let rest = later_among (λ g. test (further e g)) t f fs blocks behind below moves above holds in
+later_among : (test : Gap → Bool) (t : HandleTable) (e : Entry) (before blocks after : ZoneMap) → ends_fixed t (e ∷ before) ≡ true → all_move t blocks ≡ true → starts_fixed t after ≡ true
+    → test (record { before = e ∷ before; blocks = blocks; after = after }) ≡ true → list_any test (later_gaps t (e ∷ (before ++ (blocks ++ after)))) ≡ true
+later_among test t e [] blocks after below moves above holds =
+    ap (λ c. list_any test (map (further e) (cond c (first_gap t (blocks ++ after) ∷ later_gaps t (blocks ++ after)) (later_gaps t (blocks ++ after))))) below
+    ∙ or_left (test (further e (first_gap t (blocks ++ after)))) _ (ap (λ (g : Gap). test (further e g)) (first_gap-is t blocks after moves above) ∙ holds)
+later_among test t e (f ∷ fs) blocks after below moves above holds =
+    let m : ZoneMap = f ∷ (fs ++ (blocks ++ after)) in
+    let rest = later_among (λ g. test (further e g)) t f fs blocks after below moves above holds in
     elim (is_fixed t e.kind) as (λ c. list_any test (map (further e) (cond c (first_gap t m ∷ later_gaps t m) (later_gaps t m))) ≡ true) [
       | true ↦ or_right (test (further e (first_gap t m))) _ (list_any-map test (further e) (later_gaps t m) ∙ rest)
       | false ↦ list_any-map test (further e) (later_gaps t m) ∙ rest
     ]
 
-among_parts : (test : Gap → Bool) (t : HandleTable) (before blocks behind : ZoneMap) → ends_fixed t before ≡ true → all_move t blocks ≡ true → starts_fixed t behind ≡ true
-    → test (record { before = before; blocks = blocks; behind = behind }) ≡ true → list_any test (gaps t (before ++ (blocks ++ behind))) ≡ true
-among_parts test t [] blocks behind below moves above holds = list_any-gaps test t (blocks ++ behind) ∙ or_left _ _ (ap test (first_gap-is t blocks behind moves above) ∙ holds)
-among_parts test t (e ∷ before) blocks behind below moves above holds = list_any-gaps test t (e ∷ (before ++ (blocks ++ behind))) ∙ or_right _ _ (later_among test t e before blocks behind below moves above holds)
+among_parts : (test : Gap → Bool) (t : HandleTable) (before blocks after : ZoneMap) → ends_fixed t before ≡ true → all_move t blocks ≡ true → starts_fixed t after ≡ true
+    → test (record { before = before; blocks = blocks; after = after }) ≡ true → list_any test (gaps t (before ++ (blocks ++ after))) ≡ true
+among_parts test t [] blocks after below moves above holds = list_any-gaps test t (blocks ++ after) ∙ or_left _ _ (ap test (first_gap-is t blocks after moves above) ∙ holds)
+among_parts test t (e ∷ before) blocks after below moves above holds = list_any-gaps test t (e ∷ (before ++ (blocks ++ after))) ∙ or_right _ _ (later_among test t e before blocks after below moves above holds)
 
 -- blocks that may move between fixed blocks or the ends of the zone are one of the gaps
 pub gap_among : (test : Gap → Bool) (t : HandleTable) (m : ZoneMap) (g : Gap) → IsGap t m g → test g ≡ true → list_any test (gaps t m) ≡ true
-gap_among test t m g i holds = ap (λ m. list_any test (gaps t m)) (i.parts ∙ append_assoc g.before g.blocks g.behind) ∙ among_parts test t g.before g.blocks g.behind i.below i.moves i.above holds
+gap_among test t m g i holds = ap (λ m. list_any test (gaps t m)) (i.parts ∙ append_assoc g.before g.blocks g.after) ∙ among_parts test t g.before g.blocks g.after i.below i.moves i.above holds
 
 ends_with-push : (x : ℕ) (a : ZoneMap) (e : Entry) → ends_with x (a ++ e ∷ []) ≡ is_named x e.kind
 ends_with-push x [] e = refl
@@ -98,22 +98,22 @@ ends_fixed-push t [] e = refl
 ends_fixed-push t (f ∷ []) e = refl
 ends_fixed-push t (f ∷ g ∷ a) e = ends_fixed-push t (g ∷ a) e
 
--- right behind a fixed block lies a gap
-pub gap_behind_fixed : (t : HandleTable) (a : ZoneMap) (e : Entry) (b : ZoneMap) → is_fixed t e.kind ≡ true → IsGap t (a ++ e ∷ b) (let g = first_gap t b in record g { before = a ++ e ∷ [] })
-gap_behind_fixed t a e b fixed =
+-- right after a fixed block lies a gap
+pub gap_after_fixed : (t : HandleTable) (a : ZoneMap) (e : Entry) (b : ZoneMap) → is_fixed t e.kind ≡ true → IsGap t (a ++ e ∷ b) (let g = first_gap t b in record g { before = a ++ e ∷ [] })
+gap_after_fixed t a e b fixed =
     let first = first_gap-IsGap t b in
     let g : Gap = first_gap t b in
     record {
-      parts = ap (λ b. a ++ e ∷ b) (first.parts ∙ ap (λ before. before ++ g.blocks ++ g.behind) (first_gap-before t b)) ∙ sym (append_assoc a (e ∷ []) (g.blocks ++ g.behind)) ∙ sym (append_assoc (a ++ e ∷ []) g.blocks g.behind);
+      parts = ap (λ b. a ++ e ∷ b) (first.parts ∙ ap (λ before. before ++ g.blocks ++ g.after) (first_gap-before t b)) ∙ sym (append_assoc a (e ∷ []) (g.blocks ++ g.after)) ∙ sym (append_assoc (a ++ e ∷ []) g.blocks g.after);
       moves = first.moves;
       below = ends_fixed-push t a e ∙ fixed;
       above = first.above;
     }
 
--- a fixed block that x names has a gap right behind it
-pub gap_behind-found : (t : HandleTable) (x : ℕ) (a : ZoneMap) (e : Entry) (b : ZoneMap) → is_fixed t e.kind ≡ true → is_named x e.kind ≡ true → is_some (gap_behind x (gaps t (a ++ e ∷ b))) ≡ true
-gap_behind-found t x a e b fixed named =
-    is_some-find (λ g. ends_with x g.before) (gaps t (a ++ e ∷ b)) ∙ gap_among (λ g. ends_with x g.before) t (a ++ e ∷ b) _ (gap_behind_fixed t a e b fixed) (ends_with-push x a e ∙ named)
+-- a fixed block that x names has a gap right after it
+pub gap_after-found : (t : HandleTable) (x : ℕ) (a : ZoneMap) (e : Entry) (b : ZoneMap) → is_fixed t e.kind ≡ true → is_named x e.kind ≡ true → is_some (gap_after x (gaps t (a ++ e ∷ b))) ≡ true
+gap_after-found t x a e b fixed named =
+    is_some-find (λ g. ends_with x g.before) (gaps t (a ++ e ∷ b)) ∙ gap_among (λ g. ends_with x g.before) t (a ++ e ∷ b) _ (gap_after_fixed t a e b fixed) (ends_with-push x a e ∙ named)
 
 -- a block with k free bytes gives room for them
 room-has_free : (k : ℕ) (b : ZoneMap) → list_any (has_free k) b ≡ true → nat_le k (free_bytes b) ≡ true

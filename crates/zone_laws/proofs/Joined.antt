@@ -14,7 +14,7 @@ use Rattle.zone_laws.proofs.Maps.{addresses_from-skip}
 use Rattle.zone_laws.proofs.Arranging.{free_is}
 use Rattle.zone_laws.proofs.JoinedBlocks.{joined_to-apart}
 
--- what a block joined to the map behind it is, where both are free, and where not
+-- what a block joined to the map after it is, where both are free, and where not
 by_joined : (P : ZoneMap → Type 0) (e f : Entry) (es : ZoneMap) → (is_free e.kind ≡ true → is_free f.kind ≡ true → P (block Free (e.size + f.size) ∷ es)) → P (e ∷ f ∷ es) → P (joined_to e (f ∷ es))
 by_joined P e f es both other = elim (is_free e.kind && is_free f.kind) as (λ b. (is_free e.kind && is_free f.kind) ≡ b → P (cond b (block Free (e.size + f.size) ∷ es) (e ∷ f ∷ es))) [
   | true ↦ λ h. let hs = and_parts (is_free e.kind) (is_free f.kind) h in both hs.0 hs.1
@@ -51,7 +51,7 @@ sizes-joined s m h = list_all-joined (λ (e : Entry). is_block_size s e.size) (�
 pub lengths-joined : (s : Shape) (t : HandleTable) (m : ZoneMap) → IsTrue (list_all (has_owners_length s t) m) → IsTrue (list_all (has_owners_length s t) (joined m))
 lengths-joined s t m h = list_all-joined (has_owners_length s t) (λ a b p q. refl) m h
 
--- a join behind the first block leaves whether it is free
+-- a join after the first block leaves whether it is free
 pub starts_free-joined_to : (e : Entry) (m : ZoneMap) → starts_free (joined_to e m) ≡ is_free e.kind
 starts_free-joined_to e [] = refl
 starts_free-joined_to e (f ∷ es) = by_joined (λ m. starts_free m ≡ is_free e.kind) e f es (λ p q. sym p) refl

@@ -60,7 +60,7 @@ addresses_from-joined at test (e ∷ es) h =
     ∙ sym (ap (λ c. cond c (at ∷ []) [] ++ addresses_from (at + e.size) test (joined es)) (ap test free ∙ h))) refl
     ∙ ap (λ ns. cond (test e.kind) (at ∷ []) [] ++ ns) (addresses_from-joined (at + e.size) test es h)
 
--- two free blocks, one behind the other, join as one
+-- two free blocks, one after the other, join as one
 pub joined-two : (a b : ℕ) (m : ZoneMap) → joined (block Free a ∷ block Free b ∷ m) ≡ joined (block Free (a + b) ∷ m)
 joined-two a b m = by_rest (joined m)
   where

@@ -5,7 +5,7 @@ use Rattle.std.proofs.lemmas.Bool.{true≢false, or_cases}
 use Rattle.mac_base.specs.declared.block.Kind.{Kind}
 use Rattle.mac_base.specs.declared.block.Kind.TheVariants.{Free, Master, Ptr, Rel}
 use Rattle.mac_base.specs.HeadKind.{Shape, head_size}
-use Rattle.mac_base.specs.ZoneMap.{ZoneMap, Rearranged, is_named, address_behind, addresses, addresses_from, contents_of}
+use Rattle.mac_base.specs.ZoneMap.{ZoneMap, Rearranged, is_named, address_after, addresses, addresses_from, contents_of}
 use Rattle.mac_base.specs.HandleTable.{HandleTable, Live, EmptyHandle, FullHandle, Pointer, live_flags, live_handle, is_handle, is_lent, is_locked, is_pointer}
 use Rattle.mac_base.specs.Suits.{Suits, is_handle_block, is_pointer_block}
 use Rattle.mac_base.specs.Gap.{is_fixed}
@@ -38,12 +38,12 @@ no_pointer x (Rel g) h = refl
 -- the contents of a pointer's block begin at its number
 pub contents-pointer : (s : Shape) (t : HandleTable) (m : ZoneMap) (p : ℕ) → Suits s t m → is_pointer t p ≡ true → contents_of s p m ≡ p
 contents-pointer s t m p suits live =
-    ap (λ found. slice_index (map (λ a. a + head_size s.heads) found) 0) (named_only p (is_handle_block p) (is_pointer_block p) (no_handle p) (address_behind s []) m (no_handle_block s t m suits p (pointer_no_handle t p live).1))
+    ap (λ found. slice_index (map (λ a. a + head_size s.heads) found) 0) (named_only p (is_handle_block p) (is_pointer_block p) (no_handle p) (address_after s []) m (no_handle_block s t m suits p (pointer_no_handle t p live).1))
     ∙ ap (λ found. slice_index found 0) (suits.coherent.pointers p ∙ ap (λ b. cond b (p ∷ []) []) live)
 
--- and a handle's block stands where its number does
+-- and a handle's block is where its number does
 pub addresses-handle : (s : Shape) (t : HandleTable) (m : ZoneMap) (h : ℕ) → Suits s t m → is_handle t h ≡ true → addresses s (is_named h) m ≡ addresses s (is_handle_block h) m
-addresses-handle s t m h suits live = named_only h (is_pointer_block h) (is_handle_block h) (no_pointer h) (address_behind s []) m (no_pointer_block s t m suits h (handle_no_pointer t h live))
+addresses-handle s t m h suits live = named_only h (is_pointer_block h) (is_handle_block h) (no_pointer h) (address_after s []) m (no_pointer_block s t m suits h (handle_no_pointer t h live))
 
 -- a locked handle has a block
 pub locked_full : (o : Option Live) → (live_flags o).lock ≡ true → live_handle o ≡ true

@@ -6,7 +6,7 @@ use Rattle.std.proofs.lemmas.Bool.{not-true, and_parts, not_from_false, and_from
 use Rattle.mac_base.specs.declared.block.Flags.{Flags}
 use Rattle.mac_base.specs.declared.block.Kind.TheVariants.{Ptr, Rel}
 use Rattle.mac_base.specs.HeadKind.{Shape, need}
-use Rattle.mac_base.specs.ZoneMap.{ZoneMap, is_named, address_behind}
+use Rattle.mac_base.specs.ZoneMap.{ZoneMap, is_named, address_after}
 use Rattle.mac_base.specs.HandleTable.{EmptyHandle, FullHandle, Pointer, live_at, live_bytes, live_flags, live_full, live_pointer, bytes_of, is_lent, is_locked, is_pointer, no_flags, refilled, resized, with_bytes, with_flags, zeros}
 use Rattle.mac_base.specs.Heap.{Heap, granted, with_table}
 use Rattle.mac_base.specs.Loans.{LoansAreFixed, lent_out, owners, returned, with_lent}
@@ -62,7 +62,7 @@ keeps-released s heap (Empties h) here =
 pub keeps-resized : (s : Shape) (heap : Heap) (x n g : ℕ) (m : ZoneMap) → Sound s heap → is_lent heap.table x ≡ false → resized_in_place s (need s.heads n) x heap.map ≡ Some m → KeepsLent s heap (granted (Resize x n) g m heap)
 keeps-resized s heap x n g m sound here is =
     keeps-others s heap (granted (Resize x n) g m heap) x here (with_live_agrees x (refilled (resized n (bytes_of heap.table x)) (live_at heap.table x)) heap.table) refl
-    (λ y apart. addresses_from-resized s (need s.heads n) x heap.map m (resized_in_place-at s (need s.heads n) x heap.map m sound.suits.apart is) (address_behind s []) (is_named y) refl)
+    (λ y apart. addresses_from-resized s (need s.heads n) x heap.map m (resized_in_place-at s (need s.heads n) x heap.map m sound.suits.apart is) (address_after s []) (is_named y) refl)
 
 -- bytes of one that isn't lent are written
 pub keeps-written : (s : Shape) (heap : Heap) (x : ℕ) (bytes : List ℕ) → is_lent heap.table x ≡ false → KeepsLent s heap (with_table (with_bytes x bytes heap.table) heap)

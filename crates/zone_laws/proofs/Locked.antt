@@ -20,7 +20,7 @@ use Rattle.mac_base.specs.declared.memory_call.MemoryCall.{MemoryCall}
 use Rattle.mac_base.specs.declared.memory_call.MemoryCall.TheVariants as memory_call
 use Rattle.mac_base.specs.Effect.{effect_of, request_of, table_copied}
 use Rattle.mac_base.specs.ExactRequest.{Ending, after_ask, asked, prepared, request_run, served_or, unserved}
-use Rattle.mac_base.specs.ExactStep.{IsExactStep, StepEnd, behind_master, exact_step, rearranged, request_end, request_step, step_asking, step_unless}
+use Rattle.mac_base.specs.ExactStep.{IsExactStep, StepEnd, after_master, exact_step, rearranged, request_end, request_step, step_asking, step_unless}
 use Rattle.mac_base.specs.GrowZone.{Answer, Ask, Carried, answers_in, carried_from, carried_once, carried_out, heap_unless, memory_call as as_call, most_answers}
 use Rattle.mac_base.specs.Outcomes.{Outcome}
 use Rattle.mac_base.specs.Tests.{protected_by, refusal}
@@ -57,8 +57,8 @@ stay-carried s protected calls heap = stay-from s protected calls (record { heap
 -- ---- a run of a request
 
 by_trial : (s : Shape) (r : Request) (mid : Heap) (left : List Answer) (other : Ending) (o : Option (ℕ × ZoneMap)) → serve s mid.table (front_slot mid) mid.map r ≡ o → Sound s mid → MayServe mid r → Stay s mid other.heap → Stay s mid (served_or r mid left other o).heap
-by_trial s r mid left other (Some found) is sound may behind = stay-serve s mid sound r found.0 found.1 may is
-by_trial s r mid left other None is sound may behind = behind
+by_trial s r mid left other (Some found) is sound may following = stay-serve s mid sound r found.0 found.1 may is
+by_trial s r mid left other None is sound may following = following
 
 stay-run : (s : Shape) (protected : List ℕ) (r : Request) (allowed : ℕ) (answers : List Answer) (heap : Heap) → Sound s heap → Guards protected r → MayServe heap r → Stay s heap (request_run s protected r allowed answers heap).heap
 stay-run s protected r allowed [] heap sound guards may =
@@ -99,7 +99,7 @@ copied-locked (memory_call.Append g bytes) x entry t h l = written-locked g (byt
 copied-locked (memory_call.HandAndHand a b) x entry t h l = written-locked b (bytes_of entry b ++ bytes_of entry a) t h l
 copied-locked call x entry t h l = l
 
--- the block of a handle that is locked before and after stands where it stood
+-- the block of a handle that is locked before and after is where it was
 abbrev pub LockedStand : Shape → Heap → Heap → Type 0
 LockedStand s old new = (h : ℕ) → is_locked old.table h ≡ true → is_locked new.table h ≡ true → addresses s (is_handle_block h) new.map ≡ addresses s (is_handle_block h) old.map
 
@@ -127,15 +127,15 @@ module _ (s : Shape) (answers : List Answer) (heap : Heap) (call : MemoryCall) (
   ended first e (Some x) stay = stay-then s heap e.heap (with_table (table_copied call x heap.table e.heap.table) e.heap) stay
       (record { locked = λ h l. copied-locked call x heap.table e.heap.table h l; place = λ h l. refl })
 
-  behind-stay : (r : Request) (master : Ending) → AsksSoundly s heap call r → makes_handle r ≡ true → RunFacts s (protected_by call) NewMaster most_answers heap master → Stay s heap master.heap
-      → (given : Option ℕ) → master.given ≡ given → Stay s heap (let e = behind_master s (protected_by call) r master given in request_end call heap.table master.asks e e.given).heap
-  behind-stay r master asks makes facts stay (Some x) is =
+  after-stay : (r : Request) (master : Ending) → AsksSoundly s heap call r → makes_handle r ≡ true → RunFacts s (protected_by call) NewMaster most_answers heap master → Stay s heap master.heap
+      → (given : Option ℕ) → master.given ≡ given → Stay s heap (let e = after_master s (protected_by call) r master given in request_end call heap.table master.asks e e.given).heap
+  after-stay r master asks makes facts stay (Some x) is =
       let slots : 0 < length master.heap.free_slots = subst (λ o. MatchOption o ⊤ (λ x. 0 < length master.heap.free_slots)) is facts.gives in
       let allowed = most_answers - length master.asks in
       let e = request_run s (protected_by call) r allowed master.left master.heap in
       ended master.asks e e.given (stay-then s heap master.heap e.heap stay
       (stay-run s (protected_by call) r allowed master.left master.heap facts.sound asks.guards (may_serve-from master.heap r (operand-handle master.heap r makes) (λ _. slots))))
-  behind-stay r master asks makes facts stay None is = stay
+  after-stay r master asks makes facts stay None is = stay
 
   request-stay : (r : Request) (b : Bool) → (makes_handle r && has_none heap.free_slots) ≡ b → AsksSoundly s heap call r → Stay s heap (request_step s answers heap call b r).heap
   request-stay r false is asks =
@@ -144,7 +144,7 @@ module _ (s : Shape) (answers : List Answer) (heap : Heap) (call : MemoryCall) (
       ended [] e e.given (stay-run s (protected_by call) r most_answers answers heap sound asks.guards may)
   request-stay r true is asks =
       let master = request_run s (protected_by call) NewMaster most_answers answers heap in
-      behind-stay r master asks (makes-first (makes_handle r) (has_none heap.free_slots) is) (run-facts s (protected_by call) NewMaster most_answers answers heap sound tt tt)
+      after-stay r master asks (makes-first (makes_handle r) (has_none heap.free_slots) is) (run-facts s (protected_by call) NewMaster most_answers answers heap sound tt tt)
       (stay-run s (protected_by call) NewMaster most_answers answers heap sound tt tt) master.given refl
 
   asking-stand : (o : Option Request) → request_of heap.table call ≡ o → refusal s heap call ≡ None → LockedStand s heap (step_asking s answers heap call o).heap
@@ -157,11 +157,11 @@ module _ (s : Shape) (answers : List Answer) (heap : Heap) (call : MemoryCall) (
   unless-stand (Some code) is = λ h _ _. refl
   unless-stand None is = asking-stand (request_of heap.table call) refl is
 
--- a call leaves the blocks of handles where they stand that are locked before and after it
+-- a call leaves the blocks of handles where they are that are locked before and after it
 pub locked-exact_step : (s : Shape) (answers : List Answer) (heap : Heap) (call : MemoryCall) → Sound s heap → LockedStand s heap (exact_step s answers heap call).heap
 locked-exact_step s answers heap call sound = unless-stand s answers heap call sound (refusal s heap call) refl
 
--- the contents of a handle stand where its block does
+-- the contents of a handle are where its block does
 pub stand-contents : (s : Shape) (old new : Heap) (h : ℕ) → Sound s old → Sound s new → is_locked old.table h ≡ true → is_locked new.table h ≡ true → addresses s (is_handle_block h) new.map ≡ addresses s (is_handle_block h) old.map
     → contents_of s h new.map ≡ contents_of s h old.map
 stand-contents s old new h sound after was locked stands =

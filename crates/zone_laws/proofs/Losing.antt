@@ -203,7 +203,7 @@ module _ (k : Trait) (x : ℕ) where
           ]
 
       module _ (r : Request) (first : List Ask) (from : Heap) (begins : Begins s old call r first from) where
-        -- how a trial behind these asks prepares the heap
+        -- how a trial after these asks prepares the heap
         prepared-keeps : (done later : List Ask) (at : Heap) (p : Preparation) → asks ≡ (first ++ done) ++ later → Tried s (protected_by call) r from done at → MayPrepare s (protected_by call) r at p → Holds at.table → Keeps (prepared_by s p at).table Lost
         prepared-keeps done later at p parts tried may holds =
             let mid : Heap = cond p.grows (grown s at) at in
@@ -253,9 +253,9 @@ module _ (k : Trait) (x : ℕ) where
 
       begins-keep : (r : Request) (first rest : List Ask) (from : Heap) → asks ≡ first ++ rest → Begins s old call r first from → Holds old.table → Keeps from.table Lost
       begins-keep r first rest from parts (inl at_entry) holds = inl (same old.table from.table (ap (λ (heap : Heap). heap.table) at_entry.2) holds)
-      begins-keep r first rest from parts (inr behind) holds =
-          let made = behind.2 in
-          ran-keeps NewMaster [] old (inl (ap (λ b. cond b (Some NewMaster) (request_of old.table call)) behind.0, refl, refl)) (Some made.1) (length first) first rest from parts (λ h n is. absurd (cc is)) (made.0, made.2, made.3, omega arith) holds
+      begins-keep r first rest from parts (inr following) holds =
+          let made = following.2 in
+          ran-keeps NewMaster [] old (inl (ap (λ b. cond b (Some NewMaster) (request_of old.table call)) following.0, refl, refl)) (Some made.1) (length first) first rest from parts (λ h n is. absurd (cc is)) (made.0, made.2, made.3, omega arith) holds
 
       ends-keep : (given : Option ℕ) (mid : Heap) (outcome : Outcome) (new : Heap) → EndsRequest call old.table given mid outcome new → Holds mid.table → Holds new.table
       ends-keep (Some g) mid outcome new ends holds = same (table_copied call g old.table mid.table) new.table ends.1 (copied-keeps call g old.table mid.table holds)

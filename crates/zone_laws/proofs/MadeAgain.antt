@@ -16,10 +16,10 @@ use Rattle.mac_base.specs.ZoneMap.{ZoneMap}
 use Rattle.mac_base.specs.declared.memory_call.MemoryCall.{MemoryCall}
 use Rattle.mac_base.specs.Effect.{request_of, table_copied}
 use Rattle.mac_base.specs.ExactRequest.{Ending, after_ask, prepared, request_run, unserved}
-use Rattle.mac_base.specs.ExactStep.{StepEnd, behind_master, exact_step, request_end, request_step, step_asking, step_unless}
+use Rattle.mac_base.specs.ExactStep.{StepEnd, after_master, exact_step, request_end, request_step, step_asking, step_unless}
 use Rattle.mac_base.specs.GrowZone.{Answer, Ask, Carried, carried_out, most_answers}
 use Rattle.mac_base.specs.Tests.{protected_by, refusal}
-use Rattle.zone_laws.specs.MadeAgain.{AnsweredBetween, AnswersBetween, AskedFor, AsksInVain, FreesNoSlot, behind_ask, carried_between, full_end, lacks_slot}
+use Rattle.zone_laws.specs.MadeAgain.{AnsweredBetween, AnswersBetween, AskedFor, AsksInVain, FreesNoSlot, past_ask, carried_between, full_end, lacks_slot}
 use Rattle.zone_laws.proofs.MoreAllowed.{Alike, run-alike, run-lengths}
 use Rattle.zone_laws.proofs.Operands.{Kept, SameCall, kept-carried, kept-prepared, kept-then, same-call, slots-prepared}
 use Rattle.zone_laws.proofs.RunAnswers.{last, once, trial}
@@ -43,23 +43,23 @@ shown needed a c = record { needed = needed; answer = Some a; carried = c.calls 
 abbrev then_again : Shape → MemoryCall → Answer → List Answer → StepEnd → List Ask → StepEnd
 then_again s call a later first [] = record first { left = a ∷ later }
 then_again s call a later first (ask ∷ asks) = let c = carried_between s call a first.heap in
-    behind_ask ask.needed a c (cond (a.value == 0) (full_end c.heap later) (exact_step s later c.heap call))
+    past_ask ask.needed a c (cond (a.value == 0) (full_end c.heap later) (exact_step s later c.heap call))
 
 -- ends of requests that are alike, where the calls copy alike
 module _ (few : Type 0) (call : MemoryCall) (entry t : HandleTable)
     (copied : (x : ℕ) (u : HandleTable) → table_copied call x t u ≡ table_copied call x entry u) (needed : ℕ) (a : Answer)
     (c : Carried) where
-  ends-by : (before behind : List Ask) (one other : Ending) → one.heap ≡ other.heap → one.left ≡ other.left
-      → (few → before ++ one.asks ≡ behind ++ other.asks) → (o : Option ℕ)
-      → Ends few (behind_ask needed a c (request_end call t before one o)) (request_end call entry (shown needed a c ∷ behind) other o)
-  ends-by before behind one other heap left asks (Some x) = record {
+  ends-by : (before following : List Ask) (one other : Ending) → one.heap ≡ other.heap → one.left ≡ other.left
+      → (few → before ++ one.asks ≡ following ++ other.asks) → (o : Option ℕ)
+      → Ends few (past_ask needed a c (request_end call t before one o)) (request_end call entry (shown needed a c ∷ following) other o)
+  ends-by before following one other heap left asks (Some x) = record {
     outcome = refl;
     heap = ap (λ u. with_table u one.heap) (copied x one.heap.table)
         ∙ ap (λ (heap : Heap). with_table (table_copied call x entry heap.table) heap) heap;
     left = left;
     asks = λ is. ap (λ asks. shown needed a c ∷ asks) (asks is);
   }
-  ends-by before behind one other heap left asks None =
+  ends-by before following one other heap left asks None =
       record { outcome = refl; heap = heap; left = left; asks = λ is. ap (λ asks. shown needed a c ∷ asks) (asks is) }
 
   end-after : (other : Ending) (o : Option ℕ)
@@ -67,14 +67,14 @@ module _ (few : Type 0) (call : MemoryCall) (entry t : HandleTable)
   end-after other (Some x) = refl
   end-after other None = refl
 
-  ends-alike : (before behind : List Ask) (fewer : Type 0) (one other : Ending) → Alike fewer one other → (few → fewer) → before ≡ behind
-      → Ends few (behind_ask needed a c (request_end call t before one one.given))
-      (request_end call entry (shown needed a c ∷ behind) other other.given)
-  ends-alike before behind fewer one other alike to same =
-      subst (λ o. Ends few (behind_ask needed a c (request_end call t before one one.given))
-      (request_end call entry (shown needed a c ∷ behind) other o)) alike.given
-      (ends-by before behind one other alike.heap alike.left
-      (λ is. ap (λ xs. xs ++ one.asks) same ∙ ap (λ xs. behind ++ xs) (alike.asks (to is))) one.given)
+  ends-alike : (before following : List Ask) (fewer : Type 0) (one other : Ending) → Alike fewer one other → (few → fewer) → before ≡ following
+      → Ends few (past_ask needed a c (request_end call t before one one.given))
+      (request_end call entry (shown needed a c ∷ following) other other.given)
+  ends-alike before following fewer one other alike to same =
+      subst (λ o. Ends few (past_ask needed a c (request_end call t before one one.given))
+      (request_end call entry (shown needed a c ∷ following) other o)) alike.given
+      (ends-by before following one other alike.heap alike.left
+      (λ is. ap (λ xs. xs ++ one.asks) same ∙ ap (λ xs. following ++ xs) (alike.asks (to is))) one.given)
 
 -- a slot that is free stays free
 pub slot-stays : (makes : Bool) (xs ys : List ℕ) → (0 < length xs → 0 < length ys) → (makes && has_none xs) ≡ false
@@ -98,8 +98,8 @@ module _ (s : Shape) (call : MemoryCall) (a : Answer) (later : List Answer)
   again heap = exact_step s later heap call
 
   -- the answer frees no slot that the call lacks, where it asked and is made again
-  abbrev FreesBehind : StepEnd → Type 0
-  FreesBehind first = (first.asks ≡ [] → ⊥) → (a.value == 0) ≡ false
+  abbrev FreesAfter : StepEnd → Type 0
+  FreesAfter first = (first.asks ≡ [] → ⊥) → (a.value == 0) ≡ false
       → FreesNoSlot call first.heap (carried_between s call a first.heap).heap
 
   module _ (heap : Heap) (r : Request) (passes : refusal s heap call ≡ None) (requests : request_of heap.table call ≡ Some r) where
@@ -142,17 +142,17 @@ module _ (s : Shape) (call : MemoryCall) (a : Answer) (later : List Answer)
           request_end call heap.table [] e e.given
 
       own-failed : (w : Bool) → (a.value == 0) ≡ w
-          → Ends few (behind_ask own_needed a own_c (cond w (full_end own_c.heap later) (again own_c.heap))) (own_with w None)
-      own-failed true is = ends-refl few (behind_ask own_needed a own_c (full_end own_c.heap later))
+          → Ends few (past_ask own_needed a own_c (cond w (full_end own_c.heap later) (again own_c.heap))) (own_with w None)
+      own-failed true is = ends-refl few (past_ask own_needed a own_c (full_end own_c.heap later))
       own-failed false is =
           let more = request_run s (protected_by call) r most_answers later own_c.heap in
           let e = request_run s (protected_by call) r (most_answers - 1) later own_c.heap in
           let same = kept-same own_c.heap own-kept in
           let alike = run-alike s (protected_by call) r most_answers (most_answers - 1) later own_c.heap (omega (arith, many is))
           (omega (arith, many is)) in
-          subst (λ end. Ends few (behind_ask own_needed a own_c end) (own_with false None))
+          subst (λ end. Ends few (past_ask own_needed a own_c end) (own_with false None))
           (sym (again-is own_c.heap false own-kept own-slot))
-          (subst (λ end. Ends few (behind_ask own_needed a own_c (request_end call own_c.heap.table [] more more.given)) end)
+          (subst (λ end. Ends few (past_ask own_needed a own_c (request_end call own_c.heap.table [] more more.given)) end)
           (sym (end-after few call heap.table own_c.heap.table same.copied own_needed a own_c e e.given))
           (ends-alike few call heap.table own_c.heap.table same.copied own_needed a own_c [] []
           ((length later < most_answers) × (length later < most_answers - 1)) more e alike
@@ -174,7 +174,7 @@ module _ (s : Shape) (call : MemoryCall) (a : Answer) (later : List Answer)
             | None ↦ own-failed (a.value == 0) refl
           ]
 
-    -- ---- behind a request for a master block
+    -- ---- after a request for a master block
 
     -- what the call lacks in a heap in which it makes the same request
     lacks-is : (after : Heap) → Kept (protected_by call) heap after → lacks_slot after call ≡ (makes_handle r && has_none after.free_slots)
@@ -192,15 +192,15 @@ module _ (s : Shape) (call : MemoryCall) (a : Answer) (later : List Answer)
       abbrev master_needed : ℕ
       master_needed = size_needed s NewMaster
 
-      -- the call's end behind its request for a master block
-      abbrev end_behind : HandleTable → Ending → StepEnd
-      end_behind t master = let e = behind_master s (protected_by call) r master master.given in request_end call t master.asks e e.given
+      -- the call's end after its request for a master block
+      abbrev end_after : HandleTable → Ending → StepEnd
+      end_after t master = let e = after_master s (protected_by call) r master master.given in request_end call t master.asks e e.given
 
       abbrev master_first : Option (ℕ × ZoneMap) → StepEnd
-      master_first o = end_behind heap.table (last s NewMaster mid (carried_out s (protected_by call) [] mid) false o)
+      master_first o = end_after heap.table (last s NewMaster mid (carried_out s (protected_by call) [] mid) false o)
 
       abbrev master_with : Bool → Option (ℕ × ZoneMap) → StepEnd
-      master_with w o = end_behind heap.table
+      master_with w o = end_after heap.table
           (once s NewMaster mid c a false w o later (request_run s (protected_by call) NewMaster (most_answers - 1) later c.heap))
 
       mid-kept : Kept (protected_by call) heap mid
@@ -209,7 +209,7 @@ module _ (s : Shape) (call : MemoryCall) (a : Answer) (later : List Answer)
       c-kept : Kept (protected_by call) heap c.heap
       c-kept = kept-then (protected_by call) heap mid c.heap mid-kept (kept-carried s (protected_by call) a.calls mid)
 
-      -- the requests for a master block in the two, and those behind them
+      -- the requests for a master block in the two, and those after them
       abbrev more : Ending
       more = request_run s (protected_by call) NewMaster most_answers later c.heap
 
@@ -222,22 +222,22 @@ module _ (s : Shape) (call : MemoryCall) (a : Answer) (later : List Answer)
 
       -- how the call ends in the two, by what these requests gave
       abbrev more_end : Option ℕ → StepEnd
-      more_end o = let e = behind_master s (protected_by call) r more o in request_end call c.heap.table more.asks e e.given
+      more_end o = let e = after_master s (protected_by call) r more o in request_end call c.heap.table more.asks e e.given
 
       abbrev less_end : Option ℕ → StepEnd
       less_end o =
-          let e = behind_master s (protected_by call) r (after_ask (shown master_needed a c) less) o in
+          let e = after_master s (protected_by call) r (after_ask (shown master_needed a c) less) o in
           request_end call heap.table (shown master_needed a c ∷ less.asks) e e.given
 
-      behind-ends : (o : Option ℕ) → more.given ≡ o → (a.value == 0) ≡ false
-          → Ends few (behind_ask master_needed a c (more_end o)) (less_end o)
-      behind-ends None given worth =
+      after-ends : (o : Option ℕ) → more.given ≡ o → (a.value == 0) ≡ false
+          → Ends few (past_ask master_needed a c (more_end o)) (less_end o)
+      after-ends None given worth =
           let alike = masters-alike worth in
           let same = kept-same c.heap c-kept in
           ends-by few call heap.table c.heap.table same.copied master_needed a c more.asks less.asks
           (unserved more.heap [] more.left) (unserved less.heap [] less.left) alike.heap alike.left
           (λ less. ap (λ xs. xs ++ []) (alike.asks (many worth, omega (arith, less worth)))) None
-      behind-ends (Some x) given worth =
+      after-ends (Some x) given worth =
           let alike = masters-alike worth in
           let same = kept-same c.heap c-kept in
           let asks = alike.served (ap is_some given) in
@@ -258,22 +258,22 @@ module _ (s : Shape) (call : MemoryCall) (a : Answer) (later : List Answer)
           (λ less. (omega (arith, count, many worth, less worth), omega (arith, count, many worth, less worth))) asks
 
       master-failed : (w : Bool) → (a.value == 0) ≡ w → (w ≡ false → FreesNoSlot call mid c.heap)
-          → Ends few (behind_ask master_needed a c (cond w (full_end c.heap later) (again c.heap))) (master_with w None)
-      master-failed true is frees = ends-refl few (behind_ask master_needed a c (full_end c.heap later))
+          → Ends few (past_ask master_needed a c (cond w (full_end c.heap later) (again c.heap))) (master_with w None)
+      master-failed true is frees = ends-refl few (past_ask master_needed a c (full_end c.heap later))
       master-failed false is frees =
           let alike = masters-alike is in
           let lacking : lacks_slot mid call ≡ true = lacks-is mid mid-kept
           ∙ ap (λ xs. makes_handle r && has_none xs) (slots-prepared s (protected_by call) NewMaster heap) ∙ lacks in
           let lacks_still = sym (lacks-is c.heap c-kept) ∙ frees refl lacking in
-          subst (λ end. Ends few (behind_ask master_needed a c end) (master_with false None))
+          subst (λ end. Ends few (past_ask master_needed a c end) (master_with false None))
           (sym (again-is c.heap true c-kept lacks_still))
-          (subst (λ o. Ends few (behind_ask master_needed a c (more_end more.given)) (less_end o)) alike.given
-          (behind-ends more.given refl is))
+          (subst (λ o. Ends few (past_ask master_needed a c (more_end more.given)) (less_end o)) alike.given
+          (after-ends more.given refl is))
 
       master-again : (let first = request_step s [] heap call true r in
-          FreesBehind first → Ends few (then_again s call a later first first.asks) (request_step s (a ∷ later) heap call true r))
+          FreesAfter first → Ends few (then_again s call a later first first.asks) (request_step s (a ∷ later) heap call true r))
       master-again = elim (trial s NewMaster mid) as (λ o. (let first = master_first o in
-          FreesBehind first → Ends few (then_again s call a later first first.asks) (master_with (a.value == 0) o))) [
+          FreesAfter first → Ends few (then_again s call a later first first.asks) (master_with (a.value == 0) o))) [
             | Some found ↦ λ _. (let kept = mid-kept in
                 own-again (granted NewMaster found.0 found.1 mid) (record { protects = kept.protects; lent = kept.lent })
                 (master-slots (makes_handle r) 63 found.0 mid.free_slots))
@@ -284,25 +284,25 @@ module _ (s : Shape) (call : MemoryCall) (a : Answer) (later : List Answer)
     kept-refl = record { protects = λ y among. refl; lent = refl }
 
     request-again : (b : Bool) → (makes_handle r && has_none heap.free_slots) ≡ b → (let first = request_step s [] heap call b r in
-        FreesBehind first → Ends few (then_again s call a later first first.asks) (request_step s (a ∷ later) heap call b r))
+        FreesAfter first → Ends few (then_again s call a later first first.asks) (request_step s (a ∷ later) heap call b r))
     request-again true is frees = master-again is frees
     request-again false is frees = own-again heap kept-refl is
 
   asking-again : (heap : Heap) (o : Option Request) → refusal s heap call ≡ None → request_of heap.table call ≡ o
       → (let first = step_asking s [] heap call o in
-      FreesBehind first → Ends few (then_again s call a later first first.asks) (step_asking s (a ∷ later) heap call o))
+      FreesAfter first → Ends few (then_again s call a later first first.asks) (step_asking s (a ∷ later) heap call o))
   asking-again heap (Some r) passes requests frees =
       request-again heap r passes requests (makes_handle r && has_none heap.free_slots) refl frees
   asking-again heap None passes requests frees = record { outcome = refl; heap = refl; left = refl; asks = λ _. refl }
 
   unless-again : (heap : Heap) (o : Option OsErr) → refusal s heap call ≡ o → (let first = step_unless s [] heap call o in
-      FreesBehind first → Ends few (then_again s call a later first first.asks) (step_unless s (a ∷ later) heap call o))
+      FreesAfter first → Ends few (then_again s call a later first first.asks) (step_unless s (a ∷ later) heap call o))
   unless-again heap (Some code) is frees = record { outcome = refl; heap = refl; left = refl; asks = λ _. refl }
   unless-again heap None is frees = asking-again heap (request_of heap.table call) is refl frees
 
   -- a call, and what follows where it asked
   pub step-again : (heap : Heap) → (let first = exact_step s [] heap call in
-      FreesBehind first → Ends few (then_again s call a later first first.asks) (exact_step s (a ∷ later) heap call))
+      FreesAfter first → Ends few (then_again s call a later first first.asks) (exact_step s (a ∷ later) heap call))
   step-again heap frees = unless-again heap (refusal s heap call) refl frees
 
 -- ---- a call without a procedure asks nothing, or asks in vain
@@ -326,7 +326,7 @@ module _ (s : Shape) (call : MemoryCall) where
   request-in_vain heap true r =
       let mid = prepared s (protected_by call) NewMaster heap in
       let end : Option (ℕ × ZoneMap) → Ending = last s NewMaster mid (carried_out s (protected_by call) [] mid) false in
-      elim (trial s NewMaster mid) as (λ o. (let master = end o in let e = behind_master s (protected_by call) r master master.given in
+      elim (trial s NewMaster mid) as (λ o. (let master = end o in let e = after_master s (protected_by call) r master master.given in
       AsksAtMostOnce (request_end call heap.table master.asks e e.given))) [
         | Some found ↦ own-in_vain heap.table (granted NewMaster found.0 found.1 mid) r
         | None ↦ inr (size_needed s NewMaster, (refl, refl))
@@ -358,17 +358,17 @@ module _ (s : Shape) (heap : Heap) (call : MemoryCall) (needed : ℕ) (a : Answe
   abbrev first : StepEnd
   first = exact_step s [] heap call
 
-  abbrev behind : Carried
-  behind = carried_between s call a first.heap
+  abbrev following : Carried
+  following = carried_between s call a first.heap
 
   -- what follows the call by what it asked, and by the answer's value
   asked-then : (w : Bool) → (a.value == 0) ≡ w
-      → then_again s call a later first first.asks ≡ behind_ask needed a behind
-      (cond w (full_end behind.heap later) (exact_step s later behind.heap call))
+      → then_again s call a later first first.asks ≡ past_ask needed a following
+      (cond w (full_end following.heap later) (exact_step s later following.heap call))
   asked-then w is = ap (then_again s call a later first) asks.0
-      ∙ ap (λ w. behind_ask needed a behind (cond w (full_end behind.heap later) (exact_step s later behind.heap call))) is
+      ∙ ap (λ w. past_ask needed a following (cond w (full_end following.heap later) (exact_step s later following.heap call))) is
 
-  between-last : (a.value == 0) ≡ true → exact_step s (a ∷ later) heap call ≡ behind_ask needed a behind (full_end behind.heap later)
+  between-last : (a.value == 0) ≡ true → exact_step s (a ∷ later) heap call ≡ past_ask needed a following (full_end following.heap later)
   between-last none =
       let known = step-again s call a later (λ worth. absurd (true≢false (sym none ∙ worth))) heap
       (λ _ worth. absurd (true≢false (sym none ∙ worth))) in
@@ -376,20 +376,20 @@ module _ (s : Shape) (heap : Heap) (call : MemoryCall) (needed : ℕ) (a : Answe
       (few s call a later (λ worth. absurd (true≢false (sym none ∙ worth)))) known (λ worth. absurd (true≢false (sym none ∙ worth))))
       ∙ asked-then true none
 
-  between-again : (worth : (a.value == 0) ≡ false) (frees : FreesNoSlot call first.heap behind.heap) → suc (length later) ≤ most_answers
+  between-again : (worth : (a.value == 0) ≡ false) (frees : FreesNoSlot call first.heap following.heap) → suc (length later) ≤ most_answers
       → Ends ((a.value == 0) ≡ false → suc (length later) < most_answers)
-      (behind_ask needed a behind (exact_step s later behind.heap call)) (exact_step s (a ∷ later) heap call)
+      (past_ask needed a following (exact_step s later following.heap call)) (exact_step s (a ∷ later) heap call)
   between-again worth frees many =
       subst (λ e. Ends ((a.value == 0) ≡ false → suc (length later) < most_answers) e (exact_step s (a ∷ later) heap call))
       (asked-then false worth)
       (step-again s call a later (λ _. omega (arith, many)) heap (λ _ _. frees))
 
-  between-all : AnsweredBetween s heap call needed first.heap a later behind
+  between-all : AnsweredBetween s heap call needed first.heap a later following
   between-all = record {
     last = between-last;
     again = λ worth frees many. (let ends = between-again worth frees many in (sym ends.outcome, sym ends.heap));
     asks = λ worth frees less. sym
-        (ends-are (behind_ask needed a behind (exact_step s later behind.heap call)) (exact_step s (a ∷ later) heap call)
+        (ends-are (past_ask needed a following (exact_step s later following.heap call)) (exact_step s (a ∷ later) heap call)
         ((a.value == 0) ≡ false → suc (length later) < most_answers) (between-again worth frees (omega (arith, less))) (λ _. less));
   }
 

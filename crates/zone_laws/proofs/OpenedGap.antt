@@ -1,4 +1,4 @@
--- The block of a number made longer where it stands, and in its gap once that was opened for it.
+-- The block of a number made longer where it is, and in its gap once that was opened for it.
 use Rattle.std.proofs.Common.{◌≡◌, ℕ, ◌+◌, ◌≤◌, true, false, cond, [], ◌∷◌, ◌++◌, refl, ap, sym, ◌∙◌, append_assoc, arith, Some, None, Option}
 use Rattle.std.specs.Prelude.{◌==◌, nat_le, is_some, option_map}
 use Rattle.std.proofs.lemmas.Bool.{leb-true, le-leb, eqb-true}
@@ -11,7 +11,7 @@ use Rattle.mac_base.specs.HandleTable.{HandleTable}
 use Rattle.mac_base.specs.Suits.{starts_free}
 use Rattle.mac_base.specs.Gap.{Gap, filled, room}
 use Rattle.mac_base.specs.Arrangement.{used_blocks, up, open_at}
-use Rattle.mac_base.specs.Serve.{taken, cut, sized, free_in_front, behind_free, resized_in_place}
+use Rattle.mac_base.specs.Serve.{taken, cut, sized, free_in_front, past_free, resized_in_place}
 use Rattle.zone_laws.proofs.GapAppend.{sizes-append}
 use Rattle.zone_laws.proofs.GapParts.{IsGap, starts_fixed}
 use Rattle.zone_laws.proofs.Arranging.{all_used, used_blocks-all_used, starts_free-all_used, sizes-used, sizes-free_block}
@@ -19,7 +19,7 @@ use Rattle.zone_laws.proofs.GapApart.{starts_free-fixed}
 use Rattle.zone_laws.proofs.NamedPlace.{nil-append, At, InGap, BeforeGap, open_at-parts}
 use Rattle.zone_laws.proofs.Fitting.{is_some-map}
 
--- one function behind another
+-- one function after another
 option_map-twice : {A B C : Type 0} (g : B → C) (f : A → B) (o : Option A) → option_map g (option_map f o) ≡ option_map (λ a. g (f a)) o
 option_map-twice g f None = refl
 option_map-twice g f (Some a) = refl
@@ -28,7 +28,7 @@ option_map-same : (o : Option ZoneMap) → o ≡ option_map (λ m. [] ++ m) o
 option_map-same None = refl
 option_map-same (Some m) = refl
 
--- a block of x, with none before it, is resized where it stands
+-- a block of x, with none before it, is resized where it is
 pub resized_in_place-around : (s : Shape) (k x : ℕ) (a : ZoneMap) (e : Entry) (b : ZoneMap) → sizes (is_named x) a ≡ [] → is_named x e.kind ≡ true → resized_in_place s k x (a ++ e ∷ b) ≡ option_map (λ m. a ++ m) (sized s k e b)
 resized_in_place-around s k x [] e b none named = ap (λ c. cond c (sized s k e b) (option_map (λ m. e ∷ m) (resized_in_place s k x b))) named ∙ option_map-same (sized s k e b)
 resized_in_place-around s k x (d ∷ a) e b none named =
@@ -42,19 +42,19 @@ pub resized_in_place-At : (s : Shape) (k x : ℕ) (m : ZoneMap) (n : ℕ) (front
     → resized_in_place s k x m ≡ option_map (λ m. front ++ m) (sized s k (block kind n) back)
 resized_in_place-At s k x m n front kind back at = ap (resized_in_place s k x) at.was ∙ resized_in_place-around s k x front (block kind n) back at.none_front at.named
 
--- a block can be made k bytes long where it and the free bytes right behind it have them
+-- a block can be made k bytes long where it and the free bytes right after it have them
 pub is_some-sized : (s : Shape) (k : ℕ) (e : Entry) (b : ZoneMap) → is_some (sized s k e b) ≡ nat_le k (e.size + free_in_front b)
-is_some-sized s k e b = elim (nat_le k e.size) as (λ c. nat_le k e.size ≡ c → is_some (cond c (Some (cut s k e b)) (cond (nat_le k (e.size + free_in_front b)) (Some (taken s k e.kind (e.size + free_in_front b) ++ behind_free b)) None)) ≡ nat_le k (e.size + free_in_front b)) [
+is_some-sized s k e b = elim (nat_le k e.size) as (λ c. nat_le k e.size ≡ c → is_some (cond c (Some (cut s k e b)) (cond (nat_le k (e.size + free_in_front b)) (Some (taken s k e.kind (e.size + free_in_front b) ++ past_free b)) None)) ≡ nat_le k (e.size + free_in_front b)) [
   | true ↦ λ fits. let le = leb-true k e.size fits in sym (le-leb k (e.size + free_in_front b) (omega arith))
-  | false ↦ λ not_so. elim (nat_le k (e.size + free_in_front b)) as (λ c. is_some (cond c (Some (taken s k e.kind (e.size + free_in_front b) ++ behind_free b)) None) ≡ c) [ true ↦ refl | false ↦ refl ]
+  | false ↦ λ not_so. elim (nat_le k (e.size + free_in_front b)) as (λ c. is_some (cond c (Some (taken s k e.kind (e.size + free_in_front b) ++ past_free b)) None) ≡ c) [ true ↦ refl | false ↦ refl ]
 ] refl
 
--- the one block of x can be made k bytes long in its place where it and the free bytes right behind it have them
+-- the one block of x can be made k bytes long in its place where it and the free bytes right after it have them
 pub is_some-resized_in_place : (s : Shape) (k x : ℕ) (m : ZoneMap) (n : ℕ) (front : ZoneMap) (kind : Kind) (back : ZoneMap) → At x m n front kind back → is_some (resized_in_place s k x m) ≡ nat_le k (n + free_in_front back)
 is_some-resized_in_place s k x m n front kind back at =
     ap is_some (resized_in_place-At s k x m n front kind back at) ∙ is_some-map (λ m. front ++ m) (sized s k (block kind n) back) ∙ is_some-sized s k (block kind n) back
 
--- no free bytes in front where no free block stands there
+-- no free bytes in front where no free block is there
 free_in_front-used : (b : ZoneMap) → starts_free b ≡ false → free_in_front b ≡ 0
 free_in_front-used [] h = refl
 free_in_front-used (e ∷ es) h = ap (λ c. cond c e.size 0) h
@@ -76,45 +76,45 @@ free_in_front-le t [] b fixed = let e = free_in_front-used b (starts_free-fixed 
 free_in_front-le t (e ∷ es) b fixed = omega arith
 
 -- the one block of x in its gap, opened at it
-pub opened_own-At : (x : ℕ) (g : Gap) (n : ℕ) (p : InGap x g n) → At x (filled g (open_at x g.blocks)) n (g.before ++ used_blocks p.front) p.kind (free_block (room g) ++ used_blocks p.back ++ g.behind)
+pub opened_own-At : (x : ℕ) (g : Gap) (n : ℕ) (p : InGap x g n) → At x (filled g (open_at x g.blocks)) n (g.before ++ used_blocks p.front) p.kind (free_block (room g) ++ used_blocks p.back ++ g.after)
 opened_own-At x g n p =
     let at = p.at in
     let front : ZoneMap = used_blocks p.front in
     let back : ZoneMap = used_blocks p.back in
     record {
-      was = ap (λ b. g.before ++ b ++ g.behind) (open_at-parts x g.blocks n p.front p.kind p.back at) ∙ ap (λ b. b ++ g.behind) (sym (append_assoc g.before front (block p.kind n ∷ (free_block (room g) ++ back))))
-          ∙ append_assoc (g.before ++ front) (block p.kind n ∷ (free_block (room g) ++ back)) g.behind;
+      was = ap (λ b. g.before ++ b ++ g.after) (open_at-parts x g.blocks n p.front p.kind p.back at) ∙ ap (λ b. b ++ g.after) (sym (append_assoc g.before front (block p.kind n ∷ (free_block (room g) ++ back))))
+          ∙ append_assoc (g.before ++ front) (block p.kind n ∷ (free_block (room g) ++ back)) g.after;
       named = at.named;
       none_front = sizes-append (is_named x) g.before front ∙ ap (λ ns. ns ++ sizes (is_named x) front) p.none_before ∙ sizes-used (is_named x) p.front refl ∙ at.none_front;
-      none_back = sizes-append (is_named x) (free_block (room g) ++ back) g.behind ∙ ap (λ ns. ns ++ sizes (is_named x) g.behind) (sizes-append (is_named x) (free_block (room g)) back ∙ ap (λ ns. ns ++ sizes (is_named x) back) (sizes-free_block (is_named x) (room g) refl)
-          ∙ sizes-used (is_named x) p.back refl ∙ at.none_back) ∙ p.none_behind;
+      none_back = sizes-append (is_named x) (free_block (room g) ++ back) g.after ∙ ap (λ ns. ns ++ sizes (is_named x) g.after) (sizes-append (is_named x) (free_block (room g)) back ∙ ap (λ ns. ns ++ sizes (is_named x) back) (sizes-free_block (is_named x) (room g) refl)
+          ∙ sizes-used (is_named x) p.back refl ∙ at.none_back) ∙ p.none_after;
     }
 
 -- the one block of x right before a gap that is arranged up
-pub opened_behind-At : (x : ℕ) (m : ZoneMap) (g : Gap) (n : ℕ) (p : BeforeGap x m g n) → At x (filled g (up g.blocks)) n p.front p.kind (free_block (room g) ++ used_blocks g.blocks ++ g.behind)
-opened_behind-At x m g n p =
+pub opened_after-At : (x : ℕ) (m : ZoneMap) (g : Gap) (n : ℕ) (p : BeforeGap x m g n) → At x (filled g (up g.blocks)) n p.front p.kind (free_block (room g) ++ used_blocks g.blocks ++ g.after)
+opened_after-At x m g n p =
     let at = p.at in
     let used : ZoneMap = used_blocks g.blocks in
-    let none = nil-append (sizes (is_named x) g.blocks) (sizes (is_named x) g.behind) (sym (sizes-append (is_named x) g.blocks g.behind) ∙ at.none_back) in
+    let none = nil-append (sizes (is_named x) g.blocks) (sizes (is_named x) g.after) (sym (sizes-append (is_named x) g.blocks g.after) ∙ at.none_back) in
     record {
-      was = append_assoc g.before (free_block (room g) ++ used) g.behind ∙ ap (λ b. b ++ (free_block (room g) ++ used ++ g.behind)) p.before ∙ append_assoc p.front (block p.kind n ∷ []) (free_block (room g) ++ used ++ g.behind);
+      was = append_assoc g.before (free_block (room g) ++ used) g.after ∙ ap (λ b. b ++ (free_block (room g) ++ used ++ g.after)) p.before ∙ append_assoc p.front (block p.kind n ∷ []) (free_block (room g) ++ used ++ g.after);
       named = at.named;
       none_front = at.none_front;
-      none_back = sizes-append (is_named x) (free_block (room g) ++ used) g.behind ∙ ap (λ ns. ns ++ sizes (is_named x) g.behind) (sizes-append (is_named x) (free_block (room g)) used ∙ ap (λ ns. ns ++ sizes (is_named x) used) (sizes-free_block (is_named x) (room g) refl)
+      none_back = sizes-append (is_named x) (free_block (room g) ++ used) g.after ∙ ap (λ ns. ns ++ sizes (is_named x) g.after) (sizes-append (is_named x) (free_block (room g)) used ∙ ap (λ ns. ns ++ sizes (is_named x) used) (sizes-free_block (is_named x) (room g) refl)
           ∙ sizes-used (is_named x) g.blocks refl ∙ none.0) ∙ none.1;
     }
 
 -- the one block of x in the map, by its gap
-pub own-At : (t : HandleTable) (m : ZoneMap) (x : ℕ) (g : Gap) (n : ℕ) → IsGap t m g → (p : InGap x g n) → At x m n (g.before ++ p.front) p.kind (p.back ++ g.behind)
+pub own-At : (t : HandleTable) (m : ZoneMap) (x : ℕ) (g : Gap) (n : ℕ) → IsGap t m g → (p : InGap x g n) → At x m n (g.before ++ p.front) p.kind (p.back ++ g.after)
 own-At t m x g n i p =
     let at = p.at in
     record {
-      was = i.parts ∙ ap (λ b. g.before ++ b ++ g.behind) at.was ∙ ap (λ b. b ++ g.behind) (sym (append_assoc g.before p.front (block p.kind n ∷ p.back))) ∙ append_assoc (g.before ++ p.front) (block p.kind n ∷ p.back) g.behind;
+      was = i.parts ∙ ap (λ b. g.before ++ b ++ g.after) at.was ∙ ap (λ b. b ++ g.after) (sym (append_assoc g.before p.front (block p.kind n ∷ p.back))) ∙ append_assoc (g.before ++ p.front) (block p.kind n ∷ p.back) g.after;
       named = at.named;
       none_front = sizes-append (is_named x) g.before p.front ∙ ap (λ ns. ns ++ sizes (is_named x) p.front) p.none_before ∙ at.none_front;
-      none_back = sizes-append (is_named x) p.back g.behind ∙ ap (λ ns. ns ++ sizes (is_named x) g.behind) at.none_back ∙ p.none_behind;
+      none_back = sizes-append (is_named x) p.back g.after ∙ ap (λ ns. ns ++ sizes (is_named x) g.after) at.none_back ∙ p.none_after;
     }
 
 -- an opened gap begins with all its free bytes
-pub opened_front : (t : HandleTable) (g : Gap) (c : ZoneMap) → starts_fixed t g.behind ≡ true → free_in_front (free_block (room g) ++ used_blocks c ++ g.behind) ≡ room g
-opened_front t g c above = ap free_in_front (append_assoc (free_block (room g)) (used_blocks c) g.behind) ∙ free_in_front-free_block (room g) (used_blocks c ++ g.behind) (starts_free-append t (used_blocks c) g.behind (used_blocks-all_used c) above)
+pub opened_front : (t : HandleTable) (g : Gap) (c : ZoneMap) → starts_fixed t g.after ≡ true → free_in_front (free_block (room g) ++ used_blocks c ++ g.after) ≡ room g
+opened_front t g c above = ap free_in_front (append_assoc (free_block (room g)) (used_blocks c) g.after) ∙ free_in_front-free_block (room g) (used_blocks c ++ g.after) (starts_free-append t (used_blocks c) g.after (used_blocks-all_used c) above)

@@ -8,7 +8,7 @@ use Rattle.mac_base.specs.declared.block.Entry.{Entry}
 use Rattle.mac_base.specs.declared.block.Kind.{Kind}
 use Rattle.mac_base.specs.declared.block.Kind.TheVariants.{Free, Master, Ptr, Rel}
 use Rattle.mac_base.specs.HeadKind.{Shape}
-use Rattle.mac_base.specs.ZoneMap.{ZoneMap, is_free, is_named, addresses_from, addresses, address_behind}
+use Rattle.mac_base.specs.ZoneMap.{ZoneMap, is_free, is_named, addresses_from, addresses, address_after}
 use Rattle.mac_base.specs.HandleTable.{HandleTable, live_bytes, is_full, is_pointer}
 use Rattle.mac_base.specs.Suits.{Suits, is_handle_block, is_pointer_block, has_length, has_owners_length, wanted_length}
 use Rattle.zone_laws.proofs.Tables.{AgreeBut}
@@ -66,7 +66,7 @@ no_pointer_block s t m suits x h = no_map _ _ (suits.coherent.pointers x ∙ ap 
 
 -- a number that is neither a full handle nor a pointer names no block
 pub none_named-suits : (s : Shape) (t : HandleTable) (m : ZoneMap) → Suits s t m → (x : ℕ) → is_full t x ≡ false → is_pointer t x ≡ false → none_named x m ≡ true
-none_named-suits s t m suits x full pointer = none_named-from (address_behind s []) x m (no_handle_block s t m suits x full) (no_pointer_block s t m suits x pointer)
+none_named-suits s t m suits x full pointer = none_named-from (address_after s []) x m (no_handle_block s t m suits x full) (no_pointer_block s t m suits x pointer)
 
 -- what a block's owner wants changes only where its bytes do
 pub wanted_length-agree : (x : ℕ) (old new : HandleTable) → AgreeBut x old new → (kind : Kind) → is_named x kind ≡ false → wanted_length new kind ≡ wanted_length old kind

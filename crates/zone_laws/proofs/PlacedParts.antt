@@ -46,9 +46,9 @@ pub gap_filled : (t : HandleTable) (m : ZoneMap) (g : Gap) (b : ZoneMap) → IsG
 gap_filled t m g b i moves = record { parts = refl; moves = moves; below = i.below; above = i.above }
 
 -- the sizes of the blocks that pass a test, in the parts of a map without one
-pub sizes-gap_none : (test : Kind → Bool) (t : HandleTable) (m : ZoneMap) (g : Gap) → IsGap t m g → sizes test m ≡ [] → (sizes test g.before ≡ []) × (sizes test g.blocks ≡ []) × (sizes test g.behind ≡ [])
+pub sizes-gap_none : (test : Kind → Bool) (t : HandleTable) (m : ZoneMap) (g : Gap) → IsGap t m g → sizes test m ≡ [] → (sizes test g.before ≡ []) × (sizes test g.blocks ≡ []) × (sizes test g.after ≡ [])
 sizes-gap_none test t m g i none =
-    let outer = nil-append (sizes test (g.before ++ g.blocks)) (sizes test g.behind) (sym (sizes-append test (g.before ++ g.blocks) g.behind) ∙ ap (sizes test) (sym i.parts) ∙ none) in
+    let outer = nil-append (sizes test (g.before ++ g.blocks)) (sizes test g.after) (sym (sizes-append test (g.before ++ g.blocks) g.after) ∙ ap (sizes test) (sym i.parts) ∙ none) in
     let inner = nil-append (sizes test g.before) (sizes test g.blocks) (sym (sizes-append test g.before g.blocks) ∙ outer.0) in
     (inner.0, inner.1, outer.1)
 
@@ -113,10 +113,10 @@ taken_in_gap s k kind g old new p =
     record {
       front = g.before ++ p.before;
       size = p.size;
-      back = p.behind ++ g.behind;
-      was = ap (λ b. g.before ++ b ++ g.behind) p.was ∙ ap (λ b. b ++ g.behind) (sym (append_assoc g.before p.before (block Free p.size ∷ p.behind))) ∙ append_assoc (g.before ++ p.before) (block Free p.size ∷ p.behind) g.behind;
-      is = ap (λ b. g.before ++ b ++ g.behind) p.is ∙ ap (λ b. b ++ g.behind) (sym (append_assoc g.before p.before (taken s k kind p.size ++ p.behind))) ∙ append_assoc (g.before ++ p.before) (taken s k kind p.size ++ p.behind) g.behind
-          ∙ ap (λ b. g.before ++ p.before ++ b) (append_assoc (taken s k kind p.size) p.behind g.behind);
+      back = p.after ++ g.after;
+      was = ap (λ b. g.before ++ b ++ g.after) p.was ∙ ap (λ b. b ++ g.after) (sym (append_assoc g.before p.before (block Free p.size ∷ p.after))) ∙ append_assoc (g.before ++ p.before) (block Free p.size ∷ p.after) g.after;
+      is = ap (λ b. g.before ++ b ++ g.after) p.is ∙ ap (λ b. b ++ g.after) (sym (append_assoc g.before p.before (taken s k kind p.size ++ p.after))) ∙ append_assoc (g.before ++ p.before) (taken s k kind p.size ++ p.after) g.after
+          ∙ ap (λ b. g.before ++ p.before ++ b) (append_assoc (taken s k kind p.size) p.after g.after);
       fits = p.fits;
     }
 
@@ -130,7 +130,7 @@ released-parts s k n x kind a b m new named fits was is none apart =
 pub released-take_lowest : (s : Shape) (k x : ℕ) (kind : Kind) (m new : ZoneMap) → take_lowest s k kind m ≡ Some new → is_named x kind ≡ true → sizes (is_named x) m ≡ [] → free_apart m ≡ true → released x new ≡ m
 released-take_lowest s k x kind m new found named none apart =
     let p = taken-parts s k kind m new found in
-    released-parts s k p.size x kind p.before p.behind m new named p.fits p.was p.is none apart
+    released-parts s k p.size x kind p.before p.after m new named p.fits p.was p.is none apart
 
 -- and of one taken in a gap
 pub released-taken_in_gap : (s : Shape) (t : HandleTable) (k x : ℕ) (kind : Kind) (m : ZoneMap) (g : Gap) (old new : ZoneMap) → IsGap t m g → take_lowest s k kind old ≡ Some new → is_named x kind ≡ true → sizes (is_named x) m ≡ [] → sizes (is_named x) old ≡ []
@@ -139,4 +139,4 @@ released-taken_in_gap s t k x kind m g old new i found named none none_old apart
     let p = taken_in_gap s k kind g old new (taken-parts s k kind old new found) in
     let parts = sizes-gap_none (is_named x) t m g i none in
     released-parts s k p.size x kind p.front p.back (filled g old) (filled g new) named p.fits p.was p.is
-    (sizes-append (is_named x) (g.before ++ old) g.behind ∙ ap (λ ns. ns ++ sizes (is_named x) g.behind) (sizes-append (is_named x) g.before old ∙ ap (λ ns. ns ++ sizes (is_named x) old) parts.0 ∙ none_old) ∙ parts.2) apart
+    (sizes-append (is_named x) (g.before ++ old) g.after ∙ ap (λ ns. ns ++ sizes (is_named x) g.after) (sizes-append (is_named x) g.before old ∙ ap (λ ns. ns ++ sizes (is_named x) old) parts.0 ∙ none_old) ∙ parts.2) apart

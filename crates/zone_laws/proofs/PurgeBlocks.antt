@@ -12,7 +12,7 @@ use Rattle.mac_base.specs.declared.block.Kind.TheVariants.{Free, Master, Ptr, Re
 use Rattle.mac_base.specs.HeadKind.{Shape, zone_header}
 use Rattle.mac_base.specs.ZoneMap.{ZoneMap, block, is_free, is_named, handle_of, free_block, joined, joined_to, released, total_size, at_limit}
 use Rattle.mac_base.specs.HandleTable.{HandleTable, is_locked, is_purgeable}
-use Rattle.mac_base.specs.Gap.{Gap, gaps, further, is_fixed, gap_behind, ends_with}
+use Rattle.mac_base.specs.Gap.{Gap, gaps, further, is_fixed, gap_after, ends_with}
 use Rattle.mac_base.specs.Arrangement.{used_blocks}
 use Rattle.mac_base.specs.declared.request.Request.{Request}
 use Rattle.mac_base.specs.declared.request.Request.TheVariants.{NewBlock, NewEmpty, NewPointer, NewMaster, Reserve, Resize, Replace}
@@ -27,10 +27,10 @@ abbrev pub run : HandleTable → ZoneMap → ZoneMap
 run t [] = []
 run t (e ∷ es) = cond (is_fixed t e.kind) [] (e ∷ run t es)
 
--- those behind the fixed block of x, up to the next fixed one
-abbrev pub run_behind : HandleTable → ℕ → ZoneMap → ZoneMap
-run_behind t x [] = []
-run_behind t x (e ∷ es) = cond (is_fixed t e.kind) (cond (is_named x e.kind) (run t es) (run_behind t x es)) (run_behind t x es)
+-- those after the fixed block of x, up to the next fixed one
+abbrev pub run_after : HandleTable → ℕ → ZoneMap → ZoneMap
+run_after t x [] = []
+run_after t x (e ∷ es) = cond (is_fixed t e.kind) (cond (is_named x e.kind) (run t es) (run_after t x es)) (run_after t x es)
 
 -- the blocks of a gap, and none without one
 abbrev blocks_of : Option Gap → ZoneMap
@@ -38,7 +38,7 @@ blocks_of g = option_map_or (λ (g : Gap). g.blocks) g []
 
 run-first : (t : HandleTable) (m : ZoneMap) → (first_gap t m).blocks ≡ run t m
 run-first t [] = refl
-run-first t (e ∷ es) = elim (is_fixed t e.kind) as (λ c. (let g = first_gap t es in cond c (record { before = []; blocks = []; behind = e ∷ es }) (record g { blocks = e ∷ g.blocks })).blocks ≡ cond c [] (e ∷ run t es)) [
+run-first t (e ∷ es) = elim (is_fixed t e.kind) as (λ c. (let g = first_gap t es in cond c (record { before = []; blocks = []; after = e ∷ es }) (record g { blocks = e ∷ g.blocks })).blocks ≡ cond c [] (e ∷ run t es)) [
   | true ↦ refl
   | false ↦ ap (λ m. e ∷ m) (run-first t es)
 ]
@@ -58,29 +58,29 @@ found-further t m x e (g ∷ gs) each =
       | false ↦ found-further t m x e gs (All-tail (IsLater t m) g gs each)
     ]
 
-found-later : (t : HandleTable) (x : ℕ) (m : ZoneMap) → blocks_of (find (λ g. ends_with x g.before) (later_gaps t m)) ≡ run_behind t x m
+found-later : (t : HandleTable) (x : ℕ) (m : ZoneMap) → blocks_of (find (λ g. ends_with x g.before) (later_gaps t m)) ≡ run_after t x m
 found-later t x [] = refl
 found-later t x (e ∷ es) =
     let rest = found-further t es x e (later_gaps t es) (later_gaps-IsLater t es) ∙ found-later t x es in
-    elim (is_fixed t e.kind) as (λ c. blocks_of (find (λ g. ends_with x g.before) (map (further e) (cond c (first_gap t es ∷ later_gaps t es) (later_gaps t es)))) ≡ cond c (cond (is_named x e.kind) (run t es) (run_behind t x es)) (run_behind t x es)) [
+    elim (is_fixed t e.kind) as (λ c. blocks_of (find (λ g. ends_with x g.before) (map (further e) (cond c (first_gap t es ∷ later_gaps t es) (later_gaps t es)))) ≡ cond c (cond (is_named x e.kind) (run t es) (run_after t x es)) (run_after t x es)) [
       | true ↦ ap (λ before. blocks_of (cond (ends_with x (e ∷ before)) (Some (further e (first_gap t es))) (find (λ g. ends_with x g.before) (map (further e) (later_gaps t es))))) (first_gap-before t es)
-          ∙ elim (is_named x e.kind) as (λ c. blocks_of (cond c (Some (further e (first_gap t es))) (find (λ g. ends_with x g.before) (map (further e) (later_gaps t es)))) ≡ cond c (run t es) (run_behind t x es)) [
+          ∙ elim (is_named x e.kind) as (λ c. blocks_of (cond c (Some (further e (first_gap t es))) (find (λ g. ends_with x g.before) (map (further e) (later_gaps t es)))) ≡ cond c (run t es) (run_after t x es)) [
             | true ↦ run-first t es
             | false ↦ rest
           ]
       | false ↦ rest
     ]
 
--- the blocks of the gap right behind x
-pub gap_behind-run : (t : HandleTable) (x : ℕ) (m : ZoneMap) → option_map_or (λ (g : Gap). g.blocks) (gap_behind x (gaps t m)) [] ≡ run_behind t x m
-gap_behind-run t x m =
-    ap (λ gs. blocks_of (gap_behind x gs)) (gaps-first t m)
+-- the blocks of the gap right after x
+pub gap_after-run : (t : HandleTable) (x : ℕ) (m : ZoneMap) → option_map_or (λ (g : Gap). g.blocks) (gap_after x (gaps t m)) [] ≡ run_after t x m
+gap_after-run t x m =
+    ap (λ gs. blocks_of (gap_after x gs)) (gaps-first t m)
     ∙ ap (λ before. blocks_of (cond (ends_with x before) (Some (first_gap t m)) (find (λ g. ends_with x g.before) (later_gaps t m)))) (first_gap-before t m)
     ∙ found-later t x m
 
 -- so the blocks among which a request may purge are these
 abbrev pub purge_blocks : HandleTable → Request → ZoneMap → ZoneMap
-purge_blocks t (Resize x n) m = cond (stays t x) (run_behind t x m) m
+purge_blocks t (Resize x n) m = cond (stays t x) (run_after t x m) m
 purge_blocks t _ m = m
 
 -- those among which a request may purge
@@ -90,7 +90,7 @@ blocks_to_purge-is t NewEmpty m = refl
 blocks_to_purge-is t (NewPointer n) m = refl
 blocks_to_purge-is t NewMaster m = refl
 blocks_to_purge-is t (Reserve n) m = refl
-blocks_to_purge-is t (Resize x n) m = ap (λ b. cond (stays t x) b m) (gap_behind-run t x m)
+blocks_to_purge-is t (Resize x n) m = ap (λ b. cond (stays t x) b m) (gap_after-run t x m)
 blocks_to_purge-is t (Replace h n) m = refl
 
 -- ---- some blocks left out, but no fixed one
@@ -109,21 +109,21 @@ run-filter t q (e ∷ es) h = let parts = and_parts (not (is_fixed t e.kind) || 
     by_tests false true left_out fixed h rest = absurd (true≢false (sym h ∙ ap (λ c. not c || q e) fixed ∙ left_out))
     by_tests false false left_out moves h rest = rest ∙ sym (ap (λ c. cond c (e ∷ filter q (run t es)) (filter q (run t es))) left_out)
 
-run_behind-filter : (t : HandleTable) (q : Entry → Bool) (x : ℕ) (m : ZoneMap) → keeps_fixed t q m ≡ true → run_behind t x (filter q m) ≡ filter q (run_behind t x m)
-run_behind-filter t q x [] h = refl
-run_behind-filter t q x (e ∷ es) h =
+run_after-filter : (t : HandleTable) (q : Entry → Bool) (x : ℕ) (m : ZoneMap) → keeps_fixed t q m ≡ true → run_after t x (filter q m) ≡ filter q (run_after t x m)
+run_after-filter t q x [] h = refl
+run_after-filter t q x (e ∷ es) h =
     let parts = and_parts (not (is_fixed t e.kind) || q e) (keeps_fixed t q es) h in
-    by_tests (q e) (is_fixed t e.kind) refl refl parts.0 (both (is_named x e.kind) (run-filter t q es parts.1) (run_behind-filter t q x es parts.1)) (run_behind-filter t q x es parts.1)
+    by_tests (q e) (is_fixed t e.kind) refl refl parts.0 (both (is_named x e.kind) (run-filter t q es parts.1) (run_after-filter t q x es parts.1)) (run_after-filter t q x es parts.1)
   where
-    both : (named : Bool) → run t (filter q es) ≡ filter q (run t es) → run_behind t x (filter q es) ≡ filter q (run_behind t x es) → cond named (run t (filter q es)) (run_behind t x (filter q es)) ≡ filter q (cond named (run t es) (run_behind t x es))
+    both : (named : Bool) → run t (filter q es) ≡ filter q (run t es) → run_after t x (filter q es) ≡ filter q (run_after t x es) → cond named (run t (filter q es)) (run_after t x (filter q es)) ≡ filter q (cond named (run t es) (run_after t x es))
     both true first rest = first
     both false first rest = rest
 
     by_tests : (kept fixed : Bool) → q e ≡ kept → is_fixed t e.kind ≡ fixed → (not (is_fixed t e.kind) || q e) ≡ true
-        → cond (is_named x e.kind) (run t (filter q es)) (run_behind t x (filter q es)) ≡ filter q (cond (is_named x e.kind) (run t es) (run_behind t x es)) → run_behind t x (filter q es) ≡ filter q (run_behind t x es)
-        → run_behind t x (cond kept (e ∷ filter q es) (filter q es)) ≡ filter q (cond fixed (cond (is_named x e.kind) (run t es) (run_behind t x es)) (run_behind t x es))
-    by_tests true true kept fixed h here rest = ap (λ c. cond c (cond (is_named x e.kind) (run t (filter q es)) (run_behind t x (filter q es))) (run_behind t x (filter q es))) fixed ∙ here
-    by_tests true false kept moves h here rest = ap (λ c. cond c (cond (is_named x e.kind) (run t (filter q es)) (run_behind t x (filter q es))) (run_behind t x (filter q es))) moves ∙ rest
+        → cond (is_named x e.kind) (run t (filter q es)) (run_after t x (filter q es)) ≡ filter q (cond (is_named x e.kind) (run t es) (run_after t x es)) → run_after t x (filter q es) ≡ filter q (run_after t x es)
+        → run_after t x (cond kept (e ∷ filter q es) (filter q es)) ≡ filter q (cond fixed (cond (is_named x e.kind) (run t es) (run_after t x es)) (run_after t x es))
+    by_tests true true kept fixed h here rest = ap (λ c. cond c (cond (is_named x e.kind) (run t (filter q es)) (run_after t x (filter q es))) (run_after t x (filter q es))) fixed ∙ here
+    by_tests true false kept moves h here rest = ap (λ c. cond c (cond (is_named x e.kind) (run t (filter q es)) (run_after t x (filter q es))) (run_after t x (filter q es))) moves ∙ rest
     by_tests false true left_out fixed h here rest = absurd (true≢false (sym h ∙ ap (λ c. not c || q e) fixed ∙ left_out))
     by_tests false false left_out moves h here rest = rest
 
@@ -134,7 +134,7 @@ purge_blocks-filter t q NewEmpty m h = refl
 purge_blocks-filter t q (NewPointer n) m h = refl
 purge_blocks-filter t q NewMaster m h = refl
 purge_blocks-filter t q (Reserve n) m h = refl
-purge_blocks-filter t q (Resize x n) m h = elim (stays t x) as (λ c. cond c (run_behind t x (filter q m)) (filter q m) ≡ filter q (cond c (run_behind t x m) m)) [ true ↦ run_behind-filter t q x m h | false ↦ refl ]
+purge_blocks-filter t q (Resize x n) m h = elim (stays t x) as (λ c. cond c (run_after t x (filter q m)) (filter q m) ≡ filter q (cond c (run_after t x m) m)) [ true ↦ run_after-filter t q x m h | false ↦ refl ]
 purge_blocks-filter t q (Replace g n) m h = refl
 
 -- ---- blocks in use

@@ -9,7 +9,7 @@ use Rattle.mac_base.specs.declared.block.Entry.{Entry}
 use Rattle.mac_base.specs.declared.block.Kind.{Kind}
 use Rattle.mac_base.specs.declared.block.Kind.TheVariants.{Free, Master, Ptr, Rel}
 use Rattle.mac_base.specs.HeadKind.{Shape, zone_header, head_size, slot_count}
-use Rattle.mac_base.specs.ZoneMap.{ZoneMap, Rearranged, is_free, is_kind, sizes, address_behind, contents_addresses}
+use Rattle.mac_base.specs.ZoneMap.{ZoneMap, Rearranged, is_free, is_kind, sizes, address_after, contents_addresses}
 use Rattle.mac_base.specs.HandleTable.{HandleTable, is_handle}
 use Rattle.mac_base.specs.Suits.{Suits, free_apart, is_handle_block, is_pointer_block, has_length, wanted_length, slots, slots_from}
 use Rattle.mac_base.specs.Gap.{Gap, filled, is_fixed}
@@ -93,8 +93,8 @@ Suits-rearranged s t u old new r apart possible suits =
       sizes = possible;
       lengths = used_pass-rearranged (λ k n. has_length s n (wanted_length u k)) s (is_fixed t) old new r suits.lengths;
       coherent = record {
-        handles = λ h. length-addresses_from (address_behind s []) (is_handle_block h) new ∙ ap (λ test. length (sizes test new)) (handle_block-kind h) ∙ ap length (r.same_blocks (Rel h) refl)
-            ∙ ap (λ test. length (sizes test old)) (sym (handle_block-kind h)) ∙ sym (length-addresses_from (address_behind s []) (is_handle_block h) old) ∙ suits.coherent.handles h;
+        handles = λ h. length-addresses_from (address_after s []) (is_handle_block h) new ∙ ap (λ test. length (sizes test new)) (handle_block-kind h) ∙ ap length (r.same_blocks (Rel h) refl)
+            ∙ ap (λ test. length (sizes test old)) (sym (handle_block-kind h)) ∙ sym (length-addresses_from (address_after s []) (is_handle_block h) old) ∙ suits.coherent.handles h;
         pointers = λ p. ap (λ test. contents_addresses s test new) (pointer_block-kind p) ∙ ap (map (λ at. at + head_size s.heads)) (r.same_places (Ptr p) refl)
             ∙ ap (λ test. contents_addresses s test old) (sym (pointer_block-kind p)) ∙ suits.coherent.pointers p;
         in_slots = λ h live. subst (λ ss. Contains ss h) (sym (slots-rearranged s (is_fixed t) old new refl r)) (suits.coherent.in_slots h live);

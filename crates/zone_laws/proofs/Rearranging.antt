@@ -6,7 +6,7 @@ use Rattle.mac_base.specs.declared.block.Entry.{Entry}
 use Rattle.mac_base.specs.declared.block.Kind.{Kind}
 use Rattle.mac_base.specs.declared.block.Kind.TheVariants.{Free, Master, Ptr, Rel}
 use Rattle.mac_base.specs.HeadKind.{Shape}
-use Rattle.mac_base.specs.ZoneMap.{ZoneMap, Rearranged, is_free, is_kind, total_size, sizes, address_behind, addresses_from}
+use Rattle.mac_base.specs.ZoneMap.{ZoneMap, Rearranged, is_free, is_kind, total_size, sizes, address_after, addresses_from}
 use Rattle.mac_base.specs.HandleTable.{HandleTable}
 use Rattle.mac_base.specs.Gap.{Gap, filled, is_fixed}
 use Rattle.zone_laws.proofs.GapAppend.{sizes-append, addresses_from-none}
@@ -65,11 +65,11 @@ arranged_between s t a b new c moves i =
     record {
       same_blocks = λ k used. sizes-append (is_kind k) (a ++ new) c ∙ ap (λ ns. ns ++ sizes (is_kind k) c) (sizes-append (is_kind k) a new ∙ ap (λ ns. sizes (is_kind k) a ++ ns) (i.same_sizes k used) ∙ sym (sizes-append (is_kind k) a b))
           ∙ sym (sizes-append (is_kind k) (a ++ b) c);
-      same_places = λ k fixed. addresses-around t k (address_behind s []) a new c fixed new_moves ∙ ap (λ n. addresses_from (address_behind s []) (is_kind k) a ++ addresses_from (address_behind s [] + (total_size a + n)) (is_kind k) c) i.same_total
-          ∙ sym (addresses-around t k (address_behind s []) a b c fixed moves);
+      same_places = λ k fixed. addresses-around t k (address_after s []) a new c fixed new_moves ∙ ap (λ n. addresses_from (address_after s []) (is_kind k) a ++ addresses_from (address_after s [] + (total_size a + n)) (is_kind k) c) i.same_total
+          ∙ sym (addresses-around t k (address_after s []) a b c fixed moves);
       same_total = let same = i.same_total in omega arith;
     }
 
 -- an arrangement of a gap is a rearrangement of the map
 pub gap-Rearranged : (s : Shape) (t : HandleTable) (m : ZoneMap) (g : Gap) (b : ZoneMap) → IsGap t m g → IsArrangement g.blocks b → Rearranged s (is_fixed t) m (filled g b)
-gap-Rearranged s t m g b i a = subst (λ m. Rearranged s (is_fixed t) m (filled g b)) (sym i.parts) (arranged_between s t g.before g.blocks b g.behind i.moves a)
+gap-Rearranged s t m g b i a = subst (λ m. Rearranged s (is_fixed t) m (filled g b)) (sym i.parts) (arranged_between s t g.before g.blocks b g.after i.moves a)

@@ -11,7 +11,7 @@ use Rattle.mac_base.specs.HandleTable.{HandleTable}
 use Rattle.mac_base.specs.Suits.{free_apart, is_block_size}
 use Rattle.mac_base.specs.Gap.{Gap, gaps, filled, is_fixed, lowest_gap, own_gap}
 use Rattle.mac_base.specs.Arrangement.{down, high}
-use Rattle.mac_base.specs.Compaction.{all_down_behind, all_down, compacted, moved_high}
+use Rattle.mac_base.specs.Compaction.{all_down_after, all_down, compacted, moved_high}
 use Rattle.mac_base.specs.Heap.{Heap, with_map}
 use Rattle.mac_base.specs.Sound.{Sound}
 use Rattle.zone_laws.proofs.GapParts.{all_move, IsGap, lowest_gap-is, own_gap-is}
@@ -24,17 +24,17 @@ use Rattle.zone_laws.proofs.RearrangedSuits.{Sound-rearranged, Sound-arranged}
 all_move-push : (t : HandleTable) (run : ZoneMap) (e : Entry) → all_move t run ≡ true → is_fixed t e.kind ≡ false → all_move t (run ++ e ∷ []) ≡ true
 all_move-push t run e moves moving = list_all-append _ run (e ∷ []) ∙ and_from _ _ moves (and_from _ _ (ap not moving) refl)
 
--- behind what stays before them
-all_down_behind-Rearranged : (s : Shape) (t : HandleTable) (a run m : ZoneMap) → all_move t run ≡ true → Rearranged s (is_fixed t) (a ++ (run ++ m)) (a ++ all_down_behind t run m)
-all_down_behind-Rearranged s t a run [] moves =
+-- after what stays before them
+all_down_after-Rearranged : (s : Shape) (t : HandleTable) (a run m : ZoneMap) → all_move t run ≡ true → Rearranged s (is_fixed t) (a ++ (run ++ m)) (a ++ all_down_after t run m)
+all_down_after-Rearranged s t a run [] moves =
     subst (λ m. Rearranged s (is_fixed t) m (a ++ down run)) (append_assoc a run []) (subst (λ m. Rearranged s (is_fixed t) (a ++ run ++ []) m) (append-nil (a ++ down run)) (arranged_between s t a run (down run) [] moves (down-IsArrangement run)))
-all_down_behind-Rearranged s t a run (e ∷ es) moves =
-    elim (is_fixed t e.kind) as (λ c. is_fixed t e.kind ≡ c → Rearranged s (is_fixed t) (a ++ (run ++ e ∷ es)) (a ++ cond c (down run ++ e ∷ all_down_behind t [] es) (all_down_behind t (run ++ e ∷ []) es))) [
+all_down_after-Rearranged s t a run (e ∷ es) moves =
+    elim (is_fixed t e.kind) as (λ c. is_fixed t e.kind ≡ c → Rearranged s (is_fixed t) (a ++ (run ++ e ∷ es)) (a ++ cond c (down run ++ e ∷ all_down_after t [] es) (all_down_after t (run ++ e ∷ []) es))) [
       | true ↦ λ fixed. Rearranged-trans s (is_fixed t) _ _ _
           (subst (λ m. Rearranged s (is_fixed t) m (a ++ down run ++ e ∷ es)) (append_assoc a run (e ∷ es)) (arranged_between s t a run (down run) (e ∷ es) moves (down-IsArrangement run)))
-          (subst (λ m. Rearranged s (is_fixed t) m (a ++ (down run ++ e ∷ all_down_behind t [] es))) (regroup (down run) es)
-          (subst (λ m. Rearranged s (is_fixed t) (a ++ down run ++ e ∷ [] ++ es) m) (regroup (down run) (all_down_behind t [] es) ∙ append_assoc a (down run) (e ∷ all_down_behind t [] es)) (all_down_behind-Rearranged s t (a ++ down run ++ e ∷ []) [] es refl)))
-      | false ↦ λ moving. subst (λ m. Rearranged s (is_fixed t) (a ++ m) (a ++ all_down_behind t (run ++ e ∷ []) es)) (append_assoc run (e ∷ []) es) (all_down_behind-Rearranged s t a (run ++ e ∷ []) es (all_move-push t run e moves moving))
+          (subst (λ m. Rearranged s (is_fixed t) m (a ++ (down run ++ e ∷ all_down_after t [] es))) (regroup (down run) es)
+          (subst (λ m. Rearranged s (is_fixed t) (a ++ down run ++ e ∷ [] ++ es) m) (regroup (down run) (all_down_after t [] es) ∙ append_assoc a (down run) (e ∷ all_down_after t [] es)) (all_down_after-Rearranged s t (a ++ down run ++ e ∷ []) [] es refl)))
+      | false ↦ λ moving. subst (λ m. Rearranged s (is_fixed t) (a ++ m) (a ++ all_down_after t (run ++ e ∷ []) es)) (append_assoc run (e ∷ []) es) (all_down_after-Rearranged s t a (run ++ e ∷ []) es (all_move-push t run e moves moving))
     ] refl
   where
     regroup : (d m : ZoneMap) → a ++ d ++ e ∷ [] ++ m ≡ a ++ d ++ e ∷ m
@@ -42,35 +42,35 @@ all_down_behind-Rearranged s t a run (e ∷ es) moves =
 
 -- all gaps down is a rearrangement
 pub all_down-Rearranged : (s : Shape) (t : HandleTable) (m : ZoneMap) → Rearranged s (is_fixed t) m (all_down t m)
-all_down-Rearranged s t m = all_down_behind-Rearranged s t [] [] m refl
+all_down-Rearranged s t m = all_down_after-Rearranged s t [] [] m refl
 
-free_apart-all_down_behind : (t : HandleTable) (run m : ZoneMap) → free_apart (all_down_behind t run m) ≡ true
-free_apart-all_down_behind t run [] = let a = down-IsArrangement run in a.apart
-free_apart-all_down_behind t run (e ∷ es) =
-    elim (is_fixed t e.kind) as (λ c. is_fixed t e.kind ≡ c → free_apart (cond c (down run ++ e ∷ all_down_behind t [] es) (all_down_behind t (run ++ e ∷ []) es)) ≡ true) [
+free_apart-all_down_after : (t : HandleTable) (run m : ZoneMap) → free_apart (all_down_after t run m) ≡ true
+free_apart-all_down_after t run [] = let a = down-IsArrangement run in a.apart
+free_apart-all_down_after t run (e ∷ es) =
+    elim (is_fixed t e.kind) as (λ c. is_fixed t e.kind ≡ c → free_apart (cond c (down run ++ e ∷ all_down_after t [] es) (all_down_after t (run ++ e ∷ []) es)) ≡ true) [
       | true ↦ λ fixed. let a = down-IsArrangement run in let used = fixed-used t e.kind fixed in
-          free_apart-append (down run) (e ∷ all_down_behind t [] es) a.apart (and_from _ _ (ap not (and_left _ _ used)) (free_apart-all_down_behind t [] es)) (and_right _ _ used)
-      | false ↦ λ moving. free_apart-all_down_behind t (run ++ e ∷ []) es
+          free_apart-append (down run) (e ∷ all_down_after t [] es) a.apart (and_from _ _ (ap not (and_left _ _ used)) (free_apart-all_down_after t [] es)) (and_right _ _ used)
+      | false ↦ λ moving. free_apart-all_down_after t (run ++ e ∷ []) es
     ] refl
 
 -- all gaps down keeps free blocks apart
 pub free_apart-all_down : (t : HandleTable) (m : ZoneMap) → free_apart (all_down t m) ≡ true
-free_apart-all_down t m = free_apart-all_down_behind t [] m
+free_apart-all_down t m = free_apart-all_down_after t [] m
 
-sizes_possible-all_down_behind : (s : Shape) (t : HandleTable) (run m : ZoneMap) → sizes_possible s run ≡ true → sizes_possible s m ≡ true → sizes_possible s (all_down_behind t run m) ≡ true
-sizes_possible-all_down_behind s t run [] hr hm = let a = down-IsArrangement run in a.kept (λ (e : Entry). is_block_size s e.size) hr (free_bytes-possible s run hr)
-sizes_possible-all_down_behind s t run (e ∷ es) hr hm =
+sizes_possible-all_down_after : (s : Shape) (t : HandleTable) (run m : ZoneMap) → sizes_possible s run ≡ true → sizes_possible s m ≡ true → sizes_possible s (all_down_after t run m) ≡ true
+sizes_possible-all_down_after s t run [] hr hm = let a = down-IsArrangement run in a.kept (λ (e : Entry). is_block_size s e.size) hr (free_bytes-possible s run hr)
+sizes_possible-all_down_after s t run (e ∷ es) hr hm =
     let a = down-IsArrangement run in
     let parts = and_parts (is_block_size s e.size) (sizes_possible s es) hm in
-    elim (is_fixed t e.kind) as (λ c. sizes_possible s (cond c (down run ++ e ∷ all_down_behind t [] es) (all_down_behind t (run ++ e ∷ []) es)) ≡ true) [
-      | true ↦ list_all-append (λ (e : Entry). is_block_size s e.size) (down run) (e ∷ all_down_behind t [] es)
-          ∙ and_from _ _ (a.kept (λ (e : Entry). is_block_size s e.size) hr (free_bytes-possible s run hr)) (and_from _ _ parts.0 (sizes_possible-all_down_behind s t [] es refl parts.1))
-      | false ↦ sizes_possible-all_down_behind s t (run ++ e ∷ []) es (list_all-append (λ (e : Entry). is_block_size s e.size) run (e ∷ []) ∙ and_from _ _ hr (and_from _ _ parts.0 refl)) parts.1
+    elim (is_fixed t e.kind) as (λ c. sizes_possible s (cond c (down run ++ e ∷ all_down_after t [] es) (all_down_after t (run ++ e ∷ []) es)) ≡ true) [
+      | true ↦ list_all-append (λ (e : Entry). is_block_size s e.size) (down run) (e ∷ all_down_after t [] es)
+          ∙ and_from _ _ (a.kept (λ (e : Entry). is_block_size s e.size) hr (free_bytes-possible s run hr)) (and_from _ _ parts.0 (sizes_possible-all_down_after s t [] es refl parts.1))
+      | false ↦ sizes_possible-all_down_after s t (run ++ e ∷ []) es (list_all-append (λ (e : Entry). is_block_size s e.size) run (e ∷ []) ∙ and_from _ _ hr (and_from _ _ parts.0 refl)) parts.1
     ]
 
 -- and sizes possible
 pub sizes_possible-all_down : (s : Shape) (t : HandleTable) (m : ZoneMap) → sizes_possible s m ≡ true → sizes_possible s (all_down t m) ≡ true
-sizes_possible-all_down s t m h = sizes_possible-all_down_behind s t [] m refl h
+sizes_possible-all_down s t m h = sizes_possible-all_down_after s t [] m refl h
 
 -- and leaves a sound heap
 pub Sound-all_down : (s : Shape) (t : HandleTable) (heap : Heap) → Sound s heap → Sound s (with_map (all_down t heap.map) heap)

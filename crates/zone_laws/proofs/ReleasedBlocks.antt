@@ -6,7 +6,7 @@ use Rattle.mac_base.specs.declared.block.Entry.{Entry}
 use Rattle.mac_base.specs.declared.block.Kind.{Kind}
 use Rattle.mac_base.specs.declared.block.Kind.TheVariants.{Free}
 use Rattle.mac_base.specs.HeadKind.{Shape, smallest_block}
-use Rattle.mac_base.specs.ZoneMap.{ZoneMap, Rearranged, block, is_free, is_named, is_kind, joined, released, total_size, address_behind, addresses_from, sizes}
+use Rattle.mac_base.specs.ZoneMap.{ZoneMap, Rearranged, block, is_free, is_named, is_kind, joined, released, total_size, address_after, addresses_from, sizes}
 use Rattle.mac_base.specs.Suits.{free_apart}
 use Rattle.mac_base.specs.Serve.{taken}
 use Rattle.zone_laws.proofs.Arranging.{is_kind-free}
@@ -92,7 +92,7 @@ Rearranged-released s stays x old new used r =
     record {
       same_blocks = λ k h. sizes-joined (is_kind k) (marked x new) (is_kind-free k h) ∙ sizes-marked x k new h ∙ ap (λ ns. cond (is_named x k) [] ns) (r.same_blocks k h)
           ∙ sym (sizes-marked x k old h) ∙ sym (sizes-joined (is_kind k) (marked x old) (is_kind-free k h));
-      same_places = λ k h. let at : ℕ = address_behind s [] in addresses_from-joined at (is_kind k) (marked x new) (is_kind-free k (used k h)) ∙ addresses_from-marked at x k new (used k h) ∙ ap (λ ns. cond (is_named x k) [] ns) (r.same_places k h)
+      same_places = λ k h. let at : ℕ = address_after s [] in addresses_from-joined at (is_kind k) (marked x new) (is_kind-free k (used k h)) ∙ addresses_from-marked at x k new (used k h) ∙ ap (λ ns. cond (is_named x k) [] ns) (r.same_places k h)
           ∙ sym (addresses_from-marked at x k old (used k h)) ∙ sym (addresses_from-joined at (is_kind k) (marked x old) (is_kind-free k (used k h)));
       same_total = total_size-joined (marked x new) ∙ total_size-marked x new ∙ r.same_total ∙ sym (total_size-marked x old) ∙ sym (total_size-joined (marked x old));
     }

@@ -8,23 +8,23 @@ use Rattle.mac_base.specs.declared.block.Entry.{Entry}
 use Rattle.mac_base.specs.HeadKind.{Shape}
 use Rattle.mac_base.specs.ZoneMap.{ZoneMap, is_free, is_named, total_size, joined}
 use Rattle.mac_base.specs.Suits.{free_apart, starts_free}
-use Rattle.mac_base.specs.Serve.{taken, cut, sized, resized_in_place, free_in_front, behind_free}
+use Rattle.mac_base.specs.Serve.{taken, cut, sized, resized_in_place, free_in_front, past_free}
 
--- A map in which the block of x is k bytes long in place. Before any joining, it and the free blocks right behind it,
+-- A map in which the block of x is k bytes long in place. Before any joining, it and the free blocks right after it,
 -- which may be none, are exchanged for what is taken of them.
 pub record ResizedAt (s : Shape) (k x : ℕ) (old new : ZoneMap) : Type 0 where
   pub before : ZoneMap
   pub changed : Entry
   pub room : ZoneMap
-  pub behind : ZoneMap
-  pub was : old ≡ before ++ ((changed ∷ room) ++ behind)
+  pub after : ZoneMap
+  pub was : old ≡ before ++ ((changed ∷ room) ++ after)
   pub fits : k ≤ changed.size + total_size room
   pub named : is_named x changed.kind ≡ true
   pub all_free : list_all (λ (e : Entry). is_free e.kind) room ≡ true
-  -- the new map, or the same joined behind the blocks before
+  -- the new map, or the same joined after the blocks before
   pub tail : ZoneMap
   pub is : new ≡ before ++ tail
-  pub joins : (tail ≡ joined (taken s k changed.kind (changed.size + total_size room) ++ behind)) ⊎ ((tail ≡ taken s k changed.kind (changed.size + total_size room) ++ behind) × (starts_free behind ≡ false))
+  pub joins : (tail ≡ joined (taken s k changed.kind (changed.size + total_size room) ++ after)) ⊎ ((tail ≡ taken s k changed.kind (changed.size + total_size room) ++ after) × (starts_free after ≡ false))
 
 resized_further : (s : Shape) (k x : ℕ) (e : Entry) (es : ZoneMap) (o : Option ZoneMap) → MatchOption o ⊤ (λ new. ResizedAt s k x es new) → MatchOption (option_map (λ m. e ∷ m) o) ⊤ (λ new. ResizedAt s k x (e ∷ es) new)
 resized_further s k x e es None h = tt
@@ -32,7 +32,7 @@ resized_further s k x e es (Some new) h = record {
   before = e ∷ h.before;
   changed = h.changed;
   room = h.room;
-  behind = h.behind;
+  after = h.after;
   was = ap (λ m. e ∷ m) h.was;
   fits = h.fits;
   named = h.named;
@@ -48,7 +48,7 @@ resized_cut s k x e es named le = record {
   before = [];
   changed = e;
   room = [];
-  behind = es;
+  after = es;
   was = refl;
   fits = (let fits = leb-true k e.size le in omega arith);
   named = named;
@@ -61,14 +61,14 @@ resized_cut s k x e es named le = record {
     same : e.size ≡ e.size + 0
     same = omega arith
 
--- the first block with the free one behind it
+-- the first block with the free one after it
 resized_grown : (s : Shape) (k x : ℕ) (e f : Entry) (es : ZoneMap) → is_named x e.kind ≡ true → is_free f.kind ≡ true → nat_le k (e.size + f.size) ≡ true → starts_free es ≡ false
     → ResizedAt s k x (e ∷ f ∷ es) (taken s k e.kind (e.size + f.size) ++ es)
 resized_grown s k x e f es named free le apart = record {
   before = [];
   changed = e;
   room = f ∷ [];
-  behind = es;
+  after = es;
   was = refl;
   fits = (let fits = leb-true k (e.size + f.size) le in omega arith);
   named = named;
@@ -83,7 +83,7 @@ resized_grown s k x e f es named free le apart = record {
 
 sized_parts : (s : Shape) (k x : ℕ) (e : Entry) (es : ZoneMap) → IsTrue (free_apart es) → is_named x e.kind ≡ true → MatchOption (sized s k e es) ⊤ (λ new. ResizedAt s k x (e ∷ es) new)
 sized_parts s k x e es apart named =
-    elim (nat_le k e.size) as (λ b. nat_le k e.size ≡ b → MatchOption (cond b (Some (cut s k e es)) (cond (nat_le k (e.size + free_in_front es)) (Some (taken s k e.kind (e.size + free_in_front es) ++ behind_free es)) None)) ⊤ (λ new. ResizedAt s k x (e ∷ es) new)) [
+    elim (nat_le k e.size) as (λ b. nat_le k e.size ≡ b → MatchOption (cond b (Some (cut s k e es)) (cond (nat_le k (e.size + free_in_front es)) (Some (taken s k e.kind (e.size + free_in_front es) ++ past_free es)) None)) ⊤ (λ new. ResizedAt s k x (e ∷ es) new)) [
       | true ↦ λ le. resized_cut s k x e es named le
       | false ↦ λ more. by_room es apart more
     ] refl
@@ -92,7 +92,7 @@ sized_parts s k x e es apart named =
     too_large h n is = grind (arith, nat_tests)
 
     by_room : (es : ZoneMap) → IsTrue (free_apart es) → nat_le k e.size ≡ false
-        → MatchOption (cond (nat_le k (e.size + free_in_front es)) (Some (taken s k e.kind (e.size + free_in_front es) ++ behind_free es)) None) ⊤ (λ new. ResizedAt s k x (e ∷ es) new)
+        → MatchOption (cond (nat_le k (e.size + free_in_front es)) (Some (taken s k e.kind (e.size + free_in_front es) ++ past_free es)) None) ⊤ (λ new. ResizedAt s k x (e ∷ es) new)
     by_room [] apart more = subst (λ b. MatchOption (cond b (Some (taken s k e.kind (e.size + 0) ++ [])) None) ⊤ (λ new. ResizedAt s k x (e ∷ []) new)) (sym (too_large more 0 refl)) tt
     by_room (f ∷ fs) apart more =
         elim (is_free f.kind) as (λ b. is_free f.kind ≡ b → MatchOption (cond (nat_le k (e.size + cond b f.size 0)) (Some (taken s k e.kind (e.size + cond b f.size 0) ++ cond b fs (f ∷ fs))) None) ⊤ (λ new. ResizedAt s k x (e ∷ f ∷ fs) new)) [

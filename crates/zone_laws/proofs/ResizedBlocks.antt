@@ -1,4 +1,4 @@
--- A block made longer or shorter where it stands: without it, the map is as before.
+-- A block made longer or shorter where it is: without it, the map is as before.
 use Rattle.std.proofs.Common.{◌≡◌, ℕ, ◌+◌, ◌-◌, ◌<◌, Bool, true, false, cond, [], ◌∷◌, ◌++◌, refl, ap, sym, ◌∙◌, subst, arith, Some, None, Option}
 use Rattle.std.specs.Prelude.{nat_le, nat_lt, map, slice_index, if◌then◌else◌}
 use Rattle.std.proofs.lemmas.Bool.{and_left, eq-eqb, leb-true, leb-false}
@@ -6,8 +6,8 @@ use Rattle.mac_base.specs.declared.block.Entry.{Entry}
 use Rattle.mac_base.specs.declared.block.Kind.{Kind}
 use Rattle.mac_base.specs.declared.block.Kind.TheVariants.{Free, Rel}
 use Rattle.mac_base.specs.HeadKind.{Shape, head_size, smallest_block}
-use Rattle.mac_base.specs.ZoneMap.{ZoneMap, block, is_free, is_named, joined, joined_to, released, total_size, address_behind, addresses_from, contents_of, sizes}
-use Rattle.mac_base.specs.Serve.{taken, cut, sized, free_in_front, behind_free, resized_in_place, renamed}
+use Rattle.mac_base.specs.ZoneMap.{ZoneMap, block, is_free, is_named, joined, joined_to, released, total_size, address_after, addresses_from, contents_of, sizes}
+use Rattle.mac_base.specs.Serve.{taken, cut, sized, free_in_front, past_free, resized_in_place, renamed}
 use Rattle.zone_laws.proofs.Arranging.{free_is, named-used}
 use Rattle.zone_laws.proofs.NamedPlace.{At}
 use Rattle.zone_laws.proofs.JoinedBlocks.{joined_to-apart, joined-front, joined-two, join_cases}
@@ -28,7 +28,7 @@ joined-marked_joined x (e ∷ es) =
     ∙ ap (joined_to (marked_block x e)) (joined-marked_joined x es)
 
 -- the free bytes in front, where there are some, are a block
-pub free_in_front-is : (b : ZoneMap) → 0 < free_in_front b → b ≡ block Free (free_in_front b) ∷ behind_free b
+pub free_in_front-is : (b : ZoneMap) → 0 < free_in_front b → b ≡ block Free (free_in_front b) ∷ past_free b
 free_in_front-is [] h = absurd (omega arith)
 free_in_front-is (e ∷ es) h = elim (is_free e.kind) as (λ c. is_free e.kind ≡ c → 0 < cond c e.size 0 → e ∷ es ≡ block Free (cond c e.size 0) ∷ cond c es (e ∷ es)) [
   | true ↦ λ free h. ap (λ kind. record { size = e.size; kind = kind } ∷ es) (free_is e.kind free)
@@ -43,7 +43,7 @@ sized-released s k x n kind b r named h = elim (nat_le k n) as (λ c. nat_le k n
 ] refl h
   where
     longer : Bool → Option ZoneMap
-    longer c = cond c (Some (taken s k kind (n + free_in_front b) ++ behind_free b)) None
+    longer c = cond c (Some (taken s k kind (n + free_in_front b) ++ past_free b)) None
 
     some_same : {p q : ZoneMap} → Some p ≡ Some q → p ≡ q
     some_same e = cc e
@@ -51,11 +51,11 @@ sized-released s k x n kind b r named h = elim (nat_le k n) as (λ c. nat_le k n
     by_room : n < k → (c : Bool) → nat_le k (n + free_in_front b) ≡ c → longer c ≡ Some r → joined (marked x r) ≡ joined (block Free n ∷ marked x b)
     by_room large true room is =
         let fits = leb-true k (n + free_in_front b) room in
-        ap (λ o. joined (marked x o)) (sym (some_same is)) ∙ ap joined (marked-append x (taken s k kind (n + free_in_front b)) (behind_free b)) ∙ joined-marked_taken s k (n + free_in_front b) x kind (marked x (behind_free b)) named fits
-        ∙ sym (joined-two n (free_in_front b) (marked x (behind_free b))) ∙ ap (λ c. joined (block Free n ∷ marked x c)) (sym (free_in_front-is b (omega arith)))
+        ap (λ o. joined (marked x o)) (sym (some_same is)) ∙ ap joined (marked-append x (taken s k kind (n + free_in_front b)) (past_free b)) ∙ joined-marked_taken s k (n + free_in_front b) x kind (marked x (past_free b)) named fits
+        ∙ sym (joined-two n (free_in_front b) (marked x (past_free b))) ∙ ap (λ c. joined (block Free n ∷ marked x c)) (sym (free_in_front-is b (omega arith)))
     by_room large false none is = absurd (cc is)
 
--- a block of x resized where it stands: without it, the map is as before
+-- a block of x resized where it is: without it, the map is as before
 pub released-resized_in_place : (s : Shape) (k x : ℕ) (m : ZoneMap) (n : ℕ) (front : ZoneMap) (kind : Kind) (back new : ZoneMap) → At x m n front kind back → resized_in_place s k x m ≡ Some new → released x new ≡ released x m
 released-resized_in_place s k x m n front kind back new at h =
     let found = option_map-Some (λ r. front ++ r) (sized s k (block kind n) back) new (sym (resized_in_place-At s k x m n front kind back at) ∙ h) in
@@ -85,13 +85,13 @@ begins-sized s k n kind b r used h = elim (nat_le k n) as (λ c. cond c (Some (c
 ] h
   where
     longer : Bool → Option ZoneMap
-    longer c = cond c (Some (taken s k kind (n + free_in_front b) ++ behind_free b)) None
+    longer c = cond c (Some (taken s k kind (n + free_in_front b) ++ past_free b)) None
 
     some_same : {p q : ZoneMap} → Some p ≡ Some q → p ≡ q
     some_same e = cc e
 
     by_room : (c : Bool) → longer c ≡ Some r → BeginsWith kind r
-    by_room true is = subst (BeginsWith kind) (some_same is) (begins-taken s k (n + free_in_front b) kind (behind_free b))
+    by_room true is = subst (BeginsWith kind) (some_same is) (begins-taken s k (n + free_in_front b) kind (past_free b))
     by_room false none = absurd (cc none)
 
 addresses-none : (at x : ℕ) (m : ZoneMap) → sizes (is_named x) m ≡ [] → addresses_from at (is_named x) m ≡ []
@@ -102,24 +102,24 @@ addresses-none at x (e ∷ es) h = elim (is_named x e.kind) as (λ c. cond c (e.
 ] h
 
 -- where the contents of the block of x begin, where x names none before it
-pub contents_of-around : (s : Shape) (x : ℕ) (a : ZoneMap) (e : Entry) (b : ZoneMap) → sizes (is_named x) a ≡ [] → is_named x e.kind ≡ true → contents_of s x (a ++ e ∷ b) ≡ address_behind s a + head_size s.heads
+pub contents_of-around : (s : Shape) (x : ℕ) (a : ZoneMap) (e : Entry) (b : ZoneMap) → sizes (is_named x) a ≡ [] → is_named x e.kind ≡ true → contents_of s x (a ++ e ∷ b) ≡ address_after s a + head_size s.heads
 contents_of-around s x a e b none named =
     ap (λ ns. slice_index (map (λ at. at + head_size s.heads) ns) 0)
     (addresses_from-append start (is_named x) a (e ∷ b) ∙ ap (λ ns. ns ++ addresses_from (start + total_size a) (is_named x) (e ∷ b)) (addresses-none start x a none) ∙ ap (λ c. cond c ((start + total_size a) ∷ []) [] ++ addresses_from (start + total_size a + e.size) (is_named x) b) named)
     ∙ omega arith
   where
     start : ℕ
-    start = address_behind s []
+    start = address_after s []
 
 -- the contents of a block of x stay where they are where it is resized in its place
-pub contents_of-resized_in_place : (s : Shape) (k x : ℕ) (m : ZoneMap) (n : ℕ) (front : ZoneMap) (kind : Kind) (back new : ZoneMap) → At x m n front kind back → resized_in_place s k x m ≡ Some new → contents_of s x new ≡ address_behind s front + head_size s.heads
+pub contents_of-resized_in_place : (s : Shape) (k x : ℕ) (m : ZoneMap) (n : ℕ) (front : ZoneMap) (kind : Kind) (back new : ZoneMap) → At x m n front kind back → resized_in_place s k x m ≡ Some new → contents_of s x new ≡ address_after s front + head_size s.heads
 contents_of-resized_in_place s k x m n front kind back new at h =
     let found = option_map-Some (λ r. front ++ r) (sized s k (block kind n) back) new (sym (resized_in_place-At s k x m n front kind back at) ∙ h) in
     let begins = begins-sized s k n kind back found.0 (named-used x kind at.named) found.1 in
     ap (contents_of s x) (sym found.2 ∙ ap (λ r. front ++ r) begins.is) ∙ contents_of-around s x front (block kind begins.size) begins.rest at.none_front at.named
 
 -- where the contents of the one block of x begin
-pub contents_of-At : (s : Shape) (x : ℕ) (m : ZoneMap) (n : ℕ) (front : ZoneMap) (kind : Kind) (back : ZoneMap) → At x m n front kind back → contents_of s x m ≡ address_behind s front + head_size s.heads
+pub contents_of-At : (s : Shape) (x : ℕ) (m : ZoneMap) (n : ℕ) (front : ZoneMap) (kind : Kind) (back : ZoneMap) → At x m n front kind back → contents_of s x m ≡ address_after s front + head_size s.heads
 contents_of-At s x m n front kind back at = ap (contents_of s x) at.was ∙ contents_of-around s x front (block kind n) back at.none_front at.named
 
 -- to mark the blocks of two numbers, in either order
@@ -133,7 +133,7 @@ marked-twice x y (e ∷ es) = ap (λ b. b ∷ marked x (marked y es)) (one e.siz
       | false ↦ λ other. elim (is_named x k) as (λ c. cond c (block Free n) (block k n) ≡ marked_block y (cond c (block Free n) (block k n))) [ true ↦ refl | false ↦ sym (ap (λ c. cond c (block Free n) (block k n)) other) ]
     ] refl
 
--- a block that stood under another number, put under x, which named none, and released
+-- a block that was under another number, put under x, which named none, and released
 marked-renamed : (z x : ℕ) (m : ZoneMap) → sizes (is_named x) m ≡ [] → marked x (renamed z x m) ≡ marked z m
 marked-renamed z x [] h = refl
 marked-renamed z x (e ∷ es) h = elim (is_named x e.kind) as (λ c. is_named x e.kind ≡ c → cond c (e.size ∷ []) [] ++ sizes (is_named x) es ≡ [] → marked x (renamed z x (e ∷ es)) ≡ marked z (e ∷ es)) [

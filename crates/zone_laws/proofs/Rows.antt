@@ -248,7 +248,7 @@ sized = refl
 nothing_purged : outcomes_to zone fresh (PurgeMem 3781 ∷ []) ≡ refused MemFullErr ∷ []
 nothing_purged = refl
 
--- a range that ends behind the block, calls on a locked handle, the largest size and one above it
+-- a range that ends after the block, calls on a locked handle, the largest size and one above it
 bounds : outcomes_to zone fresh (NewHandle 100 ∷ Peek h1 90 20 ∷ HLock h1 ∷ EmptyHandle h1 ∷ ReallocateHandle h1 4 ∷ NewHandle 8388608 ∷ NewHandle 8388609 ∷ [])
     ≡ handle h1 ∷ refused ParamErr ∷ done ∷ refused MemPurErr ∷ refused MemPurErr ∷ refused MemFullErr ∷ refused ParamErr ∷ []
 bounds = refl
@@ -264,7 +264,7 @@ kept_after_answers = refl
 kept_by_growth : outcomes_to zone (new_heap zone 1024) (NewHandle 500 ∷ HPurge h1 ∷ NewHandle 1000 ∷ GetHandleSize h1 ∷ []) ≡ handle h1 ∷ done ∷ handle h2 ∷ number 500 ∷ []
 kept_by_growth = refl
 
--- the master block that no room was left behind for stands in front, and all blocks above it
+-- the master block that no room was left after for is in front, and all blocks above it
 master_block_first : (heap_after zone fresh (sixty_three ++ NewHandle 2752 ∷ NewHandle 0 ∷ NewEmptyHandle ∷ [])).free_slots ≡ slots_from 63 0x0010_0148
 master_block_first = refl
 
@@ -287,7 +287,7 @@ wants_master_block = refl
 takes_freed_slot : (made_again zone frees_slot all_live NewEmptyHandle).0 ≡ handle h1
 takes_freed_slot = refl
 
--- Behind 16 answers a call asks nothing more. Made again behind the last of them it asks once more, in vain.
+-- After 16 answers a call asks nothing more. Made again after the last of them it asks once more, in vain.
 sixteen_asks : (exact_step zone (replicate 16 one) fresh (NewHandle 4000)).asks
     ≡ replicate 16 (record { needed = 4008; answer = Some one; carried = [] })
 sixteen_asks = refl
@@ -309,7 +309,7 @@ zone32 = record { heads = Bits32; base = 0x0010_0000; limit = 4096 }
 abbrev fresh32 : Heap
 fresh32 = new_heap zone32 4096
 
--- its first slot stands behind a header of 12 bytes
+-- its first slot is after a header of 12 bytes
 abbrev g1 : ℕ
 g1 = 0x0010_0040
 

@@ -1,4 +1,4 @@
--- A request takes answers from the front of a queue: those of its asks. More answers behind them change nothing.
+-- A request takes answers from the front of a queue: those of its asks. More answers after them change nothing.
 use Rattle.std.proofs.Common.{◌≡◌, ℕ, ◌-◌, Bool, true, false, cond, List, [], ◌∷◌, ◌++◌, Some, None, Option, refl, ap, sym, ◌∙◌}
 use Rattle.std.specs.Prelude.{◌==◌, filter_map, is_some}
 use Rattle.std.specs.List.{list_all}
@@ -123,7 +123,7 @@ run-unanswered s protected r allowed (a ∷ later) heap =
     let c = carried_out s protected a.calls mid in
     once-unanswered s r mid c a (allowed == 0) (a.value == 0) (trial s r mid) later (request_run s protected r (allowed - 1) later c.heap) (run-unanswered s protected r (allowed - 1) later c.heap)
 
--- where each ask had an answer, more answers behind them change nothing
+-- where each ask had an answer, more answers after them change nothing
 pub run-framed : (s : Shape) (protected : List ℕ) (r : Request) (allowed : ℕ) (answers more : List Answer) (heap : Heap)
     → (let e = request_run s protected r allowed answers heap in all_answered e.asks ≡ true → request_run s protected r allowed (answers ++ more) heap ≡ with_left (e.left ++ more) e)
 run-framed s protected r allowed [] more heap = by_more more

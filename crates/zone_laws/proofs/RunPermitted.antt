@@ -112,7 +112,7 @@ running-prepared s protected r heap mid p = record { free = λ h. subst (λ xs. 
 abbrev pub HasBytes : Heap → ℕ → ℕ → Type 0
 HasBytes heap x n = ((is_full heap.table x || is_pointer heap.table x) ≡ true) × (length (bytes_of heap.table x) ≡ n)
 
--- what stands in the heap once a request has given x: a block of so many bytes, or free slots
+-- what is in the heap once a request has given x: a block of so many bytes, or free slots
 abbrev pub Gives : Request → ℕ → Heap → Type 0
 Gives (NewBlock n) x heap = HasBytes heap x n
 Gives (Resize y n) x heap = HasBytes heap y n
@@ -157,10 +157,10 @@ pub record Grants (protected : List ℕ) (r : Request) (x : ℕ) (old new : Heap
   pub number : NumberGiven r x before
   pub table : new.table ≡ table_granted r x before
 
--- so it does behind a change that keeps what is protected
-pub grants-behind : (protected : List ℕ) (r : Request) (old mid new : Heap) (given : Option ℕ) → KeepsRunning protected old mid → MatchOption given ⊤ (λ x. Grants protected r x mid new) → MatchOption given ⊤ (λ x. Grants protected r x old new)
-grants-behind protected r old mid new None keeps grants = tt
-grants-behind protected r old mid new (Some x) keeps grants = record { before = grants.before; protects = λ y among. grants.protects y among ∙ keeps.protects y among; number = grants.number; table = grants.table }
+-- so it does after a change that keeps what is protected
+pub grants-after : (protected : List ℕ) (r : Request) (old mid new : Heap) (given : Option ℕ) → KeepsRunning protected old mid → MatchOption given ⊤ (λ x. Grants protected r x mid new) → MatchOption given ⊤ (λ x. Grants protected r x old new)
+grants-after protected r old mid new None keeps grants = tt
+grants-after protected r old mid new (Some x) keeps grants = record { before = grants.before; protects = λ y among. grants.protects y among ∙ keeps.protects y among; number = grants.number; table = grants.table }
 
 -- what is known of the ending of a run
 pub record RunFacts (s : Shape) (protected : List ℕ) (r : Request) (allowed : ℕ) (heap : Heap) (e : Ending) : Type 0 where
@@ -183,16 +183,16 @@ module _ (s : Shape) (protected : List ℕ) (r : Request) (heap mid : Heap) (p :
       let ends = p.exhausted no in
       (p.preparation, p.may, subst (λ h. SameHeap mid h) p.is (same_heap mid), record { at_the_limit = ends.0; none_left = ends.1; no_room = no })
 
-  -- so a run that ends with this trial, or goes on behind it
+  -- so a run that ends with this trial, or goes on after it
   by_trial : (allowed : ℕ) (left : List Answer) (other : Ending) (o : Option (ℕ × ZoneMap)) → serve s mid.table (front_slot mid) mid.map r ≡ o → (Fails s protected r heap mid → RunFacts s protected r allowed heap other)
       → RunFacts s protected r allowed heap (served_or r mid left other o)
-  by_trial allowed left other (Some found) is behind = record {
+  by_trial allowed left other (Some found) is following = record {
     permitted = trial_serves found.0 found.1 is;
     sound = sound-serve s r mid found.0 found.1 p.sound may is;
     gives = gives-granted r found.0 found.1 mid may;
     grants = record { before = mid.table; protects = p.protects; number = serve-NumberGiven s mid.table (front_slot mid) mid.map r found.0 found.1 p.sound.suits (may-ask s r mid p.sound may) is; table = refl };
   }
-  by_trial allowed left other None is behind = behind (trial_fails is)
+  by_trial allowed left other None is following = following (trial_fails is)
 
 zero_of : (n : ℕ) → (n == 0) ≡ true → n ≡ 0
 zero_of n h = grind (arith, nat_tests)
@@ -234,7 +234,7 @@ run-facts s protected r allowed (a ∷ later) heap sound guards may =
           permitted = (some_of allowed is, refl, mid, fails, (refl, subst (λ b. MatchBool b (EndsUnserved c.heap e.asks e.given e.heap) (RequestRun s protected r (allowed - 1) c.heap e.asks e.given e.heap)) (sym worth) rest.permitted));
           sound = rest.sound;
           gives = rest.gives;
-          grants = grants-behind protected r heap c.heap e.heap e.given (running-then protected heap mid c.heap (running-prepared s protected r heap mid p) (running-carried_out s protected a.calls mid)) rest.grants;
+          grants = grants-after protected r heap c.heap e.heap e.given (running-then protected heap mid c.heap (running-prepared s protected r heap mid p) (running-carried_out s protected a.calls mid)) rest.grants;
         })
       ] refl
     ] refl)

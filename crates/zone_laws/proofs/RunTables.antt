@@ -18,7 +18,7 @@ use Rattle.mac_base.specs.declared.memory_call.MemoryCall.{MemoryCall}
 use Rattle.mac_base.specs.declared.reply.Results.{Results}
 use Rattle.mac_base.specs.Effect.{table_copied}
 use Rattle.mac_base.specs.GrowZone.{Answer, Ask, Carried, answers_in, carried_from, carried_once, carried_out, heap_unless, memory_call, most_answers}
-use Rattle.mac_base.specs.MemoryStep.{BehindMaster, EndsRequest, MemoryStep, OwnRequest, RequestStep, StepUnless}
+use Rattle.mac_base.specs.MemoryStep.{AfterMaster, EndsRequest, MemoryStep, OwnRequest, RequestStep, StepUnless}
 use Rattle.mac_base.specs.Outcomes.{Outcome, given_results}
 use Rattle.mac_base.specs.RequestRun.{EndsUnserved, RequestRun}
 use Rattle.mac_base.specs.Tests.{IsHandle, IsPointer, NotLent, NotLocked, protected_by, refusal}
@@ -119,9 +119,9 @@ module _ (s : Shape) (protected : List ℕ) (answers : Type 0) (R : HandleTable 
       let then = carried_once s protected call c in
       rel.next c.heap.table then.heap.table (carried_from s protected calls then).heap.table (once-related may call c) (carried-related may calls then)
 
-  -- a run behind another change, and one that ends here
-  ran-behind : (r : Request) (given : Option ℕ) (a b c : HandleTable) → R a b → Ran R r given b c → Ran R r given a c
-  ran-behind r given a b c one ran = record { before = ran.before; related = rel.next a b ran.before one ran.related; served = ran.served }
+  -- a run after another change, and one that ends here
+  ran-after : (r : Request) (given : Option ℕ) (a b c : HandleTable) → R a b → Ran R r given b c → Ran R r given a c
+  ran-after r given a b c one ran = record { before = ran.before; related = rel.next a b ran.before one ran.related; served = ran.served }
 
   unserved-ran : (r : Request) (heap : Heap) (asks : List Ask) (given : Option ℕ) (new : Heap) → EndsUnserved heap asks given new → Ran R r given heap.table new.table
   unserved-ran r heap asks None new ends = record { before = heap.table; related = rel.same heap.table; served = ends.2.table }
@@ -136,7 +136,7 @@ module _ (s : Shape) (protected : List ℕ) (answers : Type 0) (R : HandleTable 
   answered-ran r allowed mid carried asks given new later (Some a) may run =
       let some = may a refl in
       let c : Carried = carried_out s protected a.calls mid in
-      ran-behind r given mid.table c.heap.table new.table (carried-related some a.calls (record { heap = mid; calls = [] }))
+      ran-after r given mid.table c.heap.table new.table (carried-related some a.calls (record { heap = mid; calls = [] }))
       (by_value (a.value == 0) (EndsUnserved c.heap asks given new) (RequestRun s protected r allowed c.heap asks given new) (Ran R r given c.heap.table new.table) (λ ends. unserved-ran r c.heap asks given new ends) (λ more. later some c.heap more) run.1)
 
   -- what a request's run leaves
@@ -144,7 +144,7 @@ module _ (s : Shape) (protected : List ℕ) (answers : Type 0) (R : HandleTable 
   run-ran r allowed old [] (Some x) new may run = record { before = (prepared_by s run.0 old).table; related = prepared-related r old run.0 run.1; served = (run.2.number, run.2.table) }
   run-ran r allowed old [] None new may run = record { before = new.table; related = failed-related r old new run.1; served = refl }
   run-ran r allowed old (ask ∷ asks) given new may run =
-      ran-behind r given old.table run.2.table new.table (failed-related r old run.2 run.3)
+      ran-after r given old.table run.2.table new.table (failed-related r old run.2 run.3)
       (answered-ran r (allowed - 1) run.2 ask.carried asks given new (λ some heap. run-ran r (allowed - 1) heap asks given new (inr some)) ask.answer (first_answered answers ask asks may) run.4)
 
 -- a call with an outcome of its own isn't refused
@@ -170,14 +170,14 @@ module _ (s : Shape) (call : MemoryCall) (answers : Type 0) (R : HandleTable →
   master-related None old new ran = subst (R old) (sym ran.served) ran.related
   master-related (Some x) old new ran = subst (R old) (sym ran.served.1) ran.related
 
-  behind : (r : Request) (entry : HandleTable) (allowed : ℕ) (given : Option ℕ) (from : Heap) (asks : List Ask) (outcome : Outcome) (new : Heap) → Answered answers asks → R entry from.table → BehindMaster RequestRun s call entry r allowed given from asks outcome new
+  after : (r : Request) (entry : HandleTable) (allowed : ℕ) (given : Option ℕ) (from : Heap) (asks : List Ask) (outcome : Outcome) (new : Heap) → Answered answers asks → R entry from.table → AfterMaster RequestRun s call entry r allowed given from asks outcome new
       → Asked R call r entry new.table outcome
-  behind r entry allowed (Some x) from asks outcome new may first step = own r entry allowed from asks outcome new may first step
-  behind r entry allowed None from asks outcome new may first step = record { before = from.table; related = first; ended = inl (step.1, step.2.table) }
+  after r entry allowed (Some x) from asks outcome new may first step = own r entry allowed from asks outcome new may first step
+  after r entry allowed None from asks outcome new may first step = record { before = from.table; related = first; ended = inl (step.1, step.2.table) }
 
   -- what a call leaves that makes a request
   pub request-asked : (b : Bool) (old : Heap) (r : Request) (asks : List Ask) (outcome : Outcome) (new : Heap) → Answered answers asks → RequestStep RequestRun b s old call r asks outcome new → Asked R call r old.table new.table outcome
   request-asked false old r asks outcome new may step = own r old.table most_answers old asks outcome new may (rel.same old.table) step
   request-asked true old r asks outcome new may both =
       let mays = both_answered answers asks both.0 both.1 both.4 may in
-      behind r old.table (most_answers - length both.0) both.2 both.3 both.1 outcome new mays.1 (master-related both.2 old.table both.3.table (run-ran s (protected_by call) answers R rel NewMaster most_answers old both.0 both.2 both.3 mays.0 both.5)) both.6
+      after r old.table (most_answers - length both.0) both.2 both.3 both.1 outcome new mays.1 (master-related both.2 old.table both.3.table (run-ran s (protected_by call) answers R rel NewMaster most_answers old both.0 both.2 both.3 mays.0 both.5)) both.6

@@ -2,7 +2,7 @@
 use Rattle.std.proofs.Common.{◌≡◌, ℕ, List, [], ◌∷◌, ◌++◌, refl}
 use Rattle.mac_base.specs.declared.request.Request.{Request}
 use Rattle.mac_base.specs.declared.request.Request.TheVariants.{NewBlock, NewEmpty, NewPointer, NewMaster, Reserve, Resize, Replace}
-use Rattle.mac_base.specs.Compaction.{all_down, all_down_behind, compacted, moved_high}
+use Rattle.mac_base.specs.Compaction.{all_down, all_down_after, compacted, moved_high}
 use Rattle.mac_base.specs.HandleTable.{HandleTable, is_purgeable}
 use Rattle.mac_base.specs.HeadKind.{Shape}
 use Rattle.mac_base.specs.Request.{candidates, candidates_in, blocks_to_purge}
@@ -22,12 +22,12 @@ module _ {t u : HandleTable} (same : FixesSame t u) where
   serve_size-same s slot m k (Replace h n) = rw (gaps-same t u same (released h m))
 
   -- and compaction moves the same blocks
-  all_down_behind-same : (run m : ZoneMap) → all_down_behind u run m ≡ all_down_behind t run m
-  all_down_behind-same run [] = refl
-  all_down_behind-same run (e ∷ es) = rw (fixed-same t u same, all_down_behind-same [] es, all_down_behind-same (run ++ e ∷ []) es)
+  all_down_after-same : (run m : ZoneMap) → all_down_after u run m ≡ all_down_after t run m
+  all_down_after-same run [] = refl
+  all_down_after-same run (e ∷ es) = rw (fixed-same t u same, all_down_after-same [] es, all_down_after-same (run ++ e ∷ []) es)
 
   pub all_down-same : (m : ZoneMap) → all_down u m ≡ all_down t m
-  all_down-same m = all_down_behind-same [] m
+  all_down-same m = all_down_after-same [] m
 
   pub compacted-same : (n : ℕ) (m : ZoneMap) → compacted u n m ≡ compacted t n m
   compacted-same n m = rw (gaps-same t u same m, all_down-same m)

@@ -22,7 +22,7 @@ use Rattle.mac_base.specs.declared.memory_call.MemoryCall.{MemoryCall}
 use Rattle.mac_base.specs.declared.memory_call.MemoryCall.TheVariants.{Append, NewHandleOf, PtrAndHand, PtrToHand, PtrToXHand, SetHandleTo}
 use Rattle.mac_base.specs.Effect.{request_of}
 use Rattle.mac_base.specs.ExactRequest.{Ending, after_ask, asked, prepared, request_run, served_or, unserved}
-use Rattle.mac_base.specs.ExactStep.{behind_master, exact_step, request_end, request_step, step_asking, step_unless}
+use Rattle.mac_base.specs.ExactStep.{after_master, exact_step, request_end, request_step, step_asking, step_unless}
 use Rattle.mac_base.specs.GrowZone.{Answer, Ask, Carried, carried_from, carried_once, carried_out, heap_unless, memory_call as as_call, most_answers}
 use Rattle.mac_base.specs.Tests.{IsHandle, IsPointer, IsSize, IsWithin, NotEmpty, NotLent, first_refusal, protected_by, refusal, refused_by, unless_passed}
 use Rattle.zone_laws.proofs.Tables.{eqb_same, eqb_swap}
@@ -140,21 +140,21 @@ module _ (p : ℕ) (ps : List ℕ) where
       unserved_left mid c next false true rest then = rest
       unserved_left mid c next false false rest then = then
 
-  -- ---- the request of a call, behind one for a master block where no slot is free
+  -- ---- the request of a call, after one for a master block where no slot is free
 
   -- the two requests of a call that makes a handle
   abbrev both_runs : Shape → List ℕ → Request → List Answer → Heap → Ending × Ending
-  both_runs s protected r answers heap = let master = request_run s protected NewMaster most_answers answers heap in (master, behind_master s protected r master master.given)
+  both_runs s protected r answers heap = let master = request_run s protected NewMaster most_answers answers heap in (master, after_master s protected r master master.given)
 
-  behind-alike : (s : Shape) (r : Request) (answers : List Answer) (heap : Heap) → Sound s heap → is_pointer heap.table p ≡ true → leave_alone p answers ≡ true → both_runs s (p ∷ ps) r answers heap ≡ both_runs s ps r answers heap
-  behind-alike s r answers heap sound pointer spared =
+  after-alike : (s : Shape) (r : Request) (answers : List Answer) (heap : Heap) → Sound s heap → is_pointer heap.table p ≡ true → leave_alone p answers ≡ true → both_runs s (p ∷ ps) r answers heap ≡ both_runs s ps r answers heap
+  after-alike s r answers heap sound pointer spared =
       let master = request_run s ps NewMaster most_answers answers heap in
       let first = run-alike s NewMaster most_answers answers heap sound pointer spared in
       let facts = subst (λ (e : Ending). RunFacts s (p ∷ ps) NewMaster most_answers heap e) first.same (run-facts s (p ∷ ps) NewMaster most_answers answers heap sound tt tt) in
-      ap (λ (e : Ending). (e, behind_master s (p ∷ ps) r e e.given)) first.same ∙ ap (λ (e : Ending). (master, e)) (by_given master.given (facts.grants) facts.sound first.left)
+      ap (λ (e : Ending). (e, after_master s (p ∷ ps) r e e.given)) first.same ∙ ap (λ (e : Ending). (master, e)) (by_given master.given (facts.grants) facts.sound first.left)
     where
       by_given : (given : Option ℕ) → (let master = request_run s ps NewMaster most_answers answers heap in MatchOption given (Unit {0}) (λ x. Grants (p ∷ ps) NewMaster x heap master.heap) → Sound s master.heap → leave_alone p master.left ≡ true
-          → behind_master s (p ∷ ps) r master given ≡ behind_master s ps r master given)
+          → after_master s (p ∷ ps) r master given ≡ after_master s ps r master given)
       by_given None grants after left = refl
       by_given (Some x) grants after left =
           let master = request_run s ps NewMaster most_answers answers heap in
@@ -175,7 +175,7 @@ module _ (p : ℕ) (ps : List ℕ) where
   step-alike s answers heap call other true r one two ends sound pointer spared =
       let runs = both_runs s ps r answers heap in
       ap (λ protected. (let runs = both_runs s protected r answers heap in request_end call heap.table (runs.0).asks runs.1 (runs.1).given)) one
-      ∙ ap (λ (runs : Ending × Ending). request_end call heap.table (runs.0).asks runs.1 (runs.1).given) (behind-alike s r answers heap sound pointer spared) ∙ ends (runs.0).asks runs.1 (runs.1).given
+      ∙ ap (λ (runs : Ending × Ending). request_end call heap.table (runs.0).asks runs.1 (runs.1).given) (after-alike s r answers heap sound pointer spared) ∙ ends (runs.0).asks runs.1 (runs.1).given
       ∙ sym (ap (λ protected. (let runs = both_runs s protected r answers heap in request_end other heap.table (runs.0).asks runs.1 (runs.1).given)) two)
 
 -- ---- the calls

@@ -9,13 +9,13 @@ use Rattle.mac_base.specs.HeadKind.{Shape}
 use Rattle.mac_base.specs.ZoneMap.{ZoneMap, Rearranged, released}
 use Rattle.mac_base.specs.HandleTable.{HandleTable}
 use Rattle.mac_base.specs.Suits.{Suits}
-use Rattle.mac_base.specs.Gap.{Gap, gaps, filled, is_fixed, lowest_gap, own_gap, gap_behind}
+use Rattle.mac_base.specs.Gap.{Gap, gaps, filled, is_fixed, lowest_gap, own_gap, gap_after}
 use Rattle.mac_base.specs.Arrangement.{down, up, open_at}
 use Rattle.mac_base.specs.Request.{stays, gap_to_grow}
 use Rattle.mac_base.specs.Serve.{take_lowest, placed_relocatable, reserved, cleared, resized_in_place, opened_for, resized_in_gap, resized_elsewhere, resized_block, renamed}
 use Rattle.mac_base.specs.Heap.{Heap, with_map}
 use Rattle.mac_base.specs.Sound.{Sound}
-use Rattle.zone_laws.proofs.GapParts.{IsGap, lowest_gap-is, own_gap-is, gap_behind-is}
+use Rattle.zone_laws.proofs.GapParts.{IsGap, lowest_gap-is, own_gap-is, gap_after-is}
 use Rattle.zone_laws.proofs.Arranging.{IsArrangement, down-IsArrangement, up-IsArrangement}
 use Rattle.zone_laws.proofs.ArrangingNamed.{open_at-IsArrangement}
 use Rattle.zone_laws.proofs.Rearranging.{Rearranged-refl, gap-Rearranged}
@@ -41,7 +41,7 @@ pub record TakenFrom (s : Shape) (t u : HandleTable) (k : ℕ) (kind : Kind) (m 
   pub taken : TakenAt s k kind base new
 
 taken_at-gap : (s : Shape) (k : ℕ) (kind : Kind) (g : Gap) (old new : ZoneMap) → TakenAt s k kind old new → TakenAt s k kind (filled g old) (filled g new)
-taken_at-gap s k kind g old new taken = let p = taken_in_gap s k kind g old new taken in record { before = p.front; size = p.size; behind = p.back; was = p.was; is = p.is; fits = p.fits }
+taken_at-gap s k kind g old new taken = let p = taken_in_gap s k kind g old new taken in record { before = p.front; size = p.size; after = p.back; was = p.was; is = p.is; fits = p.fits }
 
 -- a relocatable block is taken from a free block, where the map may have been rearranged
 pub placed_relocatable-TakenFrom : (s : Shape) (t u : HandleTable) (k : ℕ) (kind : Kind) (m new : ZoneMap) → Suits s u m → placed_relocatable s t k kind m ≡ Some new → TakenFrom s t u k kind m new
@@ -89,8 +89,8 @@ in_gap-from : (s : Shape) (t u : HandleTable) (k x : ℕ) (m new : ZoneMap) → 
 in_gap-from s t u k x m new suits h =
     let found = option_and_then-Some (λ g. resized_in_place s k x (opened_for t x g)) (gap_to_grow t x m) new h in
     let g : Gap = found.0 in
-    elim (stays t x) as (λ c. cond c (gap_behind x (gaps t m)) (own_gap x (gaps t m)) ≡ Some g → resized_in_place s k x (filled g (cond c (up g.blocks) (open_at x g.blocks))) ≡ Some new → ResizedFrom s t u k x m new) [
-      | true ↦ λ gap made. record { base = filled g (up g.blocks); is_base = base-gap s t u m g (up g.blocks) suits (gap_behind-is t m x g gap).0 (up-IsArrangement g.blocks); resized = made }
+    elim (stays t x) as (λ c. cond c (gap_after x (gaps t m)) (own_gap x (gaps t m)) ≡ Some g → resized_in_place s k x (filled g (cond c (up g.blocks) (open_at x g.blocks))) ≡ Some new → ResizedFrom s t u k x m new) [
+      | true ↦ λ gap made. record { base = filled g (up g.blocks); is_base = base-gap s t u m g (up g.blocks) suits (gap_after-is t m x g gap).0 (up-IsArrangement g.blocks); resized = made }
       | false ↦ λ gap made. let own = own_gap-is t m x g gap in
           record { base = filled g (open_at x g.blocks); is_base = base-gap s t u m g (open_at x g.blocks) suits own.0 (open_at-IsArrangement x g.blocks own.1); resized = made }
     ] found.1 found.2

@@ -11,7 +11,7 @@ use Rattle.mac_base.specs.declared.block.HeadKind.TheVariants.{Bits24, Bits32}
 use Rattle.mac_base.specs.declared.block.Kind.{Kind}
 use Rattle.mac_base.specs.declared.block.Kind.TheVariants.{Free, Master}
 use Rattle.mac_base.specs.HeadKind.{Shape, head_size, smallest_block}
-use Rattle.mac_base.specs.ZoneMap.{ZoneMap, Rearranged, block, is_master, joined, freed_at, released_at, total_size, address_behind, addresses_from, contents_addresses}
+use Rattle.mac_base.specs.ZoneMap.{ZoneMap, Rearranged, block, is_master, joined, freed_at, released_at, total_size, address_after, addresses_from, contents_addresses}
 use Rattle.mac_base.specs.HandleTable.{HandleTable}
 use Rattle.mac_base.specs.Suits.{free_apart, is_block_size}
 use Rattle.mac_base.specs.Gap.{Gap, filled, is_fixed, room}
@@ -44,12 +44,12 @@ taken_first s k kind (e ∷ es) new begins h =
     let is : Some (taken s k kind e.size ++ es) ≡ Some new = sym (ap (λ c. cond c (Some (taken s k kind e.size ++ es)) (option_map (λ m. e ∷ m) (take_lowest s k kind es))) begins) ∙ h in
     record { size = e.size; back = es; was = ap (λ kind. record { size = e.size; kind = kind } ∷ es) free.0; is = cc is; fits = free.1 }
 
--- The parts of the map in which a block that stays is placed: right behind what lies before its gap.
+-- The parts of the map in which a block that stays is placed: right after what lies before its gap.
 pub record PlacedFirst (s : Shape) (t : HandleTable) (k : ℕ) (kind : ℕ → Kind) (m : ZoneMap) (x : ℕ) (new : ZoneMap) : Type 0 where
   pub gap : Gap
   pub is_gap : IsGap t m gap
   pub has_room : k ≤ room gap
-  pub number : address_behind s gap.before + head_size s.heads ≡ x
+  pub number : address_after s gap.before + head_size s.heads ≡ x
   pub size : ℕ
   pub back : ZoneMap
   pub was : filled gap (cleared k gap.blocks) ≡ gap.before ++ block Free size ∷ back
@@ -68,9 +68,9 @@ placed_first s t k kind m x new some h =
       has_room = p.has_room;
       number = p.number;
       size = first.size;
-      back = first.back ++ g.behind;
-      was = ap (λ b. g.before ++ b ++ g.behind) first.was ∙ append_assoc g.before (block Free first.size ∷ first.back) g.behind;
-      is = sym p.is ∙ ap (λ b. g.before ++ b ++ g.behind) first.is ∙ append_assoc g.before (taken s k (kind x) first.size ++ first.back) g.behind ∙ ap (λ b. g.before ++ b) (append_assoc (taken s k (kind x) first.size) first.back g.behind);
+      back = first.back ++ g.after;
+      was = ap (λ b. g.before ++ b ++ g.after) first.was ∙ append_assoc g.before (block Free first.size ∷ first.back) g.after;
+      is = sym p.is ∙ ap (λ b. g.before ++ b ++ g.after) first.is ∙ append_assoc g.before (taken s k (kind x) first.size ++ first.back) g.after ∙ ap (λ b. g.before ++ b) (append_assoc (taken s k (kind x) first.size) first.back g.after);
       fits = first.fits;
     }
 
@@ -132,10 +132,10 @@ released_at-placed : (s : Shape) (t : HandleTable) (k : ℕ) (m : ZoneMap) (x : 
 released_at-placed s t k m x new some apart possible p =
     let g : Gap = p.gap in
     let i = p.is_gap in
-    let start : ℕ = address_behind s [] + head_size s.heads in
+    let start : ℕ = address_after s [] + head_size s.heads in
     let number = p.number in
     let at : start + total_size g.before ≡ x = omega arith in
-    let before : sizes_possible s g.before ≡ true = (and_parts _ _ (sym (list_all-append (λ (e : Entry). is_block_size s e.size) g.before (g.blocks ++ g.behind)) ∙ ap (sizes_possible s) (sym (append_assoc g.before g.blocks g.behind) ∙ sym i.parts) ∙ possible)).0 in
+    let before : sizes_possible s g.before ≡ true = (and_parts _ _ (sym (list_all-append (λ (e : Entry). is_block_size s e.size) g.before (g.blocks ++ g.after)) ∙ ap (sizes_possible s) (sym (append_assoc g.before g.blocks g.after) ∙ sym i.parts) ∙ possible)).0 in
     ap (released_at s x) p.is ∙ ap joined (freed_at-append start x g.before (taken s k Master p.size ++ p.back) ∙ ap (λ a. a ++ freed_at (start + total_size g.before) x (taken s k Master p.size ++ p.back)) (freed_at-below s start x g.before before (omega arith)))
     ∙ joined-front g.before (freed_at (start + total_size g.before) x (taken s k Master p.size ++ p.back)) (block Free p.size ∷ p.back) (joined-freed_taken s k p.size x (start + total_size g.before) Master p.back at some p.fits) ∙ ap joined (sym p.was) ∙ joined-apart (filled g (cleared k g.blocks)) (free_apart-cleared t k m g i apart)
 
@@ -143,7 +143,7 @@ released_at-placed s t k m x new some apart possible p =
 contents-placed : (s : Shape) (t : HandleTable) (k : ℕ) (m : ZoneMap) (x : ℕ) (new : ZoneMap) → PlacedFirst s t k (λ p. Master) m x new → Contains (contents_addresses s is_master new) x
 contents-placed s t k m x new p =
     let g : Gap = p.gap in
-    let start : ℕ = address_behind s [] in
+    let start : ℕ = address_after s [] in
     let there : ℕ = start + total_size g.before in
     let number = p.number in
     let at : there + head_size s.heads ≡ x = omega arith in

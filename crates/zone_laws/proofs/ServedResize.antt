@@ -8,20 +8,20 @@ use Rattle.mac_base.specs.HeadKind.{Shape}
 use Rattle.mac_base.specs.ZoneMap.{ZoneMap, Rearranged, is_named, released, contents_of, sizes}
 use Rattle.mac_base.specs.HandleTable.{HandleTable}
 use Rattle.mac_base.specs.Suits.{Suits}
-use Rattle.mac_base.specs.Gap.{Gap, gaps, filled, is_fixed, own_gap, gap_behind}
+use Rattle.mac_base.specs.Gap.{Gap, gaps, filled, is_fixed, own_gap, gap_after}
 use Rattle.mac_base.specs.Arrangement.{up, open_at}
 use Rattle.mac_base.specs.declared.request.Request.TheVariants.{Resize}
 use Rattle.mac_base.specs.Request.{size_needed, stays, gap_to_grow}
 use Rattle.mac_base.specs.Serve.{resized_in_place, opened_for, resized_in_gap, resized_elsewhere, resized_block, placed_relocatable, renamed, gives, serve}
 use Rattle.mac_base.specs.Trial.{MapServed}
-use Rattle.zone_laws.proofs.GapParts.{own_gap-is, gap_behind-is}
+use Rattle.zone_laws.proofs.GapParts.{own_gap-is, gap_after-is}
 use Rattle.zone_laws.proofs.Arranging.{up-IsArrangement}
 use Rattle.zone_laws.proofs.ArrangingNamed.{open_at-IsArrangement}
 use Rattle.zone_laws.proofs.Rearranging.{Rearranged-refl, fixed-used, gap-Rearranged}
-use Rattle.zone_laws.proofs.NamedPlace.{first_named, At-from, own_gap-parts, gap_behind-parts}
+use Rattle.zone_laws.proofs.NamedPlace.{first_named, At-from, own_gap-parts, gap_after-parts}
 use Rattle.zone_laws.proofs.Fitting.{size_needed-positive}
 use Rattle.zone_laws.proofs.FittingResize.{one_size, some_named}
-use Rattle.zone_laws.proofs.OpenedGap.{opened_own-At, opened_behind-At}
+use Rattle.zone_laws.proofs.OpenedGap.{opened_own-At, opened_after-At}
 use Rattle.zone_laws.proofs.ReleasedBlocks.{Rearranged-released}
 use Rattle.zone_laws.proofs.ResizedBlocks.{released-resized_in_place, contents_of-resized_in_place, contents_of-At, released-renamed}
 use Rattle.zone_laws.proofs.PlacedParts.{option_map-Some, option_and_then-Some, option_or-Some}
@@ -54,14 +54,14 @@ in_own_gap s t k x n m new g moves found once h =
       λ fixed. absurd (false≢true (sym moves ∙ fixed)),
     )
 
-in_gap_behind : (s : Shape) (t : HandleTable) (k x n : ℕ) (m new : ZoneMap) (g : Gap) → gap_behind x (gaps t m) ≡ Some g → sizes (is_named x) m ≡ n ∷ [] → resized_in_place s k x (filled g (up g.blocks)) ≡ Some new → IsResized s t x m new
-in_gap_behind s t k x n m new g found once h =
-    let behind = gap_behind-is t m x g found in
-    let p = gap_behind-parts t m g x n behind.0 behind.1 once in
-    let at = opened_behind-At x m g n p in (
+in_gap_after : (s : Shape) (t : HandleTable) (k x n : ℕ) (m new : ZoneMap) (g : Gap) → gap_after x (gaps t m) ≡ Some g → sizes (is_named x) m ≡ n ∷ [] → resized_in_place s k x (filled g (up g.blocks)) ≡ Some new → IsResized s t x m new
+in_gap_after s t k x n m new g found once h =
+    let after = gap_after-is t m x g found in
+    let p = gap_after-parts t m g x n after.0 after.1 once in
+    let at = opened_after-At x m g n p in (
       subst (Rearranged s (is_fixed t) (released x m)) (sym (released-resized_in_place s k x (filled g (up g.blocks)) n p.front p.kind _ new at h))
-          (released-Rearranged s t x m (filled g (up g.blocks)) (gap-Rearranged s t m g (up g.blocks) behind.0 (up-IsArrangement g.blocks))),
-      λ fixed. contents_of-resized_in_place s k x (filled g (up g.blocks)) n p.front p.kind _ new at h ∙ sym (contents_of-At s x m n p.front p.kind (g.blocks ++ g.behind) p.at),
+          (released-Rearranged s t x m (filled g (up g.blocks)) (gap-Rearranged s t m g (up g.blocks) after.0 (up-IsArrangement g.blocks))),
+      λ fixed. contents_of-resized_in_place s k x (filled g (up g.blocks)) n p.front p.kind _ new at h ∙ sym (contents_of-At s x m n p.front p.kind (g.blocks ++ g.after) p.at),
     )
 
 -- once the other blocks of its gap have made way
@@ -69,8 +69,8 @@ pub resized_in_gap-IsResized : (s : Shape) (t : HandleTable) (k x n : ℕ) (m ne
 resized_in_gap-IsResized s t k x n m new once h =
     let found = option_and_then-Some (λ g. resized_in_place s k x (opened_for t x g)) (gap_to_grow t x m) new h in
     let g : Gap = found.0 in
-    elim (stays t x) as (λ c. stays t x ≡ c → cond c (gap_behind x (gaps t m)) (own_gap x (gaps t m)) ≡ Some g → resized_in_place s k x (filled g (cond c (up g.blocks) (open_at x g.blocks))) ≡ Some new → IsResized s t x m new) [
-      | true ↦ λ fixed gap made. in_gap_behind s t k x n m new g gap once made
+    elim (stays t x) as (λ c. stays t x ≡ c → cond c (gap_after x (gaps t m)) (own_gap x (gaps t m)) ≡ Some g → resized_in_place s k x (filled g (cond c (up g.blocks) (open_at x g.blocks))) ≡ Some new → IsResized s t x m new) [
+      | true ↦ λ fixed gap made. in_gap_after s t k x n m new g gap once made
       | false ↦ λ moves gap made. in_own_gap s t k x n m new g moves gap once made
     ] refl found.1 found.2
 

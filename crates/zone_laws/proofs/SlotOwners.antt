@@ -10,7 +10,7 @@ use Rattle.mac_base.specs.declared.block.HeadKind.TheVariants.{Bits24, Bits32}
 use Rattle.mac_base.specs.declared.block.Kind.{Kind}
 use Rattle.mac_base.specs.declared.block.Kind.TheVariants.{Free, Master, Ptr, Rel}
 use Rattle.mac_base.specs.HeadKind.{Shape, need, head_size, smallest_block, slot_count, master_length}
-use Rattle.mac_base.specs.ZoneMap.{ZoneMap, block, is_free, is_master, total_size, address_behind, addresses, addresses_from}
+use Rattle.mac_base.specs.ZoneMap.{ZoneMap, block, is_free, is_master, total_size, address_after, addresses, addresses_from}
 use Rattle.mac_base.specs.HandleTable.{HandleTable, is_pointer, is_handle}
 use Rattle.mac_base.specs.Suits.{Suits, is_block_size, is_pointer_block, has_owners_length, slots}
 use Rattle.zone_laws.proofs.Maps.{addresses_from-append}
@@ -75,31 +75,31 @@ free_not_master (Rel g) h = refl
 pub slot_no_pointer : (s : Shape) (t : HandleTable) (m : ZoneMap) → Suits s t m → (h : ℕ) → Contains (slots s m) h → is_pointer t h ≡ false
 slot_no_pointer s t m suits h slot = false_from_ne_true (is_pointer t h) (λ live.
     let there = address_from_contents (λ a. a + head_size s.heads) (addresses s (is_pointer_block h) m) h (suits.coherent.pointers h ∙ ap (λ b. cond b (h ∷ []) []) live) in
-    slot_no_contents (head_size s.heads) slot_count (address_behind s []) (is_pointer_block h) (pointer_not_master h) m there.0 (rooms-suits s t m suits) there.1
+    slot_no_contents (head_size s.heads) slot_count (address_after s []) (is_pointer_block h) (pointer_not_master h) m there.0 (rooms-suits s t m suits) there.1
     (subst (λ a. Contains (slots s m) a) (sym there.2) slot))
 
--- where a free block stands
-address-free : (s : Shape) (before behind : ZoneMap) (n : ℕ) → Contains (addresses s is_free (before ++ block Free n ∷ behind)) (address_behind s [] + total_size before)
-address-free s before behind n = subst (λ xs. Contains xs (address_behind s [] + total_size before)) (sym (addresses_from-append (address_behind s []) is_free before (block Free n ∷ behind)))
-    (Contains-append_right (addresses s is_free before) _ (address_behind s [] + total_size before)
-    (Contains-here (address_behind s [] + total_size before) (addresses_from ((address_behind s [] + total_size before) + n) is_free behind)))
+-- where a free block is
+address-free : (s : Shape) (before after : ZoneMap) (n : ℕ) → Contains (addresses s is_free (before ++ block Free n ∷ after)) (address_after s [] + total_size before)
+address-free s before after n = subst (λ xs. Contains xs (address_after s [] + total_size before)) (sym (addresses_from-append (address_after s []) is_free before (block Free n ∷ after)))
+    (Contains-append_right (addresses s is_free before) _ (address_after s [] + total_size before)
+    (Contains-here (address_after s [] + total_size before) (addresses_from ((address_after s [] + total_size before) + n) is_free after)))
 
-module _ (s : Shape) (t : HandleTable) (before behind : ZoneMap) (n p : ℕ) (suits : Suits s t (before ++ block Free n ∷ behind)) (here : p ≡ address_behind s before + head_size s.heads) where
-  there : p ≡ (address_behind s [] + total_size before) + head_size s.heads
+module _ (s : Shape) (t : HandleTable) (before after : ZoneMap) (n p : ℕ) (suits : Suits s t (before ++ block Free n ∷ after)) (here : p ≡ address_after s before + head_size s.heads) where
+  there : p ≡ (address_after s [] + total_size before) + head_size s.heads
   there = omega arith
 
   -- the contents of a free block begin at no slot
-  free_contents_no_slot : Contains (slots s (before ++ block Free n ∷ behind)) p → ⊥
-  free_contents_no_slot slot = slot_no_contents (head_size s.heads) slot_count (address_behind s []) is_free free_not_master (before ++ block Free n ∷ behind) (address_behind s [] + total_size before)
-      (rooms-suits s t _ suits) (address-free s before behind n) (subst (λ a. Contains (slots s (before ++ block Free n ∷ behind)) a) there slot)
+  free_contents_no_slot : Contains (slots s (before ++ block Free n ∷ after)) p → ⊥
+  free_contents_no_slot slot = slot_no_contents (head_size s.heads) slot_count (address_after s []) is_free free_not_master (before ++ block Free n ∷ after) (address_after s [] + total_size before)
+      (rooms-suits s t _ suits) (address-free s before after n) (subst (λ a. Contains (slots s (before ++ block Free n ∷ after)) a) there slot)
 
   -- nor at a live pointer
   pub free_contents_no_pointer : is_pointer t p ≡ false
   free_contents_no_pointer = false_from_ne_true (is_pointer t p) (λ live.
-      let found = address_from_contents (λ a. a + head_size s.heads) (addresses s (is_pointer_block p) (before ++ block Free n ∷ behind)) p (suits.coherent.pointers p ∙ ap (λ b. cond b (p ∷ []) []) live) in
-      let same : found.0 ≡ address_behind s [] + total_size before = (let is = found.2 in omega arith) in
-      one_block_at (head_size s.heads) slot_count (address_behind s []) (is_pointer_block p) is_free (pointer_not_free p) (before ++ block Free n ∷ behind) (address_behind s [] + total_size before)
-      (rooms-suits s t _ suits) (subst (λ a. Contains (addresses s (is_pointer_block p) (before ++ block Free n ∷ behind)) a) same found.1) (address-free s before behind n))
+      let found = address_from_contents (λ a. a + head_size s.heads) (addresses s (is_pointer_block p) (before ++ block Free n ∷ after)) p (suits.coherent.pointers p ∙ ap (λ b. cond b (p ∷ []) []) live) in
+      let same : found.0 ≡ address_after s [] + total_size before = (let is = found.2 in omega arith) in
+      one_block_at (head_size s.heads) slot_count (address_after s []) (is_pointer_block p) is_free (pointer_not_free p) (before ++ block Free n ∷ after) (address_after s [] + total_size before)
+      (rooms-suits s t _ suits) (subst (λ a. Contains (addresses s (is_pointer_block p) (before ++ block Free n ∷ after)) a) same found.1) (address-free s before after n))
 
   -- nor at a live handle
   pub free_contents_no_handle : is_handle t p ≡ false

@@ -29,12 +29,12 @@ Contains-later x xs y c = (suc c.0, (let below = c.1 in omega arith), c.2)
 pub Contains-none : (y : ℕ) → Contains [] y → ⊥
 Contains-none y c = let below = c.1 in omega arith
 
--- the same of a list whose first element stands there where a test passes
+-- the same of a list whose first element is there where a test passes
 first_or_rest : (b : Bool) (a : ℕ) (rest : List ℕ) (x : ℕ) → Contains (cond b (a ∷ []) [] ++ rest) x → ((b ≡ true) × (a ≡ x)) ⊎ Contains rest x
 first_or_rest false a rest x c = inr c
 first_or_rest true a rest x c = elim (Contains-cons_cases a rest x c) [ inl h ↦ inl (refl, h) | inr h ↦ inr h ]
 
--- a slot lies at or behind the first, and its four bytes are among those of n slots
+-- a slot lies at or after the first, and its four bytes are among those of n slots
 pub slots_from-bounds : (n at h : ℕ) → Contains (slots_from n at) h → (at ≤ h) × (h + 4 ≤ at + 4 * n)
 slots_from-bounds zero at h c = absurd (Contains-none h c)
 slots_from-bounds (suc n) at h c = elim (Contains-cons_cases at (slots_from n (at + 4)) h c) [
@@ -42,7 +42,7 @@ slots_from-bounds (suc n) at h c = elim (Contains-cons_cases at (slots_from n (a
   | inr later ↦ let rest = slots_from-bounds n (at + 4) h later in (omega arith, omega arith)
 ]
 
--- the slots of a map whose first block stands at an address, where a header has so many bytes and a master block n
+-- the slots of a map whose first block is at an address, where a header has so many bytes and a master block n
 -- slots
 abbrev pub slots_at : ℕ → ℕ → ℕ → ZoneMap → List ℕ
 slots_at head n at m = flat_map (slots_from n) (map (λ a. a + head) (addresses_from at is_master m))
@@ -77,7 +77,7 @@ slot_cases head n at e es h room c = elim (Contains-append_cases _ _ h (subst (�
   | inr later ↦ inr later
 ]
 
--- a slot lies behind the first header
+-- a slot lies after the first header
 pub slots_at-above : (head n at : ℕ) (m : ZoneMap) (h : ℕ) → list_all (has_room head n) m ≡ true → Contains (slots_at head n at m) h → at + head ≤ h
 slots_at-above head n at [] h room c = absurd (Contains-none h c)
 slots_at-above head n at (e ∷ es) h room c =
@@ -87,7 +87,7 @@ slots_at-above head n at (e ∷ es) h room c =
       | inr later ↦ let rest = slots_at-above head n (at + e.size) es h rooms.1 later in omega arith
     ]
 
--- what passes lies at the first block or behind
+-- what passes lies at the first block or after
 pub addresses_from-above : (at : ℕ) (test : Kind → Bool) (m : ZoneMap) (a : ℕ) → Contains (addresses_from at test m) a → at ≤ a
 addresses_from-above at test [] a c = absurd (Contains-none a c)
 addresses_from-above at test (e ∷ es) a c = elim (first_or_rest (test e.kind) at (addresses_from (at + e.size) test es) a c) [
@@ -112,9 +112,9 @@ slot_no_contents head n at test other (e ∷ es) a room c d =
         | inl slot ↦ absurd (cc (other e.kind first.0, slot.0))
         | inr later ↦ (let above = slots_at-above head n (at + e.size) es (a + head) rooms.1 later in omega arith)
       ])
-      | inr behind ↦ (let above = addresses_from-above (at + e.size) test es a behind in elim in_slot [
+      | inr after ↦ (let above = addresses_from-above (at + e.size) test es a after in elim in_slot [
         | inl slot ↦ (let end = slot.2 in omega arith)
-        | inr later ↦ slot_no_contents head n (at + e.size) test other es a rooms.1 behind later
+        | inr later ↦ slot_no_contents head n (at + e.size) test other es a rooms.1 after later
       ])
     ]
 
@@ -132,8 +132,8 @@ one_block_at head n at test other apart (e ∷ es) a room c d =
         | inl second ↦ absurd (cc (apart e.kind first.0, second.0))
         | inr later ↦ (let above = addresses_from-above (at + e.size) other es a later in omega arith)
       ])
-      | inr behind ↦ (let above = addresses_from-above (at + e.size) test es a behind in elim two [
+      | inr after ↦ (let above = addresses_from-above (at + e.size) test es a after in elim two [
         | inl second ↦ (let end = second.1 in omega arith)
-        | inr later ↦ one_block_at head n (at + e.size) test other apart es a rooms.1 behind later
+        | inr later ↦ one_block_at head n (at + e.size) test other apart es a rooms.1 after later
       ])
     ]

@@ -8,7 +8,7 @@ use Rattle.mac_base.specs.declared.block.Entry.{Entry}
 use Rattle.mac_base.specs.declared.block.Kind.{Kind}
 use Rattle.mac_base.specs.declared.block.Kind.TheVariants.{Free}
 use Rattle.mac_base.specs.HeadKind.{Shape, zone_header}
-use Rattle.mac_base.specs.ZoneMap.{ZoneMap, block, free_block, is_master, total_size, address_behind, addresses, addresses_from, at_limit}
+use Rattle.mac_base.specs.ZoneMap.{ZoneMap, block, free_block, is_master, total_size, address_after, addresses, addresses_from, at_limit}
 use Rattle.mac_base.specs.HandleTable.{HandleTable, is_handle}
 use Rattle.mac_base.specs.Suits.{Suits, is_block_size, is_handle_block, is_pointer_block, has_owners_length}
 use Rattle.mac_base.specs.Heap.{Heap, grown}
@@ -36,8 +36,8 @@ addresses_from-free_block n at test free = by_free (λ m. addresses_from at test
 pub addresses-at_limit : (s : Shape) (test : Kind → Bool) (m : ZoneMap) → test Free ≡ false → addresses s test (at_limit s m) ≡ addresses s test m
 addresses-at_limit s test m free =
     let more = s.limit - (zone_header + total_size m) in
-    addresses_from-joined (address_behind s []) test (m ++ free_block more) free ∙ addresses_from-append (address_behind s []) test m (free_block more)
-    ∙ ap (λ found. addresses s test m ++ found) (addresses_from-free_block more (address_behind s [] + total_size m) test free) ∙ append-nil (addresses s test m)
+    addresses_from-joined (address_after s []) test (m ++ free_block more) free ∙ addresses_from-append (address_after s []) test m (free_block more)
+    ∙ ap (λ found. addresses s test m ++ found) (addresses_from-free_block more (address_after s [] + total_size m) test free) ∙ append-nil (addresses s test m)
 
 -- the zone is as large as its limit allows
 pub total_size-at_limit : (s : Shape) (m : ZoneMap) → zone_header + total_size m ≤ s.limit → zone_header + total_size (at_limit s m) ≡ s.limit

@@ -9,7 +9,7 @@ use Rattle.std.proofs.lemmas.List.Folds.{list_all-append}
 use Rattle.std.proofs.lemmas.Grind.{flat_map-append}
 use Rattle.mac_base.specs.declared.block.Kind.TheVariants.{Free, Master}
 use Rattle.mac_base.specs.HeadKind.{Shape, need, head_size, slot_count, master_length, zone_header}
-use Rattle.mac_base.specs.ZoneMap.{ZoneMap, block, is_master, total_size, address_behind, addresses_from}
+use Rattle.mac_base.specs.ZoneMap.{ZoneMap, block, is_master, total_size, address_after, addresses_from}
 use Rattle.mac_base.specs.HandleTable.{is_handle}
 use Rattle.mac_base.specs.Suits.{Suits, has_owners_length, is_handle_block, is_pointer_block, slots, slots_from}
 use Rattle.mac_base.specs.declared.request.Request.TheVariants.{NewMaster}
@@ -44,36 +44,36 @@ slots-in_front (suc n) at xs new once =
     ])
     (slots-in_front n (at + 4) xs (λ y c. new y (Contains-later at (slots_from n (at + 4)) y c)) once)
 
-module _ (s : Shape) (heap : Heap) (x : ℕ) (m : ZoneMap) (sound : Sound s heap) (at : TakenAt s (need s.heads master_length) Master heap.map m) (here : x ≡ address_behind s at.before + head_size s.heads) where
+module _ (s : Shape) (heap : Heap) (x : ℕ) (m : ZoneMap) (sound : Sound s heap) (at : TakenAt s (need s.heads master_length) Master heap.map m) (here : x ≡ address_after s at.before + head_size s.heads) where
   abbrev k : ℕ
   k = need s.heads master_length
 
   abbrev start : ℕ
-  start = address_behind s []
+  start = address_after s []
 
   abbrev low : List ℕ
   low = slots_at (head_size s.heads) slot_count start at.before
 
   abbrev high : List ℕ
-  high = slots_at (head_size s.heads) slot_count ((start + total_size at.before) + at.size) at.behind
+  high = slots_at (head_size s.heads) slot_count ((start + total_size at.before) + at.size) at.after
 
-  rooms : (list_all (has_room (head_size s.heads) slot_count) at.before ≡ true) × (list_all (has_room (head_size s.heads) slot_count) at.behind ≡ true)
+  rooms : (list_all (has_room (head_size s.heads) slot_count) at.before ≡ true) × (list_all (has_room (head_size s.heads) slot_count) at.after ≡ true)
   rooms =
       let p = has_room (head_size s.heads) slot_count in
-      let all = and_parts (list_all p at.before) (list_all p (block Free at.size ∷ at.behind)) (sym (list_all-append p at.before (block Free at.size ∷ at.behind)) ∙ ap (list_all p) (sym at.was) ∙ rooms-suits s heap.table heap.map sound.suits) in
-      (all.0, (and_parts (p (block Free at.size)) (list_all p at.behind) all.1).1)
+      let all = and_parts (list_all p at.before) (list_all p (block Free at.size ∷ at.after)) (sym (list_all-append p at.before (block Free at.size ∷ at.after)) ∙ ap (list_all p) (sym at.was) ∙ rooms-suits s heap.table heap.map sound.suits) in
+      (all.0, (and_parts (p (block Free at.size)) (list_all p at.after) all.1).1)
 
   -- the slots of before are those of the blocks on either side
   old_slots : slots s heap.map ≡ low ++ high
-  old_slots = ap (slots s) at.was ∙ slots_at-append (head_size s.heads) slot_count start at.before (block Free at.size ∷ at.behind)
+  old_slots = ap (slots s) at.was ∙ slots_at-append (head_size s.heads) slot_count start at.before (block Free at.size ∷ at.after)
 
-  -- and the new ones stand between them
+  -- and the new ones are between them
   new_slots : slots s m ≡ low ++ (slots_from slot_count x ++ high)
-  new_slots = ap (slots s) at.is ∙ slots_at-append (head_size s.heads) slot_count start at.before (taken s k Master at.size ++ at.behind)
-      ∙ ap (λ ss. low ++ ss) (slots_at-append (head_size s.heads) slot_count (start + total_size at.before) (taken s k Master at.size) at.behind
-      ∙ ap (λ ats. flat_map (slots_from slot_count) (map (λ a. a + head_size s.heads) ats) ++ slots_at (head_size s.heads) slot_count ((start + total_size at.before) + total_size (taken s k Master at.size)) at.behind)
+  new_slots = ap (slots s) at.is ∙ slots_at-append (head_size s.heads) slot_count start at.before (taken s k Master at.size ++ at.after)
+      ∙ ap (λ ss. low ++ ss) (slots_at-append (head_size s.heads) slot_count (start + total_size at.before) (taken s k Master at.size) at.after
+      ∙ ap (λ ats. flat_map (slots_from slot_count) (map (λ a. a + head_size s.heads) ats) ++ slots_at (head_size s.heads) slot_count ((start + total_size at.before) + total_size (taken s k Master at.size)) at.after)
       (addresses_from-taken s k Master at.size (start + total_size at.before) is_master refl)
-      ∙ ap (λ n. (slots_from slot_count ((start + total_size at.before) + head_size s.heads) ++ []) ++ slots_at (head_size s.heads) slot_count ((start + total_size at.before) + n) at.behind) (total_size-taken s k Master at.size at.fits)
+      ∙ ap (λ n. (slots_from slot_count ((start + total_size at.before) + head_size s.heads) ++ []) ++ slots_at (head_size s.heads) slot_count ((start + total_size at.before) + n) at.after) (total_size-taken s k Master at.size at.fits)
       ∙ ap (λ ss. ss ++ high) (append-nil (slots_from slot_count ((start + total_size at.before) + head_size s.heads)) ∙ ap (slots_from slot_count) there))
     where
       there : (start + total_size at.before) + head_size s.heads ≡ x
@@ -85,7 +85,7 @@ module _ (s : Shape) (heap : Heap) (x : ℕ) (m : ZoneMap) (sound : Sound s heap
       let bounds = slots_from-bounds slot_count x y new in
       elim (Contains-append_cases low high y (subst (λ ss. Contains ss y) old_slots old)) [
         | inl below ↦ (let end = slots_at-below (head_size s.heads) slot_count start at.before y rooms.0 below in omega arith)
-        | inr above ↦ (let first = slots_at-above (head_size s.heads) slot_count ((start + total_size at.before) + at.size) at.behind y rooms.1 above in
+        | inr above ↦ (let first = slots_at-above (head_size s.heads) slot_count ((start + total_size at.before) + at.size) at.after y rooms.1 above in
             let large = need-above s.heads master_length in let fits = at.fits in omega arith)
       ]
 

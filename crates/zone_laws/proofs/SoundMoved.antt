@@ -63,24 +63,24 @@ module _ (s : Shape) (heap : Heap) (x n : ℕ) (found : ZoneMap) (sound : Sound 
   -- without the new block the map is that of before
   pub released-new : released x new ≡ released x heap.map
   released-new = released-renamed 0 x found
-      ∙ ap (released x) (released-parts s (need s.heads n) at.size 0 (Rel 0) at.before at.behind heap.map found refl at.fits at.was at.is (named_none-nil s heap.table heap.map sound.suits) sound.suits.apart)
+      ∙ ap (released x) (released-parts s (need s.heads n) at.size 0 (Rel 0) at.before at.after heap.map found refl at.fits at.was at.is (named_none-nil s heap.table heap.map sound.suits) sound.suits.apart)
 
   sizes-found : sizes_possible s found ≡ true
   sizes-found =
-      let here : sizes_possible s (block Free at.size ∷ at.behind) ≡ true = (and_parts (sizes_possible s at.before) (sizes_possible s (block Free at.size ∷ at.behind))
-      (sym (list_all-append (λ (e : Entry). is_block_size s e.size) at.before (block Free at.size ∷ at.behind)) ∙ ap (sizes_possible s) (sym at.was) ∙ sound.suits.sizes)).1 in
+      let here : sizes_possible s (block Free at.size ∷ at.after) ≡ true = (and_parts (sizes_possible s at.before) (sizes_possible s (block Free at.size ∷ at.after))
+      (sym (list_all-append (λ (e : Entry). is_block_size s e.size) at.before (block Free at.size ∷ at.after)) ∙ ap (sizes_possible s) (sym at.was) ∙ sound.suits.sizes)).1 in
       list_all-exchanged heap.map found (taken_exchange s (need s.heads n) (Rel 0) heap.map found at) (λ (e : Entry). is_block_size s e.size)
-      (sizes-taken s (need s.heads n) (Rel 0) at.size (need-is_size s n) (and_parts (is_block_size s at.size) (sizes_possible s at.behind) here).0 at.fits) sound.suits.sizes
+      (sizes-taken s (need s.heads n) (Rel 0) at.size (need-is_size s n) (and_parts (is_block_size s at.size) (sizes_possible s at.after) here).0 at.fits) sound.suits.sizes
 
   -- the new block is the only one of nil in the map in which it was found
   found-length : TakenLength s n (is_named 0) found
   found-length =
       let own = taken-TakenLength s n (Rel 0) at.size (is_named 0) refl refl at.fits in
-      let none = nil-append (sizes (is_named 0) at.before) (sizes (is_named 0) at.behind) (sym (sizes-append (is_named 0) at.before (block Free at.size ∷ at.behind)) ∙ ap (sizes (is_named 0)) (sym at.was) ∙ named_none-nil s heap.table heap.map sound.suits) in
+      let none = nil-append (sizes (is_named 0) at.before) (sizes (is_named 0) at.after) (sym (sizes-append (is_named 0) at.before (block Free at.size ∷ at.after)) ∙ ap (sizes (is_named 0)) (sym at.was) ∙ named_none-nil s heap.table heap.map sound.suits) in
       record {
         size = own.size;
-        one = ap (sizes (is_named 0)) at.is ∙ sizes-append (is_named 0) at.before _ ∙ ap (λ ns. ns ++ sizes (is_named 0) (taken s (need s.heads n) (Rel 0) at.size ++ at.behind)) none.0
-            ∙ sizes-append (is_named 0) (taken s (need s.heads n) (Rel 0) at.size) at.behind ∙ ap (λ ns. ns ++ sizes (is_named 0) at.behind) own.one ∙ ap (λ ns. own.size ∷ ns) none.1;
+        one = ap (sizes (is_named 0)) at.is ∙ sizes-append (is_named 0) at.before _ ∙ ap (λ ns. ns ++ sizes (is_named 0) (taken s (need s.heads n) (Rel 0) at.size ++ at.after)) none.0
+            ∙ sizes-append (is_named 0) (taken s (need s.heads n) (Rel 0) at.size) at.after ∙ ap (λ ns. ns ++ sizes (is_named 0) at.after) own.one ∙ ap (λ ns. own.size ∷ ns) none.1;
         long = own.long;
       }
 

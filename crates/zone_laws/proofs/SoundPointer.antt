@@ -6,7 +6,7 @@ use Rattle.mac_base.specs.declared.block.Entry.{Entry}
 use Rattle.mac_base.specs.declared.block.Kind.{Kind}
 use Rattle.mac_base.specs.declared.block.Kind.TheVariants.{Free, Ptr}
 use Rattle.mac_base.specs.HeadKind.{Shape, need, head_size, zone_header}
-use Rattle.mac_base.specs.ZoneMap.{ZoneMap, block, has_free, is_master, address_behind}
+use Rattle.mac_base.specs.ZoneMap.{ZoneMap, block, has_free, is_master, address_after}
 use Rattle.mac_base.specs.HandleTable.{Pointer, live_at, live_full, live_handle, is_handle, is_pointer, with_live, zeros}
 use Rattle.mac_base.specs.Suits.{Suits}
 use Rattle.mac_base.specs.declared.request.Request.TheVariants.{NewPointer}
@@ -20,7 +20,7 @@ use Rattle.zone_laws.proofs.Taken.{taken_exchange}
 use Rattle.zone_laws.proofs.SuitsTaken.{Suits-new_pointer, addresses-untaken, slots-same}
 use Rattle.zone_laws.proofs.SlotOwners.{free_contents_no_handle, free_contents_no_pointer}
 
--- the map in three parts, the first of them what stands before the block that is taken
+-- the map in three parts, the first of them what is before the block that is taken
 pub record TakenLowest (s : Shape) (k : ℕ) (kind : Kind) (old new : ZoneMap) : Type 0 where
   pub at : TakenAt s k kind old new
   pub before : at.before ≡ lowest_before k old
@@ -29,7 +29,7 @@ taken_further : (s : Shape) (k : ℕ) (kind : Kind) (e : Entry) (es : ZoneMap) (
     → MatchOption (option_map (λ m. e ∷ m) o) ⊤ (λ new. TakenLowest s k kind (e ∷ es) new)
 taken_further s k kind e es None missed h = tt
 taken_further s k kind e es (Some new) missed h = record {
-  at = record { before = e ∷ h.at.before; size = h.at.size; behind = h.at.behind; was = ap (λ m. e ∷ m) h.at.was; is = ap (λ m. e ∷ m) h.at.is; fits = h.at.fits };
+  at = record { before = e ∷ h.at.before; size = h.at.size; after = h.at.after; was = ap (λ m. e ∷ m) h.at.was; is = ap (λ m. e ∷ m) h.at.is; fits = h.at.fits };
   before = ap (λ m. e ∷ m) h.before ∙ sym (ap (λ b. cond b [] (e ∷ lowest_before k es)) missed);
 }
 
@@ -38,7 +38,7 @@ lowest_parts s k kind [] = tt
 lowest_parts s k kind (e ∷ es) =
     elim (has_free k e) as (λ b. has_free k e ≡ b → MatchOption (cond b (Some (taken s k kind e.size ++ es)) (option_map (λ m. e ∷ m) (take_lowest s k kind es))) ⊤ (λ new. TakenLowest s k kind (e ∷ es) new)) [
       | true ↦ λ found. let h = has_free-is k e found in record {
-        at = record { before = []; size = e.size; behind = es; was = ap (λ kind. record { size = e.size; kind = kind } ∷ es) h.0; is = refl; fits = h.1 };
+        at = record { before = []; size = e.size; after = es; was = ap (λ kind. record { size = e.size; kind = kind } ∷ es) h.0; is = refl; fits = h.1 };
         before = sym (ap (λ b. cond b [] (e ∷ lowest_before k es)) found);
       }
       | false ↦ λ missed. taken_further s k kind e es (take_lowest s k kind es) missed (lowest_parts s k kind es)
@@ -52,19 +52,19 @@ module _ (s : Shape) (heap : Heap) (n p : ℕ) (m : ZoneMap) (sound : Sound s he
   lowest : TakenLowest s (need s.heads n) (Ptr p) heap.map m
   lowest = take_lowest-lowest s (need s.heads n) (Ptr p) heap.map m is
 
-  at_block : p ≡ address_behind s (lowest.at).before + head_size s.heads
-  at_block = here ∙ ap (λ before. address_behind s before + head_size s.heads) (sym (lowest.before))
+  at_block : p ≡ address_after s (lowest.at).before + head_size s.heads
+  at_block = here ∙ ap (λ before. address_after s before + head_size s.heads) (sym (lowest.before))
 
-  suits_there : Suits s heap.table ((lowest.at).before ++ block Free (lowest.at).size ∷ (lowest.at).behind)
+  suits_there : Suits s heap.table ((lowest.at).before ++ block Free (lowest.at).size ∷ (lowest.at).after)
   suits_there = subst (Suits s heap.table) (lowest.at).was sound.suits
 
   -- the number is neither a handle nor a pointer
   pub new_pointer-no_handle : is_handle heap.table p ≡ false
-  new_pointer-no_handle = free_contents_no_handle s heap.table (lowest.at).before (lowest.at).behind (lowest.at).size p suits_there at_block
+  new_pointer-no_handle = free_contents_no_handle s heap.table (lowest.at).before (lowest.at).after (lowest.at).size p suits_there at_block
 
   -- nor a pointer yet
   pub new_pointer-no_pointer : is_pointer heap.table p ≡ false
-  new_pointer-no_pointer = free_contents_no_pointer s heap.table (lowest.at).before (lowest.at).behind (lowest.at).size p suits_there at_block
+  new_pointer-no_pointer = free_contents_no_pointer s heap.table (lowest.at).before (lowest.at).after (lowest.at).size p suits_there at_block
 
   -- it is not live
   pub new_pointer-not_live : live_at heap.table p ≡ None

@@ -2,7 +2,7 @@
 use Rattle.std.proofs.Common.{◌≡◌, ℕ, ◌+◌, ◌-◌, ◌≤◌, ◌↔◌, true, ◌||◌, List, [], length, take, Some, refl, ap, sym, ◌∙◌, arith, IsTrue, IsFalse, Contains, subst, length-append, length-take}
 use Rattle.std.proofs.lemmas.List.{length-replicate}
 use Rattle.mac_base.specs.HeadKind.{Shape, need, zone_header}
-use Rattle.mac_base.specs.ZoneMap.{ZoneMap, is_master, address_behind}
+use Rattle.mac_base.specs.ZoneMap.{ZoneMap, is_master, address_after}
 use Rattle.mac_base.specs.HandleTable.{live_at, live_bytes, live_full, live_handle, live_pointer, is_full, is_handle, is_pointer, bytes_of, with_live, with_bytes, refilled, resized, zeros}
 use Rattle.mac_base.specs.declared.request.Request.TheVariants.{Resize}
 use Rattle.mac_base.specs.Serve.{resized_in_place}
@@ -14,7 +14,7 @@ use Rattle.zone_laws.proofs.Resized.{resized_in_place-at}
 use Rattle.zone_laws.proofs.SuitsResized.{Suits-resized, total_size-resized, addresses_from-resized}
 use Rattle.zone_laws.proofs.SoundWritten.{refilled_block}
 
--- the first n bytes with zeros behind them are n bytes
+-- the first n bytes with zeros after them are n bytes
 pub length-resized : (n : ℕ) (bytes : List ℕ) → length (resized n bytes) ≡ n
 length-resized n bytes = length-append (take n bytes) (zeros (n - length bytes)) ∙ ap (λ k. length (take n bytes) + k) (length-replicate (n - length bytes) 0) ∙ omega (arith, length-take n bytes)
 
@@ -29,7 +29,7 @@ module _ (s : Shape) (heap : Heap) (n x : ℕ) (m : ZoneMap) (sound : Sound s he
       let agree = with_live_agrees x l heap.table in
       let same = refilled_block bytes (live_at heap.table x) block in
       let same_size = total_size-resized s (need s.heads n) x heap.map m r in
-      let same_slots = slots-same s heap.map m (addresses_from-resized s (need s.heads n) x heap.map m r (address_behind s []) is_master refl) in
+      let same_slots = slots-same s heap.map m (addresses_from-resized s (need s.heads n) x heap.map m r (address_after s []) is_master refl) in
       let handles : (y : ℕ) → is_handle u y ≡ is_handle heap.table y = by_number (λ y. is_handle u y ≡ is_handle heap.table y) x (ap live_handle has ∙ same.handle) (λ y apart. ap live_handle (agree.others y apart)) in
       record {
         suits = Suits-resized s n x heap.map m heap.table u r sound.suits agree block
@@ -45,6 +45,6 @@ module _ (s : Shape) (heap : Heap) (n x : ℕ) (m : ZoneMap) (sound : Sound s he
         };
       }
 
-  -- x gets n bytes: the first of those that it has, with zeros behind them
+  -- x gets n bytes: the first of those that it has, with zeros after them
   pub sound-resized : (g : ℕ) → Sound s (granted (Resize x n) g m heap)
   sound-resized g = sound-resized_with (resized n (bytes_of heap.table x)) (length-resized n (bytes_of heap.table x))

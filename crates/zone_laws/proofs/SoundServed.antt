@@ -5,7 +5,7 @@ use Rattle.std.proofs.lemmas.Bool.{true≢false}
 use Rattle.mac_base.specs.declared.block.Kind.{Kind}
 use Rattle.mac_base.specs.declared.block.Kind.TheVariants.{Master, Ptr, Rel}
 use Rattle.mac_base.specs.HeadKind.{Shape, need, head_size}
-use Rattle.mac_base.specs.ZoneMap.{ZoneMap, address_behind, released}
+use Rattle.mac_base.specs.ZoneMap.{ZoneMap, address_after, released}
 use Rattle.mac_base.specs.HandleTable.{HandleTable, Live, EmptyHandle, FullHandle, Pointer, live_at, live_flags, live_full, live_pointer, is_full, is_handle, is_lent, is_locked, is_pointer, no_flags, zeros, with_live, refilled, resized, bytes_of}
 use Rattle.mac_base.specs.Gap.{Gap}
 use Rattle.mac_base.specs.declared.request.Request.{Request}
@@ -76,7 +76,7 @@ pub record PlacedThere (s : Shape) (k : ℕ) (kind : ℕ → Kind) (heap : Heap)
   pub is_base : Base s heap.table heap.table heap.map base
   pub sound : Sound s (with_map base heap)
   pub at : TakenAt s k (kind x) base new
-  pub number : x ≡ address_behind s at.before + head_size s.heads
+  pub number : x ≡ address_after s at.before + head_size s.heads
 
 -- a block that stays is placed so
 pub placed_there : (s : Shape) (k : ℕ) (kind : ℕ → Kind) (heap : Heap) (x : ℕ) (new : ZoneMap) → 0 < k → Sound s heap → placed_fixed s heap.table k kind heap.map ≡ Some (x, new) → PlacedThere s k kind heap x new
@@ -88,7 +88,7 @@ placed_there s k kind heap x new some sound h =
       base = filled g (cleared k g.blocks);
       is_base = is_base;
       sound = sound-base s heap (filled g (cleared k g.blocks)) sound is_base;
-      at = record { before = g.before; size = p.size; behind = p.back; was = p.was; is = p.is; fits = p.fits };
+      at = record { before = g.before; size = p.size; after = p.back; was = p.was; is = p.is; fits = p.fits };
       number = sym p.number;
     }
 

@@ -4,7 +4,7 @@ use Rattle.std.proofs.Common.{◌≡◌, ℕ, ◌+◌, ◌-◌, ◌≤◌, ◌�
 use Rattle.std.proofs.lemmas.List.{length-replicate}
 use Rattle.mac_base.specs.declared.block.Kind.TheVariants.{Ptr, Rel}
 use Rattle.mac_base.specs.HeadKind.{Shape, need, head_size, zone_header}
-use Rattle.mac_base.specs.ZoneMap.{ZoneMap, is_master, released, total_size, address_behind}
+use Rattle.mac_base.specs.ZoneMap.{ZoneMap, is_master, released, total_size, address_after}
 use Rattle.mac_base.specs.HandleTable.{HandleTable, EmptyHandle, FullHandle, Pointer, live_full, live_handle, live_pointer, is_handle, with_live, no_flags, zeros}
 use Rattle.mac_base.specs.Suits.{Suits, slots}
 use Rattle.mac_base.specs.Gap.{is_fixed}
@@ -55,11 +55,11 @@ sound-handle_taken s heap h hs n m sound front at =
     agree (ap live_handle has)
 
 -- a new pointer to n bytes takes a free block, and is the address of its contents
-pub sound-pointer_taken : (s : Shape) (heap : Heap) (n p : ℕ) (m : ZoneMap) → Sound s heap → (at : TakenAt s (need s.heads n) (Ptr p) heap.map m) → p ≡ address_behind s at.before + head_size s.heads → Sound s (granted (NewPointer n) p m heap)
+pub sound-pointer_taken : (s : Shape) (heap : Heap) (n p : ℕ) (m : ZoneMap) → Sound s heap → (at : TakenAt s (need s.heads n) (Ptr p) heap.map m) → p ≡ address_after s at.before + head_size s.heads → Sound s (granted (NewPointer n) p m heap)
 sound-pointer_taken s heap n p m sound at here =
     let there = subst (Suits s heap.table) at.was sound.suits in
-    let no_handle = free_contents_no_handle s heap.table at.before at.behind at.size p there here in
-    let no_pointer = free_contents_no_pointer s heap.table at.before at.behind at.size p there here in
+    let no_handle = free_contents_no_handle s heap.table at.before at.after at.size p there here in
+    let no_pointer = free_contents_no_pointer s heap.table at.before at.after at.size p there here in
     let l = Pointer (zeros n) in
     let u = with_live p l heap.table in
     let agree = with_live_agrees p l heap.table in

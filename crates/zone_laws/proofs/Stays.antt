@@ -18,7 +18,7 @@ use Rattle.mac_base.specs.Serve.{gives, placed_relocatable, renamed, resized_blo
 use Rattle.mac_base.specs.Sound.{Sound}
 use Rattle.mac_base.specs.Suits.{is_handle_block}
 use Rattle.mac_base.specs.Trial.{Preparation, prepared_by}
-use Rattle.mac_base.specs.ZoneMap.{ZoneMap, addresses, address_behind, released}
+use Rattle.mac_base.specs.ZoneMap.{ZoneMap, addresses, address_after, released}
 use Rattle.zone_laws.proofs.Fitting.{size_needed-positive}
 use Rattle.zone_laws.proofs.Owners.{other_handle}
 use Rattle.zone_laws.proofs.PlacedParts.{option_map-Some}
@@ -39,7 +39,7 @@ use Rattle.zone_laws.proofs.SoundTaken.{no_block, sound-base, Suits-no_block}
 abbrev lock_live : Option Live → Bool
 lock_live o = (live_flags o).lock
 
--- what is locked was locked, and its block stands where it stood
+-- what is locked was locked, and its block is where it was
 pub record Stay (s : Shape) (old new : Heap) : Type 0 where
   pub locked : (h : ℕ) → is_locked new.table h ≡ true → is_locked old.table h ≡ true
   pub place : (h : ℕ) → is_locked new.table h ≡ true → addresses s (is_handle_block h) new.map ≡ addresses s (is_handle_block h) old.map
@@ -155,7 +155,7 @@ module _ (s : Shape) (heap : Heap) (sound : Sound s heap) where
       by_place : (h : ℕ) → is_locked heap.table h ≡ true → ResizedFrom s heap.table heap.table (need s.heads n) y heap.map m ⊎ ResizedElsewhere s heap.table heap.table (need s.heads n) y heap.map m
           → addresses s (is_handle_block h) m ≡ addresses s (is_handle_block h) heap.map
       by_place h locked (inl from) = let b = from.is_base in let suits = b.suits in
-          addresses_from-resized s (need s.heads n) y from.base m (resized_in_place-at s (need s.heads n) y from.base m suits.apart from.resized) (address_behind s []) (is_handle_block h) refl ∙ rearranged-stays s heap.table heap.map from.base h b.rearranged locked
+          addresses_from-resized s (need s.heads n) y from.base m (resized_in_place-at s (need s.heads n) y from.base m suits.apart from.resized) (address_after s []) (is_handle_block h) refl ∙ rearranged-stays s heap.table heap.map from.base h b.rearranged locked
       by_place h locked (inr from) = let taken = from.taken in let b = taken.is_base in
           let full = moves-full heap.table y block from.moves in
           let apart = other h locked from.moves in

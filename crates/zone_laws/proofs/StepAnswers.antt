@@ -1,4 +1,4 @@
--- A call takes answers from the front of a queue: those of its asks. More answers behind them change nothing.
+-- A call takes answers from the front of a queue: those of its asks. More answers after them change nothing.
 use Rattle.std.proofs.Common.{◌≡◌, ℕ, ◌-◌, Bool, true, false, List, [], ◌++◌, length, Some, None, Option, refl, ap, sym, ◌∙◌, subst, append-nil, append_assoc}
 use Rattle.std.specs.Prelude.{◌&&◌, is_some}
 use Rattle.std.proofs.lemmas.Bool.{and_parts, true≢false}
@@ -16,7 +16,7 @@ use Rattle.mac_base.specs.Tests.{refusal, protected_by}
 use Rattle.mac_base.specs.GrowZone.{Answer, Ask, most_answers}
 use Rattle.mac_base.specs.ExactRequest.{Ending, request_run}
 use Rattle.mac_base.specs.Effect.{request_of}
-use Rattle.mac_base.specs.ExactStep.{StepEnd, request_end, behind_master, request_step, step_asking, step_unless, exact_step}
+use Rattle.mac_base.specs.ExactStep.{StepEnd, request_end, after_master, request_step, step_asking, step_unless, exact_step}
 use Rattle.zone_laws.proofs.RunAnswers.{answers_of, all_answered, with_left, run-takes, run-answered, run-unanswered, run-framed, run-alone}
 
 -- the end of a call with other answers left
@@ -68,9 +68,9 @@ module _ (s : Shape) (heap : Heap) (call : MemoryCall) (r : Request) where
         unanswered = λ lacks. left ∙ run-unanswered s (protected_by call) r most_answers answers heap (sym (ap all_answered asks) ∙ lacks);
       }
 
-  -- the request behind one for a master block, which ended so
+  -- the request after one for a master block, which ended so
   abbrev second : Ending → Option ℕ → Ending
-  second master given = behind_master s (protected_by call) r master given
+  second master given = after_master s (protected_by call) r master given
 
   second-takes : (master : Ending) (given : Option ℕ) → master.left ≡ answers_of (second master given).asks ++ (second master given).left
   second-takes master (Some x) = run-takes s (protected_by call) r (most_answers - length master.asks) master.left master.heap
@@ -84,7 +84,7 @@ module _ (s : Shape) (heap : Heap) (call : MemoryCall) (r : Request) where
   second-alone master (Some x) = run-alone s (protected_by call) r (most_answers - length master.asks) master.left master.heap
   second-alone master None = refl
 
-  -- the first request alone, with the answers of the second behind its own
+  -- the first request alone, with the answers of the second after its own
   master-alone : (answers : List Answer) (given : Option ℕ) → (let master = request_run s (protected_by call) NewMaster most_answers answers heap in master.given ≡ given
       → (let xs = answers_of (second master given).asks in request_run s (protected_by call) NewMaster most_answers (answers_of master.asks ++ xs) heap ≡ with_left xs master))
   master-alone answers (Some x) is =
@@ -157,7 +157,7 @@ step-takes s heap call None (Some r) answers is = subst (λ o. TakesAnswers (λ 
 exact-steps : (s : Shape) (answers : List Answer) (heap : Heap) (call : MemoryCall) → TakesAnswers (λ xs. exact_step s xs heap call) answers
 exact-steps s answers heap call = step-takes s heap call (refusal s heap call) (request_of heap.table call) answers refl
 
--- where each ask had an answer, more answers behind them change nothing, and are left too
+-- where each ask had an answer, more answers after them change nothing, and are left too
 pub exact-framed : (s : Shape) (answers more : List Answer) (heap : Heap) (call : MemoryCall) → (let e = exact_step s answers heap call in all_answered e.asks ≡ true → exact_step s (answers ++ more) heap call ≡ step_left (e.left ++ more) e)
 exact-framed s answers more heap call answered = let t = exact-steps s answers heap call in t.framed more answered
 

@@ -17,9 +17,9 @@ use Rattle.mac_base.specs.Tests.{refusal, protected_by}
 use Rattle.mac_base.specs.GrowZone.{Answer, Ask, most_answers}
 use Rattle.mac_base.specs.Effect.{request_of}
 use Rattle.mac_base.specs.ExactRequest.{Ending, request_run}
-use Rattle.mac_base.specs.ExactStep.{StepEnd, request_end, behind_master, request_step, step_asking, step_unless, exact_step}
+use Rattle.mac_base.specs.ExactStep.{StepEnd, request_end, after_master, request_step, step_asking, step_unless, exact_step}
 use Rattle.mac_base.specs.RequestRun.{RequestRun}
-use Rattle.mac_base.specs.MemoryStep.{MemoryStep, OwnRequest, BehindMaster, RequestStep, StepAsking, StepUnless}
+use Rattle.mac_base.specs.MemoryStep.{MemoryStep, OwnRequest, AfterMaster, RequestStep, StepAsking, StepUnless}
 use Rattle.zone_laws.proofs.SlotPlaces.{Contains-cons_cases, Contains-none, Contains-here, Contains-later}
 use Rattle.zone_laws.proofs.SoundPlaced.{front_slot-free}
 use Rattle.zone_laws.proofs.SoundServed.{MayServe}
@@ -95,16 +95,16 @@ module _ (s : Shape) (answers : List Answer) (heap : Heap) (call : MemoryCall) w
       ((Some x, e.heap, subst (λ o. RequestRun s (protected_by call) r allowed before e.asks o e.heap) is facts.permitted, (refl, refl, refl)), asks.copied x e.heap facts.sound gives)
   own-facts r allowed before first e asks facts None is = ((None, e.heap, subst (λ o. RequestRun s (protected_by call) r allowed before e.asks o e.heap) is facts.permitted, (refl, same_heap e.heap)), facts.sound)
 
-  -- a request behind one for a master block
-  behind-facts : (r : Request) (master : Ending) → AsksSoundly s heap call r → makes_handle r ≡ true → RunFacts s (protected_by call) NewMaster most_answers heap master → (given : Option ℕ) → master.given ≡ given
-      → (let e = behind_master s (protected_by call) r master given in let end = request_end call heap.table master.asks e e.given in
-      BehindMaster RequestRun s call heap.table r (most_answers - length master.asks) given master.heap e.asks end.outcome end.heap × Sound s end.heap)
-  behind-facts r master asks makes facts (Some x) is =
+  -- a request after one for a master block
+  after-facts : (r : Request) (master : Ending) → AsksSoundly s heap call r → makes_handle r ≡ true → RunFacts s (protected_by call) NewMaster most_answers heap master → (given : Option ℕ) → master.given ≡ given
+      → (let e = after_master s (protected_by call) r master given in let end = request_end call heap.table master.asks e e.given in
+      AfterMaster RequestRun s call heap.table r (most_answers - length master.asks) given master.heap e.asks end.outcome end.heap × Sound s end.heap)
+  after-facts r master asks makes facts (Some x) is =
       let slots : 0 < length master.heap.free_slots = subst (λ o. MatchOption o ⊤ (λ x. Gives NewMaster x master.heap)) is facts.gives in
       let allowed = most_answers - length master.asks in
       let e = request_run s (protected_by call) r allowed master.left master.heap in
       own-facts r allowed master.heap master.asks e asks (run-facts s (protected_by call) r allowed master.left master.heap facts.sound asks.guards (may_serve-from master.heap r (operand-handle master.heap r makes) (λ _. slots))) e.given refl
-  behind-facts r master asks makes facts None is = ((refl, refl, same_heap master.heap), facts.sound)
+  after-facts r master asks makes facts None is = ((refl, refl, same_heap master.heap), facts.sound)
 
   request-facts : (r : Request) (b : Bool) → (makes_handle r && has_none heap.free_slots) ≡ b → Sound s heap → AsksSoundly s heap call r → StepFacts s (λ e. RequestStep RequestRun b s heap call r e.asks e.outcome e.heap) (request_step s answers heap call b r)
   request-facts r false is sound asks =
@@ -120,8 +120,8 @@ module _ (s : Shape) (answers : List Answer) (heap : Heap) (call : MemoryCall) w
   request-facts r true is sound asks =
       let master = request_run s (protected_by call) NewMaster most_answers answers heap in
       let facts = run-facts s (protected_by call) NewMaster most_answers answers heap sound tt tt in
-      let e = behind_master s (protected_by call) r master master.given in
-      let both = behind-facts r master asks (makes-first (makes_handle r) (has_none heap.free_slots) is) facts master.given refl in
+      let e = after_master s (protected_by call) r master master.given in
+      let both = after-facts r master asks (makes-first (makes_handle r) (has_none heap.free_slots) is) facts master.given refl in
       record { permitted = (master.asks, e.asks, master.given, master.heap, by_given master e e.given, facts.permitted, both.0); sound = both.1 }
     where
       by_given : (master e : Ending) (given : Option ℕ) → (let end = request_end call heap.table master.asks e given in end.asks) ≡ master.asks ++ e.asks

@@ -2,7 +2,7 @@
 use Rattle.std.proofs.Common.{◌≡◌, ℕ, List, [], take, drop, Some, None, Ok, Err, refl, sym, subst}
 use Rattle.mac_base.specs.declared.error.OsErr.{OsErr}
 use Rattle.mac_base.specs.HeadKind.{Shape}
-use Rattle.mac_base.specs.ZoneMap.{address_behind}
+use Rattle.mac_base.specs.ZoneMap.{address_after}
 use Rattle.mac_base.specs.HandleTable.{bytes_of, with_bytes}
 use Rattle.mac_base.specs.Heap.{Heap, with_table}
 use Rattle.mac_base.specs.Trial.{SameHeap}

@@ -7,7 +7,7 @@ use Rattle.mac_base.specs.declared.block.Entry.{Entry}
 use Rattle.mac_base.specs.declared.block.Kind.{Kind}
 use Rattle.mac_base.specs.declared.block.Kind.TheVariants.{Free, Master, Ptr, Rel}
 use Rattle.mac_base.specs.HeadKind.{Shape}
-use Rattle.mac_base.specs.ZoneMap.{ZoneMap, block, is_named, sizes, addresses, address_behind}
+use Rattle.mac_base.specs.ZoneMap.{ZoneMap, block, is_named, sizes, addresses, address_after}
 use Rattle.mac_base.specs.HandleTable.{HandleTable, Live, EmptyHandle, FullHandle, Pointer, live_at, live_full, live_pointer, is_full, is_pointer, is_locked}
 use Rattle.mac_base.specs.Suits.{Suits, is_handle_block, is_pointer_block}
 use Rattle.mac_base.specs.Gap.{is_fixed}
@@ -29,12 +29,12 @@ length-sizes_named x (e ∷ es) = by_kind e.kind (length-sizes_named x es)
 
 -- how many blocks the handle x has
 pub length-handle_blocks : (s : Shape) (t : HandleTable) (m : ZoneMap) (x : ℕ) → Suits s t m → length (sizes (is_handle_block x) m) ≡ cond (is_full t x) 1 0
-length-handle_blocks s t m x suits = sym (length-addresses_from (address_behind s []) (is_handle_block x) m) ∙ suits.coherent.handles x
+length-handle_blocks s t m x suits = sym (length-addresses_from (address_after s []) (is_handle_block x) m) ∙ suits.coherent.handles x
 
 -- and how many the pointer x
 pub length-pointer_blocks : (s : Shape) (t : HandleTable) (m : ZoneMap) (x : ℕ) → Suits s t m → length (sizes (is_pointer_block x) m) ≡ cond (is_pointer t x) 1 0
 length-pointer_blocks s t m x suits =
-    sym (length-addresses_from (address_behind s []) (is_pointer_block x) m) ∙ sym (length-map (addresses s (is_pointer_block x) m) _) ∙ ap length (suits.coherent.pointers x)
+    sym (length-addresses_from (address_after s []) (is_pointer_block x) m) ∙ sym (length-map (addresses s (is_pointer_block x) m) _) ∙ ap length (suits.coherent.pointers x)
     ∙ elim (is_pointer t x) as (λ c. length (cond c (x ∷ []) []) ≡ cond c 1 0) [ true ↦ refl | false ↦ refl ]
 
 -- how many blocks x names

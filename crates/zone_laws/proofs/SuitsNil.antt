@@ -7,7 +7,7 @@ use Rattle.std.proofs.lemmas.List.{nil_from_length}
 use Rattle.std.proofs.lemmas.List.Folds.{list_all-append}
 use Rattle.mac_base.specs.declared.block.Kind.{Kind}
 use Rattle.mac_base.specs.HeadKind.{Shape, head_size, slot_count}
-use Rattle.mac_base.specs.ZoneMap.{ZoneMap, is_named, is_master, sizes, address_behind, addresses_from, contents_addresses}
+use Rattle.mac_base.specs.ZoneMap.{ZoneMap, is_named, is_master, sizes, address_after, addresses_from, contents_addresses}
 use Rattle.mac_base.specs.HandleTable.{HandleTable, live_at, live_full, live_pointer, is_full, is_handle, is_pointer}
 use Rattle.mac_base.specs.Suits.{Suits, slots_from, slots, is_pointer_block}
 use Rattle.zone_laws.proofs.SuitsNamed.{length-sizes_of}
@@ -32,7 +32,7 @@ positive-addresses at head test (e ∷ es) h = elim (test e.kind) as (λ c. all_
 ]
 
 positive-contents : (s : Shape) (test : Kind → Bool) (m : ZoneMap) → all_positive (contents_addresses s test m) ≡ true
-positive-contents s test m = positive-addresses (address_behind s []) (head_size s.heads) test m (omega arith)
+positive-contents s test m = positive-addresses (address_after s []) (head_size s.heads) test m (omega arith)
 
 positive-slots_from : (n at : ℕ) → 0 < at → all_positive (slots_from n at) ≡ true
 positive-slots_from zero at h = refl

@@ -8,7 +8,7 @@ use Rattle.mac_base.specs.declared.block.Entry.{Entry}
 use Rattle.mac_base.specs.declared.block.Kind.{Kind}
 use Rattle.mac_base.specs.declared.block.Kind.TheVariants.{Free, Master, Ptr, Rel}
 use Rattle.mac_base.specs.HeadKind.{Shape}
-use Rattle.mac_base.specs.ZoneMap.{ZoneMap, block, is_master, is_named, total_size, address_behind, addresses, addresses_from, contents_addresses, released}
+use Rattle.mac_base.specs.ZoneMap.{ZoneMap, block, is_master, is_named, total_size, address_after, addresses, addresses_from, contents_addresses, released}
 use Rattle.mac_base.specs.HandleTable.{HandleTable, live_full, live_handle, live_pointer, is_full, is_handle, is_pointer}
 use Rattle.mac_base.specs.Suits.{Suits, is_block_size, is_handle_block, is_pointer_block, has_owners_length, slots}
 use Rattle.zone_laws.proofs.Maps.{addresses_from-skip}
@@ -76,11 +76,11 @@ lengths-freed s x t u agree (e ∷ es) h =
 
 -- what x doesn't name keeps its address when x is released
 pub addresses-released : (s : Shape) (x : ℕ) (test : Kind → Bool) (m : ZoneMap) → test Free ≡ false → ((kind : Kind) → test kind ≡ true → is_named x kind ≡ false) → addresses s test (released x m) ≡ addresses s test m
-addresses-released s x test m free others = addresses_from-joined (address_behind s []) test (freed x m) free ∙ addresses_from-freed_others x (address_behind s []) test free others m
+addresses-released s x test m free others = addresses_from-joined (address_after s []) test (freed x m) free ∙ addresses_from-freed_others x (address_after s []) test free others m
 
 -- what x names is gone once it is released
 pub addresses-released_same : (s : Shape) (x : ℕ) (test : Kind → Bool) (m : ZoneMap) → test Free ≡ false → ((kind : Kind) → test kind ≡ true → is_named x kind ≡ true) → addresses s test (released x m) ≡ []
-addresses-released_same s x test m free named = addresses_from-joined (address_behind s []) test (freed x m) free ∙ addresses_from-freed_same x (address_behind s []) test free named m
+addresses-released_same s x test m free named = addresses_from-joined (address_after s []) test (freed x m) free ∙ addresses_from-freed_same x (address_after s []) test free named m
 
 master_unnamed : (x : ℕ) (kind : Kind) → is_master kind ≡ true → is_named x kind ≡ false
 master_unnamed x Free h = refl

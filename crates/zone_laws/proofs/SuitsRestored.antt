@@ -12,7 +12,7 @@ use Rattle.mac_base.specs.declared.block.Entry.{Entry}
 use Rattle.mac_base.specs.declared.block.Kind.{Kind}
 use Rattle.mac_base.specs.declared.block.Kind.TheVariants.{Free, Master, Ptr, Rel}
 use Rattle.mac_base.specs.HeadKind.{Shape, need, smallest_block}
-use Rattle.mac_base.specs.ZoneMap.{ZoneMap, block, is_free, is_named, is_kind, released, sizes, address_behind, addresses, contents_addresses}
+use Rattle.mac_base.specs.ZoneMap.{ZoneMap, block, is_free, is_named, is_kind, released, sizes, address_after, addresses, contents_addresses}
 use Rattle.mac_base.specs.HandleTable.{HandleTable, bytes_of, live_full, live_handle, live_pointer, is_full, is_handle, is_pointer}
 use Rattle.mac_base.specs.Suits.{Suits, free_apart, starts_free, is_block_size, is_handle_block, is_pointer_block, has_length, wanted_length, slots}
 use Rattle.mac_base.specs.Serve.{taken, renamed}
@@ -66,7 +66,7 @@ pub Suits-restored : (s : Shape) (x size : ℕ) (u v : HandleTable) (new : ZoneM
 Suits-restored s x size u v new r =
     let suits = r.suits in
     let agree = r.agree in
-    let at : ℕ = address_behind s [] in
+    let at : ℕ = address_after s [] in
     record {
       apart = r.apart;
       sizes = r.possible;

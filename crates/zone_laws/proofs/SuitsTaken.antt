@@ -9,14 +9,14 @@ use Rattle.mac_base.specs.declared.block.Flags.{Flags}
 use Rattle.mac_base.specs.declared.block.Kind.{Kind}
 use Rattle.mac_base.specs.declared.block.Kind.TheVariants.{Free, Ptr, Rel}
 use Rattle.mac_base.specs.HeadKind.{Shape, need, head_size, slot_count}
-use Rattle.mac_base.specs.ZoneMap.{ZoneMap, block, is_free, is_master, total_size, address_behind, addresses, addresses_from, contents_addresses}
+use Rattle.mac_base.specs.ZoneMap.{ZoneMap, block, is_free, is_master, total_size, address_after, addresses, addresses_from, contents_addresses}
 use Rattle.mac_base.specs.HandleTable.{HandleTable, FullHandle, Pointer, live_at, live_bytes, live_full, live_handle, live_pointer, is_full, is_handle, is_pointer}
 use Rattle.mac_base.specs.Suits.{Suits, free_apart, starts_free, is_block_size, is_handle_block, is_pointer_block, has_owners_length, slots, slots_from, wanted_length}
 use Rattle.zone_laws.proofs.Placing.{TakenAt}
 use Rattle.zone_laws.proofs.Maps.{addresses_from-exchanged, addresses_from-new, addresses_from-old, addresses_from-skip, list_all-exchanged}
 use Rattle.zone_laws.proofs.Tables.{AgreeBut, by_number, eqb_same, eqb_swap}
 use Rattle.zone_laws.proofs.Owners.{lengths-agree, no_handle_block, no_pointer_block, none_named-suits}
-use Rattle.zone_laws.proofs.Taken.{need-is_size, free_apart-behind, free_apart-replaced, free_apart-taken, taken_exchange, addresses_from-taken, sizes-taken, lengths-taken}
+use Rattle.zone_laws.proofs.Taken.{need-is_size, free_apart-after, free_apart-replaced, free_apart-taken, taken_exchange, addresses_from-taken, sizes-taken, lengths-taken}
 use Rattle.zone_laws.proofs.NamedPlace.{nil-append}
 
 -- the slots are where the master blocks are
@@ -30,26 +30,26 @@ contents-same s test old new same = ap (map (λ a. a + head_size s.heads)) same
 module _ (s : Shape) (k : ℕ) (kind : Kind) (old new : ZoneMap) (t : TakenAt s k kind old new) where
   -- what the new block doesn't pass stays
   pub addresses-untaken : (test : Kind → Bool) → test Free ≡ false → test kind ≡ false → addresses s test new ≡ addresses s test old
-  addresses-untaken test free fails = addresses_from-exchanged old new (taken_exchange s k kind old new t) (address_behind s []) test
-      (addresses_from-taken s k kind t.size _ test free ∙ ap (λ b. cond b ((address_behind s [] + total_size t.before) ∷ []) []) fails ∙ sym (addresses_from-skip _ test (block Free t.size) [] free))
+  addresses-untaken test free fails = addresses_from-exchanged old new (taken_exchange s k kind old new t) (address_after s []) test
+      (addresses_from-taken s k kind t.size _ test free ∙ ap (λ b. cond b ((address_after s [] + total_size t.before) ∷ []) []) fails ∙ sym (addresses_from-skip _ test (block Free t.size) [] free))
 
   -- where it alone passes
-  pub addresses-taken : (test : Kind → Bool) → test Free ≡ false → test kind ≡ true → addresses s test old ≡ [] → addresses s test new ≡ (address_behind s [] + total_size t.before) ∷ []
+  pub addresses-taken : (test : Kind → Bool) → test Free ≡ false → test kind ≡ true → addresses s test old ≡ [] → addresses s test new ≡ (address_after s [] + total_size t.before) ∷ []
   addresses-taken test free passes none =
       let x = taken_exchange s k kind old new t in
-      let parts = nil-append _ _ (sym (addresses_from-old old new x (address_behind s []) test) ∙ none) in
+      let parts = nil-append _ _ (sym (addresses_from-old old new x (address_after s []) test) ∙ none) in
       let rest = nil-append _ _ parts.1 in
-      addresses_from-new old new x (address_behind s []) test
-      ∙ ap (λ found. found ++ (addresses_from (address_behind s [] + total_size t.before) test x.right ++ addresses_from ((address_behind s [] + total_size t.before) + total_size x.left) test t.behind)) parts.0
-      ∙ ap (λ found. addresses_from (address_behind s [] + total_size t.before) test x.right ++ found) rest.1
-      ∙ ap (λ found. found ++ []) (addresses_from-taken s k kind t.size (address_behind s [] + total_size t.before) test free ∙ ap (λ b. cond b ((address_behind s [] + total_size t.before) ∷ []) []) passes)
+      addresses_from-new old new x (address_after s []) test
+      ∙ ap (λ found. found ++ (addresses_from (address_after s [] + total_size t.before) test x.right ++ addresses_from ((address_after s [] + total_size t.before) + total_size x.left) test t.after)) parts.0
+      ∙ ap (λ found. addresses_from (address_after s [] + total_size t.before) test x.right ++ found) rest.1
+      ∙ ap (λ found. found ++ []) (addresses_from-taken s k kind t.size (address_after s [] + total_size t.before) test free ∙ ap (λ b. cond b ((address_after s [] + total_size t.before) ∷ []) []) passes)
 
   -- no two neighbours are free
   pub free_apart-kept : is_free kind ≡ false → IsTrue (free_apart old) → IsTrue (free_apart new)
   free_apart-kept used h =
-      let apart : IsTrue (free_apart (t.before ++ (block Free t.size ∷ t.behind))) = sym (ap free_apart t.was) ∙ h in
-      let here = free_apart-behind t.before (block Free t.size ∷ t.behind) apart in
-      ap free_apart t.is ∙ free_apart-replaced t.before (block Free t.size ∷ t.behind) _ (λ _. refl) (free_apart-taken s k kind t.size t.behind used (λ _. ends t.behind here) (tail t.behind here)) apart
+      let apart : IsTrue (free_apart (t.before ++ (block Free t.size ∷ t.after))) = sym (ap free_apart t.was) ∙ h in
+      let here = free_apart-after t.before (block Free t.size ∷ t.after) apart in
+      ap free_apart t.is ∙ free_apart-replaced t.before (block Free t.size ∷ t.after) _ (λ _. refl) (free_apart-taken s k kind t.size t.after used (λ _. ends t.after here) (tail t.after here)) apart
     where
       ends : (m : ZoneMap) → IsTrue (free_apart (block Free t.size ∷ m)) → starts_free m ≡ false
       ends m h = not-true _ (and_parts (not (starts_free m)) (free_apart m) h).0
@@ -61,12 +61,12 @@ module _ (s : Shape) (k : ℕ) (kind : Kind) (old new : ZoneMap) (t : TakenAt s 
   pub sizes-kept : is_block_size s k ≡ true → IsTrue (list_all (λ (e : Entry). is_block_size s e.size) old) → IsTrue (list_all (λ (e : Entry). is_block_size s e.size) new)
   sizes-kept size h = list_all-exchanged old new (taken_exchange s k kind old new t) (λ (e : Entry). is_block_size s e.size) (sizes-taken s k kind t.size size (here old h t.was) t.fits) h
     where
-      here : (m : ZoneMap) → IsTrue (list_all (λ (e : Entry). is_block_size s e.size) m) → m ≡ t.before ++ block Free t.size ∷ t.behind → is_block_size s t.size ≡ true
-      here m h is = at_block t.before t.behind (sym (ap (list_all (λ (e : Entry). is_block_size s e.size)) is) ∙ h)
+      here : (m : ZoneMap) → IsTrue (list_all (λ (e : Entry). is_block_size s e.size) m) → m ≡ t.before ++ block Free t.size ∷ t.after → is_block_size s t.size ≡ true
+      here m h is = at_block t.before t.after (sym (ap (list_all (λ (e : Entry). is_block_size s e.size)) is) ∙ h)
         where
-          at_block : (before behind : ZoneMap) → list_all (λ (e : Entry). is_block_size s e.size) (before ++ block Free t.size ∷ behind) ≡ true → is_block_size s t.size ≡ true
-          at_block [] behind h = (and_parts (is_block_size s t.size) _ h).0
-          at_block (e ∷ es) behind h = at_block es behind (and_parts (is_block_size s e.size) _ h).1
+          at_block : (before after : ZoneMap) → list_all (λ (e : Entry). is_block_size s e.size) (before ++ block Free t.size ∷ after) ≡ true → is_block_size s t.size ≡ true
+          at_block [] after h = (and_parts (is_block_size s t.size) _ h).0
+          at_block (e ∷ es) after h = at_block es after (and_parts (is_block_size s e.size) _ h).1
 
 -- The lowest free block that n bytes need is given to x, which had none: a table that agrees with the old one but at x.
 module _ (s : Shape) (n x : ℕ) (kind : Kind) (old new : ZoneMap) (t u : HandleTable) (at : TakenAt s (need s.heads n) kind old new) (suits : Suits s t old) (agree : AgreeBut x t u)
@@ -111,7 +111,7 @@ Suits-new_handle s n h old new t u at suits agree not_full no_pointer slot flags
 -- the block is given to a new pointer, whose number is where its contents begin
 pub Suits-new_pointer : (s : Shape) (n p : ℕ) (old new : ZoneMap) (t u : HandleTable) (at : TakenAt s (need s.heads n) (Ptr p) old new) → Suits s t old → AgreeBut p t u
     → is_full t p ≡ false → is_pointer t p ≡ false → (bytes : List ℕ) → live_at u p ≡ Some (Pointer bytes) → length bytes ≡ n
-    → p ≡ address_behind s at.before + head_size s.heads → IsTrue (is_sorted nat_cmp u.live) → Suits s u new
+    → p ≡ address_after s at.before + head_size s.heads → IsTrue (is_sorted nat_cmp u.live) → Suits s u new
 Suits-new_pointer s n p old new t u at suits agree not_full no_pointer bytes has long here rise = record {
   apart = free_apart-kept s (need s.heads n) (Ptr p) old new at refl suits.apart;
   sizes = sizes-kept s (need s.heads n) (Ptr p) old new at (need-is_size s n) suits.sizes;
@@ -130,7 +130,7 @@ Suits-new_pointer s n p old new t u at suits agree not_full no_pointer bytes has
   };
 }
   where
-    there : (address_behind s [] + total_size at.before) + head_size s.heads ≡ p
+    there : (address_after s [] + total_size at.before) + head_size s.heads ≡ p
     there = omega arith
 
     contents_taken : contents_addresses s (is_pointer_block p) new ≡ p ∷ []

@@ -29,10 +29,10 @@ need-is_size s n = by_heads s.heads
     by_heads Bits24 = grind (arith, nat_tests)
     by_heads Bits32 = grind (arith, nat_tests)
 
--- a map goes on apart behind some blocks
-pub free_apart-behind : (before m : ZoneMap) → IsTrue (free_apart (before ++ m)) → IsTrue (free_apart m)
-free_apart-behind [] m h = h
-free_apart-behind (e ∷ es) m h = free_apart-behind es m (and_parts (not (is_free e.kind && starts_free (es ++ m))) (free_apart (es ++ m)) h).1
+-- a map goes on apart after some blocks
+pub free_apart-after : (before m : ZoneMap) → IsTrue (free_apart (before ++ m)) → IsTrue (free_apart m)
+free_apart-after [] m h = h
+free_apart-after (e ∷ es) m h = free_apart-after es m (and_parts (not (is_free e.kind && starts_free (es ++ m))) (free_apart (es ++ m)) h).1
 
 starts_free-replaced : (before m n : ZoneMap) → (starts_free n ≡ true → starts_free m ≡ true) → starts_free (before ++ n) ≡ true → starts_free (before ++ m) ≡ true
 starts_free-replaced [] m n h is = h is
@@ -44,7 +44,7 @@ still_apart true false true h is = h refl
 still_apart true false false h is = refl
 still_apart false b c h is = refl
 
--- what stands behind some blocks may be replaced by what is apart and starts free at most where it did
+-- what is after some blocks may be replaced by what is apart and starts free at most where it did
 pub free_apart-replaced : (before m n : ZoneMap) → (starts_free n ≡ true → starts_free m ≡ true) → IsTrue (free_apart n) → IsTrue (free_apart (before ++ m)) → IsTrue (free_apart (before ++ n))
 free_apart-replaced [] m n starts here h = here
 free_apart-replaced (e ∷ es) m n starts here h =
@@ -106,16 +106,16 @@ lengths-taken s t n kind size wants le = by_taken (λ m. IsTrue (list_all (has_o
     (λ small. and_from (is_free kind || has_length s size (wanted_length t kind)) true (or_right (is_free kind) _ (ap (has_length s size) wants ∙ has_length-whole s n size le small)) refl)
     (λ _. and_from (is_free kind || has_length s (need s.heads n) (wanted_length t kind)) true (or_right (is_free kind) _ (ap (has_length s (need s.heads n)) wants ∙ has_length-exact s n)) refl)
 
--- what is taken of a free block, with what stands behind, is apart
-pub free_apart-taken : (s : Shape) (k : ℕ) (kind : Kind) (n : ℕ) (behind : ZoneMap) → is_free kind ≡ false → (smallest_block s.heads ≤ n - k → starts_free behind ≡ false) → IsTrue (free_apart behind)
-    → IsTrue (free_apart (taken s k kind n ++ behind))
-free_apart-taken s k kind n behind used starts h = by_taken (λ m. IsTrue (free_apart (m ++ behind))) s k kind n
-    (λ _. and_from (not (is_free kind && starts_free behind)) _ (ap (λ b. not (b && starts_free behind)) used) h)
-    (λ large. and_from (not (is_free kind && true)) _ (ap (λ b. not (b && true)) used) (and_from (not (starts_free behind)) _ (not_from_false _ (starts large)) h))
+-- what is taken of a free block, with what is after, is apart
+pub free_apart-taken : (s : Shape) (k : ℕ) (kind : Kind) (n : ℕ) (after : ZoneMap) → is_free kind ≡ false → (smallest_block s.heads ≤ n - k → starts_free after ≡ false) → IsTrue (free_apart after)
+    → IsTrue (free_apart (taken s k kind n ++ after))
+free_apart-taken s k kind n after used starts h = by_taken (λ m. IsTrue (free_apart (m ++ after))) s k kind n
+    (λ _. and_from (not (is_free kind && starts_free after)) _ (ap (λ b. not (b && starts_free after)) used) h)
+    (λ large. and_from (not (is_free kind && true)) _ (ap (λ b. not (b && true)) used) (and_from (not (starts_free after)) _ (not_from_false _ (starts large)) h))
 
 -- it starts with the block
-pub starts_free-taken : (s : Shape) (k : ℕ) (kind : Kind) (n : ℕ) (behind : ZoneMap) → starts_free (taken s k kind n ++ behind) ≡ is_free kind
-starts_free-taken s k kind n behind = by_taken (λ m. starts_free (m ++ behind) ≡ is_free kind) s k kind n (λ _. refl) (λ _. refl)
+pub starts_free-taken : (s : Shape) (k : ℕ) (kind : Kind) (n : ℕ) (after : ZoneMap) → starts_free (taken s k kind n ++ after) ≡ is_free kind
+starts_free-taken s k kind n after = by_taken (λ m. starts_free (m ++ after) ≡ is_free kind) s k kind n (λ _. refl) (λ _. refl)
 
 -- the map with its lowest free block taken, as an exchange of blocks
 abbrev pub taken_exchange : (s : Shape) (k : ℕ) (kind : Kind) (old new : ZoneMap) → TakenAt s k kind old new → Exchanged old new
@@ -123,7 +123,7 @@ taken_exchange s k kind old new t = record {
   before = t.before;
   left = block Free t.size ∷ [];
   right = taken s k kind t.size;
-  behind = t.behind;
+  after = t.after;
   was = t.was;
   is = t.is;
   as_large = let all = total_size-taken s k kind t.size t.fits in omega arith;

@@ -1,4 +1,4 @@
--- A run of a request is trials that failed, with an ask behind each, and a last trial.
+-- A run of a request is trials that failed, with an ask after each, and a last trial.
 use Rattle.std.proofs.Common.{◌≡◌, ℕ, ◌-◌, ◌<◌, ◌≤◌, Bool, true, false, not, cond, length, List, [], ◌∷◌, ◌++◌, Option, Some, None, MatchOption, refl, ap, sym, subst, ◌∙◌, inl, inr, append-nil, arith}
 use Rattle.std.specs.Prelude.{◌==◌, ◌&&◌, ◌⊎◌, IsTrue, IsFalse, MatchBool}
 use Rattle.std.specs.Option.{option_map_or}
@@ -14,7 +14,7 @@ use Rattle.mac_base.specs.Trial.{Fails, Serves}
 use Rattle.mac_base.specs.declared.memory_call.MemoryCall.{MemoryCall}
 use Rattle.mac_base.specs.Effect.{request_of}
 use Rattle.mac_base.specs.GrowZone.{Answer, Ask, Carried, carried_from, carried_once, carried_out, heap_unless, memory_call, most_answers}
-use Rattle.mac_base.specs.MemoryStep.{BehindMaster, EndsRequest, RequestStep}
+use Rattle.mac_base.specs.MemoryStep.{AfterMaster, EndsRequest, RequestStep}
 use Rattle.mac_base.specs.Outcomes.{Outcome}
 use Rattle.mac_base.specs.RequestRun.{EndsUnserved, RequestRun}
 use Rattle.mac_base.specs.Tests.{protected_by, refusal}
@@ -72,7 +72,7 @@ module _ (s : Shape) (protected : List ℕ) (r : Request) where
   run-trials allowed old (ask ∷ asks) given new run =
       answered-ran allowed old run.2 ask.needed ask.answer ask.carried asks given new run.0 run.1 run.3 (λ heap. run-trials (allowed - 1) heap asks given new) run.4
 
-  -- one more trial failed behind others
+  -- one more trial failed after others
   pub tried-more : (from : Heap) (asks : List Ask) (at full : Heap) (ask : Ask) (after : Heap) → Tried s protected r from asks at → Fails s protected r at full → Asked s protected r full ask after → IsTrue (is_worth_a_trial ask.answer)
       → Tried s protected r from (asks ++ ask ∷ []) after
   tried-more from [] at full ask after tried fails asked worth = (full, after, subst (λ heap. Fails s protected r heap full) tried fails, asked, worth, refl)
@@ -96,9 +96,9 @@ pub record LastRequest (s : Shape) (old : Heap) (call : MemoryCall) (asks : List
   pub ends : EndsRequest call old.table given mid outcome new
 
 module _ (s : Shape) (old : Heap) (call : MemoryCall) (asks : List Ask) (outcome : Outcome) (new : Heap) where
-  behind-last : (r : Request) (given : Option ℕ) (first rest : List Ask) (mid : Heap) → needs_master s old call ≡ true → request_of old.table call ≡ Some r → asks ≡ first ++ rest
-      → Ran s (protected_by call) NewMaster most_answers old first given mid → BehindMaster RequestRun s call old.table r (most_answers - length first) given mid rest outcome new → LastRequest s old call asks outcome new
-  behind-last r (Some x) first rest mid needs makes parts ran own = record {
+  after-last : (r : Request) (given : Option ℕ) (first rest : List Ask) (mid : Heap) → needs_master s old call ≡ true → request_of old.table call ≡ Some r → asks ≡ first ++ rest
+      → Ran s (protected_by call) NewMaster most_answers old first given mid → AfterMaster RequestRun s call old.table r (most_answers - length first) given mid rest outcome new → LastRequest s old call asks outcome new
+  after-last r (Some x) first rest mid needs makes parts ran own = record {
     request = r;
     first = first;
     rest = rest;
@@ -112,7 +112,7 @@ module _ (s : Shape) (old : Heap) (call : MemoryCall) (asks : List Ask) (outcome
     ran = run-trials s (protected_by call) r (most_answers - length first) mid rest own.0 own.1 own.2;
     ends = own.3;
   }
-  behind-last r None first rest mid needs makes parts ran failed = record {
+  after-last r None first rest mid needs makes parts ran failed = record {
     request = NewMaster;
     first = [];
     rest = first;
@@ -142,7 +142,7 @@ module _ (s : Shape) (old : Heap) (call : MemoryCall) (asks : List Ask) (outcome
     ran = run-trials s (protected_by call) r most_answers old asks own.0 own.1 own.2;
     ends = own.3;
   }
-  request-last true r needs makes both = behind-last r both.2 both.0 both.1 both.3 needs makes both.4 (run-trials s (protected_by call) NewMaster most_answers old both.0 both.2 both.3 both.5) both.6
+  request-last true r needs makes both = after-last r both.2 both.0 both.1 both.3 needs makes both.4 (run-trials s (protected_by call) NewMaster most_answers old both.0 both.2 both.3 both.5) both.6
 
   pub step-last : (r : Request) → request_of old.table call ≡ Some r → RequestStep RequestRun (makes_handle r && every_slot_live s old) s old call r asks outcome new → LastRequest s old call asks outcome new
   step-last r makes step = request-last (makes_handle r && every_slot_live s old) r (ap (λ o. option_map_or makes_handle o false && every_slot_live s old) makes) makes step

@@ -16,7 +16,7 @@ use Rattle.mac_base.specs.Heap.{Heap}
 use Rattle.mac_base.specs.BlockReport.{reports_from, report_at, block_flags}
 use Rattle.mac_base.specs.Sound.{Sound}
 use Rattle.mac_base.specs.Suits.{is_block_size, wanted_length}
-use Rattle.mac_base.specs.ZoneMap.{ZoneMap, address_behind, total_size}
+use Rattle.mac_base.specs.ZoneMap.{ZoneMap, address_after, total_size}
 
 -- each block has at least one byte
 AllPositive : ZoneMap → Type 0
@@ -39,15 +39,15 @@ AllPositive-sizes s (e ∷ es) sized =
     let parts = and_parts (is_block_size s e.size) (list_all (λ (e : Entry). is_block_size s e.size) es) sized in
     (size-positive s.heads e.size (and_parts (e.size % 4 == 0) (nat_le (smallest_block s.heads) e.size) parts.0).1, AllPositive-sizes s es parts.1)
 
--- the block behind others is found at the address behind them
-find-behind : (t : HandleTable) (start at : ℕ) (before rest : ZoneMap) → AllPositive before → at ≡ start + total_size before
+-- the block after others is found at the address after them
+find-after : (t : HandleTable) (start at : ℕ) (before rest : ZoneMap) → AllPositive before → at ≡ start + total_size before
     → find (λ (b : Block). b.address == at) (reports_from t start (before ++ rest)) ≡ find (λ (b : Block). b.address == at) (reports_from t at rest)
 unfolding AllPositive
-find-behind t start at [] rest positive is = ap (λ n. find (λ (b : Block). b.address == at) (reports_from t n rest)) (omega arith)
-find-behind t start at (e ∷ before) rest positive is =
+find-after t start at [] rest positive is = ap (λ n. find (λ (b : Block). b.address == at) (reports_from t n rest)) (omega arith)
+find-after t start at (e ∷ before) rest positive is =
     let other : (start == at) ≡ false = ne_eqb start at (λ same. omega arith) in
     ap (λ b. cond b (Some (report t start e)) (find (λ (b : Block). b.address == at) (reports_from t (start + e.size) (before ++ rest)))) other
-    ∙ find-behind t (start + e.size) at before rest positive.1 (is ∙ sym (add_assoc start e.size (total_size before)))
+    ∙ find-after t (start + e.size) at before rest positive.1 (is ∙ sym (add_assoc start e.size (total_size before)))
 
 -- the first block is found at its address
 find-first : (t : HandleTable) (at : ℕ) (e : Entry) (es : ZoneMap) → find (λ (b : Block). b.address == at) (reports_from t at (e ∷ es)) ≡ Some (report t at e)
@@ -84,18 +84,18 @@ unfolding AllPositive
 AllPositive-front [] b positive = tt
 AllPositive-front (e ∷ es) b positive = (positive.0, AllPositive-front es b positive.1)
 
-AllPositive-behind : (a b : ZoneMap) → AllPositive (a ++ b) → AllPositive b
+AllPositive-after : (a b : ZoneMap) → AllPositive (a ++ b) → AllPositive b
 unfolding AllPositive
-AllPositive-behind [] b positive = positive
-AllPositive-behind (e ∷ es) b positive = AllPositive-behind es b positive.1
+AllPositive-after [] b positive = positive
+AllPositive-after (e ∷ es) b positive = AllPositive-after es b positive.1
 
 -- A walk has come to an address: these are the blocks before it.
 pub record HasWalked (s : Shape) (heap : Heap) (at : ℕ) (blocks : List Block) : Type 0 where
   pub before : ZoneMap
   pub rest : ZoneMap
   pub parts : heap.map ≡ before ++ rest
-  pub here : at ≡ address_behind s before
-  pub shown : blocks ≡ reports_from heap.table (address_behind s []) before
+  pub here : at ≡ address_after s before
+  pub shown : blocks ≡ reports_from heap.table (address_after s []) before
 
 sized : (s : Shape) (heap : Heap) → Sound s heap → AllPositive heap.map
 sized s heap sound = AllPositive-sizes s heap.map sound.suits.sizes
@@ -104,35 +104,35 @@ sized s heap sound = AllPositive-sizes s heap.map sound.suits.sizes
 report_at-left : (s : Shape) (heap : Heap) (at : ℕ) (blocks : List Block) (walk : HasWalked s heap at blocks) → Sound s heap → report_at s heap at ≡ find (λ (b : Block). b.address == at) (reports_from heap.table at walk.rest)
 report_at-left s heap at blocks walk sound =
     let positive : AllPositive (walk.before ++ walk.rest) = let P : ZoneMap → Type 0 = λ m. AllPositive m in subst P walk.parts (sized s heap sound) in
-    ap (λ m. find (λ (b : Block). b.address == at) (reports_from heap.table (address_behind s []) m)) walk.parts
-    ∙ find-behind heap.table (address_behind s []) at walk.before walk.rest (AllPositive-front walk.before walk.rest positive) (walk.here ∙ omega arith)
+    ap (λ m. find (λ (b : Block). b.address == at) (reports_from heap.table (address_after s []) m)) walk.parts
+    ∙ find-after heap.table (address_after s []) at walk.before walk.rest (AllPositive-front walk.before walk.rest positive) (walk.here ∙ omega arith)
 
--- where no block stands at the address, these are all blocks
-pub HasWalked-end : (s : Shape) (heap : Heap) (at : ℕ) (blocks : List Block) → HasWalked s heap at blocks → Sound s heap → report_at s heap at ≡ None → blocks ≡ reports_from heap.table (address_behind s []) heap.map
+-- where no block is at the address, these are all blocks
+pub HasWalked-end : (s : Shape) (heap : Heap) (at : ℕ) (blocks : List Block) → HasWalked s heap at blocks → Sound s heap → report_at s heap at ≡ None → blocks ≡ reports_from heap.table (address_after s []) heap.map
 HasWalked-end s heap at blocks walk sound none =
     let over : walk.rest ≡ [] = none_left heap.table at walk.rest (sym (report_at-left s heap at blocks walk sound) ∙ none) in
     let all : walk.before ≡ heap.map = sym (append-nil walk.before) ∙ ap (λ (m : ZoneMap). walk.before ++ m) (sym over) ∙ sym walk.parts in
-    walk.shown ∙ ap (λ m. reports_from heap.table (address_behind s []) m) all
+    walk.shown ∙ ap (λ m. reports_from heap.table (address_after s []) m) all
 
 -- the block at the address, if there is one
 pub found_first : (s : Shape) (heap : Heap) (at : ℕ) (blocks : List Block) (walk : HasWalked s heap at blocks) (block : Block) → Sound s heap → report_at s heap at ≡ Some block → IsFirst heap.table at walk.rest block
 found_first s heap at blocks walk block sound found = first_left heap.table at walk.rest block (sym (report_at-left s heap at blocks walk sound) ∙ found)
 
--- a block on the walk has a size, and the zone ends behind it
-pub record EndsBehind (s : Shape) (heap : Heap) (at size : ℕ) : Type 0 where
+-- a block on the walk has a size, and the zone ends after it
+pub record EndsAfter (s : Shape) (heap : Heap) (at size : ℕ) : Type 0 where
   pub positive : 0 < size
-  pub behind : at + size ≤ address_behind s heap.map
+  pub after : at + size ≤ address_after s heap.map
 
-pub block_ends : (s : Shape) (heap : Heap) (at : ℕ) (blocks : List Block) (block : Block) → HasWalked s heap at blocks → Sound s heap → report_at s heap at ≡ Some block → EndsBehind s heap at block.entry.size
+pub block_ends : (s : Shape) (heap : Heap) (at : ℕ) (blocks : List Block) (block : Block) → HasWalked s heap at blocks → Sound s heap → report_at s heap at ≡ Some block → EndsAfter s heap at block.entry.size
 unfolding AllPositive
 block_ends s heap at blocks block walk sound found =
     let first = found_first s heap at blocks walk block sound found in
     let parts : heap.map ≡ walk.before ++ (block.entry ∷ first.others) = walk.parts ∙ ap (λ (m : ZoneMap). walk.before ++ m) first.parts in
     let P : ZoneMap → Type 0 = λ m. AllPositive m in
-    let positive : AllPositive (block.entry ∷ first.others) = AllPositive-behind walk.before (block.entry ∷ first.others) (subst P parts (sized s heap sound)) in
+    let positive : AllPositive (block.entry ∷ first.others) = AllPositive-after walk.before (block.entry ∷ first.others) (subst P parts (sized s heap sound)) in
     let total : total_size heap.map ≡ total_size walk.before + (block.entry.size + total_size first.others) = ap total_size parts ∙ total_size-append walk.before (block.entry ∷ first.others) in
-    let here : at ≡ address_behind s walk.before = walk.here in
-    record { positive = positive.0; behind = omega arith }
+    let here : at ≡ address_after s walk.before = walk.here in
+    record { positive = positive.0; after = omega arith }
 
 -- a walk goes on by one block
 pub HasWalked-step : (s : Shape) (heap : Heap) (at : ℕ) (blocks : List Block) (block : Block) → HasWalked s heap at blocks → Sound s heap → report_at s heap at ≡ Some block → HasWalked s heap (at + block.entry.size) (blocks ++ block ∷ [])
@@ -140,14 +140,14 @@ HasWalked-step s heap at blocks block walk sound found =
     let first = found_first s heap at blocks walk block sound found in
     let parts : heap.map ≡ walk.before ++ (block.entry ∷ first.others) = walk.parts ∙ ap (λ (m : ZoneMap). walk.before ++ m) first.parts in
     let more : total_size (walk.before ++ block.entry ∷ []) ≡ total_size walk.before + (block.entry.size + 0) = total_size-append walk.before (block.entry ∷ []) in
-    let here : at ≡ address_behind s walk.before = walk.here in
-    let here_is : block ≡ report heap.table (address_behind s [] + total_size walk.before) block.entry = first.is ∙ ap (λ n. report heap.table n block.entry) (omega arith) in
+    let here : at ≡ address_after s walk.before = walk.here in
+    let here_is : block ≡ report heap.table (address_after s [] + total_size walk.before) block.entry = first.is ∙ ap (λ n. report heap.table n block.entry) (omega arith) in
     record {
       before = walk.before ++ block.entry ∷ [];
       rest = first.others;
       parts = parts ∙ sym (append_assoc walk.before (block.entry ∷ []) first.others);
       here = omega arith;
       shown = ap (λ (front : List Block). front ++ block ∷ []) walk.shown
-          ∙ ap (λ (b : Block). reports_from heap.table (address_behind s []) walk.before ++ b ∷ []) here_is
-          ∙ sym (reports_from-push heap.table (address_behind s []) walk.before block.entry);
+          ∙ ap (λ (b : Block). reports_from heap.table (address_after s []) walk.before ++ b ∷ []) here_is
+          ∙ sym (reports_from-push heap.table (address_after s []) walk.before block.entry);
     }

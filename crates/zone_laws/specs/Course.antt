@@ -29,7 +29,7 @@ is_worth_a_trial (Some answer) = not (answer.value == 0)
 is_worth_a_trial None = false
 
 module _ (s : Shape) (protected : List ℕ) (r : Request) where
-  -- Behind a failed trial the procedure was asked for the bytes that the request needs, and the calls of its answer
+  -- After a failed trial the procedure was asked for the bytes that the request needs, and the calls of its answer
   -- were carried out.
   abbrev pub Asked : Heap → Ask → Heap → Type 0
   Asked full ask after = let c = carried_out s protected (calls_in ask.answer) full in
@@ -42,7 +42,7 @@ module _ (s : Shape) (protected : List ℕ) (r : Request) where
   Tried old (ask ∷ asks) at = (full : Heap) × (after : Heap)
       × Fails s protected r old full × Asked full ask after × IsTrue (is_worth_a_trial ask.answer) × Tried after asks at
 
-  -- Behind the last failed trial nothing was asked, or there was a last ask, whose answer was worth no other trial.
+  -- After the last failed trial nothing was asked, or there was a last ask, whose answer was worth no other trial.
   abbrev pub GaveUp : Heap → List Ask → Heap → Type 0
   GaveUp full [] new = SameHeap new full
   GaveUp full (ask ∷ []) new = Asked full ask new × IsFalse (is_worth_a_trial ask.answer)
@@ -52,19 +52,19 @@ module _ (s : Shape) (protected : List ℕ) (r : Request) where
 abbrev pub needs_master : Shape → Heap → MemoryCall → Bool
 needs_master s old call = option_map_or makes_handle (request_of old.table call) false && every_slot_live s old
 
--- The call's request r begins at this heap, behind these asks: at the call's entry that for a master block if it needs
--- one, and else its own; or its own behind the master block that it needed and got.
+-- The call's request r begins at this heap, after these asks: at the call's entry that for a master block if it needs
+-- one, and else its own; or its own after the master block that it needed and got.
 abbrev pub Begins : Shape → Heap → MemoryCall → Request → List Ask → Heap → Type 0
 Begins s old call r asks from = (((if needs_master s old call then Some NewMaster else request_of old.table call) ≡ Some r)
     × (asks ≡ []) × (from ≡ old)) ⊎ (IsTrue (needs_master s old call) × (request_of old.table call ≡ Some r)
     × ((at : Heap) × (x : ℕ) × Tried s (protected_by call) NewMaster old asks at × Serves s (protected_by call) NewMaster x at from))
 
--- A trial of the call's request r begins at this heap, behind these asks.
+-- A trial of the call's request r begins at this heap, after these asks.
 abbrev pub TrialBegins : Shape → Heap → MemoryCall → Request → List Ask → Heap → Type 0
 TrialBegins s old call r before at = (first : List Ask) × (rest : List Ask) × (from : Heap) × (before ≡ first ++ rest)
     × Begins s old call r first from × Tried s (protected_by call) r from rest at
 
--- A trial of the request, behind a front of the call's asks, began where it didn't fit in the zone grown to its limit,
+-- A trial of the request, after a front of the call's asks, began where it didn't fit in the zone grown to its limit,
 -- and could purge x.
 abbrev pub CameShort : Shape → Heap → MemoryCall → List Ask → ℕ → Request → Type 0
 CameShort s old call asks x r = (before : List Ask) × (later : List Ask) × (at : Heap) × (asks ≡ before ++ later)

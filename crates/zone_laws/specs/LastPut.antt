@@ -1,4 +1,4 @@
--- The bytes last put behind each handle and pointer, told from the acts alone: nothing here has a place, so nothing
+-- The bytes last put after each handle and pointer, told from the acts alone: nothing here has a place, so nothing
 -- moves.
 use Rattle.std.specs.Prelude.{◌≡◌, ℕ, ◌==◌, if◌then◌else◌, List, [], ◌∷◌, ◌++◌, length, take, drop, Ok, Err, ⊤}
 use Rattle.mac_base.specs.HandleTable.{resized, zeros}
@@ -11,11 +11,11 @@ use Rattle.mac_base.specs.declared.loan_call.LoanCall.TheVariants as loan_call
 use Rattle.mac_base.specs.Outcomes.{Outcome}
 use Rattle.zone_laws.specs.Act.{Act, Calls, Done, Loads, OnLoan, Unloads}
 
--- the bytes last put behind each number
+-- the bytes last put after each number
 abbrev pub LastPut : Type 0
 LastPut = ℕ → List ℕ
 
--- the same, but that these are put behind x
+-- the same, but that these are put after x
 abbrev pub put : ℕ → List ℕ → LastPut → LastPut
 put x bytes last = λ (y : ℕ). if y == x then bytes else last y
 

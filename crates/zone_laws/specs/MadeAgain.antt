@@ -1,4 +1,4 @@
--- A guest's own grow-zone procedure runs between two calls: the first asks and gives memFullErr, and behind the
+-- A guest's own grow-zone procedure runs between two calls: the first asks and gives memFullErr, and after the
 -- procedure it is made again.
 use Rattle.std.specs.Prelude.{◌≡◌, ◌⊎◌, ◌<◌, ◌≤◌, ◌==◌, ℕ, Bool, true, false, not, ◌&&◌, if◌then◌else◌, IsTrue, IsFalse, List, [], ◌∷◌, length, map, Some, None, Err, ⊤}
 use Rattle.std.specs.List.{list_all}
@@ -45,26 +45,26 @@ abbrev pub full_end : Heap → List Answer → StepEnd
 full_end heap left = record { outcome = Err MemFullErr; heap = heap; asks = []; left = left }
 
 -- the end with one more ask before its asks, which had this answer
-abbrev pub behind_ask : ℕ → Answer → Carried → StepEnd → StepEnd
-behind_ask needed a c e =
+abbrev pub past_ask : ℕ → Answer → Carried → StepEnd → StepEnd
+past_ask needed a c e =
     record e { asks = record { needed = needed; answer = Some a; carried = c.calls } ∷ e.asks }
 
 -- the two end alike and leave the same heap
 abbrev pub EndsAs : StepEnd → StepEnd → Type 0
 EndsAs one other = (one.outcome ≡ other.outcome) × (one.heap ≡ other.heap)
 
--- A call asked for so many bytes, and an answer's calls left c.heap behind it. What it does if it gets this answer and
+-- A call asked for so many bytes, and an answer's calls left c.heap after it. What it does if it gets this answer and
 -- later ones:
 pub record AnsweredBetween (s : Shape) (old : Heap) (call : MemoryCall) (needed : ℕ) (full : Heap) (a : Answer) (later : List Answer)
     (c : Carried) : Type 0 where
   -- If the answer's value is 0, that is all.
-  pub last : IsTrue (a.value == 0) → exact_step s (a ∷ later) old call ≡ behind_ask needed a c (full_end c.heap later)
+  pub last : IsTrue (a.value == 0) → exact_step s (a ∷ later) old call ≡ past_ask needed a c (full_end c.heap later)
   -- Else it ends as the call made again does, for at most 16 answers in all,
   pub again : IsFalse (a.value == 0) → FreesNoSlot call full c.heap → length (a ∷ later) ≤ most_answers
       → EndsAs (exact_step s (a ∷ later) old call) (exact_step s later c.heap call)
-  -- and for fewer it asks what that asks, behind its first ask.
+  -- and for fewer it asks what that asks, after its first ask.
   pub asks : IsFalse (a.value == 0) → FreesNoSlot call full c.heap → length (a ∷ later) < most_answers
-      → exact_step s (a ∷ later) old call ≡ behind_ask needed a c (exact_step s later c.heap call)
+      → exact_step s (a ∷ later) old call ≡ past_ask needed a c (exact_step s later c.heap call)
 
 -- An answer between two calls does what an answer within the call does.
 abbrev pub AnswersBetween : Type 0
@@ -88,7 +88,7 @@ abbrev pub AnswersAreCalls : Type 0
 AnswersAreCalls = (s : Shape) (a : Answer) (heap : Heap) (call : MemoryCall) → IsTrue (spares_operands call a)
     → heap_between s a heap ≡ (carried_between s call a heap).heap
 
--- The call made, and made again behind each of these answers until it asks nothing or an answer's value is 0: its end,
+-- The call made, and made again after each of these answers until it asks nothing or an answer's value is 0: its end,
 -- and the heap.
 abbrev pub made_again : Shape → List Answer → Heap → MemoryCall → Outcome × Heap
 made_again s [] heap call = let e = exact_step s [] heap call in (e.outcome, e.heap)

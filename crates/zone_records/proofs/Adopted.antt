@@ -18,7 +18,7 @@ use Rattle.std.specs.Prelude.{◌==◌, ◌^◌, nat_lt}
 use Rattle.mac_base.specs.declared.block.Flags.{Flags}
 use Rattle.std.proofs.lemmas.Bool.Decides.{nat_tests}
 use Rattle.block_bytes.specs.Finding.{SplitAt}
-use Rattle.block_bytes.specs.Layout.{RawBlock, Layout, BlockAt, UnlentAt, NothingLent, lent_count, size_of, total_of, is_possible, address_behind}
+use Rattle.block_bytes.specs.Layout.{RawBlock, Layout, BlockAt, UnlentAt, NothingLent, lent_count, size_of, total_of, is_possible, address_after}
 use Rattle.zone_records.specs.Adopting.{IsUsed}
 use Rattle.zone_records.specs.Masters.{slot_of, word_at}
 use Rattle.zone_records.specs.Reading.{AreSound, HasWords, has_use, is_sound}
@@ -26,7 +26,7 @@ use Rattle.zone_records.specs.Word.{slot_word, slots_in, words_of}
 use Rattle.zone_records.proofs.Comparing.{AreBytes, bytes-drop, four-bytes}
 use Rattle.zone_records.proofs.Looking.{sound-parts}
 use Rattle.zone_records.proofs.MasterBlocks.{image-long}
-use Rattle.zone_records.proofs.SaidSlots.{slot_of-behind}
+use Rattle.zone_records.proofs.SaidSlots.{slot_of-after}
 
 -- where each word is that of its slot, bytes are the words of their slots
 words_all : (heads : HeadKind) (n : ℕ) (xs : List ℕ) → AreBytes xs → 4 * n ≤ length xs → ((k : ℕ) → k < n → slot_word heads (slot_of heads xs k) ≡ word_at xs (4 * k)) → take (4 * n) xs ≡ words_of heads (slots_in heads n xs)
@@ -37,11 +37,11 @@ words_all heads (suc n) xs bytes long right =
     let cut = length-drop 4 xs in
     let first : take 4 xs ≡ big_bytes 4 (slot_word heads (slot_of heads xs 0)) = four-bytes xs 0 bytes (omega arith) ∙ ap (big_bytes 4) (sym (right 0 (omega arith))) in
     let more = words_all heads n (drop 4 xs) (bytes-drop 4 xs bytes) (omega arith)
-    (λ k few. ap (slot_word heads) (slot_of-behind heads xs k) ∙ right (suc k) (omega arith) ∙ sym (word-behind k)) in
+    (λ k few. ap (slot_word heads) (slot_of-after heads xs k) ∙ right (suc k) (omega arith) ∙ sym (word-after k)) in
     ap (λ k. take k xs) four ∙ part-add xs 0 4 (4 * n) ∙ (λ i. first i ++ more i)
   where
-    word-behind : (k : ℕ) → word_at (drop 4 xs) (4 * k) ≡ word_at xs (4 * suc k)
-    word-behind k = ap (λ ys. big_number 4 (take 4 ys)) (drop-drop (4 * k) 4 xs ∙ ap (λ n. drop n xs) (let e : 4 + 4 * k ≡ 4 * suc k = omega arith in e))
+    word-after : (k : ℕ) → word_at (drop 4 xs) (4 * k) ≡ word_at xs (4 * suc k)
+    word-after k = ap (λ ys. big_number 4 (take 4 ys)) (drop-drop (4 * k) 4 xs ∙ ap (λ n. drop n xs) (let e : 4 + 4 * k ≡ 4 * suc k = omega arith in e))
 
 pub words-from : (heads : HeadKind) (n : ℕ) (xs : List ℕ) → AreBytes xs → length xs ≡ 4 * n → ((k : ℕ) → k < n → slot_word heads (slot_of heads xs k) ≡ word_at xs (4 * k)) → xs ≡ words_of heads (slots_in heads n xs)
 words-from heads n xs bytes long right = sym (ap (λ k. take k xs) (sym long) ∙ take-length xs) ∙ words_all heads n xs bytes (omega arith) right
@@ -80,50 +80,50 @@ module _ (l : Layout) where
     pub split : SplitAt l at
     pub used : All Used split.before
 
-  pub used-none : (at : ℕ) → at ≡ address_behind l [] → UsedUpTo at
-  used-none at there = record { split = record { before = []; behind = l.blocks; blocks = refl; place = there }; used = All-nil Used }
+  pub used-none : (at : ℕ) → at ≡ address_after l [] → UsedUpTo at
+  used-none at there = record { split = record { before = []; after = l.blocks; blocks = refl; place = there }; used = All-nil Used }
 
   -- the block that is next
   pub record NextHere (at : ℕ) (s : SplitAt l at) : Type 0 where
     pub here : RawBlock
-    pub behind : List RawBlock
-    pub blocks : l.blocks ≡ s.before ++ here ∷ behind
-    pub within : at + size_of l.heads here ≤ address_behind l l.blocks
+    pub after : List RawBlock
+    pub blocks : l.blocks ≡ s.before ++ here ∷ after
+    pub within : at + size_of l.heads here ≤ address_after l l.blocks
 
-  pub next-here : (at : ℕ) (s : SplitAt l at) → at < address_behind l l.blocks → NextHere at s
-  next-here at s below = from s.behind s.blocks
+  pub next-here : (at : ℕ) (s : SplitAt l at) → at < address_after l l.blocks → NextHere at s
+  next-here at s below = from s.after s.blocks
     where
-      from : (behind : List RawBlock) → l.blocks ≡ s.before ++ behind → NextHere at s
+      from : (after : List RawBlock) → l.blocks ≡ s.before ++ after → NextHere at s
       from [] is = let sum = ap (total_of l.heads) is in let more = total_of-append l.heads s.before [] in let place = s.place in absurd (omega arith)
       from (b ∷ bs) is = let sum = ap (total_of l.heads) is in let more = total_of-append l.heads s.before (b ∷ bs) in let place = s.place in
-          record { here = b; behind = bs; blocks = is; within = omega arith }
+          record { here = b; after = bs; blocks = is; within = omega arith }
 
   module _ (at : ℕ) (s : SplitAt l at) (n : NextHere at s) where
     abbrev pub block-here : BlockAt l at
-    block-here = record { before = s.before; here = n.here; behind = n.behind; blocks = n.blocks; place = s.place }
+    block-here = record { before = s.before; here = n.here; after = n.after; blocks = n.blocks; place = s.place }
 
     pub unlent-here : NothingLent l → UnlentAt l at
-    unlent-here none = record { block = block-here; unlent = one-unlent s.before n.here n.behind (ap lent_count (sym n.blocks) ∙ none) }
+    unlent-here none = record { block = block-here; unlent = one-unlent s.before n.here n.after (ap lent_count (sym n.blocks) ∙ none) }
 
     -- it has what it is for too
     pub used-more : All Used s.before → Used n.here → (next : ℕ) → next ≡ at + size_of l.heads n.here → UsedUpTo next
     used-more all used next there = let sum = total_of-append l.heads s.before (n.here ∷ []) in let place = s.place in record {
-      split = record { before = s.before ++ n.here ∷ []; behind = n.behind; blocks = n.blocks ∙ sym (append_assoc s.before (n.here ∷ []) n.behind); place = omega arith };
+      split = record { before = s.before ++ n.here ∷ []; after = n.after; blocks = n.blocks ∙ sym (append_assoc s.before (n.here ∷ []) n.after); place = omega arith };
       used = All-append Used s.before (n.here ∷ []) all (All-cons Used n.here [] used (All-nil Used));
     }
 
     pub one-used : All Used l.blocks → Used n.here
-    one-used all = All-head Used n.here n.behind (rest s.before (All-same Used (s.before ++ n.here ∷ n.behind) l.blocks (sym n.blocks) all))
+    one-used all = All-head Used n.here n.after (rest s.before (All-same Used (s.before ++ n.here ∷ n.after) l.blocks (sym n.blocks) all))
       where
-        rest : (xs : List RawBlock) → All Used (xs ++ n.here ∷ n.behind) → All Used (n.here ∷ n.behind)
+        rest : (xs : List RawBlock) → All Used (xs ++ n.here ∷ n.after) → All Used (n.here ∷ n.after)
         rest [] all = all
-        rest (x ∷ xs) all = rest xs (All-tail Used x (xs ++ n.here ∷ n.behind) all)
+        rest (x ∷ xs) all = rest xs (All-tail Used x (xs ++ n.here ∷ n.after) all)
 
   -- all have, where the blocks end
-  pub used-all : (at : ℕ) → UsedUpTo at → address_behind l l.blocks ≤ at → All Used l.blocks
-  used-all at u ends = from u.split.behind u.split.blocks
+  pub used-all : (at : ℕ) → UsedUpTo at → address_after l l.blocks ≤ at → All Used l.blocks
+  used-all at u ends = from u.split.after u.split.blocks
     where
-      from : (behind : List RawBlock) → l.blocks ≡ u.split.before ++ behind → All Used l.blocks
+      from : (after : List RawBlock) → l.blocks ≡ u.split.before ++ after → All Used l.blocks
       from [] is = All-same Used l.blocks u.split.before (is ∙ append-nil u.split.before) u.used
       from (b ∷ bs) is = let sum = ap (total_of l.heads) is in let more = total_of-append l.heads u.split.before (b ∷ bs) in let some = size_of-pos l.heads b in let place = u.split.place in absurd (omega arith)
 

@@ -20,7 +20,7 @@ pub total-append : (heads : HeadKind) (xs ys : List RawBlock) → raw.total_of h
 total-append heads [] ys = omega arith
 total-append heads (b ∷ xs) ys = let rest = total-append heads xs ys in omega arith
 
--- one list behind the other
+-- one list after the other
 pub read-append : (heads : HeadKind) (base : ℕ) (xs ys : List RawBlock) → read heads base (xs ++ ys) ≡ read heads base xs ++ read heads base ys
 read-append heads base [] ys = refl
 read-append heads base (b ∷ xs) ys = ap (λ (rs : List BlockRecord). record_in heads base b ∷ rs) (read-append heads base xs ys)
@@ -41,36 +41,36 @@ in-two heads base (b ∷ bs) (r ∷ low) high is =
     let both = in-two heads base bs low high (cc is) in
     record { first = b ∷ both.first; rest = both.rest; blocks = ap (λ (xs : List RawBlock). b ∷ xs) both.blocks; lower = λ i. here i ∷ both.lower i; upper = both.upper }
 
--- the first of some blocks, and those behind it
-pub record FirstOf (heads : HeadKind) (base : ℕ) (all : List RawBlock) (here : BlockRecord) (behind : List BlockRecord) : Type 0 where
+-- the first of some blocks, and those after it
+pub record FirstOf (heads : HeadKind) (base : ℕ) (all : List RawBlock) (here : BlockRecord) (after : List BlockRecord) : Type 0 where
   pub block : RawBlock
   pub rest : List RawBlock
   pub blocks : all ≡ block ∷ rest
   pub same : record_in heads base block ≡ here
-  pub upper : read heads base rest ≡ behind
+  pub upper : read heads base rest ≡ after
 
-pub first-of : (heads : HeadKind) (base : ℕ) (all : List RawBlock) (here : BlockRecord) (behind : List BlockRecord) → read heads base all ≡ here ∷ behind → FirstOf heads base all here behind
-first-of heads base [] here behind is = absurd (cc is)
-first-of heads base (b ∷ bs) here behind is = record { block = b; rest = bs; blocks = refl; same = cc is; upper = cc is }
+pub first-of : (heads : HeadKind) (base : ℕ) (all : List RawBlock) (here : BlockRecord) (after : List BlockRecord) → read heads base all ≡ here ∷ after → FirstOf heads base all here after
+first-of heads base [] here after is = absurd (cc is)
+first-of heads base (b ∷ bs) here after is = record { block = b; rest = bs; blocks = refl; same = cc is; upper = cc is }
 
--- one block and those before and behind it
-pub record One (l : Layout) (before : List BlockRecord) (here : BlockRecord) (behind : List BlockRecord) : Type 0 where
+-- one block and those before and after it
+pub record One (l : Layout) (before : List BlockRecord) (here : BlockRecord) (after : List BlockRecord) : Type 0 where
   pub first : List RawBlock
   pub block : RawBlock
   pub rest : List RawBlock
   pub blocks : l.blocks ≡ first ++ block ∷ rest
   pub lower : read l.heads l.base first ≡ before
   pub same : record_in l.heads l.base block ≡ here
-  pub upper : read l.heads l.base rest ≡ behind
+  pub upper : read l.heads l.base rest ≡ after
 
-pub one-of : (l : Layout) (before : List BlockRecord) (here : BlockRecord) (behind : List BlockRecord) → read l.heads l.base l.blocks ≡ before ++ here ∷ behind → One l before here behind
-one-of l before here behind is =
-    let a = in-two l.heads l.base l.blocks before (here ∷ behind) is in
-    let b = first-of l.heads l.base a.rest here behind a.upper in
+pub one-of : (l : Layout) (before : List BlockRecord) (here : BlockRecord) (after : List BlockRecord) → read l.heads l.base l.blocks ≡ before ++ here ∷ after → One l before here after
+one-of l before here after is =
+    let a = in-two l.heads l.base l.blocks before (here ∷ after) is in
+    let b = first-of l.heads l.base a.rest here after a.upper in
     record { first = a.first; block = b.block; rest = b.rest; blocks = a.blocks ∙ ap (λ (xs : List RawBlock). a.first ++ xs) b.blocks; lower = a.lower; same = b.same; upper = b.upper }
 
--- two neighbours and those before and behind them
-pub record Two (l : Layout) (before : List BlockRecord) (here next : BlockRecord) (behind : List BlockRecord) : Type 0 where
+-- two neighbours and those before and after them
+pub record Two (l : Layout) (before : List BlockRecord) (here next : BlockRecord) (after : List BlockRecord) : Type 0 where
   pub first : List RawBlock
   pub block : RawBlock
   pub other : RawBlock
@@ -79,10 +79,10 @@ pub record Two (l : Layout) (before : List BlockRecord) (here next : BlockRecord
   pub lower : read l.heads l.base first ≡ before
   pub same : record_in l.heads l.base block ≡ here
   pub same_other : record_in l.heads l.base other ≡ next
-  pub upper : read l.heads l.base rest ≡ behind
+  pub upper : read l.heads l.base rest ≡ after
 
-pub two-of : (l : Layout) (before : List BlockRecord) (here next : BlockRecord) (behind : List BlockRecord) → read l.heads l.base l.blocks ≡ before ++ here ∷ next ∷ behind → Two l before here next behind
-two-of l before here next behind is =
-    let a = one-of l before here (next ∷ behind) is in
-    let b = first-of l.heads l.base a.rest next behind a.upper in
+pub two-of : (l : Layout) (before : List BlockRecord) (here next : BlockRecord) (after : List BlockRecord) → read l.heads l.base l.blocks ≡ before ++ here ∷ next ∷ after → Two l before here next after
+two-of l before here next after is =
+    let a = one-of l before here (next ∷ after) is in
+    let b = first-of l.heads l.base a.rest next after a.upper in
     record { first = a.first; block = a.block; other = b.block; rest = b.rest; blocks = a.blocks ∙ ap (λ (xs : List RawBlock). a.first ++ a.block ∷ xs) b.blocks; lower = a.lower; same = a.same; same_other = b.same; upper = b.upper }

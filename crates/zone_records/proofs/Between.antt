@@ -41,8 +41,8 @@ module _ (l : Layout) (bytes : List ℕ) where
     upto = next.passed ++ next.here ∷ []
 
     pub tells-more : (a b : Agreement) (start end : ℕ) → start ≡ offset + total_of l.heads next.passed + head_size l.heads → end ≡ offset + total_of l.heads next.passed + size_of l.heads next.here
-        → Means a (SlotsAgree l.heads bytes slot_count start next.here.contents) (SlotsSame l.heads bytes slot_count start next.here.contents) → Tells b end next.behind → Tells (worse a b) offset bs
-    tells-more a b start end there behind first second =
+        → Means a (SlotsAgree l.heads bytes slot_count start next.here.contents) (SlotsSame l.heads bytes slot_count start next.here.contents) → Tells b end next.after → Tells (worse a b) offset bs
+    tells-more a b start end there following first second =
         let here = next.here in
         let last : (P : ℕ → List ℕ → Type 0) → P start here.contents → EachMaster P l.heads offset upto =
         (λ P h. each-join P l.heads offset next.passed (here ∷ []) (each-none P l.heads offset next.passed next.others) (λ _. subst (λ n. P n here.contents) there h, tt)) in
@@ -50,51 +50,51 @@ module _ (l : Layout) (bytes : List ℕ) where
         (λ P h. subst (λ n. P n here.contents) (sym there) (each-one P l.heads offset next.passed here [] h next.master)) in
         let total = total-append l.heads next.passed (here ∷ []) in
         let ends : end ≡ offset + total_of l.heads upto = omega arith in
-        let all : bs ≡ upto ++ next.behind = next.blocks ∙ sym (append_assoc next.passed (here ∷ []) next.behind) in
-        let rest : Tells b (offset + total_of l.heads upto) next.behind = subst (λ n. Tells b n next.behind) ends second in
+        let all : bs ≡ upto ++ next.after = next.blocks ∙ sym (append_assoc next.passed (here ∷ []) next.after) in
+        let rest : Tells b (offset + total_of l.heads upto) next.after = subst (λ n. Tells b n next.after) ends second in
         subst (Tells (worse a b) offset) (sym all)
         (means-same _ _ _ _ (worse a b)
-        (λ h. record { headers = headers-append l bytes offset upto next.behind next.agree h.1.headers; masters = each-join agree l.heads offset upto next.behind (last agree h.0) h.1.masters })
+        (λ h. record { headers = headers-append l bytes offset upto next.after next.agree h.1.headers; masters = each-join agree l.heads offset upto next.after (last agree h.0) h.1.masters })
         (λ h. (
-          own agree (each-first agree l.heads offset upto next.behind h.masters),
-          record { headers = headers-rest l bytes offset upto next.behind h.headers; masters = each-rest agree l.heads offset upto next.behind h.masters },
+          own agree (each-first agree l.heads offset upto next.after h.masters),
+          record { headers = headers-rest l bytes offset upto next.after h.headers; masters = each-rest agree l.heads offset upto next.after h.masters },
         ))
-        (λ _ h. each-join same l.heads offset upto next.behind (last same h.0) h.1)
-        (λ _ h. (own same (each-first same l.heads offset upto next.behind h), each-rest same l.heads offset upto next.behind h))
+        (λ _ h. each-join same l.heads offset upto next.after (last same h.0) h.1)
+        (λ _ h. (own same (each-first same l.heads offset upto next.after h), each-rest same l.heads offset upto next.after h))
         (means-both _ _ _ _ a b first rest))
 
   module _ (from end : ℕ) where
     -- with what an agreement tells of the blocks from an address on, this is one for all
     pub record Compared (at : ℕ) (a : Agreement) : Type 0 where
       pub split : SplitAt l at
-      pub told : (s : SplitAt l from) (r : Agreement) → Tells r (at - l.base) (begun_before l.heads at end split.behind) → Tells (worse a r) (from - l.base) (begun_before l.heads from end s.behind)
+      pub told : (s : SplitAt l from) (r : Agreement) → Tells r (at - l.base) (begun_before l.heads at end split.after) → Tells (worse a r) (from - l.base) (begun_before l.heads from end s.after)
 
     -- so far none is compared
     pub compared-none : SplitAt l from → Compared from Same
     compared-none split = record {
       split = split;
-      told = λ s r h. subst (λ bs. Tells r (from - l.base) (begun_before l.heads from end bs)) (let place = split.place in let there = s.place in same_rest l.heads split.before split.behind s.before s.behind (sym split.blocks ∙ s.blocks) (omega arith)) h;
+      told = λ s r h. subst (λ bs. Tells r (from - l.base) (begun_before l.heads from end bs)) (let place = split.place in let there = s.place in same_rest l.heads split.before split.after s.before s.after (sym split.blocks ∙ s.blocks) (omega arith)) h;
     }
 
     module _ (at : ℕ) (a : Agreement) (so_far : Compared at a) where
       abbrev bs : List RawBlock
-      bs = begun_before l.heads at end so_far.split.behind
+      bs = begun_before l.heads at end so_far.split.after
 
       -- one differs
-      pub compared-differ : (HasHeaders l bytes (at - l.base) (up_to_master bs) → ⊥) → (s : SplitAt l from) → Tells Damaged (from - l.base) (begun_before l.heads from end s.behind)
-      compared-differ differ s = subst (λ r. Tells r (from - l.base) (begun_before l.heads from end s.behind)) (worse-damaged a) (so_far.told s Damaged (tells-damaged (at - l.base) bs differ))
+      pub compared-differ : (HasHeaders l bytes (at - l.base) (up_to_master bs) → ⊥) → (s : SplitAt l from) → Tells Damaged (from - l.base) (begun_before l.heads from end s.after)
+      compared-differ differ s = subst (λ r. Tells r (from - l.base) (begun_before l.heads from end s.after)) (worse-damaged a) (so_far.told s Damaged (tells-damaged (at - l.base) bs differ))
 
       -- no master block is left
-      pub compared-all : none_master bs ≡ true → HasHeaders l bytes (at - l.base) bs → (s : SplitAt l from) → Tells a (from - l.base) (begun_before l.heads from end s.behind)
-      compared-all none headers s = subst (λ r. Tells r (from - l.base) (begun_before l.heads from end s.behind)) (worse-same a) (so_far.told s Same (tells-same (at - l.base) bs none headers))
+      pub compared-all : none_master bs ≡ true → HasHeaders l bytes (at - l.base) bs → (s : SplitAt l from) → Tells a (from - l.base) (begun_before l.heads from end s.after)
+      compared-all none headers s = subst (λ r. Tells r (from - l.base) (begun_before l.heads from end s.after)) (worse-same a) (so_far.told s Same (tells-same (at - l.base) bs none headers))
 
       module _ (master : ℕ) (next : AgreeUpTo l bytes (at - l.base) bs master) where
-        abbrev one : OneBegun l.heads end at so_far.split.behind next.passed next.here next.behind
-        one = one-begun l.heads end at so_far.split.behind next.passed next.here next.behind next.blocks
+        abbrev one : OneBegun l.heads end at so_far.split.after next.passed next.here next.after
+        one = one-begun l.heads end at so_far.split.after next.passed next.here next.after next.blocks
 
         -- the next master block is the next of all blocks from there on
-        abbrev pub next-of-all : AgreeUpTo l bytes (at - l.base) so_far.split.behind master
-        next-of-all = record { passed = next.passed; here = next.here; behind = one.rest; blocks = one.blocks; others = next.others; master = next.master; agree = next.agree; place = next.place }
+        abbrev pub next-of-all : AgreeUpTo l bytes (at - l.base) so_far.split.after master
+        next-of-all = record { passed = next.passed; here = next.here; after = one.rest; blocks = one.blocks; others = next.others; master = next.master; agree = next.agree; place = next.place }
 
         -- once it is compared too
         pub compared-more : (b : Agreement) (after start : ℕ) → after ≡ master + size_of l.heads next.here → start ≡ master - l.base + head_size l.heads
@@ -106,7 +106,7 @@ module _ (l : Layout) (bytes : List ℕ) where
             let later : after ≡ at + total_of l.heads next.passed + size_of l.heads next.here = omega arith in
             record {
               split = next_split l bytes at split master next-of-all after is;
-              told = λ s r h. subst (λ c. Tells c (from - l.base) (begun_before l.heads from end s.behind)) (worse-worse a b r)
+              told = λ s r h. subst (λ c. Tells c (from - l.base) (begun_before l.heads from end s.after)) (worse-worse a b r)
                   (so_far.told s (worse b r)
                   (tells-more master (at - l.base) bs next b r start (after - l.base) (omega arith) (omega arith) told
                   (subst (Tells r (after - l.base)) (sym (one.more ∙ ap (λ n. begun_before l.heads n end one.rest) (sym later))) h)));

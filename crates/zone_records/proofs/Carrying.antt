@@ -1,4 +1,4 @@
--- A block that is carried past those behind it, or sunk below those before it.
+-- A block that is carried past those after it, or sunk below those before it.
 use Rattle.std.proofs.Common.{◌≡◌, ◌+◌, ℕ, Bool, not, ◌&&◌, List, [], ◌∷◌, ◌++◌, refl, ap, sym, ◌∙◌, subst, append_assoc}
 use Rattle.mac_base.specs.declared.block.HeadKind.{HeadKind}
 use Rattle.block_bytes.specs.Layout as raw
@@ -17,12 +17,12 @@ lent-read heads base [] = refl
 lent-read heads base (b ∷ bs) = ap (λ (t : Bool). not b.lent && t) (lent-read heads base bs)
 
 module _ (l : Layout) (z : ZoneRecords) (held : Held l z) (at end : ℕ) (parcel : ParcelAt z at end) where
-  -- the block among the blocks of bytes, and the others behind it
-  abbrev pub first_one : One l parcel.before parcel.here (parcel.others ++ parcel.behind)
-  first_one = one l z held parcel.before parcel.here (parcel.others ++ parcel.behind) parcel.blocks
+  -- the block among the blocks of bytes, and the others after it
+  abbrev pub first_one : One l parcel.before parcel.here (parcel.others ++ parcel.after)
+  first_one = one l z held parcel.before parcel.here (parcel.others ++ parcel.after) parcel.blocks
 
-  abbrev pub others_two : InTwo l.heads l.base first_one.rest parcel.others parcel.behind
-  others_two = in-two l.heads l.base first_one.rest parcel.others parcel.behind first_one.upper
+  abbrev pub others_two : InTwo l.heads l.base first_one.rest parcel.others parcel.after
+  others_two = in-two l.heads l.base first_one.rest parcel.others parcel.after first_one.upper
 
   pub run_blocks : l.blocks ≡ first_one.first ++ (first_one.block ∷ others_two.first ++ others_two.rest)
   run_blocks = first_one.blocks ∙ ap (λ (bs : List RawBlock). first_one.first ++ first_one.block ∷ bs) others_two.blocks
@@ -37,7 +37,7 @@ module _ (l : Layout) (z : ZoneRecords) (held : Held l z) (at end : ℕ) (parcel
     before = first_one.first;
     here = first_one.block;
     others = others_two.first;
-    behind = others_two.rest;
+    after = others_two.rest;
     blocks = run_blocks;
     place = parcel.place ∙ address-is l z held first_one.first parcel.before first_one.lower;
     long = parcel.long ∙ ap (λ n. at + n) (sym (ap records.total_of run_read) ∙ total-read l.heads l.base (first_one.block ∷ others_two.first));
@@ -48,13 +48,13 @@ module _ (l : Layout) (z : ZoneRecords) (held : Held l z) (at end : ℕ) (parcel
   carry-ends m ends =
       let o = first_one in let t = others_two in
       subst (λ m. Held m (carried z parcel)) (sym ends.blocks)
-      (turned l z held o.first (o.block ∷ []) t.first (ends.moved ∷ []) t.first t.rest parcel.before (parcel.here ∷ []) parcel.others parcel.behind run_blocks o.lower
+      (turned l z held o.first (o.block ∷ []) t.first (ends.moved ∷ []) t.first t.rest parcel.before (parcel.here ∷ []) parcel.others parcel.after run_blocks o.lower
       (ap (λ r. r ∷ []) o.same) t.lower t.upper (kept-moved l.heads l.base o.block ends.moved ends.same) (kept-same l.heads l.base t.first))
 
 module _ (l : Layout) (z : ZoneRecords) (held : Held l z) (start at : ℕ) (parcel : ParcelUpTo z start at) where
   -- the block among the blocks of bytes, and the others before it
-  abbrev pub last_one : One l (parcel.before ++ parcel.others) parcel.here parcel.behind
-  last_one = one l z held (parcel.before ++ parcel.others) parcel.here parcel.behind (parcel.blocks ∙ sym (append_assoc parcel.before parcel.others (parcel.here ∷ parcel.behind)))
+  abbrev pub last_one : One l (parcel.before ++ parcel.others) parcel.here parcel.after
+  last_one = one l z held (parcel.before ++ parcel.others) parcel.here parcel.after (parcel.blocks ∙ sym (append_assoc parcel.before parcel.others (parcel.here ∷ parcel.after)))
 
   abbrev pub before_two : InTwo l.heads l.base last_one.first parcel.before parcel.others
   before_two = in-two l.heads l.base last_one.first parcel.before parcel.others last_one.lower
@@ -72,7 +72,7 @@ module _ (l : Layout) (z : ZoneRecords) (held : Held l z) (start at : ℕ) (parc
     before = before_two.first;
     others = before_two.rest;
     here = last_one.block;
-    behind = last_one.rest;
+    after = last_one.rest;
     blocks = sink_blocks;
     place = parcel.place ∙ address-is l z held before_two.first parcel.before before_two.lower;
     long = parcel.long ∙ ap (λ n. start + n) (sym (ap records.total_of before_two.upper) ∙ total-read l.heads l.base before_two.rest);
@@ -83,5 +83,5 @@ module _ (l : Layout) (z : ZoneRecords) (held : Held l z) (start at : ℕ) (parc
   sink-ends m ends =
       let o = last_one in let t = before_two in
       subst (λ m. Held m (sunk z parcel)) (sym ends.blocks)
-      (turned l z held t.first t.rest (o.block ∷ []) t.rest (ends.moved ∷ []) o.rest parcel.before parcel.others (parcel.here ∷ []) parcel.behind sink_blocks t.lower
+      (turned l z held t.first t.rest (o.block ∷ []) t.rest (ends.moved ∷ []) o.rest parcel.before parcel.others (parcel.here ∷ []) parcel.after sink_blocks t.lower
       t.upper (ap (λ r. r ∷ []) o.same) o.upper (kept-same l.heads l.base t.rest) (kept-moved l.heads l.base o.block ends.moved ends.same))

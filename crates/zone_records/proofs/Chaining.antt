@@ -68,7 +68,7 @@ module _ (l : Layout) (z : ZoneRecords) (held : Held l z) (at : ℕ) (r : RoomFo
       let head = head-even z.shape.heads in
       omega arith
 
-  abbrev o : One l r.free.before (Rattle.zone_records.specs.Records.block_record Rattle.zone_records.specs.Records.Free r.free.size) r.free.behind
+  abbrev o : One l r.free.before (Rattle.zone_records.specs.Records.block_record Rattle.zone_records.specs.Records.Free r.free.size) r.free.after
   o = free_one l z held at r.free
 
   -- the block that is placed, with other contents: a pointer's, and a master block
@@ -97,7 +97,7 @@ module _ (l : Layout) (z : ZoneRecords) (held : Held l z) (at : ℕ) (r : RoomFo
   fixed-long m ends xs is =
       let here : (b : BlockAt (with_blocks (o.first ++ placed l z held at master_length r role.Fixed (λ k. refl) refl ∷ o.rest) l) at) → xs ≡ b.here.contents =
       subst (λ m. (b : BlockAt m at) → xs ≡ b.here.contents) (ends fixed-can) is in
-      ap length (here (record { before = o.first; here = placed l z held at master_length r role.Fixed (λ k. refl) refl; behind = o.rest; blocks = refl; place = free-place l z held at r.free })) ∙ fixed-all
+      ap length (here (record { before = o.first; here = placed l z held at master_length r role.Fixed (λ k. refl) refl; after = o.rest; blocks = refl; place = free-place l z held at r.free })) ∙ fixed-all
 
   module _ (ws : List ℕ) (long : length ws ≡ 256) where
     abbrev filled_in : Layout
@@ -110,12 +110,12 @@ module _ (l : Layout) (z : ZoneRecords) (held : Held l z) (at : ℕ) (r : RoomFo
         let place = free-place l z held at r.free in
         let all = fixed-all in
         ap (λ m. back.with_contents_at m at ws) (ends fixed-can)
-        ∙ ap (λ bs. with_blocks bs l) (raw-overwritten l.heads (raw.address_behind l []) at ws o.first (placed l z held at master_length r role.Fixed (λ k. refl) refl) o.rest (omega arith)
+        ∙ ap (λ bs. with_blocks bs l) (raw-overwritten l.heads (raw.address_after l []) at ws o.first (placed l z held at master_length r role.Fixed (λ k. refl) refl) o.rest (omega arith)
         ∙ ap (λ cs. o.first ++ fixed cs ∷ o.rest) (overwritten-all (placed l z held at master_length r role.Fixed (λ k. refl) refl).contents ws (omega arith)))
 
     turn_can : CanTurn filled_in at role.Master
     turn_can = record {
-      block = record { before = o.first; here = fixed ws; behind = o.rest; blocks = refl; place = free-place l z held at r.free };
+      block = record { before = o.first; here = fixed ws; after = o.rest; blocks = refl; place = free-place l z held at r.free };
       possible = sound-possible l.heads l.base (master ws) (sound-same l.heads l.base (placed l z held at master_length r role.Master (λ k. refl) refl) ws (long ∙ sym fixed-all) (place-sound l z held at master_length r role.Master (λ k. refl) refl));
       same = refl;
     }
@@ -126,13 +126,13 @@ module _ (l : Layout) (z : ZoneRecords) (held : Held l z) (at : ℕ) (r : RoomFo
 
     -- which has the slots whose words these are
     pub master-ends : (k m : Layout) (last : ℕ) → can_say z.shape.heads (Free last) ≡ true → ws ≡ words_of z.shape.heads (chained slot_count (at + head_size z.shape.heads) last) → k ≡ filled_in
-        → ((can : CanTurn k at role.Master) → m ≡ with_blocks (can.block.before ++ in_role can.block.here role.Master ∷ can.block.behind) k)
+        → ((can : CanTurn k at role.Master) → m ≡ with_blocks (can.block.before ++ in_role can.block.here role.Master ∷ can.block.after) k)
         → Held m (filled (Master (chained slot_count (at + head_size z.shape.heads) last)) z r.free)
     unfolding turn_can
     master-ends k m last sayable words is ends =
         let chain = chained slot_count (at + head_size z.shape.heads) last in
-        let here : (can : CanTurn filled_in at role.Master) → m ≡ with_blocks (can.block.before ++ in_role can.block.here role.Master ∷ can.block.behind) filled_in =
-        subst (λ k. (can : CanTurn k at role.Master) → m ≡ with_blocks (can.block.before ++ in_role can.block.here role.Master ∷ can.block.behind) k) is ends in
+        let here : (can : CanTurn filled_in at role.Master) → m ≡ with_blocks (can.block.before ++ in_role can.block.here role.Master ∷ can.block.after) filled_in =
+        subst (λ k. (can : CanTurn k at role.Master) → m ≡ with_blocks (can.block.before ++ in_role can.block.here role.Master ∷ can.block.after) k) is ends in
         let heads = heads-is l z held in
         let form : ws ≡ words_of l.heads chain = words ∙ ap (λ k. words_of k chain) (sym heads) in
         let all = sayable-chain z.shape.heads slot_count (at + head_size z.shape.heads) last master-even master-end sayable in

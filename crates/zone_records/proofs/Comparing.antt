@@ -160,7 +160,7 @@ words-bytes heads (s ∷ ss) (suc (suc zero)) = omega arith
 words-bytes heads (s ∷ ss) (suc (suc (suc zero))) = omega arith
 words-bytes heads (s ∷ ss) (suc (suc (suc (suc k)))) = words-bytes heads ss k
 
--- a slot that stands in the same bytes says the same of them
+-- a slot that is in the same bytes says the same of them
 shown-same : (heads : HeadKind) (ours theirs : List ℕ) (at there : ℕ) (s : Slot) → get_or theirs there 0 ≡ get_or ours at 0 → shown_slot heads theirs there s ≡ shown_slot heads ours at s
 shown-same heads ours theirs at there (Free next) same = refl
 shown-same heads ours theirs at there Empty same = refl

@@ -47,7 +47,7 @@ module _ (l : Layout) (z : ZoneRecords) (held : Held l z) (from start to offset 
   now = copied_over target offset (take n (drop start source.contents))
 
   -- and it has them
-  pub copy-ends : (m : Layout) → ((can : raw.CanCopy l from start to offset n) → m ≡ with_blocks (can.target.before ++ copied_over can.target.here offset (take n (drop start can.source.here.contents)) ∷ can.target.behind) l) → Held m (copied z can)
+  pub copy-ends : (m : Layout) → ((can : raw.CanCopy l from start to offset n) → m ≡ with_blocks (can.target.before ++ copied_over can.target.here offset (take n (drop start can.source.here.contents)) ∷ can.target.after) l) → Held m (copied z can)
   copy-ends m ends =
       let t = can.target in
       let o = held_one l z held to t in
@@ -59,7 +59,7 @@ module _ (l : Layout) (z : ZoneRecords) (held : Held l z) (from start to offset 
       let content : content_in l.heads l.base target.role now.contents ≡ with_bytes bytes t.content =
       held-with l z held to t now.contents ∙ (λ i. with_bytes (written offset (take n (drop start (source-bytes i))) (target-bytes i)) t.content) in
       subst (λ m. Held m (copied z can)) (sym (ends copy_can))
-      (changed l z held o.first (target ∷ []) (now ∷ []) o.rest t.before (block_record (with_bytes bytes t.content) t.size ∷ []) t.behind o.blocks o.lower o.upper
+      (changed l z held o.first (target ∷ []) (now ∷ []) o.rest t.before (block_record (with_bytes bytes t.content) t.size ∷ []) t.after o.blocks o.lower o.upper
       (λ i. record { size = size i; content = content i; lent = (held-block l z held to t).unlent i } ∷ []) (omega arith)
       (and_from _ _ (sound-same l.heads l.base target now.contents long (sound-one l o.first target o.rest held.sound o.blocks)) refl)
       (words-one l.heads now (words-none l.heads l.base now target.contents (held-has l z held to t))))

@@ -67,8 +67,8 @@ module _ (heads : HeadKind) (base : ℕ) where
   added-words [] = All-nil (HasWords heads)
   added-words (x ∷ xs) = let b = free_raw_block (drop (head_size heads) (x ∷ xs)) in words-one heads b (words-free heads b refl)
 
-module _ (l : Layout) (z : ZoneRecords) (held : Held l z) (s : ZoneSizes) (possible : ArePossible s) (size : s.base + s.size ≡ raw.address_behind l l.blocks)
-    (limit : s.base + s.limit ≡ raw.address_behind l l.blocks + length l.spare) where
+module _ (l : Layout) (z : ZoneRecords) (held : Held l z) (s : ZoneSizes) (possible : ArePossible s) (size : s.base + s.size ≡ raw.address_after l l.blocks)
+    (limit : s.base + s.limit ≡ raw.address_after l l.blocks + length l.spare) where
   can : CanGrow (length l.spare)
   can = let even = possible.even_size in let even' = possible.even_limit in let within = possible.within in
       record { even = omega arith; some = λ some. let growth = possible.growth (omega arith) in omega arith }

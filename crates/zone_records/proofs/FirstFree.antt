@@ -5,7 +5,7 @@ use Rattle.block_bytes.specs.declared.header.Role.TheVariants as role
 use Rattle.block_bytes.specs.Layout as raw
 use Rattle.block_bytes.specs.Layout.{RawBlock, Layout, size_of}
 use Rattle.block_bytes.specs.Finding as finding
-use Rattle.zone_records.specs.Records.{Free, BlockRecord, block_record, ZoneRecords, address_behind}
+use Rattle.zone_records.specs.Records.{Free, BlockRecord, block_record, ZoneRecords, address_after}
 use Rattle.zone_records.specs.Reading.{is_sound}
 use Rattle.zone_records.specs.Places.{SplitAt, FirstFree, LastFree, none_free, free_total}
 use Rattle.zone_records.proofs.Apart.{read, read-append, total-read, InTwo, in-two}
@@ -23,35 +23,35 @@ free_total-same heads base [] = refl
 free_total-same heads base (b ∷ bs) = λ i. cond (free-same heads base b.role b.contents i) (size_of heads b) 0 + free_total-same heads base bs i
 
 -- a free one among blocks, as it is read
-free-among : (heads : HeadKind) (base : ℕ) (rs : List BlockRecord) (bs before : List RawBlock) (b : RawBlock) (behind : List RawBlock) → read heads base bs ≡ rs → bs ≡ before ++ b ∷ behind → b.role ≡ role.Free → is_sound heads base b ≡ true
-    → rs ≡ read heads base before ++ block_record Free (size_of heads b) ∷ read heads base behind
-free-among heads base rs bs before b behind is blocks free sound = sym is ∙ ap (read heads base) blocks ∙ read-append heads base before (b ∷ behind)
-    ∙ ap (λ (r : BlockRecord). read heads base before ++ r ∷ read heads base behind) (free-record heads base b free sound)
+free-among : (heads : HeadKind) (base : ℕ) (rs : List BlockRecord) (bs before : List RawBlock) (b : RawBlock) (after : List RawBlock) → read heads base bs ≡ rs → bs ≡ before ++ b ∷ after → b.role ≡ role.Free → is_sound heads base b ≡ true
+    → rs ≡ read heads base before ++ block_record Free (size_of heads b) ∷ read heads base after
+free-among heads base rs bs before b after is blocks free sound = sym is ∙ ap (read heads base) blocks ∙ read-append heads base before (b ∷ after)
+    ∙ ap (λ (r : BlockRecord). read heads base before ++ r ∷ read heads base after) (free-record heads base b free sound)
 
 module _ (l : Layout) (z : ZoneRecords) (held : Held l z) (from : ℕ) (split : SplitAt z from) where
-  -- the blocks of bytes before the address, and those behind it
-  abbrev parts : InTwo l.heads l.base l.blocks split.before split.behind
-  parts = in-two l.heads l.base l.blocks split.before split.behind (ap (λ (z : ZoneRecords). z.blocks) held.shows ∙ split.blocks)
+  -- the blocks of bytes before the address, and those after it
+  abbrev parts : InTwo l.heads l.base l.blocks split.before split.after
+  parts = in-two l.heads l.base l.blocks split.before split.after (ap (λ (z : ZoneRecords). z.blocks) held.shows ∙ split.blocks)
 
   abbrev pub raw-split : finding.SplitAt l from
-  raw-split = record { before = parts.first; behind = parts.rest; blocks = parts.blocks; place = split.place ∙ address-is l z held parts.first split.before parts.lower }
+  raw-split = record { before = parts.first; after = parts.rest; blocks = parts.blocks; place = split.place ∙ address-is l z held parts.first split.before parts.lower }
 
-  -- the first free one of those behind it
-  pub first-free : (at : ℕ) → finding.FirstFree l.heads parts.rest from at → FirstFree split.behind from at
+  -- the first free one of those after it
+  pub first-free : (at : ℕ) → finding.FirstFree l.heads parts.rest from at → FirstFree split.after from at
   first-free at found =
-      let sound = sound-one l (parts.first ++ found.passed) found.here found.behind held.sound
-      (parts.blocks ∙ ap (λ (bs : List RawBlock). parts.first ++ bs) found.blocks ∙ sym (append_assoc parts.first found.passed (found.here ∷ found.behind))) in
+      let sound = sound-one l (parts.first ++ found.passed) found.here found.after held.sound
+      (parts.blocks ∙ ap (λ (bs : List RawBlock). parts.first ++ bs) found.blocks ∙ sym (append_assoc parts.first found.passed (found.here ∷ found.after))) in
       record {
         passed = read l.heads l.base found.passed;
         size = size_of l.heads found.here;
-        behind = read l.heads l.base found.behind;
-        blocks = free-among l.heads l.base split.behind parts.rest found.passed found.here found.behind parts.upper found.blocks found.free sound;
+        after = read l.heads l.base found.after;
+        blocks = free-among l.heads l.base split.after parts.rest found.passed found.here found.after parts.upper found.blocks found.free sound;
         used = sym (none-same l.heads l.base found.passed) ∙ found.used;
         place = found.place ∙ ap (λ n. from + n) (sym (total-read l.heads l.base found.passed));
       }
 
   -- the last free one of those before it
-  pub last-free : (at : ℕ) → finding.LastFree l.heads parts.first (raw.address_behind l []) at → LastFree split.before (address_behind z.shape []) at
+  pub last-free : (at : ℕ) → finding.LastFree l.heads parts.first (raw.address_after l []) at → LastFree split.before (address_after z.shape []) at
   last-free at found =
       let sound = sound-one l found.front found.here (found.passed ++ parts.rest) held.sound
       (parts.blocks ∙ ap (λ (bs : List RawBlock). bs ++ parts.rest) found.blocks ∙ append_assoc found.front (found.here ∷ found.passed) parts.rest) in
@@ -69,5 +69,5 @@ module _ (l : Layout) (z : ZoneRecords) (held : Held l z) (from : ℕ) (split : 
   none-before none = ap none_free (sym parts.lower) ∙ sym (none-same l.heads l.base parts.first) ∙ none
 
   -- none is free where none of bytes is
-  pub none-behind : IsTrue (finding.none_free parts.rest) → IsTrue (none_free split.behind)
-  none-behind none = ap none_free (sym parts.upper) ∙ sym (none-same l.heads l.base parts.rest) ∙ none
+  pub none-after : IsTrue (finding.none_free parts.rest) → IsTrue (none_free split.after)
+  none-after none = ap none_free (sym parts.upper) ∙ sym (none-same l.heads l.base parts.rest) ∙ none

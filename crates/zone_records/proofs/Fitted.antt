@@ -1,4 +1,4 @@
--- How the calls end that give a block another number of bytes where it stands.
+-- How the calls end that give a block another number of bytes where it is.
 use Rattle.std.proofs.Common.{◌≡◌, ℕ, ◌+◌, ◌-◌, ◌<◌, ◌≤◌, nat_lt, Bool, true, false, cond, eqb, List, [], ◌∷◌, ◌++◌, length, take, drop, refl, ap, sym, ◌∙◌, subst, arith, append_assoc, length-take-le, length-drop, inl, inr, ◌⊎◌}
 use Rattle.std.specs.List.{All, list_all}
 use Rattle.std.proofs.lemmas.Bool.Decides.{nat_tests}
@@ -53,7 +53,7 @@ module _ (l : Layout) (z : ZoneRecords) (held : Held l z) (at size n : ℕ) (can
   abbrev h : HeldAt z at
   h = can.held
 
-  abbrev o : One l h.before (block_record h.content h.size) h.behind
+  abbrev o : One l h.before (block_record h.content h.size) h.after
   o = held_one l z held at h
 
   abbrev b : RawBlock
@@ -91,7 +91,7 @@ module _ (l : Layout) (z : ZoneRecords) (held : Held l z) (at size n : ℕ) (can
       sound-raw l.heads l.base b.role n (take (size - head_size l.heads) (body b)) size (omega arith) (omega arith) parts.0 high
       (λ k is. told-any l.heads l.base b.role b.contents (length b.slack) k has s.told) (use-any l.heads l.base b.role b.contents (length b.contents) n has s.use_is)
 
-  -- and what is behind them, if anything is
+  -- and what is after them, if anything is
   pub fit-over : size < size_of l.heads b → (sized l.heads (h.size - size) ≡ true) × (size + head_size l.heads ≤ size_of l.heads b) × (head_size l.heads + length (drop size (body b)) ≡ h.size - size)
   fit-over smaller =
       let whole = held-size l z held at h in
@@ -106,8 +106,8 @@ module _ (l : Layout) (z : ZoneRecords) (held : Held l z) (at size n : ℕ) (can
             )
       ]
 
-  pub fit-behind : size < size_of l.heads b → is_sound l.heads l.base (free_raw_block (drop size (body b))) ≡ true
-  fit-behind smaller = let over = fit-over smaller in sound-free l.heads l.base (drop size (body b)) (h.size - size) over.2 over.0
+  pub fit-after : size < size_of l.heads b → is_sound l.heads l.base (free_raw_block (drop size (body b))) ≡ true
+  fit-after smaller = let over = fit-over smaller in sound-free l.heads l.base (drop size (body b)) (h.size - size) over.2 over.0
 
   -- so it can be cut
   abbrev pub fit-can : CanFit l at size n
@@ -118,10 +118,10 @@ module _ (l : Layout) (z : ZoneRecords) (held : Held l z) (at size n : ℕ) (can
     front = sound-possible l.heads l.base (raw_block b.role n (take (size - head_size l.heads) (body b))) fit-front;
     apart = λ smaller. (fit-over smaller).1;
     unlent = (held-block l z held at h).unlent;
-    rest = λ smaller. sound-possible l.heads l.base (free_raw_block (drop size (body b))) (fit-behind smaller);
+    rest = λ smaller. sound-possible l.heads l.base (free_raw_block (drop size (body b))) (fit-after smaller);
   }
 
-  -- what is behind it then
+  -- what is after it then
   rest-made : (t : Bool) → nat_lt size (size_of l.heads b) ≡ t
       → (read l.heads l.base (cond t (free_raw_block (drop size (body b)) ∷ []) []) ≡ free_record (h.size - size))
       × (raw.total_of l.heads (cond t (free_raw_block (drop size (body b)) ∷ []) []) ≡ h.size - size)
@@ -136,7 +136,7 @@ module _ (l : Layout) (z : ZoneRecords) (held : Held l z) (at size n : ℕ) (can
       let total : size_of l.heads (free_raw_block (drop size (body b))) ≡ h.size - size = omega arith in (
         (λ i. record { size = total i; content = Free; lent = false } ∷ []) ∙ ap (λ t. cond t [] (block_record Free (h.size - size) ∷ [])) (sym some),
         omega arith,
-        and_from _ _ (fit-behind smaller) refl,
+        and_from _ _ (fit-after smaller) refl,
         words-one l.heads (free_raw_block (drop size (body b))) (words-free l.heads (free_raw_block (drop size (body b))) refl),
       )
   rest-made false is =
@@ -171,8 +171,8 @@ module _ (l : Layout) (z : ZoneRecords) (held : Held l z) (at size n : ℕ) (can
       held-with l z held at h now.contents ∙ ap (λ xs. with_bytes (resized n xs) h.content) kept_bytes in
       let recs = block_record (with_bytes (resized n (take kept (bytes_of h.content))) h.content) size ∷ free_record (h.size - size) in
       subst (λ m. Held m (fitted kept z can)) (sym ends)
-      (subst (λ bs. Held (raw_fitted l fit-can kept) (records.with_blocks bs z)) (sym (append_assoc h.before recs h.behind))
-      (changed l z held o.first (b ∷ []) (now ∷ fitted_rest l fit-can) o.rest h.before recs h.behind o.blocks o.lower o.upper
+      (subst (λ bs. Held (raw_fitted l fit-can kept) (records.with_blocks bs z)) (sym (append_assoc h.before recs h.after))
+      (changed l z held o.first (b ∷ []) (now ∷ fitted_rest l fit-can) o.rest h.before recs h.after o.blocks o.lower o.upper
       (λ i. record { size = now_size i; content = content i; lent = false } ∷ rest.0 i) (omega arith)
       (and_from _ _ (sound-same l.heads l.base front now.contents same fit-front) rest.2)
       (All-cons (HasWords l.heads) now (fitted_rest l fit-can) (words-none l.heads l.base now b.contents (held-has l z held at h)) rest.3)))
@@ -181,8 +181,8 @@ module _ (l : Layout) (z : ZoneRecords) (held : Held l z) (at size n : ℕ) (can
 pub held-all : (z : ZoneRecords) (at size n : ℕ) (can : CanHold z at size n) (kept : ℕ) → kept ≡ length_of can.held.content → fitted kept z can ≡ held_there z can
 held-all z at size n can kept is =
     let same = take_all kept (bytes_of can.held.content) (let e = length-held can.held.content can.held.held in omega arith) in
-    ap (λ xs. records.with_blocks (can.held.before ++ block_record (with_bytes (resized n xs) can.held.content) size ∷ free_record (can.held.size - size) ++ can.held.behind) z) same
+    ap (λ xs. records.with_blocks (can.held.before ++ block_record (with_bytes (resized n xs) can.held.content) size ∷ free_record (can.held.size - size) ++ can.held.after) z) same
 
 -- a block that has bytes is a block
 abbrev pub held_record : (z : ZoneRecords) (at : ℕ) → HeldAt z at → RecordAt z at
-held_record z at h = record { before = h.before; here = block_record h.content h.size; behind = h.behind; blocks = h.blocks; place = h.place }
+held_record z at h = record { before = h.before; here = block_record h.content h.size; after = h.after; blocks = h.blocks; place = h.place }

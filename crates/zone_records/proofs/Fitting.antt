@@ -28,13 +28,13 @@ fitted_front {size = size} {n = n} l can kept = record {
   lent = false;
 }
 
--- the free block behind it, if bytes are over
+-- the free block after it, if bytes are over
 abbrev pub fitted_rest : {at size n : ℕ} → (l : Layout) → CanFit l at size n → List RawBlock
 fitted_rest {size = size} l can = if nat_lt size (size_of l.heads can.block.here) then free_raw_block (drop size (body can.block.here)) ∷ [] else []
 
 -- the zone then
 abbrev pub raw_fitted : {at size n : ℕ} → (l : Layout) → CanFit l at size n → ℕ → Layout
-raw_fitted l can kept = with_blocks (can.block.before ++ fitted_front l can kept ∷ (fitted_rest l can ++ can.block.behind)) l
+raw_fitted l can kept = with_blocks (can.block.before ++ fitted_front l can kept ∷ (fitted_rest l can ++ can.block.after)) l
 
 -- of so many bytes the first few are kept, and the others zero
 few_kept : (n kept : ℕ) (bytes : List ℕ) → kept ≤ n → n ≤ length bytes → take kept (take n bytes) ++ replicate (n - kept) 0 ≡ resized n (take kept bytes)
@@ -62,7 +62,7 @@ module _ (l : Layout) (at size n : ℕ) (can : CanFit l at size n) where
 
   -- the zone with it
   abbrev pub cut_layout : Layout
-  cut_layout = with_blocks (can.block.before ++ cut_front ∷ (fitted_rest l can ++ can.block.behind)) l
+  cut_layout = with_blocks (can.block.before ++ cut_front ∷ (fitted_rest l can ++ can.block.after)) l
 
   -- its contents are the first of the body
   pub cut_contents : cut_front.contents ≡ take n (body can.block.here)
@@ -87,15 +87,15 @@ module _ (l : Layout) (at size n : ℕ) (can : CanFit l at size n) where
       record { block = can.block; within = cut_long; possible = ap (λ xs. is_possible l.heads (raw_block can.block.here.role n xs)) (sym all) ∙ can.front; unlent = can.unlent }
 
   -- the block is split
-  pub fit-split : (m : Layout) → size < size_of l.heads can.block.here → ((s : CanSplit l at size n) → m ≡ with_blocks (s.block.before ++ front_of l s ∷ rest_of l s ∷ s.block.behind) l) → m ≡ cut_layout
+  pub fit-split : (m : Layout) → size < size_of l.heads can.block.here → ((s : CanSplit l at size n) → m ≡ with_blocks (s.block.before ++ front_of l s ∷ rest_of l s ∷ s.block.after) l) → m ≡ cut_layout
   fit-split m smaller ends =
       let large = can.large in
       let s : CanSplit l at size n = record { block = can.block; large = omega arith; within = omega arith; smaller = can.apart smaller; front = can.front; rest = can.rest smaller; unlent = can.unlent } in
       let test : nat_lt size (size_of l.heads can.block.here) ≡ true = grind (arith, nat_tests) in
-      ends s ∙ ap (λ b. with_blocks (can.block.before ++ cut_front ∷ (cond b (rest_of l s ∷ []) [] ++ can.block.behind)) l) (sym test)
+      ends s ∙ ap (λ b. with_blocks (can.block.before ++ cut_front ∷ (cond b (rest_of l s ∷ []) [] ++ can.block.after)) l) (sym test)
 
   -- or all of it stays
-  pub fit-resize : (m : Layout) → (size < size_of l.heads can.block.here → ⊥) → ((s : CanResize l at n) → m ≡ with_blocks (s.block.before ++ raw_block s.block.here.role n (body s.block.here) ∷ s.block.behind) l) → m ≡ cut_layout
+  pub fit-resize : (m : Layout) → (size < size_of l.heads can.block.here → ⊥) → ((s : CanResize l at n) → m ≡ with_blocks (s.block.before ++ raw_block s.block.here.role n (body s.block.here) ∷ s.block.after) l) → m ≡ cut_layout
   fit-resize m whole ends =
       let large = can.large in
       let within = can.within in
@@ -103,13 +103,13 @@ module _ (l : Layout) (at size n : ℕ) (can : CanFit l at size n) where
       let all : take (size - head_size l.heads) (body can.block.here) ≡ body can.block.here = take_all (size - head_size l.heads) (body can.block.here) (omega arith) in
       let s : CanResize l at n = record { block = can.block; within = cut_long; possible = ap (λ xs. is_possible l.heads (raw_block can.block.here.role n xs)) (sym all) ∙ can.front; unlent = can.unlent } in
       let test : nat_lt size (size_of l.heads can.block.here) ≡ false = grind (arith, nat_tests) in
-      ends s ∙ ap (λ xs. with_blocks (can.block.before ++ raw_block can.block.here.role n xs ∷ can.block.behind) l) (sym all)
-      ∙ ap (λ b. with_blocks (can.block.before ++ cut_front ∷ (cond b (free_raw_block (drop size (body can.block.here)) ∷ []) [] ++ can.block.behind)) l) (sym test)
+      ends s ∙ ap (λ xs. with_blocks (can.block.before ++ raw_block can.block.here.role n xs ∷ can.block.after) l) (sym all)
+      ∙ ap (λ b. with_blocks (can.block.before ++ cut_front ∷ (cond b (free_raw_block (drop size (body can.block.here)) ∷ []) [] ++ can.block.after)) l) (sym test)
 
   -- it can be cleared
   abbrev cut_clear : (kept : ℕ) → kept < n → CanClear cut_layout at kept
   cut_clear kept few = record {
-    block = record { before = can.block.before; here = cut_front; behind = (fitted_rest l can ++ can.block.behind); blocks = refl; place = can.block.place };
+    block = record { before = can.block.before; here = cut_front; after = (fitted_rest l can ++ can.block.after); blocks = refl; place = can.block.place };
     within = (let same = ap length cut_contents in let long = cut_long in let exact = length-take-le n (body can.block.here) long in omega arith);
     unlent = refl;
   }
@@ -119,16 +119,16 @@ module _ (l : Layout) (at size n : ℕ) (can : CanFit l at size n) where
   fit-clear m kept is few = subst (λ m. CanClear m at kept) (sym is) (cut_clear kept few)
 
   -- where fewer are kept, the others are cleared
-  pub fit-cleared : (m k : Layout) (kept : ℕ) → m ≡ cut_layout → kept < n → ((c : CanClear m at kept) → k ≡ with_blocks (c.block.before ++ cleared_from c.block.here kept ∷ c.block.behind) m) → k ≡ raw_fitted l can kept
+  pub fit-cleared : (m k : Layout) (kept : ℕ) → m ≡ cut_layout → kept < n → ((c : CanClear m at kept) → k ≡ with_blocks (c.block.before ++ cleared_from c.block.here kept ∷ c.block.after) m) → k ≡ raw_fitted l can kept
   fit-cleared m k kept is few ends =
-      let here : (c : CanClear cut_layout at kept) → k ≡ with_blocks (c.block.before ++ cleared_from c.block.here kept ∷ c.block.behind) cut_layout =
-      subst (λ m. (c : CanClear m at kept) → k ≡ with_blocks (c.block.before ++ cleared_from c.block.here kept ∷ c.block.behind) m) is ends in
+      let here : (c : CanClear cut_layout at kept) → k ≡ with_blocks (c.block.before ++ cleared_from c.block.here kept ∷ c.block.after) cut_layout =
+      subst (λ m. (c : CanClear m at kept) → k ≡ with_blocks (c.block.before ++ cleared_from c.block.here kept ∷ c.block.after) m) is ends in
       let long = cut_long in
       let exact : length cut_front.contents ≡ n = ap length cut_contents ∙ length-take-le n (body can.block.here) long in
       let contents = (λ i. take kept (cut_contents i) ++ replicate (exact i - kept) 0) ∙ few_kept n kept (body can.block.here) (omega arith) long in
-      here (cut_clear kept few) ∙ ap (λ xs. with_blocks (can.block.before ++ record cut_front { contents = xs } ∷ (fitted_rest l can ++ can.block.behind)) l) contents
+      here (cut_clear kept few) ∙ ap (λ xs. with_blocks (can.block.before ++ record cut_front { contents = xs } ∷ (fitted_rest l can ++ can.block.after)) l) contents
 
   -- and where all are, nothing is
   pub fit-kept : (m : Layout) (kept : ℕ) → m ≡ cut_layout → n ≤ kept → m ≡ raw_fitted l can kept
   fit-kept m kept is many =
-      is ∙ ap (λ xs. with_blocks (can.block.before ++ record cut_front { contents = xs } ∷ (fitted_rest l can ++ can.block.behind)) l) (cut_contents ∙ all_kept n kept (body can.block.here) many cut_long)
+      is ∙ ap (λ xs. with_blocks (can.block.before ++ record cut_front { contents = xs } ∷ (fitted_rest l can ++ can.block.after)) l) (cut_contents ∙ all_kept n kept (body can.block.here) many cut_long)

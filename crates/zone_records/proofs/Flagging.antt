@@ -41,7 +41,7 @@ module _ (l : Layout) (z : ZoneRecords) (held : Held l z) (at : ℕ) (b : Handle
 
   flag-sound : is_sound l.heads l.base now ≡ true
   flag-sound =
-      let old = sound-one l o.block.before r o.block.behind held.sound o.block.blocks in
+      let old = sound-one l o.block.before r o.block.after held.sound o.block.blocks in
       let s = sound-parts l.heads l.base r old in
       let told : can_be_told l.heads (role.Relocatable flag-said.0 b.flags) (length r.slack) ≡ true = ap (λ k. can_be_told l.heads k (length r.slack)) (sym flag-said.1) ∙ s.told in
       let said : can_say l.heads flags ≡ true = sym (flag-same l.heads flags) ∙ ap (λ k. can_flag k flags) (heads-is l z held) ∙ sayable in
@@ -62,16 +62,16 @@ module _ (l : Layout) (z : ZoneRecords) (held : Held l z) (at : ℕ) (b : Handle
 
   -- and then is flagged
   pub flag-ends : (k : Role) (m : Layout) → k ≡ role.Relocatable flag-said.0 flags
-      → ((can : CanTurn l at k) → m ≡ with_blocks (can.block.before ++ in_role can.block.here k ∷ can.block.behind) l) → Held m (flagged flags z b)
+      → ((can : CanTurn l at k) → m ≡ with_blocks (can.block.before ++ in_role can.block.here k ∷ can.block.after) l) → Held m (flagged flags z b)
   unfolding flag_can
   flag-ends k m is ends =
-      let one : (can : CanTurn l at (role.Relocatable flag-said.0 flags)) → m ≡ with_blocks (can.block.before ++ in_role can.block.here (role.Relocatable flag-said.0 flags) ∷ can.block.behind) l =
-      subst (λ k. (can : CanTurn l at k) → m ≡ with_blocks (can.block.before ++ in_role can.block.here k ∷ can.block.behind) l) is ends in
+      let one : (can : CanTurn l at (role.Relocatable flag-said.0 flags)) → m ≡ with_blocks (can.block.before ++ in_role can.block.here (role.Relocatable flag-said.0 flags) ∷ can.block.after) l =
+      subst (λ k. (can : CanTurn l at k) → m ≡ with_blocks (can.block.before ++ in_role can.block.here k ∷ can.block.after) l) is ends in
       let handle = flag-said.2 in
       let bytes = flag-said.3 in
       let size = size-of l z held at (handle_there l z held at b) in
       let lent = ap (λ r. r.lent) o.same in
       subst (λ m. Held m (flagged flags z b)) (sym (one flag_can))
-      (changed l z held o.block.before (r ∷ []) (now ∷ []) o.block.behind b.before (handle_record b.handle flags b.bytes b.size b.lent ∷ []) b.behind o.block.blocks o.lower o.upper
+      (changed l z held o.block.before (r ∷ []) (now ∷ []) o.block.after b.before (handle_record b.handle flags b.bytes b.size b.lent ∷ []) b.after o.block.blocks o.lower o.upper
       (λ i. handle_record (handle i) flags (bytes i) (size i) (lent i) ∷ []) (omega arith)
       (and_from _ _ flag-sound refl) (words-one l.heads now (λ is. absurd (cc is))))

@@ -60,16 +60,16 @@ module _ (l : Layout) (sound : AreSound l) where
 
   -- what follows one of them
   record Rest (h : ℕ) (xs : List ℕ) : Type 0 where
-    behind : List ℕ
-    follow : Follow ps h (h ∷ behind)
-    fewer : length behind < length xs
+    after : List ℕ
+    follow : Follow ps h (h ∷ after)
+    fewer : length after < length xs
 
   rest-of : (x h : ℕ) (xs : List ℕ) → Follow ps x xs → Contains xs h → Rest h xs
   unfolding Follow
   rest-of x h [] f c = absurd (Contains-none h c)
   rest-of x h (y ∷ ys) f c = elim (Contains-cons_cases y ys h c) [
-    | inl is ↦ record { behind = ys; follow = (refl, (f.1.0, (subst (λ n. Contains ps (n, slot.Free f.1.0)) is f.1.1.0, f.1.1.1))); fewer = omega arith }
-    | inr later ↦ (let r = rest-of f.1.0 h ys f.1.1.1 later in let few = r.fewer in record { behind = r.behind; follow = r.follow; fewer = omega arith })
+    | inl is ↦ record { after = ys; follow = (refl, (f.1.0, (subst (λ n. Contains ps (n, slot.Free f.1.0)) is f.1.1.0, f.1.1.1))); fewer = omega arith }
+    | inr later ↦ (let r = rest-of f.1.0 h ys f.1.1.1 later in let few = r.fewer in record { after = r.after; follow = r.follow; fewer = omega arith })
   ]
 
   -- none follows twice
@@ -78,7 +78,7 @@ module _ (l : Layout) (sound : AreSound l) where
   follow-once x [] f = tt
   follow-once x (h ∷ hs) f = IsDistinct-more h hs
       (λ c. let r = rest-of f.1.0 h hs f.1.1.1 c in let few = r.fewer in
-      let same : h ∷ r.behind ≡ h ∷ hs = one_list h (h ∷ r.behind) (h ∷ hs) r.follow (refl, f.1) in
+      let same : h ∷ r.after ≡ h ∷ hs = one_list h (h ∷ r.after) (h ∷ hs) r.follow (refl, f.1) in
       let long = ap (λ (xs : List ℕ). length xs) same in omega arith)
       (follow-once f.1.0 hs f.1.1.1)
 

@@ -31,7 +31,7 @@ none-lent heads base (b ∷ bs) none =
 
 module _ (l : Layout) (z : ZoneRecords) (held : Held l z) (at : ℕ) where
   -- a block becomes free
-  pub empty-ends : (h : HeldAt z at) (m : Layout) → ((b : BlockAt l at) → m ≡ with_blocks (b.before ++ free_raw_block (body b.here) ∷ b.behind) l) → Held m (emptied z h)
+  pub empty-ends : (h : HeldAt z at) (m : Layout) → ((b : BlockAt l at) → m ≡ with_blocks (b.before ++ free_raw_block (body b.here) ∷ b.after) l) → Held m (emptied z h)
   empty-ends h m ends =
       let o = held_one l z held at h in
       let b = o.block in
@@ -40,7 +40,7 @@ module _ (l : Layout) (z : ZoneRecords) (held : Held l z) (at : ℕ) where
       let size : size_of l.heads now ≡ size_of l.heads b = omega arith in
       let sound = sound-one l o.first b o.rest held.sound o.blocks in
       subst (λ m. Held m (emptied z h)) (sym (ends (held-block l z held at h).block))
-      (changed l z held o.first (b ∷ []) (now ∷ []) o.rest h.before (block_record Free h.size ∷ []) h.behind o.blocks o.lower o.upper
+      (changed l z held o.first (b ∷ []) (now ∷ []) o.rest h.before (block_record Free h.size ∷ []) h.after o.blocks o.lower o.upper
       (λ i. record { size = (size ∙ held-size l z held at h) i; content = Free; lent = false } ∷ []) (omega arith)
       (and_from _ _ (sound-free l.heads l.base (body b) (size_of l.heads b) (sym long) (sound-sized l.heads l.base b sound)) refl) (words-one l.heads now (words-free l.heads now refl)))
 
@@ -108,7 +108,7 @@ module _ (l : Layout) (z : ZoneRecords) (held : Held l z) (at : ℕ) where
     pub cut-can_be : CanSplit l at size n
     cut-can_be = cut-can
 
-    pub cut-ends : (m : Layout) → ((can : CanSplit l at size n) → m ≡ with_blocks (can.block.before ++ front_of l can ∷ rest_of l can ∷ can.block.behind) l) → Held m (cut_in_two size z can.free)
+    pub cut-ends : (m : Layout) → ((can : CanSplit l at size n) → m ≡ with_blocks (can.block.before ++ front_of l can ∷ rest_of l can ∷ can.block.after) l) → Held m (cut_in_two size z can.free)
     cut-ends m ends =
         let o = free_one l z held at f in
         let long = cut-long in
@@ -121,13 +121,13 @@ module _ (l : Layout) (z : ZoneRecords) (held : Held l z) (at : ℕ) where
         let front_size : size_of l.heads front ≡ size = omega arith in
         let rest_size : size_of l.heads rest ≡ f.size - size = omega arith in
         subst (λ m. Held m (cut_in_two size z can.free)) (sym (ends cut-can))
-        (changed l z held o.first (b ∷ []) (front ∷ rest ∷ []) o.rest f.before (block_record Free size ∷ block_record Free (f.size - size) ∷ []) f.behind o.blocks o.lower o.upper
+        (changed l z held o.first (b ∷ []) (front ∷ rest ∷ []) o.rest f.before (block_record Free size ∷ block_record Free (f.size - size) ∷ []) f.after o.blocks o.lower o.upper
         (λ i. record { size = front_size i; content = ap (λ r. content_in l.heads l.base r front.contents) free i; lent = false } ∷ record { size = rest_size i; content = Free; lent = false } ∷ []) (omega arith)
         (and_from _ _ front-sound (and_from _ _ rest-sound refl)) (words-two l.heads front rest (words-free l.heads front free) (words-free l.heads rest refl)))
 
   -- two free neighbours become one
   module _ (pair : FreePair z at) where
-    abbrev pair_two : Two l pair.before (block_record Free pair.first) (block_record Free pair.second) pair.behind
+    abbrev pair_two : Two l pair.before (block_record Free pair.first) (block_record Free pair.second) pair.after
     pair_two = t l z held at (free_pair pair)
 
     module _ (n : ℕ) (is : n ≡ pair.first + pair.second - head_size l.heads) where
@@ -149,7 +149,7 @@ module _ (l : Layout) (z : ZoneRecords) (held : Held l z) (at : ℕ) where
       pub can-merge : CanMerge l at n
       can-merge = can_merge l z held at (free_pair pair) n is joined-sound
 
-      pub merge-ends : (m : Layout) → ((can : CanMerge l at n) → m ≡ with_blocks (can.pair.before ++ raw_block can.pair.here.role n (joint_body l can.pair.here can.pair.next) ∷ can.pair.behind) l) → Held m (joined_pair z pair)
+      pub merge-ends : (m : Layout) → ((can : CanMerge l at n) → m ≡ with_blocks (can.pair.before ++ raw_block can.pair.here.role n (joint_body l can.pair.here can.pair.next) ∷ can.pair.after) l) → Held m (joined_pair z pair)
       merge-ends m ends =
           let all = joint-long l z held at (free_pair pair) in let count = joint-all l z held at (free_pair pair) n is in
           let sizes = sizes l z held at (free_pair pair) in
@@ -158,6 +158,6 @@ module _ (l : Layout) (z : ZoneRecords) (held : Held l z) (at : ℕ) where
           let p = (raw-parts l.heads pair_two.block.role n bytes (omega arith)).2 in
           let size : size_of l.heads joined ≡ pair.first + pair.second = omega arith in
           subst (λ m. Held m (joined_pair z pair)) (sym (ends (can_merge l z held at (free_pair pair) n is joined-sound)))
-          (changed l z held pair_two.first (pair_two.block ∷ pair_two.other ∷ []) (joined ∷ []) pair_two.rest pair.before (block_record Free (pair.first + pair.second) ∷ []) pair.behind pair_two.blocks pair_two.lower pair_two.upper
+          (changed l z held pair_two.first (pair_two.block ∷ pair_two.other ∷ []) (joined ∷ []) pair_two.rest pair.before (block_record Free (pair.first + pair.second) ∷ []) pair.after pair_two.blocks pair_two.lower pair_two.upper
           (λ i. record { size = size i; content = ap (λ r. content_in l.heads l.base r joined.contents) joined-role i; lent = false } ∷ []) (omega arith)
           (and_from _ _ joined-sound refl) (words-one l.heads joined (words-free l.heads joined joined-role)))

@@ -1,4 +1,4 @@
--- How the call ends that gives a block bytes of the free one behind it.
+-- How the call ends that gives a block bytes of the free one after it.
 use Rattle.std.proofs.Common.{◌≡◌, ℕ, ◌+◌, ◌-◌, ◌≤◌, true, false, List, [], ◌∷◌, ◌++◌, length, take, refl, ap, sym, ◌∙◌, subst, arith, append_assoc, take_at}
 use Rattle.std.proofs.lemmas.List.{take_all}
 use Rattle.std.proofs.lemmas.Bool.{and_from}
@@ -41,17 +41,17 @@ with-with (Relocatable handle flags bytes) xs ys = refl
 
 -- the block is one
 abbrev pub grow_record : (z : ZoneRecords) (at size n : ℕ) → CanGrow z at size n → RecordAt z at
-grow_record z at size n can = record { before = can.before; here = block_record can.content can.first; behind = block_record Free can.second ∷ can.behind; blocks = can.blocks; place = can.place }
+grow_record z at size n can = record { before = can.before; here = block_record can.content can.first; after = block_record Free can.second ∷ can.after; blocks = can.blocks; place = can.place }
 
 module _ (l : Layout) (z : ZoneRecords) (held : Held l z) (at size n : ℕ) (can : CanGrow z at size n) where
-  abbrev pub pair_two : Two l can.before (block_record can.content can.first) (block_record Free can.second) can.behind
+  abbrev pub pair_two : Two l can.before (block_record can.content can.first) (block_record Free can.second) can.after
   pair_two = t l z held at (grow_pair can)
 
   abbrev all_bytes : List ℕ
   all_bytes = joint l z held at (grow_pair can)
 
   abbrev pub merged_zone : ZoneRecords
-  merged_zone = records.with_blocks (can.before ++ block_record (with_bytes all_bytes can.content) (can.first + can.second) ∷ can.behind) z
+  merged_zone = records.with_blocks (can.before ++ block_record (with_bytes all_bytes can.content) (can.first + can.second) ∷ can.after) z
 
   grow-content : content_in l.heads l.base pair_two.block.role pair_two.block.contents ≡ can.content
   grow-content = ap (λ (r : BlockRecord). r.content) pair_two.same
@@ -78,7 +78,7 @@ module _ (l : Layout) (z : ZoneRecords) (held : Held l z) (at size n : ℕ) (can
     grow-can = can_merge l z held at (grow_pair can) k is joined-sound
 
     -- they are one then
-    pub grow-merged : (m : Layout) → ((can : CanMerge l at k) → m ≡ with_blocks (can.pair.before ++ raw_block can.pair.here.role k (joint_body l can.pair.here can.pair.next) ∷ can.pair.behind) l) → Held m merged_zone
+    pub grow-merged : (m : Layout) → ((can : CanMerge l at k) → m ≡ with_blocks (can.pair.before ++ raw_block can.pair.here.role k (joint_body l can.pair.here can.pair.next) ∷ can.pair.after) l) → Held m merged_zone
     grow-merged m ends =
         let long = joint-long l z held at (grow_pair can) in
         let count = joint-all l z held at (grow_pair can) k is in
@@ -90,7 +90,7 @@ module _ (l : Layout) (z : ZoneRecords) (held : Held l z) (at size n : ℕ) (can
         let content : content_in l.heads l.base pair_two.block.role (take k all_bytes) ≡ with_bytes all_bytes can.content =
         ap (content_in l.heads l.base pair_two.block.role) (take_all k all_bytes (omega arith)) ∙ sym (with-same l.heads l.base pair_two.block.role pair_two.block.contents all_bytes grow-has) ∙ ap (with_bytes all_bytes) grow-content in
         subst (λ m. Held m merged_zone) (sym (ends (can_merge l z held at (grow_pair can) k is joined-sound)))
-        (changed l z held pair_two.first (pair_two.block ∷ pair_two.other ∷ []) (joined ∷ []) pair_two.rest can.before (block_record (with_bytes all_bytes can.content) (can.first + can.second) ∷ []) can.behind pair_two.blocks pair_two.lower pair_two.upper
+        (changed l z held pair_two.first (pair_two.block ∷ pair_two.other ∷ []) (joined ∷ []) pair_two.rest can.before (block_record (with_bytes all_bytes can.content) (can.first + can.second) ∷ []) can.after pair_two.blocks pair_two.lower pair_two.upper
         (λ i. record { size = size i; content = content i; lent = false } ∷ []) (omega arith)
         (and_from _ _ joined-sound refl) (words-one l.heads joined (words-none l.heads l.base joined pair_two.block.contents grow-has)))
 
@@ -101,7 +101,7 @@ module _ (l : Layout) (z : ZoneRecords) (held : Held l z) (at size n : ℕ) (can
       before = can.before;
       size = can.first + can.second;
       content = with_bytes all_bytes can.content;
-      behind = can.behind;
+      after = can.after;
       blocks = refl;
       place = can.place;
       held = has-with can.content all_bytes can.held;
@@ -130,5 +130,5 @@ module _ (l : Layout) (z : ZoneRecords) (held : Held l z) (at size n : ℕ) (can
         let bytes : take kept (bytes_of (with_bytes all_bytes can.content)) ≡ bytes_of can.content =
         ap (take kept) (bytes-with can.content all_bytes can.held ∙ append_assoc pair_two.block.contents pair_two.block.slack (head_bytes l.heads l.base (header_of l.heads pair_two.other) ++ body pair_two.other))
         ∙ take_at pair_two.block.contents (pair_two.block.slack ++ (head_bytes l.heads l.base (header_of l.heads pair_two.other) ++ body pair_two.other)) kept (sym kept-all) ∙ grow-bytes in
-        ap (λ content. records.with_blocks (can.before ++ block_record content size ∷ free_record (can.first + can.second - size) ++ can.behind) z)
+        ap (λ content. records.with_blocks (can.before ++ block_record content size ∷ free_record (can.first + can.second - size) ++ can.after) z)
         (ap (λ xs. with_bytes (resized n xs) (with_bytes all_bytes can.content)) bytes ∙ with-with can.content all_bytes (resized n (bytes_of can.content)))

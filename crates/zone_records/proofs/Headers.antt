@@ -64,12 +64,12 @@ module _ (l : Layout) (z : ZoneRecords) (held : Held l z) (at : ℕ) (r : Record
   content-is = ap (λ (r : BlockRecord). r.content) (of-record l z held at r).same
 
   use-is : has_use l.base b.role (length b.contents) ≡ true
-  use-is = (sound-parts l.heads l.base b (sound-one l mine.before b mine.behind held.sound mine.blocks)).use_is
+  use-is = (sound-parts l.heads l.base b (sound-one l mine.before b mine.after held.sound mine.blocks)).use_is
 
   -- where it ends
   pub range : at + r.here.size ≤ 0xFFFF_FFFF
   range =
-      let high = range-one l mine.before b mine.behind held.sound mine.blocks in
+      let high = range-one l mine.before b mine.after held.sound mine.blocks in
       let size = size-of l z held at r in
       let place = mine.place in
       omega arith

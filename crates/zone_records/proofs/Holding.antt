@@ -17,7 +17,7 @@ use Rattle.block_bytes.specs.WritingBack as back
 use Rattle.block_bytes.proofs.WrittenBack.{further}
 use Rattle.block_bytes.proofs.ReadBlocks.{head_size-positive}
 use Rattle.zone_records.specs.Records as records
-use Rattle.zone_records.specs.Records.{Content, Relocatable, BlockRecord, block_record, handle_record, ZoneRecords, bytes_of, with_bytes, address_behind, total_of}
+use Rattle.zone_records.specs.Records.{Content, Relocatable, BlockRecord, block_record, handle_record, ZoneRecords, bytes_of, with_bytes, address_after, total_of}
 use Rattle.zone_records.specs.Places.{RecordAt, HeldAt, HandleBlockAt, has_bytes}
 use Rattle.zone_records.specs.WritingBack.{overwritten_at, with_contents_at}
 use Rattle.zone_records.specs.Reading.{content_in, record_in, has_use, is_sound}
@@ -46,30 +46,30 @@ overwritten-all old others long = (λ i. take (sym long i) others ++ drop (long 
     ∙ (λ i. take_all (length others) others (omega arith) i ++ drop_all (length old) old (omega arith) i) ∙ append-nil others
 
 -- of the blocks of bytes, the one at this address is written
-pub raw-overwritten : (heads : HeadKind) (at x : ℕ) (bytes : List ℕ) (before : List RawBlock) (here : RawBlock) (behind : List RawBlock) → x ≡ at + raw.total_of heads before
-    → back.overwritten_at heads at x bytes (before ++ here ∷ behind) ≡ before ++ with_contents here (overwritten here.contents bytes) ∷ behind
-raw-overwritten heads at x bytes [] here behind is =
-    ap (λ (t : Bool). cond t (with_contents here (overwritten here.contents bytes) ∷ behind) (here ∷ back.overwritten_at heads (at + size_of heads here) x bytes behind)) (eq-eqb at x (omega arith))
-raw-overwritten heads at x bytes (b ∷ before) here behind is =
+pub raw-overwritten : (heads : HeadKind) (at x : ℕ) (bytes : List ℕ) (before : List RawBlock) (here : RawBlock) (after : List RawBlock) → x ≡ at + raw.total_of heads before
+    → back.overwritten_at heads at x bytes (before ++ here ∷ after) ≡ before ++ with_contents here (overwritten here.contents bytes) ∷ after
+raw-overwritten heads at x bytes [] here after is =
+    ap (λ (t : Bool). cond t (with_contents here (overwritten here.contents bytes) ∷ after) (here ∷ back.overwritten_at heads (at + size_of heads here) x bytes after)) (eq-eqb at x (omega arith))
+raw-overwritten heads at x bytes (b ∷ before) here after is =
     let some = head_size-positive heads in
-    ap (λ (t : Bool). cond t (with_contents b (overwritten b.contents bytes) ∷ (before ++ here ∷ behind)) (b ∷ back.overwritten_at heads (at + size_of heads b) x bytes (before ++ here ∷ behind)))
+    ap (λ (t : Bool). cond t (with_contents b (overwritten b.contents bytes) ∷ (before ++ here ∷ after)) (b ∷ back.overwritten_at heads (at + size_of heads b) x bytes (before ++ here ∷ after)))
     (further at x (size_of heads b + raw.total_of heads before) (omega arith) (omega arith))
-    ∙ ap (λ (bs : List RawBlock). b ∷ bs) (raw-overwritten heads (at + size_of heads b) x bytes before here behind (omega arith))
+    ∙ ap (λ (bs : List RawBlock). b ∷ bs) (raw-overwritten heads (at + size_of heads b) x bytes before here after (omega arith))
 
 -- a block with other bytes
 abbrev rewritten : BlockRecord → List ℕ → BlockRecord
 rewritten r bytes = record r { content = with_bytes (overwritten (bytes_of r.content) bytes) r.content }
 
 -- and of the blocks that they are
-overwritten-there : (heads : HeadKind) (base at x : ℕ) (bytes : List ℕ) (before : List RawBlock) (here : BlockRecord) (behind : List BlockRecord) → x ≡ at + raw.total_of heads before
-    → overwritten_at at x bytes (read heads base before ++ here ∷ behind) ≡ read heads base before ++ rewritten here bytes ∷ behind
-overwritten-there heads base at x bytes [] here behind is =
-    ap (λ (t : Bool). cond t (rewritten here bytes ∷ behind) (here ∷ overwritten_at (at + here.size) x bytes behind)) (eq-eqb at x (omega arith))
-overwritten-there heads base at x bytes (b ∷ before) here behind is =
+overwritten-there : (heads : HeadKind) (base at x : ℕ) (bytes : List ℕ) (before : List RawBlock) (here : BlockRecord) (after : List BlockRecord) → x ≡ at + raw.total_of heads before
+    → overwritten_at at x bytes (read heads base before ++ here ∷ after) ≡ read heads base before ++ rewritten here bytes ∷ after
+overwritten-there heads base at x bytes [] here after is =
+    ap (λ (t : Bool). cond t (rewritten here bytes ∷ after) (here ∷ overwritten_at (at + here.size) x bytes after)) (eq-eqb at x (omega arith))
+overwritten-there heads base at x bytes (b ∷ before) here after is =
     let some = head_size-positive heads in
-    ap (λ (t : Bool). cond t (rewritten (record_in heads base b) bytes ∷ (read heads base before ++ here ∷ behind)) (record_in heads base b ∷ overwritten_at (at + size_of heads b) x bytes (read heads base before ++ here ∷ behind)))
+    ap (λ (t : Bool). cond t (rewritten (record_in heads base b) bytes ∷ (read heads base before ++ here ∷ after)) (record_in heads base b ∷ overwritten_at (at + size_of heads b) x bytes (read heads base before ++ here ∷ after)))
     (further at x (size_of heads b + raw.total_of heads before) (omega arith) (omega arith))
-    ∙ ap (λ (rs : List BlockRecord). record_in heads base b ∷ rs) (overwritten-there heads base (at + size_of heads b) x bytes before here behind (omega arith))
+    ∙ ap (λ (rs : List BlockRecord). record_in heads base b ∷ rs) (overwritten-there heads base (at + size_of heads b) x bytes before here after (omega arith))
 
 -- a role that says a handle
 pub handle-role : (heads : HeadKind) (base : ℕ) (r : Role) (bytes : List ℕ) (h : ℕ) (flags : Flags) (contents : List ℕ) → content_in heads base r bytes ≡ Relocatable h flags contents
@@ -83,8 +83,8 @@ handle-role heads base (role.Relocatable offset others) bytes h flags contents i
 module _ (l : Layout) (z : ZoneRecords) (held : Held l z) (at : ℕ) where
   module _ (h : HeldAt z at) where
     -- its bytes
-    abbrev pub held_one : One l h.before (block_record h.content h.size) h.behind
-    held_one = one l z held h.before (block_record h.content h.size) h.behind h.blocks
+    abbrev pub held_one : One l h.before (block_record h.content h.size) h.after
+    held_one = one l z held h.before (block_record h.content h.size) h.after h.blocks
 
     abbrev b : RawBlock
     b = held_one.block
@@ -92,7 +92,7 @@ module _ (l : Layout) (z : ZoneRecords) (held : Held l z) (at : ℕ) where
     -- it isn't lent
     abbrev pub held-block : UnlentAt l at
     held-block = record {
-      block = record { before = held_one.first; here = b; behind = held_one.rest; blocks = held_one.blocks; place = h.place ∙ address-is l z held held_one.first h.before held_one.lower };
+      block = record { before = held_one.first; here = b; after = held_one.rest; blocks = held_one.blocks; place = h.place ∙ address-is l z held held_one.first h.before held_one.lower };
       unlent = ap (λ (r : BlockRecord). r.lent) held_one.same;
     }
 
@@ -113,7 +113,7 @@ module _ (l : Layout) (z : ZoneRecords) (held : Held l z) (at : ℕ) where
     pub held-with : (others : List ℕ) → content_in l.heads l.base b.role others ≡ with_bytes others h.content
     held-with others = sym (with-same l.heads l.base b.role b.contents others held-has) ∙ ap (with_bytes others) held-content
 
-    -- what is left behind a slice of them
+    -- what is left after a slice of them
     pub lent-kept : (ws : List ℕ) → Held (back.with_contents_at l at ws) (with_contents_at z at ws)
     lent-kept ws =
         let o = held_one in
@@ -126,21 +126,21 @@ module _ (l : Layout) (z : ZoneRecords) (held : Held l z) (at : ℕ) where
           content = (held-with (overwritten b.contents ws) ∙ ap (λ old. with_bytes (overwritten old ws) h.content) held-bytes) i;
           lent = held-block.unlent i;
         }) in
-        let all = changed l z held o.first (b ∷ []) (now ∷ []) o.rest h.before (rewritten (block_record h.content h.size) ws ∷ []) h.behind o.blocks o.lower o.upper (ap (λ r. r ∷ []) rec) (omega arith)
+        let all = changed l z held o.first (b ∷ []) (now ∷ []) o.rest h.before (rewritten (block_record h.content h.size) ws ∷ []) h.after o.blocks o.lower o.upper (ap (λ r. r ∷ []) rec) (omega arith)
         (and_from _ _ (sound-same l.heads l.base b (overwritten b.contents ws) long (sound-one l o.first b o.rest held.sound o.blocks)) refl) (words-one l.heads now (words-none l.heads l.base now b.contents held-has)) in
         let base = base-is l z held in
-        let low : o.first ++ now ∷ o.rest ≡ back.overwritten_at l.heads (raw.address_behind l []) at ws l.blocks =
-        sym (ap (back.overwritten_at l.heads (raw.address_behind l []) at ws) o.blocks ∙ raw-overwritten l.heads (raw.address_behind l []) at ws o.first b o.rest (omega arith)) in
-        let high : h.before ++ rewritten (block_record h.content h.size) ws ∷ h.behind ≡ overwritten_at (address_behind z.shape []) at ws z.blocks =
-        sym (ap (overwritten_at (address_behind z.shape []) at ws) (h.blocks ∙ ap (λ rs. rs ++ block_record h.content h.size ∷ h.behind) (sym o.lower))
-        ∙ overwritten-there l.heads l.base (address_behind z.shape []) at ws o.first (block_record h.content h.size) h.behind (omega arith)
-        ∙ ap (λ rs. rs ++ rewritten (block_record h.content h.size) ws ∷ h.behind) o.lower) in
+        let low : o.first ++ now ∷ o.rest ≡ back.overwritten_at l.heads (raw.address_after l []) at ws l.blocks =
+        sym (ap (back.overwritten_at l.heads (raw.address_after l []) at ws) o.blocks ∙ raw-overwritten l.heads (raw.address_after l []) at ws o.first b o.rest (omega arith)) in
+        let high : h.before ++ rewritten (block_record h.content h.size) ws ∷ h.after ≡ overwritten_at (address_after z.shape []) at ws z.blocks =
+        sym (ap (overwritten_at (address_after z.shape []) at ws) (h.blocks ∙ ap (λ rs. rs ++ block_record h.content h.size ∷ h.after) (sym o.lower))
+        ∙ overwritten-there l.heads l.base (address_after z.shape []) at ws o.first (block_record h.content h.size) h.after (omega arith)
+        ∙ ap (λ rs. rs ++ rewritten (block_record h.content h.size) ws ∷ h.after) o.lower) in
         subst (λ bs. Held (with_blocks bs l) (with_contents_at z at ws)) low (subst (λ rs. Held (with_blocks (o.first ++ now ∷ o.rest) l) (records.with_blocks rs z)) high all)
 
   -- that of a handle, lent or not
   module _ (h : HandleBlockAt z at) where
     abbrev pub handle_there : RecordAt z at
-    handle_there = record { before = h.before; here = handle_record h.handle h.flags h.bytes h.size h.lent; behind = h.behind; blocks = h.blocks; place = h.place }
+    handle_there = record { before = h.before; here = handle_record h.handle h.flags h.bytes h.size h.lent; after = h.after; blocks = h.blocks; place = h.place }
 
     abbrev pub handle-block : BlockAt l at
     handle-block = (of-record l z held at handle_there).block

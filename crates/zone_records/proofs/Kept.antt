@@ -110,8 +110,8 @@ module _ (l : Layout) (z : ZoneRecords) (held : Held l z) where
         let upper = inside.high in
         let fewer = few in
         let first = (within l start own).0 in
-        let other : BlockAt l (raw.address_behind l o.first) = record { before = o.first; here = o.block; behind = o.rest; blocks = o.blocks; place = refl } in
-        let one = one-block l start (raw.address_behind l o.first) (l.base + k) own other (omega arith) (omega arith) (omega arith) (omega arith) in
+        let other : BlockAt l (raw.address_after l o.first) = record { before = o.first; here = o.block; after = o.rest; blocks = o.blocks; place = refl } in
+        let one = one-block l start (raw.address_after l o.first) (l.base + k) own other (omega arith) (omega arith) (omega arith) (omega arith) in
         let master : has_bytes (content_in l.heads l.base own.here.role own.here.contents) ≡ false =
         ap (λ (b : RawBlock). has_bytes (content_in l.heads l.base b.role b.contents)) one.1 ∙ ap (λ r. has_bytes (content_in l.heads l.base r o.block.contents)) (slot-role l z held inside.number inside.slot).0 in
         let no : false ≡ true = sym master ∙ ap has_bytes same ∙ has in

@@ -52,7 +52,7 @@ count-is l z held = sym (count-read l.heads l.base l.blocks) ∙ ap (λ (z : Zon
 
 module _ (l : Layout) (z : ZoneRecords) (held : Held l z) (at : ℕ) where
   module _ (h : HeldAt z at) where
-    abbrev o : One l h.before (block_record h.content h.size) h.behind
+    abbrev o : One l h.before (block_record h.content h.size) h.after
     o = held_one l z held at h
 
     lend-owner : has_owner o.block.role ≡ true
@@ -64,7 +64,7 @@ module _ (l : Layout) (z : ZoneRecords) (held : Held l z) (at : ℕ) where
         let size = held-size l z held at h in
         let content = held-content l z held at h in
         subst (λ m. Held m (lent_out z h)) (sym ends)
-        (changed l z held o.first (o.block ∷ []) (lent_block o.block ∷ []) o.rest h.before (lent_record h.content h.size ∷ []) h.behind o.blocks o.lower o.upper
+        (changed l z held o.first (o.block ∷ []) (lent_block o.block ∷ []) o.rest h.before (lent_record h.content h.size ∷ []) h.after o.blocks o.lower o.upper
         (λ i. lent_record (content i) (size i) ∷ []) (omega arith)
         (and_from _ _ (sound-lent l.heads l.base o.block o.block.contents true refl lend-owner (sound-one l o.first o.block o.rest held.sound o.blocks)) refl)
         (words-one l.heads (lent_block o.block) (words-none l.heads l.base (lent_block o.block) o.block.contents (held-has l z held at h))))
@@ -92,7 +92,7 @@ module _ (l : Layout) (z : ZoneRecords) (held : Held l z) (at : ℕ) where
       pub lend-can : CanLend l at
       lend-can = lend_can
 
-      pub lend-done : (m : Layout) → ((can : CanLend l at) → m ≡ with_blocks (can.block.before ++ lent_block can.block.here ∷ can.block.behind) l) → Held m (lent_out z h)
+      pub lend-done : (m : Layout) → ((can : CanLend l at) → m ≡ with_blocks (can.block.before ++ lent_block can.block.here ∷ can.block.after) l) → Held m (lent_out z h)
       lend-done m ends = lend-ends m (ends lend_can)
 
       pub lend-lent : (loan : Loan) → ((can : CanLend l at) → loan ≡ raw.loan_of l can.block) → loan ≡ loan_of z h
@@ -100,7 +100,7 @@ module _ (l : Layout) (z : ZoneRecords) (held : Held l z) (at : ℕ) where
 
   module _ (loan : Loan) (is : IsLoanOf z at loan) where
     abbrev back_there : RecordAt z at
-    back_there = record { before = is.before; here = lent_record is.content is.size; behind = is.behind; blocks = is.blocks; place = is.place }
+    back_there = record { before = is.before; here = lent_record is.content is.size; after = is.after; blocks = is.blocks; place = is.place }
 
     abbrev t : OfRecord l z held at back_there
     t = of-record l z held at back_there
@@ -138,7 +138,7 @@ module _ (l : Layout) (z : ZoneRecords) (held : Held l z) (at : ℕ) where
     back-is = back_is
 
     -- it came back
-    pub back-ends : (m : Layout) → ((is : raw.IsLoanOf l at loan) → m ≡ with_blocks (is.block.before ++ given_back is.block.here loan.bytes ∷ is.block.behind) l) → Held m (taken_back z is)
+    pub back-ends : (m : Layout) → ((is : raw.IsLoanOf l at loan) → m ≡ with_blocks (is.block.before ++ given_back is.block.here loan.bytes ∷ is.block.after) l) → Held m (taken_back z is)
     back-ends m ends =
         let o = t.block in
         let long = back-long in
@@ -147,7 +147,7 @@ module _ (l : Layout) (z : ZoneRecords) (held : Held l z) (at : ℕ) where
         let content : content_in l.heads l.base b.role loan.bytes ≡ with_bytes loan.bytes is.content =
         sym (with-same l.heads l.base b.role b.contents loan.bytes back-has) ∙ ap (with_bytes loan.bytes) back-content in
         subst (λ m. Held m (taken_back z is)) (sym (ends back_is))
-        (changed l z held o.before (b ∷ []) (now ∷ []) o.behind is.before (block_record (with_bytes loan.bytes is.content) is.size ∷ []) is.behind o.blocks t.lower t.upper
+        (changed l z held o.before (b ∷ []) (now ∷ []) o.after is.before (block_record (with_bytes loan.bytes is.content) is.size ∷ []) is.after o.blocks t.lower t.upper
         (λ i. block_record (content i) (size i) ∷ []) (omega arith)
-        (and_from _ _ (sound-lent l.heads l.base b loan.bytes false long (owner-has l.heads l.base b.role b.contents back-has) (sound-one l o.before b o.behind held.sound o.blocks)) refl)
+        (and_from _ _ (sound-lent l.heads l.base b loan.bytes false long (owner-has l.heads l.base b.role b.contents back-has) (sound-one l o.before b o.after held.sound o.blocks)) refl)
         (words-one l.heads now (words-none l.heads l.base now b.contents back-has)))

@@ -60,8 +60,8 @@ module _ (l : Layout) (sound : AreSound l) where
           flags = flags;
           bytes = b.here.contents;
           lent = b.here.lent;
-          behind = r.behind;
-          blocks = r.blocks ∙ ap (λ (k : Role). r.before ++ record { size = size_of l.heads b.here; content = content_in l.heads l.base k b.here.contents; lent = b.here.lent } ∷ r.behind) is;
+          after = r.after;
+          blocks = r.blocks ∙ ap (λ (k : Role). r.before ++ record { size = size_of l.heads b.here; content = content_in l.heads l.base k b.here.contents; lent = b.here.lent } ∷ r.after) is;
           place = r.place;
         },
         refl,
@@ -99,15 +99,15 @@ module _ (l : Layout) (sound : AreSound l) where
   tight-apart : AreRight l → (at : ℕ) → FreePair z at → ⊥
   tight-apart right at p =
       let held = held-read l sound in
-      let t = two l z held p.before (block_record Free p.first) (block_record Free p.second) p.behind p.blocks in
+      let t = two l z held p.before (block_record Free p.first) (block_record Free p.second) p.after p.blocks in
       let first : t.block.role ≡ role.Free = free-role l.heads l.base t.block.role t.block.contents (ap (λ (r : BlockRecord). r.content) t.same) in
       let second : t.other.role ≡ role.Free = free-role l.heads l.base t.other.role t.other.contents (ap (λ (r : BlockRecord). r.content) t.same_other) in
-      let b : BlockAt l at = record { before = t.first; here = t.block; behind = t.other ∷ t.rest; blocks = t.blocks; place = p.place ∙ address-is l z held t.first p.before t.lower } in
+      let b : BlockAt l at = record { before = t.first; here = t.block; after = t.other ∷ t.rest; blocks = t.blocks; place = p.place ∙ address-is l z held t.first p.before t.lower } in
       let total = total-append l.heads t.first (t.block ∷ []) in let place = b.place in
       let c : BlockAt l (at + size_of l.heads t.block) = record {
         before = t.first ++ t.block ∷ [];
         here = t.other;
-        behind = t.rest;
+        after = t.rest;
         blocks = t.blocks ∙ sym (append_assoc t.first (t.block ∷ []) (t.other ∷ t.rest));
         place = omega arith;
       } in
@@ -123,12 +123,12 @@ module _ (l : Layout) (sound : AreSound l) where
   length_by role.Master bytes at size used tight = ap (has_length z.shape size) (sym (length-same l.heads l.base role.Master bytes used (λ is. absurd (cc is)))) ∙ tight
   length_by (role.Relocatable offset flags) bytes at size used tight = tight
 
-  lengths_from : AreRight l → (before behind : List RawBlock) → l.blocks ≡ before ++ behind → list_all (λ (b : BlockRecord). is_free b.content || has_length z.shape b.size (length_of b.content)) (read l.heads l.base behind) ≡ true
+  lengths_from : AreRight l → (before after : List RawBlock) → l.blocks ≡ before ++ after → list_all (λ (b : BlockRecord). is_free b.content || has_length z.shape b.size (length_of b.content)) (read l.heads l.base after) ≡ true
   lengths_from right before [] is = refl
   lengths_from right before (b ∷ bs) is =
-      let at = raw.address_behind l before in
+      let at = raw.address_after l before in
       let used = (sound-parts l.heads l.base b (sound-one l before b bs sound is)).use_is in
-      and_from _ _ (length_by b.role b.contents at (size_of l.heads b) used (right at (record { before = before; here = b; behind = bs; blocks = is; place = refl })).tight)
+      and_from _ _ (length_by b.role b.contents at (size_of l.heads b) used (right at (record { before = before; here = b; after = bs; blocks = is; place = refl })).tight)
       (lengths_from right (before ++ b ∷ []) bs (is ∙ sym (append_assoc before (b ∷ []) bs)))
 
   pub tight-made : AreRight l → AreTight z
@@ -144,15 +144,15 @@ module _ (l : Layout) (sound : AreSound l) where
   one_has : AreTight z → (at : ℕ) (b : BlockAt l at) → has_by l.heads l.base b.here.role b.here.contents (size_of l.heads b.here)
   one_has tight at b =
       let p : BlockRecord → Bool = (λ (b : BlockRecord). is_free b.content || has_length z.shape b.size (length_of b.content)) in
-      let before = read l.heads l.base b.before in let rest = read l.heads l.base (b.here ∷ b.behind) in
-      let all : (list_all p before && list_all p rest) ≡ true = sym (list_all-append p before rest) ∙ ap (list_all p) (sym (ap (read l.heads l.base) b.blocks ∙ read-append l.heads l.base b.before (b.here ∷ b.behind))) ∙ tight.lengths in
+      let before = read l.heads l.base b.before in let rest = read l.heads l.base (b.here ∷ b.after) in
+      let all : (list_all p before && list_all p rest) ≡ true = sym (list_all-append p before rest) ∙ ap (list_all p) (sym (ap (read l.heads l.base) b.blocks ∙ read-append l.heads l.base b.before (b.here ∷ b.after))) ∙ tight.lengths in
       (and_parts _ _ (and_parts (list_all p before) (list_all p rest) all).1).0
 
-  -- the block behind one
-  pub next-is : (at : ℕ) (b : BlockAt l at) (next : BlockAt l (at + size_of l.heads b.here)) → (rest : List RawBlock) × (b.behind ≡ next.here ∷ rest)
-  next-is at b next = from b.behind b.blocks
+  -- the block after one
+  pub next-is : (at : ℕ) (b : BlockAt l at) (next : BlockAt l (at + size_of l.heads b.here)) → (rest : List RawBlock) × (b.after ≡ next.here ∷ rest)
+  next-is at b next = from b.after b.blocks
     where
-      from : (behind : List RawBlock) → l.blocks ≡ b.before ++ b.here ∷ behind → (rest : List RawBlock) × (behind ≡ next.here ∷ rest)
+      from : (after : List RawBlock) → l.blocks ≡ b.before ++ b.here ∷ after → (rest : List RawBlock) × (after ≡ next.here ∷ rest)
       from [] is =
           let place = b.place in let sum = ap (raw.total_of l.heads) is in let more = total-append l.heads b.before (b.here ∷ []) in
           let end = (within l (at + size_of l.heads b.here) next).1 in let some = size_of-pos l.heads next.here in absurd (omega arith)
@@ -161,7 +161,7 @@ module _ (l : Layout) (sound : AreSound l) where
           let mine : BlockAt l (at + size_of l.heads b.here) = record {
             before = b.before ++ b.here ∷ [];
             here = c;
-            behind = cs;
+            after = cs;
             blocks = is ∙ sym (append_assoc b.before (b.here ∷ []) (c ∷ cs));
             place = omega arith;
           } in
@@ -171,20 +171,20 @@ module _ (l : Layout) (sound : AreSound l) where
   apart_as tight at b free next other =
       let n = next-is at b next in
       let r = of-block l z (held-read l sound) at b in
-      let first = free-record l.heads l.base b.here free (sound-one l b.before b.here b.behind sound b.blocks) in
-      let second = free-record l.heads l.base next.here other (sound-one l next.before next.here next.behind sound next.blocks) in
+      let first = free-record l.heads l.base b.here free (sound-one l b.before b.here b.after sound b.blocks) in
+      let second = free-record l.heads l.base next.here other (sound-one l next.before next.here next.after sound next.blocks) in
       tight.apart at (record {
         before = r.before;
         first = size_of l.heads b.here;
         second = size_of l.heads next.here;
-        behind = read l.heads l.base n.0;
+        after = read l.heads l.base n.0;
         blocks = r.blocks ∙ (λ i. r.before ++ first i ∷ (ap (read l.heads l.base) n.1 ∙ ap (λ (x : BlockRecord). x ∷ read l.heads l.base n.0) second) i);
         place = r.place;
       })
 
   used_as : AreTight z → (at : ℕ) (b : BlockAt l at) (r : Role) → b.here.role ≡ r → (r ≡ role.Free → ⊥) → has_length z.shape (size_of l.heads b.here) (length b.here.contents) ≡ true
   used_as tight at b r is other =
-      tight_used b.here.role b.here.contents at (size_of l.heads b.here) (sound-parts l.heads l.base b.here (sound-one l b.before b.here b.behind sound b.blocks)).use_is (λ free. other (sym is ∙ free)) (one_has tight at b)
+      tight_used b.here.role b.here.contents at (size_of l.heads b.here) (sound-parts l.heads l.base b.here (sound-one l b.before b.here b.after sound b.blocks)).use_is (λ free. other (sym is ∙ free)) (one_has tight at b)
 
   tight-as : AreTight z → (at : ℕ) (b : BlockAt l at) (r : Role) → b.here.role ≡ r → TightAs l at r (size_of l.heads b.here) (length b.here.contents)
   tight-as tight at b role.Free is = apart_as tight at b is
@@ -203,11 +203,11 @@ module _ (z : ZoneRecords) (memory : Memory) where
 
   links-named : AreLinked named → AreLinked z
   links-named links = record {
-    blocks = λ at b. let h = links.blocks at (record { before = b.before; size = b.size; handle = b.handle; flags = b.flags; bytes = b.bytes; lent = b.lent; behind = b.behind; blocks = b.blocks; place = b.place }) in
+    blocks = λ at b. let h = links.blocks at (record { before = b.before; size = b.size; handle = b.handle; flags = b.flags; bytes = b.bytes; lent = b.lent; after = b.after; blocks = b.blocks; place = b.place }) in
         record { flags = h.flags; slot_is = h.slot_is };
     slots = λ h flags contents c. let k = links.slots h flags contents c in let b = k.block in record {
       at = k.at;
-      block = record { before = b.before; size = b.size; handle = b.handle; flags = b.flags; bytes = b.bytes; lent = b.lent; behind = b.behind; blocks = b.blocks; place = b.place };
+      block = record { before = b.before; size = b.size; handle = b.handle; flags = b.flags; bytes = b.bytes; lent = b.lent; after = b.after; blocks = b.blocks; place = b.place };
       handle_is = k.handle_is;
       place = k.place;
     };
@@ -216,7 +216,7 @@ module _ (z : ZoneRecords) (memory : Memory) where
 
   tight-named : AreTight named → AreTight z
   tight-named tight = record {
-    apart = λ at p. tight.apart at (record { before = p.before; first = p.first; second = p.second; behind = p.behind; blocks = p.blocks; place = p.place });
+    apart = λ at p. tight.apart at (record { before = p.before; first = p.first; second = p.second; after = p.after; blocks = p.blocks; place = p.place });
     lengths = tight.lengths;
   }
 
@@ -224,7 +224,7 @@ module _ (z : ZoneRecords) (memory : Memory) where
 front-in : (bytes : List ℕ) (l : Layout) → image_of l ≡ bytes → l.front < 2 ^ 32 → big_number 4 (part bytes front_field 4) ≡ l.front
 front-in bytes l image small =
     ap (λ (xs : List ℕ). big_number 4 (part xs front_field 4)) (sym image)
-    ∙ front-read (raw.address_behind l l.blocks) l.front (free_total l.heads l.blocks) (first_free l.heads (raw.address_behind l []) l.blocks) (rendered l.heads l.base l.blocks ++ l.spare) small
+    ∙ front-read (raw.address_after l l.blocks) l.front (free_total l.heads l.blocks) (first_free l.heads (raw.address_after l []) l.blocks) (rendered l.heads l.base l.blocks ++ l.spare) small
 
 first_small : (l : Layout) → AreSound l → (xs : List ℕ) → Follow (slots_of_zone (records_in l)) l.front xs → l.front < 2 ^ 32
 unfolding Follow

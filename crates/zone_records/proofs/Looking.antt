@@ -65,30 +65,30 @@ free-record heads base b is sound =
     λ i. record { size = size_of heads b; content = ap (λ r. content_in heads base r b.contents) is i; lent = unlent i }
 
 module _ (l : Layout) (z : ZoneRecords) (held : Held l z) where
-  -- a block of bytes where a block's header stands
+  -- a block of bytes where a block's header is
   pub record OfRecord (at : ℕ) (r : RecordAt z at) : Type 0 where
     pub block : BlockAt l at
     pub same : record_in l.heads l.base block.here ≡ r.here
     pub lower : read l.heads l.base block.before ≡ r.before
-    pub upper : read l.heads l.base block.behind ≡ r.behind
+    pub upper : read l.heads l.base block.after ≡ r.after
 
   pub of-record : (at : ℕ) (r : RecordAt z at) → OfRecord at r
   of-record at r =
-      let o = one l z held r.before r.here r.behind r.blocks in
+      let o = one l z held r.before r.here r.after r.blocks in
       record {
-        block = record { before = o.first; here = o.block; behind = o.rest; blocks = o.blocks; place = r.place ∙ address-is l z held o.first r.before o.lower };
+        block = record { before = o.first; here = o.block; after = o.rest; blocks = o.blocks; place = r.place ∙ address-is l z held o.first r.before o.lower };
         same = o.same;
         lower = o.lower;
         upper = o.upper;
       }
 
-  -- and a block's header stands where one of bytes does
+  -- and a block's header is where one of bytes does
   abbrev pub of-block : (at : ℕ) (b : BlockAt l at) → RecordAt z at
   of-block at b = record {
     before = read l.heads l.base b.before;
     here = record_in l.heads l.base b.here;
-    behind = read l.heads l.base b.behind;
-    blocks = sym (ap (λ (z : ZoneRecords). z.blocks) held.shows) ∙ ap (read l.heads l.base) b.blocks ∙ read-append l.heads l.base b.before (b.here ∷ b.behind);
+    after = read l.heads l.base b.after;
+    blocks = sym (ap (λ (z : ZoneRecords). z.blocks) held.shows) ∙ ap (read l.heads l.base) b.blocks ∙ read-append l.heads l.base b.before (b.here ∷ b.after);
     place = b.place ∙ sym (address-is l z held b.before (read l.heads l.base b.before) refl);
   }
 
@@ -96,9 +96,9 @@ module _ (l : Layout) (z : ZoneRecords) (held : Held l z) where
   pub size-of : (at : ℕ) (r : RecordAt z at) → size_of l.heads (of-record at r).block.here ≡ r.here.size
   size-of at r = ap (λ (r : BlockRecord). r.size) (of-record at r).same
 
-  -- behind a block there is nothing where no block of bytes is
-  pub nothing-behind : (at : ℕ) → ((b : BlockAt l at) → b.behind ≡ []) → (r : RecordAt z at) → r.behind ≡ []
-  nothing-behind at last r = let o = of-record at r in sym o.upper ∙ none-read l.heads l.base o.block.behind (last o.block)
+  -- after a block there is nothing where no block of bytes is
+  pub nothing-after : (at : ℕ) → ((b : BlockAt l at) → b.after ≡ []) → (r : RecordAt z at) → r.after ≡ []
+  nothing-after at last r = let o = of-record at r in sym o.upper ∙ none-read l.heads l.base o.block.after (last o.block)
 
   -- the block that has the byte before another's header ends there
   pub ends-there : (at start : ℕ) → RecordAt z at → HoldsByte l (at - 1) start → (r : RecordAt z start) → at ≡ start + r.here.size

@@ -4,7 +4,7 @@ use Rattle.std.proofs.lemmas.Bool.{and_parts}
 use Rattle.mac_base.specs.declared.block.HeadKind.{HeadKind}
 use Rattle.mac_base.specs.HeadKind.{head_size, zone_header, slot_count}
 use Rattle.block_bytes.specs.declared.header.Role.TheVariants as role
-use Rattle.block_bytes.specs.Layout.{RawBlock, Layout, BlockAt, UnlentAt, has_owner, header_bytes, image_of, rendered, size_of, total_of, address_behind}
+use Rattle.block_bytes.specs.Layout.{RawBlock, Layout, BlockAt, UnlentAt, has_owner, header_bytes, image_of, rendered, size_of, total_of, address_after}
 use Rattle.block_bytes.specs.declared.structure.Compared.{Compared}
 use Rattle.block_bytes.specs.declared.structure.Compared.TheVariants.{Differ, NextMaster, AllAgree}
 use Rattle.block_bytes.specs.Finding.{SplitAt}
@@ -68,12 +68,12 @@ image-long l =
 
 module _ (l : Layout) (sound : AreSound l) (at : ℕ) (b : BlockAt l at) where
   here_sound : is_sound l.heads l.base b.here ≡ true
-  here_sound = sound-one l b.before b.here b.behind sound b.blocks
+  here_sound = sound-one l b.before b.here b.after sound b.blocks
 
   -- a block ends below the highest addresses, and within the zone's bytes
   pub block-end : (at + size_of l.heads b.here ≤ 0xFFFF_FFFF) × (at - l.base + size_of l.heads b.here ≤ length (image_of l))
   block-end =
-      let high = range-one l b.before b.here b.behind sound b.blocks in
+      let high = range-one l b.before b.here b.after sound b.blocks in
       let place = b.place in
       let inside = (within l at b).1 in
       let long = image-long l in
@@ -84,7 +84,7 @@ module _ (l : Layout) (sound : AreSound l) (at : ℕ) (b : BlockAt l at) where
     contents-long = master-long l.heads l.base b.here here_sound master
 
     pub contents-words : b.here.contents ≡ words_of l.heads (slots_in l.heads slot_count b.here.contents)
-    contents-words = words-at l b.before b.here b.behind sound b.blocks master
+    contents-words = words-at l b.before b.here b.after sound b.blocks master
 
     -- it isn't lent
     pub contents-unlent : UnlentAt l at
@@ -144,33 +144,33 @@ module _ (l : Layout) (bytes : List ℕ) where
     pub from-is : from - l.base ≡ at_split
     from-is = let place = split.place in omega arith
 
-    module _ (at : ℕ) (next : AgreeUpTo l bytes (from - l.base) split.behind at) where
+    module _ (at : ℕ) (next : AgreeUpTo l bytes (from - l.base) split.after at) where
       abbrev upto : List RawBlock
       upto = next.passed ++ next.here ∷ []
 
-      pub all_blocks : l.blocks ≡ split.before ++ (upto ++ next.behind)
-      all_blocks = split.blocks ∙ ap (λ (bs : List RawBlock). split.before ++ bs) (next.blocks ∙ sym (append_assoc next.passed (next.here ∷ []) next.behind))
+      pub all_blocks : l.blocks ≡ split.before ++ (upto ++ next.after)
+      all_blocks = split.blocks ∙ ap (λ (bs : List RawBlock). split.before ++ bs) (next.blocks ∙ sym (append_assoc next.passed (next.here ∷ []) next.after))
 
       -- the next master block
       abbrev pub next_block : BlockAt l at
       next_block = record {
         before = split.before ++ next.passed;
         here = next.here;
-        behind = next.behind;
-        blocks = split.blocks ∙ ap (λ (bs : List RawBlock). split.before ++ bs) next.blocks ∙ sym (append_assoc split.before next.passed (next.here ∷ next.behind));
+        after = next.after;
+        blocks = split.blocks ∙ ap (λ (bs : List RawBlock). split.before ++ bs) next.blocks ∙ sym (append_assoc split.before next.passed (next.here ∷ next.after));
         place = (let total = total-append l.heads split.before next.passed in let first = from-is in let place = next.place in omega arith);
       }
 
       -- it ends after the address, and within the zone
-      pub next-end : (from < at + size_of l.heads next.here) × (at + size_of l.heads next.here ≤ address_behind l l.blocks)
+      pub next-end : (from < at + size_of l.heads next.here) × (at + size_of l.heads next.here ≤ address_after l l.blocks)
       next-end = let first = from-is in let place = next.place in let there = split.place in let some = head_size-positive l.heads in let inside = (within l at next_block).1 in (omega arith, omega arith)
 
       -- the blocks after it
       abbrev pub next_split : (end : ℕ) → end ≡ at + size_of l.heads next.here → SplitAt l end
       next_split end is = record {
         before = split.before ++ upto;
-        behind = next.behind;
-        blocks = all_blocks ∙ sym (append_assoc split.before upto next.behind);
+        after = next.after;
+        blocks = all_blocks ∙ sym (append_assoc split.before upto next.after);
         place = (let total = total-append l.heads split.before upto in let own = total-append l.heads next.passed (next.here ∷ []) in let first = from-is in let place = next.place in omega arith);
       }
 
@@ -181,9 +181,9 @@ none-next l bytes offset bs (NextMaster at) said other headers = absurd (other a
 none-next l bytes offset bs AllAgree said other headers = said.0
 
 -- the headers from an address on
-pub headers-from : (l : Layout) (bytes : List ℕ) (from : ℕ) (split : SplitAt l from) → HasHeaders l bytes zone_header l.blocks → HasHeaders l bytes (from - l.base) split.behind
+pub headers-from : (l : Layout) (bytes : List ℕ) (from : ℕ) (split : SplitAt l from) → HasHeaders l bytes zone_header l.blocks → HasHeaders l bytes (from - l.base) split.after
 headers-from l bytes from split headers =
-    subst (λ n. HasHeaders l bytes n split.behind) (sym (from-is l bytes from split)) (headers-rest l bytes zone_header split.before split.behind (subst (HasHeaders l bytes zone_header) split.blocks headers))
+    subst (λ n. HasHeaders l bytes n split.after) (sym (from-is l bytes from split)) (headers-rest l bytes zone_header split.before split.after (subst (HasHeaders l bytes zone_header) split.blocks headers))
 
 -- something holds of all master blocks before an address
 pub record Done (l : Layout) (P : ℕ → List ℕ → Type 0) (from : ℕ) : Type 0 where
@@ -192,13 +192,13 @@ pub record Done (l : Layout) (P : ℕ → List ℕ → Type 0) (from : ℕ) : Ty
 
 module _ (l : Layout) (bytes : List ℕ) (P : ℕ → List ℕ → Type 0) (from : ℕ) (done : Done l P from) where
   -- it holds of all where no more come
-  pub done-all : none_master done.split.behind ≡ true → EachMaster P l.heads zone_header l.blocks
+  pub done-all : none_master done.split.after ≡ true → EachMaster P l.heads zone_header l.blocks
   done-all none =
       let split = done.split in
-      subst (EachMaster P l.heads zone_header) (sym split.blocks) (each-join P l.heads zone_header split.before split.behind done.each (each-none P l.heads (zone_header + total_of l.heads split.before) split.behind none))
+      subst (EachMaster P l.heads zone_header) (sym split.blocks) (each-join P l.heads zone_header split.before split.after done.each (each-none P l.heads (zone_header + total_of l.heads split.before) split.after none))
 
   -- and of one more
-  pub done-more : (at end : ℕ) (next : AgreeUpTo l bytes (from - l.base) done.split.behind at) → end ≡ at + size_of l.heads next.here → P (at - l.base + head_size l.heads) next.here.contents → Done l P end
+  pub done-more : (at end : ℕ) (next : AgreeUpTo l bytes (from - l.base) done.split.after at) → end ≡ at + size_of l.heads next.here → P (at - l.base + head_size l.heads) next.here.contents → Done l P end
   done-more at end next is holds =
       let split = done.split in
       let start = at_split l bytes from split in

@@ -1,4 +1,4 @@
--- A block and a free one behind it, as blocks of bytes.
+-- A block and a free one after it, as blocks of bytes.
 use Rattle.std.proofs.Common.{◌≡◌, ℕ, ◌+◌, ◌-◌, ◌≤◌, true, List, [], ◌∷◌, ◌++◌, length, refl, ap, sym, ◌∙◌, arith, append_assoc}
 use Rattle.std.proofs.lemmas.Bool.{and_from}
 use Rattle.mac_base.specs.declared.block.HeadKind.{HeadKind}
@@ -20,29 +20,29 @@ use Rattle.zone_records.proofs.Blocks.{sized, sized-sum, sound-possible}
 pub sound-sized : (heads : HeadKind) (base : ℕ) (b : RawBlock) → is_sound heads base b ≡ true → sized heads (size_of heads b) ≡ true
 sound-sized heads base b sound = let s = sound-parts heads base b sound in and_from _ _ s.even s.large
 
--- a block that isn't lent, and a free one behind it
+-- a block that isn't lent, and a free one after it
 pub record Neighbours (z : ZoneRecords) (at : ℕ) : Type 0 where
   pub before : List BlockRecord
   pub content : Content
   pub first : ℕ
   pub second : ℕ
-  pub behind : List BlockRecord
-  pub blocks : z.blocks ≡ before ++ block_record content first ∷ block_record Free second ∷ behind
-  pub place : at ≡ records.address_behind z.shape before
+  pub after : List BlockRecord
+  pub blocks : z.blocks ≡ before ++ block_record content first ∷ block_record Free second ∷ after
+  pub place : at ≡ records.address_after z.shape before
 
 -- such are two free ones
 abbrev pub free_pair : {z : ZoneRecords} {at : ℕ} → FreePair z at → Neighbours z at
-free_pair pair = record { before = pair.before; content = Free; first = pair.first; second = pair.second; behind = pair.behind; blocks = pair.blocks; place = pair.place }
+free_pair pair = record { before = pair.before; content = Free; first = pair.first; second = pair.second; after = pair.after; blocks = pair.blocks; place = pair.place }
 
 -- and one that can grow, with the free one
 abbrev pub grow_pair : {z : ZoneRecords} {at size n : ℕ} → CanGrow z at size n → Neighbours z at
-grow_pair can = record { before = can.before; content = can.content; first = can.first; second = can.second; behind = can.behind; blocks = can.blocks; place = can.place }
+grow_pair can = record { before = can.before; content = can.content; first = can.first; second = can.second; after = can.after; blocks = can.blocks; place = can.place }
 
 module _ (l : Layout) (z : ZoneRecords) (held : Held l z) (at : ℕ) (p : Neighbours z at) where
-  abbrev pub t : Two l p.before (block_record p.content p.first) (block_record Free p.second) p.behind
-  t = two l z held p.before (block_record p.content p.first) (block_record Free p.second) p.behind p.blocks
+  abbrev pub t : Two l p.before (block_record p.content p.first) (block_record Free p.second) p.after
+  t = two l z held p.before (block_record p.content p.first) (block_record Free p.second) p.after p.blocks
 
-  pub there : at ≡ raw.address_behind l t.first
+  pub there : at ≡ raw.address_after l t.first
   there = p.place ∙ address-is l z held t.first p.before t.lower
 
   pub sizes : (size_of l.heads t.block ≡ p.first) × (size_of l.heads t.other ≡ p.second)
@@ -50,7 +50,7 @@ module _ (l : Layout) (z : ZoneRecords) (held : Held l z) (at : ℕ) (p : Neighb
 
   -- the first
   abbrev pub first_at : BlockAt l at
-  first_at = record { before = t.first; here = t.block; behind = t.other ∷ t.rest; blocks = t.blocks; place = there }
+  first_at = record { before = t.first; here = t.block; after = t.other ∷ t.rest; blocks = t.blocks; place = there }
 
   pub first-size : (h : Header) → ((b : BlockAt l at) → h ≡ header_of l.heads b.here) → h.size ≡ p.first
   first-size h says = ap (λ (h : Header). h.size) (says first_at) ∙ sizes.0
@@ -59,11 +59,11 @@ module _ (l : Layout) (z : ZoneRecords) (held : Held l z) (at : ℕ) (p : Neighb
   pub second_blocks : l.blocks ≡ (t.first ++ t.block ∷ []) ++ t.other ∷ t.rest
   second_blocks = t.blocks ∙ sym (append_assoc t.first (t.block ∷ []) (t.other ∷ t.rest))
 
-  pub second_place : (next : ℕ) → next ≡ at + p.first → next ≡ raw.address_behind l (t.first ++ t.block ∷ [])
+  pub second_place : (next : ℕ) → next ≡ at + p.first → next ≡ raw.address_after l (t.first ++ t.block ∷ [])
   second_place next is = let place = there in let size = sizes.0 in let sum = total-append l.heads t.first (t.block ∷ []) in omega arith
 
   abbrev pub second_at : (next : ℕ) → next ≡ at + p.first → BlockAt l next
-  second_at next is = record { before = t.first ++ t.block ∷ []; here = t.other; behind = t.rest; blocks = second_blocks; place = second_place next is }
+  second_at next is = record { before = t.first ++ t.block ∷ []; here = t.other; after = t.rest; blocks = second_blocks; place = second_place next is }
 
   pub second-size : (next : ℕ) → next ≡ at + p.first → (h : Header) → ((b : BlockAt l next) → h ≡ header_of l.heads b.here) → h.size ≡ p.second
   second-size next is h says = ap (λ (h : Header). h.size) (says (second_at next is)) ∙ sizes.1
@@ -86,7 +86,7 @@ module _ (l : Layout) (z : ZoneRecords) (held : Held l z) (at : ℕ) (p : Neighb
   both-sized = (λ i. sized l.heads (sym sizes.0 i + sym sizes.1 i))
       ∙ sized-sum l.heads (size_of l.heads t.block) (size_of l.heads t.other) (sound-sized l.heads l.base t.block both-sound.0) (sound-sized l.heads l.base t.other both-sound.1)
 
-  -- all bytes behind the first header
+  -- all bytes after the first header
   abbrev pub joint : List ℕ
   joint = joint_body l t.block t.other
 
@@ -104,7 +104,7 @@ module _ (l : Layout) (z : ZoneRecords) (held : Held l z) (at : ℕ) (p : Neighb
         before = t.first;
         here = t.block;
         next = t.other;
-        behind = t.rest;
+        after = t.rest;
         blocks = t.blocks;
         place = there;
         unlent_here = ap (λ (r : BlockRecord). r.lent) t.same;

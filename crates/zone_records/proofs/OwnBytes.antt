@@ -30,7 +30,7 @@ use Rattle.zone_records.proofs.ReadWord.{flags_from-state, state-range}
 part-of : (bytes pre mid post : List ℕ) (at k n : ℕ) → drop at bytes ≡ pre ++ (mid ++ post) → length pre ≡ k → length mid ≡ n → part bytes (at + k) n ≡ mid
 part-of bytes pre mid post at k n is first long = ap (take n) (sym (drop-drop k at bytes) ∙ ap (drop k) is ∙ drop_at pre (mid ++ post) k first) ∙ take_at mid post n long
 
--- and what is behind the first of two
+-- and what is after the first of two
 rest-of : (bytes pre post : List ℕ) (at k : ℕ) → drop at bytes ≡ pre ++ post → length pre ≡ k → drop (at + k) bytes ≡ post
 rest-of bytes pre post at k is first = sym (drop-drop k at bytes) ∙ ap (drop k) is ∙ drop_at pre post k first
 
@@ -91,11 +91,11 @@ blocks-own heads base bytes rest at (b ∷ bs) words is =
     is ∙ append_assoc head (b.contents ++ (b.slack ++ later)) rest ∙ ap (λ xs. head ++ xs) (append_assoc b.contents (b.slack ++ later) rest ∙ ap (λ xs. b.contents ++ xs) (append_assoc b.slack later rest)) in
     let inside = rest-of bytes head (b.contents ++ (b.slack ++ (later ++ rest))) at (head_size heads) all (length-head_bytes heads base (header_of heads b)) in
     let over = rest-of bytes b.contents (b.slack ++ (later ++ rest)) (at + head_size heads) (length b.contents) inside refl in
-    let behind = rest-of bytes b.slack (later ++ rest) (at + head_size heads + length b.contents) (length b.slack) over refl in
+    let after = rest-of bytes b.slack (later ++ rest) (at + head_size heads + length b.contents) (length b.slack) over refl in
     let same : at + head_size heads + length b.contents + length b.slack ≡ at + size_of heads b = omega arith in
     ap (λ c. record { size = size_of heads b; content = c; lent = b.lent } ∷ shown_blocks heads bytes (at + size_of heads b) (map (record_in heads base) bs))
     (content-own heads base bytes (b.slack ++ (later ++ rest)) (at + head_size heads) b.role b.contents (All-head (HasWords heads) b bs words) inside)
-    ∙ ap (λ rs. record_in heads base b ∷ rs) (blocks-own heads base bytes rest (at + size_of heads b) bs (All-tail (HasWords heads) b bs words) (sym (ap (λ n. drop n bytes) same) ∙ behind))
+    ∙ ap (λ rs. record_in heads base b ∷ rs) (blocks-own heads base bytes rest (at + size_of heads b) bs (All-tail (HasWords heads) b bs words) (sym (ap (λ n. drop n bytes) same) ∙ after))
 
 -- the bytes that a zone's blocks are in show them
 pub own-records : (r : ZoneRecords) (bytes : List ℕ) → IsIn r bytes → shown r bytes ≡ r
@@ -104,7 +104,7 @@ own-records r bytes is =
     let rest = drop (zone_header + total_of r.blocks) bytes in
     let all : bytes ≡ header_bytes l ++ (rendered l.heads l.base l.blocks ++ rest) =
     sym (take-append-drop (zone_header + total_of r.blocks) bytes) ∙ ap (λ xs. xs ++ rest) is.image.form ∙ append_assoc (header_bytes l) (rendered l.heads l.base l.blocks) rest in
-    let behind : drop zone_header bytes ≡ rendered l.heads l.base l.blocks ++ rest = ap (drop zone_header) all ∙ drop_at (header_bytes l) (rendered l.heads l.base l.blocks ++ rest) zone_header (length-header l) in
+    let after : drop zone_header bytes ≡ rendered l.heads l.base l.blocks ++ rest = ap (drop zone_header) all ∙ drop_at (header_bytes l) (rendered l.heads l.base l.blocks ++ rest) zone_header (length-header l) in
     sym (ap (λ r. shown r bytes) is.image.same)
-    ∙ ap (λ bs. record (records_in l) { blocks = bs }) (blocks-own l.heads l.base bytes rest zone_header l.blocks is.image.words behind)
+    ∙ ap (λ bs. record (records_in l) { blocks = bs }) (blocks-own l.heads l.base bytes rest zone_header l.blocks is.image.words after)
     ∙ is.image.same

@@ -3,7 +3,7 @@ use Rattle.std.proofs.Common.{◌≡◌, ℕ, ◌+◌, List, ◌∷◌, ◌++◌
 use Rattle.mac_base.specs.HeadKind.{head_size, slot_count, zone_header}
 use Rattle.raw_region.specs.Bytes.{part}
 use Rattle.block_bytes.specs.declared.header.Role.TheVariants.{Master}
-use Rattle.block_bytes.specs.Layout.{RawBlock, Layout, address_behind, total_of}
+use Rattle.block_bytes.specs.Layout.{RawBlock, Layout, address_after, total_of}
 use Rattle.block_bytes.specs.Structure.{AreWritten, HasOwn}
 use Rattle.zone_records.specs.Masters.{BlocksAgree, BlocksSame, SlotsAgree, SlotsSame}
 use Rattle.zone_records.specs.Reading.{AreSound}
@@ -18,9 +18,9 @@ module _ (l : Layout) (sound : AreSound l) (bytes : List ℕ) (own : HasOwn l by
   own-master xs b ys is master =
       let at = zone_header + total_of l.heads xs + head_size l.heads in
       let there = block_there l xs b ys is in
-      let long = contents-long l sound (address_behind l xs) there master in
+      let long = contents-long l sound (address_after l xs) there master in
       let written : AreWritten bytes at b.contents = each-one (AreWritten bytes) l.heads zone_header xs b ys (subst (λ bs. HasOwn l bytes zone_header bs) is own).masters master in
-      equal-agree l.heads b.contents bytes at (ap (part bytes at) (sym long) ∙ written) (contents-words l sound (address_behind l xs) there master)
+      equal-agree l.heads b.contents bytes at (ap (part bytes at) (sym long) ∙ written) (contents-words l sound (address_after l xs) there master)
 
   pub own-tells : BlocksAgree l bytes zone_header l.blocks × BlocksSame l bytes zone_header l.blocks
   own-tells = (

@@ -82,7 +82,7 @@ module _ (l : Layout) (sound : AreSound l) where
   say_apart kept h g flags others contents c d = one_handle_there h g contents (has_block kept h flags contents c) (has_block kept g others contents d)
 
   said_once : AreKept l → IsDistinct nat_eq said
-  said_once kept = said-once (raw.address_behind l []) (slots_of_zone z) (slots-rising l sound) (say_apart kept)
+  said_once kept = said-once (raw.address_after l []) (slots_of_zone z) (slots-rising l sound) (say_apart kept)
 
   said_places : AreKept l → (x : ℕ) → Contains said x → Contains (places l) x
   said_places kept x c =
@@ -113,7 +113,7 @@ module _ (l : Layout) (sound : AreSound l) where
 
   -- conversely
   pub right-few : AreRight l → AreFew
-  right-few right = length-among (places l) said (places-once l.heads (raw.address_behind l []) l.blocks) (λ x c.
+  right-few right = length-among (places l) said (places-once l.heads (raw.address_after l []) l.blocks) (λ x c.
       let p = place-is l x c in
       let name = subst (λ r. LinkedAs l p.at r p.block.here.contents) p.role_is (right p.at p.block).linked in
       subst (Contains said) (sym p.place) (said-named (slots_of_zone z) (l.base + p.offset) name.0 (p.at + head_size l.heads) name.1))
@@ -123,14 +123,14 @@ module _ (l : Layout) where
   pub record PairedUpTo (at full handles : ℕ) : Type 0 where
     pub split : SplitAt l at
     pub kept : (other : ℕ) (b : BlockAt l other) → other < at → IsKept l other b.here
-    pub said : full + length (said_of (all_slots (records_in l).shape at (read l.heads l.base split.behind))) ≡ length (said_of (slots_of_zone (records_in l)))
-    pub blocks : handles + length (places_in l.heads at split.behind) ≡ length (places l)
+    pub said : full + length (said_of (all_slots (records_in l).shape at (read l.heads l.base split.after))) ≡ length (said_of (slots_of_zone (records_in l)))
+    pub blocks : handles + length (places_in l.heads at split.after) ≡ length (places l)
     pub few : 4 * full ≤ at
     pub few_handles : handles ≤ at
 
-  pub paired-none : (at : ℕ) → at ≡ raw.address_behind l [] → PairedUpTo at 0 0
+  pub paired-none : (at : ℕ) → at ≡ raw.address_after l [] → PairedUpTo at 0 0
   paired-none at is = record {
-    split = record { before = []; behind = l.blocks; blocks = refl; place = is };
+    split = record { before = []; after = l.blocks; blocks = refl; place = is };
     kept = λ other b below. let low = (within l other b).0 in absurd (omega arith);
     said = (let same = ap (λ n. length (said_of (all_slots (records_in l).shape n (read l.heads l.base l.blocks)))) is in omega arith);
     blocks = (let same = ap (λ n. length (places_in l.heads n l.blocks)) is in omega arith);
@@ -141,10 +141,10 @@ module _ (l : Layout) where
   -- with the next block
   module _ (at full handles : ℕ) (p : PairedUpTo at full handles) (h : NextHere l at p.split) where
     mine : BlockAt l at
-    mine = record { before = p.split.before; here = h.here; behind = h.behind; blocks = h.blocks; place = p.split.place }
+    mine = record { before = p.split.before; here = h.here; after = h.after; blocks = h.blocks; place = p.split.place }
 
-    same_behind : p.split.behind ≡ h.here ∷ h.behind
-    same_behind = cancel p.split.before p.split.behind (h.here ∷ h.behind) (sym p.split.blocks ∙ h.blocks)
+    same_after : p.split.after ≡ h.here ∷ h.after
+    same_after = cancel p.split.before p.split.after (h.here ∷ h.after) (sym p.split.blocks ∙ h.blocks)
 
     kept_more : IsKept l at h.here → (next : ℕ) → next ≡ at + size_of l.heads h.here → (other : ℕ) (b : BlockAt l other) → other < next → IsKept l other b.here
     unfolding mine
@@ -155,23 +155,23 @@ module _ (l : Layout) where
     ]
 
     said_more : (n next : ℕ) → ((x : ℕ) → n ≡ length (said_of (slots_of x (content_in l.heads l.base h.here.role h.here.contents)))) → next ≡ at + size_of l.heads h.here
-        → full + n + length (said_of (all_slots (records_in l).shape next (read l.heads l.base h.behind))) ≡ length (said_of (slots_of_zone (records_in l)))
+        → full + n + length (said_of (all_slots (records_in l).shape next (read l.heads l.base h.after))) ≡ length (said_of (slots_of_zone (records_in l)))
     said_more n next counts there =
         let b = h.here in let own = counts (at + head_size l.heads) in
         let first = slots_of (at + head_size l.heads) (content_in l.heads l.base b.role b.contents) in
-        let rest = all_slots (records_in l).shape (at + size_of l.heads b) (read l.heads l.base h.behind) in
-        let parts : length (said_of (all_slots (records_in l).shape at (read l.heads l.base p.split.behind))) ≡ length (said_of first) + length (said_of rest) =
-        ap (λ bs. length (said_of (all_slots (records_in l).shape at (read l.heads l.base bs)))) same_behind ∙ said-append first rest in
-        let moved = ap (λ m. length (said_of (all_slots (records_in l).shape m (read l.heads l.base h.behind)))) there in
+        let rest = all_slots (records_in l).shape (at + size_of l.heads b) (read l.heads l.base h.after) in
+        let parts : length (said_of (all_slots (records_in l).shape at (read l.heads l.base p.split.after))) ≡ length (said_of first) + length (said_of rest) =
+        ap (λ bs. length (said_of (all_slots (records_in l).shape at (read l.heads l.base bs)))) same_after ∙ said-append first rest in
+        let moved = ap (λ m. length (said_of (all_slots (records_in l).shape m (read l.heads l.base h.after)))) there in
         let sum = p.said in omega arith
 
-    blocks_more : (next : ℕ) → next ≡ at + size_of l.heads h.here → handles + one_handle h.here.role + length (places_in l.heads next h.behind) ≡ length (places l)
+    blocks_more : (next : ℕ) → next ≡ at + size_of l.heads h.here → handles + one_handle h.here.role + length (places_in l.heads next h.after) ≡ length (places l)
     unfolding places_in
     blocks_more next there =
-        let b = h.here in let own = place_in b.role (at + head_size l.heads) in let rest = places_in l.heads (at + size_of l.heads b) h.behind in
-        let parts : length (places_in l.heads at p.split.behind) ≡ length own + length rest =
-        ap (λ bs. length (places_in l.heads at bs)) same_behind ∙ length-append own rest in
-        let moved = ap (λ m. length (places_in l.heads m h.behind)) there in
+        let b = h.here in let own = place_in b.role (at + head_size l.heads) in let rest = places_in l.heads (at + size_of l.heads b) h.after in
+        let parts : length (places_in l.heads at p.split.after) ≡ length own + length rest =
+        ap (λ bs. length (places_in l.heads at bs)) same_after ∙ length-append own rest in
+        let moved = ap (λ m. length (places_in l.heads m h.after)) there in
         let one = one-place b.role (at + head_size l.heads) in let sum = p.blocks in omega arith
 
     pub paired-more : IsKept l at h.here → (n m next : ℕ) → ((x : ℕ) → n ≡ length (said_of (slots_of x (content_in l.heads l.base h.here.role h.here.contents)))) → m ≡ one_handle h.here.role
@@ -180,7 +180,7 @@ module _ (l : Layout) where
         let total = total-append l.heads p.split.before (h.here ∷ []) in let place = p.split.place in let few = p.few in let other = p.few_handles in
         let sum = blocks_more next there in let some = size_of-pos l.heads h.here in let small = handle-few h.here.role in
         record {
-          split = record { before = p.split.before ++ h.here ∷ []; behind = h.behind; blocks = h.blocks ∙ sym (append_assoc p.split.before (h.here ∷ []) h.behind); place = omega arith };
+          split = record { before = p.split.before ++ h.here ∷ []; after = h.after; blocks = h.blocks ∙ sym (append_assoc p.split.before (h.here ∷ []) h.after); place = omega arith };
           kept = kept_more own next there;
           said = said_more n next counts there;
           blocks = omega arith;
@@ -189,13 +189,13 @@ module _ (l : Layout) where
         }
 
   -- and all
-  pub paired-kept : (at full handles : ℕ) → PairedUpTo at full handles → raw.address_behind l l.blocks ≤ at → AreKept l
+  pub paired-kept : (at full handles : ℕ) → PairedUpTo at full handles → raw.address_after l l.blocks ≤ at → AreKept l
   paired-kept at full handles p ends other b = p.kept other b (let end = (within l other b).1 in let s = size_of-pos l.heads b.here in omega arith)
 
-  pub paired-said : (at full handles : ℕ) (p : PairedUpTo at full handles) → p.split.behind ≡ [] → full ≡ length (said_of (slots_of_zone (records_in l)))
+  pub paired-said : (at full handles : ℕ) (p : PairedUpTo at full handles) → p.split.after ≡ [] → full ≡ length (said_of (slots_of_zone (records_in l)))
   unfolding said_of
   paired-said at full handles p none = let sum = p.said in let rest = ap (λ bs. length (said_of (all_slots (records_in l).shape at (read l.heads l.base bs)))) none in omega arith
 
-  pub paired-blocks : (at full handles : ℕ) (p : PairedUpTo at full handles) → p.split.behind ≡ [] → handles ≡ length (places l)
+  pub paired-blocks : (at full handles : ℕ) (p : PairedUpTo at full handles) → p.split.after ≡ [] → handles ≡ length (places l)
   unfolding places_in
   paired-blocks at full handles p none = let sum = p.blocks in let rest = ap (λ bs. length (places_in l.heads at bs)) none in omega arith

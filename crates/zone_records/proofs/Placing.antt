@@ -31,15 +31,15 @@ free-role heads base (role.Relocatable offset flags) bytes is = absurd (cc is)
 module _ (l : Layout) (z : ZoneRecords) (held : Held l z) (at : ℕ) where
   module _ (f : FreeAt z at) where
     -- its bytes
-    abbrev pub free_one : One l f.before (block_record Free f.size) f.behind
-    free_one = one l z held f.before (block_record Free f.size) f.behind f.blocks
+    abbrev pub free_one : One l f.before (block_record Free f.size) f.after
+    free_one = one l z held f.before (block_record Free f.size) f.after f.blocks
 
-    pub free-place : at ≡ Rattle.block_bytes.specs.Layout.address_behind l free_one.first
+    pub free-place : at ≡ Rattle.block_bytes.specs.Layout.address_after l free_one.first
     free-place = f.place ∙ address-is l z held free_one.first f.before free_one.lower
 
     abbrev pub free-block : UnlentAt l at
     free-block = record {
-      block = record { before = free_one.first; here = free_one.block; behind = free_one.rest; blocks = free_one.blocks; place = free-place };
+      block = record { before = free_one.first; here = free_one.block; after = free_one.rest; blocks = free_one.blocks; place = free-place };
       unlent = ap (λ (r : BlockRecord). r.lent) free_one.same;
     }
 
@@ -75,7 +75,7 @@ module _ (l : Layout) (z : ZoneRecords) (held : Held l z) (at : ℕ) where
     place-can = record { block = (free-block r.free).block; within = place-few; possible = sound-possible l.heads l.base placed place-sound; unlent = (free-block r.free).unlent }
 
     abbrev pub Assigned : Layout → Type 0
-    Assigned m = (can : CanBe l at use_for n) → m ≡ with_blocks (can.block.before ++ raw_block use_for n (body can.block.here) ∷ can.block.behind) l
+    Assigned m = (can : CanBe l at use_for n) → m ≡ with_blocks (can.block.before ++ raw_block use_for n (body can.block.here) ∷ can.block.after) l
 
     -- other contents of that length in it
     pub filled-with : (contents : List ℕ) → length contents ≡ length placed.contents → HasWords l.heads (record placed { contents = contents }) → Held (with_blocks ((free_one r.free).first ++ record placed { contents = contents } ∷ (free_one r.free).rest) l) (filled (content_in l.heads l.base use_for contents) z r.free)
@@ -84,24 +84,24 @@ module _ (l : Layout) (z : ZoneRecords) (held : Held l z) (at : ℕ) where
         let now : RawBlock = record placed { contents = contents } in
         let size : size_of l.heads now ≡ r.free.size = (let p = (raw-parts l.heads use_for n (body b) place-few).2 in let all = free-long r.free in omega arith) in
         let old = free-size r.free in
-        changed l z held o.first (b ∷ []) (now ∷ []) o.rest r.free.before (block_record (content_in l.heads l.base use_for contents) r.free.size ∷ []) r.free.behind o.blocks o.lower o.upper
+        changed l z held o.first (b ∷ []) (now ∷ []) o.rest r.free.before (block_record (content_in l.heads l.base use_for contents) r.free.size ∷ []) r.free.after o.blocks o.lower o.upper
         (λ i. record { size = size i; content = content_in l.heads l.base use_for contents; lent = false } ∷ []) (omega arith)
         (and_from _ _ (sound-same l.heads l.base placed contents long place-sound) refl) (words-one l.heads now words)
 
     -- once it is, it can be cleared
     abbrev placed_at : UnlentAt (with_blocks ((free_one r.free).first ++ placed ∷ (free_one r.free).rest) l) at
-    placed_at = record { block = record { before = (free_one r.free).first; here = placed; behind = (free_one r.free).rest; blocks = refl; place = free-place r.free }; unlent = refl }
+    placed_at = record { block = record { before = (free_one r.free).first; here = placed; after = (free_one r.free).rest; blocks = refl; place = free-place r.free }; unlent = refl }
 
     pub place-unlent : (m : Layout) → Assigned m → UnlentAt m at
     place-unlent m ends = subst (λ m. UnlentAt m at) (sym (ends place-can)) placed_at
 
     -- and then is zero
-    pub place-cleared : (use_for ≡ role.Master → ⊥) → (m k : Layout) → Assigned m → ((b : BlockAt m at) → k ≡ with_blocks (b.before ++ cleared b.here ∷ b.behind) m) → Held k (filled (content_in l.heads l.base use_for (zeros n)) z r.free)
+    pub place-cleared : (use_for ≡ role.Master → ⊥) → (m k : Layout) → Assigned m → ((b : BlockAt m at) → k ≡ with_blocks (b.before ++ cleared b.here ∷ b.after) m) → Held k (filled (content_in l.heads l.base use_for (zeros n)) z r.free)
     place-cleared other m k ends clears =
         let o = free_one r.free in
         let long = (raw-parts l.heads use_for n (body b) place-few).0 in
-        let there : (b : BlockAt (with_blocks (o.first ++ placed ∷ o.rest) l) at) → k ≡ with_blocks (b.before ++ cleared b.here ∷ b.behind) l =
-        subst (λ m. (b : BlockAt m at) → k ≡ with_blocks (b.before ++ cleared b.here ∷ b.behind) m) (ends place-can) clears in
+        let there : (b : BlockAt (with_blocks (o.first ++ placed ∷ o.rest) l) at) → k ≡ with_blocks (b.before ++ cleared b.here ∷ b.after) l =
+        subst (λ m. (b : BlockAt m at) → k ≡ with_blocks (b.before ++ cleared b.here ∷ b.after) m) (ends place-can) clears in
         subst (λ k. Held k (filled (content_in l.heads l.base use_for (zeros n)) z r.free)) (sym (there placed_at.block ∙ ap (λ n. with_blocks (o.first ++ record placed { contents = replicate n 0 } ∷ o.rest) l) long))
         (filled-with (zeros n) (length-replicate {A = ℕ} n 0 ∙ sym long) (λ is. absurd (other is)))
 
@@ -127,9 +127,9 @@ module _ (l : Layout) (z : ZoneRecords) (held : Held l z) (at n : ℕ) (r : Room
   pub handle-can : CanBe l at (role.Relocatable offset no_flags) n
   handle-can = place-can l z held at n r (role.Relocatable offset no_flags) handle_told handle_use
 
-  pub handle-unlent : (m : Layout) → ((can : CanBe l at (role.Relocatable offset no_flags) n) → m ≡ with_blocks (can.block.before ++ raw_block (role.Relocatable offset no_flags) n (body can.block.here) ∷ can.block.behind) l) → UnlentAt m at
+  pub handle-unlent : (m : Layout) → ((can : CanBe l at (role.Relocatable offset no_flags) n) → m ≡ with_blocks (can.block.before ++ raw_block (role.Relocatable offset no_flags) n (body can.block.here) ∷ can.block.after) l) → UnlentAt m at
   handle-unlent m ends = place-unlent l z held at n r (role.Relocatable offset no_flags) handle_told handle_use m ends
 
-  pub handle-cleared : (m k : Layout) → ((can : CanBe l at (role.Relocatable offset no_flags) n) → m ≡ with_blocks (can.block.before ++ raw_block (role.Relocatable offset no_flags) n (body can.block.here) ∷ can.block.behind) l)
-      → ((b : BlockAt m at) → k ≡ with_blocks (b.before ++ cleared b.here ∷ b.behind) m) → Held k (filled (Relocatable h no_flags (zeros n)) z r.free)
+  pub handle-cleared : (m k : Layout) → ((can : CanBe l at (role.Relocatable offset no_flags) n) → m ≡ with_blocks (can.block.before ++ raw_block (role.Relocatable offset no_flags) n (body can.block.here) ∷ can.block.after) l)
+      → ((b : BlockAt m at) → k ≡ with_blocks (b.before ++ cleared b.here ∷ b.after) m) → Held k (filled (Relocatable h no_flags (zeros n)) z r.free)
   handle-cleared m k ends clears = subst (λ h. Held k (filled (Relocatable h no_flags (zeros n)) z r.free)) handle_is (place-cleared l z held at n r (role.Relocatable offset no_flags) handle_told handle_use (λ is. absurd (cc is)) m k ends clears)

@@ -1,7 +1,7 @@
 -- Two blocks of bytes of one list, by their addresses.
 use Rattle.std.proofs.Common.{◌≡◌, ℕ, ◌+◌, ◌≤◌, ◌<◌, List, [], ◌∷◌, ◌++◌, refl, ap, sym, ◌∙◌, arith, ◌⊎◌, inl, inr}
 use Rattle.mac_base.specs.declared.block.HeadKind.{HeadKind}
-use Rattle.block_bytes.specs.Layout.{RawBlock, Layout, BlockAt, size_of, total_of, address_behind}
+use Rattle.block_bytes.specs.Layout.{RawBlock, Layout, BlockAt, size_of, total_of, address_after}
 use Rattle.block_bytes.proofs.ReadBlocks.{head_size-positive}
 use Rattle.zone_records.proofs.Apart.{total-append}
 
@@ -26,7 +26,7 @@ pub rank : (l : Layout) (x y : ℕ) (b : BlockAt l x) (c : BlockAt l y) → (x +
 rank l x y b c =
     let here = b.place in
     let there = c.place in
-    elim (ranked l.heads b.before b.here b.behind c.before c.here c.behind (sym b.blocks ∙ c.blocks)) [
+    elim (ranked l.heads b.before b.here b.after c.before c.here c.after (sym b.blocks ∙ c.blocks)) [
       | inl below ↦ inl (omega arith)
       | inr (inl above) ↦ inr (inl (omega arith))
       | inr (inr one) ↦ (let total = one.0 in inr (inr (omega arith, one.1)))
@@ -41,10 +41,10 @@ one-block l x y at b c low high low_too high_too = elim (rank l x y b c) [
 ]
 
 -- the block at an address is among the blocks, and ends with them or below
-pub within : (l : Layout) (at : ℕ) (b : BlockAt l at) → (address_behind l [] ≤ at) × (at + size_of l.heads b.here ≤ address_behind l l.blocks)
+pub within : (l : Layout) (at : ℕ) (b : BlockAt l at) → (address_after l [] ≤ at) × (at + size_of l.heads b.here ≤ address_after l l.blocks)
 within l at b =
     let place = b.place in
-    let total = ap (total_of l.heads) b.blocks ∙ total-append l.heads b.before (b.here ∷ b.behind) in
+    let total = ap (total_of l.heads) b.blocks ∙ total-append l.heads b.before (b.here ∷ b.after) in
     (omega arith, omega arith)
 
 -- no block before the first has a byte

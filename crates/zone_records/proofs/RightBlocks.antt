@@ -45,7 +45,7 @@ module _ (l : Layout) (sound : AreSound l) where
       moved : (x y : ℕ) (is : x ≡ y) (b : BlockAt l x) → (subst (BlockAt l) is b).here ≡ b.here
       moved x y is b = subst (λ n. (p : x ≡ n) → (c : BlockAt l n) → c.here ≡ b.here) is (λ p c. same-block l x c b) is (subst (BlockAt l) is b)
 
-  -- the block behind a free one
+  -- the block after a free one
   pub next-free : (at : ℕ) (b : BlockAt l at) (next : ℕ) (n : BlockAt l next) → next ≡ at + size_of l.heads b.here → (n.here.role ≡ role.Free → ⊥) → TightAs l at role.Free (size_of l.heads b.here) (length b.here.contents)
   next-free at b next n place other m free =
       other (ap (λ (b : RawBlock). b.role) (one-block l next (at + size_of l.heads b.here) next n m (omega arith) (some n) (omega arith) (some_at m)).1 ∙ free)
@@ -59,7 +59,7 @@ module _ (l : Layout) (sound : AreSound l) where
   pub next-not : (at : ℕ) (b : BlockAt l at) (next : ℕ) (n : BlockAt l next) → next ≡ at + size_of l.heads b.here → TightAs l at role.Free (size_of l.heads b.here) (length b.here.contents) → n.here.role ≡ role.Free → ⊥
   next-not at b next n place tight free = subst (λ m. (n : BlockAt l m) → n.here.role ≡ role.Free → ⊥) (sym place) tight n free
 
-  pub next-none : (at : ℕ) (b : BlockAt l at) → b.behind ≡ [] → TightAs l at role.Free (size_of l.heads b.here) (length b.here.contents)
+  pub next-none : (at : ℕ) (b : BlockAt l at) → b.after ≡ [] → TightAs l at role.Free (size_of l.heads b.here) (length b.here.contents)
   next-none at b last next free = let n = next-is l sound at b next in let no : [] ≡ next.here ∷ n.0 = sym last ∙ n.1 in absurd (cc no)
 
   -- a block that isn't free

@@ -207,34 +207,34 @@ places-once heads at (b ∷ bs) = one_more b.role (at + head_size heads) (places
 module _ (l : Layout) where
   -- of all blocks
   abbrev pub places : List ℕ
-  places = places_in l.heads (raw.address_behind l []) l.blocks
+  places = places_in l.heads (raw.address_after l []) l.blocks
 
-  places_are : (before behind : List RawBlock) (at x : ℕ) → l.blocks ≡ before ++ behind → at ≡ raw.address_behind l before → Contains (places_in l.heads at behind) x → HandleIn l x
+  places_are : (before after : List RawBlock) (at x : ℕ) → l.blocks ≡ before ++ after → at ≡ raw.address_after l before → Contains (places_in l.heads at after) x → HandleIn l x
   unfolding places_in
   places_are before [] at x is there c = absurd (Contains-none x c)
   places_are before (b ∷ bs) at x is there c = elim (cases_place b.role (at + head_size l.heads) (places_in l.heads (at + size_of l.heads b) bs) x c) [
-    | inl own ↦ record { at = at; block = record { before = before; here = b; behind = bs; blocks = is; place = there }; offset = own.0; flags = own.1.0; role_is = own.1.1.0; place = own.1.1.1 }
+    | inl own ↦ record { at = at; block = record { before = before; here = b; after = bs; blocks = is; place = there }; offset = own.0; flags = own.1.0; role_is = own.1.1.0; place = own.1.1.1 }
     | inr later ↦ (let total = total-append l.heads before (b ∷ []) in
         places_are (before ++ b ∷ []) bs (at + size_of l.heads b) x (is ∙ sym (append_assoc before (b ∷ []) bs)) (omega arith) later)
   ]
 
   pub place-is : (x : ℕ) → Contains places x → HandleIn l x
-  place-is x c = places_are [] l.blocks (raw.address_behind l []) x refl refl c
+  place-is x c = places_are [] l.blocks (raw.address_after l []) x refl refl c
 
-  place_behind : (before : List RawBlock) (b : RawBlock) (behind : List RawBlock) (at : ℕ) (offset : ℕ) (flags : Flags) → b.role ≡ role.Relocatable offset flags → Contains (places_in l.heads at (before ++ b ∷ behind)) (at + raw.total_of l.heads before + head_size l.heads)
+  place_after : (before : List RawBlock) (b : RawBlock) (after : List RawBlock) (at : ℕ) (offset : ℕ) (flags : Flags) → b.role ≡ role.Relocatable offset flags → Contains (places_in l.heads at (before ++ b ∷ after)) (at + raw.total_of l.heads before + head_size l.heads)
   unfolding places_in
-  place_behind [] b behind at offset flags is =
-      let rest = places_in l.heads (at + size_of l.heads b) behind in
+  place_after [] b after at offset flags is =
+      let rest = places_in l.heads (at + size_of l.heads b) after in
       subst (λ r. Contains (place_in r (at + head_size l.heads) ++ rest) (at + 0 + head_size l.heads)) (sym is)
       (subst (λ n. Contains ((at + head_size l.heads) ∷ rest) n) (let e : at + head_size l.heads ≡ at + 0 + head_size l.heads = omega arith in e) (Contains-here (at + head_size l.heads) rest))
-  place_behind (a ∷ before) b behind at offset flags is =
-      let more = place_behind before b behind (at + size_of l.heads a) offset flags is in
-      later_place a.role (at + head_size l.heads) (places_in l.heads (at + size_of l.heads a) (before ++ b ∷ behind)) (at + (size_of l.heads a + raw.total_of l.heads before) + head_size l.heads)
-      (subst (Contains (places_in l.heads (at + size_of l.heads a) (before ++ b ∷ behind))) (let e : at + size_of l.heads a + raw.total_of l.heads before + head_size l.heads ≡ at + (size_of l.heads a + raw.total_of l.heads before) + head_size l.heads = omega arith in e) more)
+  place_after (a ∷ before) b after at offset flags is =
+      let more = place_after before b after (at + size_of l.heads a) offset flags is in
+      later_place a.role (at + head_size l.heads) (places_in l.heads (at + size_of l.heads a) (before ++ b ∷ after)) (at + (size_of l.heads a + raw.total_of l.heads before) + head_size l.heads)
+      (subst (Contains (places_in l.heads (at + size_of l.heads a) (before ++ b ∷ after))) (let e : at + size_of l.heads a + raw.total_of l.heads before + head_size l.heads ≡ at + (size_of l.heads a + raw.total_of l.heads before) + head_size l.heads = omega arith in e) more)
 
   pub place-there : (at : ℕ) (b : BlockAt l at) (offset : ℕ) (flags : Flags) → b.here.role ≡ role.Relocatable offset flags → Contains places (at + head_size l.heads)
   place-there at b offset flags is =
-      let place = b.place in let start = raw.address_behind l [] in
+      let place = b.place in let start = raw.address_after l [] in
       let own : start + raw.total_of l.heads b.before + head_size l.heads ≡ at + head_size l.heads = omega arith in
       subst (λ bs. Contains (places_in l.heads start bs) (at + head_size l.heads)) (sym b.blocks)
-      (subst (Contains (places_in l.heads start (b.before ++ b.here ∷ b.behind))) own (place_behind b.before b.here b.behind start offset flags is))
+      (subst (Contains (places_in l.heads start (b.before ++ b.here ∷ b.after))) own (place_after b.before b.here b.after start offset flags is))

@@ -11,8 +11,8 @@ use Rattle.zone_records.specs.Word.{slot_word, slot_in, slots_in, words_of}
 use Rattle.zone_records.proofs.Comparing.{words-part}
 
 -- the slots after the first
-pub slot_of-behind : (heads : HeadKind) (contents : List ℕ) (k : ℕ) → slot_of heads (drop 4 contents) k ≡ slot_of heads contents (suc k)
-slot_of-behind heads contents k =
+pub slot_of-after : (heads : HeadKind) (contents : List ℕ) (k : ℕ) → slot_of heads (drop 4 contents) k ≡ slot_of heads contents (suc k)
+slot_of-after heads contents k =
     ap (λ xs. slot_in heads (big_number 4 (take 4 xs))) (drop-drop (4 * k) 4 contents ∙ ap (λ n. drop n contents) (let e : 4 + 4 * k ≡ 4 * suc k = omega arith in e))
 
 -- the first agrees, and those after it
@@ -21,7 +21,7 @@ agree-first heads bytes n at contents agree = subst (λ j. SlotAgrees heads byte
 
 agree-rest : (heads : HeadKind) (bytes : List ℕ) (n at : ℕ) (contents : List ℕ) → SlotsAgree heads bytes (suc n) at contents → SlotsAgree heads bytes n (at + 4) (drop 4 contents)
 agree-rest heads bytes n at contents agree k few = subst (λ j. SlotAgrees heads bytes j (slot_of heads (drop 4 contents) k)) (let e : at + 4 * suc k ≡ at + 4 + 4 * k = omega arith in e)
-    (subst (SlotAgrees heads bytes (at + 4 * suc k)) (sym (slot_of-behind heads contents k)) (agree (suc k) (omega arith)))
+    (subst (SlotAgrees heads bytes (at + 4 * suc k)) (sym (slot_of-after heads contents k)) (agree (suc k) (omega arith)))
 
 -- where each agrees, bytes say all of them
 agree-said : (heads : HeadKind) (bytes : List ℕ) (n at : ℕ) (contents : List ℕ) → SlotsAgree heads bytes n at contents → slots_in heads n (drop at bytes) ≡ shown_slots heads bytes at (slots_in heads n contents)
@@ -42,8 +42,8 @@ agree-words heads bytes (suc n) at contents agree =
     let rest = agree-rest heads bytes n at contents agree in
     let more = agree-words heads bytes n (at + 4) (drop 4 contents) rest in
     let four : 4 * suc n ≡ 4 + 4 * n = omega arith in
-    let behind = drop-drop 4 at bytes in
-    ap (λ k. part bytes at k) four ∙ part-add bytes at 4 (4 * n) ∙ (λ i. here.right i ++ (more ∙ ap (λ xs. words_of heads (slots_in heads n xs)) (sym behind)) i)
+    let after = drop-drop 4 at bytes in
+    ap (λ k. part bytes at k) four ∙ part-add bytes at 4 (4 * n) ∙ (λ i. here.right i ++ (more ∙ ap (λ xs. words_of heads (slots_in heads n xs)) (sym after)) i)
 
 -- where bytes say the same flags of each, they are as bytes show them
 same-shown : (heads : HeadKind) (bytes : List ℕ) (n at : ℕ) (contents : List ℕ) → SlotsSame heads bytes n at contents → shown_slots heads bytes at (slots_in heads n contents) ≡ slots_in heads n contents
@@ -52,7 +52,7 @@ same-shown heads bytes zero at contents same = refl
 same-shown heads bytes (suc n) at contents same =
     let here : shown_slot heads bytes at (slot_of heads contents 0) ≡ slot_of heads contents 0 = subst (λ j. shown_slot heads bytes j (slot_of heads contents 0) ≡ slot_of heads contents 0) (let e : at + 4 * 0 ≡ at = omega arith in e) (same 0 (omega arith)) in
     let rest : SlotsSame heads bytes n (at + 4) (drop 4 contents) = λ k few. subst (λ j. shown_slot heads bytes j (slot_of heads (drop 4 contents) k) ≡ slot_of heads (drop 4 contents) k) (let e : at + 4 * suc k ≡ at + 4 + 4 * k = omega arith in e)
-    (subst (λ s. shown_slot heads bytes (at + 4 * suc k) s ≡ s) (sym (slot_of-behind heads contents k)) (same (suc k) (omega arith))) in
+    (subst (λ s. shown_slot heads bytes (at + 4 * suc k) s ≡ s) (sym (slot_of-after heads contents k)) (same (suc k) (omega arith))) in
     let more = same-shown heads bytes n (at + 4) (drop 4 contents) rest in
     λ i. here i ∷ more i
 
@@ -73,8 +73,8 @@ each-said heads bytes (suc n) at others contents is zero few =
     here ∙ ap (λ j. shown_slot heads bytes j (slot_of heads contents 0)) (let e : at ≡ at + 4 * 0 = omega arith in e)
 each-said heads bytes (suc n) at others contents is (suc k) few =
     let rest : slots_in heads n (drop 4 others) ≡ shown_slots heads bytes (at + 4) (slots_in heads n (drop 4 contents)) = cc is in
-    sym (slot_of-behind heads others k) ∙ each-said heads bytes n (at + 4) (drop 4 others) (drop 4 contents) rest k (omega arith)
-    ∙ (λ i. shown_slot heads bytes ((let e : at + 4 + 4 * k ≡ at + 4 * suc k = omega arith in e) i) (slot_of-behind heads contents k i))
+    sym (slot_of-after heads others k) ∙ each-said heads bytes n (at + 4) (drop 4 others) (drop 4 contents) rest k (omega arith)
+    ∙ (λ i. shown_slot heads bytes ((let e : at + 4 + 4 * k ≡ at + 4 * suc k = omega arith in e) i) (slot_of-after heads contents k i))
 
 module _ (heads : HeadKind) (bytes : List ℕ) (at : ℕ) (contents : List ℕ) where
   abbrev here : List ℕ

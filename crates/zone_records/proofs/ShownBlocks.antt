@@ -123,8 +123,8 @@ module _ (heads : HeadKind) (base : ℕ) (bytes : List ℕ) where
   -- the second of three lists in a row
   middle : (xs front mid rear : List ℕ) (at n k : ℕ) → drop at xs ≡ front ++ (mid ++ rear) → length front ≡ n → length mid ≡ k → (part xs (at + n) k ≡ mid) × (drop (at + n) xs ≡ mid ++ rear)
   middle xs front mid rear at n k is long_front long_mid =
-      let behind : drop (at + n) xs ≡ mid ++ rear = sym (drop-drop n at xs) ∙ ap (drop n) is ∙ drop_at front (mid ++ rear) n long_front in
-      (ap (take k) behind ∙ take_at mid rear k long_mid, behind)
+      let after : drop (at + n) xs ≡ mid ++ rear = sym (drop-drop n at xs) ∙ ap (drop n) is ∙ drop_at front (mid ++ rear) n long_front in
+      (ap (take k) after ∙ take_at mid rear k long_mid, after)
 
   module _ (at : ℕ) (b c : RawBlock) (more : List ℕ) (fits : at + size_of heads b ≤ length bytes) (sound : is_sound heads base b ≡ true) (possible : is_possible heads c ≡ true) (words : HasWords heads c)
       (same : record_in heads base c ≡ record (record_in heads base b) { content = shown_content heads bytes (at + head_size heads) (content_in heads base b.role b.contents) })
@@ -157,11 +157,11 @@ module _ (heads : HeadKind) (base : ℕ) (bytes : List ℕ) where
     there : (part bytes first (length b.contents) ≡ c.contents) × (drop first bytes ≡ c.contents ++ (c.slack ++ more))
     there = middle bytes (head_bytes heads base (header_of heads c)) c.contents (c.slack ++ more) at (head_size heads) (length b.contents) is (length-head_bytes heads base (header_of heads c)) contents-long
 
-    behind : (part bytes (first + length b.contents) (length b.slack) ≡ c.slack) × (drop (first + length b.contents) bytes ≡ c.slack ++ more)
-    behind = middle bytes c.contents c.slack more first (length b.contents) (length b.slack) there.1 contents-long slack-long
+    after : (part bytes (first + length b.contents) (length b.slack) ≡ c.slack) × (drop (first + length b.contents) bytes ≡ c.slack ++ more)
+    after = middle bytes c.contents c.slack more first (length b.contents) (length b.slack) there.1 contents-long slack-long
 
     one-is : c ≡ shown_block heads bytes at b
-    one-is = λ i. record { role = the_role i; contents = sym there.0 i; slack = sym behind.0 i; lent = ap (λ (r : BlockRecord). r.lent) same i }
+    one-is = λ i. record { role = the_role i; contents = sym there.0 i; slack = sym after.0 i; lent = ap (λ (r : BlockRecord). r.lent) same i }
 
     one-agrees : b.role ≡ role.Master → SlotsAgree heads bytes slot_count first b.contents
     one-agrees master =
@@ -172,10 +172,10 @@ module _ (heads : HeadKind) (base : ℕ) (bytes : List ℕ) where
         (λ i. content_in heads base (sym (the_role ∙ master) i) c.contents) ∙ content ∙ (λ i. shown_content heads bytes first (content_in heads base (master i) b.contents)) in cc said) in
         master-agrees heads bytes first b.contents (ap (slots_in heads slot_count) (sym own) ∙ slots) (sym own ∙ words (the_role ∙ master) ∙ ap (λ xs. words_of heads (slots_in heads slot_count xs)) own)
 
-    one-behind : drop (at + size_of heads b) bytes ≡ more
-    one-behind =
+    one-after : drop (at + size_of heads b) bytes ≡ more
+    one-after =
         ap (λ n. drop n bytes) (let e : at + size_of heads b ≡ first + length b.contents + length b.slack = omega arith in e)
-        ∙ sym (drop-drop (length b.slack) (first + length b.contents) bytes) ∙ ap (drop (length b.slack)) behind.1 ∙ drop_at c.slack more (length b.slack) slack-long
+        ∙ sym (drop-drop (length b.slack) (first + length b.contents) bytes) ∙ ap (drop (length b.slack)) after.1 ∙ drop_at c.slack more (length b.slack) slack-long
 
   -- so of many
   pub blocks-are : (at : ℕ) (bs cs : List RawBlock) (rest : List ℕ) → at + raw.total_of heads bs ≤ length bytes → list_all (is_sound heads base) bs ≡ true → list_all (is_possible heads) cs ≡ true → All (HasWords heads) cs
@@ -193,5 +193,5 @@ module _ (heads : HeadKind) (base : ℕ) (bytes : List ℕ) where
       let record_is : record_in heads base c ≡ record (record_in heads base b) { content = shown_content heads bytes (at + head_size heads) (content_in heads base b.role b.contents) } = cc same in
       let records : read heads base cs ≡ shown_blocks heads bytes (at + size_of heads b) (read heads base bs) = cc same in
       let parts : drop at bytes ≡ head_bytes heads base (header_of heads c) ++ (c.contents ++ (c.slack ++ more)) = is ∙ simp append_assoc in
-      let others = blocks-are (at + size_of heads b) bs cs rest (omega arith) s.1 p.1 (All-tail (HasWords heads) c cs words) records (one-behind at b c more here s.0 p.0 w record_is parts) in
+      let others = blocks-are (at + size_of heads b) bs cs rest (omega arith) s.1 p.1 (All-tail (HasWords heads) c cs words) records (one-after at b c more here s.0 p.0 w record_is parts) in
       (λ i. one-is at b c more here s.0 p.0 w record_is parts i ∷ others.0 i, (one-agrees at b c more here s.0 p.0 w record_is parts, others.1))

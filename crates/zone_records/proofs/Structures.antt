@@ -88,8 +88,8 @@ module _ (l : Layout) (bytes : List ℕ) where
       let head = header_bytes m in
       let rest = rendered l.heads l.base bs in
       let whole : bytes ≡ head ++ (rest ++ drop n bytes) = sym (take-append-drop n bytes) ∙ ap (λ xs. xs ++ drop n bytes) form ∙ append_assoc head rest (drop n bytes) in
-      let behind : drop zone_header bytes ≡ rest ++ drop n bytes = ap (drop zone_header) whole ∙ drop_at head (rest ++ drop n bytes) zone_header (length-header m) in
-      let are = blocks-are l.heads l.base bytes zone_header l.blocks bs (drop n bytes) fits sound.blocks possible words same behind in
+      let after : drop zone_header bytes ≡ rest ++ drop n bytes = ap (drop zone_header) whole ∙ drop_at head (rest ++ drop n bytes) zone_header (length-header m) in
+      let are = blocks-are l.heads l.base bytes zone_header l.blocks bs (drop n bytes) fits sound.blocks possible words same after in
       record {
         blocks = record {
           all = all;
@@ -130,7 +130,7 @@ pub agree-at : (l : Layout) (bytes : List ℕ) → BlocksAgree l bytes zone_head
 agree-at l bytes agree at b master =
     let place = b.place in
     subst (λ n. SlotsAgree l.heads bytes slot_count n b.here.contents) (let e : zone_header + raw.total_of l.heads b.before + head_size l.heads ≡ at - l.base + head_size l.heads = omega arith in e)
-    (each-one (SlotsAgree l.heads bytes slot_count) l.heads zone_header b.before b.here b.behind (subst (EachMaster (SlotsAgree l.heads bytes slot_count) l.heads zone_header) b.blocks agree.masters) master)
+    (each-one (SlotsAgree l.heads bytes slot_count) l.heads zone_header b.before b.here b.after (subst (EachMaster (SlotsAgree l.heads bytes slot_count) l.heads zone_header) b.blocks agree.masters) master)
 
 module _ (l : Layout) (bytes : List ℕ) (z : ZoneRecords) (held : Held l z) where
   -- of some addresses flags are the same where they are in each master block
@@ -139,7 +139,7 @@ module _ (l : Layout) (bytes : List ℕ) (z : ZoneRecords) (held : Held l z) whe
       let o = slot_one l z held x s in
       let k = length s.slots_before in
       let role = slot-role l z held x s in
-      let said = slot-read l.heads slot_count o.block.contents s.slots_before s.here s.slots_behind role.1 in
+      let said = slot-read l.heads slot_count o.block.contents s.slots_before s.here s.slots_after role.1 in
       let start = zone_header + raw.total_of l.heads o.first + head_size l.heads in
       let base = base-is l z held in
       let there = slot-place l z held x s in
@@ -155,9 +155,9 @@ module _ (l : Layout) (bytes : List ℕ) (z : ZoneRecords) (held : Held l z) whe
 
   pub flags-to : SameFlags z bytes → BlocksSame l bytes zone_header l.blocks
   flags-to same = each-made (SlotsSame l.heads bytes slot_count) l.heads zone_header l.blocks (λ xs b ys is master k few.
-      let start = raw.address_behind l xs in
+      let start = raw.address_after l xs in
       let x = start + head_size l.heads + 4 * k in
-      let s = slot-at l z held x start k (record { before = xs; here = b; behind = ys; blocks = is; place = refl }) master few refl in
+      let s = slot-at l z held x start k (record { before = xs; here = b; after = ys; blocks = is; place = refl }) master few refl in
       let base = base-is l z held in
       let place : x - z.shape.base ≡ zone_header + raw.total_of l.heads xs + head_size l.heads + 4 * k = omega arith in
       (λ i. shown_slot (heads-is l z held i) bytes (sym place i) (sym s.1 i)) ∙ same x s.0 ∙ s.1)

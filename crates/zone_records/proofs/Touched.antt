@@ -8,7 +8,7 @@ use Rattle.raw_region.specs.Bytes.{part}
 use Rattle.raw_region.proofs.Indexes.{index-part}
 use Rattle.raw_region.proofs.Laws.{length-part}
 use Rattle.block_bytes.specs.Finding.{HoldsByte}
-use Rattle.block_bytes.specs.Layout.{RawBlock, Layout, BlockAt, image_of, size_of, total_of, address_behind}
+use Rattle.block_bytes.specs.Layout.{RawBlock, Layout, BlockAt, image_of, size_of, total_of, address_after}
 use Rattle.block_bytes.specs.Structure.{HasHead}
 use Rattle.block_bytes.proofs.Structures.{headers-rest}
 use Rattle.block_bytes.proofs.Walking.{size_of-pos}
@@ -46,8 +46,8 @@ module _ (l : Layout) (bytes : List ℕ) where
   same-made at bs each = each-made (SlotsSame l.heads bytes slot_count) l.heads at bs (λ xs b ys is. (each xs b ys is).0)
 
 -- the block at a place of the list
-abbrev pub block_there : (l : Layout) (xs : List RawBlock) (b : RawBlock) (ys : List RawBlock) → l.blocks ≡ xs ++ b ∷ ys → BlockAt l (address_behind l xs)
-block_there l xs b ys is = record { before = xs; here = b; behind = ys; blocks = is; place = refl }
+abbrev pub block_there : (l : Layout) (xs : List RawBlock) (b : RawBlock) (ys : List RawBlock) → l.blocks ≡ xs ++ b ∷ ys → BlockAt l (address_after l xs)
+block_there l xs b ys is = record { before = xs; here = b; after = ys; blocks = is; place = refl }
 
 -- ---- ranges
 
@@ -64,7 +64,7 @@ meets w low high some = elim (cases_lt low (w.from + w.count)) [
   | inl starts ↦ elim (cases_lt low w.from) [
     | inr from ↦ inl (record { at = low; has = (from, starts); above = omega arith; below = some })
     | inl after ↦ elim (cases_lt w.from high) [
-      | inr behind ↦ inr (λ at above below has. let a = has.0 in omega arith)
+      | inr following ↦ inr (λ at above below has. let a = has.0 in omega arith)
       | inl inside ↦ elim (cases_lt 0 w.count) [
         | inr none ↦ inr (λ at above below has. let a = has.0 in let b = has.1 in omega arith)
         | inl any ↦ inl (record { at = w.from; has = (omega arith, omega arith); above = omega arith; below = inside })
@@ -133,7 +133,7 @@ module _ (l : Layout) (bytes : List ℕ) where
       → P zone_header l.blocks → (start : ℕ) (b : BlockAt l start) → P (start - l.base) (b.here ∷ [])
   at-block P one all start b =
       let place = b.place in
-      subst (λ n. P n (b.here ∷ [])) (let e : zone_header + total_of l.heads b.before ≡ start - l.base = omega arith in e) (one zone_header b.before b.here b.behind (subst (P zone_header) b.blocks all))
+      subst (λ n. P n (b.here ∷ [])) (let e : zone_header + total_of l.heads b.before ≡ start - l.base = omega arith in e) (one zone_header b.before b.here b.after (subst (P zone_header) b.blocks all))
 
   ranges-agree : HasHead l bytes → BlocksAgree l bytes zone_header l.blocks → (ws : List Written) → AllByRecursion (RangeAgrees l bytes) ws
   ranges-agree head all [] = tt
@@ -176,7 +176,7 @@ module _ (l : Layout) (z : ZoneRecords) (held : Held l z) (bytes : List ℕ) (ws
       → ((start : ℕ) (b : BlockAt l start) → AreAlike bytes told.before (start - l.base) (start - l.base + size_of l.heads b.here) → P (start - l.base) b.here)
       → AllByRecursion R ws → (xs : List RawBlock) (b : RawBlock) (ys : List RawBlock) → l.blocks ≡ xs ++ b ∷ ys → P (zone_header + total_of l.heads xs) b
   each-told P R own as_before all xs b ys is =
-      let start = address_behind l xs in
+      let start = address_after l xs in
       let block = block_there l xs b ys is in
       let some : 0 < size_of l.heads b = size_of-pos l.heads b in
       let place : start - l.base ≡ zone_header + total_of l.heads xs = omega arith in

@@ -4,7 +4,7 @@ use Rattle.std.proofs.lemmas.Bool.{cases_lt}
 use Rattle.mac_base.specs.declared.block.HeadKind.{HeadKind}
 use Rattle.mac_base.specs.HeadKind.{zone_header}
 use Rattle.block_bytes.specs.Finding.{HoldsByte, SplitAt}
-use Rattle.block_bytes.specs.Layout.{RawBlock, Layout, BlockAt, size_of, total_of, address_behind}
+use Rattle.block_bytes.specs.Layout.{RawBlock, Layout, BlockAt, size_of, total_of, address_after}
 use Rattle.block_bytes.specs.Structure.{HasHead, begun_before}
 use Rattle.block_bytes.proofs.Begun.{begun-one, one-begun}
 use Rattle.block_bytes.proofs.Walking.{size_of-pos}
@@ -22,19 +22,19 @@ use Rattle.zone_records.proofs.Ranked.{rank, within}
 use Rattle.zone_records.proofs.Touched.{agree-one, agree-made, same-one, same-made}
 
 -- a block of a list split elsewhere that begins no lower is among those after the split
-record Later (before behind xs : List RawBlock) (b : RawBlock) (ys : List RawBlock) : Type 0 where
+record Later (before following xs : List RawBlock) (b : RawBlock) (ys : List RawBlock) : Type 0 where
   passed : List RawBlock
   first : xs ≡ before ++ passed
-  rest : behind ≡ passed ++ b ∷ ys
+  rest : following ≡ passed ++ b ∷ ys
 
-later : (heads : HeadKind) (before behind xs : List RawBlock) (b : RawBlock) (ys : List RawBlock) → before ++ behind ≡ xs ++ b ∷ ys → total_of heads before ≤ total_of heads xs → Later before behind xs b ys
-later heads [] behind xs b ys is low = record { passed = xs; first = refl; rest = is }
-later heads (a ∷ before) behind [] b ys is low = let some = size_of-pos heads a in absurd (omega arith)
-later heads (a ∷ before) behind (x ∷ xs) b ys is low =
+later : (heads : HeadKind) (before following xs : List RawBlock) (b : RawBlock) (ys : List RawBlock) → before ++ following ≡ xs ++ b ∷ ys → total_of heads before ≤ total_of heads xs → Later before following xs b ys
+later heads [] following xs b ys is low = record { passed = xs; first = refl; rest = is }
+later heads (a ∷ before) following [] b ys is low = let some = size_of-pos heads a in absurd (omega arith)
+later heads (a ∷ before) following (x ∷ xs) b ys is low =
     let first : a ≡ x = cc is in
-    let rest : before ++ behind ≡ xs ++ b ∷ ys = cc is in
+    let rest : before ++ following ≡ xs ++ b ∷ ys = cc is in
     let size = ap (size_of heads) first in
-    let more = later heads before behind xs b ys rest (omega arith) in
+    let more = later heads before following xs b ys rest (omega arith) in
     record { passed = more.passed; first = λ i. sym first i ∷ more.first i; rest = more.rest }
 
 -- the blocks of a range: the first begins at an address, and all begin before another
@@ -49,7 +49,7 @@ pub record HasBlocks (l : Layout) (w : Written) (start end : ℕ) : Type 0 where
 module _ (l : Layout) (sound : AreSound l) (bytes : List ℕ) (w : Written) where
   module _ (start end : ℕ) (has : HasBlocks l w start end) (s : SplitAt l start) where
     abbrev blocks : List RawBlock
-    blocks = begun_before l.heads start end s.behind
+    blocks = begun_before l.heads start end s.after
 
     -- a block is among these
     record Among (begins : ℕ) (b : RawBlock) : Type 0 where
@@ -58,15 +58,15 @@ module _ (l : Layout) (sound : AreSound l) (bytes : List ℕ) (w : Written) wher
       is : blocks ≡ passed ++ b ∷ more
       place : start - l.base + total_of l.heads passed ≡ begins - l.base
 
-    among-later : (begins : ℕ) (b : BlockAt l begins) → start ≤ begins → begins < end → Later s.before s.behind b.before b.here b.behind → Among begins b.here
+    among-later : (begins : ℕ) (b : BlockAt l begins) → start ≤ begins → begins < end → Later s.before s.after b.before b.here b.after → Among begins b.here
     among-later begins b after begun o =
         let place = b.place in
         let there = s.place in
         let total = ap (total_of l.heads) o.first ∙ total-append l.heads s.before o.passed in
         record {
           passed = o.passed;
-          more = begun_before l.heads (start + total_of l.heads o.passed + size_of l.heads b.here) end b.behind;
-          is = ap (begun_before l.heads start end) o.rest ∙ begun-one l.heads end start o.passed b.here b.behind (omega arith);
+          more = begun_before l.heads (start + total_of l.heads o.passed + size_of l.heads b.here) end b.after;
+          is = ap (begun_before l.heads start end) o.rest ∙ begun-one l.heads end start o.passed b.here b.after (omega arith);
           place = omega arith;
         }
 
@@ -84,11 +84,11 @@ module _ (l : Layout) (sound : AreSound l) (bytes : List ℕ) (w : Written) wher
         let inside = (block-end l sound begins b).0 in
         let after : start ≤ begins = elim (rank l start begins has.first b) [
           | inl before ↦ omega arith
-          | inr (inl behind) ↦ absurd (omega arith)
+          | inr (inl following) ↦ absurd (omega arith)
           | inr (inr same) ↦ (let e = same.0 in omega arith)
         ] in
         let begun : begins < end = elim has.all [ inl exact ↦ omega arith | inr highest ↦ omega arith ] in
-        among-later begins b after begun (later l.heads s.before s.behind b.before b.here b.behind (sym s.blocks ∙ b.blocks) (omega arith))
+        among-later begins b after begun (later l.heads s.before s.after b.before b.here b.after (sym s.blocks ∙ b.blocks) (omega arith))
 
     -- one of these has a byte of the range
     record Touched (begins : ℕ) (b : RawBlock) : Type 0 where
@@ -106,24 +106,24 @@ module _ (l : Layout) (sound : AreSound l) (bytes : List ℕ) (w : Written) wher
         let any = has.any in
         let meets : l.base + w.from < begins + size_of l.heads b.here = elim (rank l start begins has.first b) [
           | inl before ↦ omega arith
-          | inr (inl behind) ↦ absurd (omega arith)
+          | inr (inl following) ↦ absurd (omega arith)
           | inr (inr same) ↦ (let e = same.0 in let size = ap (size_of l.heads) same.1 in omega arith)
         ] in
         elim (cases_lt (begins - l.base) w.from) [
           | inl inside ↦ record { at = w.from; byte = (omega arith, omega arith); holds = record { block = b; low = omega arith; high = meets }; same = refl }
-          | inr behind ↦ record { at = begins - l.base; byte = (behind, omega arith); holds = record { block = b; low = omega arith; high = omega arith }; same = refl }
+          | inr following ↦ record { at = begins - l.base; byte = (following, omega arith); holds = record { block = b; low = omega arith; high = omega arith }; same = refl }
         ]
 
     touched : (xs : List RawBlock) (b : RawBlock) (ys : List RawBlock) → blocks ≡ xs ++ b ∷ ys → Touched (start + total_of l.heads xs) b
     touched xs b ys is =
-        let o = one-begun l.heads end start s.behind xs b ys is in
+        let o = one-begun l.heads end start s.after xs b ys is in
         let there = s.place in
         let total = total-append l.heads s.before xs in
         touched-there (start + total_of l.heads xs)
         (record {
           before = s.before ++ xs;
           here = b;
-          behind = o.rest;
+          after = o.rest;
           blocks = s.blocks ∙ ap (λ (bs : List RawBlock). s.before ++ bs) o.blocks ∙ sym (append_assoc s.before xs (b ∷ o.rest));
           place = omega arith;
         })
@@ -158,7 +158,7 @@ module _ (l : Layout) (sound : AreSound l) (bytes : List ℕ) (w : Written) wher
         told
 
   -- a range whose bytes lie after all blocks touches none
-  pub range-outside : (w.from < zone_header → HasHead l bytes) → ((at : ℕ) → w.from ≤ at → zone_header ≤ at → address_behind l l.blocks ≤ l.base + at) → RangeAgrees l bytes w × RangeSame l bytes w
+  pub range-outside : (w.from < zone_header → HasHead l bytes) → ((at : ℕ) → w.from ≤ at → zone_header ≤ at → address_after l l.blocks ≤ l.base + at) → RangeAgrees l bytes w × RangeSame l bytes w
   range-outside head above = (record { head = λ at byte low. head (let from = byte.0 in omega arith); blocks = λ at begins byte h. absurd (none at begins byte h) }, λ at begins byte h. absurd (none at begins byte h))
     where
       none : (at begins : ℕ) → HasByte w at → HoldsByte l (l.base + at) begins → ⊥

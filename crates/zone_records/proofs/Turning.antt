@@ -82,12 +82,12 @@ words-turned heads base low high news_low news_high kept_low kept_high words =
     All-append (HasWords heads) news_high news_low (kept_high.words (words-rest heads low high words)) (kept_low.words (words-first heads low high words))
 
 module _ (l : Layout) (z : ZoneRecords) (held : Held l z) where
-  -- two runs of blocks, one behind the other, have changed places
-  pub turned : (first low high news_low news_high rest : List RawBlock) (before lower higher behind : List BlockRecord) → l.blocks ≡ first ++ (low ++ (high ++ rest))
-      → read l.heads l.base first ≡ before → read l.heads l.base low ≡ lower → read l.heads l.base high ≡ higher → read l.heads l.base rest ≡ behind
+  -- two runs of blocks, one after the other, have changed places
+  pub turned : (first low high news_low news_high rest : List RawBlock) (before lower higher after : List BlockRecord) → l.blocks ≡ first ++ (low ++ (high ++ rest))
+      → read l.heads l.base first ≡ before → read l.heads l.base low ≡ lower → read l.heads l.base high ≡ higher → read l.heads l.base rest ≡ after
       → Kept l.heads l.base low news_low → Kept l.heads l.base high news_high
-      → Held (raw.with_blocks (first ++ (news_high ++ (news_low ++ rest))) l) (records.with_blocks (before ++ (higher ++ (lower ++ behind))) z)
-  turned first low high news_low news_high rest before lower higher behind is same_first same_low same_high same_rest kept_low kept_high =
+      → Held (raw.with_blocks (first ++ (news_high ++ (news_low ++ rest))) l) (records.with_blocks (before ++ (higher ++ (lower ++ after))) z)
+  turned first low high news_low news_high rest before lower higher after is same_first same_low same_high same_rest kept_low kept_high =
       let whole : l.blocks ≡ first ++ ((low ++ high) ++ rest) = is ∙ ap (λ (bs : List RawBlock). first ++ bs) (sym (append_assoc low high rest)) in
       let sound = (and_parts _ _ (sym (list_all-append (is_sound l.heads l.base) (low ++ high) rest) ∙ (sound-two l first ((low ++ high) ++ rest) held.sound whole).1)).0 in
       let words = words-first l.heads (low ++ high) rest (words-rest l.heads first ((low ++ high) ++ rest) (All-same (HasWords l.heads) (first ++ ((low ++ high) ++ rest)) l.blocks (sym whole) held.sound.words)) in
@@ -97,9 +97,9 @@ module _ (l : Layout) (z : ZoneRecords) (held : Held l z) where
       let total_high = kept-total l.heads l.base high news_high kept_high in
       let total_olds = total-append l.heads low high in
       let total_news = total-append l.heads news_high news_low in
-      let now : Held (raw.with_blocks (first ++ ((news_high ++ news_low) ++ rest)) l) (records.with_blocks (before ++ ((higher ++ lower) ++ behind)) z) =
-      changed l z held first (low ++ high) (news_high ++ news_low) rest before (higher ++ lower) behind whole same_first same_rest same_news (omega arith)
+      let now : Held (raw.with_blocks (first ++ ((news_high ++ news_low) ++ rest)) l) (records.with_blocks (before ++ ((higher ++ lower) ++ after)) z) =
+      changed l z held first (low ++ high) (news_high ++ news_low) rest before (higher ++ lower) after whole same_first same_rest same_news (omega arith)
       (sound-turned l.heads l.base low high news_low news_high kept_low kept_high sound)
       (words-turned l.heads l.base low high news_low news_high kept_low kept_high words) in
-      subst (λ (bs : List BlockRecord). Held (raw.with_blocks (first ++ (news_high ++ (news_low ++ rest))) l) (records.with_blocks (before ++ bs) z)) (append_assoc higher lower behind)
-      (subst (λ (bs : List RawBlock). Held (raw.with_blocks (first ++ bs) l) (records.with_blocks (before ++ ((higher ++ lower) ++ behind)) z)) (append_assoc news_high news_low rest) now)
+      subst (λ (bs : List BlockRecord). Held (raw.with_blocks (first ++ (news_high ++ (news_low ++ rest))) l) (records.with_blocks (before ++ bs) z)) (append_assoc higher lower after)
+      (subst (λ (bs : List RawBlock). Held (raw.with_blocks (first ++ bs) l) (records.with_blocks (before ++ ((higher ++ lower) ++ after)) z)) (append_assoc news_high news_low rest) now)

@@ -28,21 +28,21 @@ length-words heads (s ∷ ss) =
     let all = length-append (big_bytes 4 (slot_word heads s)) (words_of heads ss) in
     omega arith
 
--- the words of two lists of slots, one behind the other
+-- the words of two lists of slots, one after the other
 words-append : (heads : HeadKind) (xs ys : List Slot) → words_of heads (xs ++ ys) ≡ words_of heads xs ++ words_of heads ys
 words-append heads [] ys = refl
 words-append heads (s ∷ xs) ys = ap (λ ws. big_bytes 4 (slot_word heads s) ++ ws) (words-append heads xs ys) ∙ sym (append_assoc (big_bytes 4 (slot_word heads s)) (words_of heads xs) (words_of heads ys))
 
--- the word of the slot behind some is written
-pub words-written : (heads : HeadKind) (before : List Slot) (here : Slot) (behind : List Slot) (s : Slot)
-    → written (words_of heads (before ++ here ∷ behind)) (4 * length before) (big_bytes 4 (slot_word heads s)) ≡ words_of heads (before ++ s ∷ behind)
-words-written heads before here behind s =
+-- the word of the slot after some is written
+pub words-written : (heads : HeadKind) (before : List Slot) (here : Slot) (after : List Slot) (s : Slot)
+    → written (words_of heads (before ++ here ∷ after)) (4 * length before) (big_bytes 4 (slot_word heads s)) ≡ words_of heads (before ++ s ∷ after)
+words-written heads before here after s =
     let old = length-big_bytes 4 (slot_word heads here) in
     let new = length-big_bytes 4 (slot_word heads s) in
     let front = length-words heads before in
-    ap (λ ws. written ws (4 * length before) (big_bytes 4 (slot_word heads s))) (words-append heads before (here ∷ behind))
-    ∙ written-middle (words_of heads before) (big_bytes 4 (slot_word heads here)) (words_of heads behind) (big_bytes 4 (slot_word heads s)) (4 * length before) (omega arith) (omega arith)
-    ∙ sym (words-append heads before (s ∷ behind))
+    ap (λ ws. written ws (4 * length before) (big_bytes 4 (slot_word heads s))) (words-append heads before (here ∷ after))
+    ∙ written-middle (words_of heads before) (big_bytes 4 (slot_word heads here)) (words_of heads after) (big_bytes 4 (slot_word heads s)) (4 * length before) (omega arith) (omega arith)
+    ∙ sym (words-append heads before (s ∷ after))
 
 -- the words of slots that can be said say these
 pub slots-words : (heads : HeadKind) (ss : List Slot) → list_all (can_say heads) ss ≡ true → slots_in heads (length ss) (words_of heads ss) ≡ ss
@@ -89,7 +89,7 @@ chained-more : (i at last next : ℕ) → (i ≡ 0 → next ≡ last) → (0 < i
 chained-more zero at last next first later = ap (λ n. Free n ∷ []) (first refl)
 chained-more (suc i) at last next first later = ap (λ n. Free n ∷ chained (suc i) (at + 4) last) (later (omega arith))
 
--- of the slots of a new master block the last i are written, behind bytes as they were, and `next` is what the slot
+-- of the slots of a new master block the last i are written, after bytes as they were, and `next` is what the slot
 -- before them is to say
 pub record Chaining (heads : HeadKind) (first last : ℕ) (old : List ℕ) (i next : ℕ) (now : List ℕ) : Type 0 where
   pub words : now ≡ take (4 * (64 - i)) old ++ words_of heads (chained i (first + 4 * (64 - i)) last)
@@ -118,13 +118,13 @@ module _ (heads : HeadKind) (first last : ℕ) (old : List ℕ) (long : length o
         let k = length now - place in
         let front = take (4 * (64 - i)) old in
         let chain = chained i (first + 4 * (64 - i)) last in
-        let behind = words_of heads chain in
+        let after = words_of heads chain in
         let four : length front ≡ place + 4 = (let e = length-take-le (4 * (64 - i)) old (omega arith) in omega arith) in
         let left = length-drop place now in
         let part : take k (drop place now) ≡ drop place now = take_all k (drop place now) (omega arith) in
         let none : drop k (drop place now) ≡ [] = drop_all k (drop place now) (omega arith) in
-        let kept : take place now ≡ take place old = ap (take place) f.words ∙ take-append-le place front behind (omega arith) ∙ take-take place (4 * (64 - i)) old (omega arith) in
-        let rest : drop 4 (drop place now) ≡ behind = drop-drop 4 place now ∙ ap (drop (place + 4)) f.words ∙ drop_at front behind (place + 4) four in
+        let kept : take place now ≡ take place old = ap (take place) f.words ∙ take-append-le place front after (omega arith) ∙ take-take place (4 * (64 - i)) old (omega arith) in
+        let rest : drop 4 (drop place now) ≡ after = drop-drop 4 place now ∙ ap (drop (place + 4)) f.words ∙ drop_at front after (place + 4) four in
         let said : bytes ≡ words_of heads (Free next ∷ chain) = written ∙ (λ t. big_bytes 4 (is t) ++ drop 4 (part t)) ∙ ap (λ ws. big_bytes 4 (slot_word heads (Free next)) ++ ws) rest in
         let all : new ≡ take place old ++ words_of heads (Free next ∷ chain) =
         ends ∙ (λ t. kept t ++ (said t ++ none t)) ∙ ap (λ ws. take place old ++ ws) (append-nil (words_of heads (Free next ∷ chain))) in

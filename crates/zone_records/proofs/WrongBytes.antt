@@ -101,8 +101,8 @@ module _ (l : Layout) (z : ZoneRecords) (held : Held l z) where
   header-same : (others : List ℕ) → HasStructure z others → (start : ℕ) (b : BlockAt l start) (k : ℕ) → start ≤ l.base + k → l.base + k < start + head_size l.heads → slice_index others k ≡ slice_index (image_of l) k
   header-same others has start b k low high =
       let place = b.place in
-      let own = header-one l (image_of l) b.before b.here b.behind b.blocks (structure-agrees l (image_of l) z held own-structure).headers in
-      let theirs = header-one l others b.before b.here b.behind b.blocks (structure-agrees l others z held has).headers in
+      let own = header-one l (image_of l) b.before b.here b.after b.blocks (structure-agrees l (image_of l) z held own-structure).headers in
+      let theirs = header-one l others b.before b.here b.after b.blocks (structure-agrees l others z held has).headers in
       same-byte others (image_of l) (zone_header + raw.total_of l.heads b.before) (head_size l.heads) k (theirs ∙ sym own) (omega arith) (omega arith)
 
   module _ (k byte : ℕ) (other : slice_index (image_of l) k ≡ byte → ⊥) where
@@ -200,8 +200,8 @@ module _ (l : Layout) (z : ZoneRecords) (held : Held l z) where
       block-keeps own right has =
           let place = b.place in
           keeps-from (omega arith) right has (λ xs c ys is.
-          let x = raw.address_behind l xs in
-          let at : BlockAt l x = record { before = xs; here = c; behind = ys; blocks = is; place = refl } in
+          let x = raw.address_after l xs in
+          let at : BlockAt l x = record { before = xs; here = c; after = ys; blocks = is; place = refl } in
           let long : c.role ≡ role.Master → length c.contents ≡ 256 = contents-long l held.sound x at in
           let a = zone_header + raw.total_of l.heads xs + head_size l.heads in
           elim (rank l start x b at) [
@@ -224,7 +224,7 @@ module _ (l : Layout) (z : ZoneRecords) (held : Held l z) where
       plain-keeps not = block-keeps (λ right has master. absurd (not master))
 
       pub slack-keeps : start + head_size l.heads + 256 ≤ l.base + k → Keeps z k byte
-      slack-keeps behind = let place = b.place in block-keeps (λ right has master agree. slots-apart right first b.here.contents (inr (omega arith)) agree)
+      slack-keeps after = let place = b.place in block-keeps (λ right has master agree. slots-apart right first b.here.contents (inr (omega arith)) agree)
 
       pub flags-keeps : byte < 256 → b.here.role ≡ role.Master → (j : ℕ) → l.base + k ≡ start + head_size l.heads + j → j < 256 → MayBe l.heads b.here.contents j byte → Keeps z k byte
       flags-keeps small master j there few may =

@@ -1,4 +1,4 @@
--- The slots of a zone by their addresses: where they stand in master blocks, that no two stand at one address, and
+-- The slots of a zone by their addresses: where they are in master blocks, that no two are at one address, and
 -- which are free.
 use Rattle.std.proofs.Common.{◌≡◌, ℕ, zero, suc, ◌+◌, ◌*◌, ◌<◌, ◌≤◌, true, List, [], ◌∷◌, ◌++◌, length, drop, get_or, refl, ap, sym, ◌∙◌, subst, arith, Contains, ◌⊎◌, inl, inr, append_assoc, drop-drop}
 use Rattle.std.specs.Prelude.{◌^◌, ◌-◌, nat_eq, ⊤}
@@ -21,7 +21,7 @@ use Rattle.zone_records.specs.Linking.{free_of, free_count, one_free}
 use Rattle.zone_records.specs.Masters.{slot_of}
 use Rattle.zone_records.specs.Places.{SlotAt}
 use Rattle.zone_records.specs.Reading.{AreSound, content_in, is_sound, records_in}
-use Rattle.zone_records.specs.Records.{BlockRecord, ZoneRecords, Master, block_record, total_of, address_behind}
+use Rattle.zone_records.specs.Records.{BlockRecord, ZoneRecords, Master, block_record, total_of, address_after}
 use Rattle.zone_records.specs.Slots.{addressed, slots_of, all_slots, slots_of_zone}
 use Rattle.zone_records.specs.Word.{slots_in}
 use Rattle.zone_records.proofs.Adopted.{NextHere}
@@ -29,7 +29,7 @@ use Rattle.zone_records.proofs.Apart.{read, total-append}
 use Rattle.zone_records.proofs.Held.{held-read, range-one, sound-one}
 use Rattle.zone_records.proofs.Ranked.{one-block, within}
 use Rattle.zone_records.proofs.ReadSlots.{length-slots_in}
-use Rattle.zone_records.proofs.SaidSlots.{slot_of-behind}
+use Rattle.zone_records.proofs.SaidSlots.{slot_of-after}
 use Rattle.zone_records.proofs.Slots.{master-long, slot-at}
 
 -- a slot with its address
@@ -53,36 +53,36 @@ at-later p ps q c = Contains-append_right (p ∷ []) ps q c
 pub not-there : (q : Placed) → Contains [] q → ⊥
 not-there q c = let below = c.1 in omega arith
 
--- one list of blocks behind another
+-- one list of blocks after another
 slots-append : (s : Shape) (at : ℕ) (xs ys : List BlockRecord) → all_slots s at (xs ++ ys) ≡ all_slots s at xs ++ all_slots s (at + total_of xs) ys
 slots-append s at [] ys = ap (λ n. all_slots s n ys) (let e : at ≡ at + 0 = omega arith in e)
 slots-append s at (x ∷ xs) ys =
     ap (λ (ps : List Placed). slots_of (at + head_size s.heads) x.content ++ ps) (slots-append s (at + x.size) xs ys ∙ ap (λ n. all_slots s (at + x.size) xs ++ all_slots s n ys) (let e : at + x.size + total_of xs ≡ at + (x.size + total_of xs) = omega arith in e))
     ∙ sym (append_assoc (slots_of (at + head_size s.heads) x.content) (all_slots s (at + x.size) xs) (all_slots s (at + (x.size + total_of xs)) ys))
 
--- the slot behind some
-addressed-one : (at : ℕ) (before : List Slot) (here : Slot) (behind : List Slot) → Contains (addressed at (before ++ here ∷ behind)) (at + 4 * length before, here)
-addressed-one at [] here behind = subst (λ n. Contains ((at, here) ∷ addressed (at + 4) behind) (n, here)) (let e : at ≡ at + 0 = omega arith in e) (at-first (at, here) (addressed (at + 4) behind))
-addressed-one at (s ∷ before) here behind =
-    subst (λ n. Contains ((at, s) ∷ addressed (at + 4) (before ++ here ∷ behind)) (n, here)) (let e : at + 4 + 4 * length before ≡ at + 4 * suc (length before) = omega arith in e)
-    (at-later (at, s) (addressed (at + 4) (before ++ here ∷ behind)) (at + 4 + 4 * length before, here) (addressed-one (at + 4) before here behind))
+-- the slot after some
+addressed-one : (at : ℕ) (before : List Slot) (here : Slot) (after : List Slot) → Contains (addressed at (before ++ here ∷ after)) (at + 4 * length before, here)
+addressed-one at [] here after = subst (λ n. Contains ((at, here) ∷ addressed (at + 4) after) (n, here)) (let e : at ≡ at + 0 = omega arith in e) (at-first (at, here) (addressed (at + 4) after))
+addressed-one at (s ∷ before) here after =
+    subst (λ n. Contains ((at, s) ∷ addressed (at + 4) (before ++ here ∷ after)) (n, here)) (let e : at + 4 + 4 * length before ≡ at + 4 * suc (length before) = omega arith in e)
+    (at-later (at, s) (addressed (at + 4) (before ++ here ∷ after)) (at + 4 + 4 * length before, here) (addressed-one (at + 4) before here after))
 
 -- a slot at an address is among the slots
 pub slot-among : (z : ZoneRecords) (h : ℕ) (s : SlotAt z h) → Contains (slots_of_zone z) (h, s.here)
 slot-among z h s =
-    let start = address_behind z.shape [] in
-    let master = block_record (Master (s.slots_before ++ s.here ∷ s.slots_behind)) s.size in
+    let start = address_after z.shape [] in
+    let master = block_record (Master (s.slots_before ++ s.here ∷ s.slots_after)) s.size in
     let at = start + total_of s.before in
     let first : ℕ = at + head_size z.shape.heads in
-    let own = addressed-one first s.slots_before s.here s.slots_behind in
-    let here : Contains (all_slots z.shape at (master ∷ s.behind)) (first + 4 * length s.slots_before, s.here) =
-    Contains-append_left (slots_of first master.content) (all_slots z.shape (at + s.size) s.behind) (first + 4 * length s.slots_before, s.here) own in
-    let all = Contains-append_right (all_slots z.shape start s.before) (all_slots z.shape at (master ∷ s.behind)) (first + 4 * length s.slots_before, s.here) here in
+    let own = addressed-one first s.slots_before s.here s.slots_after in
+    let here : Contains (all_slots z.shape at (master ∷ s.after)) (first + 4 * length s.slots_before, s.here) =
+    Contains-append_left (slots_of first master.content) (all_slots z.shape (at + s.size) s.after) (first + 4 * length s.slots_before, s.here) own in
+    let all = Contains-append_right (all_slots z.shape start s.before) (all_slots z.shape at (master ∷ s.after)) (first + 4 * length s.slots_before, s.here) here in
     let place : first + 4 * length s.slots_before ≡ h = (let there = s.place in omega arith) in
     subst (λ n. Contains (slots_of_zone z) (n, s.here)) place
-    (subst (λ ps. Contains ps (first + 4 * length s.slots_before, s.here)) (sym (ap (all_slots z.shape start) s.blocks ∙ slots-append z.shape start s.before (master ∷ s.behind))) all)
+    (subst (λ ps. Contains ps (first + 4 * length s.slots_before, s.here)) (sym (ap (all_slots z.shape start) s.blocks ∙ slots-append z.shape start s.before (master ∷ s.after))) all)
 
--- a slot stands among the contents of a master block
+-- a slot is among the contents of a master block
 pub record SlotIn (l : Layout) (h : ℕ) (s : Slot) : Type 0 where
   pub at : ℕ
   pub block : BlockAt l at
@@ -106,7 +106,7 @@ indexed heads (suc n) at bytes h s c =
     elim (first-or-later (at, slot_of heads bytes 0) (addressed (at + 4) (slots_in heads n (drop 4 bytes))) (h, s) c) [
       | inl is ↦ record { index = 0; few = omega arith; place = sym (ap (λ (p : Placed). p.0) is) ∙ omega arith; said = sym (ap (λ (p : Placed). p.1) is) }
       | inr later ↦ (let i = indexed heads n (at + 4) (drop 4 bytes) h s later in let few = i.few in let place = i.place in
-          record { index = suc i.index; few = omega arith; place = omega arith; said = i.said ∙ slot_of-behind heads bytes i.index })
+          record { index = suc i.index; few = omega arith; place = omega arith; said = i.said ∙ slot_of-after heads bytes i.index })
     ]
 
 module _ (l : Layout) (sound : AreSound l) where
@@ -117,18 +117,18 @@ module _ (l : Layout) (sound : AreSound l) where
   in_block role.Master bytes first h s c = (refl, indexed l.heads slot_count first bytes h s c)
   in_block (role.Relocatable offset flags) bytes first h s c = absurd (not-there (h, s) c)
 
-  in_blocks : (before behind : List RawBlock) (at h : ℕ) (s : Slot) → l.blocks ≡ before ++ behind → at ≡ raw.address_behind l before → Contains (all_slots (records_in l).shape at (read l.heads l.base behind)) (h, s) → SlotIn l h s
+  in_blocks : (before after : List RawBlock) (at h : ℕ) (s : Slot) → l.blocks ≡ before ++ after → at ≡ raw.address_after l before → Contains (all_slots (records_in l).shape at (read l.heads l.base after)) (h, s) → SlotIn l h s
   in_blocks before [] at h s is there c = absurd (not-there (h, s) c)
   in_blocks before (b ∷ bs) at h s is there c = elim (Contains-append_cases (slots_of (at + head_size l.heads) (content_in l.heads l.base b.role b.contents)) (all_slots (records_in l).shape (at + size_of l.heads b) (read l.heads l.base bs)) (h, s) c) [
     | inl own ↦ (let i = in_block b.role b.contents (at + head_size l.heads) h s own in
-        record { at = at; block = record { before = before; here = b; behind = bs; blocks = is; place = there }; master = i.0; index = i.1.index; few = i.1.few; place = i.1.place; said = i.1.said })
+        record { at = at; block = record { before = before; here = b; after = bs; blocks = is; place = there }; master = i.0; index = i.1.index; few = i.1.few; place = i.1.place; said = i.1.said })
     | inr later ↦ (let total = total-append l.heads before (b ∷ []) in
         in_blocks (before ++ b ∷ []) bs (at + size_of l.heads b) h s (is ∙ sym (append_assoc before (b ∷ []) bs)) (omega arith) later)
   ]
 
-  -- one among the slots stands there
+  -- one among the slots is there
   pub slot-in : (h : ℕ) (s : Slot) → Contains (slots_of_zone (records_in l)) (h, s) → SlotIn l h s
-  slot-in h s c = in_blocks [] l.blocks (raw.address_behind l []) h s refl refl c
+  slot-in h s c = in_blocks [] l.blocks (raw.address_after l []) h s refl refl c
 
   -- and it is the slot at the address
   pub slot-there : (h : ℕ) (s : Slot) → SlotIn l h s → (t : SlotAt (records_in l) h) × (t.here ≡ s)
@@ -137,7 +137,7 @@ module _ (l : Layout) (sound : AreSound l) where
   pub slot-found : (h : ℕ) (s : Slot) → Contains (slots_of_zone (records_in l)) (h, s) → (t : SlotAt (records_in l) h) × (t.here ≡ s)
   slot-found h s c = slot-there h s (slot-in h s c)
 
-  -- what stands among the contents of a master block is one of the slots
+  -- what is among the contents of a master block is one of the slots
   pub slot-listed : (h : ℕ) (s : Slot) → SlotIn l h s → Contains (slots_of_zone (records_in l)) (h, s)
   slot-listed h s i = let t = slot-there h s i in subst (λ n. Contains (slots_of_zone (records_in l)) (h, n)) t.1 (slot-among (records_in l) h t.0)
 
@@ -145,7 +145,7 @@ module _ (l : Layout) (sound : AreSound l) where
   slot_range : (h : ℕ) (s : Slot) (i : SlotIn l h s) → (i.at ≤ h) × (h + 4 ≤ i.at + size_of l.heads i.block.here)
   slot_range h s i =
       let few = i.few in let place = i.place in
-      let long = master-long l.heads l.base i.block.here (sound-one l i.block.before i.block.here i.block.behind sound i.block.blocks) i.master in
+      let long = master-long l.heads l.base i.block.here (sound-one l i.block.before i.block.here i.block.after sound i.block.blocks) i.master in
       (omega arith, omega arith)
 
   -- there is one at an address
@@ -163,7 +163,7 @@ module _ (l : Layout) (sound : AreSound l) where
   slot-address h s c =
       let i = slot-in h s c in let range = slot_range h s i in let low = range.0 in let high = range.1 in
       let inside = within l i.at i.block in let first = inside.0 in
-      let end = range-one l i.block.before i.block.here i.block.behind sound i.block.blocks in let place = i.block.place in
+      let end = range-one l i.block.before i.block.here i.block.after sound i.block.blocks in let place = i.block.place in
       (omega arith, omega arith)
 
 -- addresses rise from one on
@@ -248,11 +248,11 @@ free_apart n ((g, slot.Free m) ∷ ps) r = IsDistinct-more g (free_of ps) (λ c.
 free_apart n ((g, slot.Empty) ∷ ps) r = free_apart (suc g) ps r.1
 free_apart n ((g, slot.Full flags contents) ∷ ps) r = free_apart (suc g) ps r.1
 
-pub slots-rising : (l : Layout) → AreSound l → Rising (raw.address_behind l []) (slots_of_zone (records_in l))
-slots-rising l sound = rising_all (records_in l).shape l.base (raw.address_behind l []) l.blocks sound.blocks
+pub slots-rising : (l : Layout) → AreSound l → Rising (raw.address_after l []) (slots_of_zone (records_in l))
+slots-rising l sound = rising_all (records_in l).shape l.base (raw.address_after l []) l.blocks sound.blocks
 
 pub free-once : (l : Layout) → AreSound l → IsDistinct nat_eq (free_of (slots_of_zone (records_in l)))
-free-once l sound = free_apart (raw.address_behind l []) (slots_of_zone (records_in l)) (slots-rising l sound)
+free-once l sound = free_apart (raw.address_after l []) (slots_of_zone (records_in l)) (slots-rising l sound)
 
 -- they add up
 free-append : (ps qs : List Placed) → length (free_of (ps ++ qs)) ≡ length (free_of ps) + length (free_of qs)
@@ -341,22 +341,22 @@ cancel (x ∷ xs) ys zs is = let rest : xs ++ ys ≡ xs ++ zs = cc is in cancel 
 
 module _ (l : Layout) where
   -- no block is left where the blocks end
-  pub none-left : (at : ℕ) (s : SplitAt l at) → raw.address_behind l l.blocks ≤ at → s.behind ≡ []
-  none-left at s ends = from s.behind s.blocks
+  pub none-left : (at : ℕ) (s : SplitAt l at) → raw.address_after l l.blocks ≤ at → s.after ≡ []
+  none-left at s ends = from s.after s.blocks
     where
-      from : (behind : List RawBlock) → l.blocks ≡ s.before ++ behind → behind ≡ []
+      from : (after : List RawBlock) → l.blocks ≡ s.before ++ after → after ≡ []
       from [] is = refl
       from (b ∷ bs) is = let sum = ap (raw.total_of l.heads) is in let more = total-append l.heads s.before (b ∷ bs) in let some = size_of-pos l.heads b in let place = s.place in absurd (omega arith)
 
   -- the free slots of the blocks before an address are counted
   pub record Counted (at count : ℕ) : Type 0 where
     pub split : SplitAt l at
-    pub sum : count + length (free_of (all_slots (records_in l).shape at (read l.heads l.base split.behind))) ≡ length (free_of (slots_of_zone (records_in l)))
+    pub sum : count + length (free_of (all_slots (records_in l).shape at (read l.heads l.base split.after))) ≡ length (free_of (slots_of_zone (records_in l)))
     pub few : 4 * count ≤ at
 
-  pub counted-none : (at : ℕ) → at ≡ raw.address_behind l [] → Counted at 0
+  pub counted-none : (at : ℕ) → at ≡ raw.address_after l [] → Counted at 0
   counted-none at is = record {
-    split = record { before = []; behind = l.blocks; blocks = refl; place = is };
+    split = record { before = []; after = l.blocks; blocks = refl; place = is };
     sum = (let same = ap (λ n. length (free_of (all_slots (records_in l).shape n (read l.heads l.base l.blocks)))) is in omega arith);
     few = omega arith;
   }
@@ -368,20 +368,20 @@ module _ (l : Layout) where
       let b = h.here in
       let own = counts (at + head_size l.heads) in
       let first = slots_of (at + head_size l.heads) (content_in l.heads l.base b.role b.contents) in
-      let rest = all_slots (records_in l).shape (at + size_of l.heads b) (read l.heads l.base h.behind) in
+      let rest = all_slots (records_in l).shape (at + size_of l.heads b) (read l.heads l.base h.after) in
       let total = total-append l.heads c.split.before (b ∷ []) in let place = c.split.place in
-      let same : c.split.behind ≡ b ∷ h.behind = cancel c.split.before c.split.behind (b ∷ h.behind) (sym c.split.blocks ∙ h.blocks) in
-      let parts : length (free_of (all_slots (records_in l).shape at (read l.heads l.base c.split.behind))) ≡ length (free_of first) + length (free_of rest) =
+      let same : c.split.after ≡ b ∷ h.after = cancel c.split.before c.split.after (b ∷ h.after) (sym c.split.blocks ∙ h.blocks) in
+      let parts : length (free_of (all_slots (records_in l).shape at (read l.heads l.base c.split.after))) ≡ length (free_of first) + length (free_of rest) =
       ap (λ bs. length (free_of (all_slots (records_in l).shape at (read l.heads l.base bs)))) same ∙ free-append first rest in
-      let moved = ap (λ m. length (free_of (all_slots (records_in l).shape m (read l.heads l.base h.behind)))) there in
+      let moved = ap (λ m. length (free_of (all_slots (records_in l).shape m (read l.heads l.base h.after)))) there in
       let sum = c.sum in let few = c.few in
       record {
-        split = record { before = c.split.before ++ b ∷ []; behind = h.behind; blocks = h.blocks ∙ sym (append_assoc c.split.before (b ∷ []) h.behind); place = omega arith };
+        split = record { before = c.split.before ++ b ∷ []; after = h.after; blocks = h.blocks ∙ sym (append_assoc c.split.before (b ∷ []) h.after); place = omega arith };
         sum = omega arith;
         few = omega arith;
       }
 
   -- and of all
-  pub counted-all : (at count : ℕ) (c : Counted at count) → c.split.behind ≡ [] → count ≡ length (free_of (slots_of_zone (records_in l)))
+  pub counted-all : (at count : ℕ) (c : Counted at count) → c.split.after ≡ [] → count ≡ length (free_of (slots_of_zone (records_in l)))
   unfolding free_of
   counted-all at count c none = let sum = c.sum in let rest = ap (λ bs. length (free_of (all_slots (records_in l).shape at (read l.heads l.base bs)))) none in omega arith

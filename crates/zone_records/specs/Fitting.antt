@@ -9,7 +9,7 @@ use Rattle.zone_records.specs.Changes.{free_record}
 -- free
 abbrev pub fitted : ℕ → {at size n : ℕ} → (z : ZoneRecords) → CanHold z at size n → ZoneRecords
 fitted kept {size = size} {n = n} z can = let held = can.held in
-    with_blocks (held.before ++ block_record (with_bytes (resized n (take kept (bytes_of held.content))) held.content) size ∷ free_record (held.size - size) ++ held.behind) z
+    with_blocks (held.before ++ block_record (with_bytes (resized n (take kept (bytes_of held.content))) held.content) size ∷ free_record (held.size - size) ++ held.after) z
 
 -- the block at an address can have n bytes of contents in its first bytes, so many, and has as many bytes as are kept
 pub record CanKeep (z : ZoneRecords) (at size n kept : ℕ) : Type 0 where

@@ -34,7 +34,7 @@ LinkedAs l at role.Fixed contents = ⊤
 LinkedAs l at role.Master contents = SlotsKeep l slot_count (at + head_size l.heads) contents
 LinkedAs l at (role.Relocatable offset flags) contents = Names (records_in l) (l.base + offset) (at + head_size l.heads)
 
--- the block behind a free one isn't free, and in any other no smallest block would fit behind its n bytes of contents
+-- the block after a free one isn't free, and in any other no smallest block would fit after its n bytes of contents
 abbrev pub TightAs : Layout → ℕ → Role → ℕ → ℕ → Type 0
 TightAs l at role.Free size n = (next : BlockAt l (at + size)) → next.here.role ≡ role.Free → ⊥
 TightAs l at role.Fixed size n = IsTrue (has_length (records_in l).shape size n)

@@ -5,7 +5,7 @@ use Rattle.raw_region.specs.Bytes.{part}
 use Rattle.zone_records.specs.declared.structure.Part.{Part}
 use Rattle.zone_records.specs.declared.structure.Part.TheVariants.{ZoneHeader, BlockHeader, MasterPointer}
 use Rattle.zone_records.specs.Places.{RecordAt, SlotAt, has_bytes}
-use Rattle.zone_records.specs.Records.{ZoneRecords, bytes_of, address_behind}
+use Rattle.zone_records.specs.Records.{ZoneRecords, bytes_of, address_after}
 
 -- the block at `start` has the byte at an address, in its header or after it
 pub record HoldsByte (z : ZoneRecords) (at start : ℕ) : Type 0 where
@@ -15,7 +15,7 @@ pub record HoldsByte (z : ZoneRecords) (at start : ℕ) : Type 0 where
 
 -- the byte at an address lies before all blocks, or after them
 abbrev pub LiesOutside : ZoneRecords → ℕ → Type 0
-LiesOutside z at = (at < address_behind z.shape []) ⊎ (address_behind z.shape z.blocks ≤ at)
+LiesOutside z at = (at < address_after z.shape []) ⊎ (address_after z.shape z.blocks ≤ at)
 
 -- the header of a block has the byte at an offset from the zone's start
 pub record InHeader (z : ZoneRecords) (at : ℕ) : Type 0 where

@@ -9,23 +9,23 @@ use Rattle.mac_base.specs.Suits.{is_block_size}
 use Rattle.raw_region.specs.State.{Loan}
 use Rattle.zone_records.specs.declared.slot.Slot.{Slot}
 use Rattle.zone_records.specs.declared.slot.Slot.TheVariants as slot
-use Rattle.zone_records.specs.Records.{Content, Free, Fixed, Master, Relocatable, BlockRecord, block_record, lent_record, handle_record, ZoneRecords, bytes_of, total_of, address_behind}
+use Rattle.zone_records.specs.Records.{Content, Free, Fixed, Master, Relocatable, BlockRecord, block_record, lent_record, handle_record, ZoneRecords, bytes_of, total_of, address_after}
 
--- a block's header stands at this address
+-- a block's header is at this address
 pub record RecordAt (z : ZoneRecords) (at : ℕ) : Type 0 where
   pub before : List BlockRecord
   pub here : BlockRecord
-  pub behind : List BlockRecord
-  pub blocks : z.blocks ≡ before ++ here ∷ behind
-  pub place : at ≡ address_behind z.shape before
+  pub after : List BlockRecord
+  pub blocks : z.blocks ≡ before ++ here ∷ after
+  pub place : at ≡ address_after z.shape before
 
 -- a free block's
 pub record FreeAt (z : ZoneRecords) (at : ℕ) : Type 0 where
   pub before : List BlockRecord
   pub size : ℕ
-  pub behind : List BlockRecord
-  pub blocks : z.blocks ≡ before ++ block_record Free size ∷ behind
-  pub place : at ≡ address_behind z.shape before
+  pub after : List BlockRecord
+  pub blocks : z.blocks ≡ before ++ block_record Free size ∷ after
+  pub place : at ≡ address_after z.shape before
 
 -- whether a block has bytes of a handle or a pointer
 abbrev pub has_bytes : Content → Bool
@@ -39,9 +39,9 @@ pub record HeldAt (z : ZoneRecords) (at : ℕ) : Type 0 where
   pub before : List BlockRecord
   pub size : ℕ
   pub content : Content
-  pub behind : List BlockRecord
-  pub blocks : z.blocks ≡ before ++ block_record content size ∷ behind
-  pub place : at ≡ address_behind z.shape before
+  pub after : List BlockRecord
+  pub blocks : z.blocks ≡ before ++ block_record content size ∷ after
+  pub place : at ≡ address_after z.shape before
   pub held : IsTrue (has_bytes content)
 
 -- that of a handle's block, lent or not
@@ -52,33 +52,33 @@ pub record HandleBlockAt (z : ZoneRecords) (at : ℕ) : Type 0 where
   pub flags : Flags
   pub bytes : List ℕ
   pub lent : Bool
-  pub behind : List BlockRecord
-  pub blocks : z.blocks ≡ before ++ handle_record handle flags bytes size lent ∷ behind
-  pub place : at ≡ address_behind z.shape before
+  pub after : List BlockRecord
+  pub blocks : z.blocks ≡ before ++ handle_record handle flags bytes size lent ∷ after
+  pub place : at ≡ address_after z.shape before
 
 -- the block at an address is lent, and this is its loan, maybe with other bytes
 pub record IsLoanOf (z : ZoneRecords) (at : ℕ) (loan : Loan) : Type 0 where
   pub before : List BlockRecord
   pub size : ℕ
   pub content : Content
-  pub behind : List BlockRecord
-  pub blocks : z.blocks ≡ before ++ lent_record content size ∷ behind
-  pub place : at ≡ address_behind z.shape before
+  pub after : List BlockRecord
+  pub blocks : z.blocks ≡ before ++ lent_record content size ∷ after
+  pub place : at ≡ address_after z.shape before
   pub held : IsTrue (has_bytes content)
   pub memory : loan.name ≡ z.memory.region
   pub contents : z.shape.base + loan.at ≡ at + head_size z.shape.heads
   pub long : length loan.bytes ≡ length (bytes_of content)
 
--- a slot stands at this address
+-- a slot is at this address
 pub record SlotAt (z : ZoneRecords) (h : ℕ) : Type 0 where
   pub before : List BlockRecord
   pub size : ℕ
   pub slots_before : List Slot
   pub here : Slot
-  pub slots_behind : List Slot
-  pub behind : List BlockRecord
-  pub blocks : z.blocks ≡ before ++ block_record (Master (slots_before ++ here ∷ slots_behind)) size ∷ behind
-  pub place : h ≡ address_behind z.shape before + head_size z.shape.heads + 4 * length slots_before
+  pub slots_after : List Slot
+  pub after : List BlockRecord
+  pub blocks : z.blocks ≡ before ++ block_record (Master (slots_before ++ here ∷ slots_after)) size ∷ after
+  pub place : h ≡ address_after z.shape before + head_size z.shape.heads + 4 * length slots_before
 
 -- how many bytes at its end a block can say are over
 abbrev pub most_over : HeadKind → ℕ
@@ -106,11 +106,11 @@ pub record FreePair (z : ZoneRecords) (at : ℕ) : Type 0 where
   pub before : List BlockRecord
   pub first : ℕ
   pub second : ℕ
-  pub behind : List BlockRecord
-  pub blocks : z.blocks ≡ before ++ block_record Free first ∷ block_record Free second ∷ behind
-  pub place : at ≡ address_behind z.shape before
+  pub after : List BlockRecord
+  pub blocks : z.blocks ≡ before ++ block_record Free first ∷ block_record Free second ∷ after
+  pub place : at ≡ address_after z.shape before
 
--- so many bytes can have n of contents in front, and those behind them are none or make a block
+-- so many bytes can have n of contents in front, and those after them are none or make a block
 pub record CanFront (s : Shape) (whole size n : ℕ) : Type 0 where
   pub within : size ≤ whole
   pub front : IsTrue (can_have s size n)
@@ -121,16 +121,16 @@ pub record CanHold (z : ZoneRecords) (at size n : ℕ) : Type 0 where
   pub held : HeldAt z at
   pub fits : CanFront z.shape held.size size n
 
--- the block at an address can have n bytes of contents in its own first bytes and those of the free block behind it, so
+-- the block at an address can have n bytes of contents in its own first bytes and those of the free block after it, so
 -- many
 pub record CanGrow (z : ZoneRecords) (at size n : ℕ) : Type 0 where
   pub before : List BlockRecord
   pub first : ℕ
   pub content : Content
   pub second : ℕ
-  pub behind : List BlockRecord
-  pub blocks : z.blocks ≡ before ++ block_record content first ∷ block_record Free second ∷ behind
-  pub place : at ≡ address_behind z.shape before
+  pub after : List BlockRecord
+  pub blocks : z.blocks ≡ before ++ block_record content first ∷ block_record Free second ∷ after
+  pub place : at ≡ address_after z.shape before
   pub held : IsTrue (has_bytes content)
   pub fits : CanFront z.shape (first + second) size n
 
@@ -138,25 +138,25 @@ pub record CanGrow (z : ZoneRecords) (at size n : ℕ) : Type 0 where
 abbrev pub none_lent : List BlockRecord → Bool
 none_lent bs = list_all (λ (b : BlockRecord). not b.lent) bs
 
--- a block and the others behind it stand between two addresses, none of them lent
+-- a block and the others after it are between two addresses, none of them lent
 pub record ParcelAt (z : ZoneRecords) (at end : ℕ) : Type 0 where
   pub before : List BlockRecord
   pub here : BlockRecord
   pub others : List BlockRecord
-  pub behind : List BlockRecord
-  pub blocks : z.blocks ≡ before ++ (here ∷ others ++ behind)
-  pub place : at ≡ address_behind z.shape before
+  pub after : List BlockRecord
+  pub blocks : z.blocks ≡ before ++ (here ∷ others ++ after)
+  pub place : at ≡ address_after z.shape before
   pub long : end ≡ at + total_of (here ∷ others)
   pub unlent : IsTrue (none_lent (here ∷ others))
 
--- some blocks stand from an address on, and a block behind them at another, none of them lent
+-- some blocks are from an address on, and a block after them at another, none of them lent
 pub record ParcelUpTo (z : ZoneRecords) (start at : ℕ) : Type 0 where
   pub before : List BlockRecord
   pub others : List BlockRecord
   pub here : BlockRecord
-  pub behind : List BlockRecord
-  pub blocks : z.blocks ≡ before ++ (others ++ here ∷ behind)
-  pub place : start ≡ address_behind z.shape before
+  pub after : List BlockRecord
+  pub blocks : z.blocks ≡ before ++ (others ++ here ∷ after)
+  pub place : start ≡ address_after z.shape before
   pub long : at ≡ start + total_of others
   pub unlent : IsTrue (none_lent (others ++ here ∷ []))
 
@@ -189,24 +189,24 @@ is_free (Relocatable h flags bytes) = false
 -- the blocks from an address on, which is that of a block or of the end of the last
 pub record SplitAt (z : ZoneRecords) (at : ℕ) : Type 0 where
   pub before : List BlockRecord
-  pub behind : List BlockRecord
-  pub blocks : z.blocks ≡ before ++ behind
-  pub place : at ≡ address_behind z.shape before
+  pub after : List BlockRecord
+  pub blocks : z.blocks ≡ before ++ after
+  pub place : at ≡ address_after z.shape before
 
 -- whether none of these is free
 abbrev pub none_free : List BlockRecord → Bool
 none_free bs = list_all (λ (b : BlockRecord). not (is_free b.content)) bs
 
--- the first free one of these blocks, which begin at an address, stands at another
+-- the first free one of these blocks, which begin at an address, is at another
 pub record FirstFree (bs : List BlockRecord) (from at : ℕ) : Type 0 where
   pub passed : List BlockRecord
   pub size : ℕ
-  pub behind : List BlockRecord
-  pub blocks : bs ≡ passed ++ block_record Free size ∷ behind
+  pub after : List BlockRecord
+  pub blocks : bs ≡ passed ++ block_record Free size ∷ after
   pub used : IsTrue (none_free passed)
   pub place : at ≡ from + total_of passed
 
--- the last free one of these blocks, which begin at an address, stands at another
+-- the last free one of these blocks, which begin at an address, is at another
 pub record LastFree (bs : List BlockRecord) (from at : ℕ) : Type 0 where
   pub front : List BlockRecord
   pub size : ℕ

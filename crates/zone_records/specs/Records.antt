@@ -36,7 +36,7 @@ lent_record content n = record { size = n; content = content; lent = true }
 abbrev pub handle_record : ℕ → Flags → List ℕ → ℕ → Bool → BlockRecord
 handle_record handle flags bytes n lent = record { size = n; content = Relocatable handle flags bytes; lent = lent }
 
--- a zone: the memory that it stands in, where it lies and how far it may grow, the free slot that its header names
+-- a zone: the memory that it is in, where it lies and how far it may grow, the free slot that its header names
 -- first, and its blocks
 pub record ZoneRecords : Type 0 where
   pub memory : Memory
@@ -49,9 +49,9 @@ abbrev pub total_of : List BlockRecord → ℕ
 total_of [] = 0
 total_of (b ∷ bs) = b.size + total_of bs
 
--- where the blocks behind these begin
-abbrev pub address_behind : Shape → List BlockRecord → ℕ
-address_behind s before = s.base + zone_header + total_of before
+-- where the blocks after these begin
+abbrev pub address_after : Shape → List BlockRecord → ℕ
+address_after s before = s.base + zone_header + total_of before
 
 -- the kind of a block whose contents begin at an address
 abbrev pub kind_of : ℕ → Content → Kind

@@ -3,7 +3,7 @@ use Rattle.std.specs.Prelude.{ℕ, zero, suc, ◌+◌, ◌==◌, if◌then◌els
 use Rattle.mac_base.specs.HeadKind.{Shape, head_size}
 use Rattle.zone_records.specs.declared.slot.Slot.{Slot}
 use Rattle.zone_records.specs.declared.slot.Slot.TheVariants as slot
-use Rattle.zone_records.specs.Records.{Content, BlockRecord, ZoneRecords, Free, Fixed, Master, Relocatable, address_behind}
+use Rattle.zone_records.specs.Records.{Content, BlockRecord, ZoneRecords, Free, Fixed, Master, Relocatable, address_after}
 
 -- slots with their addresses, the first at an address
 abbrev pub addressed : ℕ → List Slot → List (ℕ × Slot)
@@ -17,7 +17,7 @@ slots_of at (Fixed bytes) = []
 slots_of at (Master slots) = addressed at slots
 slots_of at (Relocatable h flags bytes) = []
 
--- all slots, where the first block stands at an address
+-- all slots, where the first block is at an address
 abbrev pub all_slots : Shape → ℕ → List BlockRecord → List (ℕ × Slot)
 all_slots s at [] = []
 all_slots s at (b ∷ bs) = slots_of (at + head_size s.heads) b.content ++ all_slots s (at + b.size) bs
@@ -40,4 +40,4 @@ chain (suc n) all x = if x == 0 then [] else x ∷ chain n all (next_named x all
 
 -- the slots of a zone
 abbrev pub slots_of_zone : ZoneRecords → List (ℕ × Slot)
-slots_of_zone z = all_slots z.shape (address_behind z.shape []) z.blocks
+slots_of_zone z = all_slots z.shape (address_after z.shape []) z.blocks

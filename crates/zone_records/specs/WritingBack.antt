@@ -2,10 +2,10 @@
 use Rattle.std.specs.Prelude.{ℕ, ◌+◌, ◌==◌, if◌then◌else◌, List, [], ◌∷◌}
 use Rattle.std.specs.Borrow.{Lends, Array, MutBor, Fml, u8}
 use Rattle.mac_base.specs.ZoneState.{overwritten}
-use Rattle.zone_records.specs.Records.{BlockRecord, ZoneRecords, with_blocks, with_bytes, bytes_of, address_behind}
+use Rattle.zone_records.specs.Records.{BlockRecord, ZoneRecords, with_blocks, with_bytes, bytes_of, address_after}
 use Rattle.zone_records.specs.contracts.records.Records.{the_row}
 
--- the blocks, the first of which stands at an address, with bytes written over the contents of the one at x
+-- the blocks, the first of which is at an address, with bytes written over the contents of the one at x
 abbrev pub overwritten_at : ℕ → ℕ → List ℕ → List BlockRecord → List BlockRecord
 overwritten_at at x bytes [] = []
 overwritten_at at x bytes (b ∷ bs) =
@@ -13,8 +13,8 @@ overwritten_at at x bytes (b ∷ bs) =
 
 -- the zone with bytes written over the contents of the block at x
 abbrev pub with_contents_at : ZoneRecords → ℕ → List ℕ → ZoneRecords
-with_contents_at z x bytes = with_blocks (overwritten_at (address_behind z.shape []) x bytes z.blocks) z
+with_contents_at z x bytes = with_blocks (overwritten_at (address_after z.shape []) x bytes z.blocks) z
 
--- the contents of the block at x end with what is left behind the slice
+-- the contents of the block at x end with what is left after the slice
 abbrev pub WritesBackContents : MutBor ZoneRecords → ℕ → MutBor (List ℕ) → Fml
 WritesBackContents zone x slice = Lends the_row (Array u8 0) zone slice (with_contents_at zone.now x)

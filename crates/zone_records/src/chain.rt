@@ -11,7 +11,7 @@ use byteorder::{BigEndian, ByteOrder};
 use mac_base::block::HeadKind;
 use mac_base::size::SLOT_COUNT;
 
-/// Writes the master pointers of 64 free slots, the first at an address: each names the one behind it as the next, and
+/// Writes the master pointers of 64 free slots, the first at an address: each names the one after it as the next, and
 /// the last one `last`.
 pub(crate) fn write_chain(words: &mut [u8], heads: HeadKind, first: u32, last: u32)
     requires long { length words.old ≡ master_length }

@@ -102,7 +102,7 @@ pub(crate) fn compare_blocks(blocks: &Blocks, bytes: &[u8], from: u32, end: u32)
     requires sound { AreSound blocks.now }
     requires whole { length bytes.now ≡ length (image_of blocks.now) }
     requires split { SplitAt blocks.now from }
-    ensures { (s : SplitAt blocks.now from) → let l = blocks.now in let bs = begun_before l.heads from end s.behind in
+    ensures { (s : SplitAt blocks.now from) → let l = blocks.now in let bs = begun_before l.heads from end s.after in
         Means result (BlocksAgree l bytes.now (from - l.base) bs) (BlocksSame l bytes.now (from - l.base) bs) }
 {
     let mut agreement = Agreement::Same;

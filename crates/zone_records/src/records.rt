@@ -50,7 +50,7 @@ impl Records {
     ghost use Rattle.mac_base.specs.HandleTable.{zeros, no_flags};
     ghost use Rattle.mac_base.specs.ZoneMap.{block};
     ghost use Rattle.mac_base.specs.ZoneState.{own_memory};
-    ghost use Rattle.zone_records.specs.Records.{ZoneRecords, Fixed, Master, Relocatable, sizes_of, kind_of, length_of, bytes_of, lent_count, address_behind, NothingLent};
+    ghost use Rattle.zone_records.specs.Records.{ZoneRecords, Fixed, Master, Relocatable, sizes_of, kind_of, length_of, bytes_of, lent_count, address_after, NothingLent};
     ghost use Rattle.mac_base.specs.Loans.{most_loans};
     ghost use Rattle.zone_records.specs.Places.{RecordAt, FreeAt, HeldAt, HandleBlockAt, SlotAt, RoomFor, CanCut, FreePair, CanHold, CanGrow, ParcelAt, IsLoanOf, can_say, can_flag, ParcelUpTo, SplitAt, FirstFree, LastFree, none_free, free_total, FirstFrom, NoneFrom};
     ghost use Rattle.zone_records.specs.Changes.{new_records, with_front, extended, filled, chained, emptied, flagged, with_slot, cut_in_two, joined_pair, held_there, enlarged, carried, sunk, lent_out, loan_of, taken_back};
@@ -90,7 +90,7 @@ impl Records {
         self.blocks.set_front(slot);
     }
 
-    /// Whether a block's header stands at an address.
+    /// Whether a block's header is at an address.
     pub fn is_block(&self, at: u32) -> bool
         ensures { IsTrue result ↔ RecordAt self.now at }
     {
@@ -156,11 +156,11 @@ impl Records {
         }
     }
 
-    /// The block behind the one at an address, if there is one.
-    pub fn behind(&self, at: u32) -> Option<u32>
+    /// The block after the one at an address, if there is one.
+    pub fn after(&self, at: u32) -> Option<u32>
         requires { RecordAt self.now at }
         ensures next { IfSome result (λ next. RecordAt self.now next × ((r : RecordAt self.now at) → next ≡ at + r.here.size)) }
-        ensures last { IfNone result ((r : RecordAt self.now at) → r.behind ≡ []) }
+        ensures last { IfNone result ((r : RecordAt self.now at) → r.after ≡ []) }
     {
         self.blocks.walk(at)
     }
@@ -249,7 +249,7 @@ impl Records {
         self.blocks.clear(at);
     }
 
-    /// Makes a free block a master block, whose 64 slots are free: each names the one behind it as the next, and the
+    /// Makes a free block a master block, whose 64 slots are free: each names the one after it as the next, and the
     /// last one `last`.
     pub fn place_master(&mut self, at: u32, last: u32)
         requires room { RoomFor self.old at master_length }
@@ -280,7 +280,7 @@ impl Records {
         self.blocks.split(at, size, length);
     }
 
-    /// Makes a free block and the free one behind it one block.
+    /// Makes a free block and the free one after it one block.
     pub fn merge(&mut self, at: u32)
         requires { FreePair self.old at }
         ensures { (pair : FreePair self.old at) → self.new ≡ joined_pair self.old pair }
@@ -291,7 +291,7 @@ impl Records {
         self.blocks.merge(at, length);
     }
 
-    /// Grows the zone to its limit: the bytes up to there are a free block behind the last. Where the zone is as large
+    /// Grows the zone to its limit: the bytes up to there are a free block after the last. Where the zone is as large
     /// as its limit nothing changes.
     pub fn extend(&mut self)
         ensures { self.new ≡ extended self.old }
@@ -311,7 +311,7 @@ impl Records {
     }
 
     /// Gives the block of a handle or a pointer `length` bytes in the first `size` bytes of it and of the free one
-    /// right behind it; the others are free. Bytes that it had stay as far as they go, and those that are added are
+    /// right after it; the others are free. Bytes that it had stay as far as they go, and those that are added are
     /// zero.
     pub fn grow(&mut self, at: u32, size: u32, length: u32)
         requires { CanGrow self.old at size length }
@@ -325,7 +325,7 @@ impl Records {
         self.fit(at, size, length, kept);
     }
 
-    /// The block at an address changes places with those behind it up to an address, each with its bytes. A master
+    /// The block at an address changes places with those after it up to an address, each with its bytes. A master
     /// pointer that names one of them stays as it is.
     pub fn carry(&mut self, at: u32, end: u32)
         requires { ParcelAt self.old at end }
@@ -346,8 +346,8 @@ impl Records {
     /// The address of the first free block from an address on, if there is one.
     pub fn next_free(&self, from: u32) -> Option<u32>
         requires { SplitAt self.now from }
-        ensures next { IfSome result (λ at. (split : SplitAt self.now from) → FirstFree split.behind from at) }
-        ensures none { IfNone result ((split : SplitAt self.now from) → IsTrue (none_free split.behind)) }
+        ensures next { IfSome result (λ at. (split : SplitAt self.now from) → FirstFree split.after from at) }
+        ensures none { IfNone result ((split : SplitAt self.now from) → IsTrue (none_free split.after)) }
     {
         self.blocks.next_free(from)
     }
@@ -355,7 +355,7 @@ impl Records {
     /// The address of the last free block before an address, if there is one.
     pub fn last_free(&self, end: u32) -> Option<u32>
         requires { SplitAt self.now end }
-        ensures last { IfSome result (λ at. (split : SplitAt self.now end) → LastFree split.before (address_behind self.now.shape []) at) }
+        ensures last { IfSome result (λ at. (split : SplitAt self.now end) → LastFree split.before (address_after self.now.shape []) at) }
         ensures none { IfNone result ((split : SplitAt self.now end) → IsTrue (none_free split.before)) }
     {
         self.blocks.last_free(end)

@@ -5,7 +5,7 @@ use mac_base::block::{Flags, HeadKind};
 /// What a slot says.
 #[derive(Clone, Copy, Debug, PartialEq, Eq)]
 pub enum Slot {
-    /// The slot is free, and the next free one stands at this address. It is 0 for the last.
+    /// The slot is free, and the next free one is at this address. It is 0 for the last.
     Free(u32),
     /// The slot is a live handle without a block.
     Empty,

@@ -16,7 +16,7 @@ pub const MAIL: &[u8] =
 pub const FILLED: &[u8] =
     b"(This file must be converted with BinHex 4.0)\r:\"89YF(4j!&4&@&4dG(Kd!3!!!!!!!!!!!m6K!!\"KBQ1GeJ!!:\r";
 
-/// Where the colon stands that begins the first text, and the one that closes it.
+/// Where the colon is that begins the first text, and the one that closes it.
 pub const COLON: usize = 55;
 
 pub const CLOSING: usize = 151;

@@ -2,7 +2,7 @@
 
 use thiserror::Error;
 
-/// A section of the bytes, after which its CRC stands. They follow each other in this order.
+/// A section of the bytes, after which its CRC is. They follow each other in this order.
 #[derive(Clone, Copy, Debug, PartialEq, Eq, Error)]
 pub enum Section {
     /// Name, version, type, creator, flags, and the lengths of both forks.
@@ -43,7 +43,7 @@ pub enum BinHexFault {
     NoCount {
         at: usize,
     },
-    /// The closing colon stands here, before the end of this section and of its CRC.
+    /// The closing colon is here, before the end of this section and of its CRC.
     #[error("offset {at}: the text is closed before the end of the {section}")]
     TooShort {
         section: Section,

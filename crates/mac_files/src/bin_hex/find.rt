@@ -39,7 +39,7 @@ pub fn is_bin_hex(text: &[u8]) -> bool
     !has_fork_parts(text.len(), text) && find_line(text, 0, COMMENT).is_some()
 }
 
-/// Where the colon stands that begins the text: the first that begins a line, after the comment if there is one.
+/// Where the colon is that begins the text: the first that begins a line, after the comment if there is one.
 pub fn find_colon(text: &[u8]) -> Option<usize>
     ensures place { result ≡ colon_of text.now }
     ensures inside { IfSome result (λ at. at < length text.now) }

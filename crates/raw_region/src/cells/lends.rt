@@ -18,7 +18,7 @@ impl Cells {
         self.len
     }
 
-    /// Where the first of them stands in the memory of the host.
+    /// Where the first of them is in the memory of the host.
     pub(crate) fn start(&self) -> *mut u8
         ensures { result ≡ self.now.home +ₚ self.now.from }
     {

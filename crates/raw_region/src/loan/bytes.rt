@@ -15,7 +15,7 @@ impl Lent {
         self.cells.len()
     }
 
-    /// Where the first of its bytes stands in the memory of the host: as far behind the region's first byte as the
+    /// Where the first of its bytes is in the memory of the host: as far after the region's first byte as the
     /// range begins in the region. Whoever writes there by the pointer holds no slice of the loan meanwhile.
     pub fn start(&self) -> *mut u8
         ensures { result ≡ self.now.name +ₚ self.now.at }
@@ -31,7 +31,7 @@ impl Lent {
         self.cells.bytes(0, n)
     }
 
-    /// The bytes, to be written. What is written stands in the region once the range is given back.
+    /// The bytes, to be written. What is written is in the region once the range is given back.
     pub fn bytes_mut(&mut self) -> &mut [u8]
         ensures* writes_back { sem 𝓛 (WritesBackLoan self.entry result) }
         ensures value { result.now ≡ self.old.bytes }

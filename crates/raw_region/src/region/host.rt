@@ -8,7 +8,7 @@ use crate::cells::Cells;
 use crate::host::HostBytes;
 
 impl Region {
-    /// The region that stands in the host's bytes. Nothing of it is lent.
+    /// The region that is in the host's bytes. Nothing of it is lent.
     pub fn over(host: HostBytes) -> Region
         requires { IsTrue (are_there host.bytes) }
         ensures bytes { host.bytes ≡ Some result.bytes }

@@ -40,7 +40,7 @@ loop-at-preserved c =
     record {
       low = omega arith;
       left = (
-        λ w. subst (λ n. WalksFrom heads image (at + n)) (sym size) (walks-first heads image at (c.loop-at.invariant.left.0 w) c.loop-at-test.true).behind,
+        λ w. subst (λ n. WalksFrom heads image (at + n)) (sym size) (walks-first heads image at (c.loop-at.invariant.left.0 w) c.loop-at-test.true).after,
         λ w. c.loop-at.invariant.left.1 (walks-next heads image at possible (subst (λ n. WalksFrom heads image (at + n)) size w)),
       );
     }

@@ -36,15 +36,15 @@ loop-row-preserved g c =
     let within = c.loop-row-test.true in let is = c.row-item.is in
     let step = plain_long g.D.Datum.text rows i row within is in
     let long = c.count.ensures in let few = c.loop-row.invariant.2 in
-    let behind = c.name_length-name.ensures.length in
+    let after = c.name_length-name.ensures.length in
     let name = c.loop-row.name + c.name_length-name.result in
     let place = c.loop-row.datum + (4 + c.count.result) in
-    let next = reference_step g.D.Datum.text rows i c.loop-row.name c.loop-row.datum name place row within is (ap (λ (n : ℕ). c.loop-row.name + n) behind) (ap (λ (n : ℕ). c.loop-row.datum + (4 + n)) long) in
+    let next = reference_step g.D.Datum.text rows i c.loop-row.name c.loop-row.datum name place row within is (ap (λ (n : ℕ). c.loop-row.name + n) after) (ap (λ (n : ℕ). c.loop-row.datum + (4 + n)) long) in
     let P : ℕ → Type 0 = λ n. NamesFit n (drop (i + 1) rows) in (
       appended _ old (reference_text c.loop-row.name c.loop-row.datum (plain_row g.D.Datum.text row)) (references_text name place (plain_rows g.D.Datum.text (drop (i + 1) rows))) _
           (c.in_ok-push_reference.ensures ∙ ap (λ (n : ℕ). old ++ (big_bytes 2 (cast_unsigned w16 row.id) ++ (big_bytes 2 n ++ (row.attributes.0 ∷ (big_bytes 3 c.loop-row.datum ++ big_bytes 4 0))))) c.name_offset.ensures)
           (ap (λ (xs : List ℕ). old ++ xs) (sym next) ∙ c.loop-row.invariant.0),
-      subst P (sym (ap (λ (n : ℕ). c.loop-row.name + n) behind)) (names_from rows i c.loop-row.name row within is c.loop-row.invariant.1).1,
+      subst P (sym (ap (λ (n : ℕ). c.loop-row.name + n) after)) (names_from rows i c.loop-row.name row within is c.loop-row.invariant.1).1,
       omega arith,
     )
 

@@ -11,11 +11,11 @@ use Rattle.fork_journal.proofs.leaving.side_left.Goals.{then-is_call_on+in_ok-fo
 pub loop-index-preserved : goal.loop-index-preserved
 loop-index-preserved c = elim c.if-is_call_on.branch [
   | then-is_call_on+in_ok-follow w ↦ λ end later.
-      let behind = subst (λ (now : Replayed). AreLeft c.args.side (drop (c.loop-index.index + 1) c.args.calls.now) now.read.items now.left.items end) w.now-is later in
-      c.loop-index.invariant end (own_more c.args.side c.args.calls.now c.loop-index.index _ c.index-calls-index.result _ _ _ _ end c.loop-index-test.true c.index-calls-index.is (sym w.if-is_call_on.ensures) w.in_ok-follow.ensures.read w.in_ok-follow.ensures.left behind)
+      let after = subst (λ (now : Replayed). AreLeft c.args.side (drop (c.loop-index.index + 1) c.args.calls.now) now.read.items now.left.items end) w.now-is later in
+      c.loop-index.invariant end (own_more c.args.side c.args.calls.now c.loop-index.index _ c.index-calls-index.result _ _ _ _ end c.loop-index-test.true c.index-calls-index.is (sym w.if-is_call_on.ensures) w.in_ok-follow.ensures.read w.in_ok-follow.ensures.left after)
   | else-is_call_on w ↦ λ end later.
-      let behind = subst (λ (now : Replayed). AreLeft c.args.side (drop (c.loop-index.index + 1) c.args.calls.now) now.read.items now.left.items end) w.now-is later in
-      c.loop-index.invariant end (other_more c.args.side c.args.calls.now c.loop-index.index _ c.index-calls-index.result _ _ end c.loop-index-test.true c.index-calls-index.is (sym w.if-is_call_on.ensures) behind)
+      let after = subst (λ (now : Replayed). AreLeft c.args.side (drop (c.loop-index.index + 1) c.args.calls.now) now.read.items now.left.items end) w.now-is later in
+      c.loop-index.invariant end (other_more c.args.side c.args.calls.now c.loop-index.index _ c.index-calls-index.result _ _ end c.loop-index-test.true c.index-calls-index.is (sym w.if-is_call_on.ensures) after)
 ]
 
 pub loop-index-init : goal.loop-index-init

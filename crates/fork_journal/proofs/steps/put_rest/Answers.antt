@@ -2,7 +2,7 @@ use Rattle.std.proofs.Common.{◌≡◌, ◌++◌, take, refl, ◌∙◌, ap, ar
 use Rattle.fork_journal.specs.Crash.{Contents, side_of, other}
 use Rattle.fork_journal.specs.Form.{IsSameFront}
 use Rattle.fork_journal.proofs.Along.{begins, writes, cuts, along_failed, along_sync, own_side, other_side, settles}
-use Rattle.fork_journal.proofs.Joining.{cut_behind, front_joins, put_reaches}
+use Rattle.fork_journal.proofs.Joining.{cut_after, front_joins, put_reaches}
 use Rattle.fork_journal.proofs.steps.put_rest.Goals as goal
 
 pub returns-in_err-write_at-clause-puts : goal.returns-in_err-write_at-clause-puts
@@ -43,7 +43,7 @@ returns-clause-puts g c honest =
     let synced = along_sync _ _ _ _ _ _ cut syncs.durable in
     let old = side_of side (g.P.PairDisk.contents c.args.pair.now) in
     let reads : side_of side (g.P.PairDisk.contents c.cut.new.self) ≡ take at old ++ c.args.bytes.now =
-    cut_behind old c.args.bytes.now at _ _ _ (c.requires.there wrote.honest) (omega arith) (own_side side _ _ _ wrote.written) (own_side side _ _ _ cuts_it.cut) in
+    cut_after old c.args.bytes.now at _ _ _ (c.requires.there wrote.honest) (omega arith) (own_side side _ _ _ wrote.written) (own_side side _ _ _ cuts_it.cut) in
     let stable = settles side (IsSameFront at) _ _ _ _ _ cut syncs.trusted syncs.durable reads in
     let put = ap (λ (d : Contents). side_of side d) syncs.same ∙ reads in
     let kept = ap (λ (d : Contents). side_of (other side) d) syncs.same ∙ other_side side _ _ _ cuts_it.cut ∙ other_side side _ _ _ wrote.written in search rules

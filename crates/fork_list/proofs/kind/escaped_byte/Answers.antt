@@ -1,6 +1,6 @@
 use Rattle.std.proofs.Common.{◌≡◌, ℕ, ◌-◌, ◌⊎◌, ◌∷◌, List, take, drop, length, get_or, subst, sym, ap, ◌∙◌, IfNone, arith}
 use Rattle.fork_list.specs.Kind.{ShowsFirst}
-use Rattle.fork_list.proofs.Written.{behind_first, first_and_rest}
+use Rattle.fork_list.proofs.Written.{after_first, first_and_rest}
 use Rattle.fork_list.proofs.kind.escaped_byte.Goals as goal
 
 pub returns-in-120-clause-none : goal.returns-in-120-clause-none
@@ -14,4 +14,4 @@ pub returns-in-92-clause-shown : goal.returns-in-92-clause-shown
 returns-in-92-clause-shown c =
     let text = c.args.text.now in
     let marked : (get_or text 0 0 ≡ 39) ⊎ (get_or text 0 0 ≡ 92) = grind arith in
-    behind_first _ _ _ (ap (λ (t : List ℕ). 92 ∷ t) (first_and_rest text c.in-92.len_at_least), marked)
+    after_first _ _ _ (ap (λ (t : List ℕ). 92 ∷ t) (first_and_rest text c.in-92.len_at_least), marked)

@@ -12,11 +12,11 @@ returns-clause-reads g c = λ honest. (
     let whole : 16 ≤ c.min-count.result = omega arith in
     let count : c.min-count.result ≡ min (length fork) 256 = omega arith in
     let front = c.deref.ensures.value ∙ read.told in
-    let behind = take_rest c.deref-2.result.now 16 ∙ ap (drop 16) (c.deref-2.ensures.value ∙ read.told) in
+    let after = take_rest c.deref-2.result.now 16 ∙ ap (drop 16) (c.deref-2.ensures.value ∙ read.told) in
     record {
       keeps = read.keeps;
       told = (
         c.in_ok-read_header.ensures.header ∙ ap header_of front ∙ header_of_front fork c.min-count.result whole,
-        c.extra_bytes.ensures ∙ ap (λ (xs : List ℕ). take 240 (xs ++ replicate 240 0)) behind ∙ extra_of_front fork c.min-count.result count,
+        c.extra_bytes.ensures ∙ ap (λ (xs : List ℕ). take 240 (xs ++ replicate 240 0)) after ∙ extra_of_front fork c.min-count.result count,
       );
     })

@@ -12,7 +12,7 @@ loop-block-preserved c =
     let rest = c.take_first.new.self in
     let old = c.loop-block.memory in
     let new = c.give_back.new.self in record {
-      holds = Holds-returned old new held.block c.loop-block.loans held.loan rest (record { before = []; behind = rest; was = c.in-Some.ensures.first; is = refl; first = refl }) c.give_back.ensures.zone c.give_back.ensures.loans c.loop-block.invariant.holds;
+      holds = Holds-returned old new held.block c.loop-block.loans held.loan rest (record { before = []; after = rest; was = c.in-Some.ensures.first; is = refl; first = refl }) c.give_back.ensures.zone c.give_back.ensures.loans c.loop-block.invariant.holds;
       zone = ap (λ (z : ZoneState). with_heap (all_returned (loans_of rest) z.heap) z) c.give_back.ensures.zone
           ∙ sym (ap (λ (hs : List Held). with_heap (all_returned (loans_of hs) old.heap) old) c.in-Some.ensures.first) ∙ c.loop-block.invariant.zone;
     }

@@ -3,7 +3,7 @@ use Rattle.linked_zone.specs.Following.{Misplaced}
 use Rattle.linked_zone.proofs.EndsRun.{Telling}
 use Rattle.linked_zone.proofs.changes.follow_run.Given as goal
 
--- the slots of the handles whose blocks stand below the next say where these stand
+-- the slots of the handles whose blocks are below the next say where these are
 abbrev pub invariant-loop-next : goal.invariant-loop-next
 invariant-loop-next l = (run : Misplaced l.fn.records l.start l.end) → Telling run l.records l.next
 

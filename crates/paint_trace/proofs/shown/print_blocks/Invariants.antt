@@ -1,6 +1,6 @@
 use Rattle.std.proofs.Common.{List, ◌-◌}
 use Rattle.mac_base.specs.declared.block.Block.{Block}
-use Rattle.mac_base.specs.ZoneMap.{address_behind}
+use Rattle.mac_base.specs.ZoneMap.{address_after}
 use Rattle.zone_laws.proofs.Walk.{HasWalked}
 use Rattle.paint_trace.proofs.shown.print_blocks.Given as goal
 
@@ -10,4 +10,4 @@ invariant-loop-block l = (blocks : List Block) × HasWalked l.memory.shape l.mem
 
 -- the bytes that are left
 abbrev pub decreases-loop-block : goal.decreases-loop-block
-decreases-loop-block l = address_behind l.memory.shape l.memory.heap.map - l.at
+decreases-loop-block l = address_after l.memory.shape l.memory.heap.map - l.at

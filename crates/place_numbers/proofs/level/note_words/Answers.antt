@@ -10,7 +10,7 @@ returns g c =
       each = put.len;
       others = λ w away. elim away [
         | inl low ↦ put.before w low
-        | inr high ↦ put.behind w (omega (arith, high, c.requires.some))
+        | inr high ↦ put.after w (omega (arith, high, c.requires.some))
       ];
       none = λ w from to zero j is.
           let here = same-place (g.U.Marks.marks c.put.new.self) w (first + (w - first)) (omega arith) ∙ put.there (w - first) (omega arith) in

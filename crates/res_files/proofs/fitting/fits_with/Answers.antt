@@ -1,6 +1,6 @@
 use Rattle.std.proofs.Common.{ℕ, ◌<◌, ◌≤◌, ◌+◌, ◌*◌, ◌++◌, ◌∷◌, [], List, length, take, drop, subst, sym, ap, ◌∙◌, arith}
 use Rattle.fork_bytes.specs.Fork.{max_rows}
-use Rattle.res_table.specs.Behind.{end_of_type}
+use Rattle.res_table.specs.After.{end_of_type}
 use Rattle.res_table.specs.Rows.{added}
 use Rattle.res_table.specs.Saved.{bare, saved_row, row_types}
 use Rattle.res_table.proofs.Adding.{end-within}

@@ -9,7 +9,7 @@ pub returns-in_default : goal.returns-in_default
 returns-in_default c = λ rest.
     c.loop-at.invariant.1 rest
     ∙ ap (names_fit c.loop-at.next) (next_row c.args.rows.now c.loop-at.at c.args.to c.row.result.now rest c.row.ensures c.loop-at-test.true)
-    ∙ c.behind.ensures (saved_row (λ _. []) c.row.result.now) (bare (take (c.args.to - (c.loop-at.at + 1)) (drop (c.loop-at.at + 1) c.args.rows.now)) ++ rest) (sym c.name_of.ensures)
+    ∙ c.after.ensures (saved_row (λ _. []) c.row.result.now) (bare (take (c.args.to - (c.loop-at.at + 1)) (drop (c.loop-at.at + 1) c.args.rows.now)) ++ rest) (sym c.name_of.ensures)
     ∙ ap (λ (found : Option ℕ). option_map_or (λ end. names_fit end (bare (take (c.args.to - (c.loop-at.at + 1)) (drop (c.loop-at.at + 1) c.args.rows.now)) ++ rest)) found false) c.in_default.is
 
 pub loop-at-preserved : goal.loop-at-preserved
@@ -18,6 +18,6 @@ loop-at-preserved c = (
   λ rest.
       c.loop-at.invariant.1 rest
       ∙ ap (names_fit c.loop-at.next) (next_row c.args.rows.now c.loop-at.at c.args.to c.row.result.now rest c.row.ensures c.loop-at-test.true)
-      ∙ c.behind.ensures (saved_row (λ _. []) c.row.result.now) (bare (take (c.args.to - (c.loop-at.at + 1)) (drop (c.loop-at.at + 1) c.args.rows.now)) ++ rest) (sym c.name_of.ensures)
+      ∙ c.after.ensures (saved_row (λ _. []) c.row.result.now) (bare (take (c.args.to - (c.loop-at.at + 1)) (drop (c.loop-at.at + 1) c.args.rows.now)) ++ rest) (sym c.name_of.ensures)
       ∙ ap (λ (found : Option ℕ). option_map_or (λ end. names_fit end (bare (take (c.args.to - (c.loop-at.at + 1)) (drop (c.loop-at.at + 1) c.args.rows.now)) ++ rest)) found false) c.in-Some.is,
 )

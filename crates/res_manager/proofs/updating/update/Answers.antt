@@ -3,7 +3,7 @@ use Rattle.mac_base.specs.declared.resource_call.ResourceCall.{ResourceCall}
 use Rattle.mac_base.specs.declared.resource_call.ResourceCall.TheVariants.{Writing}
 use Rattle.mac_base.specs.declared.resource_call.WritingCall.{WritingCall}
 use Rattle.mac_base.specs.declared.resource_call.WritingCall.TheVariants.{UpdateResFile, CloseResFile}
-use Rattle.res_update.specs.Updates.{behind_update}
+use Rattle.res_update.specs.Updates.{after_update}
 use Rattle.res_update.specs.Selected.{updated}
 use Rattle.res_update.specs.declared.selection.Selection.TheVariants.{AllChanged}
 use Rattle.res_manager.specs.Steps.{ResourceSteps, state_of}
@@ -28,7 +28,7 @@ returns-in-Ok-clause-step g c =
     let o = open_update c.in-Ok.number (updated zone.heap.table AllChanged) on.files c.in-Ok.ensures.value.1 in
     let made = makes_file fork zone on (Writing c.args.call) c.in-UpdateResFile.named c.in-Ok.number o.0 (ap Writing c.in-UpdateResFile.is) (subst (λ (d : ResourceCall). Passes (state_of g.S.ForkStore.fork c.args.memory.now c.args.files.now) (early_tests d)) (sym (ap Writing c.in-UpdateResFile.is)) c.in-Ok.ensures.passed) c.in-Ok.ensures.value.0 o.1 in
     if_ok _ _ c.write_file.result (λ outcome written. made_steps g.S.ForkStore zone on new after (Writing c.args.call) o.0 outcome made
-    (writes_as g.S.ForkStore zone new on after o.0 (Writing (UpdateResFile None)) (Writing c.args.call) outcome (λ k state. ap (λ (d : WritingCall). behind_update (Writing d) k state) c.in-UpdateResFile.is) (written o.0 o.1))) (c.write_file.ensures.written)
+    (writes_as g.S.ForkStore zone new on after o.0 (Writing (UpdateResFile None)) (Writing c.args.call) outcome (λ k state. ap (λ (d : WritingCall). after_update (Writing d) k state) c.in-UpdateResFile.is) (written o.0 o.1))) (c.write_file.ensures.written)
 
 pub returns-in-Ok-clause-leaves : goal.returns-in-Ok-clause-leaves
 returns-in-Ok-clause-leaves g c =
@@ -67,7 +67,7 @@ returns-in-Ok-test_closing-clause-step g c =
     let o = open_update c.in-Ok-test_closing.number (updated zone.heap.table AllChanged) on.files c.in-Ok-test_closing.ensures.value.1 in
     let made = makes_closed fork zone on (Writing c.args.call) c.in-CloseResFile.named c.in-Ok-test_closing.number o.0 (ap Writing c.in-CloseResFile.is) (subst (λ (d : ResourceCall). Passes (state_of g.S.ForkStore.fork c.args.memory.now c.args.files.now) (early_tests d)) (sym (ap Writing c.in-CloseResFile.is)) c.in-Ok-test_closing.ensures.passed) c.in-Ok-test_closing.ensures.value.0 o.1 in
     if_ok _ _ c.close.result (λ outcome written. made_steps g.S.ForkStore zone on new after (Writing c.args.call) o.0 outcome made
-    (writes_as g.S.ForkStore zone new on after o.0 (Writing (CloseResFile None)) (Writing c.args.call) outcome (λ k state. ap (λ (d : WritingCall). behind_update (Writing d) k state) c.in-CloseResFile.is) (written o.0 o.1))) (c.close.ensures.written)
+    (writes_as g.S.ForkStore zone new on after o.0 (Writing (CloseResFile None)) (Writing c.args.call) outcome (λ k state. ap (λ (d : WritingCall). after_update (Writing d) k state) c.in-CloseResFile.is) (written o.0 o.1))) (c.close.ensures.written)
 
 pub returns-in-Ok-test_closing-clause-leaves : goal.returns-in-Ok-test_closing-clause-leaves
 returns-in-Ok-test_closing-clause-leaves g c =

@@ -2,7 +2,7 @@ use Rattle.std.proofs.Common.{◌≡◌, ◌+◌, ◌-◌, length, take}
 use Rattle.res_table.specs.Kinds.{expanded}
 use Rattle.res_table.proofs.kinds.run_with.Given as goal
 
--- so many are left to pass over, behind the runs so far
+-- so many are left to pass over, after the runs so far
 abbrev pub invariant-loop-index : goal.invariant-loop-index
 invariant-loop-index l = l.fn.place ≡ length (expanded (take l.index l.runs)) + l.left
 

@@ -5,7 +5,7 @@ use Rattle.fork_bytes.specs.declared.place.Place.{Place}
 use Rattle.res_update.specs.Drafts.{new_places}
 use Rattle.res_update.proofs.ranges.new_places.Goals as goal
 
--- the place of the row is put behind the others
+-- the place of the row is put after the others
 one_more : (rows : List fork.Row) (i at n : ℕ) (r : fork.Row) (places new all : List Place) → i < length rows → r ≡ get_or rows i r → n ≡ length r.datum → new ≡ places ++ record { offset = at + 4; length = n } ∷ []
     → places ++ new_places at (drop i rows) ≡ all → new ++ new_places (at + 4 + n) (drop (i + 1) rows) ≡ all
 one_more rows i at n r places new all less is long put old =

@@ -10,12 +10,12 @@ pub returns-in-Some-clause-lines : goal.returns-in-Some-clause-lines
 returns-in-Some-clause-lines c =
     let text = c.args.text.now in
     let found = position_found (λ byte. eqb byte 10) text c.in-Some.end (sym c.first_newline.ensures ∙ c.in-Some.is) in
-    let behind = take_rest text (c.in-Some.end + 1) in
+    let after = take_rest text (c.in-Some.end + 1) in
     let line : c.without_carriage_return.result.now ≡ strip_carriage_return (take c.in-Some.end text) = c.without_carriage_return.ensures in
     lines-newline text found.1
     ∙ ap (λ (n : ℕ). strip_carriage_return (take n text) ∷ lines (drop (n + 1) text)) found.0
     ∙ ap (λ (t : List ℕ). t ∷ lines (drop (c.in-Some.end + 1) text)) (sym line)
-    ∙ ap (λ (t : List ℕ). c.without_carriage_return.result.now ∷ lines t) (sym behind)
+    ∙ ap (λ (t : List ℕ). c.without_carriage_return.result.now ∷ lines t) (sym after)
 
 pub returns-in-None-clause-lines : goal.returns-in-None-clause-lines
 returns-in-None-clause-lines c =

@@ -9,7 +9,7 @@ loop-line-init c = rw (c.new-names.ensures, c.new-script.ensures.items) (parsing
 pub returns-in_err-add_line-clause-fault : goal.returns-in_err-add_line-clause-fault
 returns-in_err-add_line-clause-fault c =
     let p = err_from_is_err_and c.from_residual.result c.from_residual.ensures.1 in
-    rw (p.1, p.2) (parsing_fails _ _ c.in-Some.behind.now _ _ _ _ c.in_err-add_line.field-0.0 c.if-text-gt-MAX_SCRIPT.false c.loop-line.invariant.0 c.in-Some.ensures.lines c.in_err-add_line.ensures.fault)
+    rw (p.1, p.2) (parsing_fails _ _ c.in-Some.after.now _ _ _ _ c.in_err-add_line.field-0.0 c.if-text-gt-MAX_SCRIPT.false c.loop-line.invariant.0 c.in-Some.ensures.lines c.in_err-add_line.ensures.fault)
 
 pub loop-line-preserved : goal.loop-line-preserved
 loop-line-preserved c =

@@ -1,7 +1,7 @@
 use Rattle.std.proofs.Common.{◌≡◌, ◌+◌, ◌<◌, ◌≤◌, ◌∙◌, [], sym, ap, subst, arith}
 use Rattle.mac_base.specs.declared.block.Entry.{Entry}
 use Rattle.mac_base.specs.Arrangement.{down}
-use Rattle.mac_base.specs.ZoneMap.{address_behind, total_size}
+use Rattle.mac_base.specs.ZoneMap.{address_after, total_size}
 use Rattle.mac_base.specs.ZoneSizes.{ZoneSizes}
 use Rattle.zone_heap.specs.Runs.{arranged}
 use Rattle.zone_index.proofs.Entries.{FirstIn}
@@ -26,7 +26,7 @@ done c = let g = (goal.at.After-press_down c).After-gap_end-end in
 pub loop-at-init : goal.loop-at-init
 loop-at-init c =
     let base = c.base-at.ensures.value ∙ ap (λ (s : ZoneSizes). s.base) (rw c.linked-2.ensures at c.spec.ensures.sizes) in
-    none_swept c.args.zone.now (c.base-at.result + 52) c.requires (let e : c.base-at.result + 52 ≡ address_behind c.args.zone.now.shape [] = omega (arith, base) in e)
+    none_swept c.args.zone.now (c.base-at.result + 52) c.requires (let e : c.base-at.result + 52 ≡ address_after c.args.zone.now.shape [] = omega (arith, base) in e)
 
 pub gap_end-end-requires : goal.gap_end-end-requires
 gap_end-end-requires c =
@@ -45,8 +45,8 @@ entry_at-at-requires c =
     (entry_stop _ _ _ c.requires c.loop-at.invariant c.gap_end-end.result (long g) c.press_down.new.zone (done p)
     (stop _ _ _ c.requires c.loop-at.invariant c.gap_end-end.result (long g) c.press_down.new.zone (done p) (subst (λ top. c.gap_end-end.result < top) (rw c.linked.ensures at c.zone_end-top.ensures.address) c.if-end-top.true)))
 
--- a fixed block stands behind it
-abbrev fixed : (c : After-entry_at-at) → FirstIn (gap_swept _ _ _ c.requires c.loop-at.invariant).behind
+-- a fixed block is after it
+abbrev fixed : (c : After-entry_at-at) → FirstIn (gap_swept _ _ _ c.requires c.loop-at.invariant).after
 fixed c =
     let p = (goal.at.After-entry_at-at c).After-press_down in
     stop _ _ _ c.requires c.loop-at.invariant c.gap_end-end.result (long (goal.at.After-press_down p).After-gap_end-end) c.press_down.new.zone (done p) (subst (λ top. c.gap_end-end.result < top) (rw c.linked.ensures at c.zone_end-top.ensures.address) c.if-end-top.true)

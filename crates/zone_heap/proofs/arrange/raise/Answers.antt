@@ -3,7 +3,7 @@ use Rattle.mac_base.specs.declared.block.Entry.{Entry}
 use Rattle.mac_base.specs.ZoneMap.{total_size}
 use Rattle.zone_heap.proofs.Opening.{run_lower, sizes_lower}
 use Rattle.zone_heap.proofs.Owning.{Owned, owned, entry_owned, front_owned, rest_owned}
-use Rattle.zone_heap.proofs.Raising.{run_above, behind_it, sizes_above, packed_above, raised}
+use Rattle.zone_heap.proofs.Raising.{run_above, after_it, sizes_above, packed_above, raised}
 use Rattle.linked_zone.specs.Loans.{KeepsLoans}
 use Rattle.zone_heap.specs.Gaps.{Settled}
 use Rattle.zone_heap.proofs.Laws.{settled-moved_high}
@@ -39,11 +39,11 @@ below_is c =
     let z = c.args.zone.now in
     let o = own (goal.at.After-press_down-below c).After-block_of-at in
     let size = size_is (goal.at.After-press_down-below c).After-entry_at-size in
-    let below = behind_it z c.args.handle c.block_of-at.result c.requires.settled o c.gap_start-start.result (c.block_of-at.result + c.entry_at-size.result.size) c.gap_end-end.result
+    let below = after_it z c.args.handle c.block_of-at.result c.requires.settled o c.gap_start-start.result (c.block_of-at.result + c.entry_at-size.result.size) c.gap_end-end.result
     (start_is (goal.at.After-press_down-below c).After-gap_start-start) (middle_is (goal.at.After-press_down-below c).After-entry_at-size) (end_is (goal.at.After-press_down-below c).After-gap_end-end) c.press_down-below.new.zone c.press_down-below.result c.press_down-below.ensures.zone c.press_down-below.ensures.free in
     omega arith
 
--- where the block stands then
+-- where the block is then
 low_is : (c : After-press_down-below) → let o = own (goal.at.After-press_down-below c).After-block_of-at in (c.press_down-below.result - c.entry_at-size.result.size) + o.size ≡ c.press_down-below.result
 low_is c =
     let size = size_is (goal.at.After-press_down-below c).After-entry_at-size in

@@ -26,6 +26,6 @@ gaps-preserved c =
     let around = around_entry old c.in-Some.at c.in-Some.ensures.first.entry in
     let after = c.squeeze_around.new.zone in
     partly_on c.args.zone.now old c.gaps.invariant c.in-Some.at around after
-    (subst (λ (z : ZoneState). (a : AroundAt z c.in-Some.at) → after ≡ with_map (a.before ++ (down (a.lower ++ a.upper) ++ a.behind)) z) same c.squeeze_around.ensures.zone around)
+    (subst (λ (z : ZoneState). (a : AroundAt z c.in-Some.at) → after ≡ with_map (a.before ++ (down (a.lower ++ a.upper) ++ a.after)) z) same c.squeeze_around.ensures.zone around)
     (subst (λ (z : ZoneState). KeepsLoans z after) same c.squeeze_around.ensures.loans)
     c.squeeze_around.ensures.settled

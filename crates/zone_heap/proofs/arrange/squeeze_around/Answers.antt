@@ -22,7 +22,7 @@ run c a =
 gap_is : (c : After-press_down) (a : AroundAt c.args.zone.now c.args.at) → c.press_down.new.zone ≡ with_gap c.args.zone.now (gap_around c.args.zone.now c.args.at a) (down (a.lower ++ a.upper))
 gap_is c a =
     let z = c.args.zone.now in
-    c.press_down.ensures.zone (run (goal.at.After-press_down c).After-gap_end-end a) ∙ ap (λ m. with_map m z) (sym (append_assoc a.before (down (a.lower ++ a.upper)) a.behind))
+    c.press_down.ensures.zone (run (goal.at.After-press_down c).After-gap_end-end a) ∙ ap (λ m. with_map m z) (sym (append_assoc a.before (down (a.lower ++ a.upper)) a.after))
 
 pub gap_start-start-requires : goal.gap_start-start-requires
 gap_start-start-requires c = record { front = (front_around c.args.zone.now c.args.at c.requires.around) }
@@ -34,7 +34,7 @@ pub press_down-requires : goal.press_down-requires
 press_down-requires c = record { run = run (goal.at.press_down-requires c).After-gap_end-end c.requires.around; sizes = (c.requires.settled).sizes }
 
 pub returns-clause-zone : goal.returns-clause-zone
-returns-clause-zone c a = gap_is c a ∙ ap (λ m. with_map m c.args.zone.now) (append_assoc a.before (down (a.lower ++ a.upper)) a.behind)
+returns-clause-zone c a = gap_is c a ∙ ap (λ m. with_map m c.args.zone.now) (append_assoc a.before (down (a.lower ++ a.upper)) a.after)
 
 pub returns-clause-loans : goal.returns-clause-loans
 returns-clause-loans c =

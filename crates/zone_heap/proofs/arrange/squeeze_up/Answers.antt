@@ -23,7 +23,7 @@ arranged : (c : After-press_up) (gap : GapBetween c.args.zone.now c.args.start c
 arranged c gap =
     let z = c.args.zone.now in
     let g : Gap = gap.at.gap in
-    c.press_up.ensures (run_of_rest z c.args.start c.args.end c.requires.settled (rest_of_gap z c.args.start gap.at) gap.long) ∙ ap (λ m. with_map m z) (sym (append_assoc g.before (up g.blocks) g.behind))
+    c.press_up.ensures (run_of_rest z c.args.start c.args.end c.requires.settled (rest_of_gap z c.args.start gap.at) gap.long) ∙ ap (λ m. with_map m z) (sym (append_assoc g.before (up g.blocks) g.after))
 
 pub returns-clause-zone : goal.returns-clause-zone
 returns-clause-zone c gap = arranged c gap

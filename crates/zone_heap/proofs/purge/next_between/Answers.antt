@@ -11,7 +11,7 @@ use Rattle.zone_heap.proofs.purge.next_between.Goals as goal
 use Rattle.zone_heap.proofs.purge.next_between.Goals.{In-Some, After-entry_at-here}
 
 -- the next one that may be purged, protected or not
-abbrev found : (c : In-Some) (b : BlocksAt c.args.zone.now c.args.start c.args.end) → FirstPurgeable c.args.zone.now.heap.table ((c.loop-next.invariant b).blocks.blocks ++ (c.loop-next.invariant b).blocks.behind) c.loop-next.at c.in-Some.next
+abbrev found : (c : In-Some) (b : BlocksAt c.args.zone.now c.args.start c.args.end) → FirstPurgeable c.args.zone.now.heap.table ((c.loop-next.invariant b).blocks.blocks ++ (c.loop-next.invariant b).blocks.after) c.loop-next.at c.in-Some.next
 found c b = c.in-Some.ensures.next (split_left c.args.zone.now c.args.protected.now (c.loop-next.invariant b).blocks)
 
 low : (c : After-entry_at-here) → c.in-Some.next < c.args.end

@@ -1,5 +1,5 @@
 use Rattle.std.proofs.Common.{◌≡◌, ◌+◌, ◌∙◌, ap, arith, []}
-use Rattle.mac_base.specs.ZoneMap.{address_behind}
+use Rattle.mac_base.specs.ZoneMap.{address_after}
 use Rattle.mac_base.specs.ZoneSizes.{ZoneSizes}
 use Rattle.zone_heap.specs.Purge.{BlocksAt}
 use Rattle.zone_heap.proofs.Candidates.{whole_zone}
@@ -7,12 +7,12 @@ use Rattle.zone_heap.proofs.purge.next_in_zone.Goals as goal
 use Rattle.zone_heap.proofs.purge.next_in_zone.Goals.{After-zone_end}
 
 -- the first block's address
-start : (c : After-zone_end) → c.base-start.result + 52 ≡ address_behind c.args.zone.now.shape []
+start : (c : After-zone_end) → c.base-start.result + 52 ≡ address_after c.args.zone.now.shape []
 start c =
     let base = c.base-start.ensures.value ∙ ap (λ (s : ZoneSizes). s.base) (rw c.linked-linked.ensures at c.spec.ensures.sizes) in
     omega (arith, base)
 
--- all blocks stand between the zone's ends
+-- all blocks are between the zone's ends
 abbrev all : (c : After-zone_end) → BlocksAt c.args.zone.now (c.base-start.result + 52) c.zone_end.result
 all c = whole_zone c.args.zone.now (c.base-start.result + 52) c.zone_end.result (start c) (rw c.linked-linked.ensures at c.zone_end.ensures.address)
 

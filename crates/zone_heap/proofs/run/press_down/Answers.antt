@@ -1,50 +1,50 @@
 use Rattle.std.proofs.Common.{◌≡◌, ◌+◌, ◌-◌, ◌∙◌, sym, ap, subst, arith}
 use Rattle.mac_base.specs.declared.block.Entry.{Entry}
 use Rattle.zone_heap.specs.Runs.{RunAt, UsedUpTo}
-use Rattle.zone_heap.proofs.Pressing.{Pressing, Ahead, none_pressed, all_pressed, run_next, within_used, next_is_behind, parcel_next, loose_parcel, passed, stayed, ahead, entry_ahead, pair_ahead, merged, first_free, within_ahead, some_size}
+use Rattle.zone_heap.proofs.Pressing.{Pressing, Ahead, none_pressed, all_pressed, run_next, within_used, next_is_after, parcel_next, loose_parcel, passed, stayed, ahead, entry_ahead, pair_ahead, merged, first_free, within_ahead, some_size}
 use Rattle.zone_heap.proofs.run.press_down.Goals as goal
-use Rattle.zone_heap.proofs.run.press_down.Goals.{After-used_end-behind, After-entry_at-size, then-free-next, else-free-next, then-free-next-2, else-free-next-2}
+use Rattle.zone_heap.proofs.run.press_down.Goals.{After-used_end-after, After-entry_at-size, then-free-next, else-free-next, then-free-next-2, else-free-next-2}
 
 -- the blocks in use that come next
-abbrev coming : (c : After-used_end-behind) (run : RunAt c.args.zone.now c.args.start c.args.end) → UsedUpTo (c.loop-next.invariant run).rest c.loop-next.next c.used_end-behind.result
-coming c run = (rw c.linked.ensures at c.used_end-behind.ensures) (run_next _ _ _ _ _ (c.loop-next.invariant run))
+abbrev coming : (c : After-used_end-after) (run : RunAt c.args.zone.now c.args.start c.args.end) → UsedUpTo (c.loop-next.invariant run).rest c.loop-next.next c.used_end-after.result
+coming c run = (rw c.linked.ensures at c.used_end-after.ensures) (run_next _ _ _ _ _ (c.loop-next.invariant run))
 
 -- or a free block
 unused : (c : After-entry_at-size) (run : RunAt c.args.zone.now c.args.start c.args.end) → Ahead (c.loop-next.invariant run).rest
 unused c run =
-    ahead _ _ _ _ _ (c.loop-next.invariant run) c.used_end-behind.result (coming (goal.at.After-entry_at-size c).After-used_end-behind run) c.requires.sizes c.loop-next-test.true c.if-next-behind.false
+    ahead _ _ _ _ _ (c.loop-next.invariant run) c.used_end-after.result (coming (goal.at.After-entry_at-size c).After-used_end-after run) c.requires.sizes c.loop-next-test.true c.if-next-after.false
 
 -- of the size that is read
 size : (c : After-entry_at-size) (run : RunAt c.args.zone.now c.args.start c.args.end) → c.entry_at-size.result.size ≡ ((unused c run).here).size
-size c run = ap (λ (e : Entry). e.size) ((rw c.linked-else-next-behind.ensures at c.entry_at-size.ensures) (entry_ahead _ _ _ _ _ (c.loop-next.invariant run) (unused c run)))
+size c run = ap (λ (e : Entry). e.size) ((rw c.linked-else-next-after.ensures at c.entry_at-size.ensures) (entry_ahead _ _ _ _ _ (c.loop-next.invariant run) (unused c run)))
 
 pub loop-next-init : goal.loop-next-init
 loop-next-init c run = none_pressed c.args.zone.now run
 
-pub used_end-behind-requires : goal.used_end-behind-requires
-used_end-behind-requires c = let run = c.requires.run in rw c.linked.ensures (run_next _ _ _ _ _ (c.loop-next.invariant run))
+pub used_end-after-requires : goal.used_end-after-requires
+used_end-after-requires c = let run = c.requires.run in rw c.linked.ensures (run_next _ _ _ _ _ (c.loop-next.invariant run))
 
 pub carry-requires : goal.carry-requires
 carry-requires c =
     let run = c.requires.run in
-    let u = coming (goal.at.carry-requires c).After-used_end-behind run in
+    let u = coming (goal.at.carry-requires c).After-used_end-after run in
     record {
-      parcel = parcel_next _ _ _ _ _ (c.loop-next.invariant run) c.used_end-behind.result u c.if-free-next.true;
-      loose = loose_parcel _ _ _ _ _ (c.loop-next.invariant run) c.used_end-behind.result u c.requires.sizes c.if-free-next.true;
+      parcel = parcel_next _ _ _ _ _ (c.loop-next.invariant run) c.used_end-after.result u c.if-free-next.true;
+      loose = loose_parcel _ _ _ _ _ (c.loop-next.invariant run) c.used_end-after.result u c.requires.sizes c.if-free-next.true;
     }
 
 pub overflow_add-free : goal.overflow_add-free
 overflow_add-free c =
     let run = c.requires.run in
-    let u = coming (goal.at.overflow_add-free c).After-used_end-behind run in
-    omega (arith, within_used _ _ _ _ _ (c.loop-next.invariant run) c.used_end-behind.result u, next_is_behind _ _ _ _ _ (c.loop-next.invariant run), c.if-next-behind.true, c.ranges.end.fits)
+    let u = coming (goal.at.overflow_add-free c).After-used_end-after run in
+    omega (arith, within_used _ _ _ _ _ (c.loop-next.invariant run) c.used_end-after.result u, next_is_after _ _ _ _ _ (c.loop-next.invariant run), c.if-next-after.true, c.ranges.end.fits)
 
-pub loop-next-preserved-then-next-behind : goal.loop-next-preserved-then-next-behind
-loop-next-preserved-then-next-behind c run =
+pub loop-next-preserved-then-next-after : goal.loop-next-preserved-then-next-after
+loop-next-preserved-then-next-after c run =
     let l = c.loop-next in
     let p = l.invariant run in
-    let at = c.used_end-behind.result in
-    let u = coming (goal.at.loop-next-preserved-then-next-behind c).After-used_end-behind run in
+    let at = c.used_end-after.result in
+    let u = coming (goal.at.loop-next-preserved-then-next-after c).After-used_end-after run in
     elim c.if-free-next.branch [
       | then-free-next w ↦ passed _ _ _ _ _ p at u c.if-free-next.zone w.if-free-next.true (λ parcel. w.zone-is ∙ w.carry.ensures parcel)
       | else-free-next w ↦ subst (λ y. Pressing c.args.zone.now run y (l.free + (at - l.next)) at) (sym w.zone-is) (stayed _ _ _ _ _ p at u w.if-free-next.false)
@@ -53,8 +53,8 @@ loop-next-preserved-then-next-behind c run =
 pub entry_at-size-requires : goal.entry_at-size-requires
 entry_at-size-requires c =
     let p = c.loop-next.invariant c.requires.run in
-    let u = coming (goal.at.entry_at-size-requires c).After-used_end-behind c.requires.run in
-    rw c.linked-else-next-behind.ensures (entry_ahead _ _ _ _ _ p (ahead _ _ _ _ _ p c.used_end-behind.result u c.requires.sizes c.loop-next-test.true c.if-next-behind.false))
+    let u = coming (goal.at.entry_at-size-requires c).After-used_end-after c.requires.run in
+    rw c.linked-else-next-after.ensures (entry_ahead _ _ _ _ _ p (ahead _ _ _ _ _ p c.used_end-after.result u c.requires.sizes c.loop-next-test.true c.if-next-after.false))
 
 pub merge-requires : goal.merge-requires
 merge-requires c =

@@ -1,7 +1,7 @@
 use Rattle.std.proofs.Common.{◌≡◌, ◌+◌, ap, arith}
 use Rattle.mac_base.specs.declared.block.Entry.{Entry}
 use Rattle.zone_heap.specs.Runs.{RunAt}
-use Rattle.zone_heap.proofs.Ending.{entry_last, within_last, used_behind}
+use Rattle.zone_heap.proofs.Ending.{entry_last, within_last, used_after}
 use Rattle.zone_heap.proofs.run.used_start.Goals as goal
 use Rattle.zone_heap.proofs.run.used_start.Goals.{After-entry_at}
 
@@ -21,4 +21,4 @@ overflow_add-result c =
 pub returns-in-Some : goal.returns-in-Some
 returns-in-Some c run =
     let w = (goal.at.returns-in-Some c).After-entry_at in
-    used_behind c.args.zone.now run c.in-Some.at (c.in-Some.ensures run) (c.in-Some.at + c.entry_at.result.size) (size w run)
+    used_after c.args.zone.now run c.in-Some.at (c.in-Some.ensures run) (c.in-Some.at + c.entry_at.result.size) (size w run)

@@ -8,10 +8,10 @@ use Rattle.zone_heap.proofs.Growing.{free-within}
 use Rattle.zone_heap.proofs.Resizing.{fits-there}
 use Rattle.zone_heap.proofs.Sizing.{Standing, end-there, entry_named}
 use Rattle.zone_heap.proofs.size.fits_there.Goals as goal
-use Rattle.zone_heap.proofs.size.fits_there.Goals.{After-free_behind}
+use Rattle.zone_heap.proofs.size.fits_there.Goals.{After-free_after}
 
 -- the block
-abbrev standing : (c : After-free_behind) → Standing c.args.zone.now c.args.block c.args.length c.need_for.result c.place_of-at.result
+abbrev standing : (c : After-free_after) → Standing c.args.zone.now c.args.block c.args.length c.need_for.result c.place_of-at.result
 standing c = record {
   sound = c.requires.sound.sound;
   block = c.requires.block;
@@ -19,20 +19,20 @@ standing c = record {
   size = c.need_for.ensures ∙ ap (λ heads. need heads c.args.length) (c.heads.ensures ∙ ap (λ (s : ZoneSizes). s.heads) c.spec-spec.ensures.sizes);
 }
 
--- its bytes with the free ones right behind it
-both : (c : After-free_behind) → c.entry_at.result.size + c.free_behind.result ≡ c.place_of-at.ensures.here.size + free_in_front c.place_of-at.ensures.behind
+-- its bytes with the free ones right after it
+both : (c : After-free_after) → c.entry_at.result.size + c.free_after.result ≡ c.place_of-at.ensures.here.size + free_in_front c.place_of-at.ensures.after
 both c =
-    ap (λ (e : Entry). e.size + c.free_behind.result) (c.entry_at.ensures (entry_named c.place_of-at.ensures))
-    ∙ ap (λ m. c.place_of-at.ensures.here.size + m) (c.free_behind.ensures (entry_named c.place_of-at.ensures))
+    ap (λ (e : Entry). e.size + c.free_after.result) (c.entry_at.ensures (entry_named c.place_of-at.ensures))
+    ∙ ap (λ m. c.place_of-at.ensures.here.size + m) (c.free_after.ensures (entry_named c.place_of-at.ensures))
 
 pub overflow_add-result : goal.overflow_add-result
 overflow_add-result c =
-    let w = (goal.at.overflow_add-result c).After-free_behind in
+    let w = (goal.at.overflow_add-result c).After-free_after in
     let base = c.base.ensures.value ∙ ap (λ (s : ZoneSizes). s.base) c.spec-spec.ensures.sizes in
     let limit = c.limit.ensures.value ∙ ap (λ (s : ZoneSizes). s.limit) c.spec-spec.ensures.sizes in
-    omega (arith, both w, free-within c.place_of-at.ensures.behind, end-there c.args.zone.now c.args.block c.args.length c.need_for.result c.place_of-at.result (standing w), base, limit, c.if-prove.false)
+    omega (arith, both w, free-within c.place_of-at.ensures.after, end-there c.args.zone.now c.args.block c.args.length c.need_for.result c.place_of-at.result (standing w), base, limit, c.if-prove.false)
 
 pub returns : goal.returns
 returns c =
-    let w = (goal.at.returns c).After-free_behind in
+    let w = (goal.at.returns c).After-free_after in
     ap (nat_le c.need_for.result) (both w) ∙ sym (fits-there c.args.zone.now c.args.block c.args.length c.need_for.result c.place_of-at.result (standing w))

@@ -10,7 +10,7 @@ use Rattle.linked_zone.specs.Loans.{KeepsLoans}
 use Rattle.zone_heap.specs.Gaps.{GapBetween, opened_after}
 use Rattle.zone_heap.specs.Attempts.{SoundZone}
 use Rattle.zone_heap.specs.Resized.{way_made}
-use Rattle.zone_heap.proofs.Resizing.{fits-gap, gap-behind-at, way-behind, way-sound, way-own}
+use Rattle.zone_heap.proofs.Resizing.{fits-gap, gap-after-at, way-after, way-sound, way-own}
 use Rattle.zone_heap.proofs.size.make_way.Goals as goal
 use Rattle.zone_heap.proofs.size.make_way.Goals.{After-grows_to, After-stays, After-squeeze_up}
 
@@ -37,7 +37,7 @@ returns-then-not-grows_to-clause-sound c = subst SoundZone (sym c.grows_to.ensur
 pub squeeze_up-requires-clause-gap : goal.squeeze_up-requires-clause-gap
 squeeze_up-requires-clause-gap c =
     let fixed = sym (stay (goal.at.squeeze_up-requires-clause-gap c).After-stays) ∙ c.if-stays.true in
-    subst (λ z. GapBetween z c.gap_to_grow-gap.result.start c.gap_to_grow-gap.result.end) (sym c.grows_to.ensures.zone) (gap-behind-at c.args.zone.now c.args.block c.gap_to_grow-gap.result fixed c.gap_to_grow-gap.ensures)
+    subst (λ z. GapBetween z c.gap_to_grow-gap.result.start c.gap_to_grow-gap.result.end) (sym c.grows_to.ensures.zone) (gap-after-at c.args.zone.now c.args.block c.gap_to_grow-gap.result fixed c.gap_to_grow-gap.ensures)
 
 pub returns-then-stays-clause-fits : goal.returns-then-stays-clause-fits
 returns-then-stays-clause-fits c = sym (fits (goal.at.returns-then-stays-clause-fits c).After-grows_to ∙ c.if-not-grows_to.false)
@@ -46,8 +46,8 @@ returns-then-stays-clause-fits c = sym (fits (goal.at.returns-then-stays-clause-
 way : (c : After-squeeze_up) → c.squeeze_up.new.zone ≡ with_map (way_made c.args.zone.now.heap.table c.args.block c.args.zone.now.heap.map) c.args.zone.now
 way c =
     let fixed = sym (stay (goal.at.After-squeeze_up c).After-stays) ∙ c.if-stays.true in
-    (rw c.grows_to.ensures.zone at c.squeeze_up.ensures.zone) (gap-behind-at c.args.zone.now c.args.block c.gap_to_grow-gap.result fixed c.gap_to_grow-gap.ensures)
-    ∙ ap (λ m. with_map m c.args.zone.now) (way-behind c.args.zone.now c.args.block c.gap_to_grow-gap.result fixed c.gap_to_grow-gap.ensures)
+    (rw c.grows_to.ensures.zone at c.squeeze_up.ensures.zone) (gap-after-at c.args.zone.now c.args.block c.gap_to_grow-gap.result fixed c.gap_to_grow-gap.ensures)
+    ∙ ap (λ m. with_map m c.args.zone.now) (way-after c.args.zone.now c.args.block c.gap_to_grow-gap.result fixed c.gap_to_grow-gap.ensures)
 
 pub returns-then-stays-clause-loans : goal.returns-then-stays-clause-loans
 returns-then-stays-clause-loans c = subst (λ v. KeepsLoans v c.squeeze_up.new.zone) c.grows_to.ensures.zone c.squeeze_up.ensures.loans

@@ -84,7 +84,7 @@ join-requires c =
     (relocated_is (goal.at.join-requires c).After-relocate)
 
 -- and its old block is joined, it has moved
-moved_is : (c : After-join) → let p = c.in-Some.ensures.room in c.join.new.pointers ≡ moved c.args.handle c.args.length c.need_for-needed.result c.open_lowest.new.zone p.low.free.before p.low.free.size p.low.free.behind
+moved_is : (c : After-join) → let p = c.in-Some.ensures.room in c.join.new.pointers ≡ moved c.args.handle c.args.length c.need_for-needed.result c.open_lowest.new.zone p.low.free.before p.low.free.size p.low.free.after
 moved_is c =
     let p = c.in-Some.ensures.room in
     let w = (goal.at.After-join c).In-Some in

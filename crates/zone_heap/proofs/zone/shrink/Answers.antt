@@ -52,7 +52,7 @@ front_zone c = let z = c.args.pointers.now in let x = c.args.block in let n = c.
 -- and the one in which what is over is joined too
 abbrev cut_zone : (c : After-entry_at-whole) → ZoneState
 cut_zone c = let z = c.args.pointers.now in
-    resized_zone z c.args.block c.args.length c.args.needed c.place_of-at.result (standing c) (cut z.shape c.args.needed (rw c.linked-linked.ensures at c.place_of-at.ensures).here (rw c.linked-linked.ensures at c.place_of-at.ensures).behind)
+    resized_zone z c.args.block c.args.length c.args.needed c.place_of-at.result (standing c) (cut z.shape c.args.needed (rw c.linked-linked.ensures at c.place_of-at.ensures).here (rw c.linked-linked.ensures at c.place_of-at.ensures).after)
 
 -- hold makes it the first
 held : (c : After-hold) → c.hold.new.self ≡ front_zone (goal.at.After-hold c).After-entry_at-whole

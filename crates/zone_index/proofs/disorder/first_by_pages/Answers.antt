@@ -1,9 +1,9 @@
 use Rattle.std.proofs.Common.{◌≡◌, ◌+◌, ◌∙◌, ap, sym, subst, true, [], arith}
 use Rattle.std.proofs.lemmas.Bool.{not-false}
-use Rattle.mac_base.specs.ZoneMap.{address_behind}
+use Rattle.mac_base.specs.ZoneMap.{address_after}
 use Rattle.mac_base.specs.ZoneSizes.{ZoneSizes}
 use Rattle.zone_index.specs.declared.order.Passed.{Passed}
-use Rattle.zone_index.specs.Spans.{behind_of}
+use Rattle.zone_index.specs.Spans.{after_of}
 use Rattle.zone_index.proofs.Entries.{told}
 use Rattle.zone_index.proofs.OutOfOrder.{Passing, none_passing, ordered_to, passing_on, passing_all}
 use Rattle.zone_index.proofs.Walking.{Turn, walked-turn, walked-first, page-some, page-end}
@@ -21,7 +21,7 @@ coming c =
 pub loop-at-init : goal.loop-at-init
 loop-at-init c =
     let base = c.base-at.ensures.value ∙ ap (λ (s : ZoneSizes). s.base) c.spec-spec.ensures.sizes in
-    (none_passing c.args.zone.now (c.base-at.result + 52) (let e : c.base-at.result + 52 ≡ address_behind c.args.zone.now.shape [] = omega arith in e), c.requires.pages)
+    (none_passing c.args.zone.now (c.base-at.result + 52) (let e : c.base-at.result + 52 ≡ address_after c.args.zone.now.shape [] = omega arith in e), c.requires.pages)
 
 pub page_sums-here-requires-clause-first : goal.page_sums-here-requires-clause-first
 page_sums-here-requires-clause-first c =
@@ -55,9 +55,9 @@ loop-at-preserved c =
     let z = c.args.zone.now in
     let n = coming (goal.at.loop-at-preserved c).In-loop-at in
     let q = c.page_sums-here.result in
-    let behind = c.behind-behind.ensures in
-    let arranged : (behind_of q.order c.loop-at.free).arranged ≡ true = ap (λ (p : Passed). p.arranged) (sym behind) ∙ not-false c.behind-behind.result.arranged c.if-not-behind.false in (
-      subst (λ (p : Passed). Passing z (c.loop-at.at + q.bytes) p.free) (sym behind)
+    let after = c.after-after.ensures in
+    let arranged : (after_of q.order c.loop-at.free).arranged ≡ true = ap (λ (p : Passed). p.arranged) (sym after) ∙ not-false c.after-after.result.arranged c.if-not-after.false in (
+      subst (λ (p : Passed). Passing z (c.loop-at.at + q.bytes) p.free) (sym after)
           (passing_on z c.loop-at.at c.loop-at.free c.loop-at.invariant.0 c.spec-spec.ensures.possible n q c.page_sums-here.ensures.sums arranged),
       c.page_sums-here.ensures.pages,
     )

@@ -4,7 +4,7 @@ use Rattle.zone_index.proofs.disorder.first_from.Given as goal
 
 -- the blocks below are in order
 abbrev pub invariant-loop-at : goal.invariant-loop-at
-invariant-loop-at l = OrderedTo l.zone l.at l.behind_free
+invariant-loop-at l = OrderedTo l.zone l.at l.past_free
 
 -- the bytes that are left
 abbrev pub decreases-loop-at : goal.decreases-loop-at

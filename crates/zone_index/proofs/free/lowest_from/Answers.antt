@@ -6,7 +6,7 @@ use Rattle.zone_index.proofs.free.lowest_from.Goals as goal
 use Rattle.zone_index.proofs.free.lowest_from.Goals.{In-Some}
 
 -- the next free block
-next : (c : In-Some) → FirstFree c.loop-at.invariant.split.behind c.loop-at.from c.in-Some.at
+next : (c : In-Some) → FirstFree c.loop-at.invariant.split.after c.loop-at.from c.in-Some.at
 next c = c.in-Some.ensures.next c.loop-at.invariant.split
 
 pub returns-in_err-from-clause-none : goal.returns-in_err-from-clause-none

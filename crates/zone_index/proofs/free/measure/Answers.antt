@@ -2,7 +2,7 @@ use Rattle.std.proofs.Common.{◌≡◌, ◌+◌, ◌*◌, ◌≤◌, ◌∙◌,
 use Rattle.sum_tree.specs.declared.largest.Largest.{Largest}
 use Rattle.mac_base.specs.ZoneSizes.{ZoneSizes}
 use Rattle.linked_zone.specs.Places.{FirstFree}
-use Rattle.zone_index.proofs.FreeWalk.{Counted, counted_free, counted_split, counted-above, counted-behind, counted-last, counted-on, free-some, free-within, none_counted, none_there}
+use Rattle.zone_index.proofs.FreeWalk.{Counted, counted_free, counted_split, counted-above, counted-after, counted-last, counted-on, free-some, free-within, none_counted, none_there}
 use Rattle.zone_index.proofs.Known.{size-known}
 use Rattle.zone_index.proofs.free.measure.Goals as goal
 use Rattle.zone_index.proofs.free.measure.Goals.{In-Some, In-Some-next_free}
@@ -12,7 +12,7 @@ begins : (c : In-Some) → c.base.result + c.args.leaf * 256 ≡ c.args.zone.now
 begins c = let base = c.base.ensures.value ∙ ap (λ (s : ZoneSizes). s.base) c.spec-spec.ensures.sizes in omega arith
 
 -- the next free block
-next : (c : In-Some-next_free) → FirstFree c.loop-at.invariant.behind c.loop-at.from c.in-Some-next_free.at
+next : (c : In-Some-next_free) → FirstFree c.loop-at.invariant.after c.loop-at.from c.in-Some-next_free.at
 next c = c.in-Some-next_free.ensures.next (counted_split c.args.zone.now (256 * c.args.leaf) (256 * c.args.leaf + 256) c.loop-at.from c.loop-at.largest c.loop-at.invariant)
 
 -- begins in the leaf or after it
@@ -40,7 +40,7 @@ returns-then-at-start-ge-LEAF_SIZE c =
     let at = (goal.at.returns-then-at-start-ge-LEAF_SIZE c).In-Some-next_free in
     let start = begins (goal.at.returns-then-at-start-ge-LEAF_SIZE c).In-Some in
     let low = above at in
-    counted-behind c.args.zone.now (256 * c.args.leaf) (256 * c.args.leaf + 256) c.loop-at.from c.loop-at.largest c.loop-at.invariant c.in-Some-next_free.at (next at) (omega (arith, start, low, c.if-at-start-ge-LEAF_SIZE.true))
+    counted-after c.args.zone.now (256 * c.args.leaf) (256 * c.args.leaf + 256) c.loop-at.from c.loop-at.largest c.loop-at.invariant c.in-Some-next_free.at (next at) (omega (arith, start, low, c.if-at-start-ge-LEAF_SIZE.true))
 
 pub free_size-bytes-requires : goal.free_size-bytes-requires
 free_size-bytes-requires c = counted_free c.args.zone.now (256 * c.args.leaf) (256 * c.args.leaf + 256) c.loop-at.from c.loop-at.largest c.loop-at.invariant c.in-Some-next_free.at (next (goal.at.free_size-bytes-requires c).In-Some-next_free)

@@ -1,5 +1,5 @@
 use Rattle.std.proofs.Common.{◌+◌, ◌*◌, ◌-◌}
-use Rattle.mac_base.specs.ZoneMap.{address_behind}
+use Rattle.mac_base.specs.ZoneMap.{address_after}
 use Rattle.zone_index.proofs.FreeWalk.{Counted}
 use Rattle.zone_index.proofs.free.measure.Given as goal
 
@@ -8,4 +8,4 @@ invariant-loop-at l = Counted l.zone (256 * l.leaf) (256 * l.leaf + 256) l.from 
 
 -- the bytes that are left
 abbrev pub decreases-loop-at : goal.decreases-loop-at
-decreases-loop-at l = address_behind l.zone.shape l.zone.heap.map - l.from
+decreases-loop-at l = address_after l.zone.shape l.zone.heap.map - l.from

@@ -1,5 +1,5 @@
 use Rattle.std.proofs.Common.{◌≡◌, ◌+◌, [], ◌∙◌, ap, refl, arith}
-use Rattle.mac_base.specs.ZoneMap.{address_behind}
+use Rattle.mac_base.specs.ZoneMap.{address_after}
 use Rattle.mac_base.specs.ZoneSizes.{ZoneSizes}
 use Rattle.linked_zone.specs.Places.{FirstFree, FreeAt}
 use Rattle.zone_index.proofs.Found.{first-large}
@@ -8,16 +8,16 @@ use Rattle.zone_index.proofs.gap.large_first.Goals as goal
 use Rattle.zone_index.proofs.gap.large_first.Goals.{In_ok-at}
 
 -- the first block begins right after the zone's header
-begins : (c : In_ok-at) → c.base.result + 52 ≡ address_behind c.args.zone.now.shape []
+begins : (c : In_ok-at) → c.base.result + 52 ≡ address_after c.args.zone.now.shape []
 begins c = let base = c.base.ensures.value ∙ ap (λ (s : ZoneSizes). s.base) c.spec.ensures.sizes in omega arith
 
 -- of all blocks this is the first free one
 first : (c : In_ok-at) → FirstFree c.args.zone.now.heap.map (c.base.result + 52) c.in_ok-at.at
-first c = c.in_ok-at.ensures.next (record { before = []; behind = c.args.zone.now.heap.map; map = refl; place = begins c })
+first c = c.in_ok-at.ensures.next (record { before = []; after = c.args.zone.now.heap.map; map = refl; place = begins c })
 
--- so it stands there
+-- so it is there
 abbrev there : (c : In_ok-at) → FreeAt c.args.zone.now c.in_ok-at.at
-there c = let f = first c in record { before = f.passed; size = f.size; behind = f.behind; map = f.splits; place = (let from = begins c in let place = f.place in omega arith) }
+there c = let f = first c in record { before = f.passed; size = f.size; after = f.after; map = f.splits; place = (let from = begins c in let place = f.place in omega arith) }
 
 pub free_size-requires : goal.free_size-requires
 free_size-requires c = there (goal.at.free_size-requires c).In_ok-at

@@ -1,6 +1,6 @@
 use Rattle.std.proofs.Common.{◌+◌, ◌<◌, ◌≤◌, arith}
 use Rattle.mac_base.specs.ZoneMap.{total_size}
-use Rattle.zone_index.proofs.GapWalk.{free_summed, next-some, next-summed, next-within, room-within, split_summed, summed-behind, summed-last, summed-most}
+use Rattle.zone_index.proofs.GapWalk.{free_summed, next-some, next-summed, next-within, room-within, split_summed, summed-after, summed-last, summed-most}
 use Rattle.zone_index.proofs.gap.room_up_to.Goals as goal
 use Rattle.zone_index.proofs.gap.room_up_to.Goals.{After-free_size-size}
 
@@ -22,7 +22,7 @@ pub returns-then-end-at-clause-all : goal.returns-then-end-at-clause-all
 returns-then-end-at-clause-all c rest few =
     let s = c.loop-room.invariant rest in
     let next = c.in-Some.ensures.next (split_summed c.args.zone.now c.args.start rest c.loop-room.from c.loop-room.room s) in
-    summed-behind c.args.zone.now c.args.start rest c.loop-room.from c.loop-room.room s c.in-Some.at next (omega (arith, c.requires.end rest, c.if-end-at.true))
+    summed-after c.args.zone.now c.args.start rest c.loop-room.from c.loop-room.room s c.in-Some.at next (omega (arith, c.requires.end rest, c.if-end-at.true))
 
 pub free_size-size-requires : goal.free_size-size-requires
 free_size-size-requires c =

@@ -1,6 +1,6 @@
 use Rattle.std.proofs.Common.{◌≡◌, ◌+◌, ◌-◌, ◌/◌, ◌≤◌, [], ap, subst, ◌∙◌, arith}
 use Rattle.mac_base.specs.declared.block.Entry.{Entry}
-use Rattle.mac_base.specs.ZoneMap.{address_behind}
+use Rattle.mac_base.specs.ZoneMap.{address_after}
 use Rattle.mac_base.specs.ZoneSizes.{ArePossible, ZoneSizes}
 use Rattle.linked_zone.specs.Places.{EntryAt}
 use Rattle.zone_index.specs.Marks.{place}
@@ -25,7 +25,7 @@ inside c = place-within c.args.zone.now c.loop-at.at (subst ArePossible c.spec-s
 pub loop-at-init : goal.loop-at-init
 loop-at-init c =
     let base = c.base-base.ensures.value ∙ ap (λ (s : ZoneSizes). s.base) c.spec-spec.ensures.sizes in
-    let first : c.base-base.result + 52 ≡ address_behind c.args.zone.now.shape [] = omega arith in
+    let first : c.base-base.result + 52 ≡ address_after c.args.zone.now.shape [] = omega arith in
     marking-first c.args.zone.now (c.base-base.result + 52) c.args.marks.now c.args.purgeable.now c.requires.fixed c.requires.purgeable first
 
 pub entry_and_flags-requires : goal.entry_and_flags-requires

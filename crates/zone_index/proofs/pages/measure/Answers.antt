@@ -14,7 +14,7 @@ use Rattle.zone_index.proofs.pages.measure.Goals as goal
 use Rattle.zone_index.proofs.pages.measure.Goals.{In-loop-at}
 
 -- a block comes next
-coming : (c : In-loop-at) → FirstIn c.loop-at.invariant.behind
+coming : (c : In-loop-at) → FirstIn c.loop-at.invariant.after
 coming c =
     let z = c.args.zone.now in
     let t = told c.args.zone.now _ c.spec-spec.ensures.sizes _ _ c.base-base.ensures.value c.size.ensures.value in
@@ -74,7 +74,7 @@ loop-at-preserved c =
     let base = c.base-base.ensures.value ∙ ap (λ (s : ZoneSizes). s.base) c.spec-spec.ensures.sizes in
     let test = c.loop-at-test.true in
     let end = c.min-end.ensures in
-    let behind = c.saturating_add.ensures in
+    let after = c.saturating_add.ensures in
     subst (Measured z c.args.first (c.loop-at.at + c.entry_at-here.result.size)) (sym (c.join-sums.ensures ∙ ap (both c.loop-at.sums) c.of.ensures ∙ ap (λ w. both c.loop-at.sums (one w)) c.weigh.ensures))
     (measured-on z c.args.first c.loop-at.at c.loop-at.sums m n c.entry_at-here.result (c.entry_at-here.ensures here) (omega arith))
 

@@ -12,7 +12,7 @@ use Rattle.zone_index.proofs.rooms.measure.Goals as goal
 use Rattle.zone_index.proofs.rooms.measure.Goals.{In-loop-at}
 
 -- a block comes next
-coming : (c : In-loop-at) → FirstIn c.loop-at.invariant.behind
+coming : (c : In-loop-at) → FirstIn c.loop-at.invariant.after
 coming c =
     let z = c.args.zone.now in
     let t = told c.args.zone.now _ c.spec-spec.ensures.sizes _ _ c.base-base.ensures.value c.size.ensures.value in
@@ -72,7 +72,7 @@ loop-at-preserved c =
     let base = c.base-base.ensures.value ∙ ap (λ (s : ZoneSizes). s.base) c.spec-spec.ensures.sizes in
     let test = c.loop-at-test.true in
     let end = c.min-end.ensures in
-    let behind = c.saturating_add.ensures in
+    let after = c.saturating_add.ensures in
     subst (Gathered z (256 * c.args.leaf) (256 * c.args.leaf + 256) (c.loop-at.at + c.entry_at-here.result.size)) (sym (c.join-sum.ensures ∙ ap (joined c.loop-at.sum) (c.span_of.ensures ∙ ap room_of c.weigh.ensures)))
     (gathered-on z (256 * c.args.leaf) (256 * c.args.leaf + 256) c.loop-at.at c.loop-at.sum g n c.entry_at-here.result (c.entry_at-here.ensures here) (omega arith))
 

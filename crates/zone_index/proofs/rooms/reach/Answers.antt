@@ -12,7 +12,7 @@ use Rattle.zone_index.proofs.rooms.reach.Goals as goal
 use Rattle.zone_index.proofs.rooms.reach.Goals.{In-loop-at}
 
 -- a block comes next
-coming : (c : In-loop-at) → FirstIn c.loop-at.invariant.behind
+coming : (c : In-loop-at) → FirstIn c.loop-at.invariant.after
 coming c =
     let t = told c.args.zone.now _ c.spec-spec.ensures.sizes _ _ c.base.ensures.value c.size.ensures.value in
     follows c.args.zone.now c.args.needed c.loop-at.at c.loop-at.sum c.loop-at.invariant (omega (arith, c.loop-at-test.true))

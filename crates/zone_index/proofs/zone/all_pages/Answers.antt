@@ -1,5 +1,5 @@
 use Rattle.std.proofs.Common.{◌≡◌, ◌+◌, ◌∙◌, ap, sym, subst, [], arith}
-use Rattle.mac_base.specs.ZoneMap.{address_behind}
+use Rattle.mac_base.specs.ZoneMap.{address_after}
 use Rattle.mac_base.specs.ZoneSizes.{ZoneSizes}
 use Rattle.zone_index.proofs.Entries.{told}
 use Rattle.zone_index.proofs.Spans.{sum-within}
@@ -17,7 +17,7 @@ coming c =
 pub loop-at-init : goal.loop-at-init
 loop-at-init c =
     let base = c.base-at.ensures.value ∙ ap (λ (s : ZoneSizes). s.base) c.spec-spec.ensures.sizes in
-    (none_walked c.args.zone.now (c.base-at.result + 52) (let e : c.base-at.result + 52 ≡ address_behind c.args.zone.now.shape [] = omega arith in e), c.requires.pages)
+    (none_walked c.args.zone.now (c.base-at.result + 52) (let e : c.base-at.result + 52 ≡ address_after c.args.zone.now.shape [] = omega arith in e), c.requires.pages)
 
 pub page_sums-here-requires-clause-first : goal.page_sums-here-requires-clause-first
 page_sums-here-requires-clause-first c = walked-first c.args.zone.now c.loop-at.at c.loop-at.all c.loop-at.invariant.0 (coming (goal.at.page_sums-here-requires-clause-first c).In-loop-at)

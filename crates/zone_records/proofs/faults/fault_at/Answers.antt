@@ -43,7 +43,7 @@ returns-then-not-may_have-clause-fault c =
     let both = c.may_have.ensures h.block in
     let not : c.may_have.result ≡ false = cc in
     pointer-wrong l (records_in l) (held_by l c.requires.sound) c.args.at c.args.byte c.requires.other c.in_ok-start.start h.block master j (omega arith)
-    (elim (cases_lt j 256) [ inl few ↦ few | inr behind ↦ (let no : true ≡ false = sym (both.1 (inl behind)) ∙ not in absurd (cc no)) ])
+    (elim (cases_lt j 256) [ inl few ↦ few | inr after ↦ (let no : true ≡ false = sym (both.1 (inl after)) ∙ not in absurd (cc no)) ])
     (λ may. let no : true ≡ false = sym (both.1 (inr may)) ∙ not in cc no)
 
 pub returns-clause-none : goal.returns-clause-none
@@ -64,10 +64,10 @@ returns-clause-none c =
           let master : h.block.here.role ≡ role.Master = elim c.match-matches.branch [ in-Master v ↦ sym said ∙ (cc) | in_default v ↦ absurd (cc) ] in
           let has : w.may_have.result ≡ true = cc in
           elim ((w.may_have.ensures h.block).0 has) [
-            | inl behind ↦ slack-keeps l (records_in l) held c.args.at c.args.byte c.requires.other at h.block low high (omega arith)
+            | inl after ↦ slack-keeps l (records_in l) held c.args.at c.args.byte c.requires.other at h.block low high (omega arith)
             | inr may ↦ elim (cases_lt j 256) [
               | inl few ↦ flags-keeps l (records_in l) held c.args.at c.args.byte c.requires.other at h.block low high (omega arith) master j (omega arith) few may
-              | inr behind ↦ slack-keeps l (records_in l) held c.args.at c.args.byte c.requires.other at h.block low high (omega arith)
+              | inr after ↦ slack-keeps l (records_in l) held c.args.at c.args.byte c.requires.other at h.block low high (omega arith)
             ]
           ]
       | else-is_master-via-else-is_master w ↦

@@ -25,4 +25,4 @@ returns-else-at-ge-MASTER_LENGTH c b =
     let l = c.args.blocks.now in
     let both = at-same (λ heads at contents. IsTrue c.agrees_with.result ↔ MayBe heads contents at c.args.byte) c.heads.result l.heads c.args.at c.args.at c.contents.result.now b.here.contents
     (c.heads.ensures ∙ c.spec.ensures.heads) refl (c.contents.ensures b) c.agrees_with.ensures in
-    (λ is. inr (both.0 is), λ may. elim may [ inl behind ↦ absurd (omega arith) | inr among ↦ both.1 among ])
+    (λ is. inr (both.0 is), λ may. elim may [ inl after ↦ absurd (omega arith) | inr among ↦ both.1 among ])

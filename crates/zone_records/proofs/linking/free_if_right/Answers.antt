@@ -29,7 +29,7 @@ size c h says = ap (λ (h : Header). h.size) (says (block c))
 room : (c : In-loop-at) (n : ℕ) → ((b : BlockAt c.args.blocks.now c.loop-at.at) (x : ℕ) → n ≡ length (said_of (slots_of x (content_in c.args.blocks.now.heads c.args.blocks.now.base b.here.role b.here.contents)))) → 4 * n ≤ size_of c.args.blocks.now.heads (next c).here
 unfolding next block
 room c n counts =
-    let l = c.args.blocks.now in let b = block c in let few = said-room l.heads l.base 0 (next c).here (sound-one l b.before (next c).here b.behind c.requires b.blocks) in let same = counts b 0 in omega arith
+    let l = c.args.blocks.now in let b = block c in let few = said-room l.heads l.base 0 (next c).here (sound-one l b.before (next c).here b.after c.requires b.blocks) in let same = counts b 0 in omega arith
 
 -- it is a handle's block, or not
 handle : (c : In-loop-at) (h : Header) → ((b : BlockAt c.args.blocks.now c.loop-at.at) → h ≡ header_of c.args.blocks.now.heads b.here) → one_handle h.role ≡ one_handle (next c).here.role
@@ -50,7 +50,7 @@ other_size c h says = ap (λ (h : Header). h.size) (says (other_block c))
 free_room : (c : In-loop-at) (n : ℕ) → ((b : BlockAt c.args.blocks.now c.loop-at.at) (x : ℕ) → n ≡ length (free_of (slots_of x (content_in c.args.blocks.now.heads c.args.blocks.now.base b.here.role b.here.contents)))) → 4 * n ≤ size_of c.args.blocks.now.heads (other c).here
 unfolding other other_block
 free_room c n counts =
-    let l = c.args.blocks.now in let b = other_block c in let few = free-room l.heads l.base 0 (other c).here (sound-one l b.before (other c).here b.behind c.requires b.blocks) in let same = counts b 0 in omega arith
+    let l = c.args.blocks.now in let b = other_block c in let few = free-room l.heads l.base 0 (other c).here (sound-one l b.before (other c).here b.after c.requires b.blocks) in let same = counts b 0 in omega arith
 
 pub loop-at-init : goal.loop-at-init
 loop-at-init c = let base = c.base-at.ensures.value ∙ c.spec.ensures.base in record {

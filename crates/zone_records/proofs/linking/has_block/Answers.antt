@@ -24,7 +24,7 @@ pub overflow_add-result : goal.overflow_add-result
 overflow_add-result c =
     let l = c.args.blocks.now in let o = c.in-Some.ensures.owner in let b = o.block in
     let base : c.base.result ≡ l.base = c.base.ensures.value ∙ c.spec-spec.ensures.base in
-    let use_is = (sound-parts l.heads l.base b.here (sound-one l b.before b.here b.behind c.requires b.blocks)).use_is in
+    let use_is = (sound-parts l.heads l.base b.here (sound-one l b.before b.here b.after c.requires b.blocks)).use_is in
     let small = handle-small l.base b.here.role (length b.here.contents) c.in-Some.offset o.flags use_is o.role in omega arith
 
 pub returns-in-Some : goal.returns-in-Some

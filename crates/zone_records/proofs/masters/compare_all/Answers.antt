@@ -10,7 +10,7 @@ use Rattle.zone_records.proofs.masters.compare_all.Goals as goal
 
 -- all blocks come after the zone's header
 abbrev all_blocks : (l : Layout) (first : ℕ) → first ≡ l.base + zone_header → SplitAt l first
-all_blocks l first is = record { before = []; behind = l.blocks; blocks = refl; place = omega arith }
+all_blocks l first is = record { before = []; after = l.blocks; blocks = refl; place = omega arith }
 
 pub compare_blocks-requires-clause-split : goal.compare_blocks-requires-clause-split
 compare_blocks-requires-clause-split c = all_blocks c.args.blocks.now _ (let base = c.spec.ensures.base in let value = c.base-first.ensures.value in omega arith)

@@ -36,7 +36,7 @@ pub compare_from-requires-clause-whole : goal.compare_from-requires-clause-whole
 compare_from-requires-clause-whole c = let l = c.args.blocks.now in (structure-head_is l c.args.bytes.now (records_in l) (held l c.requires.sound c.args.bytes.now) c.requires.same).all
 
 -- the next master block, as it was found
-abbrev next : (c : In-NextMaster) → AgreeUpTo c.args.blocks.now c.args.bytes.now (c.loop-master.at - c.args.blocks.now.base) c.loop-master.invariant.split.behind c.in-NextMaster.master
+abbrev next : (c : In-NextMaster) → AgreeUpTo c.args.blocks.now c.args.bytes.now (c.loop-master.at - c.args.blocks.now.base) c.loop-master.invariant.split.after c.in-NextMaster.master
 next c = c.in-NextMaster.ensures c.loop-master.invariant.split
 
 abbrev block : (c : In-NextMaster) → BlockAt c.args.blocks.now c.in-NextMaster.master
@@ -92,5 +92,5 @@ returns c =
     let bytes = c.args.bytes.now in
     let done = c.loop-master.invariant in
     let headers = (structure-agrees l bytes (records_in l) (held l c.requires.sound bytes) c.requires.same).headers in
-    let none = none-next l bytes (c.loop-master.at - l.base) done.split.behind c.compare_from.result (c.compare_from.ensures done.split) c.in_default.not-NextMaster (headers-from l bytes c.loop-master.at done.split headers) in
+    let none = none-next l bytes (c.loop-master.at - l.base) done.split.after c.compare_from.result (c.compare_from.ensures done.split) c.in_default.not-NextMaster (headers-from l bytes c.loop-master.at done.split headers) in
     record { first = tt; none = none-changed l c.requires.sound bytes c.args.from (done-all l bytes (SameWhere (λ x. c.args.from ≤ x) l bytes) c.loop-master.at done none) }

@@ -26,7 +26,7 @@ head_is c low = elim c.else-range-lt-ZONE_HEADER.branch [
 
 -- the blocks from an address on
 split_there : (l : Layout) (at : ℕ) → BlockAt l at → SplitAt l at
-split_there l at b = record { before = b.before; behind = b.here ∷ b.behind; blocks = b.blocks; place = b.place }
+split_there l at b = record { before = b.before; after = b.here ∷ b.after; blocks = b.blocks; place = b.place }
 
 pub compare_blocks-requires-clause-split : goal.compare_blocks-requires-clause-split
 compare_blocks-requires-clause-split c = split_there c.args.blocks.now c.in-Some.start c.in-Some.ensures.holds.block
@@ -49,7 +49,7 @@ has_blocks c =
     record {
       first = held.block;
       any = omega arith;
-      low = λ at after behind. omega arith;
+      low = λ at after following. omega arith;
       high = omega arith;
       ends = omega arith;
       all = elim (cases_lt c.saturating_add-end.result 0xFFFF_FFFF) [ inl below ↦ inl (omega arith) | inr highest ↦ inr highest ];
@@ -69,4 +69,4 @@ returns-in-None c =
     let first = c.saturating_add-first.ensures in
     let high = c.requires.sound.high in
     let small = end-small l.heads in
-    range-outside l c.requires.sound c.args.bytes.now c.args.range (head_is (goal.at.returns-in-None c).After-holder) (λ at after behind. elim c.in-None.ensures.outside [ inl below ↦ absurd (omega arith) | inr above ↦ omega arith ])
+    range-outside l c.requires.sound c.args.bytes.now c.args.range (head_is (goal.at.returns-in-None c).After-holder) (λ at after following. elim c.in-None.ensures.outside [ inl below ↦ absurd (omega arith) | inr above ↦ omega arith ])

@@ -14,7 +14,7 @@ use Rattle.block_bytes.proofs.Parts.{rear, IsIn-from}
 use Rattle.block_bytes.proofs.Recorded.{IsReadWhole, counted-stay, head-whole}
 use Rattle.block_bytes.proofs.Changes.{body-raw_block, size-body, header-raw_block, head-written, head-changed}
 use Rattle.block_bytes.proofs.Here.{IsHere-from}
-use Rattle.block_bytes.proofs.Counting.{kept-first, kept-written, free_in-small, can-count, none-lower, set-behind}
+use Rattle.block_bytes.proofs.Counting.{kept-first, kept-written, free_in-small, can-count, none-lower, set-after}
 use Rattle.block_bytes.proofs.blocks.Blocks.assign.Goals as goal
 
 -- how many bytes are over then
@@ -67,32 +67,32 @@ count_free-requires-clause-low c = let z = c.self.inside in let small = c.base-b
     let gained = c.free_bytes.ensures in let lost = c.free_bytes-2.ensures in let few = free_in-small header in let among = h.counted in
     none-lower z c.set_header.new.self c.set.new.self c.base-base.result ((c.args.at - c.base-base.result) / 4)
     (kept-written z z.memory c.set_header.new.self (c.args.at - c.base-base.result) (head_bytes c.heads-heads.result c.base-base.result header) (kept-first z c.self.invariant.layout small) c.set_header.ensures (omega arith))
-    c.base-base.ensures.value (set-behind z.index c.set.new.self _ _ ((c.args.at - c.base-base.result) / 4) c.set.ensures (omega arith))
+    c.base-base.ensures.value (set-after z.index c.set.new.self _ _ ((c.args.at - c.base-base.result) / 4) c.set.ensures (omega arith))
 
 -- what the fields stand for then
 assigned : (c : goal.After-count_free) (can : CanBe c.args.self.now c.args.at c.args.role c.args.length)
     → IsReadWhole (record c.self.inside { memory = c.count_free.new.memory; index = c.set.new.self; kept = c.note.new.kept })
-    (with_blocks (can.block.before ++ raw_block c.args.role c.args.length (body can.block.here) ∷ can.block.behind) c.args.self.now)
+    (with_blocks (can.block.before ++ raw_block c.args.role c.args.length (body can.block.here) ∷ can.block.after) c.args.self.now)
 assigned c can = let z = c.self.inside in let at = c.args.at in let n = c.args.length in let role = c.args.role in let r = c.entry_at-old.result in
     subst (λ (l : Layout). (can : CanBe l at role n) → ((b : BlockAt l at) → r ≡ header_of l.heads b.here)
     → IsReadWhole (record z { memory = c.count_free.new.memory; index = c.set.new.self; kept = c.note.new.kept })
-    (with_blocks (can.block.before ++ raw_block role n (body can.block.here) ∷ can.block.behind) l)) c.self.view_is
+    (with_blocks (can.block.before ++ raw_block role n (body can.block.here) ∷ can.block.after) l)) c.self.view_is
     (λ can entry.
-    let b = can.block in let new = raw_block role n (body b.here) in let i = IsIn-from z c.self.invariant.layout b.before b.here b.behind b.blocks in let place = b.place in
+    let b = can.block in let new = raw_block role n (body b.here) in let i = IsIn-from z c.self.invariant.layout b.before b.here b.after b.blocks in let place = b.place in
     let size = ap (λ (h : Header). h.size) (entry b) ∙ size-body z.spec.heads b.here in
     let heads_size = c.head_size.ensures ∙ ap head_size c.heads-heads.ensures in
     let said : Header = record { size = r.size; role = role; correction = r.size - c.head_size.result - n } in
     let header : said ≡ header_of z.spec.heads new =
     ap (λ (k : ℕ). record { size = r.size; role = role; correction = r.size - k - n }) heads_size ∙ header-raw_block z.spec.heads role n r.size (body b.here) size in
-    let read = head-changed z c.self.invariant.layout c.base-base.ensures.possible b.before b.here b.behind b.blocks can.unlent new c.set_header.new.self c.count_free.new.memory c.set.new.self c.base-base.result c.free_bytes.result c.free_bytes-2.result
+    let read = head-changed z c.self.invariant.layout c.base-base.ensures.possible b.before b.here b.after b.blocks can.unlent new c.set_header.new.self c.count_free.new.memory c.set.new.self c.base-base.result c.free_bytes.result c.free_bytes-2.result
     (body-raw_block role n (body b.here)) can.possible refl (ap (λ (m : State). m.name) c.set_header.ensures) (ap (λ (m : State). m.lent) c.set_header.ensures)
     (ap (λ (m : State). m.bytes) c.set_header.ensures
-    ∙ head-written z b.before (header_of z.spec.heads b.here) (body b.here ++ rear (layout_of z) b.behind) i.bytes (at - c.base-base.result) c.heads-heads.result c.base-base.result
+    ∙ head-written z b.before (header_of z.spec.heads b.here) (body b.here ++ rear (layout_of z) b.after) i.bytes (at - c.base-base.result) c.heads-heads.result c.base-base.result
     said (header_of z.spec.heads new) (omega arith) c.heads-heads.ensures c.base-base.ensures.value header)
     ((at - c.base-base.result) / 4) (omega arith) (c.set.ensures ∙ ap (λ (m : ℕ). set z.index ((at - c.base-base.result) / 4) m) (c.mark.ensures.value ∙ ap mark_in header))
     c.base-base.ensures.value (c.free_bytes.ensures ∙ ap free_in header) (c.free_bytes-2.ensures ∙ ap free_in (entry b)) c.count_free.ensures in
     let own = c.own_size.ensures ∙ (λ i. own_most (c.heads-heads.ensures i) (header i)) in
-    head-whole z c.self.invariant b.before (b.here ∷ []) new b.behind b.blocks read c.note.new.kept (at - c.base-base.result) c.own_size.result (omega arith) own c.note.ensures
+    head-whole z c.self.invariant b.before (b.here ∷ []) new b.after b.blocks read c.note.new.kept (at - c.base-base.result) c.own_size.result (omega arith) own c.note.ensures
     c.set_header.new.self c.heads-heads.result c.base-base.result said (ap head_size c.heads-heads.ensures) c.set_header.ensures
     (counted-stay c.set_header.new.self c.count_free.new.memory c.base-base.result c.free_bytes.result c.free_bytes-2.result (first_marked c.base-base.result c.set.new.self) c.count_free.ensures)) can c.entry_at-old.ensures
 

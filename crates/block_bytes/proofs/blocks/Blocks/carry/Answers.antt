@@ -18,7 +18,7 @@ use Rattle.block_bytes.proofs.Heads.{head-free}
 use Rattle.block_bytes.proofs.Parts.{IsRead}
 use Rattle.block_bytes.proofs.Settled.{counted}
 use Rattle.block_bytes.proofs.Changes.{mark-unlent}
-use Rattle.block_bytes.proofs.Counting.{IsKept, can-count, none-lower, set-behind}
+use Rattle.block_bytes.proofs.Counting.{IsKept, can-count, none-lower, set-after}
 use Rattle.block_bytes.proofs.Carrying.{HasMoved, AreUnlent, LiesFrom, with-last, unlent-first, lies-from, carried-used, carried-free, carried-marks, carried-read}
 use Rattle.block_bytes.proofs.Rotated.{length-shifted_down, shifted-before}
 use Rattle.block_bytes.proofs.Owned.{IsOff}
@@ -30,7 +30,7 @@ use Rattle.block_bytes.proofs.blocks.Blocks.carry.Goals.{After-set}
 
 -- the block that is carried
 abbrev carried_block : (l : Layout) (at end : ℕ) → ParcelAt l at end → BlockAt l at
-carried_block l at end parcel = record { before = parcel.before; here = parcel.here; behind = parcel.others ++ parcel.behind; blocks = parcel.blocks; place = parcel.place }
+carried_block l at end parcel = record { before = parcel.before; here = parcel.here; after = parcel.others ++ parcel.after; blocks = parcel.blocks; place = parcel.place }
 
 -- where the blocks lie
 record Lies (z : Inside) (at end : ℕ) (header : Header) : Type 0 where
@@ -39,7 +39,7 @@ record Lies (z : Inside) (at end : ℕ) (header : Header) : Type 0 where
 
 -- none of the blocks is lent
 are_unlent : (z : Inside) → IsLayout z → (at end : ℕ) (parcel : ParcelAt (layout_of z) at end) → AreUnlent z parcel.before parcel.others parcel.here
-are_unlent z whole at end parcel = unlent-first z whole parcel.before parcel.others parcel.behind parcel.here parcel.blocks parcel.unlent
+are_unlent z whole at end parcel = unlent-first z whole parcel.before parcel.others parcel.after parcel.here parcel.blocks parcel.unlent
 
 lies : (z : Inside) → IsLayout z → (l : Layout) → layout_of z ≡ l → (at end : ℕ) (header : Header) → ParcelAt l at end → ((b : BlockAt l at) → header ≡ header_of l.heads b.here) → Lies z at end header
 lies z whole l is at end header = subst (λ (m : Layout). ParcelAt m at end → ((b : BlockAt m at) → header ≡ header_of m.heads b.here) → Lies z at end header) is
@@ -47,7 +47,7 @@ lies z whole l is at end header = subst (λ (m : Layout). ParcelAt m at end → 
     let size : header.size ≡ size_of z.spec.heads parcel.here = ap (λ (h : Header). h.size) said in let a = are_unlent z whole at end parcel in
     record {
       long = omega arith;
-      from = lies-from z whole parcel.before parcel.others parcel.behind parcel.here a (parcel.here ∷ parcel.others) parcel.blocks (a.here_unlent, a.others_unlent) refl at header (end - at - header.size) (omega arith) said (omega arith);
+      from = lies-from z whole parcel.before parcel.others parcel.after parcel.here a (parcel.here ∷ parcel.others) parcel.blocks (a.here_unlent, a.others_unlent) refl at header (end - at - header.size) (omega arith) said (omega arith);
     })
 
 pub overflow_sub-count-2 : goal.overflow_sub-count-2
@@ -98,15 +98,15 @@ record HasCarried (z : Inside) (at end : ℕ) (heads : HeadKind) (base : ℕ) (h
   used : IsFalse (is_free header.role) → m ≡ with_bytes z.memory (at - base) (part z.memory.bytes (at - base + header.size) (end - at - header.size) ++ part z.memory.bytes (at - base) header.size)
 
 module _ (z : Inside) (whole : IsLayout z) (small : ArePossible z.spec) (at end : ℕ) (heads : HeadKind) (base : ℕ) (header : Header) (m : State) (t : HasCarried z at end heads base header m) where
-  -- the block stands behind the others in the memory
-  has_moved : (parcel : ParcelAt (layout_of z) at end) → header ≡ header_of z.spec.heads parcel.here → HasMoved z parcel.here (with-last parcel.before parcel.others parcel.behind) m
+  -- the block is after the others in the memory
+  has_moved : (parcel : ParcelAt (layout_of z) at end) → header ≡ header_of z.spec.heads parcel.here → HasMoved z parcel.here (with-last parcel.before parcel.others parcel.after) m
   has_moved parcel said = let place = parcel.place in let long = parcel.long in let is = t.base_is in
       let size : header.size ≡ size_of z.spec.heads parcel.here = ap (λ (h : Header). h.size) said in let a = are_unlent z whole at end parcel in
       let p = at - base in let c = end - at - header.size in
       by_case (is_free header.role)
-      (λ free. carried-free z whole small parcel.before parcel.others parcel.behind parcel.here a parcel.blocks p header.size c (omega arith) size (omega arith) m (sym (ap (λ (h : Header). is_free h.role) said) ∙ free)
+      (λ free. carried-free z whole small parcel.before parcel.others parcel.after parcel.here a parcel.blocks p header.size c (omega arith) size (omega arith) m (sym (ap (λ (h : Header). is_free h.role) said) ∙ free)
       (t.free free ∙ ap (with_bytes (with_bytes z.memory p (part z.memory.bytes (p + header.size) c)) (p + c)) (head-free heads 0 base header free ∙ (λ i. head_bytes (t.heads_is i) (t.base_is i) (said i)))))
-      (λ used. carried-used z whole small parcel.before parcel.others parcel.behind parcel.here a parcel.blocks p header.size c (omega arith) size (omega arith) m (t.used used))
+      (λ used. carried-used z whole small parcel.before parcel.others parcel.after parcel.here a parcel.blocks p header.size c (omega arith) size (omega arith) m (t.used used))
 
   -- the zone's header is as it was
   is_kept : (l : Layout) → layout_of z ≡ l → ParcelAt l at end → ((b : BlockAt l at) → header ≡ header_of l.heads b.here) → IsKept z m
@@ -132,17 +132,17 @@ module _ (z : Inside) (whole : IsLayout z) (small : ArePossible z.spec) (at end 
       subst (λ (l : Layout). (parcel : ParcelAt l at end) → ((b : BlockAt l at) → header ≡ header_of l.heads b.here) → IsDone l parcel n index kept) is
       (λ parcel entry. let said = entry (carried_block (layout_of z) at end parcel) in let place = parcel.place in let long = parcel.long in let base_is = t.base_is in
       let size : header.size ≡ size_of z.spec.heads parcel.here = ap (λ (h : Header). h.size) said in let a = are_unlent z whole at end parcel in
-      done parcel (has_moved parcel said) size (carried-read z whole small parcel.before parcel.others parcel.behind parcel.here a parcel.blocks (at - base) header.size (end - at - header.size) (omega arith) size (omega arith) m n index base
-      (has_moved parcel said) (marks ∙ carried-marks z whole small parcel.before parcel.others parcel.behind parcel.here a parcel.blocks (at - base) header.size (end - at - header.size) (omega arith) size (omega arith)
+      done parcel (has_moved parcel said) size (carried-read z whole small parcel.before parcel.others parcel.after parcel.here a parcel.blocks (at - base) header.size (end - at - header.size) (omega arith) size (omega arith) m n index base
+      (has_moved parcel said) (marks ∙ carried-marks z whole small parcel.before parcel.others parcel.after parcel.here a parcel.blocks (at - base) header.size (end - at - header.size) (omega arith) size (omega arith)
       (has_moved parcel said).moved (has_moved parcel said).same (mark_in header) (ap mark_in said ∙ sym (mark-unlent z.spec.heads parcel.here a.here_unlent))) base_is settles))
     where
-      done : (parcel : ParcelAt (layout_of z) at end) → (e : HasMoved z parcel.here (with-last parcel.before parcel.others parcel.behind) m) → header.size ≡ size_of z.spec.heads parcel.here
-          → IsRead (record z { memory = n; index = index }) (with_blocks (with-last parcel.before parcel.others parcel.behind e.moved) (layout_of z)) → IsDone (layout_of z) parcel n index kept
+      done : (parcel : ParcelAt (layout_of z) at end) → (e : HasMoved z parcel.here (with-last parcel.before parcel.others parcel.after) m) → header.size ≡ size_of z.spec.heads parcel.here
+          → IsRead (record z { memory = n; index = index }) (with_blocks (with-last parcel.before parcel.others parcel.after e.moved) (layout_of z)) → IsDone (layout_of z) parcel n index kept
       done parcel e size read =
           let p = parcel in let place = p.place in let long = p.long in let base_is = t.base_is in let head_is = ap head_size t.heads_is in
-          let joined : (p.others ++ e.moved ∷ []) ++ p.behind ≡ p.others ++ e.moved ∷ p.behind = append_assoc p.others (e.moved ∷ []) p.behind in
+          let joined : (p.others ++ e.moved ∷ []) ++ p.after ≡ p.others ++ e.moved ∷ p.after = append_assoc p.others (e.moved ∷ []) p.after in
           let total : total_of z.spec.heads (p.here ∷ p.others) ≡ size_of z.spec.heads p.here + total_of z.spec.heads p.others = refl in
-          let all = span-whole z recorded p.before (p.here ∷ p.others) (p.others ++ e.moved ∷ []) p.behind p.blocks
+          let all = span-whole z recorded p.before (p.here ∷ p.others) (p.others ++ e.moved ∷ []) p.after p.blocks
           (subst (λ (bs : List RawBlock). IsRead (record z { memory = n; index = index }) (with_blocks (p.before ++ bs) (layout_of z))) (sym joined) read)
           kept (at - base) (end - at) (omega arith) (omega arith) notes
           (λ i above off. counted-stay m n base 0 0 (first_marked base index) settles i above ∙ stays (omega arith) (omega arith) i off) in record {
@@ -177,7 +177,7 @@ count_free-requires-clause-low c = let lie = lies c.self.inside c.self.invariant
     none-lower c.self.inside c.carry.new.self c.set.new.self c.base-base.result place
     (is_kept c.self.inside c.self.invariant.layout c.base-base.ensures.possible c.args.at c.args.end c.heads-heads.result c.base-base.result c.entry_at-header.result c.carry.new.self
     (record { heads_is = c.heads-heads.ensures; base_is = c.base-base.ensures.value; free = c.carry.ensures.free; used = c.carry.ensures.used }) c.args.self.now c.self.view_is c.requires c.entry_at-header.ensures)
-    c.base-base.ensures.value (λ j before. set-behind c.shift_down.new.self c.set.new.self _ _ place c.set.ensures (omega arith) j before
+    c.base-base.ensures.value (λ j before. set-after c.shift_down.new.self c.set.new.self _ _ place c.set.ensures (omega arith) j before
     ∙ same_before c.self.inside c.args.at c.entry_at-header.result (c.args.end - c.args.at - c.entry_at-header.result.size) c.base-base.result c.shift_down.new.self lie.from c.base-base.ensures.value c.shift_down.ensures j before)
 
 -- so the call is done

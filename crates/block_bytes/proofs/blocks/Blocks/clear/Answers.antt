@@ -34,12 +34,12 @@ clear-requires-clause-free c =
 
 -- what the fields stand for then
 made_zero : (c : goal.After-clear) (b : BlockAt c.args.self.now c.args.at)
-    → IsReadWhole (record c.self.inside { memory = c.clear.new.self; kept = c.note_if.new.kept }) (with_blocks (b.before ++ cleared b.here ∷ b.behind) c.args.self.now)
+    → IsReadWhole (record c.self.inside { memory = c.clear.new.self; kept = c.note_if.new.kept }) (with_blocks (b.before ++ cleared b.here ∷ b.after) c.args.self.now)
 made_zero c b = let z = c.self.inside in let at = c.args.at in let h = c.entry_at-header.result in let k = c.head_size-head_size.result in
     let e = ap head_size c.heads.ensures in
-    subst (λ (m : State). IsReadWhole (record z { memory = m; kept = c.note_if.new.kept }) (with_blocks (b.before ++ cleared b.here ∷ b.behind) c.args.self.now)) (sym c.clear.ensures)
+    subst (λ (m : State). IsReadWhole (record z { memory = m; kept = c.note_if.new.kept }) (with_blocks (b.before ++ cleared b.here ∷ b.after) c.args.self.now)) (sym c.clear.ensures)
     (subst (λ (l : Layout). (b : BlockAt l at) → h ≡ header_of l.heads b.here → b.here.lent ≡ false
-    → IsReadWhole (record z { memory = with_bytes z.memory (at - c.base.result + k) (replicate (h.size - k - h.correction) 0); kept = c.note_if.new.kept }) (with_blocks (b.before ++ cleared b.here ∷ b.behind) l)) c.self.view_is
+    → IsReadWhole (record z { memory = with_bytes z.memory (at - c.base.result + k) (replicate (h.size - k - h.correction) 0); kept = c.note_if.new.kept }) (with_blocks (b.before ++ cleared b.here ∷ b.after) l)) c.self.view_is
     (λ b is unlent. cleared-read z c.self.invariant c.base.ensures.possible at h (at - c.base.result + k) (h.size - k - h.correction) b is unlent (omega arith) (omega arith) c.note_if.new.kept (c.note_if.ensures ∙ ap (λ (t : Bool). if t then all_noted z.kept else z.kept) c.is_master.ensures)) b (c.entry_at-header.ensures b) (same-lent c.args.self.now at c.requires.block b c.requires.unlent))
 
 pub invariant_of-self : goal.invariant_of-self

@@ -39,12 +39,12 @@ clear-requires-clause-free c =
 
 -- what the fields stand for then
 made_zero : (c : goal.After-clear) (can : CanClear c.args.self.now c.args.at c.args.from)
-    → IsReadWhole (record c.self.inside { memory = c.clear.new.self; kept = c.note_if.new.kept }) (with_blocks (can.block.before ++ cleared_from can.block.here c.args.from ∷ can.block.behind) c.args.self.now)
+    → IsReadWhole (record c.self.inside { memory = c.clear.new.self; kept = c.note_if.new.kept }) (with_blocks (can.block.before ++ cleared_from can.block.here c.args.from ∷ can.block.after) c.args.self.now)
 made_zero c can = let z = c.self.inside in let at = c.args.at in let h = c.entry_at-header.result in let k = c.head_size-head_size.result in let from = c.args.from in
     let e = ap head_size c.heads.ensures in
-    subst (λ (m : State). IsReadWhole (record z { memory = m; kept = c.note_if.new.kept }) (with_blocks (can.block.before ++ cleared_from can.block.here from ∷ can.block.behind) c.args.self.now)) (sym c.clear.ensures)
+    subst (λ (m : State). IsReadWhole (record z { memory = m; kept = c.note_if.new.kept }) (with_blocks (can.block.before ++ cleared_from can.block.here from ∷ can.block.after) c.args.self.now)) (sym c.clear.ensures)
     (subst (λ (l : Layout). (b : BlockAt l at) → from ≤ length b.here.contents → h ≡ header_of l.heads b.here → b.here.lent ≡ false
-    → IsReadWhole (record z { memory = with_bytes z.memory (at - c.base.result + k + from) (replicate (h.size - k - h.correction - from) 0); kept = c.note_if.new.kept }) (with_blocks (b.before ++ cleared_from b.here from ∷ b.behind) l)) c.self.view_is
+    → IsReadWhole (record z { memory = with_bytes z.memory (at - c.base.result + k + from) (replicate (h.size - k - h.correction - from) 0); kept = c.note_if.new.kept }) (with_blocks (b.before ++ cleared_from b.here from ∷ b.after) l)) c.self.view_is
     (λ b within is unlent. let size = ap (λ (h : Header). h.size) is in let slack = ap (λ (h : Header). h.correction) is in
     cleared-part z c.self.invariant c.base.ensures.possible at h (at - c.base.result + k) (h.size - k - h.correction) b is unlent (omega arith) (omega arith) c.note_if.new.kept (c.note_if.ensures ∙ ap (λ (t : Bool). if t then all_noted z.kept else z.kept) c.is_master.ensures) from (omega arith)) can.block can.within (c.entry_at-header.ensures can.block) can.unlent)
 

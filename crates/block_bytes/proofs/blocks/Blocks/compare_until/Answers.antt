@@ -6,7 +6,7 @@ use Rattle.mac_base.specs.declared.block.HeadKind.{HeadKind}
 use Rattle.mac_base.specs.HeadKind.{head_size}
 use Rattle.block_bytes.specs.declared.header.Header.{Header}
 use Rattle.block_bytes.specs.Head.{header_in}
-use Rattle.block_bytes.specs.Layout.{Layout, address_behind, size_of}
+use Rattle.block_bytes.specs.Layout.{Layout, address_after, size_of}
 use Rattle.block_bytes.specs.Structure.{is_master}
 use Rattle.block_bytes.proofs.Comparing.{NextAt, agree-up_to, compared-all, compared-more, compared-none, enough-bytes, next-at, same-here}
 use Rattle.block_bytes.proofs.blocks.Blocks.compare_until.Goals as goal
@@ -106,7 +106,7 @@ loop-at-preserved c =
 pub returns : goal.returns
 returns c = λ s.
     let base = base_is (goal.at.returns c).After-size in let value = c.base-base.ensures.value in let size = c.size.ensures.value in let ends = c.self.invariant.layout.ends in
-    let end = ap (λ (l : Layout). address_behind l l.blocks) c.self.view_is in let above = c.loop-at-test.false in
+    let end = ap (λ (l : Layout). address_after l l.blocks) c.self.view_is in let above = c.loop-at-test.false in
     let least = c.min-stop.ensures in let left = c.saturating_sub.ensures in
     compared-all c.args.self.now c.args.bytes.now c.args.from c.args.end c.loop-at.at c.loop-at.invariant s
     (elim (cases_lt (c.args.self.now.base + c.loop-at.at) c.args.end) [ inl low ↦ inl (omega arith) | inr high ↦ inr high ])

@@ -34,5 +34,5 @@ returns c = λ b. let at = c.args.at in let h = c.entry_at-header.result in
     let size : h.size ≡ size_of c.self.inside.spec.heads b.here = ap (λ (h : Header). h.size) is in let slack : h.correction ≡ length b.here.slack = ap (λ (h : Header). h.correction) is in
     let e = ap head_size c.heads.ensures in let place = b.place in
     c.bytes.ensures
-    ∙ contents-read c.self.inside c.self.invariant.layout b.before b.here b.behind b.blocks (c.args.at - c.base.result + c.head_size-head_size.result)
+    ∙ contents-read c.self.inside c.self.invariant.layout b.before b.here b.after b.blocks (c.args.at - c.base.result + c.head_size-head_size.result)
     (h.size - c.head_size-head_size.result - h.correction) (omega arith) (omega arith)) b (c.entry_at-header.ensures b)

@@ -56,7 +56,7 @@ returns c = let at = c.args.at in let h = c.entry_at-header.result in let k = c.
             let size : h.size ≡ size_of c.self.inside.spec.heads b.here = ap (λ (h : Header). h.size) is in let slack : h.correction ≡ length b.here.slack = ap (λ (h : Header). h.correction) is in
             let place = b.place in
             c.bytes_mut.ensures.value
-            ∙ contents-read c.self.inside c.self.invariant.layout b.before b.here b.behind b.blocks (at - c.base.result + k) (h.size - k - h.correction)
+            ∙ contents-read c.self.inside c.self.invariant.layout b.before b.here b.after b.blocks (at - c.base.result + k) (h.size - k - h.correction)
             (omega arith) (omega arith));
       },
     )

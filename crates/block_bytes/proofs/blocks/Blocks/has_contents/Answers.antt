@@ -15,7 +15,7 @@ read c = read-there c.self.inside c.self.invariant.layout c.base-base.ensures.po
 -- the block by its address as the code has it
 abbrev there : (c : After-base-base) → BlockAt c.args.self.now (c.args.self.now.base + c.args.at) → BlockAt c.args.self.now (c.base-base.result + c.args.at)
 there c b = let base = ap (λ (l : Layout). l.base) c.self.view_is in let value = c.base-base.ensures.value in let place = b.place in
-    record { before = b.before; here = b.here; behind = b.behind; blocks = b.blocks; place = omega arith }
+    record { before = b.before; here = b.here; after = b.after; blocks = b.blocks; place = omega arith }
 
 pub overflow_cast-at : goal.overflow_cast-at
 overflow_cast-at c =

@@ -1,6 +1,6 @@
 use Rattle.std.proofs.Common.{◌≡◌, ℕ, ◌+◌, ◌≤◌, true, false, refl, ap, subst, arith}
 use Rattle.mac_base.specs.HeadKind.{zone_header}
-use Rattle.block_bytes.specs.Layout.{Layout, address_behind, total_of}
+use Rattle.block_bytes.specs.Layout.{Layout, address_after, total_of}
 use Rattle.block_bytes.specs.Structure.{OwnBetween}
 use Rattle.block_bytes.proofs.OwnPassed.{left-smaller, own-all, own-chain, own-inside, own-split, own-start, split-inside}
 use Rattle.block_bytes.proofs.blocks.Blocks.has_own_bytes.Goals as goal
@@ -9,7 +9,7 @@ use Rattle.block_bytes.proofs.blocks.Blocks.has_own_bytes.Goals.{After-size}
 -- the last walk ends where the last block does
 end-is : (c : After-size) → c.size.result ≡ zone_header + total_of c.args.self.now.heads c.args.self.now.blocks
 end-is c =
-    let value = c.size.ensures.value in let ends = c.self.invariant.layout.ends in let end = ap (λ (l : Layout). address_behind l l.blocks) c.self.view_is in
+    let value = c.size.ensures.value in let ends = c.self.invariant.layout.ends in let end = ap (λ (l : Layout). address_after l l.blocks) c.self.view_is in
     let base = ap (λ (l : Layout). l.base) c.self.view_is in omega arith
 
 pub loop-heads-init : goal.loop-heads-init

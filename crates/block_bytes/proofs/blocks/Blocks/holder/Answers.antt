@@ -1,6 +1,6 @@
 use Rattle.std.proofs.Common.{◌≡◌, ◌+◌, ◌*◌, ◌-◌, ◌/◌, ◌<◌, ℕ, slice_index, ap, ◌∙◌, sym, subst, arith}
 use Rattle.place_numbers.specs.Numbers.{LastAtLeast}
-use Rattle.block_bytes.specs.Layout.{Layout, address_behind}
+use Rattle.block_bytes.specs.Layout.{Layout, address_after}
 use Rattle.block_bytes.specs.Reading.{layout_of}
 use Rattle.block_bytes.specs.Finding.{HoldsByte}
 use Rattle.block_bytes.specs.declared.blocks.Blocks.TheInside.{Inside}
@@ -9,8 +9,8 @@ use Rattle.block_bytes.proofs.Holders.{holds-at, some-at}
 use Rattle.block_bytes.proofs.blocks.Blocks.holder.Goals as goal
 
 -- where the blocks of the value end
-end_is : (z : Inside) (l : Layout) → layout_of z ≡ l → address_behind (layout_of z) (layout_of z).blocks ≡ z.spec.base + z.spec.size → (end : ℕ) → end ≡ address_behind l l.blocks → end ≡ z.spec.base + z.spec.size
-end_is z l is ends end that = that ∙ sym (ap (λ (m : Layout). address_behind m m.blocks) is) ∙ ends
+end_is : (z : Inside) (l : Layout) → layout_of z ≡ l → address_after (layout_of z) (layout_of z).blocks ≡ z.spec.base + z.spec.size → (end : ℕ) → end ≡ address_after l l.blocks → end ≡ z.spec.base + z.spec.size
+end_is z l is ends end that = that ∙ sym (ap (λ (m : Layout). address_after m m.blocks) is) ∙ ends
 
 pub last_some-requires : goal.last_some-requires
 last_some-requires c =

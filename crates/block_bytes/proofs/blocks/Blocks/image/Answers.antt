@@ -2,7 +2,7 @@ use Rattle.std.proofs.Common.{◌≡◌, ◌+◌, ◌-◌, ◌++◌, List, lengt
 use Rattle.mac_base.specs.HeadKind.{zone_header}
 use Rattle.raw_region.specs.Bytes.{part}
 use Rattle.raw_region.specs.Span.{Span, IsFree}
-use Rattle.block_bytes.specs.Layout.{Layout, lent_count, header_bytes, rendered, zone_bytes, size_of, address_behind}
+use Rattle.block_bytes.specs.Layout.{Layout, lent_count, header_bytes, rendered, zone_bytes, size_of, address_after}
 use Rattle.block_bytes.specs.Reading.{layout_of}
 use Rattle.block_bytes.specs.Walk.{Walks}
 use Rattle.block_bytes.proofs.Parts.{total-ends, length-header}
@@ -16,7 +16,7 @@ size_is : (c : goal.After-base) → c.end.result - c.base.result ≡ c.self.insi
 size_is c =
     let ends = c.self.invariant.layout.ends in
     let base = c.base.ensures.value in
-    let end : c.end.result ≡ address_behind (layout_of c.self.inside) (layout_of c.self.inside).blocks = c.end.ensures ∙ ap (λ (l : Layout). address_behind l l.blocks) (sym c.self.view_is) in
+    let end : c.end.result ≡ address_after (layout_of c.self.inside) (layout_of c.self.inside).blocks = c.end.ensures ∙ ap (λ (l : Layout). address_after l l.blocks) (sym c.self.view_is) in
     omega arith
 
 pub bytes-requires-clause-inside : goal.bytes-requires-clause-inside
@@ -37,7 +37,7 @@ bytes_are c =
     let front = header_bytes l ++ rendered l.heads l.base l.blocks in
     let ends = c.self.invariant.layout.ends in
     let base = c.base.ensures.value in
-    let end : c.end.result ≡ address_behind l l.blocks = c.end.ensures ∙ ap (λ (l : Layout). address_behind l l.blocks) (sym c.self.view_is) in
+    let end : c.end.result ≡ address_after l l.blocks = c.end.ensures ∙ ap (λ (l : Layout). address_after l l.blocks) (sym c.self.view_is) in
     let long : length front ≡ c.self.inside.spec.size =
     length-append (header_bytes l) (rendered l.heads l.base l.blocks) ∙ ap (λ n. n + length (rendered l.heads l.base l.blocks)) (length-header l)
     ∙ ap (λ n. zone_header + n) (length-rendered l.heads l.base l.blocks) ∙ total-ends c.self.inside c.self.invariant.layout in

@@ -1,6 +1,6 @@
 use Rattle.std.proofs.Common.{◌≡◌, ◌+◌, ◌-◌, ◌*◌, ◌/◌, ◌<◌, ℕ, [], sym, subst, arith, IsTrue}
 use Rattle.mac_base.specs.HeadKind.{zone_header}
-use Rattle.block_bytes.specs.Layout.{Layout, address_behind}
+use Rattle.block_bytes.specs.Layout.{Layout, address_after}
 use Rattle.block_bytes.specs.Finding.{SplitAt, LastFree, none_free}
 use Rattle.block_bytes.specs.Reading.{layout_of}
 use Rattle.block_bytes.proofs.NextFree.{are-split}
@@ -38,8 +38,8 @@ overflow_add-result c = let b = (below-end c).below in
 pub returns-clause-last : goal.returns-clause-last
 returns-clause-last c =
     let z = c.self.inside in let there = c.base-base.result + 4 * c.in_ok-place.place in
-    subst (λ (l : Layout). (split : SplitAt l c.args.end) → LastFree l.heads split.before (address_behind l []) there) c.self.view_is
-    (λ split. subst (λ (n : ℕ). LastFree z.spec.heads split.before n there) (let e : z.spec.base + zone_header ≡ address_behind (layout_of z) [] = omega arith in e)
+    subst (λ (l : Layout). (split : SplitAt l c.args.end) → LastFree l.heads split.before (address_after l []) there) c.self.view_is
+    (λ split. subst (λ (n : ℕ). LastFree z.spec.heads split.before n there) (let e : z.spec.base + zone_header ≡ address_after (layout_of z) [] = omega arith in e)
     (subst (λ (n : ℕ). LastFree z.spec.heads split.before (z.spec.base + zone_header) (n + 4 * c.in_ok-place.place)) (sym c.base-base.ensures.value) (found c split).0))
 
 pub last_most-requires : goal.last_most-requires

@@ -7,7 +7,7 @@ use Rattle.block_bytes.proofs.blocks.Blocks.next_free.Goals as goal
 
 -- what was found
 found : (c : goal.In_ok-place) (split : SplitAt (layout_of c.self.inside) c.args.from)
-    → FirstFree c.self.inside.spec.heads split.behind c.args.from (c.self.inside.spec.base + 4 * c.in_ok-place.place) × (4 * c.in_ok-place.place < c.self.inside.spec.size)
+    → FirstFree c.self.inside.spec.heads split.after c.args.from (c.self.inside.spec.base + 4 * c.in_ok-place.place) × (4 * c.in_ok-place.place < c.self.inside.spec.size)
 found c split = let base_is = c.base-base.ensures.value in
     next-at c.self.inside c.self.invariant.layout c.args.from split ((c.args.from - c.base-base.result) / 4) (omega arith) c.in_ok-place.place c.in_ok-place.ensures.first
 
@@ -20,7 +20,7 @@ below-end c = record { below = (found c (subst (λ (l : Layout). SplitAt l c.arg
 
 pub returns-in_err-place-clause-none : goal.returns-in_err-place-clause-none
 returns-in_err-place-clause-none c = let base_is = c.base-base.ensures.value in
-    rw c.from_residual.ensures (subst (λ (l : Layout). (split : SplitAt l c.args.from) → IsTrue (none_free split.behind)) c.self.view_is
+    rw c.from_residual.ensures (subst (λ (l : Layout). (split : SplitAt l c.args.from) → IsTrue (none_free split.after)) c.self.view_is
     (λ split. none-next c.self.inside c.self.invariant.layout c.args.from split ((c.args.from - c.base-base.result) / 4) (omega arith) c.in_err-place.ensures.none))
 
 pub overflow_cast-result : goal.overflow_cast-result
@@ -35,5 +35,5 @@ overflow_add-result c = let b = (below-end c).below in
 
 pub returns-clause-next : goal.returns-clause-next
 returns-clause-next c =
-    subst (λ (l : Layout). (split : SplitAt l c.args.from) → FirstFree l.heads split.behind c.args.from (c.base-base.result + 4 * c.in_ok-place.place)) c.self.view_is
-    (λ split. subst (λ (n : ℕ). FirstFree c.self.inside.spec.heads split.behind c.args.from (n + 4 * c.in_ok-place.place)) (sym c.base-base.ensures.value) (found c split).0)
+    subst (λ (l : Layout). (split : SplitAt l c.args.from) → FirstFree l.heads split.after c.args.from (c.base-base.result + 4 * c.in_ok-place.place)) c.self.view_is
+    (λ split. subst (λ (n : ℕ). FirstFree c.self.inside.spec.heads split.after c.args.from (n + 4 * c.in_ok-place.place)) (sym c.base-base.ensures.value) (found c split).0)

@@ -15,4 +15,4 @@ returns c = λ can.
     let role : c.entry_at-role.result.role ≡ can.block.here.role = ap (λ (h : Header). h.role) (c.entry_at-role.ensures can.block) in
     let able : CanBe c.args.self.now c.args.at c.entry_at-role.result.role c.args.length =
     record { block = can.block; within = can.within; possible = subst (λ (r : Role). IsTrue (is_possible c.args.self.now.heads (raw_block r c.args.length (body can.block.here)))) (sym role) can.possible; unlent = can.unlent } in
-    c.assign.ensures able ∙ ap (λ (r : Role). with_blocks (can.block.before ++ raw_block r c.args.length (body can.block.here) ∷ can.block.behind) c.args.self.now) role
+    c.assign.ensures able ∙ ap (λ (r : Role). with_blocks (can.block.before ++ raw_block r c.args.length (body can.block.here) ∷ can.block.after) c.args.self.now) role

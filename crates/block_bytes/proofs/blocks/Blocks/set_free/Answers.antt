@@ -28,4 +28,4 @@ returns c = λ b.
     let all = subst (λ (l : Layout). IsTrue (list_all (is_possible l.heads) l.blocks)) c.self.view_is c.self.invariant.layout.possible in
     let able : CanBe c.args.self.now c.args.at Free (c.entry_at.result.size - c.head_size.result) =
     record { block = b; within = omega arith; possible = possible-free c.args.self.now.heads b.here (c.entry_at.result.size - c.head_size.result) long (block-passes c.args.self.now c.args.at (is_possible c.args.self.now.heads) b all); unlent = same-lent c.args.self.now c.args.at c.requires.block b c.requires.unlent } in
-    c.assign.ensures able ∙ ap (λ h. with_blocks (b.before ++ h ∷ b.behind) c.args.self.now) (ap (λ n. raw_block Free n (body b.here)) long ∙ held-free (body b.here))
+    c.assign.ensures able ∙ ap (λ h. with_blocks (b.before ++ h ∷ b.after) c.args.self.now) (ap (λ n. raw_block Free n (body b.here)) long ∙ held-free (body b.here))

@@ -30,21 +30,21 @@ set_header-requires-clause-correction c = let h = IsHere-from c.self.inside c.se
 
 -- what the fields stand for then
 turned : (c : goal.After-set_header) (can : CanTurn c.args.self.now c.args.at c.args.role)
-    → IsReadWhole (record c.self.inside { memory = c.set_header.new.self; kept = c.note.new.kept }) (with_blocks (can.block.before ++ in_role can.block.here c.args.role ∷ can.block.behind) c.args.self.now)
+    → IsReadWhole (record c.self.inside { memory = c.set_header.new.self; kept = c.note.new.kept }) (with_blocks (can.block.before ++ in_role can.block.here c.args.role ∷ can.block.after) c.args.self.now)
 turned c can = let z = c.self.inside in let at = c.args.at in let role = c.args.role in let r = c.entry_at-old.result in
     subst (λ (l : Layout). (can : CanTurn l at role) → ((b : BlockAt l at) → r ≡ header_of l.heads b.here)
-    → IsReadWhole (record z { memory = c.set_header.new.self; kept = c.note.new.kept }) (with_blocks (can.block.before ++ in_role can.block.here role ∷ can.block.behind) l)) c.self.view_is
+    → IsReadWhole (record z { memory = c.set_header.new.self; kept = c.note.new.kept }) (with_blocks (can.block.before ++ in_role can.block.here role ∷ can.block.after) l)) c.self.view_is
     (λ can entry.
-    let b = can.block in let new = in_role b.here role in let i = IsIn-from z c.self.invariant.layout b.before b.here b.behind b.blocks in let place = b.place in
+    let b = can.block in let new = in_role b.here role in let i = IsIn-from z c.self.invariant.layout b.before b.here b.after b.blocks in let place = b.place in
     let said : Header = record { size = r.size; role = role; correction = r.correction } in
     let header : said ≡ header_of z.spec.heads new = ap (λ (h : Header). record h { role = role }) (entry b) in
-    let read = role-changed z c.self.invariant.layout c.base-base.ensures.possible b.before b.here b.behind b.blocks role can.possible can.same c.set_header.new.self
+    let read = role-changed z c.self.invariant.layout c.base-base.ensures.possible b.before b.here b.after b.blocks role can.possible can.same c.set_header.new.self
     (ap (λ (m : State). m.name) c.set_header.ensures) (ap (λ (m : State). m.lent) c.set_header.ensures)
     (ap (λ (m : State). m.bytes) c.set_header.ensures
-    ∙ head-written z b.before (header_of z.spec.heads b.here) (body b.here ++ rear (layout_of z) b.behind) i.bytes (at - c.base-base.result) c.heads-heads.result c.base-base.result
+    ∙ head-written z b.before (header_of z.spec.heads b.here) (body b.here ++ rear (layout_of z) b.after) i.bytes (at - c.base-base.result) c.heads-heads.result c.base-base.result
     said (header_of z.spec.heads new) (omega arith) c.heads-heads.ensures c.base-base.ensures.value header) in
     let own = c.own_size.ensures ∙ (λ i. own_most (c.heads-heads.ensures i) (header i)) in
-    head-whole z c.self.invariant b.before (b.here ∷ []) new b.behind b.blocks read c.note.new.kept (at - c.base-base.result) c.own_size.result (omega arith) own c.note.ensures
+    head-whole z c.self.invariant b.before (b.here ∷ []) new b.after b.blocks read c.note.new.kept (at - c.base-base.result) c.own_size.result (omega arith) own c.note.ensures
     c.set_header.new.self c.heads-heads.result c.base-base.result said (ap head_size c.heads-heads.ensures) c.set_header.ensures (λ i above. refl)) can c.entry_at-old.ensures
 
 pub invariant_of-self : goal.invariant_of-self

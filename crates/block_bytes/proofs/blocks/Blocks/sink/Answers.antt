@@ -19,7 +19,7 @@ use Rattle.block_bytes.proofs.Rendered.{total_of-append}
 use Rattle.block_bytes.proofs.Parts.{IsRead}
 use Rattle.block_bytes.proofs.Settled.{counted}
 use Rattle.block_bytes.proofs.Changes.{mark-unlent}
-use Rattle.block_bytes.proofs.Counting.{IsKept, can-count, none-lower, set-behind}
+use Rattle.block_bytes.proofs.Counting.{IsKept, can-count, none-lower, set-after}
 use Rattle.block_bytes.proofs.Carrying.{HasMoved, AreUnlent, LiesFrom, with-first, more-unlent, unlent-last, lies-from, sunk-used, sunk-free, sunk-marks, sunk-read}
 use Rattle.block_bytes.proofs.Rotated.{length-shifted_up, shifted-before}
 use Rattle.block_bytes.proofs.Owned.{IsOff}
@@ -34,22 +34,22 @@ abbrev sunk_block : (l : Layout) (start at : ℕ) → ParcelUpTo l start at → 
 sunk_block l start at parcel = let sum = total_of-append l.heads parcel.before parcel.others in let place = parcel.place in let long = parcel.long in record {
   before = parcel.before ++ parcel.others;
   here = parcel.here;
-  behind = parcel.behind;
-  blocks = parcel.blocks ∙ sym (append_assoc parcel.before parcel.others (parcel.here ∷ parcel.behind));
+  after = parcel.after;
+  blocks = parcel.blocks ∙ sym (append_assoc parcel.before parcel.others (parcel.here ∷ parcel.after));
   place = omega arith;
 }
 
 -- none of the blocks is lent
 are_unlent : (z : Inside) → IsLayout z → (start at : ℕ) (parcel : ParcelUpTo (layout_of z) start at) → AreUnlent z parcel.before parcel.others parcel.here
-are_unlent z whole start at parcel = unlent-last z whole parcel.before parcel.others parcel.behind parcel.here parcel.blocks parcel.unlent
+are_unlent z whole start at parcel = unlent-last z whole parcel.before parcel.others parcel.after parcel.here parcel.blocks parcel.unlent
 
 -- where they lie
 lies : (z : Inside) → IsLayout z → (l : Layout) → layout_of z ≡ l → (start at : ℕ) (header : Header) → ParcelUpTo l start at → ((b : BlockAt l at) → header ≡ header_of l.heads b.here) → LiesFrom z start header (at - start)
 lies z whole l is start at header = subst (λ (m : Layout). ParcelUpTo m start at → ((b : BlockAt m at) → header ≡ header_of m.heads b.here) → LiesFrom z start header (at - start)) is
     (λ parcel entry. let said = entry (sunk_block (layout_of z) start at parcel) in let long = parcel.long in
     let a = are_unlent z whole start at parcel in let sum = total_of-append z.spec.heads parcel.others (parcel.here ∷ []) in
-    lies-from z whole parcel.before parcel.others parcel.behind parcel.here a (parcel.others ++ parcel.here ∷ [])
-    (parcel.blocks ∙ ap (λ (bs : List RawBlock). parcel.before ++ bs) (sym (append_assoc parcel.others (parcel.here ∷ []) parcel.behind)))
+    lies-from z whole parcel.before parcel.others parcel.after parcel.here a (parcel.others ++ parcel.here ∷ [])
+    (parcel.blocks ∙ ap (λ (bs : List RawBlock). parcel.before ++ bs) (sym (append_assoc parcel.others (parcel.here ∷ []) parcel.after)))
     (more-unlent parcel.others parcel.here a.others_unlent a.here_unlent) (omega arith) start header (at - start) parcel.place said (omega arith))
 
 pub entry_at-header-requires : goal.entry_at-header-requires
@@ -103,15 +103,15 @@ record HasSunk (z : Inside) (start at : ℕ) (heads : HeadKind) (base : ℕ) (he
   used : IsFalse (is_free header.role) → m ≡ with_bytes z.memory (start - base) (part z.memory.bytes (start - base + (at - start)) header.size ++ part z.memory.bytes (start - base) (at - start))
 
 module _ (z : Inside) (whole : IsLayout z) (small : ArePossible z.spec) (start at : ℕ) (heads : HeadKind) (base : ℕ) (header : Header) (m : State) (t : HasSunk z start at heads base header m) where
-  -- the block stands before the others in the memory
-  has_moved : (parcel : ParcelUpTo (layout_of z) start at) → header ≡ header_of z.spec.heads parcel.here → HasMoved z parcel.here (with-first parcel.before parcel.others parcel.behind) m
+  -- the block is before the others in the memory
+  has_moved : (parcel : ParcelUpTo (layout_of z) start at) → header ≡ header_of z.spec.heads parcel.here → HasMoved z parcel.here (with-first parcel.before parcel.others parcel.after) m
   has_moved parcel said = let place = parcel.place in let long = parcel.long in let is = t.base_is in
       let size : header.size ≡ size_of z.spec.heads parcel.here = ap (λ (h : Header). h.size) said in let a = are_unlent z whole start at parcel in
       let p = start - base in let c = at - start in
       by_case (is_free header.role)
-      (λ free. sunk-free z whole small parcel.before parcel.others parcel.behind parcel.here a parcel.blocks p header.size c (omega arith) size (omega arith) m (sym (ap (λ (h : Header). is_free h.role) said) ∙ free)
+      (λ free. sunk-free z whole small parcel.before parcel.others parcel.after parcel.here a parcel.blocks p header.size c (omega arith) size (omega arith) m (sym (ap (λ (h : Header). is_free h.role) said) ∙ free)
       (t.free free ∙ ap (with_bytes (with_bytes z.memory (p + header.size) (part z.memory.bytes p c)) p) (head-free heads 0 base header free ∙ (λ i. head_bytes (t.heads_is i) (t.base_is i) (said i)))))
-      (λ used. sunk-used z whole small parcel.before parcel.others parcel.behind parcel.here a parcel.blocks p header.size c (omega arith) size (omega arith) m (t.used used))
+      (λ used. sunk-used z whole small parcel.before parcel.others parcel.after parcel.here a parcel.blocks p header.size c (omega arith) size (omega arith) m (t.used used))
 
   -- the zone's header is as it was
   is_kept : (l : Layout) → layout_of z ≡ l → ParcelUpTo l start at → ((b : BlockAt l at) → header ≡ header_of l.heads b.here) → IsKept z m
@@ -137,17 +137,17 @@ module _ (z : Inside) (whole : IsLayout z) (small : ArePossible z.spec) (start a
       subst (λ (l : Layout). (parcel : ParcelUpTo l start at) → ((b : BlockAt l at) → header ≡ header_of l.heads b.here) → IsDone l parcel n index kept) is
       (λ parcel entry. let said = entry (sunk_block (layout_of z) start at parcel) in let place = parcel.place in let long = parcel.long in let base_is = t.base_is in
       let size : header.size ≡ size_of z.spec.heads parcel.here = ap (λ (h : Header). h.size) said in let a = are_unlent z whole start at parcel in
-      done parcel (has_moved parcel said) size (sunk-read z whole small parcel.before parcel.others parcel.behind parcel.here a parcel.blocks (start - base) header.size (at - start) (omega arith) size (omega arith) m n index base
-      (has_moved parcel said) (marks ∙ sunk-marks z whole small parcel.before parcel.others parcel.behind parcel.here a parcel.blocks (start - base) header.size (at - start) (omega arith) size (omega arith)
+      done parcel (has_moved parcel said) size (sunk-read z whole small parcel.before parcel.others parcel.after parcel.here a parcel.blocks (start - base) header.size (at - start) (omega arith) size (omega arith) m n index base
+      (has_moved parcel said) (marks ∙ sunk-marks z whole small parcel.before parcel.others parcel.after parcel.here a parcel.blocks (start - base) header.size (at - start) (omega arith) size (omega arith)
       (has_moved parcel said).moved (has_moved parcel said).same (mark_in header) (ap mark_in said ∙ sym (mark-unlent z.spec.heads parcel.here a.here_unlent))) base_is settles))
     where
-      done : (parcel : ParcelUpTo (layout_of z) start at) → (e : HasMoved z parcel.here (with-first parcel.before parcel.others parcel.behind) m) → header.size ≡ size_of z.spec.heads parcel.here
-          → IsRead (record z { memory = n; index = index }) (with_blocks (with-first parcel.before parcel.others parcel.behind e.moved) (layout_of z)) → IsDone (layout_of z) parcel n index kept
+      done : (parcel : ParcelUpTo (layout_of z) start at) → (e : HasMoved z parcel.here (with-first parcel.before parcel.others parcel.after) m) → header.size ≡ size_of z.spec.heads parcel.here
+          → IsRead (record z { memory = n; index = index }) (with_blocks (with-first parcel.before parcel.others parcel.after e.moved) (layout_of z)) → IsDone (layout_of z) parcel n index kept
       done parcel e size read =
           let p = parcel in let place = p.place in let long = p.long in let base_is = t.base_is in let head_is = ap head_size t.heads_is in
-          let joined : (p.others ++ p.here ∷ []) ++ p.behind ≡ p.others ++ p.here ∷ p.behind = append_assoc p.others (p.here ∷ []) p.behind in
+          let joined : (p.others ++ p.here ∷ []) ++ p.after ≡ p.others ++ p.here ∷ p.after = append_assoc p.others (p.here ∷ []) p.after in
           let total = total_of-append z.spec.heads p.others (p.here ∷ []) in
-          let all = span-whole z recorded p.before (p.others ++ p.here ∷ []) (e.moved ∷ p.others) p.behind (p.blocks ∙ ap (λ (bs : List RawBlock). p.before ++ bs) (sym joined)) read
+          let all = span-whole z recorded p.before (p.others ++ p.here ∷ []) (e.moved ∷ p.others) p.after (p.blocks ∙ ap (λ (bs : List RawBlock). p.before ++ bs) (sym joined)) read
           kept (start - base) (at - start + header.size) (omega arith) (omega arith) notes
           (λ i above off. counted-stay m n base 0 0 (first_marked base index) settles i above ∙ stays (omega arith) (omega arith) i off) in record {
             sunk = record { moved = e.moved; blocks = all.view; same = e.same };
@@ -181,7 +181,7 @@ count_free-requires-clause-low c = let f = lies c.self.inside c.self.invariant.l
     none-lower c.self.inside c.sink.new.self c.set.new.self c.base-base.result place
     (is_kept c.self.inside c.self.invariant.layout c.base-base.ensures.possible c.args.start c.args.at c.heads-heads.result c.base-base.result c.entry_at-header.result c.sink.new.self
     (record { heads_is = c.heads-heads.ensures; base_is = c.base-base.ensures.value; free = c.sink.ensures.free; used = c.sink.ensures.used }) c.args.self.now c.self.view_is c.requires c.entry_at-header.ensures)
-    c.base-base.ensures.value (λ j before. set-behind c.shift_up.new.self c.set.new.self _ _ place c.set.ensures (omega arith) j before
+    c.base-base.ensures.value (λ j before. set-after c.shift_up.new.self c.set.new.self _ _ place c.set.ensures (omega arith) j before
     ∙ same_before c.self.inside c.args.start c.entry_at-header.result (c.args.at - c.args.start) c.base-base.result c.shift_up.new.self f c.base-base.ensures.value c.shift_up.ensures j before)
 
 -- so the call is done

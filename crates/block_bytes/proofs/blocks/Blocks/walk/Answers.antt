@@ -29,5 +29,5 @@ returns-clause-next c =
 
 pub returns-clause-last : goal.returns-clause-last
 returns-clause-last c =
-    none_if ((b : BlockAt c.args.self.now c.args.at) → b.behind ≡ []) _ _ c.then_some.result c.then_some.ensures
-    (λ fails b. block-last c.args.self.now c.args.at b (let size = ap (λ (h : Header). h.size) (c.entry_at.ensures b) in let behind = ltb-false _ _ fails in omega arith))
+    none_if ((b : BlockAt c.args.self.now c.args.at) → b.after ≡ []) _ _ c.then_some.result c.then_some.ensures
+    (λ fails b. block-last c.args.self.now c.args.at b (let size = ap (λ (h : Header). h.size) (c.entry_at.ensures b) in let after = ltb-false _ _ fails in omega arith))

@@ -10,14 +10,14 @@ use Rattle.block_bytes.proofs.blocks.Blocks.word.Goals as goal
 pub word-requires-clause-inside : goal.word-requires-clause-inside
 word-requires-clause-inside c =
     let w = subst (λ (l : Layout). WordAt l c.args.at) (sym c.self.view_is) c.requires in
-    let i = IsIn-from c.self.inside c.self.invariant.layout w.before w.here w.behind w.blocks in omega arith
+    let i = IsIn-from c.self.inside c.self.invariant.layout w.before w.here w.after w.blocks in omega arith
 
 pub word-requires-clause-free : goal.word-requires-clause-free
 word-requires-clause-free c =
     let w = subst (λ (l : Layout). WordAt l c.args.at) (sym c.self.view_is) c.requires in
-    let i = IsIn-from c.self.inside c.self.invariant.layout w.before w.here w.behind w.blocks in
-    unlent-free c.self.inside c.self.invariant.layout w.before (w.here ∷ []) w.behind w.blocks (w.unlent, tt) (c.args.at - c.base.result) 4 (omega arith) (omega arith)
+    let i = IsIn-from c.self.inside c.self.invariant.layout w.before w.here w.after w.blocks in
+    unlent-free c.self.inside c.self.invariant.layout w.before (w.here ∷ []) w.after w.blocks (w.unlent, tt) (c.args.at - c.base.result) 4 (omega arith) (omega arith)
 
 pub returns : goal.returns
 returns c = subst (λ (l : Layout). (w : WordAt l c.args.at) → c.word.result ≡ big_number 4 (part w.here.contents w.offset 4)) c.self.view_is (λ w.
-    c.word.ensures ∙ ap (big_number 4) (part-read c.self.inside c.self.invariant.layout w.before w.here w.behind w.blocks (c.args.at - c.base.result) w.offset 4 (omega arith) w.inside))
+    c.word.ensures ∙ ap (big_number 4) (part-read c.self.inside c.self.invariant.layout w.before w.here w.after w.blocks (c.args.at - c.base.result) w.offset 4 (omega arith) w.inside))

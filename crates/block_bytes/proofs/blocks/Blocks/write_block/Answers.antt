@@ -55,7 +55,7 @@ contents-requires c =
     let master : is_master b.here.role ≡ true = ap (λ (h : Header). is_master h.role) (sym header) ∙ sym c.is_master.ensures ∙ c.if-is_master.true in
     let base = ap (λ (l : Layout). l.base) c.self.view_is in let value = c.base-base.ensures.value in let place = b.place in
     record {
-      block = record { before = b.before; here = b.here; behind = b.behind; blocks = b.blocks; place = omega arith };
+      block = record { before = b.before; here = b.here; after = b.after; blocks = b.blocks; place = omega arith };
       unlent = master-unlent c.self.inside c.self.invariant.layout c.args.self.now c.self.view_is (c.args.self.now.base + c.args.at) b master;
     }
 
@@ -63,7 +63,7 @@ pub write_at-requires : goal.write_at-requires
 write_at-requires c =
     let b = c.requires.block in let n = read-there c.self.inside c.self.invariant.layout c.base-base.ensures.possible c.args.self.now c.self.view_is c.args.at b in
     let base = ap (λ (l : Layout). l.base) c.self.view_is in let value = c.base-base.ensures.value in let place = b.place in
-    let contents = ap length (c.contents.ensures (record { before = b.before; here = b.here; behind = b.behind; blocks = b.blocks; place = omega arith })) in
+    let contents = ap length (c.contents.ensures (record { before = b.before; here = b.here; after = b.after; blocks = b.blocks; place = omega arith })) in
     let heads = ap head_size c.heads-heads.ensures in let same = n.same in let head = c.head_size.ensures in let below = n.below in let high = c.self.invariant.layout.high in
     let long = enough-bytes c.self.inside c.self.invariant.layout c.args.self.now c.self.view_is c.args.bytes.now c.requires.whole in
     let kept = ap length c.write_header.ensures ∙ length-written c.args.bytes.now c.args.at (part c.self.inside.memory.bytes c.args.at (head_size c.heads-heads.result)) in omega arith
@@ -84,7 +84,7 @@ returns-then-is_master-clause-written c = λ b. let n = read-there c.self.inside
     let header : c.header-header.result ≡ header_of l.heads b.here = (c.header-header.ensures ∙ ap (λ (heads : HeadKind). header_in heads (drop c.args.at c.self.inside.memory.bytes)) c.heads-heads.ensures ∙ n.header) in
     let master : is_master b.here.role ≡ true = ap (λ (h : Header). is_master h.role) (sym header) ∙ sym c.is_master.ensures ∙ c.if-is_master.true in
     let base = ap (λ (l : Layout). l.base) c.self.view_is in let value = c.base-base.ensures.value in let place = b.place in
-    let contents = c.contents.ensures (record { before = b.before; here = b.here; behind = b.behind; blocks = b.blocks; place = omega arith }) in
+    let contents = c.contents.ensures (record { before = b.before; here = b.here; after = b.after; blocks = b.blocks; place = omega arith }) in
     let same = n.same in let head = c.head_size.ensures in
     c.write_at.ensures ∙ (λ i. written (written_head i) (c.args.at + c.head_size.result) (contents i))
     ∙ written-master l.heads l.base b.here c.args.bytes.now c.args.at (c.args.at + c.head_size.result) master (omega arith)

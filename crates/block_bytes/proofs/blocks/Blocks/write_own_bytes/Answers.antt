@@ -1,7 +1,7 @@
 use Rattle.std.proofs.Common.{◌≡◌, ◌+◌, ◌++◌, take, ap, ◌∙◌, subst, arith, take_at}
 use Rattle.mac_base.specs.HeadKind.{zone_header}
 use Rattle.raw_region.specs.Bytes.{written}
-use Rattle.block_bytes.specs.Layout.{RawBlock, Layout, address_behind, header_bytes, rendered, size_of}
+use Rattle.block_bytes.specs.Layout.{RawBlock, Layout, address_after, header_bytes, rendered, size_of}
 use Rattle.block_bytes.specs.Reading.{layout_of}
 use Rattle.block_bytes.specs.Structure.{AreWritten, EachMaster, HasHeaders, own_bytes}
 use Rattle.block_bytes.proofs.Comparing.{enough-bytes}
@@ -23,14 +23,14 @@ loop-at-init c =
 
 pub write_block-at-requires-clause-block : goal.write_block-at-requires-clause-block
 write_block-at-requires-clause-block c =
-    let value = c.size-size.ensures.value in let ends = c.self.invariant.layout.ends in let end = ap (λ (l : Layout). address_behind l l.blocks) c.self.view_is in
+    let value = c.size-size.ensures.value in let ends = c.self.invariant.layout.ends in let end = ap (λ (l : Layout). address_after l l.blocks) c.self.view_is in
     let base = ap (λ (l : Layout). l.base) c.self.view_is in let below = c.loop-at-test.true in
     let n = next-block c.args.self.now c.args.bytes.now c.loop-at.bytes c.loop-at.at c.loop-at.invariant (omega arith) in
     n.block
 
 pub overflow_add-at : goal.overflow_add-at
 overflow_add-at c =
-    let value = c.size-size.ensures.value in let ends = c.self.invariant.layout.ends in let end = ap (λ (l : Layout). address_behind l l.blocks) c.self.view_is in
+    let value = c.size-size.ensures.value in let ends = c.self.invariant.layout.ends in let end = ap (λ (l : Layout). address_after l l.blocks) c.self.view_is in
     let base = ap (λ (l : Layout). l.base) c.self.view_is in let below = c.loop-at-test.true in
     let n = next-block c.args.self.now c.args.bytes.now c.loop-at.bytes c.loop-at.at c.loop-at.invariant (omega arith) in
     let r = read-there c.self.inside c.self.invariant.layout c.size-size.ensures.possible c.args.self.now c.self.view_is c.loop-at.at n.block in let within = r.below in let some = r.some in
@@ -39,7 +39,7 @@ overflow_add-at c =
 
 pub loop-at-smaller : goal.loop-at-smaller
 loop-at-smaller c =
-    let value = c.size-size.ensures.value in let ends = c.self.invariant.layout.ends in let end = ap (λ (l : Layout). address_behind l l.blocks) c.self.view_is in
+    let value = c.size-size.ensures.value in let ends = c.self.invariant.layout.ends in let end = ap (λ (l : Layout). address_after l l.blocks) c.self.view_is in
     let base = ap (λ (l : Layout). l.base) c.self.view_is in let below = c.loop-at-test.true in
     let n = next-block c.args.self.now c.args.bytes.now c.loop-at.bytes c.loop-at.at c.loop-at.invariant (omega arith) in
     let r = read-there c.self.inside c.self.invariant.layout c.size-size.ensures.possible c.args.self.now c.self.view_is c.loop-at.at n.block in let within = r.below in let some = r.some in
@@ -48,7 +48,7 @@ loop-at-smaller c =
 
 pub loop-at-preserved : goal.loop-at-preserved
 loop-at-preserved c =
-    let value = c.size-size.ensures.value in let ends = c.self.invariant.layout.ends in let end = ap (λ (l : Layout). address_behind l l.blocks) c.self.view_is in
+    let value = c.size-size.ensures.value in let ends = c.self.invariant.layout.ends in let end = ap (λ (l : Layout). address_after l l.blocks) c.self.view_is in
     let base = ap (λ (l : Layout). l.base) c.self.view_is in let below = c.loop-at-test.true in
     let n = next-block c.args.self.now c.args.bytes.now c.loop-at.bytes c.loop-at.at c.loop-at.invariant (omega arith) in
     let r = read-there c.self.inside c.self.invariant.layout c.size-size.ensures.possible c.args.self.now c.self.view_is c.loop-at.at n.block in let within = r.below in let some = r.some in
@@ -60,14 +60,14 @@ loop-at-preserved c =
 
 pub returns-clause-same : goal.returns-clause-same
 returns-clause-same c =
-    let value = c.size-size.ensures.value in let ends = c.self.invariant.layout.ends in let end = ap (λ (l : Layout). address_behind l l.blocks) c.self.view_is in
+    let value = c.size-size.ensures.value in let ends = c.self.invariant.layout.ends in let end = ap (λ (l : Layout). address_after l l.blocks) c.self.view_is in
     let base = ap (λ (l : Layout). l.base) c.self.view_is in let above = c.loop-at-test.false in let l = c.args.self.now in let r = c.loop-at.invariant in
     let all = own-all l c.args.bytes.now c.loop-at.bytes c.loop-at.at r (omega arith) in
     structure-from l c.loop-at.bytes (record { all = r.all ∙ c.requires.whole; head = r.head }) (subst (HasHeaders l c.loop-at.bytes zone_header) all r.headers)
 
 pub returns-clause-masters : goal.returns-clause-masters
 returns-clause-masters c =
-    let value = c.size-size.ensures.value in let ends = c.self.invariant.layout.ends in let end = ap (λ (l : Layout). address_behind l l.blocks) c.self.view_is in
+    let value = c.size-size.ensures.value in let ends = c.self.invariant.layout.ends in let end = ap (λ (l : Layout). address_after l l.blocks) c.self.view_is in
     let base = ap (λ (l : Layout). l.base) c.self.view_is in let above = c.loop-at-test.false in let l = c.args.self.now in let r = c.loop-at.invariant in
     let all = own-all l c.args.bytes.now c.loop-at.bytes c.loop-at.at r (omega arith) in
     subst (EachMaster (AreWritten c.loop-at.bytes) l.heads zone_header) all r.masters

@@ -7,7 +7,7 @@ use Rattle.raw_region.proofs.Laws.{written-append}
 use Rattle.block_bytes.specs.Head.{flags_byte, flags_of, first_word, head_bytes}
 use Rattle.block_bytes.proofs.memory.Memory.set_header.Goals as goal
 
--- a word behind what was written
+-- a word after what was written
 one_more : (s : State) (at : ℕ) (bytes : List ℕ) (k second : ℕ) → k ≡ at + length bytes → with_bytes (with_bytes s at bytes) k (big_bytes 4 second) ≡ with_bytes s at (bytes ++ big_bytes 4 second)
 one_more s at bytes k second is = ap (λ (j : ℕ). with_bytes (with_bytes s at bytes) j (big_bytes 4 second)) is
     ∙ (λ i. record { name = s.name; bytes = written-append s.bytes at bytes (big_bytes 4 second) i; lent = s.lent })

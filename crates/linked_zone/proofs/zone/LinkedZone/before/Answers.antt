@@ -1,6 +1,6 @@
 use Rattle.std.proofs.Common.{[], ◌+◌, ◌∙◌, sym, ap}
 use Rattle.std.proofs.lemmas.Option.{IfSome_then}
-use Rattle.mac_base.specs.ZoneMap.{address_behind}
+use Rattle.mac_base.specs.ZoneMap.{address_after}
 use Rattle.zone_records.specs.Records.{BlockRecord}
 use Rattle.zone_records.proofs.Looking.{IfNone_then}
 use Rattle.linked_zone.specs.Owned.{owners_of}
@@ -26,4 +26,4 @@ returns-clause-first c =
     let z = c.args.self.now in
     IfNone_then c.before-2.result c.before-2.ensures.first (λ first e.
     let mine = of-entry c.self.inside.records z (stands-now c.self.invariant c.self.view_is).blocks c.args.at e in
-    no-records (owners_of z) z.shape (address_behind z.shape []) e.before (sym mine.lower ∙ first mine.there))
+    no-records (owners_of z) z.shape (address_after z.shape []) e.before (sym mine.lower ∙ first mine.there))

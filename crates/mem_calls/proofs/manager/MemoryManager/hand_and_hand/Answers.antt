@@ -20,15 +20,15 @@ returns g c =
     let offset = c.length-length.result in
     let short : n ≡ length (bytes_of entry a) = rw c.number-from.ensures at rw c.linked.ensures.zone at c.length-count.ensures in
     let long : offset ≡ length (bytes_of entry b) = rw c.number-to.ensures at rw c.linked-2.ensures.zone at c.length-length.ensures in
-    let run = rw c.number-from.ensures at rw c.number-to.ensures at c.copy_behind.ensures.run in
-    let exact = exact-copied c.args.self.now c.self.inside.zone c.copy_behind.new.zone c.self.view_is c.copy_behind.ensures.sound (HandAndHand c.args.one c.args.other)
+    let run = rw c.number-from.ensures at rw c.number-to.ensures at c.copy_after.ensures.run in
+    let exact = exact-copied c.args.self.now c.self.inside.zone c.copy_after.new.zone c.self.view_is c.copy_after.ensures.sound (HandAndHand c.args.one c.args.other)
     (passed-both c.self.inside.zone.shape c.self.inside.zone.heap (IsHandle c.args.one ∷ NotEmpty c.args.one ∷ NotLent c.args.one ∷ []) (IsHandle c.args.other ∷ NotEmpty c.args.other ∷ NotLent c.args.other ∷ [])
     c.in_ok-test_full_here.ensures c.in_ok-test_full_here-2.ensures)
-    (Resize b (offset + n)) (take offset (bytes_of entry b) ++ take n (bytes_of entry a)) (g.G.GrowZone.asks c.copy_behind.new.procedure) run.0 (done_outcome c.copy_behind.result)
+    (Resize b (offset + n)) (take offset (bytes_of entry b) ++ take n (bytes_of entry a)) (g.G.GrowZone.asks c.copy_after.new.procedure) run.0 (done_outcome c.copy_after.result)
     (ap (λ k. Some (Resize b (k + length (bytes_of entry a)))) (sym long) ∙ ap (λ k. Some (Resize b (offset + k))) (sym short))
     (λ x (t : HandleTable). ap (λ bytes. with_bytes b (bytes ++ bytes_of entry a) t) (whole offset (bytes_of entry b) long) ∙ ap (λ bytes. with_bytes b (take offset (bytes_of entry b) ++ bytes) t) (whole n (bytes_of entry a) short))
-    run.2 (done_ends (HandAndHand c.args.one c.args.other) (λ x. refl) c.copy_behind.result run.0 run.1) in
-    record { exact = exact; step = step-exact c.args.self.now c.self.inside.zone c.copy_behind.new.zone c.self.view_is c.copy_behind.ensures.sound (HandAndHand c.args.one c.args.other) (g.G.GrowZone.asks c.copy_behind.new.procedure) (done_outcome c.copy_behind.result) exact; source = c.copy_behind.ensures.source; shape = c.copy_behind.ensures.shape ∙ ap (λ (z : ZoneState). z.shape) c.self.view_is; loans = kept c.copy_behind.ensures.loans c.self.view_is }
+    run.2 (done_ends (HandAndHand c.args.one c.args.other) (λ x. refl) c.copy_after.result run.0 run.1) in
+    record { exact = exact; step = step-exact c.args.self.now c.self.inside.zone c.copy_after.new.zone c.self.view_is c.copy_after.ensures.sound (HandAndHand c.args.one c.args.other) (g.G.GrowZone.asks c.copy_after.new.procedure) (done_outcome c.copy_after.result) exact; source = c.copy_after.ensures.source; shape = c.copy_after.ensures.shape ∙ ap (λ (z : ZoneState). z.shape) c.self.view_is; loans = kept c.copy_after.ensures.loans c.self.view_is }
 
 pub returns-in_err-test_full_here : goal.returns-in_err-test_full_here
 returns-in_err-test_full_here g c = let end = c.from_residual in

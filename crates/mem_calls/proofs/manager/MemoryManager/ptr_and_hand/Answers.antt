@@ -17,11 +17,11 @@ returns g c =
     let n = c.args.count in
     let offset = c.length-length.result in
     let long : offset ≡ length (bytes_of entry h) = rw c.number-to.ensures at rw c.linked.ensures.zone at c.length-length.ensures in
-    let run = rw c.number-from.ensures at rw c.number-to.ensures at c.copy_behind.ensures.run in
-    let exact = exact-copied c.args.self.now c.self.inside.zone c.copy_behind.new.zone c.self.view_is c.copy_behind.ensures.sound (PtrAndHand c.args.pointer c.args.handle c.args.count)
+    let run = rw c.number-from.ensures at rw c.number-to.ensures at c.copy_after.ensures.run in
+    let exact = exact-copied c.args.self.now c.self.inside.zone c.copy_after.new.zone c.self.view_is c.copy_after.ensures.sound (PtrAndHand c.args.pointer c.args.handle c.args.count)
     c.in_ok-test_pointer_for.ensures
-    (Resize h (offset + n)) (take offset (bytes_of entry h) ++ take n (bytes_of entry p)) (g.G.GrowZone.asks c.copy_behind.new.procedure) run.0 (done_outcome c.copy_behind.result)
+    (Resize h (offset + n)) (take offset (bytes_of entry h) ++ take n (bytes_of entry p)) (g.G.GrowZone.asks c.copy_after.new.procedure) run.0 (done_outcome c.copy_after.result)
     (ap (λ k. Some (Resize h (k + n))) (sym long))
     (λ x (t : HandleTable). ap (λ bytes. with_bytes h (bytes ++ take n (bytes_of entry p)) t) (whole offset (bytes_of entry h) long))
-    run.2 (done_ends (PtrAndHand c.args.pointer c.args.handle c.args.count) (λ x. refl) c.copy_behind.result run.0 run.1) in
-    record { exact = exact; step = step-exact c.args.self.now c.self.inside.zone c.copy_behind.new.zone c.self.view_is c.copy_behind.ensures.sound (PtrAndHand c.args.pointer c.args.handle c.args.count) (g.G.GrowZone.asks c.copy_behind.new.procedure) (done_outcome c.copy_behind.result) exact; source = c.copy_behind.ensures.source; shape = c.copy_behind.ensures.shape ∙ ap (λ (z : ZoneState). z.shape) c.self.view_is; loans = kept c.copy_behind.ensures.loans c.self.view_is }
+    run.2 (done_ends (PtrAndHand c.args.pointer c.args.handle c.args.count) (λ x. refl) c.copy_after.result run.0 run.1) in
+    record { exact = exact; step = step-exact c.args.self.now c.self.inside.zone c.copy_after.new.zone c.self.view_is c.copy_after.ensures.sound (PtrAndHand c.args.pointer c.args.handle c.args.count) (g.G.GrowZone.asks c.copy_after.new.procedure) (done_outcome c.copy_after.result) exact; source = c.copy_after.ensures.source; shape = c.copy_after.ensures.shape ∙ ap (λ (z : ZoneState). z.shape) c.self.view_is; loans = kept c.copy_after.ensures.loans c.self.view_is }

@@ -14,11 +14,11 @@ returns g c =
     let p = c.args.pointer in
     let h = c.args.handle in
     let n = c.args.count in
-    let run = rw c.number-from.ensures at rw c.number-to.ensures at c.copy_behind.ensures.run in
-    let exact = exact-copied c.args.self.now c.self.inside.zone c.copy_behind.new.zone c.self.view_is c.copy_behind.ensures.sound (PtrToXHand c.args.pointer c.args.handle c.args.count)
+    let run = rw c.number-from.ensures at rw c.number-to.ensures at c.copy_after.ensures.run in
+    let exact = exact-copied c.args.self.now c.self.inside.zone c.copy_after.new.zone c.self.view_is c.copy_after.ensures.sound (PtrToXHand c.args.pointer c.args.handle c.args.count)
     c.in_ok-test_pointer_for.ensures
-    (Resize h (0 + n)) (take 0 (bytes_of entry h) ++ take n (bytes_of entry p)) (g.G.GrowZone.asks c.copy_behind.new.procedure) run.0 (done_outcome c.copy_behind.result)
+    (Resize h (0 + n)) (take 0 (bytes_of entry h) ++ take n (bytes_of entry p)) (g.G.GrowZone.asks c.copy_after.new.procedure) run.0 (done_outcome c.copy_after.result)
     (ap (λ k. Some (Resize h k)) (omega arith))
     (λ x t. refl)
-    run.2 (done_ends (PtrToXHand c.args.pointer c.args.handle c.args.count) (λ x. refl) c.copy_behind.result run.0 run.1) in
-    record { exact = exact; step = step-exact c.args.self.now c.self.inside.zone c.copy_behind.new.zone c.self.view_is c.copy_behind.ensures.sound (PtrToXHand c.args.pointer c.args.handle c.args.count) (g.G.GrowZone.asks c.copy_behind.new.procedure) (done_outcome c.copy_behind.result) exact; source = c.copy_behind.ensures.source; shape = c.copy_behind.ensures.shape ∙ ap (λ (z : ZoneState). z.shape) c.self.view_is; loans = kept c.copy_behind.ensures.loans c.self.view_is }
+    run.2 (done_ends (PtrToXHand c.args.pointer c.args.handle c.args.count) (λ x. refl) c.copy_after.result run.0 run.1) in
+    record { exact = exact; step = step-exact c.args.self.now c.self.inside.zone c.copy_after.new.zone c.self.view_is c.copy_after.ensures.sound (PtrToXHand c.args.pointer c.args.handle c.args.count) (g.G.GrowZone.asks c.copy_after.new.procedure) (done_outcome c.copy_after.result) exact; source = c.copy_after.ensures.source; shape = c.copy_after.ensures.shape ∙ ap (λ (z : ZoneState). z.shape) c.self.view_is; loans = kept c.copy_after.ensures.loans c.self.view_is }

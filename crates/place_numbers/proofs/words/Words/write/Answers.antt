@@ -18,7 +18,7 @@ write c = record {
   apart = c.put.ensures.others;
   here = c.with_bits-now.ensures.here;
   before = subst (λ (n : ℕ). (i : ℕ) → i < c.args.place % 64 → bit_at c.with_bits-now.result i ≡ bit_at n i) c.word_at-before.ensures c.with_bits-now.ensures.before;
-  behind = subst (λ (n : ℕ). (i : ℕ) → c.args.place % 64 + c.args.count ≤ i → i < 64 → bit_at c.with_bits-now.result i ≡ bit_at n i) c.word_at-before.ensures c.with_bits-now.ensures.behind;
+  after = subst (λ (n : ℕ). (i : ℕ) → c.args.place % 64 + c.args.count ≤ i → i < 64 → bit_at c.with_bits-now.result i ≡ bit_at n i) c.word_at-before.ensures c.with_bits-now.ensures.after;
 }
 
 pub invariant_of-self : goal.invariant_of-self

@@ -108,7 +108,7 @@ err_is fault told is = cc
 pub returns-else-later-clause-closed : goal.returns-else-later-clause-closed
 returns-else-later-clause-closed g c = λ told. absurd (false≢true (sym c.if-later.false ∙ c.is_later-later.ensures.1 (err_is _ (Device Later) told)))
 
--- a fault behind the first write is none of the others
+-- a fault after the first write is none of the others
 too_big_isnt : {A P : Type 0} (fault : UpdateFault) → fault ≡ Device Later → IsErrOf {T = A} {E = UpdateFault} (Err fault) TooBig → P
 too_big_isnt fault later told = let e : Device Later ≡ TooBig = sym later ∙ err_is fault TooBig told in absurd (cc e)
 

@@ -1,5 +1,5 @@
 use Rattle.std.proofs.Common.{sym, ap, ◌∙◌}
-use Rattle.res_table.proofs.Files.{earliest_in, earliest_behind}
+use Rattle.res_table.proofs.Files.{earliest_in, earliest_after}
 use Rattle.res_table.specs.OpenFiles.{place_of_handle, earliest_place}
 use Rattle.res_table.specs.Rows.{has_handle}
 use Rattle.res_table.proofs.chain.Chain.row_of_handle.Goals as goal
@@ -11,5 +11,5 @@ returns-in-Some g c =
 
 pub loop-file-preserved : goal.loop-file-preserved
 loop-file-preserved g c =
-    earliest_behind _ c.deref-file-items.result.now c.loop-file.file-index c.file-item.result c.loop-file-test.true c.file-item.is (sym c.row_of_handle.ensures ∙ c.in_default.is)
+    earliest_after _ c.deref-file-items.result.now c.loop-file.file-index c.file-item.result c.loop-file-test.true c.file-item.is (sym c.row_of_handle.ensures ∙ c.in_default.is)
     ∙ c.loop-file.invariant

@@ -8,7 +8,7 @@ use Rattle.res_table.specs.Indexed.{handle_key, resource_key, pairs_of, IsKept, 
 use Rattle.res_table.specs.Keyed.{pushed_back, with_key, AreInOrder}
 use Rattle.res_table.proofs.RowPairs.{places_below, order_pushed, pushed_is, few_pairs}
 use Rattle.res_table.proofs.Resources.{names_few, told_inserted}
-use Rattle.res_table.specs.Behind.{end_of_type}
+use Rattle.res_table.specs.After.{end_of_type}
 use Rattle.res_table.specs.Rows.{name_size, names_size, changed_handle}
 use Rattle.res_table.proofs.Adding.{insert-at-end, end-within}
 use Rattle.fork_bytes.specs.declared.layout.TypeCount.{TypeCount}
@@ -111,7 +111,7 @@ add-requires-2-clause-small g c =
     let small = c.self.inside.rows.small in
     omega (arith, many, small)
 
--- without memory for the row the others stand as they stood
+-- without memory for the row the others are as they were
 pub invariant_of-self-in_err-insert : goal.invariant_of-self-in_err-insert
 invariant_of-self-in_err-insert g c =
     let same = sym c.in_err-insert.ensures.items in

@@ -1,5 +1,5 @@
 use Rattle.std.proofs.Common.{ℕ, ap, ◌∙◌}
-use Rattle.res_table.specs.Behind.{last_of_type, end_of_type}
+use Rattle.res_table.specs.After.{last_of_type, end_of_type}
 use Rattle.res_table.specs.Kinds.{end_of}
 use Rattle.res_table.proofs.RowKinds.{end_is}
 use Rattle.res_table.proofs.rows.Rows.end_of_type.Goals as goal

@@ -3,7 +3,7 @@ use Rattle.fork_bytes.specs.Written.{types_of}
 use Rattle.res_table.specs.declared.row.Row.{Row}
 use Rattle.res_table.specs.Rows.{ith}
 use Rattle.res_table.specs.Saved.{bare, kind_of}
-use Rattle.res_table.proofs.Bare.{type_here, type_behind}
+use Rattle.res_table.proofs.Bare.{type_here, type_after}
 use Rattle.res_table.proofs.rows.Rows.type_of_ith_run.Goals as goal
 
 pub returns-then-left-eq1 : goal.returns-then-left-eq1
@@ -24,6 +24,6 @@ loop-at-preserved g c =
     let P : List (Row _) → Type 0 = λ rs. IfSome (slice_get (bare rs) at) (λ row. types_of (drop at (bare rs)) ≡ record { kind = row.kind; count = next - at } ∷ types_of (drop next (bare rs))) in
     let run = subst P c.deref.ensures.value c.run_end-at.ensures.run in (
       ap (λ (n : ℕ). ith n (map kind_of (types_of (drop next (bare rows))))) c.saturating_sub-left.ensures
-          ∙ type_behind rows at next left within c.if-left-eq1.false run ∙ c.loop-at.invariant.0,
+          ∙ type_after rows at next left within c.if-left-eq1.false run ∙ c.loop-at.invariant.0,
       subst (λ (rs : List (Row _)). next ≤ length rs) c.deref.ensures.value c.run_end-at.ensures.within,
     )

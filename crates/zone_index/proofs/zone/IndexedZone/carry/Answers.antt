@@ -2,7 +2,7 @@ use Rattle.std.proofs.Common.{◌≤◌, ◌≡◌, ◌+◌, ◌-◌, ◌/◌, a
 use Rattle.std.specs.Prelude.{IsTrue, ◌∷◌}
 use Rattle.mac_base.specs.declared.block.Entry.{Entry}
 use Rattle.mac_base.specs.Gap.{is_fixed}
-use Rattle.mac_base.specs.ZoneMap.{address_behind, total_size}
+use Rattle.mac_base.specs.ZoneMap.{address_after, total_size}
 use Rattle.mac_base.specs.ZoneState.{ZoneState}
 use Rattle.linked_zone.specs.Changes.{carried_up}
 use Rattle.linked_zone.specs.Places.{EntryAt, ParcelAt}
@@ -28,13 +28,13 @@ size_is : (c : After-entry_at-size) → c.entry_at-size.result.size ≡ c.requir
 size_is c = ap (λ (e : Entry). e.size) (subst (λ (z : ZoneState). (e : EntryAt z c.args.at) → c.entry_at-size.result ≡ e.here) c.self.view_is c.entry_at-size.ensures (parcel-entry c.args.self.now c.requires.parcel))
 
 -- it ends within the zone
-high : (c : Start) → c.args.end ≤ address_behind c.args.self.now.shape c.args.self.now.heap.map
+high : (c : Start) → c.args.end ≤ address_after c.args.self.now.shape c.args.self.now.heap.map
 high c =
     let parcel = c.requires.parcel in
     let place = parcel.place in
     let long = parcel.long in
-    let ends = part-ends c.args.self.now parcel.before (parcel.here ∷ parcel.blocks ++ parcel.behind) parcel.map in
-    let all = total_size-append parcel.blocks parcel.behind in
+    let ends = part-ends c.args.self.now parcel.before (parcel.here ∷ parcel.blocks ++ parcel.after) parcel.map in
+    let all = total_size-append parcel.blocks parcel.after in
     omega arith
 
 pub invariant_of-self : goal.invariant_of-self

@@ -3,7 +3,7 @@ use Rattle.mac_base.specs.ZoneState.{ZoneState}
 use Rattle.zone_index.specs.Marks.{AreMarked}
 use Rattle.zone_index.proofs.Exchanged.{extended-marked}
 use Rattle.zone_index.proofs.Rules.{Rule, fixes, goes}
-use Rattle.mac_base.specs.ZoneMap.{address_behind}
+use Rattle.mac_base.specs.ZoneMap.{address_after}
 use Rattle.zone_index.specs.LeafSums.{AreLeaves}
 use Rattle.zone_index.proofs.Known.{size-known}
 use Rattle.zone_index.proofs.PagesKept.{forgets-read, pages-kept}
@@ -18,7 +18,7 @@ invariant_of-self c =
     let size = size-known c.self.inside.zone c.spec-spec.result c.spec-spec.ensures.sizes in
     let base = c.base-base.ensures.value in
     let long = c.size.ensures.value in
-    let end : c.base-base.result + c.size.result ≡ address_behind c.self.inside.zone.shape c.self.inside.zone.heap.map = omega arith in record {
+    let end : c.base-base.result + c.size.result ≡ address_after c.self.inside.zone.shape c.self.inside.zone.heap.map = omega arith in record {
       fixed = keep fixes _ c.self.invariant.fixed;
       purgeable = keep goes _ c.self.invariant.purgeable;
       leaves = subst (λ (z : ZoneState). AreLeaves z c.touch.new.self) (sym c.extend.ensures)

@@ -7,7 +7,7 @@ use Rattle.zone_index.proofs.Exchanged.{enlarged-marked}
 use Rattle.zone_index.proofs.Rules.{Rule, fixes, goes}
 use Rattle.mac_base.specs.declared.block.Kind.TheVariants.{Free}
 use Rattle.mac_base.specs.HandleTable.{has_block}
-use Rattle.mac_base.specs.ZoneMap.{address_behind, block}
+use Rattle.mac_base.specs.ZoneMap.{address_after, block}
 use Rattle.linked_zone.specs.Fit.{Fits}
 use Rattle.zone_index.specs.LeafSums.{AreLeaves}
 use Rattle.zone_index.specs.Leaves.{leaf}
@@ -26,21 +26,21 @@ use Rattle.zone_index.proofs.zone.IndexedZone.grow.Goals.{After-page-first}
 named : (c : After-page-first) → NamedAt c.args.self.now c.args.block c.place_of-at.result
 named c = subst (λ (z : ZoneState). NamedAt z c.args.block c.place_of-at.result) c.self.view_is c.place_of-at.ensures
 
-high : (c : After-page-first) → c.place_of-at.result + c.args.size ≤ address_behind c.args.self.now.shape c.args.self.now.heap.map
+high : (c : After-page-first) → c.place_of-at.result + c.args.size ≤ address_after c.args.self.now.shape c.args.self.now.heap.map
 high c =
     let can = c.requires.room in
-    named-reach c.args.self.now c.args.block c.place_of-at.result c.args.size c.page-first.ensures.fits (named c) can.before can.here (block Free can.free ∷ can.behind) can.map can.named (let within = can.fits.within in omega arith)
+    named-reach c.args.self.now c.args.block c.place_of-at.result c.args.size c.page-first.ensures.fits (named c) can.before can.here (block Free can.free ∷ can.after) can.map can.named (let within = can.fits.within in omega arith)
 
 -- and its first bytes
 entry : (c : After-page-first) → EntryAt c.args.self.now c.place_of-at.result
-entry c = let n = named c in record { before = n.before; here = n.here; behind = n.behind; map = n.map; place = n.place }
+entry c = let n = named c in record { before = n.before; here = n.here; after = n.after; map = n.map; place = n.place }
 
 pub invariant_of-self : goal.invariant_of-self
 invariant_of-self c =
     let can = subst (λ (z : ZoneState). CanGrow z c.args.block c.args.size c.args.length) (sym c.self.view_is) c.requires.room in
     let keep : (r : Rule) (marks : List ℕ) → AreMarked r.test c.self.inside.zone marks → AreMarked r.test c.grow.new.self marks = λ r marks are. subst (λ (z : ZoneState). AreMarked r.test z marks) (sym (c.grow.ensures can)) (enlarged-marked r c.self.inside.zone marks are can) in
     let fits = c.spec-spec.ensures.fits in
-    let place = named-place c.self.inside.zone c.args.block c.place_of-at.result fits c.place_of-at.ensures can.before can.here (block Free can.free ∷ can.behind) can.map can.named in record {
+    let place = named-place c.self.inside.zone c.args.block c.place_of-at.result fits c.place_of-at.ensures can.before can.here (block Free can.free ∷ can.after) can.map can.named in record {
       fixed = keep fixes _ c.self.invariant.fixed;
       purgeable = keep goes _ c.self.invariant.purgeable;
       leaves = (let read = ap (λ (e : Entry). e.size) (c.entry_at.ensures (grown-entry c.self.inside.zone can place)) in
@@ -51,7 +51,7 @@ invariant_of-self c =
       pages = pages-kept c.forget.new.self (c.grow.ensures can)
           (pages-grown c.self.inside.zone c.self.inside.pages c.forget.new.self c.self.invariant.pages can place
           (forgets-read c.place_of-at.result (c.place_of-at.result + c.args.size) c.self.view_is c.page-first.ensures.value c.page_at-last.ensures.value c.forget.ensures));
-      lengths = (let has = named-owner c.self.inside.zone c.args.block can.before can.here (block Free can.free ∷ can.behind) fits can.map can.named in
+      lengths = (let has = named-owner c.self.inside.zone c.args.block can.before can.here (block Free can.free ∷ can.after) fits can.map can.named in
           lengths-of c.note.new.self (c.grow.ensures can) (lengths-sized c.self.inside.zone.heap.table c.self.inside.lengths c.note.new.self c.args.block c.args.block c.args.length refl c.self.invariant.lengths c.note.ensures has));
     }
 
@@ -63,7 +63,7 @@ pub place_of-at-requires : goal.place_of-at-requires
 place_of-at-requires c =
     let can = c.requires.room in
     subst (λ (z : ZoneState). has_block z.heap.table c.args.block ≡ true) (sym c.self.view_is)
-    (named-owner c.args.self.now c.args.block can.before can.here (block Free can.free ∷ can.behind) (subst Fits c.self.view_is c.spec-spec.ensures.fits) can.map can.named)
+    (named-owner c.args.self.now c.args.block can.before can.here (block Free can.free ∷ can.after) (subst Fits c.self.view_is c.spec-spec.ensures.fits) can.map can.named)
 
 pub overflow_add-end : goal.overflow_add-end
 overflow_add-end c = let end = high (goal.at.overflow_add-end c).After-page-first in let reach = c.page-first.ensures.reach in omega arith
@@ -77,11 +77,11 @@ leaf_at-high-requires c = let p = (goal.at.leaf_at-high-requires c).After-page-f
 pub entry_at-requires : goal.entry_at-requires
 entry_at-requires c =
     let named = c.place_of-at.ensures in
-    record { before = named.before; here = named.here; behind = named.behind; map = named.map; place = named.place }
+    record { before = named.before; here = named.here; after = named.after; map = named.map; place = named.place }
 
-pub overflow_add-behind : goal.overflow_add-behind
-overflow_add-behind c =
-    let e = entry (goal.at.overflow_add-behind c).After-page-first in
+pub overflow_add-after : goal.overflow_add-after
+overflow_add-after c =
+    let e = entry (goal.at.overflow_add-after c).After-page-first in
     let read = ap (λ (e : Entry). e.size) (subst (λ (z : ZoneState). (e : EntryAt z c.place_of-at.result) → c.entry_at.result ≡ e.here) c.self.view_is c.entry_at.ensures e) in
     let high = entry-high c.args.self.now c.place_of-at.result e in
     let reach = c.page-first.ensures.reach in

@@ -8,7 +8,7 @@ use Rattle.zone_index.proofs.Rules.{Rule, fixes, goes}
 use Rattle.zone_index.specs.LeafSums.{AreLeaves}
 use Rattle.zone_index.specs.Leaves.{leaf}
 use Rattle.mac_base.specs.declared.block.Kind.TheVariants.{Free}
-use Rattle.mac_base.specs.ZoneMap.{address_behind, block}
+use Rattle.mac_base.specs.ZoneMap.{address_after, block}
 use Rattle.zone_index.specs.Pages.{page}
 use Rattle.zone_index.proofs.PagesKept.{forgets-read, pages-kept, part-ends}
 use Rattle.zone_index.proofs.Changed.{first_free}
@@ -19,12 +19,12 @@ use Rattle.zone_index.proofs.zone.IndexedZone.merge.Goals as goal
 use Rattle.zone_index.proofs.zone.IndexedZone.merge.Goals.{After-free_size}
 
 -- it ends within the zone
-high : (c : After-free_size) → c.args.at + c.free_size.result ≤ address_behind c.args.self.now.shape c.args.self.now.heap.map
+high : (c : After-free_size) → c.args.at + c.free_size.result ≤ address_after c.args.self.now.shape c.args.self.now.heap.map
 high c =
     let pair = c.requires in
     let place = pair.place in
     let size = subst (λ (z : ZoneState). (f : FreeAt z c.args.at) → c.free_size.result ≡ f.size) c.self.view_is c.free_size.ensures (first_free c.args.self.now pair) in
-    let ends = part-ends c.args.self.now pair.before (block Free pair.first ∷ block Free pair.second ∷ pair.behind) pair.map in
+    let ends = part-ends c.args.self.now pair.before (block Free pair.first ∷ block Free pair.second ∷ pair.after) pair.map in
     omega arith
 
 pub invariant_of-self : goal.invariant_of-self
@@ -48,8 +48,8 @@ pub returns : goal.returns
 returns c =
     subst (λ (z : ZoneState). (pair : FreePair z c.args.at) → c.merge.new.self ≡ joined_pair z pair) c.self.view_is c.merge.ensures
 
-pub overflow_add-behind : goal.overflow_add-behind
-overflow_add-behind c = let end = high (goal.at.overflow_add-behind c).After-free_size in let reach = c.page-first.ensures.reach in omega arith
+pub overflow_add-after : goal.overflow_add-after
+overflow_add-after c = let end = high (goal.at.overflow_add-after c).After-free_size in let reach = c.page-first.ensures.reach in omega arith
 
 pub page_at-last-requires-clause-high : goal.page_at-last-requires-clause-high
 page_at-last-requires-clause-high c = high (goal.at.page_at-last-requires-clause-high c).After-free_size

@@ -11,10 +11,10 @@ next_passing-requires c = record { split = subst (λ (z : ZoneState). SplitAt z 
 
 pub returns-clause-next : goal.returns-clause-next
 returns-clause-next c =
-    subst (λ (z : ZoneState). IfSome c.next_passing.result (λ at. (split : SplitAt z c.args.from) → FirstPurgeable z.heap.table split.behind c.args.from at)) c.self.view_is
+    subst (λ (z : ZoneState). IfSome c.next_passing.result (λ at. (split : SplitAt z c.args.from) → FirstPurgeable z.heap.table split.after c.args.from at)) c.self.view_is
     (some-first c.self.inside.zone c.spec-spec.ensures.possible c.args.from c.next_passing.result c.next_passing.ensures.next)
 
 pub returns-clause-none : goal.returns-clause-none
 returns-clause-none c =
-    subst (λ (z : ZoneState). IfNone c.next_passing.result ((split : SplitAt z c.args.from) → IsTrue (none_purgeable z.heap.table split.behind))) c.self.view_is
+    subst (λ (z : ZoneState). IfNone c.next_passing.result ((split : SplitAt z c.args.from) → IsTrue (none_purgeable z.heap.table split.after))) c.self.view_is
     (none-passes c.self.inside.zone c.spec-spec.ensures.possible c.args.from c.next_passing.result c.next_passing.ensures.none)

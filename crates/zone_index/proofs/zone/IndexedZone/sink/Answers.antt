@@ -2,7 +2,7 @@ use Rattle.std.proofs.Common.{◌≤◌, ◌≡◌, ◌-◌, ◌/◌, ap, sym, s
 use Rattle.std.specs.Prelude.{IsTrue, [], ◌∷◌, ◌++◌}
 use Rattle.mac_base.specs.declared.block.Entry.{Entry}
 use Rattle.mac_base.specs.Gap.{is_fixed}
-use Rattle.mac_base.specs.ZoneMap.{address_behind, total_size}
+use Rattle.mac_base.specs.ZoneMap.{address_after, total_size}
 use Rattle.mac_base.specs.ZoneState.{ZoneState}
 use Rattle.linked_zone.specs.Changes.{sunk}
 use Rattle.linked_zone.specs.Places.{ParcelUpTo, EntryAt}
@@ -29,14 +29,14 @@ size_is : (c : After-entry_at-size) → c.entry_at-size.result.size ≡ c.requir
 size_is c = ap (λ (e : Entry). e.size) (subst (λ (z : ZoneState). (e : EntryAt z c.args.at) → c.entry_at-size.result ≡ e.here) c.self.view_is c.entry_at-size.ensures (last-entry c.args.self.now c.requires.parcel))
 
 -- it ends within the zone
-high : (c : After-page-from) → c.args.at + c.entry_at-size.result.size ≤ address_behind c.args.self.now.shape c.args.self.now.heap.map
+high : (c : After-page-from) → c.args.at + c.entry_at-size.result.size ≤ address_after c.args.self.now.shape c.args.self.now.heap.map
 high c =
     let parcel = c.requires.parcel in
     let place = parcel.place in
     let long = parcel.long in
     let size = size_is (goal.at.After-page-from c).After-entry_at-size in
-    let ends = part-ends c.args.self.now parcel.before (parcel.blocks ++ parcel.here ∷ parcel.behind) parcel.map in
-    let all = total_size-append parcel.blocks (parcel.here ∷ parcel.behind) in
+    let ends = part-ends c.args.self.now parcel.before (parcel.blocks ++ parcel.here ∷ parcel.after) parcel.map in
+    let all = total_size-append parcel.blocks (parcel.here ∷ parcel.after) in
     omega arith
 
 pub invariant_of-self : goal.invariant_of-self
@@ -65,12 +65,12 @@ invariant_of-self c =
 pub place-first-requires : goal.place-first-requires
 place-first-requires c =
     let parcel = c.requires.parcel in
-    run-entry c.args.self.now c.args.start parcel.before parcel.blocks parcel.here parcel.behind parcel.map parcel.place
+    run-entry c.args.self.now c.args.start parcel.before parcel.blocks parcel.here parcel.after parcel.map parcel.place
 
 pub page-from-requires : goal.page-from-requires
 page-from-requires c =
     let parcel = c.requires.parcel in
-    run-entry c.args.self.now c.args.start parcel.before parcel.blocks parcel.here parcel.behind parcel.map parcel.place
+    run-entry c.args.self.now c.args.start parcel.before parcel.blocks parcel.here parcel.after parcel.map parcel.place
 
 pub entry_at-size-requires : goal.entry_at-size-requires
 entry_at-size-requires c =
@@ -98,7 +98,7 @@ leaf-old-requires c = last-entry c.args.self.now c.requires.parcel
 pub leaf-new-requires : goal.leaf-new-requires
 leaf-new-requires c =
     let parcel = c.requires.parcel in
-    run-entry c.args.self.now c.args.start parcel.before parcel.blocks parcel.here parcel.behind parcel.map parcel.place
+    run-entry c.args.self.now c.args.start parcel.before parcel.blocks parcel.here parcel.after parcel.map parcel.place
 
 pub pass-requires : goal.pass-requires
 pass-requires c = run_split c.self.inside.zone (subst (λ (z : ZoneState). ParcelUpTo z c.args.start c.args.at) (sym c.self.view_is) c.requires.parcel)

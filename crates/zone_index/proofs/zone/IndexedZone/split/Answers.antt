@@ -7,7 +7,7 @@ use Rattle.zone_index.proofs.Exchanged.{cut-marked}
 use Rattle.zone_index.proofs.Rules.{Rule, fixes, goes}
 use Rattle.zone_index.specs.LeafSums.{AreLeaves}
 use Rattle.mac_base.specs.declared.block.Kind.TheVariants.{Free}
-use Rattle.mac_base.specs.ZoneMap.{address_behind, block}
+use Rattle.mac_base.specs.ZoneMap.{address_after, block}
 use Rattle.zone_index.proofs.PagesKept.{forgets-read, pages-kept, part-ends}
 use Rattle.zone_index.proofs.Changing.{pages-split}
 use Rattle.zone_index.proofs.Measured.{lengths-of}
@@ -16,12 +16,12 @@ use Rattle.zone_index.proofs.zone.IndexedZone.split.Goals as goal
 use Rattle.zone_index.proofs.zone.IndexedZone.split.Goals.{After-page-first}
 
 -- it ends within the zone
-high : (c : After-page-first) → c.args.at + c.args.size ≤ address_behind c.args.self.now.shape c.args.self.now.heap.map
+high : (c : After-page-first) → c.args.at + c.args.size ≤ address_after c.args.self.now.shape c.args.self.now.heap.map
 high c =
     let free = c.requires.free in
     let place = free.place in
     let smaller = c.requires.smaller in
-    let ends = part-ends c.args.self.now free.before (block Free free.size ∷ free.behind) free.map in
+    let ends = part-ends c.args.self.now free.before (block Free free.size ∷ free.after) free.map in
     omega arith
 
 pub invariant_of-self : goal.invariant_of-self
@@ -43,8 +43,8 @@ pub returns : goal.returns
 returns c =
     subst (λ (z : ZoneState). (can : CanCut z c.args.at c.args.size) → c.split.new.self ≡ cut_in_two c.args.size z can.free) c.self.view_is c.split.ensures
 
-pub overflow_add-behind : goal.overflow_add-behind
-overflow_add-behind c = let end = high (goal.at.overflow_add-behind c).After-page-first in let reach = c.page-first.ensures.reach in omega arith
+pub overflow_add-after : goal.overflow_add-after
+overflow_add-after c = let end = high (goal.at.overflow_add-after c).After-page-first in let reach = c.page-first.ensures.reach in omega arith
 
 pub page_at-last-requires-clause-high : goal.page_at-last-requires-clause-high
 page_at-last-requires-clause-high c = high (goal.at.page_at-last-requires-clause-high c).After-page-first

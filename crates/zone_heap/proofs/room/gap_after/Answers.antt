@@ -3,10 +3,10 @@ use Rattle.mac_base.specs.declared.block.Entry.{Entry}
 use Rattle.mac_base.specs.Gap.{ends_with}
 use Rattle.zone_index.proofs.Entries.{entry_within}
 use Rattle.zone_heap.proofs.Rooms.{Beside, beside, entry_beside, place-beside, rest_beside, gap_found}
-use Rattle.zone_heap.proofs.room.gap_behind.Goals as goal
-use Rattle.zone_heap.proofs.room.gap_behind.Goals.{After-place_of-at, After-entry_at}
+use Rattle.zone_heap.proofs.room.gap_after.Goals as goal
+use Rattle.zone_heap.proofs.room.gap_after.Goals.{After-place_of-at, After-entry_at}
 
--- the gap behind the block
+-- the gap after the block
 own : (c : After-place_of-at) → Beside c.args.zone.now c.args.block c.place_of-at.result
 own c = beside c.args.zone.now c.args.block c.place_of-at.result c.requires.settled c.requires.stays (rw c.linked.ensures at c.place_of-at.ensures)
 

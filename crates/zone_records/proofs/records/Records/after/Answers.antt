@@ -1,8 +1,8 @@
 use Rattle.std.proofs.Common.{◌+◌, ◌∙◌, ap}
 use Rattle.std.proofs.lemmas.Option.{IfSome_then}
 use Rattle.zone_records.proofs.Held.{held-now}
-use Rattle.zone_records.proofs.Looking.{IfNone_then, of-record, of-block, size-of, nothing-behind}
-use Rattle.zone_records.proofs.records.Records.behind.Goals as goal
+use Rattle.zone_records.proofs.Looking.{IfNone_then, of-record, of-block, size-of, nothing-after}
+use Rattle.zone_records.proofs.records.Records.after.Goals as goal
 
 pub walk-requires : goal.walk-requires
 walk-requires c = (of-record _ _ (held-now c.self.invariant c.self.view_is) c.args.at c.requires).block
@@ -17,4 +17,4 @@ returns-clause-next c =
 
 pub returns-clause-last : goal.returns-clause-last
 returns-clause-last c =
-    IfNone_then c.walk.result c.walk.ensures.last (nothing-behind _ _ (held-now c.self.invariant c.self.view_is) c.args.at)
+    IfNone_then c.walk.result c.walk.ensures.last (nothing-after _ _ (held-now c.self.invariant c.self.view_is) c.args.at)

@@ -7,14 +7,14 @@ use Rattle.zone_laws.proofs.Lengths.{bytes-within}
 use Rattle.zone_heap.proofs.Writing.{full-has_block, full-here}
 use Rattle.mem_calls.proofs.Brought.{begins-resized, takes-resized}
 use Rattle.mem_calls.proofs.Copies.{filled-run}
-use Rattle.mem_calls.proofs.bringing.bring_behind.Goals as goal
+use Rattle.mem_calls.proofs.bringing.bring_after.Goals as goal
 
 pub overflow_add-resize : goal.overflow_add-resize
 overflow_add-resize g c =
     let s = c.args.zone.now.shape in
     let heap = c.args.zone.now.heap in
     let within = bytes-within s heap c.args.to c.first_block.ensures.sound (full-has_block heap.table c.args.to c.requires.target) in
-    omega (arith, within, c.requires.limit, c.requires.few, c.requires.behind)
+    omega (arith, within, c.requires.limit, c.requires.few, c.requires.after)
 
 pub request-requires-clause-ready : goal.request-requires-clause-ready
 request-requires-clause-ready g c =
@@ -23,16 +23,16 @@ request-requires-clause-ready g c =
     let block = full-has_block heap.table c.args.to c.requires.target in
     let within = bytes-within s heap c.args.to c.first_block.ensures.sound block in
     record {
-      size = omega (arith, within, c.requires.limit, c.requires.few, c.requires.behind);
+      size = omega (arith, within, c.requires.limit, c.requires.few, c.requires.after);
       operand = ap (λ b. b && not (is_lent heap.table c.args.to)) block ∙ ap not (full-here heap.table c.args.to c.requires.target);
     }
 
-pub write_behind-requires-clause-full : goal.write_behind-requires-clause-full
-write_behind-requires-clause-full g c = (takes-resized c.args.zone.now.shape (length c.args.bytes.now) (g.G.GrowZone.asks c.request.new.procedure) c.args.zone.now.heap c.request.new.zone.heap c.request.result c.in_ok-request.field-0 c.first_block.ensures.sound
+pub write_after-requires-clause-full : goal.write_after-requires-clause-full
+write_after-requires-clause-full g c = (takes-resized c.args.zone.now.shape (length c.args.bytes.now) (g.G.GrowZone.asks c.request.new.procedure) c.args.zone.now.heap c.request.new.zone.heap c.request.result c.in_ok-request.field-0 c.first_block.ensures.sound
     c.lent_count.ensures.fixed c.in_ok-request.was c.args.to c.args.offset c.requires.target c.request.ensures.run).full
 
-pub write_behind-requires-clause-long : goal.write_behind-requires-clause-long
-write_behind-requires-clause-long g c = (takes-resized c.args.zone.now.shape (length c.args.bytes.now) (g.G.GrowZone.asks c.request.new.procedure) c.args.zone.now.heap c.request.new.zone.heap c.request.result c.in_ok-request.field-0 c.first_block.ensures.sound
+pub write_after-requires-clause-long : goal.write_after-requires-clause-long
+write_after-requires-clause-long g c = (takes-resized c.args.zone.now.shape (length c.args.bytes.now) (g.G.GrowZone.asks c.request.new.procedure) c.args.zone.now.heap c.request.new.zone.heap c.request.result c.in_ok-request.field-0 c.first_block.ensures.sound
     c.lent_count.ensures.fixed c.in_ok-request.was c.args.to c.args.offset c.requires.target c.request.ensures.run).long
 
 pub returns-clause-run : goal.returns-clause-run
@@ -46,12 +46,12 @@ returns-clause-run g c =
     let bytes = c.args.bytes.now in
     let n = length bytes in
     let x = c.in_ok-request.field-0 in
-    let begins = begins-resized s n asks old mid c.request.result x c.first_block.ensures.sound c.lent_count.ensures.fixed c.in_ok-request.was to offset c.requires.target c.request.ensures.run c.requires.behind in (
+    let begins = begins-resized s n asks old mid c.request.result x c.first_block.ensures.sound c.lent_count.ensures.fixed c.in_ok-request.was to offset c.requires.target c.request.ensures.run c.requires.after in (
       Ok x,
       refl,
-      filled-run s (to ∷ []) (Resize to (offset + n)) asks old c.request.result x to (take offset (bytes_of old.table to) ++ bytes) mid c.write_behind.new.zone.heap c.request.ensures.run c.in_ok-request.was refl
-          (ap (λ (z : ZoneState). z.heap) c.write_behind.ensures.zone ∙ ap (λ front. with_table (with_bytes to (front ++ bytes) mid.table) mid) begins),
+      filled-run s (to ∷ []) (Resize to (offset + n)) asks old c.request.result x to (take offset (bytes_of old.table to) ++ bytes) mid c.write_after.new.zone.heap c.request.ensures.run c.in_ok-request.was refl
+          (ap (λ (z : ZoneState). z.heap) c.write_after.ensures.zone ∙ ap (λ front. with_table (with_bytes to (front ++ bytes) mid.table) mid) begins),
     )
 
 pub returns-clause-loans : goal.returns-clause-loans
-returns-clause-loans g c = (c.write_behind.ensures.loans.0 ∙ c.request.ensures.loans.0, λ x loan lent. c.write_behind.ensures.loans.1 x loan (c.request.ensures.loans.1 x loan lent))
+returns-clause-loans g c = (c.write_after.ensures.loans.0 ∙ c.request.ensures.loans.0, λ x loan lent. c.write_after.ensures.loans.1 x loan (c.request.ensures.loans.1 x loan lent))
