@@ -5,7 +5,7 @@ The scripts are those on the way from text to call and from reply to text; with 
 blocks in a zone of 1,048,576 bytes, each without the time of the script that only makes what is needed before.
 
 Each program reads a script and takes `--zone N`, as macheap does. On each script they run in turn, forty times, and the least
-processor time counts. The most memory is told where /usr/bin/time is there. The last column is PROGRAM's time over each PEER's.
+processor time counts. The most memory is shown where /usr/bin/time is there. The last column is PROGRAM's time over each PEER's.
 """
 import os
 import subprocess

@@ -21,7 +21,7 @@ static uint64_t folded(uint64_t a, uint64_t b)
     return (uint64_t)product ^ (uint64_t)(product >> 64);
 }
 
-/* The state behind one byte more. */
+/* The state after one byte more. */
 static uint64_t behind(uint64_t state, char byte)
 {
     return folded(state ^ (uint64_t)(unsigned char)byte * 0x010101, multiplier ^ 2);

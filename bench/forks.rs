@@ -171,7 +171,7 @@ fn copying(times: u32, bytes: usize) -> (f64, f64) {
     (copy, within)
 }
 
-/// Whether reading so many rows takes three copies and a microsecond for each row at most. Tells it where it takes more.
+/// Whether reading so many rows takes three copies and a microsecond for each row at most. Says so where it takes more.
 fn is_quick(read: f64, copy: f64, rows: u16, copies: &str) -> bool {
     let most = 3.0 * copy + 1000.0 * f64::from(rows);
     if read > most {

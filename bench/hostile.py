@@ -2,7 +2,7 @@
 """Times the worst scripts and resource files that we could think of: hostile.py PROGRAM [WORD].
 
 PROGRAM is a macheap, as `rt run` in crates/macheap builds it. Each script has as many lines as a script may have, or bytes, and runs over the
-largest zone. What is told of each: seconds of processor time, of those the seconds in the system (reading, writing, syncing), the most
+largest zone. What is shown of each: seconds of processor time, of those the seconds in the system (reading, writing, syncing), the most
 memory in MB, and the bytes that were printed. With WORD only those run whose name has it. A run ends after 120 seconds.
 """
 import os
@@ -68,7 +68,7 @@ def shared_types(count):
 
 
 def one_name(count):
-    """A fork of so many resources, all of which have the name that stands first."""
+    """A fork of so many resources, all of which have the name that is first."""
     the_fork = bytearray(fork_of([(b"TEXT", it, b"n" * 255 if it == 0 else None, 0) for it in range(count)], bytes(4)))
     for it in range(count):
         at = 256 + 4 + 28 + 10 + 12 * it + 2
@@ -77,7 +77,7 @@ def one_name(count):
 
 
 def names_within_names(count):
-    """A fork of so many resources with names of 255 bytes, each of which begins a byte behind the one before."""
+    """A fork of so many resources with names of 255 bytes, each of which begins a byte after the one before."""
     the_fork = bytearray(fork_of([(b"TEXT", it, None, 0) for it in range(count)], bytes(4)) + b"\xff" * (count + 255))
     for it in range(count):
         at = 256 + 4 + 28 + 10 + 12 * it + 2
@@ -103,7 +103,7 @@ ONE_BYTE_EACH = fork_of([(b"TEXT", it, None, 5 * it) for it in range(5458)], str
 # as many types as there may be, which share one reference
 ALL_TYPES = shared_types(8191)
 SOME_TYPES = shared_types(3270)
-# their data take almost as many bytes as a fork may have, though they stand once
+# their data take almost as many bytes as a fork may have, though they are there once
 WEIGHTY = fork_of([(b"TEXT", it, None, 0) for it in range(5450)], struct.pack(">I", 760) + bytes(760))
 ONE_EACH = fork_of([(b"%04d" % it, 1, None, 0) for it in range(3000)], bytes(4))
 # with 5,457 resources of eight bytes beside it the fork has one byte more than a fork may have
@@ -138,7 +138,7 @@ def small_gaps(count):
 
 
 def fixed_between():
-    """Blocks that can't move stand between small gaps, and no gap has room."""
+    """Blocks that can't move are between small gaps, and no gap has room."""
     return small_gaps(7000) + ["NewHandle 900000"] * LINES
 
 
@@ -149,14 +149,14 @@ def gaps_with_a_handle(count):
 
 
 def written():
-    """All that is kept beside a zone is written once: a handle at its high end has a length, and large free blocks stood in all of it."""
+    """All that is kept beside a zone is written once: a handle at its high end has a length, and large free blocks were in all of it."""
     low = ["p=NewPtr 1000000", "MoreMasters", "a=NewHandle 8", "DisposePtr p"]
     low += [line for it in range(245) for line in (f"q{it:X}=NewPtr 2000", f"r{it:X}=NewPtr 2000")]
     return low + [f"DisposePtr {it}{at:X}" for it in "rq" for at in range(245)]
 
 
 def all_kept(lines, last=()):
-    """As many lines as a script may have, where all is written that is kept beside a zone, and others behind them."""
+    """As many lines as a script may have, where all is written that is kept beside a zone, and others after them."""
     front, room = written(), BYTES - 1
     room -= sum(len(line) + 1 for line in (*front, *last))
     count = min(LINES - len(front) - len(last), len(lines) * room // (sum(map(len, lines)) + len(lines)))
@@ -195,7 +195,7 @@ def below_free_blocks(lines, request):
 
 
 def locked_by_turns(request):
-    """Requests over a gap with 10,000 free blocks, in whose middle a handle stands: where it is locked it cuts the gap in two."""
+    """Requests over a gap with 10,000 free blocks, in whose middle a handle is: where it is locked it cuts the gap in two."""
     lines = [line for it in range(10000) for line in ("h=NewHandle 8" if it == 5000 else "NewHandle 8", f"q{it:X}=NewHandle 8")]
     lines += [f"DisposeHandle q{it:X}" for it in range(10000)]
     return lines + request * LINES
@@ -237,7 +237,7 @@ def all_loaded(change, lines):
 
 
 def added_to(lines):
-    """5,457 resources that are added to a file, in an order by which handles of different master blocks stand side by side."""
+    """5,457 resources that are added to a file, in an order by which handles of different master blocks are side by side."""
     return named(5457, 8) + [f"AddResource h{it * 2503 % 5457:X} 'TEXT' {it + 1}" for it in range(5457)] + lines
 
 
@@ -356,7 +356,7 @@ RUNS = [
     ("eight files of 5,400 resources of one name, which is told", [LONG_NAMES] * 8, [f"OpenResFile {it}" for it in range(2, 9)] + ["h=GetResource 'TEXT' 5000"] + ["GetResInfo h"] * LINES),
     ("eight files of 5,400 resources, whose names begin in one another", [OVERLAPPING] * 8, [f"OpenResFile {it}" for it in range(2, 9)] + ["GetResource 'TEXT' 5000"] * LINES),
     ("resources with names that are added to five files", [b""] * 5, added_with_names(5)),
-    # (no line of a script says anything behind its 26th token)
+    # (no line of a script says anything after its 26th token)
     ("1 MB of marks in one line", [], ["=" * (BYTES - 1)]),
     ("answers of one call, and all written that is kept beside a zone", [], all_kept(["gz 1 DisposePtr a"])),
     ("answers of one call, all written, and 1 MB shown", [], all_kept(["gz 1 DisposePtr a"], SHOWN)),

@@ -22,8 +22,8 @@ and NewPtr 8 in turn.
 
 These are for a zone of 1,048,576 bytes, and the last CALLS lines are what is to be timed:
   holes COUNT CALLS    so many free blocks of 16 bytes between pointers, and then NewPtr 100 and DisposePtr in turn
-  behind COUNT CALLS   a pointer of COUNT bytes, and then NewPtr 8 and DisposePtr behind it in turn
-  freed COUNT CALLS    CALLS pointers behind COUNT free bytes, of which each is disposed of, the last one first
+  behind COUNT CALLS   a pointer of COUNT bytes, and then NewPtr 8 and DisposePtr after it in turn
+  freed COUNT CALLS    CALLS pointers after COUNT free bytes, of which each is disposed of, the last one first
   sizes COUNT CALLS    a handle of COUNT bytes gets half of them and all of them in turn
   inside COUNT CALLS   GetHandleSize of a number inside a pointer's COUNT bytes
   slid COUNT CALLS     so many handles nearly fill the zone, and their one gap slides up and down in turn
@@ -92,18 +92,18 @@ def names(count, calls):
 
 
 def holes(count, calls):
-    """So many holes between pointers, and then calls that find the free block behind them all."""
+    """So many holes between pointers, and then calls that find the free block after them all."""
     lines = [f"{name_of(i)} = NewPtr 8" for i in range(2 * count)] + [f"DisposePtr {name_of(2 * i)}" for i in range(count)]
     return lines + ["p = NewPtr 100", "DisposePtr p"] * (calls // 2)
 
 
 def behind(count, calls):
-    """Pointers behind a large one."""
+    """Pointers after a large one."""
     return [f"b = NewPtr {count}"] + ["p = NewPtr 8", "DisposePtr p"] * (calls // 2)
 
 
 def freed(count, calls):
-    """Pointers disposed of behind many free bytes."""
+    """Pointers disposed of after many free bytes."""
     made = [f"{name_of(i)} = NewPtr 8" for i in range(calls)]
     return [f"a_b = NewPtr {count}"] + made + ["DisposePtr a_b"] + [f"DisposePtr {name_of(i)}" for i in reversed(range(calls))]
 
@@ -134,7 +134,7 @@ def slid(count, calls):
 
 
 def in_one_gap(count):
-    """So many handles of 36 bytes, and one behind them that leaves no free byte."""
+    """So many handles of 36 bytes, and one after them that leaves no free byte."""
     made = [f"{name_of(i)} = NewHandle 36" for i in range(count)]
     return made + [f"NewHandle {room_beside(count + 1) - 44 * count - 8}"]
 

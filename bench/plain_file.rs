@@ -20,7 +20,7 @@ fn number(bytes: &[u8], at: usize) -> u64 {
     u64::from(u32::from_be_bytes([bytes[at], bytes[at + 1], bytes[at + 2], bytes[at + 3]]))
 }
 
-/// Where each resource's bytes stand, and how many they are.
+/// Where each resource's bytes are, and how many they are.
 fn list(file: &File) -> Result<Vec<(u64, usize)>, Error> {
     let mut header = [0; 256];
     file.read_exact_at(&mut header, 0)?;

@@ -1,4 +1,4 @@
-/* Tells how fast a processor runs a loop like that of an update that is too big, in nanoseconds a row: a list of handles is gone
+/* Shows how fast a processor runs a loop like that of an update that is too big, in nanoseconds a row: a list of handles is gone
    through, and how many bytes each has is read from a table. What else runs on the other half of the same core shows here, as it does
    in the program; in a chain of additions, each of which waits for the one before, it doesn't. bench/quiet.py builds it. */
 #include <stdint.h>

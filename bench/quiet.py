@@ -2,8 +2,8 @@
 """Times the update that is too big by a byte, and says how quiet the machine was: quiet.py PROGRAM [RUNS].
 
 PROGRAM is a macheap. Each run of the script (5,457 changed resources, and UpdateResFile at each line that there may be) is made on one
-processor, and before and behind it that processor runs the loop of quiet.c, which takes twice as long where the host's other work
-shares it. What is told of each: the nanoseconds that a row took in C before and behind, and the seconds of processor time of the run.
+processor, and before and after it that processor runs the loop of quiet.c, which takes twice as long where the host's other work
+shares it. What is shown of each: the nanoseconds that a row took in C before and after, and the seconds of processor time of the run.
 It needs a C compiler and Linux.
 """
 import os
@@ -28,8 +28,8 @@ def main(program, runs):
             os.sched_setaffinity(0, {processors[it % len(processors)]})
             before = float(subprocess.run([loop], check=True, capture_output=True).stdout)
             used = run(program, folder, forks, script)[1]
-            behind = float(subprocess.run([loop], check=True, capture_output=True).stdout)
-            print(f"{before:5.2f} ns a row, then {used.ru_utime + used.ru_stime:5.2f} s, then {behind:5.2f} ns a row", flush=True)
+            after = float(subprocess.run([loop], check=True, capture_output=True).stdout)
+            print(f"{before:5.2f} ns a row, then {used.ru_utime + used.ru_stime:5.2f} s, then {after:5.2f} ns a row", flush=True)
 
 
 if __name__ == "__main__":

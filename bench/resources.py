@@ -2,7 +2,7 @@
 """Times calls on resource files: resources.py PROGRAM [RUNS].
 
 First a fork of 744 KB with 500 resources is opened, listed, loaded and updated, beside a plain program (bench/plain_file.rs) that
-reads the same bytes from a file, or writes them to one and syncs it: once by the processor time behind the start of both, and once by the clock,
+reads the same bytes from a file, or writes them to one and syncs it: once by the processor time after the start of both, and once by the clock,
 with it, on a disk, and beside a plain program that makes the same calls on the file, too. Then calls are made on each of so many resources, with the time of one call; where it
 doubles with their number, the calls together take four times as long. A fork that was written has 5,458 resources of one type
 at most, so the calls that add and write are timed up to there.
@@ -78,7 +78,7 @@ class Bench:
         return least
 
     def behind(self, fork, before, lines, first=None):
-        """The time of lines behind others; those may run over another fork."""
+        """The time of lines after others; those may run over another fork."""
         return self.least(fork, before + lines) - self.least(fork if first is None else first, before)
 
     def plainly(self, what, fork):
@@ -186,7 +186,7 @@ def calls(bench):
         first = b"" if title == "opened" else None
         each = [bench.behind(fork(it), before(it), lines(it), first) * 1e9 / it for it in counts]
         shown = "".join(f" {taken:9.0f} ({it:4})" for taken, it in zip(each, counts))
-        # where the first is lost in the noise there is no growth to tell
+        # where the first is lost in the noise there is no growth to show
         growth = f"{100 * each[-1] / each[0]:7.0f}%" if each[0] > 0 else f"{'-':>8}"
         print(f"{title:34}{shown} {growth}", flush=True)
 

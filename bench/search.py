@@ -3,8 +3,8 @@
 
 PROGRAM is a macheap. One of the hostile zones and files below is made, and then one to eight random calls on it are repeated, some hundred
 times, at times with answers of the grow-zone procedure. What the later ones of these lines take is reckoned up to a script of 65,536
-lines; where that is more than two seconds, the whole script is run, and where it does take so long, it is told with its seconds of
-processor time and the bytes that it printed. A line may take long for what it prints, writes to a file or moves: so each that is told is
+lines; where that is more than two seconds, the whole script is run, and where it does take so long, it is shown with its seconds of
+processor time and the bytes that it printed. A line may take long for what it prints, writes to a file or moves: so each that is shown is
 to be looked at. It ends after so many seconds.
 """
 import os
@@ -126,7 +126,7 @@ def seconds_of(program, folder, state, lines):
 
 
 def tried(program, folder, state, calls):
-    """Tries calls: what is told of them, if they are slow."""
+    """Tries calls: what is said of them, if they are slow."""
     setup = ["x=NewHandle 8", "y=NewPtr 8"] + state.lines
     few = 10 if any("ResFile" in it or "WriteResource" in it for it in calls) else 1
     first, more = FIRST // few, MORE // few

@@ -1,6 +1,6 @@
-/* What all open resource files have together, however they were opened and closed and whichever is the current one: told by plain arrays of
+/* What all open resource files have together, however they were opened and closed and whichever is the current one, by plain arrays of
  * what each file has (Inside Macintosh: More Macintosh Toolbox, chapter 1, "Counting and Listing Resource Types" and "Getting a Unique
- * Resource ID"). It compares what C is told with these, prints a line for each that differs, and ends with status 1 then. */
+ * Resource ID"). It compares what C gets with these, prints a line for each that differs, and ends with status 1 then. */
 #include "checks.h"
 #include "macheap_fork.h"
 #include "resman.h"
@@ -38,7 +38,7 @@ static bool has(const Open *file, uint32_t kind, int32_t id) {
     return false;
 }
 
-/* Opens a file on a fork with what is in `open[opened]`, whose resources of a type stand together. */
+/* Opens a file on a fork with what is in `open[opened]`, whose resources of a type are together. */
 static void open_it(void) {
     static const MfExtra extra;
     Open *file = &open[opened];
@@ -87,7 +87,7 @@ static Open *current_file(void) {
     exit(2);
 }
 
-/* A new resource stands behind the others of its type, or last. */
+/* A new resource comes after the others of its type, or last. */
 static void add_one(void) {
     Open *file = current_file();
     Has new = {KIND[below(KINDS)], below(40), (int16_t)(126 + below(9))};

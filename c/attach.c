@@ -185,7 +185,7 @@ static MhZone varied(uint32_t mode, uint32_t size, uint32_t limit) {
     return zone;
 }
 
-/* Random bytes: all of them; behind a right header; or a run of them within a zone. */
+/* Random bytes: all of them; after a right header; or a run of them within a zone. */
 static void random_bytes(uint32_t zones) {
     uint32_t refused = 0;
     for (uint32_t n = 0; n < zones; n++) {

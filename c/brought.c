@@ -1,6 +1,6 @@
-/* Makes the calls that bring bytes from outside the zone, and compares what C is told with what is expected. Next it makes 20,000
+/* Makes the calls that bring bytes from outside the zone, and compares what C gets with what is expected. Next it makes 20,000
  * random calls in each mode on two zones that begin alike: in the one bytes come from outside, in the other the same bytes from a
- * pointer's block. Both have to be told the same, and to have the same bytes throughout; and each handle those that were put there
+ * pointer's block. Both have to give the same answers, and to have the same bytes throughout; and each handle those that were put there
  * last. It prints a line for each that differs, and ends with status 1 then. */
 #include "checks.h"
 #include "macheap.h"
@@ -36,7 +36,7 @@ static void has(int line, MhZone *zone, uint32_t handle, const uint8_t *wanted, 
 }
 #define HAS(zone, handle, text) has(__LINE__, zone, handle, (const uint8_t *)(text), (uint32_t)strlen(text))
 
-/* The block whose header stands at an address. */
+/* The block whose header is at an address. */
 static void stands(int line, MhZone *zone, MhBlock wanted) {
     MhBlock block = {0};
     same(line, "the code of mh_block", mh_block(zone, wanted.address, &block), MH_NO_ERR);
@@ -182,7 +182,7 @@ typedef struct Kept {
 } Kept;
 static Kept kept[KEPT];
 
-/* Both zones are told the same by a call on one operand. */
+/* A call on one operand answers the same in both zones. */
 typedef MhErr OneOperand(MhZone *, uint32_t);
 static MhErr both(int line, OneOperand *call, uint32_t operand) {
     MhErr code = call(&zones[0], operand);

@@ -1,4 +1,4 @@
-/* Makes calls of the library in C, and compares what C is told with what is expected. It prints a line for each that
+/* Makes calls of the library in C, and compares what C gets with what is expected. It prints a line for each that
  * differs, and ends with status 1 then. */
 #include "checks.h"
 #include "macheap.h"
@@ -96,7 +96,7 @@ static void misuse(void) {
         IS(mh_ask(&zone, 0, &ask), MH_PARAM_ERR);
         IS(mh_carried(&zone, 0, 0, &carried), MH_PARAM_ERR);
         IS(mh_window(&zone, BASE + 0x3C, &window), MH_PARAM_ERR);
-        if (round == 0) { /* once more behind a zone that has ended */
+        if (round == 0) { /* once more after a zone that has ended */
             zone = fresh();
             ended(&zone);
         }

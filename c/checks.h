@@ -1,4 +1,4 @@
-/* How the tests of the library compare what C is told with what is expected. */
+/* How the tests of the library compare what C gets with what is expected. */
 #ifndef CHECKS_H
 #define CHECKS_H
 

@@ -1,6 +1,6 @@
 /* Lists the resource fork that a file holds as `resfork ls --raw` does, with all bytes of each resource read as well, and writes the fork of
  * what was read, to the second file where one is named: the code of that is the last line. Then the fork is refused cut short, row by row
- * behind the last, and into too little room, and tables that aren't written are refused. */
+ * after the last, and into too little room, and tables that aren't written are refused. */
 #include "macheap_fork.h"
 
 #include <inttypes.h>
@@ -74,7 +74,7 @@ static size_t data_of(size_t count) {
     return all;
 }
 
-/* Reads a resource, and lists it. Its name and its data go behind those of the resources before it. */
+/* Reads a resource, and lists it. Its name and its data go after those of the resources before it. */
 static void list(size_t length, size_t n) {
     MfRow *row = &rows[n];
     size_t name_at = names_of(n), data_at = data_of(n);
@@ -120,7 +120,7 @@ static MfErr length_of(size_t count, size_t *length) {
     return mf_written_length(rows, count, names, names_of(count), data, data_of(count), &extra, length);
 }
 
-/* Writes the fork of the rows that were read to a file: where it is read, the same rows stand in it. */
+/* Writes the fork of the rows that were read to a file: where it is read, the same rows are in it. */
 static MfErr write(size_t count, const char *name) {
     size_t length = 77, found = 0, names_length = names_of(count), data_length = data_of(count);
     MfErr code = length_of(count, &length);

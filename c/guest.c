@@ -1,5 +1,5 @@
 /* A zone in memory of the host that a guest writes: makes calls on it, each between mh_wake or mh_wake_written and
- * mh_sleep, and compares what C is told, and the bytes, with what is expected. It prints a line for each that differs, and
+ * mh_sleep, and compares what C gets, and the bytes, with what is expected. It prints a line for each that differs, and
  * ends with status 1 then. With the word `time` it prints how long such a call takes, and how long zones of many
  * megabytes take to make. */
 #include "checks.h"
@@ -225,7 +225,7 @@ static void refused(Guest *guest, const uint8_t *bits, const MhWritten *written,
     ram[at] ^= change;
 }
 
-/* A guest that writes contents and flags at random, and tells where: the zone wakes by these ranges alone, with its bytes
+/* A guest that writes contents and flags at random, and says where: the zone wakes by these ranges alone, with its bytes
  * and flags just as they are. */
 static void told_writes(uint32_t mode, uint32_t calls) {
     enum { RANGES = 6, SIZE = 0x4000, ODD = 3 };

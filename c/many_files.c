@@ -1,4 +1,4 @@
-/* As many resource files as can be open, each with a resource of its own and one that all have. It compares what C is told with what is
+/* As many resource files as can be open, each with a resource of its own and one that all have. It compares what C gets with what is
  * expected, prints a line for each that differs, and ends with status 1 then. */
 #include "checks.h"
 #include "macheap_fork.h"

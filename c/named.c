@@ -1,5 +1,5 @@
 /* Resources by their names, and other names for them: in forks that are made here, and in those of the files that its words name, whose
- * maps it reads by itself. It compares what C is told with what is expected, prints a line for each that differs, and ends with status 1
+ * maps it reads by itself. It compares what C gets with what is expected, prints a line for each that differs, and ends with status 1
  * then. */
 #include "checks.h"
 #include "macheap_fork.h"

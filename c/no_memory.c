@@ -47,7 +47,7 @@ static MhErr adds(MrFiles *files, MhZone *zone) {
 static MhErr updates(MrFiles *files, MhZone *zone) { return mr_update_res_file(files, zone, 1); }
 static MhErr sizes(MrFiles *files, MhZone *zone) { return mr_set_resource_size(files, zone, number, 900); }
 
-/* The call with each of its allocations failing in turn, behind those before it. */
+/* The call with each of its allocations failing in turn, after those before it. */
 static void in_turn(Makes *const *before, size_t some, Makes *call) {
     MhErr code = MH_MEM_FULL_ERR;
     bool writes = call == updates || call == sizes;

@@ -1,6 +1,6 @@
-/* Some of the bytes of resources, read from their forks and written there, and other sizes: told by arrays of what each resource has in its
- * fork and in memory (Inside Macintosh: More Macintosh Toolbox, chapter 1, "Reading and Writing Partial Resources"). It compares what C is
- * told, and forks that are opened once more, with these, prints a line for each that differs, and ends with status 1 then. */
+/* Some of the bytes of resources, read from their forks and written there, and other sizes, by arrays of what each resource has in its
+ * fork and in memory (Inside Macintosh: More Macintosh Toolbox, chapter 1, "Reading and Writing Partial Resources"). It compares what C
+ * gets, and forks that are opened once more, with these, prints a line for each that differs, and ends with status 1 then. */
 #include "checks.h"
 #include "macheap_fork.h"
 #include "resman.h"

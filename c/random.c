@@ -1,4 +1,4 @@
-/* Makes random calls on a zone, and writes them as a script to the first file and what C is told as replies to the second: macheap
+/* Makes random calls on a zone, and writes them as a script to the first file and what C gets as replies to the second: macheap
  * prints the same replies for that script. Its words: the files, a seed, and how many calls. With an odd seed no block is lent, and
  * after each call the words of the zone's header are compared with a walk over its blocks. With a seed that leaves 3 when divided by 4
  * the zone is in memory of a guest, who writes bytes and flags there itself while the zone sleeps, and once in 1,000 calls damages it:
@@ -35,7 +35,7 @@ static uint32_t lent_block(void) { return below(8) ? lent[below(LENT)] : block()
 
 static uint32_t size(void) { return below(60) ? below(below(4) ? 60 : 900) : 8388600 + below(16); }
 
-/* The reply of a call with a number, which stands behind `sign`. */
+/* The reply of a call with a number, which comes after `sign`. */
 static void told(const char *name, MhErr code, const char *sign, uint32_t number) {
     fprintf(replies, "%d %s", line, name);
     if (code == MH_NO_ERR && sign) fprintf(replies, *sign ? " $%08" PRIX32 : " %" PRIu32, number);

@@ -1,6 +1,6 @@
-/* Makes random calls on a zone and two resource files, and writes them as a script to the first file and what C is
- * told as replies to the second: macheap prints the same replies for that script, over the two forks that are written
- * to the fifth and the sixth, and leaves in them what this program writes beside them, with .new behind. Its words:
+/* Makes random calls on a zone and two resource files, and writes them as a script to the first file and what C
+ * gets as replies to the second: macheap prints the same replies for that script, over the two forks that are written
+ * to the fifth and the sixth, and leaves in them what this program writes beside them, with .new added. Its words:
  * the files, a seed, how many calls, and the forks. */
 #include "macheap_fork.h"
 #include "resman.h"
@@ -41,7 +41,7 @@ static void keep(MhErr code, uint32_t one) {
     if (code == MH_NO_ERR) kept[below(KEPT)] = one;
 }
 
-/* The reply of a call with a number, which stands behind `sign`, and the answers that it took. */
+/* The reply of a call with a number, which comes after `sign`, and the answers that it took. */
 static void told(const char *name, MhErr code, const char *sign, uint32_t number) {
     fprintf(replies, "%d %s", line, name);
     if (code == MH_NO_ERR && sign) fprintf(replies, *sign ? " $%08" PRIX32 : " %" PRIu32, number);
@@ -80,7 +80,7 @@ static void looks(void) {
     told(calls[which].name, code, "", number);
 }
 
-/* The reply of a call that gives a resource type, and what stands behind it. */
+/* The reply of a call that gives a resource type, and what comes after it. */
 static void told_kind(const char *name, MhErr code, const char *before, uint32_t kind, const char *after) {
     fprintf(replies, "%d %s", line, name);
     int a = (int)(kind >> 24), b = (int)(kind >> 16 & 255), c = (int)(kind >> 8 & 255), d = (int)(kind & 255);

@@ -1,5 +1,5 @@
 /* A zone and resource files that go from thread to thread: four threads take turns at 20,000 calls, under a lock. One thread alone makes the
- * same calls on another zone and other files. Both have to be told the same, and to leave the same bytes. */
+ * same calls on another zone and other files. Both have to get the same answers, and to leave the same bytes. */
 #include "checks.h"
 #include "resman.h"
 
@@ -13,7 +13,7 @@ typedef struct Work {
     MrFiles files;
     uint32_t file;
     uint32_t handles[KEPT];
-    uint64_t told; /* a sum of all that C was told */
+    uint64_t told; /* a sum of all that C got */
     int calls, made;
 } Work;
 

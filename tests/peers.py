@@ -75,7 +75,7 @@ class Peers:
             return None
 
     def made(self, words, output=None):
-        """The file that a program makes: its standard output, or a file that it was told."""
+        """The file that a program makes: its standard output, or a file that it was given."""
         done = self.run(words)
         if done is None:
             return None
@@ -160,7 +160,7 @@ def beside_font_tools(peers, python, path):
 
 
 def beside_exif_tool(peers, path):
-    """Compares types, ids and lengths with those that exiftool tells; it tells at most some of a long list, by type."""
+    """Compares types, ids and lengths with those that exiftool lists; it lists at most some of a long list, by type."""
     done = peers.run(["exiftool", "-v3", "-m", path])
     if done is None:
         return
@@ -210,7 +210,7 @@ def beside_fork(peers, way, path, fork):
     tried(peers, way)
 
 
-# what programs that read fonts are told of a file: of a raw fork, and of a container of each kind. (FreeType takes each MacBinary file
+# how programs that read fonts are run on a file: on a raw fork, and on a container of each kind. (FreeType takes each MacBinary file
 # whose name has two letters for a Windows font, whose first bytes are those, too. So no file here has such a name.)
 FONTS = {
     "fork": [["ftdump", "-n"], ["fontforge", "-quiet", "-lang=ff", "-c", 'Open($1); Print($fontname, " ", CharCnt())'], ["t1unmac", "--raw"]],
@@ -394,7 +394,7 @@ def raw_forks(peers, named):
 
 
 def containers(peers, fork):
-    """A fork in the containers that tools make of it: the way, and the path. A tool that can't is told of."""
+    """A fork in the containers that tools make of it: the way, and the path. A tool that can't is named."""
     name = os.path.basename(fork)
     with open(os.path.join(peers.folder, "bh.pl"), "w", encoding="ascii") as script:
         script.write(

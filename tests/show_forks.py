@@ -21,7 +21,7 @@ def resources(fork):
 
 
 def dump(fork):
-    """The bytes in lines of 16: where they stand, their digits, and those that are printable."""
+    """The bytes in lines of 16: where they are, their digits, and those that are printable."""
     before, is_told, text = None, False, ""
     for at in range(0, len(fork), 16):
         line = fork[at : at + 16]

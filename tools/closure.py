@@ -1,7 +1,7 @@
 #!/usr/bin/env python3
 """Prints what a reader must believe to believe the clauses of a function: the definitions that they name, and those that these name.
 
-    tools/closure.py                        the definitions behind `script_run::run`, counted by crate
+    tools/closure.py                        the definitions that `script_run::run` needs, counted by crate
     tools/closure.py crates/toolbox/src/toolbox.rt step
     tools/closure.py --list ..              each definition with its file and its lines
 

@@ -1,7 +1,7 @@
 #!/usr/bin/env python3
 """Lists the functions that only call a function or a method of their own name, and counts them: forwards.py [CRATE..].
 
-The call may stand in `Ok(..)` or `Some(..)`, and `?`, `;` or a `.map(..)` may come after it. Tests don't count.
+The call may be in `Ok(..)` or `Some(..)`, and `?`, `;` or a `.map(..)` may come after it. Tests don't count.
 """
 import pathlib
 import re

@@ -30,13 +30,13 @@ def edits(crate):
 
 
 def without_brackets(text):
-    """The text without what stands in angle brackets: of `<S: ForkStore> Toolbox<S>` the name."""
+    """The text without what is in angle brackets: of `<S: ForkStore> Toolbox<S>` the name."""
     shorter = re.sub(r"<[^<>]*>", "", text)
     return text if shorter == text else without_brackets(shorter)
 
 
 def owner_of(around):
-    """The type or trait that a line `impl ..` or `pub trait ..` names, whether its functions are public as they stand, and the trait, if any."""
+    """The type or trait that a line `impl ..` or `pub trait ..` names, whether its functions are public as they are, and the trait, if any."""
     word, rest = AROUND.match(around).groups()
     names = re.split(r"[\s:{]", without_brackets(rest.replace("->", "")).strip().replace(" for ", "#"))[0].split("#")
     return names[-1], word == "pub trait" or len(names) == 2, len(names) == 2

@@ -2,7 +2,7 @@
 """Lists the goals of a crate that cost the prover most: tools/slow_goals.py [--modules] CRATE [N].
 
 It reads what a check from nothing left in crates/CRATE/out/incremental. A step is one of the prover's own, so what is
-listed doesn't depend on what else ran: a million is a second, or a little more. Behind a second check of changed
+listed doesn't depend on what else ran: a million is a second, or a little more. After a second check of changed
 files the goals of both are listed.
 
 With --modules it lists the modules that took longest: of a check by one job (`rt check --jobs 1`), a module took the time since

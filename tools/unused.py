@@ -5,7 +5,7 @@ unused.py [--count] [CRATE..]
 A declaration is a name at the start of a line, or of a line of a module's body, with all that
 belongs to it: its signature, its clauses, the fields of a record, the constructors of a data type.
 It is used by its name as a word outside of it, in its own file or in a file that imports it, where
-that word isn't in a comment or an import, and stands in what is used itself. Uses begin at the .rt
+that word isn't in a comment or an import, and is in what is used itself. Uses begin at the .rt
 files, at the answers of goals (what is `pub` in Answers, Proof and Invariants.antt), and at worked
 examples. `--count` prints how many there are of each crate.
 
@@ -122,7 +122,7 @@ class File:
                     self.passed[was] = path
 
     def read(self, lines):
-        heads = []  # of the modules round a line: how far their bodies stand in, and their text
+        heads = []  # of the modules round a line: how far their bodies are indented, and their text
         name, is_data = None, False  # of the declaration that lines further in belong to
         for line in lines:
             code = (COMMENT.sub("", line) if "--" in line else line).rstrip()
@@ -165,7 +165,7 @@ def unreached(files, stays):
             module = files[module].passed[name]
         if module in files:
             file = files[module]
-            # what stands between its operands is used by other words than its name
+            # what is between its operands is used by other words than its name
             for one in (file.called.get(name), *file.own_operators):
                 if one and (module, one) not in live:
                     live.add((module, one))
@@ -194,7 +194,7 @@ def unreached(files, stays):
 
 
 def uncalled(files):
-    """The files and names of the functions whose names stand nowhere else."""
+    """The files and names of the functions whose names are nowhere else."""
     uses = Counter()
     for file in files:
         uses.update(file.uses)

@@ -1,7 +1,7 @@
 #!/bin/sh
 # build_c.sh FOLDER [FLAG..]: proves crates/macheap_c and crates/fork_c and builds them as libmacheap_c.a and libfork_c.a in that folder,
 # for every processor of x86-64, or as rattle's flags say: --cpu x86-64-v3, say. (RATTLE_KIT: the kit's folder.) Where `rt` has kept
-# libraries of its own it is `rt lib` that does so; behind `rt ci`, which keeps none, it is done over those that `rt ci` has proved, which
+# libraries of its own it is `rt lib` that does so; after `rt ci`, which keeps none, it is done over those that `rt ci` has proved, which
 # `rt lib` would prove once more.
 # shellcheck disable=SC2086 # the flags are words
 set -e

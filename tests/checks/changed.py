@@ -2,7 +2,7 @@
 
 Each command is tried on random forks of tests/checks/forks.py, alone and in AppleSingle, AppleDouble, MacBinary I, II, III and BinHex: what
 is read of the new file, and what of it is no resource fork, are those of a model; so is what the command prints. Where nothing changes, the file
-isn't touched. Before them come rows by hand, with their status and what is told. Number: how many random forks.
+isn't touched. Before them come rows by hand, with their status and what is said. Number: how many random forks.
 """
 import json
 import os
@@ -26,7 +26,7 @@ from places import TOP
 RAW = (lambda fork: fork, "a resource fork", 0)
 ROWS = [(b"TEXT", 128, b"Read me", 0, b"Hi"), (b"TEXT", 5, None, 4, b""), (b"snd ", 1, None, 0, b"\0\1")]
 
-# command lines, on a file of these rows and on a damaged one, with the status and words of what is told; the file isn't touched
+# command lines, on a file of these rows and on a damaged one, with the status and words of what is said; the file isn't touched
 LINES = [
     (["put", "NO_SUCH_FILE", "TEXT", "1"], 4, "NO_SUCH_FILE: there is no such file; --create"),
     (["put", "FILE", "TEXT", "x"], 2, "-32768 to 32767"),

@@ -2,7 +2,7 @@
 
 Files with random names, dates, comments and forks are written by tests/model/contents.py in AppleSingle, AppleDouble, MacBinary III and BinHex, and
 as a fork alone. Each is converted to each; the model reads what comes out. Nothing is lost without `--lossy`: what the container can't hold is
-told by name, and no file is written. A data fork goes to the file that `--data` names, and comes from there. Number: how many files.
+named, and no file is written. A data fork goes to the file that `--data` names, and comes from there. Number: how many files.
 """
 import os
 import random

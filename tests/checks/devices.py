@@ -2,7 +2,7 @@
 
 The calls are letters: s asks for the file's length, r reads, w writes, c cuts, y syncs; capital ones are those on its journal, where it has one. A
 call that fails isn't made: the line that made it answers ioErr, and no further call is made for it. Where it came before the first write of an
-update the file keeps its bytes and stays open; else the file is closed. The lines behind it answer as on a device that works again. With a
+update the file keeps its bytes and stays open; else the file is closed. The lines after it answer as on a device that works again. With a
 journal the next start, or the next OpenResFile, finds the fork from before the update where the gate wasn't opened yet, and else the new
 one; but after a sync that failed each OpenResFile of that run answers ioErr. Needs a C compiler: `cc`, or $CC.
 """
@@ -55,7 +55,7 @@ OPENED = [
 OPENED_AGAIN = [
     ("closed", HI, "CloseResFile / OpenResFile 1 / h = GetResource 'TEXT' 128 / Peek h 0 2", "ssrrr" + "rwcy" + "ssrrr" + "r", ["..", '4 Peek "Hi" 0'], HI),
     ("closed without resources", b"", "CloseResFile / OpenResFile 1 / CountTypes", "s" + "wcy" + "ssrr", ["..", "3 CountTypes 0 0"], NONE),
-    # a changed resource, one whose edit nobody was told of, and one with other attributes
+    # a changed resource, one whose edit nobody reported, and one with other attributes
     (
         "changed and closed", fork_of(b"0"), "h = GetResource 'TEXT' 1 / SetHandleSize h 5 / Poke h 0 \"abcde\" / ChangedResource h / CloseResFile / OpenResFile 1 / k = GetResource 'TEXT' 1 / Peek k 0 5 / GetResAttrs k",
         "ssrrr" + "r" + "wcy" + "ssrrr" + "r", ["..", '8 Peek "abcde" 0', "9 GetResAttrs 0 0"], fork_of(b"abcde"),
@@ -153,7 +153,7 @@ def in_parts(play):
 
 
 def torn(made, old, new):
-    """What stands on a file without a journal where these calls of an update were made, and then one failed."""
+    """What is on a file without a journal where these calls of an update were made, and then one failed."""
     if "c" in made:
         return new
     return new + old[len(new) :] if "w" in made else old
@@ -165,13 +165,13 @@ def found(made, calls, old, new):
 
 
 class Update:
-    """A script whose last line updates a file: its calls before that line and for it, and the forks before and behind it."""
+    """A script whose last line updates a file: its calls before that line and for it, and the forks before and after it."""
 
     def __init__(self, script, fork, before, calls, new):
         self.lines, self.fork, self.before, self.calls, self.new = script.split(" / "), fork, before, calls, new
 
     def left(self, turn):
-        """What stands on the file where the call of this number of the update fails."""
+        """What is on the file where the call of this number of the update fails."""
         return torn(self.calls[: turn - 1], self.fork, self.new)
 
 
@@ -296,7 +296,7 @@ def recovered(play):
 
 def in_rows(play):
     """Each call of each of these scripts fails in turn, with a journal and without: the line that made it answers ioErr, those before it what they did without it, and
-    each behind it something. What a start finds behind that line is the fork from before it, or with a journal the one from behind it, by whether the gate was opened."""
+    each after it something. What a start finds after that line is the fork from before it, or with a journal the one from after it, by whether the gate was opened."""
     for script, fork in ROWS:
         lines = script.split(" / ")
         for journal in (None, b""):
@@ -345,7 +345,7 @@ def read_only(play):
     yield "a file to be read, with a journal", play(HI, lines, b"", DEVICE_READ_ONLY=1).fault(printed, "YS" + "ssrrr" + "r" + "SW", HI)
 
 
-# Scripts of calls that make none on the device behind the opening and these loads: the calls, and the last reply
+# Scripts of calls that make none on the device after the opening and these loads: the calls, and the last reply
 QUIET = [
     # a resource that isn't changed is written already, also where its bytes, its handle's size or its attributes are others
     ("h = GetResource 'TEXT' 1 / WriteResource h / GetResAttrs h", "r", "3 GetResAttrs 0 0"),
@@ -360,7 +360,7 @@ QUIET = [
     ("h = GetResource 'TEXT' 3 / EmptyHandle h / LoadResource h / GetHandleSize h", "", "4 GetHandleSize 0 0"),
     ("h = GetIndResource 'TEXT' 3 / ReleaseResource h / h = Get1Resource 'TEXT' 3 / GetHandleSize h", "", "4 GetHandleSize 0 0"),
     ("SetResLoad 0 / h = GetResource 'TEXT' 1 / k = GetResource 'TEXT' 3 / LoadResource k / GetHandleSize k / GetHandleSize h", "", "6 GetHandleSize -109"),
-    # what is told of a file is told without its device
+    # what is said of a file is said without its device
     ("SetResLoad 0 / h = GetResource 'TEXT' 2 / SizeResource h / GetResInfo h / CountResources 'TEXT' / UniqueID 'TEXT' / GetIndType 1 / OpenResFile 1 / HomeResFile h", "", "9 HomeResFile 1 0"),
 ]
 
@@ -385,7 +385,7 @@ FAULT_FORKS["A+1"] = FAULT_FORKS["A"] + AB[-1:]
 
 
 def faults(table):
-    """The rows of tests/cases/faults.txt: the forks, the lines, the call that fails or 0, the forks that stand then, and what is printed."""
+    """The rows of tests/cases/faults.txt: the forks, the lines, the call that fails or 0, the forks that are there then, and what is printed."""
     for row in table.read().split("\n"):
         if row.startswith("> "):
             names, script = row[2:].split(" : ")

@@ -19,7 +19,7 @@ def end_of_used(zone):
 
 
 def layout(zone, make, unit, shift, dice):
-    """Calls that make small blocks which begin at each edge, and larger ones between them: pointers, or handles behind their master blocks."""
+    """Calls that make small blocks which begin at each edge, and larger ones between them: pointers, or handles after their master blocks."""
     for _ in range(2 * SIZE // unit // 64 if make == "NewHandle" else 0):
         yield "MoreMasters", []
     for edge in range(unit, SIZE, unit):

@@ -2,7 +2,7 @@
 
 A script changes one resource, its length too, and updates the file, over and over, over a fork with a journal. It is killed at a random
 moment (SIGKILL). An empty script then has to leave a fork that was there before or after an update: the one that the last `UpdateResFile 0`
-told of, or the next. Number: how many times, 300 if left out. Where the system stays up, what a program wrote stays written: this shows nothing of
+reported, or the next. Number: how many times, 300 if left out. Where the system stays up, what a program wrote stays written: this shows nothing of
 power failures. It isn't part of the gate, since where it is killed is up to chance.
 """
 import os
@@ -23,7 +23,7 @@ def size_of(number):
 
 
 def fork_of(number):
-    """The fork behind the update of a number: one resource 'TEXT' 128, with that number first and last."""
+    """The fork after the update of a number: one resource 'TEXT' 128, with that number first and last."""
     data = bytearray(size_of(number))
     data[:4] = data[-4:] = struct.pack(">I", number)
     length = 4 + len(data)
@@ -33,7 +33,7 @@ def fork_of(number):
 
 
 def script(number):
-    """A script that makes the updates behind the one of this number."""
+    """A script that makes the updates after the one of this number."""
     lines = ["h = GetResource 'TEXT' 128"]
     for it in range(number + 1, number + 1 + UPDATES):
         size, mark = size_of(it), struct.pack(">I", it).hex()

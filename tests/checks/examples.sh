@@ -7,7 +7,7 @@
 # The comment lines at the head of a script may have a line '# macheap WORDS' with the options that the program is to
 # be given (none: no options), and a line '# exit status N' (none: 0).
 #
-# A file that two words '--fork FILE' name stands in a folder of the run's own: as a copy of examples/FILE, if there is one, and else it
+# A file that two words '--fork FILE' name is in a folder of the run's own: as a copy of examples/FILE, if there is one, and else it
 # is missing. What the files are then is compared with examples/NAME.forks: a file is as it was, or it is shown by
 # tests/show_forks.py. A comment line '# FILE becomes OTHER' says that FILE has the bytes of examples/OTHER then.
 set -uo pipefail

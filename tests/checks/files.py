@@ -18,7 +18,7 @@ PROBES = "ZoneMap / CountResources 'TEXT' / CountTypes / GetResAttrs h / CurResF
 
 
 def fork_of(data, rest):
-    """The fork with this data, and behind it the map that has this behind its copy of the header."""
+    """The fork with this data, and after it the map that has this after its copy of the header."""
     data, rest = bytes.fromhex(data), bytes.fromhex(rest)
     header = b"".join(it.to_bytes(4, "big") for it in (256, 256 + len(data), len(data), 16 + len(rest)))
     return header + bytes(240) + data + header + rest
@@ -31,7 +31,7 @@ HI, ZERO, BARE = fork_of("00000002 4869", ONE), fork_of("00000001 00", ONE), for
 NAMED = fork_of("00000002 4869", ONE.replace("FFFF", "0000") + "01 6E")
 # the first of these with its map first
 HI_MAP_FIRST = bytes.fromhex("00000132 00000100 00000006 00000032") + bytes(240) + HI[262:] + HI[256:262]
-# "Hi" with 'TEXT' 5 behind its resource, of three bytes of zero
+# "Hi" with 'TEXT' 5 after its resource, of three bytes of zero
 HI_AND_ZEROS = fork_of(
     "00000002 4869 00000003 000000",
     "00000000 0000 0000 001C 003E 0000 54455854 0001 000A 0080 FFFF 00 000000 00000000 0005 FFFF 00 000006 00000000",
@@ -80,7 +80,7 @@ ROWS = [
         "1 NewHandle $0010003C 0 / 2 NewHandle $00100040 0 / 3 AddResource 0 / 4 AddResource 0 / 5 GetResource $0010003C 0 / 6 CountResources 2 0 / 7 UpdateResFile 0",
         [TWO_ZEROS],
     ),
-    # forks that can't be read, and one whose map stands first
+    # forks that can't be read, and one whose map is first
     ([HI[:-1]], "GetResource 'TEXT' 128", "0 OpenResFile -199 / 1 GetResource -193", [HI[:-1]]),
     ([HI[:10]], "", "0 OpenResFile -39", [HI[:10]]),
     ([HI_MAP_FIRST], "h = GetResource 'TEXT' 128 / Peek h 0 2", '1 GetResource $0010003C 0 / 2 Peek "Hi" 0', [HI_MAP_FIRST]),
@@ -105,7 +105,7 @@ ROWS = [
         "1 SetResLoad 0 / 2 GetResource $0010003C 0 / 3 GetHandleSize -109 / 4 LoadResource 0 / 5 GetHandleSize 2 0 / 6 GetResInfo 128 'TEXT' none 0 / 7 GetIndResource $0010003C 0 / 8 GetIndResource -192",
         [HI],
     ),
-    # what is told of a resource, and one that is written alone
+    # what is said of a resource, and one that is written alone
     (
         [b""],
         "h = NewHandle 2 / Poke h 0 \"Hi\" / AddResource h 'TEXT' 128 \"n\" / UniqueID 'TEXT' / CountTypes / GetIndType 1 / GetIndType 2 / ReleaseResource h / WriteResource h / GetResInfo h / SizeResource h / ReleaseResource h / GetHandleSize h / ResError / k = GetResource 'TEXT' 128 / Peek k 0 2",
@@ -171,7 +171,7 @@ ROWS = [
         "1 GetResource $0010003C 0 / 2 HLock 0 / 3 Lend 0 / 4 NewHandle $00100040 0 / 5 AddResource 0 / 6 HLock 0 / 7 Lend 0 / 8 GetResource $0010003C 0 / 9 LoadResource 0 / 10 WriteResource 0 / 11 ReleaseResource 0 / 12 Return 0 / 13 UpdateResFile 0 / 14 CloseResFile -117 / 15 Return 0 / 16 CloseResFile 0",
         [HI_AND_ZEROS],
     ),
-    # a lent handle is told of, marked, taken out and added again; it is written once it is returned
+    # a lent handle is reported, marked, taken out and added again; it is written once it is returned
     (
         [HI],
         "h = GetResource 'TEXT' 128 / HLock h / Lend h / SizeResource h / GetResInfo h / HomeResFile h / ChangedResource h / SetResAttrs h 16 / GetResAttrs h / UpdateResFile / RemoveResource h / CountResources 'TEXT' / AddResource h 'TEXT' 128 / WriteResource h / Return h / WriteResource h / GetResAttrs h / HGetState h",
@@ -189,7 +189,7 @@ ROWS = [
 
 
 class Words:
-    """The rows of a text, `A1` for the id 1 of the type 'AAAA'. The bytes of each are a tag that tells it from all others."""
+    """The rows of a text, `A1` for the id 1 of the type 'AAAA'. The bytes of each are a tag that distinguishes it from all others."""
 
     def __init__(self, text, file=1):
         self.words, self.file = text.split(), file
@@ -403,7 +403,7 @@ def large_update():
         yield [old], f"--zone 4096 --limit 1048576 : {' / '.join(lines)}", f".. / 2 AddResource 0 / 3 UpdateResFile {code}", [old if code else new]
 
 
-# Steps in turn, and the rows behind each, of which those with `@` have a handle. `+` adds a row, whose tag tells which it is; `-` takes the one
+# Steps in turn, and the rows after each, of which those with `@` have a handle. `+` adds a row, whose tag says which it is; `-` takes the one
 # of a tag out; `!` writes it and releases its handle; `=` loads the one that is found by its type and id; `~` disposes of its handle.
 STEPS = """+A1: A1.0@
 +B1: A1.0@ B1.1@
@@ -444,7 +444,7 @@ def step_of(step, rows):
 
 
 def told_of(lines, number, there):
-    """Adds the questions behind a step, of which this many rows were added, and gives what they print."""
+    """Adds the questions after a step, of which this many rows were added, and gives what they print."""
     kinds, printed = list(dict.fromkeys(it[0] for it in there)), []
     with_handles = {it.rstrip("@").split(".")[1] for it in there if it.endswith("@")}
     for index in range(number):
@@ -463,7 +463,7 @@ def told_of(lines, number, there):
 
 
 def steps():
-    """A script for the steps up to each, and the questions behind it."""
+    """A script for the steps up to each, and the questions after it."""
     lines, rows = [], []
     for line in STEPS.split("\n"):
         step, there = line.split(": ")

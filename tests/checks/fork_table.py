@@ -1,7 +1,7 @@
 """Checks what resfork and macheap read of the forks of tests/cases/forks.txt, and what macheap writes of them.
 
-Of each fork resfork's list and the bytes of every resource are compared, and what macheap tells of each resource: its type, id, name,
-attributes and bytes. Where the bytes are no fork, resfork tells the condition, and macheap's OpenResFile its code. Nothing
+Of each fork resfork's list and the bytes of every resource are compared, and what macheap says of each resource: its type, id, name,
+attributes and bytes. Where the bytes are no fork, resfork names the condition, and macheap's OpenResFile its code. Nothing
 but an update changes the file.
 """
 import os

@@ -2,7 +2,7 @@
 
 The forks are such as the Resource Manager and other tools write: with the data or the map first, with data and names that are shared, with gaps, with
 reserved fields of any value; many of them are then cut or damaged. Of each fork the list is compared, and the bytes of a few
-resources, with their exit statuses and with what is told of a fork that is none; and macheap opens it, and tells of each resource its
+resources, with their exit statuses and with what is said of a fork that is none; and macheap opens it, and says of each resource its
 type, id, name, attributes and bytes. By default it tries 200 forks. Each is made from its number, so a difference can be made
 again. Before them come command lines, and forks at the limits. Numbers: how many forks, and the number of the first.
 """
@@ -85,7 +85,7 @@ class Choices:
         return pool + (self.some_bytes(9) if gaps else b""), places
 
     def map_of(self, types, data_places, name_places, names):
-        """The map, whose lists stand in some order; without the copy of the header."""
+        """The map, whose lists are in some order; without the copy of the header."""
         odd = self.odds(0.3)
         entries, lists, data_places, name_places = b"", b"", iter(data_places), iter(name_places)
         front = self.some_bytes(8) if odd else b""
@@ -99,14 +99,14 @@ class Choices:
                 reserved = self.random.randrange(2**32) if odd else 0
                 lists += struct.pack(">hHB", row.ident, name_at, row.attributes) + next(data_places).to_bytes(3, "big") + struct.pack(">I", reserved)
         body = struct.pack(">H", (len(types) - 1) % 65536) + entries + between + lists
-        behind = self.some_bytes(8) if odd else b""
+        after = self.some_bytes(8) if odd else b""
         types_at = 28 + len(front)
-        names_at = types_at + len(body) + len(behind)
-        if odd and self.odds(0.3):  # the names stand before the types
+        names_at = types_at + len(body) + len(after)
+        if odd and self.odds(0.3):  # the names are before the types
             names_at, types_at = 28 + len(front), 28 + len(front) + len(names)
-            parts = front + names + body + behind
+            parts = front + names + body + after
         else:
-            parts = front + body + behind + names
+            parts = front + body + after + names
         fields = struct.pack(">IHH", *(self.random.randrange(2**it) for it in (32, 16, 16))) if odd else bytes(8)
         return fields + struct.pack(">2H", types_at, names_at) + parts
 
@@ -115,9 +115,9 @@ class Choices:
         odd = self.odds(0.3)
         front = self.some_bytes(20) if odd else self.random.randbytes(240)
         between = self.some_bytes(20) if odd else b""
-        behind = self.some_bytes(20) if odd else b""
+        after = self.some_bytes(20) if odd else b""
         map_length = 16 + len(the_map)
-        if self.odds(0.4):  # the map stands first
+        if self.odds(0.4):  # the map is first
             map_at = 16 + len(front)
             data_at = map_at + map_length + len(between)
         else:
@@ -129,7 +129,7 @@ class Choices:
         fork = header + front
         for at, part in sorted(parts):
             fork = fork.ljust(at, b"\x55") + part
-        return self.damaged(bytearray(fork + behind), map_at)
+        return self.damaged(bytearray(fork + after), map_at)
 
     def damaged(self, fork, map_at):
         dice = self.random.random()
@@ -150,7 +150,7 @@ class Choices:
 
 
 def one_map(kinds, references, names=b""):
-    """A fork without extra bytes whose map stands first, of one empty datum: types with these counts, and their references as they stand."""
+    """A fork without extra bytes whose map is first, of one empty datum: types with these counts, and their references as they are."""
     first, entries = 2 + 8 * len(kinds), b""
     for kind, count in kinds:
         entries += struct.pack(">4s2H", kind, (count - 1) % 65536, first)
@@ -199,7 +199,7 @@ def limits():
     yield "9,000,000 bytes", small.ljust(9000000, b"\0")
 
 
-# command lines, with their status, and words of what is told on standard error
+# command lines, with their status, and words of what is printed on standard error
 LINES = [
     (["--help"], 0, ""),
     (["--version"], 0, ""),
@@ -269,7 +269,7 @@ def run(program, words):
 
 
 def compare(what, got, status, output, told):
-    """Compares what a program did with what it should: status, output, and words of what it tells, or a pattern of them."""
+    """Compares what a program did with what it should: status, output, and words of what it says, or a pattern of them."""
     if got[0] != status:
         raise Difference(f"{what}: status {got[0]} and not {status}; it told {got[2]!r}")
     if output is not None and got[1] != output:
@@ -293,7 +293,7 @@ def name_operand(name, choice):
 
 
 def try_open(program, path, fork):
-    """Compares what macheap tells of a fork. A file without bytes is a new one, which isn't refused."""
+    """Compares what macheap says of a fork. A file without bytes is a new one, which isn't refused."""
     try:
         rows = read_fork(fork) if fork else []
     except NoFork as fault:

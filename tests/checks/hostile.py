@@ -2,7 +2,7 @@
 
 For each call, at each operand, zones of both modes are given sizes at their limits and far over them, numbers that were never live or
 are not any more, a pointer for a handle and a handle for a pointer, an empty handle, a lent block, and addresses inside blocks; the other
-operands are as they should be. Each reply is the model's, and a ZoneMap behind each shows the blocks as they are then: where the
+operands are as they should be. Each reply is the model's, and a ZoneMap after each shows the blocks as they are then: where the
 call was refused, but for want of room, just as they were before.
 """
 import subprocess
@@ -97,7 +97,7 @@ class Heap:
         return EXTREMES + others + ([self.pointer] if sort != "p" else []) + ([self.handle] if sort != "h" else [])
 
     def try_all(self, name, sorts):
-        """Makes the call with each operand in turn as it should not be, with the blocks behind each."""
+        """Makes the call with each operand in turn as it should not be, with the blocks after each."""
         places = [(place, value) for place, sort in enumerate(sorts) for value in self.unusual(sort)] or [(0, None)]
         shown = self.zone.zone_map()
         for place, value in places:
@@ -120,7 +120,7 @@ class Heap:
 
 
 def differs(program, mode, name, sorts):
-    """Whether the program prints something else than the model says; then it is told."""
+    """Whether the program prints something else than the model says; then it is reported."""
     heap = Heap(mode)
     heap.try_all(name, sorts)
     if name in ("DisposeHandle", "DisposePtr", "EmptyHandle"):

@@ -2,7 +2,7 @@
 
 A rename to it answers EBUSY, as where another file is mounted on it. Then each call fails in turn, that one and all after it, and the program is
 ended before it. The next command fails in turn too, and then one reads the file with nothing in its way. Wanted each time: the file has the old
-bytes or the new ones then, status 0 of the first command comes with the new ones alone, a journal that is left has a name that the message tells,
+bytes or the new ones then, status 0 of the first command comes with the new ones alone, a journal that is left has a name that the message shows,
 and none is left at the end. Each command that reads such a file shows the old one or the new one. Needs a C compiler: `cc`, or $CC.
 """
 import os
@@ -145,7 +145,7 @@ def open_journal(room, new):
 
 
 def refused(bench, job):
-    """A journal that can't be used is told, and neither it nor the file is touched."""
+    """A journal that can't be used is reported, and neither it nor the file is touched."""
     torn = job.new[: len(job.new) // 2]
 
     def told(words, room, user=None):

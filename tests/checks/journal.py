@@ -30,7 +30,7 @@ READ = '1 GetResource $0010003C 0\n2 Peek "Hi" 0\n'
 REFUSED = "0 OpenResFile -199\n"
 TEXT = struct.pack(">I", len(HI)) + HI
 OPEN, SHUT = b"\1" + TEXT, b"\0" + TEXT
-# a fork of some 4,000,000 bytes, the same with that resource behind the others, and its journal open
+# a fork of some 4,000,000 bytes, the same with that resource after the others, and its journal open
 DATA = [Row(b"DATA", ident, None, 0, bytes([ident]) * 400_000) for ident in range(1, 11)]
 LARGE, LARGER = (File(1, rows).fork(lambda row: row.disk) for rows in (DATA, [*DATA, Row(b"TEXT", 128, None, 0, b"Hi")]))
 LARGER_OPEN = journal_of(1, LARGER)

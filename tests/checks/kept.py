@@ -1,7 +1,7 @@
 """Checks that resfork finds a resource fork in whatever it is kept in.
 
 Random forks of tests/checks/forks.py are put in AppleSingle, AppleDouble, MacBinary I, II and III and BinHex, which are made here from
-their published formats. Of each, the list and what `info` tells are compared with the model; then each is cut short, and
+their published formats. Of each, the list and what `info` says are compared with the model; then each is cut short, and
 refused. Before them come files that hold no fork, and a damaged fork in each, of which the message is compared.
 """
 import binascii
@@ -82,7 +82,7 @@ KEPT = [
 
 
 def about(kept_as, data, fork, rows):
-    """What `info` tells."""
+    """What `info` says."""
     map_at = struct.unpack(">I", fork[4:8])[0]
     attributes = struct.unpack(">H", fork[map_at + 22 : map_at + 24])[0]
     lines = [f"kept as: {kept_as}", f"name: {quoted(chr(34), NAME)}", f"type: {column(KIND)}", f"creator: {column(CREATOR)}"]
@@ -96,7 +96,7 @@ def write(path, text):
 
 
 def try_fork(program, path, fork, rows, choices):
-    """Compares what is told of a fork in each of these, whole and cut short."""
+    """Compares what is said of a fork in each of these, whole and cut short."""
     for keep, kept_as, data in KEPT:
         text = keep(fork)
         write(path, text)
@@ -119,7 +119,7 @@ LEFT = "  0 of 1 resources can be read\n"
 
 
 def try_damaged(program, path):
-    """Compares what is told of a damaged fork, alone and in each of these."""
+    """Compares what is said of a damaged fork, alone and in each of these."""
     write(path, DAMAGED)
     for words in (["ls", path], ["get", path, "TEXT", "128"], ["info", path]):
         compare(f"{words[0]} of a damaged fork", run(program, words), 3, b"", f"{path}: {FAULT}{LEFT}")
@@ -129,7 +129,7 @@ def try_damaged(program, path):
         compare(f"ls of {kept_as} with a damaged fork", run(program, ["ls", path]), 3, b"", told)
 
 
-# files that hold no resource fork, with words of what is told
+# files that hold no resource fork, with words of what is said
 NONE = [
     ("a text", b"no fork at all, but a text of more than sixteen bytes", "neither a resource fork"),
     ("AppleDouble without one", apple(0x51607, [(9, finder_info())]), "it has no resource fork"),

@@ -4,7 +4,7 @@ Wanted of each: whole replies from the front of what the run prints and then the
 status 0; and a resource file as it was before the last call, or after it. Where the fork is on a disk in memory, and the host refuses
 that disk room to grow, the update answers ioErr, the file is closed, and the run goes on. Each script over a file runs with a journal, too, which is as before or
 after that call then. A run that isn't refused anything ends the check of its
-row: it has to print what stands beside it, where `..` stands for lines that aren't compared. Needs a C compiler: `cc`, or $CC.
+row: it has to print what is beside it, where `..` stands for lines that aren't compared. Needs a C compiler: `cc`, or $CC.
 """
 import os
 import re
@@ -57,7 +57,7 @@ ROWS = [
         "SetResLoad 0 / h = GetResource 'TEXT' 128 / GetHandleSize h / LoadResource h / GetHandleSize h / GetResInfo h / GetIndResource 'TEXT' 1 / GetIndResource 'TEXT' 2",
         "1 SetResLoad 0 / 2 GetResource $0010003C 0 / 3 GetHandleSize -109 / 4 LoadResource 0 / 5 GetHandleSize 2 0 / 6 GetResInfo 128 'TEXT' none 0 / 7 GetIndResource $0010003C 0 / 8 GetIndResource -192",
     ),
-    # what is told of a resource, and one that is written alone
+    # what is said of a resource, and one that is written alone
     (
         b"",
         "h = NewHandle 2 / Poke h 0 \"Hi\" / AddResource h 'TEXT' 128 \"n\" / UniqueID 'TEXT' / CountTypes / GetIndType 1 / GetIndType 2 / ReleaseResource h / WriteResource h / GetResInfo h / SizeResource h / ReleaseResource h / GetHandleSize h / ResError / k = GetResource 'TEXT' 128 / Peek k 0 2",
@@ -109,7 +109,7 @@ def replies_of(text):
 
 
 def fault(said, status, after, replies, files):
-    """What is wrong with a run that was refused memory, where these are all replies, and the bytes of the files before the start, behind it and behind each of them."""
+    """What is wrong with a run that was refused memory, where these are all replies, and the bytes of the files before the start, after it and after each of them."""
     count = len(replies_of(said))
     if said == "".join(replies) and status == 0:
         return None if after == files[-1] else "all was printed, but the file is another"

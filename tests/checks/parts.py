@@ -1,6 +1,6 @@
 """Checks that `resfork ls` and `resfork get` read of a raw fork only its header, its map, and the lengths and bytes that they show.
 
-Of random forks of tests/checks/forks.py, alone and with bytes behind them, what is shown is compared with the model, and with what is
+Of random forks of tests/checks/forks.py, alone and with bytes after them, what is shown is compared with the model, and with what is
 shown of the same bytes on the standard input, which is read whole. Of forks of 1 KB to 16.8 MB, the last with its map past 16 MB, the
 bytes that a run reads are counted, too: wanted are at most those that it reads of an empty file, the first 128 and 256, the map, four
 for each resource and the bytes that are written.
@@ -16,7 +16,7 @@ from checks.forks import Choices, compare, run, try_fork
 from model.fork import FORMAT, NoFork, listing, read_fork
 
 FRONT = 128 + 256
-# what /proc/self/io tells has more digits later
+# what /proc/self/io says has more digits later
 DIGITS = 64
 BEHIND = 1 << 20
 # each resource begins as a BinHex text does
@@ -100,7 +100,7 @@ def try_size(program, path, count, length):
 
 
 def try_random(program, path, number):
-    """Tries a random fork, alone and with bytes behind it. The result is whether it is one."""
+    """Tries a random fork, alone and with bytes after it. The result is whether it is one."""
     fork = Choices(number).fork()
     large = fork + random.Random(number).randbytes(16) * (BEHIND // 16)
     for file in (fork, large):

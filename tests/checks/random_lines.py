@@ -112,7 +112,7 @@ def written(operand, is_hexadecimal):
 
 
 def play(program, title, sizes, calls, dice):
-    """Plays calls by the program and by the model, in a zone of this mode, size, limit and base; tells the first line in which they differ.
+    """Plays calls by the program and by the model, in a zone of this mode, size, limit and base; shows the first line in which they differ.
 
     `calls` is a function of the model's zone that yields each call when those before it are made.
     """

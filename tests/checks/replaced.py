@@ -2,8 +2,8 @@
 
 Each call that replaces a file fails in turn, then that one and all after it, and the program is ended before it; a write is made in two parts, the
 disk has room for a part of the bytes, and so has the limit of a file's size. Wanted each time: the path has the old bytes or the new ones, status 0
-comes with the new ones alone, and a file that is left beside has a name that the message tells, unless the program was ended. A link stays
-a link, the mode stays, a lock of another program is told, and where nothing changes no file is made. Needs a C compiler: `cc`, or $CC.
+comes with the new ones alone, and a file that is left beside has a name that the message shows, unless the program was ended. A link stays
+a link, the mode stays, a lock of another program is reported, and where nothing changes no file is made. Needs a C compiler: `cc`, or $CC.
 """
 import fcntl
 import os
@@ -81,7 +81,7 @@ class Run:
 
 
 class Bench:
-    """A program, and the shim that stands between it and the C library."""
+    """A program, and the shim between it and the C library."""
 
     def __init__(self, program, folder):
         self.program, self.folder = program, folder
@@ -105,7 +105,7 @@ class Bench:
                 run = Run(self, job, **settings)
                 fault = run.fault(job, *wanted)
                 if fault is None and "n" not in whole.calls[turn - 1 :].removesuffix("Y") and what == "fails" and letter == "Y" and job.backup is None:
-                    # after the rename the new file is there, and what isn't sure is told
+                    # after the rename the new file is there, and what isn't sure is reported
                     fault = None if run.files["f"] == job.new and "synced" in run.message else f"after {run.calls} it says {run.message}"
                 yield f"call {turn}, {letter}, {what}", fault
 

@@ -4,7 +4,7 @@ The model is written from the rules of docs/SCRIPT.md and docs/DESIGN.md alone, 
 list of rows, a disk the bytes of a fork. What a zone does is the model of a zone, and how a fork is read that of
 forks.py. Each script runs over one to three files, which are empty, forks, or damaged. Half of the scripts run with a journal beside each file,
 by docs/DESIGN.md: it is empty, shut, cut short, or open with a fork that is to be recovered. The output is compared, and every byte of the files and
-their journals behind it. By default it runs 40 scripts of 300 lines. Each is made from its number, so a difference can be made again.
+their journals after it. By default it runs 40 scripts of 300 lines. Each is made from its number, so a difference can be made again.
 Numbers: how many scripts, how many lines, and the number of the first script.
 """
 import os
@@ -156,7 +156,7 @@ class Files:
 
 
 def compare(program, seed, lines, folder):
-    """Runs one random script by the program and by the model; tells the first line, or the file, in which they differ."""
+    """Runs one random script by the program and by the model; shows the first line, or the file, in which they differ."""
     dice = random.Random(seed)
     mode, size, base = dice.choice([24, 32]), dice.choice([1024, 2048, 4096, 65536]), dice.choice([0x1000, 0x100000, 0x400000])
     limit = size + dice.choice([0, 0, 16, 1000, size])

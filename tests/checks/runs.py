@@ -65,7 +65,7 @@ def unescaped(text):
 
 
 def repeated(text):
-    """Those bytes, of which the last one stands there N times where the text ends with *N."""
+    """Those bytes, of which the last one is there N times where the text ends with *N."""
     times = re.fullmatch(r"(.*)\*(\d+)", text)
     data = unescaped(times[1] if times else text)
     return data[:-1] + data[-1:] * (int(times[2]) if times else 1)
@@ -133,7 +133,7 @@ def line_of(word, made):
 
 
 def zone_steps(table):
-    """The rows of tests/cases/steps.txt: the options, the steps and the blocks that stand then."""
+    """The rows of tests/cases/steps.txt: the options, the steps and the blocks that are there then."""
     for row in table.read().split("\n"):
         if row.startswith("> "):
             options = row[2:].split()
@@ -149,7 +149,7 @@ def block_word(line, numbers):
 
 
 def step_fault(program, options, steps, blocks):
-    """What isn't as it should be behind these steps, or None."""
+    """What isn't as it should be after these steps, or None."""
     made = []
     script = [line_of(step, made) for step in steps]
     ran = subprocess.run([program, *options], input="\n".join([*script, "ZoneMap"]), capture_output=True, text=True, check=False)

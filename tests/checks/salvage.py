@@ -2,7 +2,7 @@
 
 Three forks of more than 100 resources are made from fixed numbers, and in each one byte of the map is changed, 300 times. Whatever `ls`
 refuses then is salvaged, and compared with the resources that were there: at least 95 of 100 are right on average. Before that come forks
-that aren't damaged, which are salvaged as they are, a type that stands twice, and what is odd about forks that can be read. The forks are
+that aren't damaged, which are salvaged as they are, a type that is there twice, and what is odd about forks that can be read. The forks are
 written here, from the rules of docs/FORMAT.md.
 """
 import base64
@@ -22,7 +22,7 @@ KINDS = [b"TEXT", b"STR ", b"CODE", b"ICN#", b"snd ", b"PAT#", b"vers", b"DITL"]
 
 
 def written(entries, extra=bytes(240), attributes=0, gap=b""):
-    """A fork of these entries, each a type and its rows, as the Resource Manager writes it. The gap stands before the last datum."""
+    """A fork of these entries, each a type and its rows, as the Resource Manager writes it. The gap is before the last datum."""
     rows = [row for _, rows in entries for row in rows]
     data, data_places, names, name_places = b"", [], b"", []
     for index, row in enumerate(rows):
@@ -110,7 +110,7 @@ def try_whole(program, path, fork):
 
 
 def try_refused(program, path, fork):
-    """Where `ls` refuses a fork, its fault is among those that check tells; and the reader's first condition is that of one of them."""
+    """Where `ls` refuses a fork, its fault is among those that check reports; and the reader's first condition is that of one of them."""
     status, _, told = run(program, ["ls", path])
     try:
         read_fork(fork)
@@ -147,7 +147,7 @@ def try_changes(program, path, number):
 
 
 def try_twice(program, path):
-    """Rows of a type that stands twice are put together, in the order of the first of each type."""
+    """Rows of a type that is there twice are put together, in the order of the first of each type."""
     def row(kind, ident):
         return Row(kind, ident, None, 0, bytes([ident]))
 
@@ -161,7 +161,7 @@ def try_twice(program, path):
 
 
 def try_several_faults(program, path):
-    """Every fault is told, not only the first: two resources that end outside, and a name."""
+    """Every fault is reported, not only the first: two resources that end outside, and a name."""
     rows = [Row(b"TEXT", it, b"n", 0, b"abcd") for it in range(5)]
     fork = bytearray(written([(b"TEXT", rows)]))
     data_at, map_at = struct.unpack(">2I", fork[:8])
@@ -180,7 +180,7 @@ def try_several_faults(program, path):
 
 
 def try_odd(program, path):
-    """Bytes of no resource and data that overlap are told, and aren't faults."""
+    """Bytes of no resource and data that overlap are reported, and aren't faults."""
     rows = [Row(b"TEXT", it, None, 0, b"abcd") for it in range(3)]
     save(path, written([(b"TEXT", rows)], gap=bytes(10)))
     status, text, _ = run(program, ["check", path])

@@ -2,7 +2,7 @@
 
 Pictures are decoded from their PNG files by Python's zlib, and compared with the bits that were written by hand; texts are compared with those that they
 stand for. Forks are unpacked, and the folders are read back: each resource has a path of its own, without regard to case too, with its bytes;
-`resources.json` has all else. Nothing is overwritten, and a folder without `resources.json` is told as a failure. Number: how many random forks.
+`resources.json` has all else. Nothing is overwritten, and a folder without `resources.json` is reported as a failure. Number: how many random forks.
 """
 import json
 import os
@@ -51,7 +51,7 @@ TEXTS = [
     (b"ICON", b"\0", "000000  00" + " " * 47 + ".\n"),
 ]
 
-# command lines, with their status and words of what is told
+# command lines, with their status and words of what is said
 LINES = [
     (["show", "FILE", "STR ", "2", "--as", "text"], 2, "--as hex"),
     (["show", "FILE", "snd ", "1", "--as", "png"], 2, "no picture"),
@@ -69,7 +69,7 @@ LINES = [
 
 
 def fork_of(rows):
-    """The fork of rows of which those of a type stand together."""
+    """The fork of rows of which those of a type are together."""
     kinds = {}
     for row in rows:
         kinds.setdefault(row.kind, []).append(row)
@@ -169,7 +169,7 @@ def try_folders(program, path, top, count):
 
 
 def try_containers(program, path, folder, data):
-    """What a container tells is in resources.json."""
+    """What a container says is in resources.json."""
     fork = fork_of([Row(b"TEXT", 128, b"Read me", 0, data)])
     header = bytearray(128)
     header[1:9] = b"\x07My file"
@@ -190,7 +190,7 @@ def try_containers(program, path, folder, data):
 
 
 def try_failure(program, path, folder):
-    """A folder that can't be written to: what failed is told, and no resources.json is there."""
+    """A folder that can't be written to: what failed is reported, and no resources.json is there."""
     if os.geteuid() == 0:
         return
     os.mkdir(folder, 0o500)

@@ -1,10 +1,10 @@
 """Checks what a macheap program does where its input or its output fails: at each byte of the scripts below, and of what they print.
 
-An output that takes some bytes, and then fails, is interrupted once or takes none: these bytes are the beginning of what the whole run prints, nothing is told
-on standard error, and the status is 1. The calls up to the reply that isn't whole were made, so the file and its journal are as behind them.
+An output that takes some bytes, and then fails, is interrupted once or takes none: these bytes are the beginning of what the whole run prints, nothing is said
+on standard error, and the status is 1. The calls up to the reply that isn't whole were made, so the file and its journal are as after them.
 An input that gives some bytes and then fails or is interrupted once: nothing is printed, the status is 1, and the file and its journal keep their bytes. One
 that ends there is the script of these bytes. Inputs and outputs that go in small steps change nothing. Each reply is one write, what failed isn't tried
-again, and of an input that is too long no more is read than shows it. Beside this stand such as a system has: a device that is full, a pipe without a
+again, and of an input that is too long no more is read than shows it. Beside these are such as a system has: a device that is full, a pipe without a
 reader, a folder to read from. Needs a C compiler: `cc`, or $CC.
 """
 import errno
@@ -65,7 +65,7 @@ class Files:
                 file.write(data)
 
     def left(self):
-        """The bytes that stand there now."""
+        """The bytes that are there now."""
         contents = []
         for path, _ in self.files:
             with open(path, "rb") as file:
@@ -81,7 +81,7 @@ class Player:
         self.words, self.script, *self.files, self.printed = row
 
     def play(self, script=None, **settings):
-        """The status, what was printed, what was told, and the files behind the run, with these settings of the shim."""
+        """The status, what was printed, what was said, and the files after the run, with these settings of the shim."""
         files = Files(self.folder, *self.files)
         environment = {**os.environ, "LD_PRELOAD": self.shim, **{name: str(it) for name, it in settings.items()}}
         script = self.script if script is None else script
@@ -117,13 +117,13 @@ def outputs(player):
     lines = player.script.split("\n")
     # a reply's number is that of its line
     ends = [0]
-    behind = []
+    following = []
     for reply in replies_of(whole.decode()):
         ends.append(ends[-1] + len(reply))
-        behind.append(player.play("\n".join(lines[: int(reply.split(" ")[0])]))[3])
+        following.append(player.play("\n".join(lines[: int(reply.split(" ")[0])]))[3])
     for count in range(len(whole)):
         made = sum(end <= count for end in ends[1:])
-        left = behind[made] if behind else player.before()
+        left = following[made] if following else player.before()
         for error in WRITE_ERRORS:
             wanted = (1, whole[:count], b"", left)
             yield f"an output of {count} bytes, error {error}", player.play(STREAM_TAKES=count, **failing(error)), wanted

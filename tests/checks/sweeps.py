@@ -49,7 +49,7 @@ def files():
 
 
 def wanted(file):
-    """The list of a file, or a pattern of what is told of it."""
+    """The list of a file, or a pattern of what is said of it."""
     try:
         fork = resource_fork(file)
     except NoContents as fault:

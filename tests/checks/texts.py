@@ -39,7 +39,7 @@ READ = [
     (b"// " + MAP + b"\n/* " + MAP + b" */", [], NOTHING),
 ]
 
-# texts that are refused, with the line and words of what is told
+# texts that are refused, with the line and words of what is said
 MISPLACED = "the comment with the map's bytes is read only where it begins the text: move it there, or remove it"
 REFUSED = [
     (b"// a text\r\ndata'TEXT'(128,$A2)/* a * b **/{\"Hi\\\\\" $\"0 0\"\n};", 2, "two hexadecimal digits are expected"),
@@ -75,7 +75,7 @@ MANIFEST = {
 FILES = {"STR_/-1.bin": b"\x02Hi", "~%AA~abc/128 %80.bin": b"\0"}
 ROWS = [(b"STR ", -1, None, 4, b"\x02Hi"), (b"\xaaabc", 128, b"\x80", 129, b"\0")]
 
-# what makes a manifest a bad one: the fields of its second resource, or its own, with words of what is told
+# what makes a manifest a bad one: the fields of its second resource, or its own, with words of what is said
 BAD_ENTRIES = [
     ({"type": "abc"}, "isn't four characters of MacRoman"),
     ({"type": "\u4e00abc"}, "isn't four characters of MacRoman"),

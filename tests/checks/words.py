@@ -1,7 +1,7 @@
 """Checks what a macheap program takes the words of its command line for: a zone, a question for help, or words that are bad.
 
 Each row below is one run of the program, on a script of one ZoneMap, in a folder of its own that has a file `old` of three bytes, which
-are no fork, and an empty folder `folder`. Where a row has a `@`, the program is given that folder. What files it has behind the run is compared, too.
+are no fork, and an empty folder `folder`. Where a row has a `@`, the program is given that folder. What files it has after the run is compared, too.
 """
 import os
 import subprocess
@@ -133,7 +133,7 @@ CANNOT_OPEN = [
     (f"--fork @/{'n' * 300}", f"@/{'n' * 300}", "the system refuses it; name another file", []),
 ]
 
-# words with more files than a run may have, which is told before what is wrong with numbers
+# words with more files than a run may have, which is reported before what is wrong with numbers
 TOO_MANY = [
     "--fork @/a" + " --fork @/b" * 8,
     "--fork @/folder" + " --fork=@/folder" * 8,
@@ -172,7 +172,7 @@ def files_in(folder):
 
 
 def run(program, words):
-    """One run: how it ended, how many bytes of the script were read, and the files behind it."""
+    """One run: how it ended, how many bytes of the script were read, and the files after it."""
     with tempfile.TemporaryDirectory() as folder, tempfile.TemporaryFile() as script:
         os.mkdir(os.path.join(folder, "folder"))
         with open(os.path.join(folder, "old"), "wb") as file:

@@ -10,7 +10,7 @@ from checks.fork_table import MOST_ROWS, TABLE, read_table
 
 
 def written(program, folder, fork):
-    """What the program writes of a fork, or the code that it is told."""
+    """What the program writes of a fork, or the code that it gets."""
     path, target = os.path.join(folder, "fork"), os.path.join(folder, "written")
     with open(path, "wb") as file:
         file.write(fork)

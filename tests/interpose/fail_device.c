@@ -1,4 +1,4 @@
-/* Stands between a program and the C library's calls on open files. It adds a letter for each to the file DEVICE_LOG: s for statx, r for
+/* Comes between a program and the C library's calls on open files. It adds a letter for each to the file DEVICE_LOG: s for statx, r for
    pread, w for pwrite, c for ftruncate, y for fsync; capital ones for the calls on the file DEVICE_JOURNAL. The call of the number in DEVICE_FAIL,
    from 1 on, isn't made and fails with EIO; that of the number in DEVICE_SHORT, a read or a write, is made for half of its bytes; before that of
    the number in DEVICE_CUT the file is cut to DEVICE_LENGTH bytes. With DEVICE_READ_ONLY no file can be opened to be written. To be loaded ahead of the C library, with LD_PRELOAD. */
@@ -32,7 +32,7 @@ static int is_journal(int file)
 /* The calls so far. */
 static long calls;
 
-/* Logs a call on a file, and tells whether it fails. */
+/* Logs a call on a file, and returns whether it fails. */
 static int fails(int file, char letter)
 {
     static int log = -1;

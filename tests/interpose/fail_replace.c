@@ -1,4 +1,4 @@
-/* Stands between a program and the C library's calls that replace a file. It adds a letter for each to the file REPLACE_LOG: o for an open, c for one
+/* Comes between a program and the C library's calls that replace a file. It adds a letter for each to the file REPLACE_LOG: o for an open, c for one
    that makes a file, l for flock, w for a write to a file, m for fchmod, y for fsync of a file and Y of a folder, n for rename, and u for unlink; r for a
    read, p for a write and t for a cut in a file's place. A rename to the name REPLACE_BUSY fails with EBUSY, as where something is mounted. The call of the number in REPLACE_FAIL, from 1 on, isn't made and fails with the error REPLACE_ERROR, or EIO; so do all from the number in REPLACE_FROM on. The
    process ends before the call of the number in REPLACE_END. The write of the number in REPLACE_PART is made for half of its bytes. Writes to
@@ -25,7 +25,7 @@ static long number_of(const char *name, long otherwise)
 /* The calls so far. */
 static long calls;
 
-/* Logs a call, and tells whether it fails. */
+/* Logs a call, and returns whether it fails. */
 static int fails(char letter)
 {
     static int log = -1;

@@ -1,6 +1,6 @@
-/* Stands between a program and the C library's read of standard input and write to standard output. Where STREAM_GIVES is set, the input gives that many
-   bytes, and each read behind them fails with the error STREAM_ERROR, or gives none where that is 0; STREAM_TAKES does the same to the output. With
-   STREAM_ONCE only the first of these calls fails, and those behind it go on. With STREAM_STEP each call gives or takes that many bytes at most. The
+/* Comes between a program and the C library's read of standard input and write to standard output. Where STREAM_GIVES is set, the input gives that many
+   bytes, and each read after them fails with the error STREAM_ERROR, or gives none where that is 0; STREAM_TAKES does the same to the output. With
+   STREAM_ONCE only the first of these calls fails, and those after it go on. With STREAM_STEP each call gives or takes that many bytes at most. The
    file STREAM_LOG gets a line for each call: r or w, and how many bytes it wants. To be loaded ahead of the C library, with LD_PRELOAD. */
 #define _GNU_SOURCE
 #include <dlfcn.h>
@@ -29,7 +29,7 @@ static void log_call(char letter, size_t wanted)
         abort();
 }
 
-/* How many of the bytes that a call wants it may have, behind those that were done; 0 or -1, with the error, where the limit of this name is reached. */
+/* How many of the bytes that a call wants it may have, after those that were done; 0 or -1, with the error, where the limit of this name is reached. */
 static ssize_t allowed(const char *limit, size_t done, size_t wanted, int *failed)
 {
     size_t step = number_of("STREAM_STEP", wanted);

@@ -1,4 +1,4 @@
-/* Stands between a program and the C library's malloc and realloc, and refuses the request of the number in REFUSE_AT, from 1 on.
+/* Comes between a program and the C library's malloc and realloc, and refuses the request of the number in REFUSE_AT, from 1 on.
    Where that request comes, the file REFUSE_TELL is made. To be loaded ahead of the C library, with LD_PRELOAD. */
 #define _GNU_SOURCE
 #include <dlfcn.h>

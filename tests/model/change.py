@@ -117,7 +117,7 @@ def bin_hex_parts(file):
 
 
 def rest(file):
-    """What of a file is no resource fork: of each kind of container what it tells beside it."""
+    """What of a file is no resource fork: of each kind of container what it says beside it."""
     if file[:4] in (b"\0\5\x16\0", b"\0\5\x16\7"):
         count = struct.unpack(">H", file[24:26])[0]
         entries = [struct.unpack(">III", file[at : at + 12]) for at in range(26, 26 + 12 * count, 12)]

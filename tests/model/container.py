@@ -10,7 +10,7 @@ DIGITS = {byte: value for value, byte in enumerate(b"!\"#$%&'()*+,-012345689@ABC
 # the part of the comment that all tools have; macutils goes on otherwise than RFC 1741
 COMMENT = re.compile(rb"(?:\A|[\r\n])\(This file must be converted")
 
-# what is told of a container that is damaged, or has no such fork
+# what is said of a container that is damaged, or has no such fork
 TOLD = {
     "short": r"the file ends within the container's header: it has \d+ of \d+ bytes",
     "version": r"the version at offset 4 is \$[0-9A-F]{8}, and only \$00010000 and \$00020000 are known",

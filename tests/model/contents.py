@@ -105,7 +105,7 @@ WRITERS = {
 
 
 def of_apple(file):
-    """What the entries tell; the first of each id counts."""
+    """What the entries say; the first of each id counts."""
     assert file[4:8] == b"\0\2\0\0"
     parts = {}
     for at in range(26, 26 + 12 * struct.unpack(">H", file[24:26])[0], 12):
@@ -118,7 +118,7 @@ def of_apple(file):
 
 
 def of_mac_binary(file):
-    """What the header tells, and the three parts after it."""
+    """What the header says, and the three parts after it."""
     assert mac_binary_version(file) == 3 and binascii.crc_hqx(file[:124], 0) == struct.unpack(">H", file[124:126])[0] and len(file) % 128 == 0
     data, resource, created, modified, comment = struct.unpack(">IIIIH", file[83:101])
     at, parts = 128, []

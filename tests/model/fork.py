@@ -24,7 +24,7 @@ TOLD = {
     "bytes": "too many bytes together",
 }
 
-# what is told of a fork of which a condition doesn't hold
+# what is said of a fork of which a condition doesn't hold
 PART = r"the (?:{}) has \d+ bytes, and \d+ bytes are left in the {}\n  at \$[0-9A-F]{{6,}}"
 ROW = r"'.*' -?\d+: {} \d+, and \d+ bytes are left in the {}\n  at \$[0-9A-F]{{6,}}, reached from the reference at \$[0-9A-F]{{6,}}"
 MESSAGES = {

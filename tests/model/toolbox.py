@@ -53,7 +53,7 @@ class File:
         return len(self.rows) <= MOST_ROWS and self.names_at() <= 65535
 
     def add(self, row):
-        """A new row goes behind the last one of its type, or last."""
+        """A new row goes after the last one of its type, or last."""
         same = [index for index, it in enumerate(self.rows) if it.kind == row.kind]
         self.rows.insert(same[-1] + 1 if same else len(self.rows), row)
 
@@ -95,7 +95,7 @@ def journal_of(gate, fork):
 
 
 def recovered(disk, journal):
-    """A disk and its journal behind a recovery: the fork of an open gate's whole text is written, and the gate is shut."""
+    """A disk and its journal after a recovery: the fork of an open gate's whole text is written, and the gate is shut."""
     end = 5 + int.from_bytes(journal[1:5], "big")
     if journal[:1] != b"\1" or len(journal) < end:
         return disk, journal
@@ -279,7 +279,7 @@ class Toolbox(Zone):
         if self.current == file.number:
             self.current = self.files[-1].number if self.files else 0
 
-    # what is told
+    # what is returned
 
     def get_res_attrs(self, handle):
         return str(self.row(handle)[1].attributes)

@@ -113,7 +113,7 @@ class Zone:
         return owner == "master" or owner in self.live and (not self.live[owner].is_handle or bool(self.live[owner].flags & LOCK))
 
     def gaps(self):
-        """The gaps, lowest first: the index of the first block of each, and that behind its last."""
+        """The gaps, lowest first: the index of the first block of each, and that after its last."""
         start, gaps = 0, []
         for index, block in enumerate(self.blocks):
             if self.is_fixed(block.owner):
@@ -124,10 +124,10 @@ class Zone:
     def room(self, gap):
         return sum(it.size for it in self.blocks[slice(*gap)] if it.owner == "free")
 
-    def arrange(self, gap, front, behind):
+    def arrange(self, gap, front, after):
         """Puts the gap's free bytes between blocks of it."""
         free = [Block(self.room(gap), "free")] if self.room(gap) else []
-        self.blocks[slice(*gap)] = [*front, *free, *behind]
+        self.blocks[slice(*gap)] = [*front, *free, *after]
 
     def used(self, gap):
         return [it for it in self.blocks[slice(*gap)] if it.owner != "free"]
@@ -186,10 +186,10 @@ class Zone:
     def resize_there(self, number, needed):
         """Whether the block can have the size where it is, which is done."""
         index = self.index_of(number)
-        block, behind = self.blocks[index], self.blocks[index + 1 : index + 2]
+        block, after = self.blocks[index], self.blocks[index + 1 : index + 2]
         whole = block.size
         if needed > whole:
-            whole += sum(it.size for it in behind if it.owner == "free")
+            whole += sum(it.size for it in after if it.owner == "free")
             if whole < needed:
                 return False
             del self.blocks[index + 1]
@@ -283,8 +283,8 @@ class Zone:
         """As request_size, for a call that copies: it protects both operands, and no length is refused as such."""
         needed = self.needed(length)
         stays = self.is_fixed(number)
-        behind = (lambda: self.candidates(protected, self.blocks[slice(*self.gap_behind(number))])) if stays else None
-        self.request(needed, lambda: self.resize(number, needed), protected, behind)
+        after = (lambda: self.candidates(protected, self.blocks[slice(*self.gap_behind(number))])) if stays else None
+        self.request(needed, lambda: self.resize(number, needed), protected, after)
 
     def slot(self, protected=()):
         """The slot that the next new handle takes; where there is none, a master block is built first."""
@@ -573,7 +573,7 @@ class Zone:
         return "\n".join(lines)
 
     def reply(self, name, operands):
-        """What the call prints behind its name."""
+        """What the call prints after its name."""
         if name == "MemError":
             return f"{self.refused} 0"
         self.asked = []

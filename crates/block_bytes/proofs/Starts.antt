@@ -291,7 +291,7 @@ first_marked-marks heads at n (b ∷ bs) possible =
     ∙ first_marked-marks heads (at + size_of heads b) n bs both.1 in
     λ i. if mark-free heads b p i then at else more i
 
--- the index tells the first free block
+-- the index gives the first free block
 pub first_marked-starts : (l : Layout) → IsTrue (list_all (is_possible l.heads) l.blocks) → first_marked l.base (starts_of l) ≡ first_free l.heads (l.base + zone_header) l.blocks
 first_marked-starts l possible =
     first_marked-unmarked l.base (zone_header / 4) (marks_of l.heads l.blocks ++ unmarked (length l.spare / 4))

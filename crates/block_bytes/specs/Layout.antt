@@ -275,7 +275,7 @@ pub record Carried (old : Layout) {at end : ℕ} (parcel : ParcelAt old at end) 
   pub blocks : new ≡ with_blocks (parcel.before ++ (parcel.others ++ moved ∷ parcel.after)) old
   pub same : IsMoved parcel.here moved
 
--- some blocks are from an address on, and a block after them at another, none of them lent
+-- some blocks lie from an address on, and a block after them at another, none of them lent
 pub record ParcelUpTo (l : Layout) (start at : ℕ) : Type 0 where
   pub before : List RawBlock
   pub others : List RawBlock

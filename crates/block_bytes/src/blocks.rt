@@ -25,7 +25,7 @@ use std::marker::Model;
 
 /// The blocks of a zone in one run of bytes, from the zone's start to its limit. A contract sees the list of the
 /// blocks, each with all bytes after its header, beside the bytes up to the limit and the number in the zone's header
-/// that tells of the free slots. All else in that header follows from the blocks: where they end, how many bytes are
+/// for the free slots. All else in that header follows from the blocks: where they end, how many bytes are
 /// free and where the lowest free block is. That an address is that of a block is up to the caller. After `create` no
 /// call takes memory of the host.
 pub struct Blocks {
@@ -174,14 +174,14 @@ impl Blocks {
         self.spec.base() + self.spec.size()
     }
 
-    /// The number in the zone's header that tells of the free slots.
+    /// The number in the zone's header for the free slots.
     pub fn front(&self) -> u32
         ensures { result ≡ self.now.front }
     {
         self.memory.front()
     }
 
-    /// Writes the number in the zone's header that tells of the free slots.
+    /// Writes the number in the zone's header for the free slots.
     pub fn set_front(&mut self, front: u32)
         ensures { self.new ≡ with_front front self.old }
     {
@@ -234,7 +234,7 @@ impl Blocks {
             .header(self.spec.heads(), (at - self.spec.base()) as usize)
     }
 
-    /// How many bytes from the zone's start the handle is whose block is at an address, if a handle's does. Of the
+    /// How many bytes from the zone's start the handle is whose block is at an address, if a handle's is. Of the
     /// header the tag and the last word are read.
     pub fn owner_at(&self, at: u32) -> Option<u32>
         ensures owner { IfSome result (λ offset. OwnedAt self.now at offset) }

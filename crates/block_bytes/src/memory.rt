@@ -193,7 +193,7 @@ impl Memory {
         self.region.rotate(at, middle, end);
     }
 
-    /// The block with this header, which is at `at`, moves after the `count` bytes after it. Where it is free
+    /// The block with this header, which is at `at`, moves past the `count` bytes after it. Where it is free
     /// only those move, and its header, which names no zone, is written anew.
     pub fn carry(&mut self, heads: HeadKind, at: usize, count: usize, header: Header)
         requires inside { at + header.size + count ≤ length self.old.bytes }

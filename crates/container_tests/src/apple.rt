@@ -35,7 +35,7 @@ fn outside(at: usize, id: u32, part: Part, length: usize) -> ContainerFault {
     ContainerFault::EntryOutside { entry, length }
 }
 
-/// What the first bytes of SINGLE tell, so many.
+/// What the first bytes of SINGLE say, so many.
 fn told_of_single(length: usize) -> Result<Contents, ContainerFault> {
     match length {
         0..26 => Err(ContainerFault::EndsInHeader { needed: 26, length }),

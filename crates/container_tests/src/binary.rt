@@ -47,7 +47,7 @@ fn file_with(alloc: Global, version: Version) -> Result<Vec<u8>, AllocError> {
     Ok(file)
 }
 
-/// What the header tells, with forks at these places.
+/// What the header says, with forks at these places.
 fn told(data: usize, resource: usize, flags: u16) -> Contents {
     Contents {
         resource_fork: Some(Part {
@@ -91,7 +91,7 @@ fn reads_each_version(rt: HostRuntime) -> Result<(), AllocError> {
     Ok(())
 }
 
-/// What the first bytes of the file of version II tell, so many.
+/// What the first bytes of the file of version II say, so many.
 fn told_of_two(length: usize) -> Result<Contents, ContainerFault> {
     let (fork, offset, count) = match length {
         0..128 => {

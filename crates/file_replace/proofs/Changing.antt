@@ -46,7 +46,7 @@ module _ (bytes : Fork) (old : History) where
   pub third : (mid new : History) → AlwaysFinds MayFind Q old mid → AlwaysFinds MayFind (MayFind mid) mid new → AlwaysFinds MayFind Q old new
   third mid new so_far settles = on (MayFind mid) Q old mid new (finds_now Q old mid so_far) so_far settles
 
--- one of two, of which it is told which
+-- one of two, and it is reported which
 pub told_apart : (reached : Reached) (bytes before now : Fork) → IsEither bytes before now → IsSure reached bytes now → Has reached before bytes now
 told_apart New bytes before now either is = is
 told_apart Either bytes before now either sure = either

@@ -12,14 +12,14 @@ Has Old before bytes now = now ≡ before
 Has New before bytes now = now ≡ bytes
 Has Either before bytes now = (now ≡ before) ⊎ (now ≡ bytes)
 
--- nothing happened, and the answer tells whether the fork has these bytes
+-- nothing happened, and the answer says whether the fork has these bytes
 pub record Tells (bytes : List ℕ) (answer : Option Bool) (before after : Contents) (past now : History) : Type 0 where
   pub same : settled_fork after ≡ settled_fork before
   pub calm : now ≡ past
   pub ready : IsReady after now
   pub told : IfSome answer (λ is. IsTrue is ↔ (settled_fork before ≡ bytes))
 
--- whether a fork has the new bytes, as it is told
+-- whether a fork has the new bytes, as it is reported
 abbrev pub IsSure : Reached → List ℕ → List ℕ → Type 0
 IsSure Old bytes now = now ≢ bytes
 IsSure New bytes now = now ≡ bytes
@@ -32,14 +32,14 @@ pub record Settles (is_done : Bool) (before after : Contents) (past now : Histor
   pub ready : IsTrue is_done → IsReady after now
   pub any_moment : AlwaysFinds MayFind (MayFind past) past now
 
--- The fork was settled and is told, or it may not be ready.
+-- The fork was settled and is reported, or it may not be ready.
 pub record FindsOut (bytes : List ℕ) (reached : Reached) (before after : Contents) (past now : History) : Type 0 where
   pub same : settled_fork after ≡ settled_fork before
   pub sure : IsSure reached bytes (settled_fork after)
   pub ready : reached ≢ Either → IsReady after now
   pub any_moment : AlwaysFinds MayFind (MayFind past) past now
 
--- The fork has the bytes that are told; where these are known it is ready, so that its journal has nothing to do.
+-- The fork has the bytes that are reported; where these are known it is ready, so that its journal has nothing to do.
 -- Whenever a crash comes, a start finds a fork that it might have found before, or the new one.
 pub record Changes (bytes : List ℕ) (reached : Reached) (before after : Contents) (past now : History) : Type 0 where
   pub has : Has reached (settled_fork before) bytes (settled_fork after)

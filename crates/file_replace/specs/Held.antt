@@ -1,5 +1,5 @@
--- What a replacement of an open file does, told by the calls that the host was asked for. It rests on no premise about
--- the host but that of `InPlace`, for the bytes of a file that is changed in its place.
+-- What a replacement of an open file does, by the calls that the host was asked for. It rests on no premise about the
+-- host but that of `InPlace`, for the bytes of a file that is changed in its place.
 use Rattle.std.specs.Prelude.{◌≡◌, ℕ, ◌⊎◌, Bool, true, false, List, [], ◌∷◌, ◌++◌, Option, Some, None, Result, Ok, Err, IsErrAnd, ⊤}
 use Rattle.std.specs.Path.{path_buf_bytes}
 use Rattle.std.specs.IoError.{error_kind}
@@ -67,7 +67,7 @@ BacksUp mode bytes (Err (refusals.NoBackup name stop)) old new = PutAt at.Backup
 BacksUp mode bytes (Err refusals.HostFull) old new = new ≡ old
 BacksUp mode bytes (Err refusal) old new = ⊥
 
--- the backup that a refusal tells of has the path's name with a tilde, and a journal that is left has its own
+-- the backup that a refusal names has the path's name with a tilde, and a journal that is left has its own
 abbrev pub TellsNames : List ℕ → NotReplaced → Type 0
 TellsNames path (refusals.NoBackup name stop) = path_buf_bytes name ≡ path ++ 126 ∷ []
 TellsNames path (refusals.InPlace cut) = NamesJournal (journal_name path) cut

@@ -1,5 +1,5 @@
 -- What is done for a file that can't be renamed over: which calls, in their order, and what those on it and its journal
--- do. The one premise about the host is that the pair is honest: the file and its journal are what their answers tell,
+-- do. The one premise about the host is that the pair is honest: the file and its journal are what their answers say,
 -- nobody else writes them, and a name stays that was there when its folder was synced.
 use Rattle.std.specs.Prelude.{◌≡◌, ℕ, ⊤, ◌⊎◌, Bool, true, false, List, [], ◌∷◌, ◌++◌, Option, None, IfSome, Result, Ok, Err, IsErrAnd, unwrap_or, codes}
 use Rattle.std.specs.Path.{path_buf_bytes, path_file_name, path_with_file_name}
@@ -40,7 +40,7 @@ did call = InPlace call []
 abbrev pub SettlesFiles : Held → Bool → List files.Event → Type 0
 SettlesFiles held is_done events = IsHonest held events → Settles is_done (held []) (held events) (Found (held []) ∷ []) (history_of held events)
 
--- where the pair is honest, these calls gave the file the bytes that are told
+-- where the pair is honest, these calls gave the file the bytes that are reported
 abbrev pub ChangesFiles : Held → List ℕ → Reached → List files.Event → Type 0
 ChangesFiles held bytes reached events = IsHonest held events → Changes bytes reached (held []) (held events) (Found (held []) ∷ []) (history_of held events)
 
@@ -54,7 +54,7 @@ Drops (Err fault) old new = ((fault.is_left ≡ true) × (new ≡ did (calls.Rem
 abbrev pub GivesUp : Log → Log → Type 0
 GivesUp old new = (result : Result ⊤ NotDropped) × Drops result old new
 
--- the journal that is left is told by its name
+-- the journal that is left is reported by its name
 abbrev pub TellsJournal : Bool → List ℕ → Option (PathBuf Global) → Type 0
 TellsJournal true name left = IfSome left (λ path. path_buf_bytes path ≡ name)
 TellsJournal false name left = left ≡ None

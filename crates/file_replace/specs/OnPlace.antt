@@ -48,7 +48,7 @@ happened (calls.SyncFolder answer) true old past = Asked answer ∷ past
 happened (calls.SyncFolder answer) false old past = past
 happened calls.Remove ok old past = past
 
--- what the host told of a folder that it was to sync
+-- what the host said of a folder that it was to sync
 abbrev pub told : {E : Type 0} → Result FolderSync E → FolderSync
 told (Ok answer) = answer
 told (Err error) = NotOffered

@@ -109,8 +109,8 @@ pub record Puts {T E : Type 0} (mode : Option ℕ) (bytes : List ℕ) (result : 
   pub settles : OnOk result (Finds MaySettle (IsNew mode bytes) new.history)
   pub left : IfErr result (λ stopped. HasAfter stopped.step mode bytes old.files.path new.files.path)
 
--- The path has the new file. Where it fails, the step tells whether it has the old one, and no file is beside but where
--- this is told. Whenever a crash comes, it leaves what it might have left before, or the new file; and only that one
+-- The path has the new file. Where it fails, the step says whether it has the old one, and no file is beside but where
+-- this is said. Whenever a crash comes, it leaves what it might have left before, or the new file; and only that one
 -- once the folder was synced.
 pub record ReplacesFile {E : Type 0} (mode : Option ℕ) (bytes : List ℕ) (result : Result FolderSync (Fault E)) (old new : Seen) : Type 0 where
   pub any_moment : AlwaysFinds MayLeave (IsOldOrNew old.history mode bytes) old.history new.history

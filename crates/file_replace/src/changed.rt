@@ -1,4 +1,4 @@
-//! A fork is changed under a journal, and it is told which bytes it has then.
+//! A fork is changed under a journal, and it is reported which bytes it has then.
 
 ghost use Rattle.std.specs.Prelude.{◌<◌, ◌^◌, length};
 ghost use Rattle.fork_journal.specs.Recovery.{IsReady};
@@ -40,7 +40,7 @@ fn has<P: PairDisk>(alloc: Global, store: &mut Journal<P>, bytes: &[u8]) -> Opti
     }
 }
 
-/// Settles a fork whose replacement failed, and tells which bytes it has.
+/// Settles a fork whose replacement failed, and returns which bytes it has.
 fn settled<P: PairDisk>(alloc: Global, store: &mut Journal<P>, bytes: &[u8]) -> Reached
     ensures { P.is_honest store.new.pair → P.is_honest store.old.pair × FindsOut bytes.now result (P.contents store.old.pair)
         (P.contents store.new.pair) (P.history store.old.pair) (P.history store.new.pair) }

@@ -34,7 +34,7 @@ const MODE_BITS: u32 = 0o7777;
 pub enum Outcome {
     /// It was as it should be, so it wasn't written.
     Unchanged,
-    /// It is there, and was synced; whether its folder was too is told.
+    /// It is there, and was synced; this says whether its folder was too.
     Written(FolderSync),
     /// It couldn't be renamed over, so it was changed in its place, under a journal that is gone.
     InPlace,

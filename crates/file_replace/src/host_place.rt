@@ -28,7 +28,7 @@ struct Beside {
 }
 
 /// A path of the host at which a file is replaced, and no link. Each call of the system is noted with its answer, in a
-/// record that only clauses read. It is honest where these answers are those of the folder that its world tells of, so
+/// record that only clauses read. It is honest where these answers are those of the folder that its world describes, so
 /// that nobody else wrote there.
 #[derive(Drop)]
 pub struct FileReplacer<'a, W: FolderWorld> {
@@ -51,8 +51,8 @@ fn limit_in(line: &str) -> Option<u64> {
     limits.split_whitespace().next()?.parse().ok()
 }
 
-/// How long a file may be that this process writes, as Linux tells it. A write past it would end the process. Elsewhere
-/// no limit is known.
+/// How long a file may be that this process writes, as Linux says. A write past it would end the process. Elsewhere no
+/// limit is known.
 pub(crate) fn longest_file(rt: &HostRuntime) -> u64 {
     match fs::read_to_string(rt, "/proc/self/limits") {
         Ok(limits) => limits.lines().find_map(limit_in).unwrap_or(u64::MAX),

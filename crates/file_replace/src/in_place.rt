@@ -37,7 +37,7 @@ use std::{fs, io};
 /// How many bytes of a journal come before those of the file.
 const HEAD: u64 = 5;
 
-/// The longest file that a journal tells.
+/// The longest file that a journal can hold.
 const MOST_BYTES: usize = 0xFFFF_FFFF;
 
 /// The user who may change each file.
@@ -262,7 +262,7 @@ fn fits(rt: &HostRuntime, len: usize) -> bool
 }
 
 /// Changes a file, which is open and locked, in its place. A journal is made beside it, its name is made stable, the
-/// file is changed under it, and the journal is removed. Where that fails, it is told which bytes the file has, and
+/// file is changed under it, and the journal is removed. Where that fails, it is reported which bytes the file has, and
 /// whether the journal is there still.
 pub(crate) fn change_in_place<W: PairWorld>(
     rt: &HostRuntime,

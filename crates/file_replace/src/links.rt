@@ -21,7 +21,7 @@ pub(crate) fn folder_of<'a>(path: &'a PathBuf) -> Path<'a>
     }
 }
 
-/// Whether what the system told of a path is told of an open file.
+/// Whether what the system said of a path is true of an open file.
 pub(crate) fn is_of(file: &File, there: &Metadata) -> io::Result<bool> {
     let here = file.metadata()?;
     Ok(there.dev() == here.dev() && there.ino() == here.ino())

@@ -19,7 +19,7 @@ pub struct MemFile {
     pub mode: u32,
 }
 
-/// A path in memory. It is honest. Its n-th call fails, to try what is on it: a write has then put half of its
+/// A path in memory. It is honest. Its n-th call fails, to try what is built on it: a write has then put half of its
 /// bytes, and any other call has changed nothing. It also fails where the host refuses it memory for a write.
 #[derive(Drop)]
 pub struct MemPlace {
@@ -89,7 +89,7 @@ impl MemPlace {
         self.calls
     }
 
-    /// Counts a call, and tells whether it is to fail.
+    /// Counts a call, and returns whether it is to fail.
     fn is_turn(&mut self) -> bool
         ensures path { self.new.path ≡ self.old.path }
         ensures beside { self.new.beside ≡ self.old.beside }

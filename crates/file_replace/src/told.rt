@@ -1,4 +1,4 @@
-//! Why a file wasn't replaced, as it is told.
+//! Why a file wasn't replaced, as it is reported.
 
 ghost use Rattle.std.specs.Prelude.{◌≡◌, None};
 ghost use Rattle.file_replace.specs.declared.told.NotReplaced.TheVariants.{HostFull};
@@ -11,7 +11,7 @@ use std::fmt::{Display, Formatter, Write};
 use std::path::PathBuf;
 use std::{fmt, io};
 
-/// Writes what is told, with these words before and after it.
+/// Writes what is reported, with these words before and after it.
 fn put_between<W: Write, D: Display>(
     f: &mut Formatter<W>,
     before: &str,
@@ -58,7 +58,7 @@ pub struct Cut {
     pub left: Option<PathBuf>,
 }
 
-/// What is told before and after the error that cut a change short.
+/// What is said before and after the error that cut a change short.
 fn words_of_change(reached: Reached) -> (&'static str, &'static str) {
     match reached {
         Reached::Old => (
@@ -113,7 +113,7 @@ pub struct Stop {
     pub left: Option<PathBuf>,
 }
 
-/// What is told before and after the error of a step.
+/// What is said before and after the error of a step.
 fn words_of_step(step: Step) -> (&'static str, &'static str) {
     match step {
         Step::Create => (

@@ -165,7 +165,7 @@ types_answer file rows listed asked choice old new result is asks same wrote =
     let text = writes_same _ _ old new result (ap (λ (all : List PlacedRow). type_lines choice.letters choice.kinds.items all None all) same) wrote in
     subst P (sym asks) (answers file rows (request.Types choice) old new result is (types_show file choice rows old new result text))
 
--- or a resource, of which nothing is told where a read failed
+-- or a resource, of which nothing is said where a read failed
 pub get_answers : {T : Type 0} (file : List ℕ) (rows listed : List PlacedRow) (asked : Request) (wanted : Wanted) (old new : Option (List ℕ)) (start middle last : ℕ) (shown : Option (Result T Failure))
     → middle ≡ start → IsForkWith file rows → asked ≡ request.Get wanted → listed ≡ rows → MatchOption shown (Never file ⊎ Rose middle last) (ShowsRows (request.Get wanted) listed old new file)
     → MatchOption shown (IsNotRaw file ⊎ Rose start last) (Answers asked file old new)

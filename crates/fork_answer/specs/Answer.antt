@@ -72,7 +72,7 @@ Writes text old new (Err (failure.Fork fault)) = ⊥
 Writes text old new (Err (failure.NoFork fault)) = ⊥
 
 -- what an answer says of a fork's bytes: what was written is what is asked for of its table, or the table lacks it; or
--- they stand for no table, and the answer tells why. A write may fail, and the host may have no memory.
+-- they stand for no table, and the answer says why. A write may fail, and the host may have no memory.
 abbrev pub AnswersFork : {T : Type 0} → Request → List ℕ → Option (List ℕ) → Option (List ℕ) → Result T Failure → Type 0
 AnswersFork request fork old new result = ((table : Table) × IsTableOf fork table × Shows request table old new result)
     ⊎ ((fault : ForkFault) × (fork ≢ []) × RefusesWithin format_limits fork fault × (result ≡ Err (failure.Fork fault)))

@@ -50,8 +50,8 @@ Never file = ⊥
 abbrev pub IsReady : {S : Type 0} → Ghosts S → S → Type 0
 IsReady store s = store.is_honest s → store.is_ready s
 
--- If a store is honest after a call, the call only read it, and this holds of its file and what is told of it; or
--- nothing is told, since the file is such a one, or a read failed, which the store has counted.
+-- If a store is honest after a call, the call only read it, and this holds of its file and what is said of it; or
+-- nothing is said, since the file is such a one, or a read failed, which the store has counted.
 abbrev pub TellsInParts : {S T : Type 0} → Ghosts S → S → S → (List ℕ → T → Type 0) → (List ℕ → Type 0) → Option T → Type 0
 TellsInParts store old new Tells IsSilent told =
     store.is_honest new → Reads store old new (λ file. MatchOption told (IsSilent file ⊎ Rose (store.failures old) (store.failures new)) (Tells file))

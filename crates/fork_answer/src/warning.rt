@@ -23,7 +23,7 @@ pub enum Pool {
 /// What is odd about a fork.
 #[derive(Clone, Copy, Debug, PartialEq, Eq)]
 pub enum Warning {
-    /// The bytes of a resource begin at a place within those of another one. The references of both are told.
+    /// The bytes of a resource begin at a place within those of another one. The references of both are given.
     Overlap {
         pool: Pool,
         place: usize,

@@ -1,4 +1,4 @@
--- A set that is made of a list has as many elements exactly where none is twice.
+-- A set that is made of a list has as many elements exactly where none is there twice.
 use Rattle.std.proofs.Common.{◌≡◌, ◌≢◌, ℕ, List, length, true, nat_eq, BTreeSet, AllPairs, ◌↔◌, subst, sym, ◌∙◌}
 use Rattle.std.specs.Bool.{Decides}
 use Rattle.std.specs.BTreeSet.{IsFromIterResult, btree_set_len}
@@ -10,7 +10,7 @@ use Rattle.std.proofs.lemmas.Map.Lookups.{exact_bytes}
 use Rattle.std.proofs.lemmas.Map.Views.{tells_apart, btree_set_len-from_list}
 use Rattle.std.proofs.lemmas.Map.Made.{IsDistinct-from_count, distinct_count-from_IsDistinct, AllPairs-from_IsDistinct, IsDistinct-from_AllPairs}
 
--- the order of bytes tells them apart
+-- the order of bytes distinguishes them
 same : (a b : List ℕ) → Decides (eq_by_cmp (slice_cmp nat_cmp) a b) (a ≡ b)
 same a b = (
   tells_apart exact_bytes a b,

@@ -113,7 +113,7 @@ map_twice : (parts resource_map : List ℕ) (references : List Reference) → ma
 map_twice parts resource_map [] = refl
 map_twice parts resource_map (reference ∷ references) = ap (λ (rs : List Row). row_for parts resource_map reference ∷ rs) (map_twice parts resource_map references)
 
--- what a map lists is grouped, where no type is twice in its type list
+-- what a map lists is grouped, where no type is in its type list twice
 pub map_grouped : (parts resource_map : List ℕ) → AllPairs (λ (a b : TypeEntry). a.kind ≢ b.kind) (entries_of resource_map) → IsGrouped (map (row_with parts) (map_rows resource_map))
 map_grouped parts resource_map distinct =
     let run = entries_run parts resource_map (entries_of resource_map) (distinct_from entered (entries_of resource_map) distinct) in

@@ -164,7 +164,7 @@ ends_in_entry entry end told = by_count entry.count told
     by_count zero told = tt
     by_count (suc count) told = all_end entry.kind (suc count) entry.start end (told (omega arith))
 
--- a map whose type list lies within it has its types exactly where none is twice
+-- a map whose type list lies within it has its types exactly where none is there twice
 pub types_by_kinds : (resource_map : List ℕ) (list : TypeList) → IsTypeList resource_map list →
     AllPairs (λ (a b : List ℕ). a ≢ b) (kinds_of resource_map) ↔ HasTypes resource_map
 types_by_kinds resource_map list is =

@@ -13,7 +13,7 @@ use Rattle.fork_bytes.specs.Rows.{Row, MapRow}
 use Rattle.fork_bytes.specs.Fork.{number_at, bytes_at, header_of, data_of, datum_length, row_with, HasData, HasFewBytesWithin}
 use Rattle.fork_bytes.specs.Reading.{PlacedRow, placed, placed_row, row_at, HasDatum, IsWithin, AreFewBytesWithin}
 
--- the bytes from an offset in a part on are those of the whole from after both offsets
+-- the bytes from an offset in a part on are those of the whole from both offsets on
 part_from : (n m at start : ℕ) (bytes : List ℕ) → at ≤ m → drop at (bytes_at m start bytes) ≡ take (m - at) (drop (start + at) bytes)
 part_from n m at start bytes within =
     let split : m ≡ at + (m - at) = omega arith in

@@ -136,7 +136,7 @@ all_stand limits table w =
       few = omega arith;
     }
 
--- the data are alone
+-- nothing is around the data
 data_alone : (rows : List Row) → data_text rows ≡ [] ++ (data_text rows ++ [])
 data_alone rows = sym (append-nil (data_text rows))
 

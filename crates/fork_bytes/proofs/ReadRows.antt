@@ -16,7 +16,7 @@ use Rattle.fork_bytes.proofs.ReadBack.{number_in, bytes_in, byte_in, after, leng
 use Rattle.fork_bytes.proofs.ReadEntries.{references_for}
 use Rattle.fork_bytes.proofs.ReadData.{row_at, rows_for}
 
--- the name that an offset in the name list tells
+-- the name that an offset in the name list gives
 abbrev name_told : List ℕ → ℕ → Option (List ℕ)
 name_told resource_map offset = name_at resource_map (if offset == 65535 then None else Some (name_list resource_map + offset))
 
@@ -38,7 +38,7 @@ name_is resource_map early late next base (Some bytes) is long start low =
     ∙ ap (λ (xs : List ℕ). told (bytes_at (length bytes) (base + next + 1) xs)) after_size
     ∙ ap told (bytes_in (length bytes) (base + next + 1) (early ++ (length bytes ∷ [])) bytes late (length-after (base + next) 1 early (length bytes ∷ []) long refl) refl)
 
--- where it is, the name lies within the map
+-- where there is one, the name lies within the map
 abbrev IsWithin : List ℕ → ℕ → Type 0
 IsWithin resource_map offset =
     IfSome (if offset == 65535 then None else Some (name_list resource_map + offset)) (λ at. at + 1 + slice_index resource_map at ≤ length resource_map)

@@ -163,7 +163,7 @@ pub record HasPartsWithin (limits : Limits) (fork_length : ℕ) (header : Header
   pub whole_map : header.map_offset + header.map_length ≤ fork_length
   pub map_header : 28 ≤ header.map_length
 
--- The type list lies within the map, and no type is twice.
+-- The type list lies within the map, and no type is in it twice.
 pub record HasTypes (resource_map : List ℕ) : Type 0 where
   pub count : type_list resource_map + 2 ≤ length resource_map
   pub entries : type_list resource_map + 2 + 8 * type_count resource_map ≤ length resource_map

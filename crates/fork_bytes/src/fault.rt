@@ -8,7 +8,7 @@ pub enum Condition {
     /// There are not too many bytes, the data and the map lie within them, and the map has 28 bytes at least.
     #[error("the data or the map lies outside the fork, or the fork is too long")]
     Parts,
-    /// The type list lies within the map, and no type is twice in it.
+    /// The type list lies within the map, and no type is in it twice.
     #[error("the type list ends outside the map, or a type stands twice")]
     Types,
     /// Each reference lies within the map.

@@ -49,7 +49,7 @@ pub struct Header {
 /// resource's bytes follow them.
 pub type MapRow = Resource<u32>;
 
-/// An entry of the type list: a type, and how many resources of it are in a row.
+/// An entry of the type list: a type, and how many resources of it are together.
 #[derive(Clone, Copy)]
 pub struct TypeCount {
     pub kind: ResType,

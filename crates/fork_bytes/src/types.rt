@@ -103,14 +103,14 @@ fn set_of(alloc: Global, kinds: &[[u8; 4]]) -> Result<BTreeSet<[u8; 4]>, AllocEr
     kinds.iter().copied().collect(alloc)
 }
 
-/// Whether no type is twice.
+/// Whether no type is there twice.
 fn are_distinct(alloc: Global, kinds: &[[u8; 4]]) -> Result<bool, HostFull>
     ensures { IfOk result (λ yes. (yes ≡ true) ↔ AllPairs (λ (a b : List ℕ). a ≢ b) kinds.now) }
 {
     Ok(set_of(alloc, kinds)?.len() == kinds.len())
 }
 
-/// Whether no type of the list is twice.
+/// Whether no type is in the list twice.
 fn has_distinct_types(alloc: Global, map: &[u8], list: TypeList) -> Result<bool, HostFull>
     requires { IsTypeList map.now list }
     ensures { IfOk result (λ yes. (yes ≡ true) ↔ HasTypes map.now) }
@@ -119,7 +119,7 @@ fn has_distinct_types(alloc: Global, map: &[u8], list: TypeList) -> Result<bool,
     are_distinct(alloc, &kinds)
 }
 
-/// The type list of a map. The fault is BadMap(Types) where it ends outside the map, or a type is twice in it.
+/// The type list of a map. The fault is BadMap(Types) where it ends outside the map, or a type is in it twice.
 pub(crate) fn read_types(alloc: Global, map: &[u8]) -> Result<TypeList, ForkFault>
     requires { 28 ≤ length map.now }
     ensures list { IfOk result (IsTypeList map.now) }

@@ -1,4 +1,4 @@
--- The table of a fork that C gives, and what C is told of the fork that is written for it.
+-- The table of a fork that C gives, and what C learns of the fork that is written for it.
 use Rattle.std.specs.Prelude.{◌≡◌, ◌⊎◌, ℕ, ℤ, ◌==◌, ◌&&◌, ◌||◌, not, nat_le, Bool, true, if◌then◌else◌, List, [], ◌∷◌, length, take, drop, Option, Some, None, option_map, Result, Ok, bytes_eq}
 use Rattle.std.specs.List.{list_any}
 use Rattle.mac_base.specs.Codes.{minus}

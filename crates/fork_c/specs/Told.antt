@@ -1,4 +1,4 @@
--- What C is told of the bytes of a resource fork.
+-- What C learns of the bytes of a resource fork.
 use Rattle.std.specs.Prelude.{◌≡◌, ◌⊎◌, ℕ, ℤ, pos, ◌==◌, if◌then◌else◌, List, [], length, Option, Some, None, is_some, option_map, unwrap_or, Result, Ok, Err}
 use Rattle.std.specs.List.{slice_get, slice_index}
 use Rattle.std.specs.Option.{ok_or}

@@ -1,4 +1,4 @@
-//! What C is told.
+//! What C gets.
 
 ghost use Rattle.std.specs.Prelude.{◌≡◌, ◌≤◌, length, IfOk, IfErr};
 ghost use Rattle.std.specs.List.{flat_map};
@@ -12,7 +12,7 @@ use fork_bytes::table::Table;
 use mac_base::error::{NO_ERR, OsErr};
 use std::alloc::Global;
 
-/// The table that bytes stand for, or the code that C is told.
+/// The table that bytes stand for, or the code that C gets.
 #[tactic(auto, using(crate::proofs::Pieces::few_bytes, crate::proofs::Pieces::few_rows))]
 pub(crate) fn read<'a>(alloc: Global, fork: &'a [u8]) -> Result<Table<'a>, i16>
     ensures table { IfOk result (λ table. StandsFor fork.now table) }
@@ -37,7 +37,7 @@ fn code_of_fault(fault: ForkFault) -> OsErr
     }
 }
 
-/// Shows what was found, or tells why nothing was.
+/// Shows what was found, or says why nothing was.
 pub(crate) fn shown<T: Copy>(found: Result<T, OsErr>, place: &mut T) -> i16
     ensures { Shows found result place.old place.new }
 {

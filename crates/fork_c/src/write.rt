@@ -31,8 +31,8 @@ pub extern "C" fn mf_written_length(
 }
 
 /// Writes the fork of a table: the rows, the bytes of their names and of their data, one after the other, and what a
-/// fork has beside them. paramErr where a name or a datum isn't there, bytes are left over, rows of one type are
-/// apart, or the fork has more bytes or fewer; dskFulErr where the table is too big for a fork.
+/// fork has beside them. paramErr where a name or a datum isn't there, bytes are left over, rows of one type are apart,
+/// or the fork has more bytes or fewer; dskFulErr where the table is too big for a fork.
 #[unsafe(no_mangle)]
 pub extern "C" fn mf_write(
     alloc: Global,
@@ -50,7 +50,7 @@ pub extern "C" fn mf_write(
     }
 }
 
-/// The fork of the table that C gives, or the code that C is told.
+/// The fork of the table that C gives, or the code that C gets.
 fn written(
     alloc: Global,
     rows: &[MfRow],

@@ -17,7 +17,7 @@ none_shown : (found : List found.Difference) → map shown found ≡ [] → foun
 none_shown [] is = refl
 none_shown (first ∷ rest) is = absurd (cc is)
 
--- attributes of which there is nothing to tell are the same
+-- attributes of which there is nothing to report are the same
 same_attributes : (old new : ℕ) (told : Option (ℕ × ℕ)) → told ≡ attributes_diff old new → told ≡ None → old ≡ new
 same_attributes old new told is none = by_case (old == new) refl (sym none ∙ is)
   where

@@ -29,7 +29,7 @@ module _ {S Event : Type 0} (fork : S → List ℕ) (is_ready is_stable is_hones
     pub keeps : KeepsFork
     pub read : OnOk result (after ≡ bytes_at (length before) at (fork old))
 
-  -- The fork is this one, ready and stable. A failure before the first write, which one fault tells, changes nothing,
+  -- The fork is this one, ready and stable. A failure before the first write, which one fault reports, changes nothing,
   -- and a later one leaves what it may. Whenever a crash comes, a start finds a fork that it might have found before,
   -- or this one.
   pub record ReplacesFork {T E : Type 0} (may_leave : List ℕ → List ℕ → List ℕ → Type 0) (may_find : List Event → List ℕ → Type 0) (early late : E) (this : List ℕ) (result : Result T E) : Type 0 where

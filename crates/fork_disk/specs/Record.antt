@@ -41,7 +41,7 @@ abbrev pub sync_event : {T E : Type 0} → ℕ → Result T E → Event
 sync_event which result = (4 ∷ 0 ∷ done result ∷ which ∷ [], [])
 
 -- The answer of a call fits a file that held the old bytes before it and holds the new ones after it. A call that
--- failed tells nothing of the bytes; a write or a cut that failed may have been done in part.
+-- failed says nothing of the bytes; a write or a cut that failed may have been done in part.
 abbrev pub Fits : ℕ → ℕ → Bool → List ℕ → List ℕ → List ℕ → Type 0
 Fits zero n ok bytes old new = (new ≡ old) × (IsTrue ok → n ≡ length old)
 Fits (suc zero) at ok bytes old new = (new ≡ old) × (IsTrue ok → bytes ≡ bytes_at (length bytes) at old)

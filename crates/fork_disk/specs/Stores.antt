@@ -9,8 +9,7 @@ use Rattle.fork_disk.specs.OnStore.{KeepsFork, ReplacesFork}
 abbrev pub OnlyReads : {S : Type 0} → Ghosts S → S → S → Type 0
 OnlyReads store old new = KeepsFork store.fork store.is_ready store.is_stable store.is_honest store.history old new
 
--- this fork takes the place of the old one; a failure before the first write is told by one fault, and a later one by
--- another
+-- this fork takes the place of the old one; one fault reports a failure before the first write, and another a later one
 abbrev pub Replaces : {S T E : Type 0} → Ghosts S → S → S → E → E → List ℕ → Result T E → Type 0
 Replaces store old new early late this result =
     ReplacesFork store.fork store.is_ready store.is_stable store.is_honest store.history old new store.may_leave store.may_find early late this result

@@ -8,7 +8,7 @@ ghost use Rattle.fork_disk.specs.OnDisk.{MeasuresDisk, ReadsDisk, WritesDisk, Cu
 use crate::disk::{DiskFault, ForkDisk};
 use crate::failures::Failures;
 
-/// A disk whose n-th call fails, to try what is on it. That call is counted as a failure and changes nothing; all
+/// A disk whose n-th call fails, to try what is built on it. That call is counted as a failure and changes nothing; all
 /// others are the calls of the disk inside.
 #[derive(Debug, Drop)]
 pub struct FailAt<D> {

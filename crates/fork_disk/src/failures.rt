@@ -26,7 +26,7 @@ impl Failures {
         Failures(0)
     }
 
-    /// Counts one more, and tells it.
+    /// Counts one more, and returns it.
     pub(crate) fn count(&mut self) -> DiskFault
         ensures { Rose self.old self.new }
     {

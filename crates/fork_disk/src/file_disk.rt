@@ -10,8 +10,8 @@ use crate::world::World;
 use std::marker::PhantomData;
 
 /// A disk that is a file. Each call of the system is noted with its answer, in a record that only clauses read. The
-/// disk is honest where these answers are those of the file that its world tells of, so that nobody else wrote it. Each
-/// fault of the system is counted, and so is a read that ends past the end.
+/// disk is honest where these answers are those of the file in its world, so that nobody else wrote it. Each fault of
+/// the system is counted, and so is a read that ends past the end.
 #[derive(Drop)]
 pub struct FileDisk<W: World> {
     file: HostFile,

@@ -34,7 +34,7 @@ abbrev pub IsFileElsewhere : Bool → List ℕ → Parts → Type 0
 IsFileElsewhere true bytes file = (read : File) × (bin_hex_of bytes ≡ Ok read) × (file ≡ bin_hex_parts read)
 IsFileElsewhere false bytes file = file ≡ parts_of Raw bytes
 
--- what bytes are that are known as a container: what it tells
+-- what bytes are that are known as a container: what it says
 abbrev pub IsFileAs : Option Container → List ℕ → Parts → Type 0
 IsFileAs None bytes file = IsFileElsewhere (is_bin_hex bytes) bytes file
 IsFileAs (Some container) bytes file = (fault_of container bytes ≡ None) × (file ≡ parts_of container bytes)
@@ -68,7 +68,7 @@ abbrev pub is_left_out : Transfer → Detail → Bool
 is_left_out asked DataFork = is_lost DataFork asked.target (new_file asked) && not asked.is_data_named
 is_left_out asked detail = is_lost detail asked.target (new_file asked)
 
--- so it is told
+-- so it is reported
 abbrev pub told : Transfer → Detail → List Loss
 told asked detail = if is_left_out asked detail then loss.Detail detail ∷ [] else []
 
@@ -97,7 +97,7 @@ losses asked = lost_details asked
 abbrev pub MayLose : Transfer → Type 0
 MayLose asked = (asked.is_lossy ≡ true) ⊎ (losses asked ≡ [])
 
--- what comes of a file in another container: what is lost is told, and refused where it may not be; then the
+-- what comes of a file in another container: what is lost is reported, and refused where it may not be; then the
 -- container's own refusal comes, and else there is the new file
 abbrev pub IsConverted : Transfer → Result Rewritten NotConverted → Type 0
 IsConverted asked (Ok new) = MayLose asked × (new.lost.items ≡ losses asked) × (new.file.items ≡ text_of asked.target (new_file asked))

@@ -8,7 +8,7 @@ use Rattle.fork_edit.specs.declared.convert.NotConverted.TheVariants as unconver
 use Rattle.fork_edit.specs.declared.file.NotWritten.{NotWritten}
 use Rattle.fork_edit.specs.declared.file.NotWritten.TheVariants as unwritten
 
--- want of memory stays that, all else is told
+-- want of memory stays that, all else is reported
 abbrev pub of_container : Refusal → NotWritten
 of_container container.HostFull = unwritten.HostFull
 of_container refusal = unwritten.Container refusal

@@ -67,7 +67,7 @@ fn file_in_text<'a>(alloc: Global, bytes: &'a [u8]) -> Result<Source<'a>, NoFork
     }
 }
 
-/// The file that bytes hold: what their container tells, what their BinHex text stands for, or nothing but a resource
+/// The file that bytes hold: what their container says, what their BinHex text stands for, or nothing but a resource
 /// fork. Each refusal comes exactly where it is defined, but for HostFull.
 pub fn file_of<'a>(alloc: Global, bytes: &'a [u8]) -> Result<Source<'a>, NoFork>
     ensures file { IfOk result (λ source. IsFileOf bytes.now (file_in source)) }
@@ -255,8 +255,8 @@ fn losses(alloc: Global, asked: &Transfer) -> Result<Vec<Loss>, AllocError>
     Ok(lost)
 }
 
-/// The file in another container. What the container can't hold is told, and refused where it may not be lost. What is
-/// written is read again as all of the new file that the container holds; where nothing is lost, that is all of it.
+/// The file in another container. What the container can't hold is reported, and refused where it may not be lost. What
+/// is written is read again as all of the new file that the container holds; where nothing is lost, that is all of it.
 /// Each refusal comes exactly where it is defined, but for HostFull.
 pub fn converted(alloc: Global, asked: &Transfer) -> Result<Rewritten, NotConverted>
     ensures converted { IsConverted asked.now result }

@@ -10,7 +10,7 @@ use Rattle.fork_folder.specs.Unpacked.{Unpacked, unpacked}
 abbrev pub path_of : Unpacked → List ℕ
 path_of file = file.folder ++ 47 ∷ file.name
 
--- paths that a file system tells apart which has no regard to case
+-- paths that a file system distinguishes which has no regard to case
 abbrev pub AreApart : Unpacked → Unpacked → Type 0
 AreApart file other = folded (path_of file) ≢ folded (path_of other)
 

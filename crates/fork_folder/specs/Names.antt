@@ -3,7 +3,7 @@ use Rattle.std.specs.Prelude.{ℕ, ℤ, ◌+◌, ◌-◌, ◌/◌, ◌%◌, ◌=
 use Rattle.std.specs.List.{flat_map, list_any}
 use Rattle.std.specs.Fmt.{decimal, digit_glyph, signed_decimal}
 
--- a byte that can't be as it is: `%` and two hexadecimal digits
+-- a byte that a file's name can't have as it is: `%` and two hexadecimal digits
 abbrev pub escaped : ℕ → List ℕ
 escaped byte = 37 ∷ digit_glyph true (byte / 16) ∷ digit_glyph true (byte % 16) ∷ []
 

@@ -114,8 +114,8 @@ fn missing(alloc: Global, entry: &Entry) -> PackFault
     }
 }
 
-/// The rows of a manifest's entries, in their order, each with the bytes that the folder's file of its path has. The
-/// first path of which there is no file is told; the other error is that the host has no memory.
+/// The rows of a manifest's entries, in their order, each with the bytes that the folder's file of its path has. One
+/// error is the first path of which there is no file; the other is that the host has no memory.
 pub fn packed<'a>(
     alloc: Global,
     entries: &[Entry],

@@ -47,7 +47,7 @@ gate_open gate is = grind (arith, nat_tests)
 isn't_zero : (n : ℕ) → n ≢ 0 → (n == 0) ≡ false
 isn't_zero n some = grind (arith, nat_tests)
 
--- the gate that was read tells whether it has to be shut
+-- the gate that was read says whether it has to be shut
 pub must_shut_read : (journal gate : Bytes) (n : ℕ) → n ≡ length journal → n ≢ 0 → gate ≡ bytes_at 1 0 journal → (get_or gate 0 0 == 1) ≡ must_shut journal
 must_shut_read [] gate n is some reads = absurd (some is)
 must_shut_read (g ∷ rest) gate n is some reads =

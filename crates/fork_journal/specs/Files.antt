@@ -16,7 +16,7 @@ abbrev pub side_in : files.Event → Side
 side_in e = side_at (slice_index e.0 3)
 
 -- The answer of a call fits a pair that held the old bytes before it and holds the new ones after it. A write or a cut
--- changes only its own range, and may have been done in part where it failed. A call that failed tells nothing else.
+-- changes only its own range, and may have been done in part where it failed. A call that failed says nothing else.
 abbrev pub Fits : ℕ → Side → ℕ → Bool → List ℕ → Contents → Contents → Type 0
 Fits zero side n ok bytes old new = (new ≡ old) × (IsTrue ok → n ≡ length (side_of side old))
 Fits (suc zero) side at ok bytes old new = (new ≡ old) × (IsTrue ok → bytes ≡ bytes_at (length bytes) at (side_of side old))

@@ -12,7 +12,7 @@ abbrev pub with_side : Side → List ℕ → Contents → Contents
 with_side Fork bytes c = record c { fork = bytes }
 with_side Journal bytes c = record c { journal = bytes }
 
--- bytes over what is there, and past the end; after it nothing is written
+-- bytes over what is there, and past the end; nothing is written where they begin after it
 abbrev pub overwritten : ℕ → List ℕ → List ℕ → List ℕ
 overwritten at bytes old = if nat_le at (length old) then put_at at bytes old else old
 

@@ -27,7 +27,7 @@ module _ {P : Type 0} (pair : Ghosts P) where
   abbrev pub IsPairStable : P → Type 0
   IsPairStable now = IsStable (pair.contents now) (pair.history now)
 
-  -- where it is honest, the pair can be replaced, it can be recovered, or a crash leaves its fork after a shut gate
+  -- where it is honest, the pair can be replaced, it can be recovered, or a crash leaves its fork and a shut gate
   abbrev pub CanReplace : P → Type 0
   CanReplace now = pair.is_honest now → IsPairReady now
 

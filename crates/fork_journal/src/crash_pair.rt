@@ -13,7 +13,7 @@ use fork_disk::disk::DiskFault;
 use std::alloc::{AllocError, Global};
 
 /// A pair in memory that stops after its n-th write, cut or sync. Each call from then on fails, is counted and changes
-/// nothing. `outcome` then tells what a crash at that moment leaves, as a test picks it.
+/// nothing. `outcome` then returns what a crash at that moment leaves, as a test picks it.
 #[derive(Drop)]
 pub struct CrashPair {
     pair: MemPair,

@@ -12,9 +12,9 @@ use fork_disk::{FileCalls, HostFile};
 use std::marker::PhantomData;
 
 /// A fork and its journal that are two files. Each call of the system is noted with its answer, in one record for both,
-/// that only clauses read. The pair is honest where these answers are those of the files that its world tells of, so
-/// that nobody else wrote them. The two are one device: their faults are one count, and a machine that stops, stops
-/// both. After a sync that failed, each sync of that file fails.
+/// that only clauses read. The pair is honest where these answers are those of the files in its world, so that nobody
+/// else wrote them. The two are one device: their faults are one count, and a machine that stops, stops both. After a
+/// sync that failed, each sync of that file fails.
 #[derive(Drop)]
 pub struct FilePair<W: PairWorld> {
     fork: HostFile,

@@ -8,12 +8,12 @@ use crate::mem_pair::{Call, overwritten};
 use crate::pair::Side;
 use std::alloc::{AllocError, Global};
 
-/// What is, after a crash, in the range of a write or after a cut.
+/// What is there after a crash, in the range of a write or past a cut.
 #[derive(Clone, Copy, PartialEq, Eq)]
 pub enum Fate {
     /// What was there before the call, and zeros where nothing was.
     Lost,
-    /// What the call put there; after a cut, what was there before it.
+    /// What the call put there; past a cut, what was there before it.
     Kept,
     /// The value $FF.
     Filled,

@@ -27,7 +27,7 @@ pub(crate) fn is_shutting_due<P: PairDisk>(pair: &mut P) -> Result<bool, DiskFau
     Ok(gate[0] == 1)
 }
 
-/// How many bytes of a fork the first five bytes of a journal tell.
+/// How many bytes a fork has, as the first five bytes of a journal say.
 fn told_length(head: &[u8; 5]) -> u64
     ensures value { result ≡ big_number 4 (drop 1 head.now) }
     ensures small { result < 2 ^ 32 }

@@ -6,7 +6,7 @@ use Rattle.std.proofs.lemmas.List.Quantifiers.{position-Some}
 use Rattle.fork_list.specs.declared.roman.TheConstants.{UPPER}
 use Rattle.fork_list.specs.Roman.{roman_char}
 
--- a character of the table first is in its own place
+-- a character of the table is first in its own place
 own_place : (k : ℕ) → k < 128 → position_or_len (λ upper. upper == slice_index UPPER k) UPPER ≡ k
 own_place k within = eqb-true _ _ (agree_below_at (λ k. eqb (position_or_len (λ upper. upper == slice_index UPPER k) UPPER) k) (λ _. true) 128 k refl within)
 

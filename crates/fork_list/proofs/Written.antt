@@ -17,7 +17,7 @@ Plain text byte rest = (text ≡ byte ∷ rest) × (32 ≤ byte) × (byte ≢ 12
 abbrev pub After : List ℕ → ℕ → List ℕ → Type 0
 After text byte rest = (text ≡ 92 ∷ byte ∷ rest) × ((byte ≡ 39) ⊎ (byte ≡ 92))
 
--- the byte is as two digits
+-- the byte is written as two digits
 abbrev pub Digits : List ℕ → ℕ → List ℕ → Type 0
 Digits text byte rest = (high : ℕ) × (low : ℕ) × (text ≡ 92 ∷ 120 ∷ high ∷ low ∷ rest) × (digit_value high < 16) × (digit_value low < 16)
     × (byte ≡ 16 * digit_value high + digit_value low)

@@ -39,7 +39,7 @@ stage_of byte =
 abbrev pub decimal_of : ℕ → ℕ
 decimal_of byte = byte / 16 * 10 + byte % 16
 
--- the version that a resource tells: the major version as two decimal digits, the minor one and the correction as one
+-- the version that a resource gives: the major version as two decimal digits, the minor one and the correction as one
 -- each, the stage, which one it is of this stage, the region in two bytes, and two strings
 abbrev pub version_of : List ℕ → Option Told
 version_of (major ∷ minor ∷ stage ∷ prerelease ∷ high ∷ low ∷ texts) =

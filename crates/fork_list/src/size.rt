@@ -3,7 +3,7 @@
 use fork_bytes::place::Place;
 use fork_bytes::table::Contents;
 
-/// What tells how many bytes a resource has: these bytes, or where they are in a fork.
+/// What says how many bytes a resource has: these bytes, or where they are in a fork.
 pub trait HasSize {
     ghost use Rattle.std.specs.Prelude.{◌≡◌, ℕ};
 

@@ -1,4 +1,4 @@
-//! The versions of programs, as resources 'vers' tell them.
+//! The versions of programs, as resources 'vers' give them.
 
 ghost use Rattle.std.specs.Prelude.{◌≡◌, ◌+◌, ◌*◌, ◌/◌, ◌%◌, option_map};
 ghost use Rattle.fork_list.specs.Versions.{version_text, decimal_of, stage_of, version_of};
@@ -54,7 +54,7 @@ fn decimal_of(byte: u8) -> u8
     byte / 16 * 10 + byte % 16
 }
 
-/// The version that a resource 'vers' tells. None where the resource ends before its texts do.
+/// The version that a resource 'vers' gives. None where the resource ends before its texts do.
 pub fn version_of(resource: &[u8]) -> Option<Version<'_>>
     ensures { option_map version_text result ≡ version_of resource.now }
 {

@@ -1,4 +1,4 @@
--- What is told of a failure.
+-- What is reported of a failure.
 use Rattle.std.proofs.Common.{◌≡◌, ◌≢◌, ℕ, Bool, true, false, List, Option, None, Some, Result, Ok, Err, IfNone, IfOk, IfSome, Vec, refl, sym, ap, ◌∙◌, subst, arith}
 use Rattle.std.specs.Prelude.{[], ◌==◌, ◌↔◌, ◌∷◌, IsTrue, length, not, is_some, String}
 use Rattle.std.specs.declared.alloc.AllocError.{AllocError}
@@ -110,7 +110,7 @@ told_of fork (fault ∷ faults) test is damaged whole = (
   λ damage. subst (λ (b : Bool). IsTrue (not b)) (sym (is ∙ ne_eqb (length (fault ∷ faults)) 0 (omega arith))) refl,
 )
 
--- a fork is told as damaged exactly if it is
+-- a fork is reported as damaged exactly if it is
 pub told_damage : (fork : List ℕ) (faults shown : List Fault) (test : Bool) → shown ≡ faults → test ≡ (length shown == 0) → (faults ≢ [] → IsDamaged fork)
     → (faults ≡ [] → ¬ IsDamaged fork) → IsTrue (not test) ↔ IsDamaged fork
 told_damage fork faults shown test same is damaged whole =

@@ -1,4 +1,4 @@
--- What is told of a damaged fork.
+-- What is reported of a damaged fork.
 use Rattle.std.specs.Prelude.{◌≡◌, ◌≢◌, ℕ, ◌==◌, ◌||◌, Bool, true, false, nat_le, nat_lt, if◌then◌else◌, List, [], codes, length, Option, None, Some, is_some}
 use Rattle.std.specs.List.{list_any}
 use Rattle.fork_bytes.specs.declared.fault.Condition.TheVariants.{Parts}

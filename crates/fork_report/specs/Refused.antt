@@ -1,4 +1,4 @@
--- Why nothing is told of a file.
+-- Why nothing is reported of a file.
 use Rattle.std.specs.Prelude.{◌≡◌, ◌≢◌, ℕ, ◌⊎◌, true, false, List, [], codes, None, Some, ⊤}
 use Rattle.std.specs.Option.{option_map_or}
 use Rattle.fork_bytes.specs.declared.fault.ForkFault.{ForkFault}
@@ -19,7 +19,7 @@ use Rattle.fork_report.specs.Damage.{IsDamageOf, is_known, is_of_fork, is_readab
 abbrev pub IsTakenForFork : List ℕ → Damage → Type 0
 IsTakenForFork file damage = (is_known file ≡ true) ⊎ ((archive_of file ≡ None) × (is_of_fork damage ≡ true))
 
--- what is told of a file whose fork is refused: the damage, that it is an archive, or that nothing is known of it;
+-- what is reported of a file whose fork is refused: the damage, that it is an archive, or that nothing is known of it;
 -- where the host has no memory for that, the fault alone
 abbrev pub IsToldOfFork : List ℕ → ForkFault → Refusal → Type 0
 IsToldOfFork file fault (refusal.Show (failure.Fork told)) = told ≡ fault
@@ -31,7 +31,7 @@ IsToldOfFork file fault (refusal.Unknown told) =
     (is_known file ≡ false) × (archive_of file ≡ None) × ((fork : List ℕ) × (damage : Damage) × IsDamageOf file fork damage × (is_of_fork damage ≡ false))
 IsToldOfFork file fault other = ⊥
 
--- what is told of a file that isn't shown because of this
+-- what is reported of a file that isn't shown because of this
 abbrev pub IsToldOf : List ℕ → Failure → Refusal → Type 0
 IsToldOf file (failure.NoFork no_fork.HostFull) told = told ≡ refusal.Show failure.HostFull
 IsToldOf file (failure.NoFork fault) (refusal.Container container told) =
@@ -49,7 +49,7 @@ IsForkCause fork (failure.Fork fault) = (fork ≢ []) × RefusesWithin format_li
 IsForkCause fork failure.HostFull = ⊤
 IsForkCause fork other = ⊥
 
--- why nothing is told of a file: it has no fork, or one that is refused; or the host has no memory
+-- why nothing is reported of a file: it has no fork, or one that is refused; or the host has no memory
 abbrev pub IsCause : List ℕ → Failure → Type 0
 IsCause file (failure.NoFork fault) = IsNoForkIn file fault
 IsCause file (failure.Fork fault) = (fork : List ℕ) × IsForkIn file fork × IsForkCause fork (failure.Fork fault)
@@ -57,6 +57,6 @@ IsCause file failure.HostFull = ⊤
 IsCause file failure.NotFound = ⊥
 IsCause file (failure.Write fault) = ⊥
 
--- nothing is told of a file, for a cause, which is what is told
+-- nothing is reported of a file, for a cause, which is what is reported
 abbrev pub IsRefused : List ℕ → Refusal → Type 0
 IsRefused file told = (cause : Failure) × IsCause file cause × IsToldOf file cause told

@@ -1,4 +1,4 @@
--- What is told of files, and what is salvaged of them.
+-- What is reported of files, and what is salvaged of them.
 use Rattle.std.specs.Prelude.{◌≡◌, ◌↔◌, ℕ, ◌<◌, false, IsTrue, List, Option, None, Some}
 use Rattle.fork_bytes.specs.declared.table.Table.{Table}
 use Rattle.fork_answer.specs.Answer.{IsTableOf}
@@ -15,7 +15,7 @@ use Rattle.fork_report.specs.declared.request.Report.TheVariants as report
 use Rattle.fork_report.specs.Damage.{IsDamaged, is_readable, tally_of}
 use Rattle.fork_report.specs.Refused.{IsRefused}
 
--- the form in which it is told
+-- the form in which it is reported
 abbrev pub form_of : Report → Form
 form_of (report.Info form) = form
 form_of (report.Check form) = form
@@ -25,8 +25,8 @@ form_of (report.List kinds shown) = Json
 abbrev pub HasTable : List ℕ → Type 0
 HasTable file = (fork : List ℕ) × (table : Table) × IsForkIn file fork × IsTableOf fork table
 
--- where the faults of a file's fork are asked for, it is told as damaged exactly if it is; a list is told of a fork
--- that isn't
+-- where the faults of a file's fork are asked for, it is reported as damaged exactly if it is; a list is reported of a
+-- fork that isn't
 abbrev pub Tells : Report → List ℕ → Told → Type 0
 Tells (report.Check form) file told = (fork : List ℕ) × IsForkIn file fork × (IsTrue told.is_damaged ↔ IsDamaged fork)
 Tells (report.List kinds shown) file told = HasTable file × (told.is_damaged ≡ false)

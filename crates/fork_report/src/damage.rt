@@ -1,4 +1,4 @@
-//! What is told of a damaged fork.
+//! What is reported of a damaged fork.
 
 ghost use Rattle.std.specs.Prelude.{◌≡◌, ◌≢◌, ℕ, List, [], ◌∷◌, filter_map, length, IfNone, IfSome, Some, is_some};
 ghost use Rattle.fork_bytes.specs.Fork.{IsForkWithin, format_limits};

@@ -34,7 +34,7 @@ fn push_name(
     write!(text, "name: {name}\ntype: {kind}\ncreator: {creator}\n")
 }
 
-/// Adds what a container tells of a file, in lines.
+/// Adds what a container says of a file, in lines.
 fn push_contents(
     text: &mut String,
     container: Container,
@@ -59,7 +59,7 @@ fn push_contents(
     writeln!(text, "data fork: {data} bytes")
 }
 
-/// Adds what a BinHex text tells of a file, in lines.
+/// Adds what a BinHex text says of a file, in lines.
 fn push_text(text: &mut String, file: &BinHexFile) -> Result<(), AllocError> {
     let data = file.data_fork().len();
     writeln!(text, "kept as: a BinHex file")?;
@@ -123,7 +123,7 @@ fn container_text(alloc: Global, container: Container, file: &[u8]) -> Result<St
     Ok(text)
 }
 
-/// What a file is, in lines: what its container tells, and what its resource fork holds.
+/// What a file is, in lines: what its container says, and what its resource fork holds.
 pub fn info_text(alloc: Global, file: &[u8]) -> Result<String, Failure>
     ensures { IfErr result (IsCause file.now) }
 {

@@ -89,7 +89,7 @@ fn resources_line(
         .line()
 }
 
-/// A fault of a fork, or what is odd about it: what is told of it, and its place.
+/// A fault of a fork, or what is odd about it: what is reported of it, and its place.
 fn told_value(alloc: Global, told: String, place: Option<usize>) -> Result<Value, AllocError> {
     Object::new(alloc)
         .with("message", Ok(Value::String(told)))
@@ -178,7 +178,7 @@ fn with_fork(alloc: Global, object: Object, fork: &[u8]) -> Result<Object, Failu
     )
 }
 
-/// With what a container tells of a file.
+/// With what a container says of a file.
 fn with_contents(
     alloc: Global,
     object: Object,
@@ -208,7 +208,7 @@ fn with_contents(
     with_fork(alloc, object.with("dataFork", Ok(Value::from(data))), fork)
 }
 
-/// With what a BinHex text tells of a file.
+/// With what a BinHex text says of a file.
 fn with_text(alloc: Global, object: Object, text: &[u8]) -> Result<Object, Failure>
     requires none { container_of text.now ≡ None }
     requires text { is_bin_hex text.now ≡ true }

@@ -1,4 +1,4 @@
-//! What is told of files: what each is, its faults, what can be read of it, and why nothing is shown.
+//! What is reported of files: what each is, its faults, what can be read of it, and why nothing is shown.
 #![tactic(auto)]
 
 mod damage;

@@ -27,7 +27,7 @@ pub enum Refusal {
     /// It is an archive or a disk image.
     #[error("{0}")]
     Archive(Archive),
-    /// Its fork is damaged: what is told of that.
+    /// Its fork is damaged: what is reported of that.
     #[error("{told}")]
     Damaged {
         told: String,
@@ -45,7 +45,7 @@ pub enum Refusal {
 }
 
 impl Refusal {
-    /// Why what this file holds can't be shown, told by what the file is known as.
+    /// Why what this file holds can't be shown, by what the file is known as.
     pub fn of_failure(alloc: Global, failure: Failure, file: &[u8]) -> Refusal
         ensures { IsToldOf file.now failure result }
     {
@@ -79,7 +79,7 @@ impl Refusal {
         }
     }
 
-    /// What is told of a fork that is refused: its first fault, with its place, if this file has a fork at all.
+    /// What is reported of a fork that is refused: its first fault, with its place, if this file has a fork at all.
     fn of_damage(alloc: Global, refusal: ForkFault, file: &[u8]) -> Refusal
         ensures { IsToldOfFork file.now refusal result }
     {

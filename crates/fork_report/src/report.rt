@@ -1,4 +1,4 @@
-//! What the commands do that tell about files: what each is, its faults, and what can be read of it.
+//! What the commands do that report on files: what each is, its faults, and what can be read of it.
 
 ghost use Rattle.std.specs.Prelude.{◌≡◌, ◌≢◌, ◌↔◌, ℕ, List, [], IfErr, IfOk, IsTrue, false, string_bytes};
 ghost use Rattle.fork_answer.specs.Lines.{salvage_listing};
@@ -21,7 +21,7 @@ use fork_salvage::{Fault, all_faults, first_fault};
 use mac_base::resource::ResType;
 use std::alloc::{AllocError, Global};
 
-/// What is told of a file: a text, and whether its fork is damaged.
+/// What is reported of a file: a text, and whether its fork is damaged.
 #[derive(Drop)]
 pub struct Told {
     pub text: String,
@@ -29,7 +29,7 @@ pub struct Told {
 }
 
 impl Told {
-    /// What is told of a file whose fork is whole.
+    /// What is reported of a file whose fork is whole.
     pub fn whole(text: String) -> Told
         ensures { result ≡ record { text = text; is_damaged = false } }
     {
@@ -40,7 +40,7 @@ impl Told {
     }
 }
 
-/// What is told of a file.
+/// What is reported of a file.
 pub fn report_on(alloc: Global, report: &Report, name: &str, bytes: &[u8]) -> Result<Told, Refusal>
     ensures told { IfOk result (Tells report.now bytes.now) }
     ensures refused { IfErr result (IsRefused bytes.now) }

@@ -6,7 +6,7 @@ ghost use Rattle.fork_report.specs.Reported.{form_of};
 use crate::json_row::Bytes;
 use mac_base::resource::ResType;
 
-/// In which form something is told.
+/// In which form something is reported.
 #[derive(Clone, Copy)]
 pub enum Form {
     /// Lines for people.
@@ -15,7 +15,7 @@ pub enum Form {
     Json,
 }
 
-/// What is told about files.
+/// What is reported about files.
 #[derive(Drop)]
 pub enum Report {
     /// What each is.
@@ -27,7 +27,7 @@ pub enum Report {
 }
 
 impl Report {
-    /// The form in which it is told.
+    /// The form in which it is reported.
     pub fn form(&self) -> Form
         ensures { result ≡ form_of self.now }
     {

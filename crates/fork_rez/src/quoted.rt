@@ -8,7 +8,7 @@ use crate::blanks::{after_blanks, after_word};
 use crate::fault::{Expected, ReadError, refused};
 use std::alloc::Global;
 
-/// How bytes are between quotes.
+/// How bytes are written between quotes.
 #[derive(Clone, Copy)]
 pub(crate) enum Quotes {
     /// As characters between single quotes.

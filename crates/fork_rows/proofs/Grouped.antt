@@ -14,7 +14,7 @@ abbrev first : List (List ℕ) → List ℕ
 first [] = []
 first (kind ∷ kinds) = kind
 
--- runs are told by types alone
+-- runs are known by types alone
 pub same_types : {X Y : Type 0} (rows : List (Resource X)) (others : List (Resource Y)) → kinds_in rows ≡ kinds_in others → types_of rows ≡ types_of others
 same_types [] [] same = refl
 same_types [] (r ∷ others) same = absurd (cc same)

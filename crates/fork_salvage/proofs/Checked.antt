@@ -72,7 +72,7 @@ not_refused fork (fault.Length row) refused is = refused.1.fails (is.holds condi
 not_refused fork (fault.Bytes row) refused is = refused.1.fails (is.holds condition.Places)
 not_refused fork (fault.ByteCount row) refused is = refused.1.fails (is.holds condition.ByteCount)
 
--- what is found where the fork may be read as it tells, and where it may not
+-- what is found where the fork may be read as it says, and where it may not
 pub found_told : (fork : List ℕ) (plan : Plan) (done : List Fault) → 16 ≤ length fork → may_be_told fork ≡ true → plan ≡ told_plan fork →
     (done ++ parts_faults fork) ++ lists_faults fork plan ≡ done ++ found_faults fork
 found_told fork plan done long told is =

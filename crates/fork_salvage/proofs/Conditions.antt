@@ -104,7 +104,7 @@ pairs_to m i j distinct below within =
     let Q : TypeEntry → Type 0 = λ a. a.kind ≢ (get_or (entries_of m) j d).kind in
     subst P second (subst Q first (distinct i j d below (omega arith)))
 
--- a plan as the fork tells it has its types, if no two entries have one
+-- a plan as the fork gives it has its types, if no two entries have one
 pub types_hold : (fork : List ℕ) (plan : Plan) (i : ℕ) → IsTold fork plan → plan.types.count ≤ i →
     ((k j : ℕ) → k < j → j < i → (told_list (map_in fork plan) plan.types k).kind ≡ (told_list (map_in fork plan) plan.types j).kind → ⊥) → HasTypes (map_of fork)
 types_hold fork plan i told past distinct =

@@ -34,7 +34,7 @@ by_order : {X : Type 0} (P : X → Type 0) (a b : ℕ) (x y : X) → ((a < b) �
 by_order P a b x y (inl less) below above = chosen P (nat_lt a b) x y (lt-ltb a b less) (below less)
 by_order P a b x y (inr more) below above = otherwise P (nat_lt a b) x y (le-ltb a b more) (above more)
 
--- it is so of what is found as the fork tells it
+-- it is so of what is found as the fork says
 said : (fork : List ℕ) (r : Reference) → Says fork r (bytes_found fork (told_plan fork) r.place)
 said fork r =
     let size = length (data_of fork) in let datum = datum_place fork r in let count = datum_length (data_of fork) datum in

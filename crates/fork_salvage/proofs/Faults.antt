@@ -1,4 +1,4 @@
--- The references that a fork tells, gone through for the first fault.
+-- The references that a fork names, gone through for the first fault.
 use Rattle.std.proofs.Common.{◌≡◌, ℕ, zero, suc, ◌+◌, ◌-◌, ◌*◌, ◌<◌, ◌≤◌, List, [], ◌∷◌, ◌++◌, length, map, subst, refl, sym, ap, ◌∙◌, arith}
 use Rattle.std.specs.List.{flat_map, AllByRecursion}
 use Rattle.std.proofs.lemmas.List.{append_assoc, length-append}
@@ -21,7 +21,7 @@ same_lists m (suc n) i at is =
     ap (λ (a : ℕ). references_in (entry_at m a) ++ flat_map (λ k. references_at (told_list m (told_types m) k)) (places n (i + 1) 1)) (sym is)
     ∙ ap (λ (xs : List Reference). references_in (entry_at m at) ++ xs) (same_lists m n (i + 1) (at + 8) (omega arith))
 
--- the references of a plan as the fork tells it are those of the fork
+-- the references of a plan as the fork gives it are those of the fork
 pub told_references : (fork : List ℕ) (plan : Plan) → plan ≡ told_plan fork → references fork plan ≡ references_of (map_of fork)
 told_references fork plan is =
     let m = map_of fork in let n = type_count m in
@@ -29,7 +29,7 @@ told_references fork plan is =
     ap (λ (p : Plan). references fork p) is ∙ ap (λ (k : ℕ). flat_map (λ k. references_at (told_list m (told_types m) k)) (places k 0 1)) whole
     ∙ same_lists m n 0 (type_list m + 2) (omega arith)
 
--- a list of such a plan is as it is told
+-- a list of such a plan is as its entry says
 pub told_list_of : (fork : List ℕ) (plan : Plan) (i : ℕ) → plan ≡ told_plan fork → list_of fork plan i ≡ told_list (map_in fork plan) plan.types i
 told_list_of fork plan i is = let P : Plan → Type 0 = λ p. list_of fork p i ≡ told_list (map_in fork p) p.types i in subst P (sym is) refl
 

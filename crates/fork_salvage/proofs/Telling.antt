@@ -1,4 +1,4 @@
--- Whether a fork may be read as it tells.
+-- Whether a fork may be read as it says.
 use Rattle.std.proofs.Common.{◌≡◌, ℕ, ◌+◌, ◌*◌, ◌<◌, ◌≤◌, ◌&&◌, Bool, true, false, List, length, Option, Some, None, IfNone, subst, ap, ◌∙◌, le-leb}
 use Rattle.std.proofs.lemmas.Bool.{lt-leb}
 use Rattle.fork_salvage.specs.declared.place.Parts.{Parts}

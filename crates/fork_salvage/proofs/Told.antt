@@ -1,4 +1,4 @@
--- A fork that is read is told as it is, and nothing of it is lost.
+-- A fork that is read is salvaged as it is, and nothing of it is lost.
 use Rattle.std.proofs.Common.{◌≡◌, ℕ, ◌+◌, ◌≤◌, ◌&&◌, ◌==◌, nat_lt, nat_le, if◌then◌else◌, Bool, true, false, Option, None, Some, Ok, is_ok, IfSome, List, [], ◌∷◌, ◌++◌, length, map, slice_index, refl, sym, ap, ◌∙◌, le-leb, le-ltb, arith}
 use Rattle.std.specs.List.{AllByRecursion, list_all}
 use Rattle.std.specs.Int.{w16, cast_signed}

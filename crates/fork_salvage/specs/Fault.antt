@@ -98,7 +98,7 @@ HasBytes fork reference = HasDatum (data_of fork) (map_row (map_of fork) referen
 abbrev pub bytes_up_to : List ℕ → List Reference → ℕ
 bytes_up_to fork references = sum_by (λ (r : Reference). 4 + datum_length (data_of fork) (datum_place fork r)) references
 
--- a type that is twice, where it first does
+-- a type that is there twice, at the first entry that repeats one
 pub record IsSameType (fork : List ℕ) (same : SameType) : Type 0 where
   pub first : ℕ
   pub second : ℕ

@@ -38,7 +38,7 @@ map_fault fork = let resource_map = (parts_at 0 fork).map in option_map fault.Ma
 abbrev pub map_header_fault : Span → Option Fault
 map_header_fault map_part = option_map fault.MapHeader (gap_of map_part 0 28)
 
--- the parts that a header tells: what of them ends outside
+-- the parts that a header says: what of them ends outside
 abbrev pub parts_faults : List ℕ → List Fault
 parts_faults fork = option_to_list (too_long fork) ++ option_to_list (data_fault fork) ++ option_to_list (map_fault fork) ++ option_to_list (map_header_fault (parts_at 0 fork).map)
 
@@ -112,7 +112,7 @@ map_faults fork = let resource_map = (parts_at 0 fork).map in
     if nat_le (resource_map.start + resource_map.length) (length fork) && nat_le 28 resource_map.length
     then option_to_list (types_fault resource_map (map_of fork)) else []
 
--- the faults of all that can be looked at: what is after a part that ends outside isn't
+-- the faults of all that can be looked at: nothing after a part that ends outside is
 abbrev pub found_faults : List ℕ → List Fault
 found_faults fork =
     if nat_lt (length fork) 16 then option_to_list (header_fault fork)

@@ -27,7 +27,7 @@ pub record IsPlan (fork : List ℕ) (plan : Plan) : Type 0 where
   pub bytes : IsWithin fork plan.«data»
   pub types : IsTypes (map_in fork plan) plan.types
 
--- a plan as the fork tells it, of which the map has a header and the type list
+-- a plan as the fork gives it, of which the map has a header and the type list
 pub record IsTold (fork : List ℕ) (plan : Plan) : Type 0 where
   pub told : plan ≡ told_plan fork
   pub within : IsPlan fork plan

@@ -33,7 +33,7 @@ map_in fork plan = part fork plan.map
 abbrev pub data_in : List ℕ → Plan → List ℕ
 data_in fork plan = part fork plan.«data»
 
--- the list of references that an entry tells
+-- the list of references that an entry names
 abbrev pub told_list : List ℕ → Types → ℕ → ReferenceList
 told_list resource_map types i = let at = types.place + 2 + 8 * i in record {
   kind = bytes_at 4 at resource_map;
@@ -50,7 +50,7 @@ abbrev pub end_before : List ℕ → Types → ℕ → ℕ
 end_before resource_map types i =
     if i == 0 then types.place + 2 + 8 * types.count else list_end (told_list resource_map types (i - 1))
 
--- where the list after that of an entry begins; after the last it is the name list, whose place is told from the map's
+-- where the list after that of an entry begins; after the last it is the name list, whose place counts from the map's
 -- start
 abbrev pub next_start : List ℕ → Types → ℕ → ℕ
 next_start resource_map types i =
@@ -98,14 +98,14 @@ is_inside (Outside place) = false
 abbrev pub is_whole : List ℕ → Plan → ReferenceList → Bool
 is_whole fork plan list = list_all (λ (r : Reference). has_bytes fork plan r.place) (references_at list)
 
--- the list of an entry in the room between the lists beside it: of as many references as are told, or as many as have
--- room
+-- the list of an entry in the room between the lists beside it: of as many references as its entry says, or as many as
+-- have room
 abbrev pub list_in_room : ReferenceList → ℕ → ℕ → ReferenceList
 list_in_room told room next =
     if room + 12 * told.count == next then record told { start = room }
     else (if (told.start == room) && nat_lt room next then record told { count = (next - room) / 12 } else told)
 
--- the list of an entry, as it is told where it is whole or the plan is not mended, or else in its room
+-- the list of an entry, as the entry says where the list is whole or the plan is not mended, or else in its room
 abbrev pub list_of : List ℕ → Plan → ℕ → ReferenceList
 list_of fork plan i =
     let resource_map = map_in fork plan in let told = told_list resource_map plan.types i in
@@ -124,7 +124,7 @@ references fork plan = references_from fork plan 0
 abbrev pub keeps_all : List ℕ → Plan → Bool
 keeps_all fork plan = list_all (λ (r : Reference). has_bytes fork plan r.place && is_inside (name_found fork plan r.place)) (references fork plan)
 
--- the parts that a header says, which is at an offset of the fork
+-- the parts that the header at an offset of the fork says
 abbrev pub parts_at : ℕ → List ℕ → Parts
 parts_at at fork = record {
   map = record { start = number_at 4 (at + 4) fork; length = number_at 4 (at + 12) fork };
@@ -140,7 +140,7 @@ lies_within fork_length parts =
 abbrev pub told_types : List ℕ → Types
 told_types resource_map = record { place = type_list resource_map; count = count_at (type_list resource_map) resource_map }
 
--- the fork as its header and its map tell it
+-- the fork as its header and its map give it
 abbrev pub told_plan : List ℕ → Plan
 told_plan fork = let parts = parts_at 0 fork in record {
   map = parts.map;
@@ -219,7 +219,7 @@ mended_plan fork = let parts = stretched (length fork) (mended_parts fork) in re
   mended = true;
 }
 
--- how the fork is read: as it tells, if nothing is lost by that
+-- how the fork is read: as it says, if nothing is lost by that
 abbrev pub plan_of : List ℕ → Plan
 plan_of fork = if may_be_told fork && keeps_all fork (told_plan fork) then told_plan fork else mended_plan fork
 
@@ -253,7 +253,7 @@ abbrev pub item_with : List ℕ → Plan → Reference → Result Span Loss → 
 item_with fork plan reference (Ok bytes) = Row (found_row fork plan reference bytes)
 item_with fork plan reference (Err cause) = Lost (lost_row fork plan reference cause)
 
--- each reference is given or told
+-- each reference is given or reported
 abbrev pub item_of : List ℕ → Plan → Reference → Item
 item_of fork plan reference = item_with fork plan reference (bytes_found fork plan reference.place)
 

@@ -48,7 +48,7 @@ fn four_at(map: &[u8], at: usize) -> [u8; 4]
     four
 }
 
-/// The list of references that the entry at an index tells.
+/// The list of references that the entry at an index names.
 pub(crate) fn told_list(map: &[u8], types: Types, index: usize) -> ReferenceList
     requires types { IsTypes map.now types }
     requires within { index < types.count }
@@ -105,7 +105,7 @@ fn is_whole(fork: &[u8], plan: &Plan, list: &ReferenceList) -> bool
     true
 }
 
-/// A list of references in the room between two places: of as many as are told, or as many as have room.
+/// A list of references in the room between two places: of as many as its entry says, or as many as have room.
 fn list_in_room(told: ReferenceList, room: usize, next: usize) -> ReferenceList
     requires told { (told.count < 65536) × (told.start < 131072) }
     requires room { (room < 1000000) × (next < 131072) }
@@ -130,7 +130,7 @@ fn list_in_room(told: ReferenceList, room: usize, next: usize) -> ReferenceList
     }
 }
 
-/// The list of an entry, as it is told where it is whole or the plan is not mended, or else in its room.
+/// The list of an entry, as the entry says where the list is whole or the plan is not mended, or else in its room.
 pub(crate) fn list_of(fork: &[u8], plan: &Plan, index: usize) -> ReferenceList
     requires plan { IsPlan fork.now plan.now }
     requires within { index < plan.now.types.count }

@@ -52,7 +52,7 @@ pub enum Fault {
     TypeCount(Gap),
     /// The entries of the type list end outside of the map.
     TypeList(Gap),
-    /// A type is twice.
+    /// A type is there twice.
     SameType(SameType),
     /// The references of a type end outside of the map.
     References(BadList),

@@ -58,7 +58,7 @@ fn check_parts(fork: &[u8]) -> Result<Parts, Fault>
     Ok(parts)
 }
 
-/// The plan of a fork with these parts as it tells it, or the fault of a type list that ends outside of the map.
+/// The plan of a fork with these parts as it gives it, or the fault of a type list that ends outside of the map.
 fn check_types(fork: &[u8], parts: Parts) -> Result<Plan, Fault>
     requires parts { parts ≡ parts_at 0 fork.now }
     requires holds { HasPartsWithin format_limits (length fork.now) (header_of fork.now) }

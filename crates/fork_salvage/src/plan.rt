@@ -1,4 +1,4 @@
-//! How a fork is read: as its header and its map tell it, or mended.
+//! How a fork is read: as its header and its map say, or mended.
 
 ghost use Rattle.std.specs.Prelude.{◌≡◌, ◌<◌, ◌≤◌, ◌+◌, ◌*◌, ◌^◌, length, IfSome, IfNone, IsTrue, true, false};
 ghost use Rattle.fork_salvage.specs.Plans.{IsPlan, IsTypes, IsWithin};
@@ -27,7 +27,7 @@ pub(crate) struct Plan {
     pub(crate) mended: bool,
 }
 
-/// The parts that a header says, which is at an offset of the fork.
+/// The parts that the header at an offset of the fork says.
 pub(crate) fn parts_at(fork: &[u8], at: usize) -> Parts
     requires { at + 16 ≤ length fork.now }
     ensures parts { result ≡ parts_at at fork.now }
@@ -55,7 +55,7 @@ fn lies_within(fork_length: usize, parts: &Parts) -> bool
         && parts.map.length >= MAP_HEADER_LENGTH
 }
 
-/// The plan of a fork as its header and its map tell it, or None where its parts or its type list end outside.
+/// The plan of a fork as its header and its map give it, or None where its parts or its type list end outside.
 pub(crate) fn told_plan(fork: &[u8]) -> Option<Plan>
     ensures plan { IfSome result (λ plan. plan ≡ told_plan fork.now) }
     ensures told { IfSome result (λ _. may_be_told fork.now ≡ true) }
@@ -98,7 +98,7 @@ fn told_types(map: &[u8]) -> Option<Types>
     Some(Types { place, count })
 }
 
-/// The parts that a header says which is where it says itself that the map is.
+/// The parts that a header says, if it is where it says itself that the map is.
 fn copy_at(fork: &[u8], at: usize) -> Option<Parts>
     ensures copy { IfSome result (λ copy. copy ≡ parts_at at fork.now) }
     ensures is { IfSome result (λ _. is_copy fork.now at ≡ true) }

@@ -23,7 +23,7 @@ pub struct LostRow {
     pub kind: ResType,
     /// The id, if it lies within the map.
     pub id: Option<i16>,
-    /// Where the reference is in the fork, or should.
+    /// Where the reference is in the fork, or should be.
     pub reference: usize,
     pub loss: Loss,
 }
@@ -111,7 +111,7 @@ impl Chain {
     }
 }
 
-/// How a fork is read: as it tells, if nothing is lost by that.
+/// How a fork is read: as it says, if nothing is lost by that.
 fn plan_of(fork: &[u8]) -> Plan
     ensures plan { result ≡ plan_of fork.now }
     ensures within { IsPlan fork.now result }
@@ -190,7 +190,7 @@ fn found_row(fork: &[u8], plan: &Plan, reference: MapReference, bytes: Span) -> 
     }
 }
 
-/// What is told of a reference that hasn't its bytes.
+/// What is reported of a reference that hasn't its bytes.
 fn lost_row(fork: &[u8], plan: &Plan, reference: MapReference, loss: Loss) -> LostRow
     requires plan { IsPlan fork.now plan.now }
     requires small { reference.place < 2 ^ 32 }

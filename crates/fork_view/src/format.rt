@@ -69,7 +69,7 @@ fn masked(alloc: Global, size: Size, bytes: &[u8]) -> Result<Option<Picture>, Al
     Ok(Some(picture))
 }
 
-/// The picture of a cursor, after which its hot spot is.
+/// The picture of a cursor, after which comes its hot spot.
 fn cursor(alloc: Global, bytes: &[u8]) -> Result<Option<Picture>, AllocError>
     ensures { IfOk result (λ found. found ≡ picture_of Format.Cursor bytes.now) }
 {

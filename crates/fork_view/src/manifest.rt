@@ -22,7 +22,7 @@ struct Resource {
     file: String,
 }
 
-/// What the folder is unpacked from: a container with what it tells of the file, and all of the fork but its resources'
+/// What the folder is unpacked from: a container with what it says of the file, and all of the fork but its resources'
 /// bytes. The dates count seconds as the container does.
 #[derive(Debug, Drop, Serialize)]
 pub struct Manifest {
@@ -39,7 +39,7 @@ pub struct Manifest {
     resources: Vec<Resource>,
 }
 
-/// What a container tells of a file.
+/// What a container says of a file.
 #[derive(Drop)]
 struct Origin {
     container: Option<&'static str>,
@@ -47,7 +47,7 @@ struct Origin {
     dates: Option<Dates>,
 }
 
-/// What the container of a file tells of it. That of a fork alone tells nothing.
+/// What the container of a file says of it. That of a fork alone says nothing.
 fn origin_of(alloc: Global, file: &[u8]) -> Origin {
     if let Some(container) = container_of(file) {
         if let Ok(contents) = read_contents(container, file) {

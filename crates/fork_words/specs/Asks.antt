@@ -8,8 +8,8 @@ use Rattle.fork_words.specs.declared.asked.NotAsked.{NotAsked}
 use Rattle.fork_words.specs.declared.asked.NotAsked.TheVariants as not_asked
 use Rattle.fork_words.specs.Inputs.{ReadsOnce}
 
--- what changes files reads the standard input once, and doesn't write in its place; what is to be told is the help, or
--- the version
+-- what changes files reads the standard input once, and doesn't write in its place; what is to be printed is the help,
+-- or the version
 abbrev pub IsFit : Asked → Type 0
 IsFit (asked.Change work) = ReadsOnce work
 IsFit (asked.Tell told) = (kind_of told ≡ DisplayHelp) ⊎ (kind_of told ≡ DisplayVersion)

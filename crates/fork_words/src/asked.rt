@@ -148,7 +148,7 @@ fn asked_of<'a>(alloc: Global, matches: &ArgMatches<'a>) -> Result<Asked<'a>, No
     }
 }
 
-/// The form in which something is told.
+/// The form in which something is reported.
 pub(crate) fn form_of(matches: &ArgMatches<'_>) -> Form
     ensures json { one_text (found_of matches.now) (codes "json") ≡ Some (codes "true") → result ≡ Form.Json }
     ensures text { one_text (found_of matches.now) (codes "json") ≡ None → result ≡ Form.Text }

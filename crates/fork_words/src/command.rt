@@ -41,7 +41,7 @@ Exit status:
   3  a file holds no resource fork, or a damaged one
   4  a file can't be read, or the output can't be written";
 
-/// The commands, in the order of the help. A line has a name; what the command does; and what its own help tells, if
+/// The commands, in the order of the help. A line has a name; what the command does; and what its own help says, if
 /// that is more.
 const COMMANDS: &str =
     "ls;Lists resources;Lists resources: a line for each, with its type, its id, how many bytes it has, its attributes, and its name in double quotes
@@ -63,7 +63,7 @@ convert;Writes a file in another container;Writes a file in another container. W
 
 /// The words of the commands, options and then operands in their order. A line has the commands of a word; its name;
 /// its letter and its long form, if it is an option; what the help calls its value, if it has one; its marks; a word
-/// beside which it can't be; and its help. The marks: a `required` word; a value `each` time that it is, or
+/// beside which it can't be; and its help. The marks: a `required` word; a value `each` time that it is there, or
 /// `many` values; values that may be negative `numbers`, or begin with `-`.
 const WORDS: &str =
     "ls unpack derez;type;t;type;TYPE;each;;Only resources of this type, as ls shows it (STR is 'STR '); it may stand several times

@@ -52,7 +52,7 @@ free_at places n at lt is free = let none : at ≡ None = is_none at free in rec
   place = sym (length-take-le n places (omega arith));
 }
 
--- where there are more places than loans, one that is after loans alone is there
+-- where there are more places than loans, there is one after loans alone
 pub free_inside : (places : List (Option Held)) (n : ℕ) → length (held_at (take n places)) ≡ n → length (held_at places) < length places → n < length places
 free_inside places n full some = elim (cases_lt n (length places)) [
   | inl inside ↦ inside
@@ -165,7 +165,7 @@ first_taken x old loan new first taken = by_case taken.before taken.was taken.is
         let both : true ≡ false = ap (λ b. b || is_held x hs) (sym here) ∙ none in
         absurd (cc both)
 
--- one more loan is after all others
+-- one more loan comes after all others
 pub put_after : (places : List (Option Held)) (n : ℕ) (held : Held) (rotated : List (Option Held)) (last : Option Held) → FreeAt places n
     → rotated ≡ drop 1 (take (length places - n) (drop n places)) ++ take 1 (take (length places - n) (drop n places)) → last ≡ Some held
     → held_at (set (put_mid n (length places - n) places rotated) (length (put_mid n (length places - n) places rotated) - 1) last) ≡ held_at places ++ held ∷ []

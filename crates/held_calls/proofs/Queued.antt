@@ -46,7 +46,7 @@ noted-answers call code (a ∷ b ∷ asks) = following a.answer (noted-answers c
 pub noted-back : (call : ReleasingCall) (code : Option OsErr) (asks front : List Ask) (ask new : Ask) → asks ≡ front ++ ask ∷ [] → new ∷ [] ≡ noted call code (ask ∷ []) → front ++ new ∷ [] ≡ noted call code asks
 noted-back call code asks front ask new parts is = ap (λ (back : List Ask). front ++ back) is ∙ sym (noted-last call code front ask) ∙ ap (λ (xs : List Ask). noted call code xs) (sym parts)
 
--- what is told of some asks, with one more of them
+-- what is reported of some asks, with one more of them
 pub told-more : (asks : List Ask) (i : ℕ) (ask item : Ask) (before after : List Asked) → i < length asks → item ≡ get_or asks i item → ask ≡ item → before ≡ answered (take i asks) → after ≡ before ++ answered (ask ∷ []) → after ≡ answered (take (i + 1) asks)
 told-more asks i ask item before after less at same told more =
     more

@@ -20,7 +20,7 @@ pub(crate) fn zone_map(memory: &MemoryManager, alloc: Global) -> Result<Outcome,
     Ok(Ok(Results::Blocks(blocks)))
 }
 
-/// The blocks of the zone, lowest first: each header is after the block before it.
+/// The blocks of the zone, lowest first: each header comes after the block before it.
 fn blocks(memory: &MemoryManager, alloc: Global) -> Result<Vec<Block>, HostFull>
     ensures { IfOk result (λ blocks.
         blocks.items ≡ reports_from memory.now.heap.table (address_after memory.now.shape []) memory.now.heap.map) }

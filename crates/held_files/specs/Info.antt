@@ -1,4 +1,4 @@
--- SetResInfo over files whose forks are in memory, and what C is told of it.
+-- SetResInfo over files whose forks are in memory, and what C gets from it.
 use Rattle.std.specs.Prelude.{◌≡◌, ◌⊎◌, ⊤, ℕ, ℤ, List, Option, Some, None, Result, Ok, Err, MatchOption}
 use Rattle.held_files.specs.Forks.{ForksState}
 use Rattle.held_zone.specs.Told.{code_told, no_zone}
@@ -14,7 +14,7 @@ SetsInfo h id name old done new = MatchOption (info_refusal h name old.files)
     (((done ≡ Ok tt) × (new ≡ record old { files = info_changed h id name old.files })) ⊎ ((done ≡ Err MemFullErr) × (new ≡ old)))
     (λ code. (done ≡ Err code) × (new ≡ old))
 
--- C makes it, where there are files, and is told this code.
+-- C makes it, where there are files, and gets this code.
 abbrev pub SetInfoTold : ℕ → ℤ → Option (List ℕ) → Option ForksState → ℤ → Option ForksState → Type 0
 SetInfoTold h id name (Some old) code (Some new) = (done : Result ⊤ OsErr) × (code ≡ code_told (Some (done_outcome done))) × SetsInfo h id name old done new
 SetInfoTold h id name None code new = (code ≡ no_zone) × (new ≡ None)

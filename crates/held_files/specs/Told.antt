@@ -1,4 +1,4 @@
--- What C is told of a call of the Resource Manager.
+-- What C gets from a call of the Resource Manager.
 use Rattle.std.specs.Int.{from_be_bytes, w32}
 use Rattle.std.specs.Prelude.{◌≡◌, ◌⊎◌, ◌==◌, ◌++◌, ℕ, ℤ, pos, nat_lt, if◌then◌else◌, List, [], ◌∷◌, drop, length, Option, Some, None, Ok, MatchBool, option_and_then, option_map, unwrap_or}
 use Rattle.held_files.specs.Forks.{ForksState, fork_of_number, free_number, HasFork, HasNoForks, without_handles}
@@ -24,11 +24,11 @@ ResourceCalled (Some old) None call None new new_files = (new ≡ Some old) × (
 ResourceCalled None old_files call None new new_files = (new ≡ None) × (new_files ≡ old_files)
 ResourceCalled _ _ call _ _ _ = ⊥
 
--- The call is made, and C is told this code.
+-- The call is made, and C gets this code.
 abbrev pub ResourceTold : Option State → Option ForksState → ResourceCall → ℤ → Option State → Option ForksState → Type 0
 ResourceTold old old_files call code new new_files = (outcome : Option Outcome) × (code ≡ code_told outcome) × ResourceCalled old old_files call outcome new new_files
 
--- The call is made, and C is told this code and this number, where another one was.
+-- The call is made, and C gets this code and this number, where another one was.
 abbrev pub ResourceToldNumber : Option State → Option ForksState → ResourceCall → ℤ → ℕ → ℕ → Option State → Option ForksState → Type 0
 ResourceToldNumber old old_files call code before number new new_files =
     (outcome : Option Outcome) × (code ≡ code_told outcome) × (number ≡ number_told before outcome) × ResourceCalled old old_files call outcome new new_files
@@ -41,7 +41,7 @@ ResourceSought (Some old) None call None new new_files = (new ≡ Some old) × (
 ResourceSought None old_files call None new new_files = (new ≡ None) × (new_files ≡ old_files)
 ResourceSought _ _ call _ _ _ = ⊥
 
--- It is made, and C is told this code and this handle, where another number was.
+-- It is made, and C gets this code and this handle, where another number was.
 abbrev pub SoughtTold : Option State → Option ForksState → SeekingCall → ℤ → ℕ → ℕ → Option State → Option ForksState → Type 0
 SoughtTold old old_files call code before handle new new_files =
     (outcome : Option Outcome) × (code ≡ code_told outcome) × (handle ≡ number_told before outcome) × ResourceSought old old_files call outcome new new_files
@@ -52,7 +52,7 @@ abbrev pub kind_told : ℕ → Option Outcome → ℕ
 kind_told before (Some (Ok (Kind kind))) = from_be_bytes w32 kind
 kind_told before _ = before
 
--- The call is made, and C is told this code and this resource type, where another one was.
+-- The call is made, and C gets this code and this resource type, where another one was.
 abbrev pub ResourceToldKind : Option State → Option ForksState → ResourceCall → ℤ → ℕ → ℕ → Option State → Option ForksState → Type 0
 ResourceToldKind old old_files call code before kind new new_files =
     (outcome : Option Outcome) × (code ≡ code_told outcome) × (kind ≡ kind_told before outcome) × ResourceCalled old old_files call outcome new new_files
@@ -66,16 +66,16 @@ abbrev pub info_told : MrInfo × List ℕ → Option Outcome → MrInfo × List 
 info_told before (Some (Ok (Info i))) = (shown_info i, unwrap_or i.name [] ++ drop (length (unwrap_or i.name [])) before.1)
 info_told before _ = before
 
--- The call is made, and C is told this code and what the resource is called, where it has room for 255 bytes of a
--- name; else the answer is paramErr, and no call is made.
+-- The call is made, and C gets this code and what the resource is called, where it has room for 255 bytes of a name;
+-- else the answer is paramErr, and no call is made.
 abbrev pub InfoTold : Option State → Option ForksState → ℕ → ℤ → MrInfo × List ℕ → MrInfo × List ℕ → Option State → Option ForksState → Type 0
 InfoTold old old_files h code before info new new_files = MatchBool (nat_lt (length before.1) 255)
     ((code ≡ minus 50) × (info ≡ before) × (new ≡ old) × (new_files ≡ old_files))
     ((outcome : Option Outcome) × (code ≡ code_told outcome) × (info ≡ info_told before outcome) × ResourceCalled old old_files (GetResInfo h) outcome new new_files)
 
--- The file of a number, of which none is open, gets this fork and is opened, and C is told its number. There is no
--- such number, and the answer is tmfoErr; or the host has no memory for a copy of the fork, and it is memFullErr:
--- both change nothing.
+-- The file of a number, of which none is open, gets this fork and is opened, and C gets its number. There is no such
+-- number, and the answer is tmfoErr; or the host has no memory for a copy of the fork, and it is memFullErr: both
+-- change nothing.
 abbrev pub OpensFork : Option ℕ → State → ForksState → Disk → ℤ → ℕ → ℕ → State → ForksState → Type 0
 OpensFork None old old_files fork code before number new new_files = (code ≡ minus 42) × (number ≡ before) × (new ≡ old) × (new_files ≡ old_files)
 OpensFork (Some k) old old_files fork code before number new new_files =

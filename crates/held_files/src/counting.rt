@@ -1,4 +1,4 @@
-//! The calls that tell what all open files have together, over files that C holds.
+//! The calls that say what all open files have together, over files that C holds.
 
 ghost use Rattle.std.specs.Prelude.{◌≡◌};
 ghost use Rattle.held_files.specs.Counting.{counted_on, CountedTold, CountedToldKind};
@@ -12,7 +12,7 @@ use res_update::CountingCall;
 use std::alloc::Global;
 
 impl MrFiles {
-    /// Makes a call that tells what all open files have together, where there are files and a zone, which both stay.
+    /// Makes a call that says what all open files have together, where there are files and a zone, which both stay.
     fn counted(&mut self, alloc: Global, zone: &mut MhZone, call: CountingCall) -> Option<Outcome>
         ensures outcome { result ≡ counted_on zone.old.held.session self.old.held.files call }
         ensures zone { zone.new.held.session ≡ zone.old.held.session }
@@ -26,7 +26,7 @@ impl MrFiles {
         Some(outcome)
     }
 
-    /// Makes such a call, tells its code, and writes its number, where it gives one.
+    /// Makes such a call, returns its code, and writes its number, where it gives one.
     pub fn count(
         &mut self,
         alloc: Global,
@@ -39,7 +39,7 @@ impl MrFiles {
         told::number(&self.counted(alloc, zone, call), number)
     }
 
-    /// Makes such a call, tells its code, and writes its resource type, where it gives one.
+    /// Makes such a call, returns its code, and writes its resource type, where it gives one.
     pub fn count_kind(
         &mut self,
         alloc: Global,

@@ -131,8 +131,8 @@ impl ForkFiles {
         }
     }
 
-    /// Gives a copy of a fork to the first number of which no file is open, and opens that file. Its number is
-    /// written, and the code told.
+    /// Gives a copy of a fork to the first number of which no file is open, and opens that file. Its number is written,
+    /// and the code returned.
     pub fn open(
         &mut self,
         alloc: Global,
@@ -271,7 +271,7 @@ impl ForkFiles {
 impl ForkFiles {
     ghost use Rattle.res_update.specs.Counted.{counted};
 
-    /// Makes a call that tells what all open files have together.
+    /// Makes a call that says what all open files have together.
     pub fn count(&self, call: CountingCall) -> Outcome
         ensures { result ≡ counted call self.now.files }
     {

@@ -19,7 +19,7 @@ use std::alloc::Global;
 use std::marker::Model;
 use std::{mem, ptr};
 
-/// Files after a pointer, or none.
+/// Files at a pointer, or none.
 #[repr(C)]
 #[derive(Drop)]
 pub struct Held {
@@ -89,7 +89,7 @@ impl MrFiles {
         MrFiles::without(at)
     }
 
-    /// No files, after this pointer.
+    /// No files, at this pointer.
     fn without(at: *mut u8) -> MrFiles
         ensures { result.held.files ≡ None }
     {
@@ -165,14 +165,14 @@ impl MrFiles {
         Some(outcome)
     }
 
-    /// Makes a call, and tells its code.
+    /// Makes a call, and returns its code.
     pub fn code(&mut self, alloc: Global, zone: &mut MhZone, call: &ResourceCall<'_>) -> i16
         ensures { ResourceTold zone.old.held.session self.old.held.files call.now result zone.new.held.session self.new.held.files }
     {
         told::code(&self.call(alloc, zone, call))
     }
 
-    /// Makes a call, tells its code, and writes its number, where it gives one.
+    /// Makes a call, returns its code, and writes its number, where it gives one.
     pub fn number(
         &mut self,
         alloc: Global,
@@ -205,7 +205,7 @@ impl MrFiles {
         Some(outcome)
     }
 
-    /// Makes such a call, tells its code, and writes the handle of the resource, where there is one.
+    /// Makes such a call, returns its code, and writes the handle of the resource, where there is one.
     pub fn seek(
         &mut self,
         alloc: Global,
@@ -218,7 +218,7 @@ impl MrFiles {
         told::number(&self.sought(alloc, zone, call), handle)
     }
 
-    /// Makes a call, tells its code, and writes its resource type, where it gives one.
+    /// Makes a call, returns its code, and writes its resource type, where it gives one.
     pub fn kind(
         &mut self,
         alloc: Global,
@@ -231,7 +231,7 @@ impl MrFiles {
         kind(&self.call(alloc, zone, call), number)
     }
 
-    /// GetResInfo: tells its code, and writes what the resource is called. paramErr where there is no room for 255
+    /// GetResInfo: returns its code, and writes what the resource is called. paramErr where there is no room for 255
     /// bytes of a name.
     pub fn info(
         &mut self,
@@ -250,7 +250,7 @@ impl MrFiles {
         info(&outcome, shown, name)
     }
 
-    /// Opens a file on a copy of a fork, tells the code, and writes the file's number.
+    /// Opens a file on a copy of a fork, returns the code, and writes the file's number.
     pub fn open(&mut self, alloc: Global, zone: &mut MhZone, fork: &[u8], number: &mut u32) -> i16
         ensures { OpenTold zone.old.held.session self.old.held.files fork.now result number.old number.new zone.new.held.session self.new.held.files }
     {
@@ -284,7 +284,7 @@ impl MrFiles {
         NO_ERR
     }
 
-    /// Disposes of a handle, which no resource has then, and tells the code.
+    /// Disposes of a handle, which no resource has then, and returns the code.
     pub fn dispose(&mut self, alloc: Global, zone: &mut MhZone, handle: Handle) -> i16
         ensures { DisposeTold zone.old.held.session self.old.held.files handle result zone.new.held.session self.new.held.files }
     {
@@ -306,7 +306,7 @@ impl MrFiles {
     ghost use Rattle.std.specs.Prelude.{option_copied};
     ghost use Rattle.held_files.specs.Info.{SetInfoTold};
 
-    /// SetResInfo: gives a resource this id, and this name where one is given, and tells the code.
+    /// SetResInfo: gives a resource this id, and this name where one is given, and returns the code.
     pub fn set_info(&mut self, alloc: Global, handle: Handle, id: i16, name: Option<&[u8]>) -> i16
         ensures { SetInfoTold handle id (option_copied name.entry) self.old.held.files result self.new.held.files }
     {

@@ -1,4 +1,4 @@
-//! The resource files that a program in C holds: their forks in memory, the calls on them, and what C is told of these.
+//! The resource files that a program in C holds: their forks in memory, the calls on them, and what C gets from these.
 #![tactic(auto)]
 
 mod counting;

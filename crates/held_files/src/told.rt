@@ -1,4 +1,4 @@
-//! What C is told of a resource.
+//! What C learns of a resource.
 
 ghost use Rattle.std.specs.Prelude.{◌≡◌, ◌≤◌, ◌++◌, [], drop, length, unwrap_or};
 ghost use Rattle.held_zone.specs.Told.{code_told};

@@ -1,4 +1,4 @@
--- What C is told of calls that copy its bytes.
+-- What C gets from calls that copy its bytes.
 use Rattle.std.proofs.Common.{◌≡◌, ℕ, List, Some, Ok, Err, refl}
 use Rattle.std.specs.Prelude.{OnErr, Result}
 use Rattle.mac_base.specs.declared.error.OsErr.{OsErr}

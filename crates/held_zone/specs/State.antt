@@ -1,4 +1,4 @@
--- What is after a zone that C holds.
+-- What belongs to a zone that C holds.
 use Rattle.std.specs.Prelude.{◌≡◌, if◌then◌else◌, nat_lt, ℕ, List, [], length, Option, Some, None, is_some, IsTrue}
 use Rattle.mac_base.specs.declared.error.OsErr.{OsErr}
 use Rattle.mac_base.specs.declared.error.OsErr.TheVariants.{ParamErr}

@@ -1,4 +1,4 @@
--- What C is told of a call.
+-- What C gets from a call.
 use Rattle.std.specs.Prelude.{◌≡◌, ℕ, ℤ, pos, Bool, true, false, List, [], Result, Option, Some, None, Ok, Err, unwrap_or}
 use Rattle.mac_base.specs.Codes.{code_of, minus}
 use Rattle.mac_base.specs.declared.error.OsErr.{OsErr}
@@ -16,7 +16,7 @@ use Rattle.mac_base.specs.LoanStep.{Loans, LoanStep, loan_refusal}
 use Rattle.mac_base.specs.Outcomes.{Outcome}
 use Rattle.held_zone.specs.State.{State, with_no_asks}
 
--- the code by which C is told that there is no zone: paramErr
+-- the code that C gets where there is no zone: paramErr
 abbrev pub no_zone : ℤ
 no_zone = minus 50
 
@@ -92,11 +92,11 @@ LoanCalled None call None None = Unit {0}
 LoanCalled (Some old) call (Some outcome) (Some new) = MakesLoan old call outcome new
 LoanCalled _ call _ _ = ⊥
 
--- The call is made, and C is told this code.
+-- The call is made, and C gets this code.
 abbrev pub Told : Option State → MemoryCall → ℤ → Option State → Type 0
 Told old call code new = (outcome : Option Outcome) × (code ≡ code_told outcome) × Called old call outcome new
 
--- The call is made, and C is told this code and this number, where another one was.
+-- The call is made, and C gets this code and this number, where another one was.
 abbrev pub ToldNumber : Option State → MemoryCall → ℤ → ℕ → ℕ → Option State → Type 0
 ToldNumber old call code before number new = (outcome : Option Outcome) × (code ≡ code_told outcome) × (number ≡ number_told before outcome) × Called old call outcome new
 
@@ -108,7 +108,7 @@ ToldNumbers old call code before numbers new = (outcome : Option Outcome) × (co
 abbrev pub ToldBytes : Option State → MemoryCall → ℤ → List ℕ → List ℕ → Option State → Type 0
 ToldBytes old call code before bytes new = (outcome : Option Outcome) × (code ≡ code_told outcome) × (bytes ≡ bytes_told before outcome) × Called old call outcome new
 
--- A call on a block that is lent is made, and C is told this code.
+-- A call on a block that is lent is made, and C gets this code.
 abbrev pub LoanTold : Option State → LoanCall → ℤ → Option State → Type 0
 LoanTold old call code new = (outcome : Option Outcome) × (code ≡ code_told outcome) × LoanCalled old call outcome new
 

@@ -1,4 +1,4 @@
-//! The zone that a program in C holds: what is after it, the calls on it, and what C is told of them.
+//! The zone that a program in C holds: what belongs to it, the calls on it, and what C gets from them.
 #![tactic(auto)]
 
 pub mod asleep;

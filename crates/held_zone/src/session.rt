@@ -1,4 +1,4 @@
-//! What is after a zone that C holds.
+//! What belongs to a zone that C holds.
 
 ghost use Rattle.std.specs.Prelude.{◌≡◌, []};
 

@@ -1,4 +1,4 @@
-//! What C is told of a call.
+//! What C gets from a call.
 
 ghost use Rattle.std.specs.Prelude.{◌≡◌, Some};
 ghost use Rattle.mac_base.specs.Outcomes.{done_outcome};

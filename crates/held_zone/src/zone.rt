@@ -14,7 +14,7 @@ use std::alloc::Global;
 use std::marker::Model;
 use std::{mem, ptr};
 
-/// A session after a pointer, or none.
+/// A session at a pointer, or none.
 #[repr(C)]
 #[derive(Drop)]
 pub struct Held {
@@ -84,7 +84,7 @@ impl MhZone {
         MhZone::without(at)
     }
 
-    /// No zone, after this pointer.
+    /// No zone, at this pointer.
     fn without(at: *mut u8) -> MhZone
         ensures { result.held.session ≡ None }
     {
@@ -140,7 +140,7 @@ impl MhZone {
         outcome
     }
 
-    /// Makes a call, and tells its code.
+    /// Makes a call, and returns its code.
     pub fn code(&mut self, alloc: Global, call: &MemoryCall<'_>) -> i16
         requires { IsFalse (copies call.now) }
         ensures { Told self.old.held.session call.now result self.new.held.session }
@@ -148,7 +148,7 @@ impl MhZone {
         told::code(&self.call(alloc, call))
     }
 
-    /// Makes a call, tells its code, and writes its number, where it gives one.
+    /// Makes a call, returns its code, and writes its number, where it gives one.
     pub fn number(&mut self, alloc: Global, call: &MemoryCall<'_>, number: &mut u32) -> i16
         requires { IsFalse (copies call.now) }
         ensures { ToldNumber self.old.held.session call.now result number.old number.new self.new.held.session }
@@ -156,7 +156,7 @@ impl MhZone {
         told::number(&self.call(alloc, call), number)
     }
 
-    /// Makes a call, tells its code, and writes its two numbers, where it gives them.
+    /// Makes a call, returns its code, and writes its two numbers, where it gives them.
     pub fn numbers(
         &mut self,
         alloc: Global,
@@ -181,7 +181,7 @@ impl MhZone {
         outcome
     }
 
-    /// Makes a call on a block that is lent or is to be lent, and tells its code.
+    /// Makes a call on a block that is lent or is to be lent, and returns its code.
     pub fn loan(&mut self, alloc: Global, call: &LoanCall<'_>) -> i16
         requires { IsFalse (shows call.now) }
         ensures { LoanTold self.old.held.session call.now result self.new.held.session }

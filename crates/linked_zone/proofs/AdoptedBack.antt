@@ -228,7 +228,7 @@ module _ (spec : ZoneSizes) (possible : ArePossible spec) (bytes : List ℕ) (z 
     few = let none = ap length zone.nothing_lent in omega arith;
   }
 
-  -- it can be as blocks
+  -- its blocks stand for it
   pub stands-in : Stands (records_of z) z
   stands-in = record {
     blocks = refl;

@@ -78,7 +78,7 @@ module _ (r : ZoneRecords) (z : ZoneState) (held : Stands r z) (h n from at : �
   abbrev both : BlockRecord → BlockRecord → ZoneRecords
   both x y = record { memory = z.memory; shape = z.shape; front = front_slot z.heap; blocks = p.listed x y }
 
-  -- what was there, and what does in the new place
+  -- what was there, and what is in the new place
   abbrev old : BlockRecord
   old = block_record (Relocatable h flags bytes) b.size
 

@@ -181,7 +181,7 @@ module _ {r : ZoneRecords} {start end : ℕ} (m : Misplaced r start end) where
         by_named false true named = refl
         by_named false false named = refl
 
-    -- one more block is told of
+    -- one more block is followed
     pub telling-on : (k : Kind) (a size : ℕ) → k ≡ (c.here).kind → a ≡ low → size ≡ (c.here).size → (n : ZoneRecords) → ((can : CanFollow w k a) → n ≡ followed w k a can) → Telling m n (next + size)
     telling-on k a size same begins large n then =
         let after = subst (λ a. (can : CanFollow w (c.here).kind a) → n ≡ followed w (c.here).kind a can) begins (subst (λ k. (can : CanFollow w k a) → n ≡ followed w k a can) same then) in

@@ -112,7 +112,7 @@ here-skip t e es here = filter-append (is_lent t) (owner_of e.kind) (owners es) 
 
 -- ---- one is lent
 
--- tests that tell x alone apart keep the same of others
+-- tests that differ at x alone keep the same of others
 filter-others : (f g : ℕ → Bool) (x : ℕ) (xs : List ℕ) → list_any (λ y. eqb y x) xs ≡ false → ((y : ℕ) → eqb y x ≡ false → f y ≡ g y) → filter f xs ≡ filter g xs
 filter-others f g x [] none same = refl
 filter-others f g x (y ∷ ys) none same =

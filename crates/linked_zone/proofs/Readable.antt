@@ -120,7 +120,7 @@ module _ (test : Kind → Bool) (s : Shape) (at : ℕ) (bs : List BlockRecord) (
   positive : (xs : List BlockRecord) (c : BlockRecord) (ys : List BlockRecord) → bs ≡ xs ++ c ∷ ys → 0 < c.size
   positive xs c ys split = let large = larger s c (All-at (IsReadable s) xs c ys (subst (All (IsReadable s)) split all)) in omega arith
 
-  -- where blocks that pass a test are at one place, none before the one there does
+  -- where blocks that pass a test are at one place, none before the one there passes
   pub none-before : list_all (λ (e : Entry). not (test e.kind)) (map_in s at before) ≡ true
   none-before = none-passes test s at before (λ xs c ys a place split passes.
       let whole : bs ≡ xs ++ c ∷ (ys ++ b ∷ after) = is ∙ ap (λ (cs : List BlockRecord). cs ++ b ∷ after) split ∙ append_assoc xs (c ∷ ys) (b ∷ after) in

@@ -18,7 +18,7 @@ use Rattle.linked_zone.proofs.ChangeBlock.{freed-none, freed-only, none_named-pa
 use Rattle.linked_zone.proofs.ChangeEmptied.{emptied-none_before, emptied-none_after}
 use Rattle.linked_zone.proofs.TwoPlaces.{Between, either-first, TwoPlaces, turned_round, spread_places, spread-from, spread-same}
 
--- The places of the block of h and of a free one, what is there, and what does once that is the block of h.
+-- The places of the block of h and of a free one, what is there, and what is once that is the block of h.
 pub record Moving (z : ZoneState) (h n from at : ℕ) (b : BlockOf z h from) (free : FreeAt z at) : Type 0 where
   pub places : TwoPlaces z.shape from at b.size free.size
   pub was : records_from (owners_of z) z.shape (address_after z.shape []) z.heap.map

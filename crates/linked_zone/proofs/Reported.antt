@@ -25,7 +25,7 @@ use Rattle.linked_zone.proofs.Located.{of-entry}
 abbrev report : HandleTable → ℕ → Entry → Block
 report t at e = record { address = at; entry = e; length = wanted_length t e.kind; flags = block_flags t e.kind }
 
--- none is reported where none is
+-- none is reported where there is none
 report-none : (t : HandleTable) (x at : ℕ) (m : ZoneMap) → ((before : ZoneMap) (e : Entry) (after : ZoneMap) → m ≡ before ++ e ∷ after → x ≡ at + total_size before → ⊥)
     → find (λ (b : Block). b.address == x) (reports_from t at m) ≡ None
 report-none t x at [] none = refl

@@ -39,7 +39,7 @@ abbrev pub if_live : (Live → Live) → Option Live → Option Live
 if_live f None = None
 if_live f (Some l) = Some (f l)
 
--- what is told of it alike in each case is told alike
+-- what is said of it alike in each case is said alike
 pub told-alike : {A : Type 0} (told : Option Live → A) (f : Live → Live) → told (Some (f EmptyHandle)) ≡ told (Some EmptyHandle) → ((flags : Flags) (bytes : List ℕ) → told (Some (f (FullHandle flags bytes))) ≡ told (Some (FullHandle flags bytes)))
     → ((bytes : List ℕ) → told (Some (f (Pointer bytes))) ≡ told (Some (Pointer bytes))) → (o : Option Live) → told (if_live f o) ≡ told o
 told-alike told f empty full pointer None = refl

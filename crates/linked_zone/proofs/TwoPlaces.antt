@@ -1,4 +1,4 @@
--- Two blocks of a zone that are anywhere, and the list with others in their places.
+-- Two blocks anywhere in a zone, and the list with others in their places.
 use Rattle.std.proofs.Common.{◌≡◌, ℕ, ◌+◌, true, false, eqb, List, [], ◌∷◌, ◌++◌, refl, ap, sym, ◌∙◌, arith, append_assoc, inl, inr, ◌⊎◌}
 use Rattle.mac_base.specs.declared.block.Entry.{Entry}
 use Rattle.mac_base.specs.declared.block.Kind.{Kind}

@@ -14,7 +14,7 @@ pub record CanCopy (z : ZoneState) (from start to offset n : ℕ) : Type 0 where
   pub within_source : start + n ≤ length (bytes_of z.heap.table from)
   pub within_target : offset + n ≤ length (bytes_of z.heap.table to)
 
--- they are over those of the other
+-- they are copied over those of the other
 abbrev pub copied : ℕ → ℕ → ℕ → ℕ → ℕ → ZoneState → ZoneState
 copied from start to offset n z = let t = z.heap.table in
     with_heap (with_table (with_bytes to (written offset (take n (drop start (bytes_of t from))) (bytes_of t to)) t) z.heap) z

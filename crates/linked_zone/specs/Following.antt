@@ -28,7 +28,7 @@ pub record CanMove (z : ZoneRecords) (h contents : ℕ) : Type 0 where
   pub there : SlotAt z h
   pub said : IsTrue (can_say z.shape.heads (moved_to contents there.here))
 
--- that of the handle whose block this is does, if it is one's
+-- the same of the slot of the handle whose block this is, if it is one's
 abbrev pub CanFollow : ZoneRecords → Kind → ℕ → Type 0
 CanFollow z kind.Free contents = ⊤
 CanFollow z kind.Master contents = ⊤
@@ -51,7 +51,7 @@ owners_saying said z = record {
   lent = (owners_of z).lent;
 }
 
--- the blocks are those of a zone, but the slots of the handles whose blocks are from an address up to another, each
+-- the blocks are those of a zone, but the slots of the handles whose blocks lie from an address up to another, each
 -- of which can be moved, may say other places
 pub record Misplaced (r : ZoneRecords) (start end : ℕ) : Type 0 where
   pub zone : ZoneState

@@ -144,7 +144,7 @@ pub record ParcelAt (z : ZoneState) (start end : ℕ) : Type 0 where
   pub long : end ≡ start + (here.size + total_size blocks)
   pub moves : IsTrue (all_can_move z.heap.table (here ∷ blocks))
 
--- a run that can be moved is from an address on, and a block after it, which can be moved too, at another
+-- a run that can be moved lies from an address on, and a block after it, which can be moved too, at another
 pub record ParcelUpTo (z : ZoneState) (start at : ℕ) : Type 0 where
   pub before : ZoneMap
   pub blocks : ZoneMap

@@ -161,7 +161,7 @@ pub(crate) fn follow(records: &mut Records, kind: Kind, contents: u32)
     records.set_slot(handle.number(), Slot::Full(flags, contents));
 }
 
-/// Makes the slots of the handles whose blocks are from an address up to another say where these are.
+/// Makes the slots of the handles whose blocks lie from an address up to another say where these are.
 fn follow_run(records: &mut Records, start: u32, end: u32)
     requires { Misplaced records.old start end }
     ensures { (run : Misplaced records.old start end) → records.new ≡ records_of run.zone }

@@ -283,7 +283,7 @@ impl LinkedZone {
         self.records.before(at)
     }
 
-    /// The block whose header is at this address, if one does.
+    /// The block whose header is at this address, if one is.
     pub fn entry(&self, at: u32) -> Option<Block>
         ensures { result ≡ report_at self.now.shape self.now.heap at }
     {

@@ -79,7 +79,7 @@ pub trait GrowZone {
         ensures asks { asks self.new ≡ asks self.old ++ new_ask needed result ∷ [] }
         ensures source { source self.new ≡ source self.old };
 
-    /// Tells it that a call of its last answer was carried out, and the code of its refusal, if it was refused.
+    /// Reports to it that a call of its last answer was carried out, and the code of its refusal, if it was refused.
     fn did(&mut self, call: ReleasingCall, code: Option<OsErr>)
         requires { IsTrue (may_note (asks self.old)) }
         ensures asks { asks self.new ≡ noted call code (asks self.old) }

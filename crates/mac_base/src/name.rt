@@ -45,7 +45,7 @@ impl Name {
     }
 
     /// The name that is a part of these bytes, which it shares: so many, from a place on. The only error is that no
-    /// count tells how many names share them.
+    /// count says how many names share them.
     pub fn part(shared: &ArcSlice<u8>, start: u32, count: u8) -> Result<Name, AllocError>
         requires { start + count ≤ length (arc_slice_items shared.now) }
         ensures { IfOk result (λ name. name ≡ take count (drop start (arc_slice_items shared.now))) }
@@ -70,7 +70,7 @@ impl Name {
 impl Clone for Name {
     ghost is_clone = { λ name copy. copy ≡ name };
 
-    /// The same name once more, which shares the bytes. The only error is that no count tells how many names share
+    /// The same name once more, which shares the bytes. The only error is that no count says how many names share
     /// them.
     fn clone(&self) -> Result<Name, AllocError> {
         Name::part(&self.shared, self.start, self.count)

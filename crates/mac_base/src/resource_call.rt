@@ -11,7 +11,7 @@ use crate::resource::ResType;
 pub enum ResourceCall<'a> {
     /// A call that gets or loads a resource.
     Getting(GettingCall),
-    /// A call that tells what the open files say.
+    /// A call that returns what the open files say.
     Looking(LookingCall),
     /// A call that changes what the open files say, or how later calls go.
     Changing(ChangingCall),
@@ -44,7 +44,7 @@ pub enum GettingCall {
     LoadResource(Handle),
 }
 
-/// A call that tells what the open files say.
+/// A call that returns what the open files say.
 #[derive(Clone, Copy)]
 pub enum LookingCall {
     /// The attributes of a resource (Getting and Setting Resource Information).

@@ -66,7 +66,7 @@ dates_in file part = if nat_le 8 part.length then Some (record {
   modified = big_from (part.offset + 4) 4 file;
 }) else None
 
--- what the entries tell: 1 is the data fork, 2 the resource fork, 3 the name, 4 the comment, 8 the dates, 9 what the
+-- what the entries say: 1 is the data fork, 2 the resource fork, 3 the name, 4 the comment, 8 the dates, 9 what the
 -- Finder knows
 abbrev pub apple_contents : List ℕ → Contents
 apple_contents file = record {

@@ -72,7 +72,7 @@ abbrev pub digit_before : ℕ → ℕ → Option ℕ → Reading → Reading
 digit_before at c None rest = ends (Err (NotADigit at c))
 digit_before at c (Some value) rest = before (record { value = value; at = at } ∷ []) rest
 
--- the digits of characters that are at an offset, up to a colon, without the ends of lines
+-- the digits of the characters from an offset on, up to a colon, without the ends of lines
 unfoldable pub digits_from : ℕ → List ℕ → Reading
 digits_from at [] = ends (Err (NotClosed at))
 digits_from at (c ∷ cs) =
@@ -134,7 +134,7 @@ decoded_from from text =
 unfoldable pub with_low_byte : ℕ → ℕ → ℕ
 with_low_byte crc byte = bit_xor (iterate with_bit 8 crc) byte
 
--- the CRC of bytes: the remainder of these and of two zero bytes, which are where it will be
+-- the CRC of bytes: the remainder of these and of two zero bytes where it will be
 unfoldable pub bin_hex_crc : List ℕ → ℕ
 bin_hex_crc bytes = fold with_low_byte 0 (bytes ++ 0 ∷ 0 ∷ [])
 
@@ -180,7 +180,7 @@ file_of bytes = record {
 
 -- The first fault.
 
--- why a section isn't whole: the closing colon is before its end, or a fault does
+-- why a section isn't whole: the closing colon is before its end, or a fault is
 abbrev pub cut_by : Section → Result ℕ BinHexFault → BinHexFault
 cut_by section (Ok at) = TooShort section at
 cut_by section (Err fault) = fault

@@ -1,4 +1,4 @@
--- By which bytes a container is known, and what it tells.
+-- By which bytes a container is known, and what it says.
 use Rattle.std.specs.Prelude.{ℕ, ◌+◌, ◌==◌, nat_le, ◌&&◌, ◌||◌, if◌then◌else◌, Bool, List, [], ◌∷◌, length, take, slice_index, nat_eq, Option, None, Some, is_none, option_map}
 use Rattle.std.specs.List.{list_any, starts_with}
 use Rattle.byteorder.specs.Endian.{big_from}
@@ -45,7 +45,7 @@ fault_of AppleSingle file = apple_fault file
 fault_of AppleDouble file = apple_fault file
 fault_of (MacBinary version) file = mac_binary_fault version file
 
--- what the container tells of a file
+-- what the container says of a file
 abbrev pub contents_of : Container → List ℕ → Contents
 contents_of Raw file = record {
   resource_fork = has_bytes (record { offset = 0; length = length file });

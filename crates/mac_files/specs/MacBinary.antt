@@ -69,7 +69,7 @@ comment_of file =
     let part : Part = record { offset = comment_place file; length = big_from 99 2 file } in
     if lies_within (length file) part then has_bytes part else None
 
--- what the header tells
+-- what the header says
 abbrev pub mac_binary_contents : List ℕ → Contents
 mac_binary_contents file = record {
   resource_fork = has_bytes (resource_fork file);

@@ -172,7 +172,7 @@ fn dates_in(file: &[u8], part: Part) -> Option<Dates>
     })
 }
 
-/// What AppleSingle or AppleDouble tells of a file.
+/// What AppleSingle or AppleDouble says of a file.
 pub(crate) fn read_apple(file: &[u8]) -> Result<Contents, ContainerFault>
     ensures fault { result_err result ≡ apple_fault file.now }
     ensures contents { IfOk result (λ contents. contents ≡ apple_contents file.now) }

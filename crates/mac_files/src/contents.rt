@@ -1,4 +1,4 @@
-//! What a container tells of a file.
+//! What a container says of a file.
 
 use crate::part::Part;
 
@@ -21,7 +21,7 @@ pub struct Dates {
     pub modified: u32,
 }
 
-/// What a container tells of a file. What it doesn't tell is None.
+/// What a container says of a file. What it doesn't say is None.
 #[derive(Clone, Copy, Debug, PartialEq, Eq)]
 pub struct Contents {
     /// Where in the container the bytes of the resource fork are. A fork of no bytes is None.

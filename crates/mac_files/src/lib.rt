@@ -1,5 +1,5 @@
 //! The containers in which files of old Macintoshes come: AppleSingle, AppleDouble and MacBinary. A file is known by
-//! its bytes (`container_of`), and `read_contents` gives the places of its forks in it, and what the container tells of
+//! its bytes (`container_of`), and `read_contents` gives the places of its forks in it, and what the container says of
 //! the file.
 #![tactic(auto)]
 

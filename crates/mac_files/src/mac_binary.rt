@@ -229,7 +229,7 @@ fn comment_in(file: &[u8]) -> Option<Part>
     }
 }
 
-/// What MacBinary tells of a file.
+/// What MacBinary says of a file.
 pub(crate) fn read_mac_binary(version: Version, file: &[u8]) -> Result<Contents, ContainerFault>
     ensures fault { result_err result ≡ mac_binary_fault version file.now }
     ensures contents { IfOk result (λ contents. contents ≡ mac_binary_contents file.now) }

@@ -1,4 +1,4 @@
-//! What a container tells of a file.
+//! What a container says of a file.
 
 ghost use Rattle.std.specs.Prelude.{◌≡◌, length, IfOk};
 ghost use Rattle.std.specs.Result.{result_err};
@@ -13,7 +13,7 @@ use crate::fault::ContainerFault;
 use crate::mac_binary::read_mac_binary;
 use crate::part::Part;
 
-/// What a file of nothing but a resource fork tells.
+/// What a file of nothing but a resource fork says.
 fn read_raw(file: &[u8]) -> Contents
     ensures contents { result ≡ contents_of Container.Raw file.now }
     ensures within { AreWithin (length file.now) result }
@@ -32,7 +32,7 @@ fn read_raw(file: &[u8]) -> Contents
     }
 }
 
-/// What a file tells that is read as this container: where its forks are, and more. An error comes exactly where the
+/// What a file says that is read as this container: where its forks are, and more. An error comes exactly where the
 /// container has a fault, and is the first. The places of the forks, the name and the comment lie within the file.
 pub fn read_contents(container: Container, file: &[u8]) -> Result<Contents, ContainerFault>
     ensures fault { result_err result ≡ fault_of container file.now }

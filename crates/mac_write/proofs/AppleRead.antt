@@ -1,4 +1,4 @@
--- What AppleSingle or AppleDouble with another resource fork tells.
+-- What AppleSingle or AppleDouble with another resource fork says.
 use Rattle.std.proofs.Common.{◌≡◌, inl, inr, ℕ, ◌+◌, ◌-◌, ◌<◌, ◌≤◌, List, [], ◌∷◌, length, map, take, drop, refl, sym, ap, subst, ◌∙◌, arith, Bool, true, false, None, if◌then◌else◌}
 use Rattle.std.specs.Prelude.{find, nat_le, not, ◌&&◌, ◌||◌, ◌==◌}
 use Rattle.std.specs.List.{AllByRecursion}

@@ -1,4 +1,4 @@
--- What MacBinary with another resource fork tells.
+-- What MacBinary with another resource fork says.
 use Rattle.std.proofs.Common.{◌≡◌, ℕ, ◌+◌, ◌<◌, ◌≤◌, Bool, true, false, List, [], ◌∷◌, ◌++◌, length, take, drop, get_or, refl, sym, ap, subst, ◌∙◌, arith, Option, None, Some, if◌then◌else◌}
 use Rattle.std.specs.Prelude.{slice_index, nat_le, nat_lt, ◌||◌, ◌==◌, option_map}
 use Rattle.std.specs.Option.{option_or}
@@ -101,7 +101,7 @@ whole version file fork long few small =
     ∙ ap (λ (o : Option ContainerFault). option_or o (fork_fault Resource (resource_fork new) new)) (no_fork_fault Data (data_fork new) new data_lies)
     ∙ no_fork_fault Resource (resource_fork new) new resource_lies
 
--- What is told.
+-- What is said.
 
 -- a part, by whether it has bytes
 part_same : (part : Part) (new file : List ℕ) (b : Bool) → (part.length == 0) ≡ b → (b ≡ false → Same part.offset part.length new file)

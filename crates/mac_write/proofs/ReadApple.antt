@@ -64,7 +64,7 @@ date_small date is = by_zero (date == 0)
     by_zero true = omega arith
     by_zero false = omega arith
 
--- What the bytes say of a file whose parts begin at a place: the entries of what is told, and others.
+-- What the bytes say of a file whose parts begin at a place: the entries of what is said, and others.
 
 abbrev entry : ℕ → ℕ → ℕ → ℕ → Entry
 entry at id offset count = record { at = at; id = id; part = record { offset = offset; length = count } }
@@ -109,7 +109,7 @@ part_by : (id : ℕ) (text : List ℕ) (entries : List Entry) (found : Part) →
 part_by id text entries found is by =
     ap (λ (es : List Entry). option_and_then (λ (e : Entry). has_bytes e.part) (find (λ (e : Entry). e.id == id) es)) is ∙ by
 
--- What it tells.
+-- What it says.
 
 finder_told : (text : List ℕ) (file : Parts) (base : ℕ) → SaysTold text file base → finder_in text (record { offset = dates_at base file + 16; length = 32 }) ≡ Some file.finder
 finder_told text file base says = rw (says.kind, says.creator, says.flags) refl
@@ -167,7 +167,7 @@ fork_told : (id at offset : ℕ) (text fork : List ℕ) → part_of id text ≡ 
 fork_told id at offset text fork is there =
     ap (λ (o : Option Part). told_bytes o text) is ∙ told_part offset (length fork) text fork refl there
 
--- Where what is told is.
+-- The places of what is said.
 
 record Laid (text : List ℕ) (file : Parts) (base : ℕ) (rest : List ℕ) : Type 0 where
   says : SaysTold text file base
@@ -236,7 +236,7 @@ none_outside : (total : ℕ) (e : Entry) (entries : List Entry) → e.part.offse
 none_outside total e entries inside rest =
     ap (λ (b : Bool). if not b then Some e else find (λ (e : Entry). not (lies_within total e.part)) entries) (lies total e.part inside) ∙ rest
 
--- no entry of what is told has bytes outside
+-- no entry of what is said has bytes outside
 told_inside : (total : ℕ) (file : Parts) (base : ℕ) (more : List Entry) → base + told_length file ≤ total
     → find (λ (e : Entry). not (lies_within total e.part)) more ≡ None
     → find (λ (e : Entry). not (lies_within total e.part)) (told_entries base file more) ≡ None
@@ -251,7 +251,7 @@ told_inside total file base more size rest =
 next_same : (a x : Entry) (bs xs : List Entry) → a ≡ x → bs ≡ xs → (a ∷ bs) ≡ (x ∷ xs)
 next_same a x bs xs first rest = rw (first, rest) refl
 
--- the entries of what is told, as the list begins
+-- the entries of what is said, as the list begins
 told_there : (text rest : List ℕ) (file : Parts) (base : ℕ) (others_there more : List Entry) → drop 26 text ≡ told_places base file ++ rest
     → base + told_length file < 4294967296 → others_there ≡ more
     → (entry_at text 26 ∷ entry_at text 38 ∷ entry_at text 50 ∷ entry_at text 62 ∷ others_there) ≡ told_entries base file more

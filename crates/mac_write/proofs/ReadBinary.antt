@@ -121,7 +121,7 @@ whole text file says =
     (none_first (fork_fault Data (data_fork text) text) _ (no_fork_fault Data (data_fork text) text data_lies)
     (no_fork_fault Resource (resource_fork text) text resource_lies)))
 
--- What it tells.
+-- What it says.
 
 -- the bytes of a part that may have none
 pub told_part : (at count : ℕ) (text bytes : List ℕ) → count ≡ length bytes → take count (drop at text) ≡ bytes

@@ -50,7 +50,7 @@ fork_of (byte ∷ bytes) = Some (byte ∷ bytes)
 abbrev pub name_in : Container → List ℕ → Option (List ℕ)
 name_in container file = option_map (λ part. bytes_of part file) (contents_of container file).name
 
--- The file is of the same container and has no fault, the fork is in it, and all else that a container tells is as it
+-- The file is of the same container and has no fault, the fork is in it, and all else that a container says is as it
 -- was. A file of nothing but a fork is known by this fork alone.
 pub record ChangesFork (container : Container) (file fork new : List ℕ) : Type 0 where
   pub known : container_of file ≡ Some container → (container ≡ Raw → is_fork_header fork ≡ true) → container_of new ≡ Some container

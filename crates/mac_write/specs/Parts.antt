@@ -1,4 +1,4 @@
--- What a file is, out of any container. What a container doesn't tell is empty or zero.
+-- What a file is, out of any container. What a container doesn't say is empty or zero.
 use Rattle.std.specs.Prelude.{◌≡◌, ◌<◌, ◌^◌, length, ℕ, ◌+◌, ◌-◌, ◌==◌, nat_lt, if◌then◌else◌, List, [], replicate, Option, None, Some, unwrap_or}
 use Rattle.mac_files.specs.declared.part.Part.{Part}
 use Rattle.mac_files.specs.declared.contents.Dates.{Dates}

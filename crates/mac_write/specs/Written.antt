@@ -26,13 +26,13 @@ held target.AppleSingle file = file
 held target.MacBinary file = file
 held target.BinHex file = record file { created = 0; modified = 0; comment = [] }
 
--- the bytes are known as a container, have no fault, and tell this file
+-- the bytes are known as a container, have no fault, and give this file
 pub record IsReadAs (container : Container) (file : Parts) (bytes : List ℕ) : Type 0 where
   pub known : container_of bytes ≡ Some container
   pub whole : fault_of container bytes ≡ None
   pub told : parts_of container bytes ≡ file
 
--- the bytes are known as a BinHex text and no container, and it tells this file
+-- the bytes are known as a BinHex text and no container, and it gives this file
 pub record IsReadAsText (file : Parts) (bytes : List ℕ) : Type 0 where
   pub no_container : container_of bytes ≡ None
   pub known : is_bin_hex bytes ≡ true

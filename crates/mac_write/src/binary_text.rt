@@ -66,7 +66,7 @@ fn check_comment(count: usize) -> Result<(), Refusal>
     Ok(())
 }
 
-/// Checks that the header can hold all that it tells.
+/// Checks that the header can hold all that it says.
 fn check_head(file: &MacFile) -> Result<(), Refusal>
     ensures refusal { result_err result ≡ binary_unwritten (view file.now) }
     ensures name { OnOk result (length file.now.name.now ≤ 63) }

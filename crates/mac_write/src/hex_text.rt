@@ -26,7 +26,7 @@ const DIGITS: &[u8; 64] = b"!\"#$%&'()*+,-012345689@ABCDEFGHIJKLMNPQRSTUVXYZ[`ab
 /// The line that comes before each text, and an empty one.
 const COMMENT: &[u8] = b"(This file must be converted with BinHex 4.0)\n\n";
 
-/// Checks that the header can hold all that it tells.
+/// Checks that the header can hold all that it says.
 fn check_head(file: &MacFile) -> Result<(), Refusal>
     ensures refusal { result_err result ≡ hex_unwritten (view file.now) }
     ensures name { OnOk result (length file.now.name.now ≤ 63) }

@@ -1,5 +1,5 @@
 //! Files in the containers of old Macintoshes are written: with another resource fork in the place of their own
-//! (`with_fork`), and anew from what another container tells.
+//! (`with_fork`), and anew from what another container says.
 #![tactic(auto)]
 
 mod apple;

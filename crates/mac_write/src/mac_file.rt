@@ -14,7 +14,7 @@ use mac_files::fault::ContainerFault;
 use mac_files::part::Part;
 use mac_files::read_contents;
 
-/// What a file is, out of any container. What a container doesn't tell is empty or zero.
+/// What a file is, out of any container. What a container doesn't say is empty or zero.
 #[derive(Clone, Copy, Debug)]
 pub struct MacFile<'a> {
     /// The name, in the characters of a Macintosh.
@@ -102,7 +102,7 @@ pub fn parts_of(container: Container, file: &[u8]) -> Result<MacFile<'_>, Contai
     })
 }
 
-/// What the file of a BinHex text is, which tells no dates and no comment.
+/// What the file of a BinHex text is, which gives no dates and no comment.
 pub fn bin_hex_parts(file: &BinHexFile) -> MacFile<'_>
     ensures { view result ≡ bin_hex_parts (bin_hex_view file.now) }
 {

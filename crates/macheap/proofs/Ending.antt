@@ -44,7 +44,7 @@ pub wrote_after : (text written more last : List ℕ) (Failed : Type 0) → writ
 wrote_after text written more last Failed whole (inl is) = inl (rw (whole, is) refl)
 wrote_after text written more last Failed whole (inr cut) = inr (subst (λ (t : List ℕ). IsProperFront (t ++ last) (text ++ more)) (sym whole) (front_after text last more cut.0), cut.1)
 
--- it was told that the host has no memory
+-- it was reported that the host has no memory
 pub no_memory_told : (end : RunEnd) (status : ℕ) (written : List ℕ) (Failed : Type 0) → EndTells NoMemory no_memory_text end written → (end ≡ WriteFault → Failed) → status ≡ status_of end → (status ≡ 1) × Wrote no_memory_text Failed written
 no_memory_told end status written Failed (inl told) failed is = (is ∙ ap status_of told.0, inl told.1)
 no_memory_told end status written Failed (inr cut) failed is = (is ∙ ap status_of cut.0, inr (cut.1, failed cut.0))
@@ -61,7 +61,7 @@ some_line (byte ∷ text) none = cc
 pub failed_after : (whole : Bool) (before mid now : ℕ) → mid ≡ before → MatchBool whole (now ≡ mid) (RoseByOne mid now) → MatchBool whole (now ≡ before) (RoseByOne before now)
 failed_after whole before mid now same failed = subst (λ (n : ℕ). MatchBool whole (now ≡ n) (RoseByOne n now)) same failed
 
--- it was told what is wrong with the words
+-- it was reported what is wrong with the words
 pub words_told : (error : NotAsked) (told : Told) → lacks_memory error ≡ false → TellsBadWords told → Refuses error told
 words_told (Words fault) told isnt tells = tells
 words_told TooManyForks told isnt tells = tells
@@ -87,7 +87,7 @@ module _ {F S J : Type 0} (parts : Parts F S J) (words : List Text) (openings : 
   answered (Run sizes files) asks answers = ran sizes (map (λ name. name.now) files.forks.items) (map (λ name. name.now) files.journals.items) asks answers
   answered (Help text) asks answers = helped asks.0 answers.0 answers.1
 
-  -- it was told why nothing was asked for
+  -- it was reported why nothing was asked for
   pub was_refused : (error : NotAsked) → Asks words (Err error) → AsksForNothing openings done → Refuses error done.told → ProgramEnds parts words openings done
   was_refused (Words fault) asks nothing refuses = refused (inl (kind_of fault, asks.0, asks.1)) nothing refuses
   was_refused TooManyForks asks nothing refuses = refused (inr (inl asks)) nothing refuses
@@ -113,7 +113,7 @@ module _ {S : Type 0} (store : Ghosts S) (sizes : ZoneSizes) (done : Done) where
   pub ran_on : (stores : Result (Vec S Global) NoStores) (opened : Vec S Global) → stores ≡ Ok opened → RunsOver store sizes opened.items done → RunsOn store sizes stores done
   ran_on stores opened is runs = subst (λ (s : Result (Vec S Global) NoStores). RunsOn store sizes s done) (sym is) runs
 
-  -- it was told why there are no stores
+  -- it was reported why there are no stores
   pub none_opened : (stores : Result (Vec S Global) NoStores) (fault : NoStores) → stores ≡ Err fault → NoStoresEnd fault done.told → RunsOn store sizes stores done
   none_opened stores fault is ends = subst (λ (s : Result (Vec S Global) NoStores). RunsOn store sizes s done) (sym is) ends
 

@@ -39,7 +39,7 @@ names_given : {A B : Type 0} (got : Option A) (default : A) (all : A → List B)
 names_given None default all now nothing = ap (map now) nothing
 names_given (Some a) default all now nothing = refl
 
--- what `get_strs` gives, or nothing where the option isn't, is the list of names that the words give
+-- what `get_strs` gives, or nothing where the option isn't there, is the list of names that the words give
 pub names_found : {A B : Type 0} (command : Command) (words : List Text) (m : ArgMatches) (name : Text) (got : Option A) (default names : A) (all : A → List B) (now : B → Text) → app_of command ≡ options → HasMatchesOf (app_of command) words m
     → option_map (λ (a : A). map now (all a)) got ≡ option_map raw_values (matched_of (found_of m) name) → all default ≡ [] → names ≡ unwrap_or got default → map now (all names) ≡ values_of name words
 names_found {A = A} command words m name got default names all now is has found nothing are =

@@ -87,7 +87,7 @@ abbrev pub GivesNoZone : List Text → BadSpec → Type 0
 GivesNoZone words fault = (base : ℕ) × (size : ℕ) × (limit : ℕ) × (mode : ℕ) × (heads : HeadKind)
     × GivesNumbers words base size limit mode × (heads_of mode ≡ Some heads) × (zone_fault (allows_large words) heads base size limit ≡ Some fault)
 
--- What the words ask for, or why they ask for nothing; what is shown or told of it is of that kind. Want of memory may
+-- What the words ask for, or why they ask for nothing; what is shown or said of it is of that kind. Want of memory may
 -- come at any time.
 abbrev pub Asks : List Text → Result Asked NotAsked → Type 0
 Asks words (Ok (Run sizes files)) = AsksForRun words sizes (map (λ name. name.now) files.forks.items) (map (λ name. name.now) files.journals.items)

@@ -6,13 +6,13 @@ use Rattle.macheap.specs.declared.disk.Disk.{Disk}
 use Rattle.macheap.specs.declared.disk.Disk.TheVariants.{Memory, File}
 use Rattle.macheap.specs.declared.opened.NewFile.{NewFile}
 
--- the bytes of a disk in memory; of a file those that its world tells of
+-- the bytes of a disk in memory; of a file those that its world gives
 abbrev pub seen : {W : Type 0} → Ghosts W → Disk W → List ℕ
 seen world (Memory disk) = disk.bytes.items
 seen world (File disk) = world.held disk.number disk.log.events
 
 -- a disk in memory returns what was written; a file is honest where its answers are those of the file that its world
--- tells of
+-- describes
 abbrev pub honest : {W : Type 0} → Ghosts W → Disk W → Type 0
 honest world (Memory disk) = ⊤
 honest world (File disk) = IsHonest (world.held disk.number) (world.may_leave disk.number) disk.log.events

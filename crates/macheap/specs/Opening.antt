@@ -1,4 +1,4 @@
--- Why a file isn't opened, as it is told.
+-- Why a file isn't opened, as it is reported.
 use Rattle.std.specs.Prelude.{ℕ, List, codes}
 use Rattle.std.specs.declared.io.ErrorKind.{ErrorKind}
 use Rattle.std.specs.declared.io.ErrorKind.TheVariants as kind

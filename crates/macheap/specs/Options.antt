@@ -6,15 +6,15 @@ use Rattle.mac_base.specs.declared.block.HeadKind.{HeadKind}
 use Rattle.mac_base.specs.declared.block.HeadKind.TheVariants.{Bits24, Bits32}
 use Rattle.clap.specs.declared.builder.ArgAction.TheVariants.{Set, SetTrue, Append}
 
--- an option that is once at most, as `--name`, and takes a value
+-- an option that is there at most once, as `--name`, and takes a value
 abbrev pub option_named : Text → Rule
 option_named name = record (new_rule name) { long = Some name; action = Some Set; value_names = 1 }
 
--- an option that may be several times, as `--name`, and takes a value each time
+-- an option that may be there several times, as `--name`, and takes a value each time
 abbrev pub file_option : Text → Rule
 file_option name = record (new_rule name) { long = Some name; action = Some Append; value_names = 1 }
 
--- an option that is alone, once at most, as `--name`
+-- an option that takes no value and is there at most once, as `--name`
 abbrev pub flag_option : Text → Rule
 flag_option name = record (new_rule name) { long = Some name; action = Some SetTrue }
 
@@ -39,7 +39,7 @@ is_set (Some text) = bytes_eq text (codes "true")
 abbrev pub allows_large : List Text → Bool
 allows_large words = is_set (value_of (codes "large") words)
 
--- the values that the words give an option that may be several times, in order
+-- the values that the words give an option that may be there several times, in order
 abbrev pub values_of : Text → List Text → List Text
 values_of name words = unwrap_or (all_of name (matches_of options words)) []
 
@@ -56,7 +56,7 @@ pub record IsDecimal (text : List ℕ) : Type 0 where
   pub digits : IsNumeral 10 text
   pub fits : digits_value 10 text < 2 ^ 32
 
--- an option's value is this number; where the option isn't, the number is the default
+-- an option's value is this number; where the option isn't there, the number is the default
 abbrev pub IsNumberOf : Option Text → ℕ → ℕ → Type 0
 IsNumberOf None default n = n ≡ default
 IsNumberOf (Some text) default n = IsDecimal text × (n ≡ digits_value 10 text)

@@ -30,7 +30,7 @@ Because Finished read_failed write_failed = ⊤
 Because NoMemory read_failed write_failed = ⊤
 Because (ScriptFault line wrong) read_failed write_failed = ⊤
 
--- What the program told: its status, what it wrote to its output and to its messages, that it made no call on the
+-- What the program reported: its status, what it wrote to its output and to its messages, that it made no call on the
 -- latter, and that a write of the one or the other failed.
 pub record Told : Type 1 where
   pub status : ℕ
@@ -40,14 +40,14 @@ pub record Told : Type 1 where
   pub write_failed : Type 0
   pub tell_failed : Type 0
 
--- What it did: the input, how much of it it read, that a read failed, and what it told.
+-- What it did: the input, how much of it it read, that a read failed, and what it reported.
 pub record Done : Type 1 where
   pub input : List ℕ
   pub given : List ℕ
   pub read_failed : Type 0
   pub told : Told
 
--- with its output, its messages and this status the program told so
+-- with its output, its messages and this status the program reported so
 abbrev pub Tells : {W M : Type 0} → (W → Option (List ℕ)) → (M → Option (List ℕ)) → Counting W → Counting W → Counting M → Counting M → ℕ → (Told → Type 0) → Type 0
 Tells contents notes output output_now messages messages_now status So = (written : List ℕ) × (said : List ℕ) × Took contents output written output_now × Took notes messages said messages_now
     × So (record {
@@ -59,8 +59,8 @@ Tells contents notes output output_now messages messages_now status So = (writte
       tell_failed = RoseByOne messages.failures messages_now.failures;
     })
 
--- With its three streams and this status the program did so. The input is the bytes that the reader tells; of one that
--- doesn't tell, those that it gave.
+-- With its three streams and this status the program did so. The input is the bytes that the reader says it has; where
+-- it doesn't say, those that it gave.
 abbrev pub Did : {R W M : Type 0} → (R → Option (List ℕ)) → (W → Option (List ℕ)) → (M → Option (List ℕ)) → Counting R → Counting R → Counting W → Counting W → Counting M → Counting M → ℕ → (Done → Type 0) → Type 0
 Did remaining contents notes input input_now output output_now messages messages_now status So = (given : List ℕ) × Gave remaining input given input_now
     × Tells contents notes output output_now messages messages_now status (λ told. So (record {
@@ -74,7 +74,7 @@ Did remaining contents notes input input_now output output_now messages messages
 abbrev pub Wrote : List ℕ → Type 0 → List ℕ → Type 0
 Wrote text failed written = (written ≡ text) ⊎ (IsProperFront written text × failed)
 
--- It was told that the host has no memory.
+-- It was reported that the host has no memory.
 abbrev pub TellsNoMemory : Told → Type 0
 TellsNoMemory told = (told.status ≡ 1) × Wrote no_memory_text told.write_failed told.written × told.silent
 
@@ -93,7 +93,7 @@ pub data HelpEnds (write_failed : Type 0) (status : ℕ) (written : List ℕ) : 
 abbrev pub ShowsHelp : Told → Type 0
 ShowsHelp told = HelpEnds told.write_failed told.status told.written × told.silent
 
--- A message tells what is wrong with the words, and nothing was written.
+-- A message says what is wrong with the words, and nothing was written.
 pub record TellsBadWords (told : Told) : Type 0 where
   pub status : told.status ≡ 2
   pub unwritten : told.written ≡ []
@@ -106,16 +106,16 @@ abbrev pub lacks_memory : NotAsked → Bool
 lacks_memory HostFull = true
 lacks_memory other = false
 
--- It was told why the words ask for nothing.
+-- It was reported why the words ask for nothing.
 abbrev pub Refuses : NotAsked → Told → Type 0
 Refuses HostFull told = TellsNoMemory told
 Refuses other told = TellsBadWords told
 
--- what is told where the file of this path can't be opened for this reason
+-- what is reported where the file of this path can't be opened for this reason
 abbrev pub cannot_open_text : Text → NotOpened → List ℕ
 cannot_open_text path reason_of = codes "cannot open " ++ path ++ reason reason_of
 
--- A message tells that this file can't be opened, and why, and nothing was written.
+-- A message says that this file can't be opened, and why, and nothing was written.
 pub record TellsCannotOpen (path : Text) (reason_of : NotOpened) (told : Told) : Type 0 where
   pub status : told.status ≡ 1
   pub unwritten : told.written ≡ []

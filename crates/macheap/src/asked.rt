@@ -38,7 +38,7 @@ pub enum Asked<'a> {
 /// Why the words ask for nothing.
 #[derive(Debug, Drop, Error)]
 pub enum NotAsked {
-    /// A word is no option, an option is twice or has no value.
+    /// A word is no option, an option is there twice or has no value.
     #[error("{0}")]
     Words(clap::Error),
     /// There are more files than a run may have.
@@ -72,7 +72,7 @@ impl From<AllocError> for NotAsked {
     }
 }
 
-/// The option of this name, which is once at most and takes a number.
+/// The option of this name, which is there at most once and takes a number.
 fn number_option<'a>(alloc: Global, name: &'a str, help: &'a str) -> Arg<'a>
     ensures rule { rule_of result ≡ option_named name.entry.now }
     ensures local { result.global ≡ false }
@@ -84,7 +84,7 @@ fn number_option<'a>(alloc: Global, name: &'a str, help: &'a str) -> Arg<'a>
         .help(help)
 }
 
-/// The option of this name, which names a file. It may be several times.
+/// The option of this name, which names a file. It may be there several times.
 fn file_option<'a>(alloc: Global, name: &'a str, help: &'a str) -> Arg<'a>
     ensures rule { rule_of result ≡ file_option name.entry.now }
     ensures local { result.global ≡ false }
@@ -96,7 +96,7 @@ fn file_option<'a>(alloc: Global, name: &'a str, help: &'a str) -> Arg<'a>
         .help(help)
 }
 
-/// The option of this name, which is alone, once at most.
+/// The option of this name, which takes no value and is there at most once.
 fn flag_option<'a>(alloc: Global, name: &'a str, help: &'a str) -> Arg<'a>
     ensures rule { rule_of result ≡ flag_option name.entry.now }
     ensures local { result.global ≡ false }

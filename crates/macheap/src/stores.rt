@@ -43,8 +43,8 @@ pub trait Opens<F, S: ForkStore, J: ForkStore> {
         ensures { pairs number fork journal result };
 }
 
-/// Opens the host's files, and disks in its memory. What the files hold is told by `W` of forks alone, and by `V` of
-/// those with journals. Each file that is asked for is noted, in a list that only clauses read.
+/// Opens the host's files, and disks in its memory. `W` says what the files of forks alone hold, and `V` what those
+/// with journals hold. Each file that is asked for is noted, in a list that only clauses read.
 #[derive(Drop)]
 pub struct HostDisks<'a, W: World, V: PairWorld> {
     runtime: &'a HostRuntime,

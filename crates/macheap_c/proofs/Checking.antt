@@ -1,4 +1,4 @@
--- What C is told of a byte that isn't as the structure of a zone calls for.
+-- What C learns of a byte that isn't as the structure of a zone calls for.
 use Rattle.std.proofs.Common.{◌≡◌, ◌∙◌, ℕ, Bool, List, length, Option, Some, refl, sym, subst, inr}
 use Rattle.linked_zone.specs.Faults.{IsFirstFault}
 use Rattle.zone_records.specs.declared.structure.Part.{Part}

@@ -1,4 +1,4 @@
--- What C is told of a zone that is made asleep, and of one that doesn't wake.
+-- What C learns of a zone that is made asleep, and of one that doesn't wake.
 use Rattle.std.proofs.Common.{◌≡◌, ◌∙◌, ℕ, ◌==◌, Bool, true, length, Option, Some, None, refl, sym, ap, subst, inr, arith, ℤ, pos}
 use mir.Syntax.{w16}
 use mir.Val.{of_z, to_z}

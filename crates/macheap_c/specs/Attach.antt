@@ -1,4 +1,4 @@
--- What C is told of a zone that is made of bytes which others wrote.
+-- What C learns of a zone that is made of bytes which others wrote.
 use Rattle.std.specs.Prelude.{◌≡◌, ◌⊎◌, ℤ, pos, Bool, true, false, ◌==◌, List, ℕ, length, Option, Some, None}
 use Rattle.block_bytes.specs.declared.adopting.WhyNot.{WhyNot}
 use Rattle.block_bytes.specs.declared.adopting.WhyNot.TheVariants.{HostFull, NotZone}
@@ -11,8 +11,8 @@ use Rattle.held_zone.specs.Attaching.{IsIdle, IsZoneOf}
 use Rattle.held_zone.specs.State.{State}
 use Rattle.macheap_c.specs.Guest.{damaged}
 
--- the code by which C is told why no zone is made: memFullErr where the host has no memory, memSCErr where the bytes
--- are those of none
+-- the code that says why no zone is made: memFullErr where the host has no memory, memSCErr where the bytes are those
+-- of none
 abbrev pub code_of_why : WhyNot → ℤ
 code_of_why HostFull = minus 108
 code_of_why NotZone = damaged

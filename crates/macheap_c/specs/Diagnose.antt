@@ -1,4 +1,4 @@
--- What C is told where a guest has damaged its zone.
+-- What C learns where a guest has damaged its zone.
 use Rattle.std.specs.Prelude.{◌≡◌, ◌⊎◌, ℕ, ℤ, pos, Bool, true, false, ◌==◌, length, Option, Some, None}
 use Rattle.linked_zone.specs.Faults.{IsFirstFault}
 use Rattle.linked_zone.specs.Structure.{HasStructure}

@@ -1,4 +1,4 @@
--- What C is told of a zone that sleeps, and wakes in its bytes.
+-- What C learns of a zone that sleeps, and wakes in its bytes.
 use Rattle.std.specs.Prelude.{◌≡◌, ◌⊎◌, ℤ, pos, Bool, true, false, ◌==◌, length, List, Option, Some, None, IsTrue, ⊤}
 use Rattle.zone_records.specs.declared.structure.Written.{Written}
 use Rattle.linked_zone.specs.Structure.{HasStructure}
@@ -12,12 +12,11 @@ use Rattle.held_zone.specs.declared.waking.WhyAsleep.{WhyAsleep}
 use Rattle.held_zone.specs.declared.waking.WhyAsleep.TheVariants.{Damaged, Unlocked}
 use Rattle.held_zone.specs.State.{State, IsNew}
 
--- the code by which C is told that bytes haven't the structure of a zone: memSCErr
+-- the code that C gets where bytes haven't the structure of a zone: memSCErr
 abbrev pub damaged : ℤ
 damaged = minus 116
 
--- the code by which C is told why a zone sleeps on: memLockedErr where a block that is lent isn't locked in the bytes
--- any more
+-- the code that says why a zone sleeps on: memLockedErr where a block that is lent isn't locked in the bytes any more
 abbrev pub code_asleep : WhyAsleep → ℤ
 code_asleep Damaged = damaged
 code_asleep Unlocked = minus 117

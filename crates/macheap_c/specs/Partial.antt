@@ -1,4 +1,4 @@
--- What C is told of calls on some of a resource's bytes.
+-- What C gets from calls on some of a resource's bytes.
 use Rattle.std.specs.Prelude.{◌≡◌, ℕ, ℤ, pos, List, Option, Some, None}
 use Rattle.held_files.specs.Forks.{ForksState}
 use Rattle.held_files.specs.Partial.{PartCalled}
@@ -19,10 +19,10 @@ part_code (Some InMemory) = minus 188
 part_code (Some OutOfBounds) = minus 190
 part_code (Some (Refused code)) = code_of code
 
--- The call is made, and C is told this code, and gets these bytes in the place of as many others.
+-- The call is made, and C gets this code, and these bytes in the place of as many others.
 abbrev pub PartTold : Option State → Option ForksState → ℕ → ℕ → ℤ → List ℕ → List ℕ → Option State → Option ForksState → Type 0
 PartTold zone files h at code before after new new_files = (end : Option PartialEnd) × (code ≡ part_code end) × PartCalled zone files h at before after end new new_files
 
--- A call that changes them is made, and C is told this code.
+-- A call that changes them is made, and C gets this code.
 abbrev pub PatchTold : Option State → Option ForksState → PatchingCall → ℤ → Option State → Option ForksState → Type 0
 PatchTold zone files call code new new_files = (end : Option PartialEnd) × (code ≡ part_code end) × PatchCalled zone files call end new new_files

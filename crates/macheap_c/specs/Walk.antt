@@ -39,7 +39,7 @@ abbrev pub BlockTold : Option State → ℕ → ℤ → MhBlock → MhBlock → 
 BlockTold None at code before block new = (code ≡ no_zone) × (block ≡ before) × (new ≡ None)
 BlockTold (Some old) at code before block new = ShowsBlock (report_at old.zone.shape old.zone.heap at) code before block × (new ≡ Some old)
 
--- C is told where the first block header is, and the state stays.
+-- C learns where the first block header is, and the state stays.
 abbrev pub FirstTold : Option State → ℤ → ℕ → ℕ → Option State → Type 0
 FirstTold None code before at new = (code ≡ no_zone) × (at ≡ before) × (new ≡ None)
 FirstTold (Some old) code before at new = (code ≡ pos 0) × (at ≡ address_after old.zone.shape []) × (new ≡ Some old)

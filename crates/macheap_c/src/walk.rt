@@ -36,7 +36,7 @@ pub extern "C" fn mh_first_block(alloc: Global, zone: &mut MhZone, at: &mut u32)
     NO_ERR
 }
 
-/// The block whose header is at an address. memWZErr where none does.
+/// The block whose header is at an address. memWZErr where none is.
 #[unsafe(no_mangle)]
 pub extern "C" fn mh_block(alloc: Global, zone: &mut MhZone, at: u32, block: &mut MhBlock) -> i16
     ensures { BlockTold zone.old.held.session at result block.old block.new zone.new.held.session }

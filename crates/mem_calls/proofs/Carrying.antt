@@ -1,4 +1,4 @@
--- The calls of an answer, one after another, and what the procedure is told of them.
+-- The calls of an answer, one after another, and their reports to the procedure.
 use Rattle.std.proofs.Common.{◌≡◌, ℕ, ◌+◌, ◌<◌, ◌≤◌, Bool, true, false, cond, List, [], ◌∷◌, ◌++◌, length, Option, Some, refl, ap, sym, ◌∙◌, arith, append-nil, append_assoc, length-append, nat_lt}
 use Rattle.std.proofs.lemmas.Bool.Decides.{nat_tests}
 use Rattle.mac_base.specs.declared.error.OsErr.{OsErr}
@@ -41,7 +41,7 @@ may_note-last [] a = refl
 may_note-last (b ∷ []) a = refl
 may_note-last (b ∷ d ∷ before) a = may_note-last (d ∷ before) a
 
--- a call may be told while the answer has more of them
+-- a call may be reported while the answer has more of them
 pub may_note-carried : (done : List (ReleasingCall × Option OsErr)) (a : Answer) (asks : List Ask) → IsNewlyAnswered a asks → length done < length a.calls → may_note (with_carried done asks) ≡ true
 may_note-carried done a asks (before, needed, is) fewer =
     let last : Ask = record { needed = needed; answer = Some a; carried = done } in

@@ -39,7 +39,7 @@ calls-fewer places i place call below at is =
     let some : length (calls_at (Some call ∷ rest)) ≡ 1 + length (calls_at rest) = omega arith in
     omega (arith, long, some)
 
--- so far, these calls have been carried out, and the procedure was told of them
+-- so far, these calls have been carried out and reported to the procedure
 pub record Carries (old : ZoneState) (protected : List ℕ) (before : List Ask) (done : List ReleasingCall) (new : ZoneState) (told : List Ask) : Type 0 where
   pub heap : new.heap ≡ (carried_out old.shape protected done old.heap).heap
   pub notes : told ≡ with_carried (carried_out old.shape protected done old.heap).calls before
@@ -68,7 +68,7 @@ carries-more old protected before done call mid new told later first heap noted 
       loans = (loans.0 ∙ first.loans.0, λ x loan lent. loans.1 x loan (first.loans.1 x loan lent));
     }
 
--- the procedure may be told of one more
+-- one more may be reported to the procedure
 pub carries-may_note : (old : ZoneState) (protected : List ℕ) (before : List Ask) (done : List ReleasingCall) (mid : ZoneState) (told : List Ask) (a : Answer) → Carries old protected before done mid told
     → IsNewlyAnswered a before → length done < length a.calls → may_note told ≡ true
 carries-may_note old protected before done mid told a first asked fewer =

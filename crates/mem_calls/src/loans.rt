@@ -36,7 +36,7 @@ impl MemoryManager {
     }
 
     /// Takes back the bytes of a block that is lent, as the holder of the loan left them. The block is where it
-    /// did.
+    /// was.
     pub fn give_back(&mut self, block: u32, loan: Lent)
         requires { IsLoanOf self.old block loan }
         ensures zone { self.new ≡ with_heap (returned block loan.bytes self.old.heap) self.old }

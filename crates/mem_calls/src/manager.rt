@@ -114,7 +114,7 @@ impl MemoryManager {
         self.zone.first_block()
     }
 
-    /// The block whose header is at this address, if one does.
+    /// The block whose header is at this address, if one is.
     pub fn entry(&self, at: u32) -> Option<Block>
         ensures { result ≡ report_at self.now.shape self.now.heap at }
     {

@@ -1,4 +1,4 @@
-//! The calls that tell how much room there is.
+//! The calls that report how much room there is.
 
 ghost use Rattle.std.specs.Prelude.{◌≡◌, []};
 ghost use Rattle.mac_base.specs.declared.memory_call.MemoryCall.TheVariants as call;

@@ -76,7 +76,7 @@ fn is_among(protected: &[u32], number: u32) -> bool
     protected.iter().any(|other| *other == number)
 }
 
-/// Carries out a call of an answer, unless its operand is protected, and tells the procedure how it ended.
+/// Carries out a call of an answer, unless its operand is protected, and reports to the procedure how it ended.
 fn carry_one<G: GrowZone>(
     zone: &mut Zone,
     call: &ReleasingCall,
@@ -99,8 +99,8 @@ fn carry_one<G: GrowZone>(
     }
 }
 
-/// Carries out the calls of an answer in order, each unless its operand is protected, and tells the procedure how each
-/// ended.
+/// Carries out the calls of an answer in order, each unless its operand is protected, and reports to the procedure how
+/// each ended.
 fn carry_out<G: GrowZone>(zone: &mut Zone, answer: &Answer, protected: &[u32], procedure: &mut G)
     requires { IsNewlyAnswered answer.now (G.asks procedure.old) }
     ensures heap { zone.new.heap ≡ (carried_out zone.old.shape protected.now answer.now.calls zone.old.heap).heap }

@@ -31,7 +31,7 @@ fn print_block(rt: &HostRuntime, block: &Block) -> Result<(), io::Error> {
     }
 }
 
-/// What is told of a handle that is locked or may be purged.
+/// What is printed of a handle that is locked or may be purged.
 fn state_of(flags: Flags) -> &'static str {
     match (flags.lock, flags.purge) {
         (false, false) => "",

@@ -39,13 +39,13 @@ pub(crate) enum NoStep {
     MoreWords,
 }
 
-/// Whether a line of a trace tells no step: it is blank, or a comment that begins with `#`.
+/// Whether a line of a trace names no step: it is blank, or a comment that begins with `#`.
 pub(crate) fn is_comment(line: &str) -> bool {
     let line = line.trim();
     line.is_empty() || line.starts_with('#')
 }
 
-/// The step that a line tells: a call's name, the number of a block, and bytes where the call takes them.
+/// The step that a line names: a call's name, the number of a block, and bytes where the call takes them.
 pub(crate) fn step_of(line: &str) -> Result<Step, NoStep>
     ensures block { IfOk result (λ step. step.block < BLOCK_COUNT) }
 {

@@ -8,7 +8,7 @@ use Rattle.place_numbers.specs.Shifted.{copied, shifted_down, shifted_up}
 use Rattle.place_numbers.proofs.Moved.{shifted-down, shifted-up, only-down, only-up, same-place}
 use Rattle.place_numbers.proofs.Copied.{is-copied, only-copied}
 
--- 0 is from a place up to another, and the others stay
+-- the numbers from a place up to another are 0, and the others stay
 pub record IsCleared (xs ys : List ℕ) (from end : ℕ) : Type 0 where
   pub len : length ys ≡ length xs
   pub below : (j : ℕ) → j < from → get_or ys j 0 ≡ get_or xs j 0
@@ -76,7 +76,7 @@ copied-word xs ys from to n m few from-in to-in read put =
     }
     (is-copied xs from to n from-in to-in)
 
--- zeros are copied where those that was there are taken away
+-- zeros are copied where those that were there are taken away
 pub copied-zeros : (xs : List ℕ) (from to n end : ℕ) → end ≡ to + n → from + n ≤ length xs → to + n ≤ length xs → ((j : ℕ) → from ≤ j → j < from + n → get_or xs j 0 < 1)
     → shifted_down end to 0 xs ≡ copied from to n xs
 copied-zeros xs from to n end is from-in to-in none =

@@ -1,4 +1,4 @@
-//! Bytes after a raw pointer.
+//! Bytes at a raw pointer.
 
 ghost use Rattle.std.specs.Prelude.{◌≡◌, ℕ, ◌^◌, ◌<◌, List, length, true};
 ghost use denote.RawPtr.{Ptr, ◌+ₚ◌};

@@ -34,7 +34,7 @@ impl HostBytes {
         HostBytes::nothing_at(at)
     }
 
-    /// No bytes, after this pointer.
+    /// No bytes, at this pointer.
     fn nothing_at(at: *mut u8) -> HostBytes
         ensures { result.bytes ≡ None }
     {

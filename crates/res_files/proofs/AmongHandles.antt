@@ -86,7 +86,7 @@ module _ (just_changed : Bool) (handles : List ℕ) (i d : ℕ) (within : i < le
       neither true b is = absurd (cc is)
       neither false b is = (refl, is)
 
--- where the first that passes is says whether there is one
+-- the place of the first that passes says whether there is one
 one_less : (a n : ℕ) → nat_lt (1 + a) (suc n) ≡ nat_lt a n
 one_less a n = by (nat_lt (1 + a) (suc n)) (nat_lt a n) refl refl
   where

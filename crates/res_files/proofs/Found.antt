@@ -109,7 +109,7 @@ same_number {D} k (h ∷ files) g is = pick (is_numbered k h) refl is (same_numb
     pick true same here deeper = ap (λ (file : OpenFile D). file.number) (sym (same_Some h g here)) ∙ eqb-true h.number k same
     pick false same here deeper = deeper here
 
--- a row of the current file that passes a test is where it is found
+-- a row of the current file that passes a test is at the place that is found
 passing_there : {D : Type 0} (test : Row D → Bool) (files : OpenFiles D)
     → IfSome (option_and_then (λ k. option_and_then (place_in test) (find (is_numbered k) files.files)) files.current) (λ place. IsSome (row_at place files))
 passing_there {D} test files = by files.current
@@ -152,14 +152,14 @@ passing_there {D} test files = by files.current
     by None = tt
     by (Some k) = in_files k files.files
 
--- so a resource of the current file does, and a row of a name
+-- so is a resource of the current file, and a row of a name
 pub here_there : {D : Type 0} (kind : List ℕ) (id : ℤ) (files : OpenFiles D) → IfSome (place_here kind id files) (λ place. IsSome (row_at place files))
 here_there kind id files = passing_there (is_resource kind id) files
 
 pub name_here_there : {D : Type 0} (kind name : List ℕ) (files : OpenFiles D) → IfSome (name_here kind name files) (λ place. IsSome (row_at place files))
 name_here_there kind name files = passing_there (is_named kind name) files
 
--- so does the i-th of a type
+-- so is the i-th of a type
 within_from : {D : Type 0} (at : ℕ) (test : Row D → Bool) (rows : List (Row D)) (i k : ℕ) → slice_get (indexes_from at test rows) i ≡ Some k → (at ≤ k) × (k < at + length rows)
 within_from at test [] i k is = absurd (cc is)
 within_from {D} at test (r ∷ rows) i k is = by (test r) i is (λ n there. within_from (at + 1) test rows n k there)
@@ -195,7 +195,7 @@ ith_there kind i files = by files.current
     by None = tt
     by (Some k) = in_table k (table_of k files) refl (index_of_ith kind i (rows_of k files)) refl
 
--- so does the i-th of a type in all files
+-- so is the i-th of a type in all files
 some_row_at : {D : Type 0} (rows : List (Row D)) (at : ℕ) → at < length rows → (r : Row D) × (slice_get rows at ≡ Some r) × (true ≡ true)
 some_row_at [] at within = absurd (omega (arith, within))
 some_row_at (r ∷ rows) zero within = (r, refl, refl)

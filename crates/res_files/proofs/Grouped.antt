@@ -158,7 +158,7 @@ abbrev Starts : List ℕ → List (Row Place) → Type 0
 Starts kind [] = ⊥
 Starts kind (r ∷ rows) = kind ≡ r.resource.kind
 
--- after each row is one of its type, or none of its type is left
+-- after each row comes one of its type, or none of its type is left
 abbrev AreTogether : List (Row Place) → Type 0
 AreTogether [] = Unit {0}
 AreTogether (r ∷ rows) = (Starts r.resource.kind rows ⊎ NoneOf r.resource.kind rows) × AreTogether rows

@@ -1,4 +1,4 @@
--- A file is opened on its store: how the files are then, and how they are seen.
+-- A file is opened on its store: how the files are on the stores then, and how they are seen.
 use Rattle.std.proofs.Common.{◌≡◌, refl, sym, ap, ◌∙◌, subst, arith, ℕ, ◌-◌, ◌<◌, ◌≤◌, List, [], length, map, set, get_or, slice_get, unwrap_or, Bool, false, Option, Some, Result, Ok, Err, OnOk, OnErr, IfOk, ◌⊎◌, inl, inr}
 use Rattle.std.specs.Prelude.{IsFalse, ⊤}
 use Rattle.std.specs.Option.{option_map, option_map_or}
@@ -53,12 +53,12 @@ module _ {S : Type 0} (store : Ghosts S) (chain : OpenFiles Place) (loads : Bool
   pub here : slice_get stores (k - 1) ≡ Some old
   here = slice_get_read stores (length stores) (k - 1) old refl within value
 
-  -- the files are on the stores still
+  -- the files are still on the stores
   pub stand_kept : StandOn store.fork store.is_ready store.is_honest stores chain → StandOn store.fork store.is_ready store.is_honest (set stores (k - 1) new) chain
   stand_kept stand = stand_set store.fork store.is_ready store.is_honest stores (k - 1) new old
       (λ h. (subst store.is_honest value (same h), forks h ∙ ap store.fork value, λ ready. (known h).still (subst store.is_ready (sym value) ready))) chain stand
 
-  -- so does the one that is opened
+  -- so is the one that is opened
   pub stand_more : (table : ResourceTable Place) → is_open k chain ≡ false → AreSmall table.rows → (store.is_honest new → AreInside (store.fork old) table.rows) → (store.is_honest new → store.is_ready new)
       → StandOn store.fork store.is_ready store.is_honest stores chain → StandOn store.fork store.is_ready store.is_honest (set stores (k - 1) new) (file_opened k table chain)
   stand_more table closed small inside ready stand =

@@ -1,4 +1,4 @@
--- A store of a file that isn't open is replaced: the others are as they did, and are seen as they were.
+-- A store of a file that isn't open is replaced: the others are where they were, and are seen as they were.
 use Rattle.std.proofs.Common.{◌≡◌, refl, sym, ap, ◌∙◌, subst, arith, ℕ, ◌-◌, ◌<◌, ◌≤◌, List, [], ◌∷◌, length, map, set, slice_get, Bool, true, false, Option, IfSome, ◌||◌}
 use Rattle.std.specs.Prelude.{IsFalse}
 use Rattle.std.specs.List.{list_any, AllByRecursion}
@@ -40,7 +40,7 @@ module _ {S : Type 0} (fork : S → List ℕ) (is_ready is_honest : S → Type 0
       by true same closed deeper = absurd (cc closed)
       by false same closed deeper = (other_stands f same each.0, deeper closed)
 
-  -- the files are still
+  -- the files are still on the stores
   pub stand_replaced : (chain : OpenFiles Place) → is_open k chain ≡ false → StandOn fork is_ready is_honest stores chain → StandOn fork is_ready is_honest (set stores (k - 1) new) chain
   stand_replaced chain closed stand = record {
     few = subst (λ (n : ℕ). n ≤ most_files) (sym (length-set stores (k - 1) new)) stand.few;

@@ -1,4 +1,4 @@
--- The store of an open file is written anew: how the files are then, and how they are seen.
+-- The store of an open file is written anew: how the files are on the stores then, and how they are seen.
 use Rattle.std.proofs.Common.{◌≡◌, refl, sym, ap, ◌∙◌, subst, arith, ℕ, zero, suc, ◌+◌, ◌-◌, ◌<◌, ◌≤◌, List, [], ◌∷◌, length, map, set, get_or, slice_get, unwrap_or, Bool, true, false, Option, None, Some, Result, Ok, Err, IfSome, All, IsTrue}
 use Rattle.std.specs.Global.{Global}
 use Rattle.std.specs.Prelude.{◌↔◌, ◌&&◌, IsFalse, IsErrOf, Vec, if◌then◌else◌}
@@ -49,7 +49,7 @@ use Rattle.res_files.proofs.Updated.{all_placed, one_placed}
 use Rattle.res_files.proofs.Using.{mine, same_honest, same_values}
 use Rattle.res_files.proofs.Written.{from_one, others_seen, one_seen, rest_seen, others_stand, one_stands, rest_stands}
 
--- what is lent is told by handles and attributes
+-- what is lent is known by handles and attributes
 lent-mapped : {D E : Type 0} (f : D → E) (t : HandleTable) (selection : Selection) (rows : List (Row D)) → reads_lent t selection (mapped_rows f rows) ≡ reads_lent t selection rows
 lent-mapped f t AllChanged rows = any-mapped (mapped_row f) (λ r. is_changed r && is_lent_row t r) (λ r. is_changed r && is_lent_row t r) (λ r. refl) rows
 lent-mapped {D} {E} f t (RowAt index) rows = ap (λ (found : Option (Row E)). option_map_or (is_lent_row t) found false) (get-mapped (mapped_row f) rows index) ∙ by (slice_get rows index)
@@ -267,7 +267,7 @@ module _ {S : Type 0} (store : Ghosts S) (chain : OpenFiles Place) (loads : Bool
           of_table (λ shown. may_leave (written (saved_table (updated t selection shown))) (fork_of store.fork k now.stores) (fork_of store.fork k (set stores (k - 1) new)))
           (rw (fork_is, fork_new) (is (honest_here honest)))
 
-      -- the files are, once it is written
+      -- the files are on the stores, once it is written
       pub stand_written : (selection : Selection) (places : List Place) (more : OpenFiles Place) → more ≡ rows_changed k (λ rows. rows_placed selection 0 rows places) chain
           → length places ≡ length table.rows → All IsNear places → (store.is_honest new → All (IsInside (store.fork new)) places) → (store.is_honest new → store.is_ready new)
           → StandOn store.fork store.is_ready store.is_honest (set stores (k - 1) new) more

@@ -62,7 +62,7 @@ one_failed failures [] i y d within rose = absurd (omega arith)
 one_failed failures (x ∷ xs) zero y d within rose = rose
 one_failed failures (x ∷ xs) (suc i) y d within rose = one_failed failures xs i y d (omega arith) rose
 
--- the files are on the stores still
+-- the files are still on the stores
 module _ {S : Type 0} (fork : S → List ℕ) (is_ready is_honest : S → Type 0) (stores : List S) (i : ℕ) (y d : S)
     (kept : is_honest y → is_honest (get_or stores i d) × (fork y ≡ fork (get_or stores i d)) × (is_ready (get_or stores i d) → is_ready y)) where
   each_set : (files : List (OpenFile Place)) → AllByRecursion (StandsOn fork is_ready is_honest stores) files → AllByRecursion (StandsOn fork is_ready is_honest (set stores i y)) files

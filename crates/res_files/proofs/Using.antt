@@ -50,7 +50,7 @@ module _ {S : Type 0} (fork : S → List ℕ) (is_honest : S → Type 0) (chain 
       ∙ sym (ap default (slice_get-map fork stores (k - 1))) in
       same_known known (map fork (set stores at new)) (map fork stores) here chain ∙ ap (λ (v : FilesOn S). known_files known v.files) view_is
 
-  -- the files are still
+  -- the files are still on the stores
   pub stand_still : (is_ready : S → Type 0) → (is_honest new → is_honest old) → (is_honest new → fork new ≡ fork old) → (is_honest new → is_ready new)
       → StandOn fork is_ready is_honest stores chain → StandOn fork is_ready is_honest (set stores at new) chain
   stand_still is_ready same forks ready stand =

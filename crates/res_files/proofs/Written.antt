@@ -1,4 +1,4 @@
--- One fork is written anew: the other files stay as they are, and are as they were.
+-- One fork is written anew: the other files stay as they are, and where they were.
 use Rattle.std.proofs.Common.{◌≡◌, refl, sym, ap, ◌∙◌, subst, arith, ℕ, ◌-◌, ◌≤◌, List, [], ◌∷◌, map, set, slice_get, unwrap_or, Bool, true, false, cond, Option, Some, IfSome, find}
 use Rattle.std.specs.Prelude.{◌||◌, if◌then◌else◌}
 use Rattle.std.specs.List.{list_any, AllByRecursion}
@@ -139,7 +139,7 @@ module _ (k : ℕ) (low : 1 ≤ k) where
         by true mine held deeper = (mine_stands mine held.0 held.1, others_stand files (only_here f files mine apart.0) each.1)
         by false other held deeper = (other_stands f other each.0, deeper held)
 
-    -- without it the others are as they were
+    -- without it the others are where they were
     pub rest_stands : (files : List (OpenFile Place)) → AreApart files → AllByRecursion (StandsOn fork is_ready is_honest stores) files
         → AllByRecursion (StandsOn fork is_ready is_honest (set stores (k - 1) new)) (without k files)
     rest_stands [] apart each = each

@@ -25,7 +25,7 @@ file_on forks file = record { number = file.number; table = table_on (fork_at fo
 abbrev pub files_on : List (List ℕ) → OpenFiles Place → Files
 files_on forks chain = record { files = map (file_on forks) chain.files; current = chain.current }
 
--- rows that a fork may have: not too many, those of each type together, and no place ends after the longest fork
+-- rows that a fork may have: not too many, those of each type together, and no place ends past the longest fork
 pub record AreSmall (rows : List (Row Place)) : Type 0 where
   pub few : length rows ≤ max_rows
   pub grouped : IsGrouped (bare rows)

@@ -77,8 +77,8 @@ fn after(start: usize, name: Option<&[u8]>) -> Option<usize>
     Some(start + 1 + name.len())
 }
 
-/// The offset after the names of the rows between two indexes, where the first is to be at this one, if two bytes
-/// hold each.
+/// The offset after the names of the rows between two indexes, where the first is to be at this one, if two bytes hold
+/// each.
 fn names_end(rows: &Rows<Place>, from: usize, to: usize, start: usize) -> Option<usize>
     requires order { from ≤ to }
     requires within { to ≤ length rows.now }

@@ -40,8 +40,7 @@ impl<S: ForkStore> ResourceFiles<S> {
         self.chain.is_open(number)
     }
 
-    /// Where the resource of a type and an id is: in the current file, or else in the latest before it that has
-    /// one.
+    /// Where the resource of a type and an id is: in the current file, or else in the latest before it that has one.
     pub fn find(&self, kind: ResType, id: i16) -> Option<RowPlace>
         ensures value { result ≡ place_of_resource kind id self.now.files }
         ensures there { IfSome result (λ place. IsSome (row_at place self.now.files)) }
@@ -57,8 +56,7 @@ impl<S: ForkStore> ResourceFiles<S> {
         self.chain.find_here(kind, id)
     }
 
-    /// Where the first row of a type and a name is: in the current file, or else in the latest before it that has
-    /// one.
+    /// Where the first row of a type and a name is: in the current file, or else in the latest before it that has one.
     pub fn find_named(&self, kind: ResType, name: &[u8]) -> Option<RowPlace>
         ensures value { result ≡ place_of_name kind name.now self.now.files }
         ensures there { IfSome result (λ place. IsSome (row_at place self.now.files)) }

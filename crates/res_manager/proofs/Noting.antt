@@ -13,7 +13,7 @@ use Rattle.res_table.specs.OpenFiles.{handle_forgotten}
 use Rattle.res_update.specs.Changes.{Files, handles_forgotten}
 use Rattle.res_manager.specs.Watching.{files_after}
 
--- one more call was told
+-- one more call was noted
 disposed-noted : (call : ReleasingCall) (code : Option OsErr) (asks : List Ask) → may_note asks ≡ true → disposed_in (noted call code asks) ≡ disposed_in asks ++ filter_map disposed_by ((call, code) ∷ [])
 disposed-noted call code [] may = absurd (cc may)
 disposed-noted call code (a ∷ []) may =

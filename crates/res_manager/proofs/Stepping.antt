@@ -73,7 +73,7 @@ tested_steps {S} store old new on after c asks (Err code) none late quiet stores
     let Q : FilesOn S → Type 0 = λ files. ResourceSteps store old on c asks (Err code) old files in
     subst P (sym ends.1.0) (subst Q (sym ends.1.1) (unasked_steps store old old on on c asks (Err code) none (refused_steps store old on c code ends.0)))
 
--- a call that is refused, or else tells what is there and changes nothing
+-- a call that is refused, or else says what is there and changes nothing
 pub told_steps : {S : Type 0} (store : Ghosts S) (zone : ZoneState) (on : FilesOn S) (c : ResourceCall) (asks : List Ask) (outcome : Outcome) → asks ≡ [] → late_tests c ≡ [] → work_of (state_of store.fork zone on) c ≡ Quiet
     → quiet_state c (state_of store.fork zone on) ≡ state_of store.fork zone on → Tests (state_of store.fork zone on) (early_tests c) outcome → IfOk outcome (λ results. results ≡ quiet_results (state_of store.fork zone on) c)
     → ResourceSteps store zone on c asks outcome zone on
@@ -148,7 +148,7 @@ written_steps {S} store old new on after c u outcome late test work written = by
         let P : Option OsErr → Type 0 = λ o. StepsUnless Memory (answered_disks honest store.may_leave) o device.Works state c [] (record { outcome = outcome; state = last }) in
         record { device = device.Works; before = state; after = last; was = before_itself honest c state; becomes = itself honest last; step = subst P (sym refused) (refl, sym unwritten.ends); cause = unwritten.works }
 
--- what a result comes with, it comes with as it is told
+-- what a result comes with, it comes with as it is reported
 pub told_so : {X E F : Type 0} (P Q : Type 0) (result : Result X E) (told : Result X F) → is_ok told ≡ is_ok result → MatchResult result (λ done. Q) (λ fault. P) → MatchResult told (λ done. Q) (λ fault. P)
 told_so P Q (Ok x) (Ok y) same is = is
 told_so P Q (Err e) (Ok y) same is = absurd (cc same)

@@ -83,7 +83,7 @@ pub record IsFilled (h : ℕ) (bytes : List ℕ) (old new : Heap) : Type 0 where
 abbrev pub flags_for : ResAttrs → Flags
 flags_for attributes = record { lock = has_bit res_locked attributes; purge = has_bit res_purgeable attributes; resource = true }
 
--- the heap once these bytes are loaded after a handle, with these flags
+-- the heap once these bytes are loaded into the block of a handle, with these flags
 abbrev pub loaded_with : ℕ → Flags → List ℕ → Heap → Heap
 loaded_with h flags bytes heap = with_table (with_live h (FullHandle flags bytes) heap.table) heap
 

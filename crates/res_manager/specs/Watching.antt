@@ -9,7 +9,7 @@ use Rattle.res_update.specs.Changes.{handles_forgotten}
 abbrev pub files_after : {S : Type 0} → List Ask → FilesOn S → FilesOn S
 files_after asks files = record files { files = handles_forgotten (disposed_in asks) files.files }
 
--- what stays of a procedure under watch: which files it tells and which procedure it is, each as the value of an answer
--- in front, and what stays of that procedure
+-- what stays of a procedure under watch: which files and which procedure it borrows, each as the value of an answer in
+-- front, and what stays of that procedure
 abbrev pub watched_source : ℕ → ℕ → List Answer → List Answer
 watched_source files procedure answers = record { calls = []; value = files } ∷ record { calls = []; value = procedure } ∷ answers

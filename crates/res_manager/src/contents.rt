@@ -1,4 +1,4 @@
-//! The bytes after handles, for an update.
+//! The bytes of handles, for an update.
 
 ghost use Rattle.std.specs.Prelude.{◌≡◌, ◌≤◌, length, IsFalse};
 ghost use Rattle.fork_bytes.specs.Fork.{max_fork};
@@ -11,7 +11,7 @@ use mem_calls::MemoryManager;
 use res_update::contents::Contents;
 use std::marker::Model;
 
-/// Where the bytes after handles are.
+/// Where the bytes of handles are.
 #[derive(Drop)]
 enum Source<'a> {
     /// In the blocks of a zone.
@@ -20,8 +20,8 @@ enum Source<'a> {
     Alone(Handle, &'a [u8]),
 }
 
-/// The bytes after handles, of which a contract sees the handle table. They have one type, so that an update is
-/// compiled once.
+/// The bytes of handles, of which a contract sees the handle table. They have one type, so that an update is compiled
+/// once.
 #[derive(Drop)]
 pub(crate) struct After<'a> {
     source: Source<'a>,
@@ -39,7 +39,7 @@ impl<'a> Model for After<'a> {
 }
 
 impl<'a> After<'a> {
-    /// The bytes after the handles of this zone.
+    /// The bytes of the handles of this zone.
     pub(crate) fn zone(memory: &'a MemoryManager) -> After<'a>
         ensures { result ≡ memory.now.heap.table }
     {

@@ -1,4 +1,4 @@
-//! The calls that tell what all open files have together.
+//! The calls that say what all open files have together.
 
 ghost use Rattle.std.specs.Prelude.{◌≡◌};
 ghost use Rattle.res_update.specs.Counted.{counted, told_of_all};
@@ -9,7 +9,7 @@ use mac_base::{Outcome, Results};
 use res_files::ResourceFiles;
 use res_update::CountingCall;
 
-/// Makes a call that tells what all open files have together. resFNotFound where no file is open.
+/// Makes a call that says what all open files have together. resFNotFound where no file is open.
 pub fn count<S: ForkStore>(files: &ResourceFiles<S>, call: CountingCall) -> Outcome
     ensures { result ≡ counted call files.now.files }
 {
@@ -19,7 +19,7 @@ pub fn count<S: ForkStore>(files: &ResourceFiles<S>, call: CountingCall) -> Outc
     told_of_all(files, call)
 }
 
-/// What open files tell: resNotFound where there is no type with the index, and addResFailed where no id from 128 on is
+/// What open files say: resNotFound where there is no type with the index, and addResFailed where no id from 128 on is
 /// left.
 fn told_of_all<S: ForkStore>(files: &ResourceFiles<S>, call: CountingCall) -> Outcome
     ensures { result ≡ told_of_all call files.now.files }

@@ -24,7 +24,7 @@ use res_files::{MOST_FILES, ResourceFiles};
 use std::alloc::Global;
 
 /// Makes a call of the Resource Manager. One that loads a resource makes its place by a call of the Memory Manager,
-/// which asks the grow-zone procedure where it finds no room. The blocks that are lent are told in any order. HostFull
+/// which asks the grow-zone procedure where it finds no room. The blocks that are lent come in any order. HostFull
 /// comes only where the call isn't refused, from calls that take host memory for a row, a name, a fork or a table, and
 /// before any device call of an update; then neither zone nor files have changed. A file that was updated with success
 /// reads back as the table that was saved.

@@ -33,7 +33,7 @@ use res_table::attributes::unmarked;
 use res_table::chain::RowPlace;
 use std::alloc::Global;
 
-/// Makes a call that tells what the open files say.
+/// Makes a call that returns what the open files say.
 pub(crate) fn look<S: ForkStore>(files: &ResourceFiles<S>, call: LookingCall) -> Outcome
     ensures passed { (state : ResState) → state.files ≡ files.now.files → Tests state (early_tests (Looking call)) result }
     ensures value { (state : ResState) → state.files ≡ files.now.files → IfOk result (λ results. results ≡ quiet_results state (Looking call)) }

@@ -6,7 +6,7 @@ use Rattle.res_table.specs.declared.row.Row.{Row}
 use Rattle.res_table.specs.Rows.{is_of_type, added}
 use Rattle.res_table.specs.After.{last_of_type, end_of_type}
 
--- how many rows are up to the last of a type
+-- how many rows there are up to the last of a type
 abbrev pub up_to_last : {D : Type 0} → List ℕ → List (Row D) → ℕ
 up_to_last kind [] = 0
 up_to_last kind (r ∷ rows) = if list_any (is_of_type kind) rows then suc (up_to_last kind rows) else 1

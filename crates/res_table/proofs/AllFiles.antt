@@ -218,7 +218,7 @@ all_types_few (f ∷ fs) =
     let mine = filter_few (λ kind. not (has_type kind fs)) (types_in f.table.rows) in let types = types_few f.table.rows in let deeper = all_types_few fs in
     let long = length-append (all_types fs) (new_types f.table.rows fs) in let rows = length-append (all_rows fs) f.table.rows in omega arith
 
--- those of earlier files are after them
+-- those of earlier files come after them
 pub types_before : {D : Type 0} (files : List (OpenFile D)) (i : ℕ) → (earlier : List (List ℕ)) × (all_types files ≡ all_types (drop i files) ++ earlier)
 types_before files zero = ([], sym (append-nil (all_types files)))
 types_before [] (suc i) = ([], refl)

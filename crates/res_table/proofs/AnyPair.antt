@@ -32,7 +32,7 @@ above g k less = grind (arith, nat_tests)
 at_least : (g h a b : ℕ) → (nat_lt g h || (g == h && nat_lt a b)) ≡ false → h ≤ g
 at_least g h a b first = grind (arith, nat_tests)
 
--- where none with a ltb-true key passes it, those from a key on tell
+-- where none with a smaller key passes it, those from a key on decide
 pub any_from : (test : Pair → Bool) (h : ℕ) (ps : List Pair) → ((p : Pair) → p.key < h → test p ≡ false) → list_any test ps ≡ list_any test (drop (rank (record { key = h; place = 0 }) ps) ps)
 any_from test h [] none = refl
 any_from test h (p ∷ ps) none = by (is_before p (record { key = h; place = 0 })) refl (any_from test h ps none)
@@ -50,7 +50,7 @@ none_after test p [] order none = refl
 none_after test p (q ∷ qs) order none =
     ap (λ (t : Bool). t || list_any test qs) (none q (at_least q.key p.key q.place p.place order.0)) ∙ none_after test p qs order.1 none
 
--- those from a key on have no ltb-true key
+-- those from a key on have no smaller key
 pub least_key : (h : ℕ) (ps : List Pair) (i : ℕ) (d : Pair) → AreInOrder ps → i < length (drop (rank (record { key = h; place = 0 }) ps) ps) → h ≤ (get_or (drop (rank (record { key = h; place = 0 }) ps) ps) i d).key
 least_key h [] i d order within = absurd (omega arith)
 least_key h (p ∷ ps) i d order within = by (is_before p (record { key = h; place = 0 })) refl within (least_key h ps i d order.1)

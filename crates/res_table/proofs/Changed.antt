@@ -1,4 +1,4 @@
--- Whether a changed row has a handle, as the pairs tell.
+-- Whether a changed row has a handle, as the pairs say.
 use Rattle.std.proofs.Common.{◌≡◌, ◌≢◌, refl, sym, ap, ◌∙◌, subst, arith, ℕ, suc, ◌+◌, ◌<◌, ◌≤◌, List, [], ◌∷◌, length, get_or, drop, slice_get, Bool, false, ◌||◌, ◌&&◌, ◌==◌, Option, Some, None}
 use Rattle.std.specs.Prelude.{All, option_map}
 use Rattle.std.specs.List.{list_any}
@@ -60,7 +60,7 @@ module _ {D : Type 0} (h k : ℕ) (rows : List (Row D)) (ps rest : List Pair) (k
   there : (i j : ℕ) (r : Row D) → j ≡ 0 + i → slice_get rows i ≡ Some r → slice_get rows j ≡ Some r
   there i j r same found = let e : j ≡ i = omega arith in ap (slice_get rows) e ∙ found
 
-  -- all of them tell
+  -- all of them decide
   pub all_tell : list_any test rest ≡ has_changed h rows
   all_tell =
       ap (list_any test) part ∙ sym (any_from test k ps smaller) ∙ ap (list_any test) is

@@ -47,7 +47,7 @@ handles_removed (suc i) [] = refl
 handles_removed zero (r ∷ rows) = refl
 handles_removed (suc i) (r ∷ rows) = ap (λ (hs : List (Option ℕ)). changed_handle r ∷ hs) (handles_removed i rows)
 
--- a type that is told by its key has four bytes
+-- a type that is known by its key has four bytes
 pub kinds_are_four : {D : Type 0} (rows : List (Row D)) → All IsKept rows → AllByRecursion (λ r. length r.resource.kind ≡ 4) rows
 kinds_are_four [] told = tt
 kinds_are_four (r ∷ rows) told =

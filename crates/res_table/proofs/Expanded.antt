@@ -289,7 +289,7 @@ pub run_shorter : (runs : List TypeCount) (i place : ℕ) (run : TypeCount) → 
     → expanded (set runs i (record { kind = run.kind; count = run.count - 1 })) ≡ remove (expanded runs) place
 run_shorter runs i place run within is start end = runs_set runs i (record { kind = run.kind; count = run.count - 1 }) within ∙ sym (left_in runs i place run within is start end)
 
--- a row that is there is after fewer runs than all
+-- fewer runs than all come before a row that is there
 pub run_inside : (runs : List TypeCount) (i left place : ℕ) → place ≡ length (expanded (take i runs)) + left → place < length (expanded runs) → i < length runs
 run_inside runs i left place all some = elim (cases_lt i (length runs)) [
   | inl inside ↦ inside

@@ -16,7 +16,7 @@ after_rank h k ps least = any_from (λ p. p.key == k) h ps (λ p less. below p.k
 none_has : (p : Pair) (ps : List Pair) (k : ℕ) → NoneBefore p ps → k < p.key → has_pair k ps ≡ false
 none_has p ps k none less = none_after (λ q. q.key == k) p ps none (λ q least. above q.key k (omega arith))
 
--- pairs have the keys up to this one, and from it on those that are left tell
+-- pairs have the keys up to this one, and from it on those that are left decide
 abbrev pub AreTaken : ℕ → ℕ → List Pair → List Pair → Type 0
 AreTaken key free ps rest = ((k : ℕ) → key ≤ k → k < free → has_pair k ps ≡ true) × ((k : ℕ) → free ≤ k → has_pair k ps ≡ has_pair k rest)
 

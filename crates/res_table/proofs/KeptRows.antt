@@ -18,7 +18,7 @@ module _ {D : Type 0} (i : ℕ) (r : Row D) (rows now : List (Row D)) (view : ro
   pub row_changed : (change : Row D → Row D) → set rows i (change r) ≡ changed_at i change now
   row_changed change = changed_is i change r rows inside read ∙ ap (changed_at i change) view
 
-  -- the types, the pairs by type and id, the bytes of the names, and that each key tells its type and id
+  -- the types, the pairs by type and id, the bytes of the names, and that each key gives its type and id
   pub rest_kept : (new : Row D) (kinds : List (List ℕ)) (ps : List Pair) (names : ℕ) → new.resource.kind ≡ r.resource.kind → new.resource.id ≡ r.resource.id → name_size new ≡ name_size r → (IsKept r → IsKept new)
       → kinds ≡ kinds_of rows → ps ≡ pairs_of resource_key rows → names ≡ names_size rows → All IsKept rows
       → (kinds ≡ kinds_of (set rows i new)) × (ps ≡ pairs_of resource_key (set rows i new)) × (names ≡ names_size (set rows i new)) × All IsKept (set rows i new)

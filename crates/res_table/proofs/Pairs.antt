@@ -221,7 +221,7 @@ rank_up_to x (p ∷ ps) (suc i) d within is = by (is_before p x) (rank_up_to x p
     by true deeper = omega arith
     by false deeper = omega arith
 
--- as a test tells
+-- as a test says
 pub told_from : (x : Pair) (ps : List Pair) (i at : ℕ) (d : Pair) (test : Bool) → AreInOrder ps → at ≡ i + 1 → i < length ps → test ≡ is_before (get_or ps i d) x → IsTrue test ↔ at ≤ rank x ps
 told_from x ps i at d true order next within is = (λ t. let over = rank_over x ps i d order within (sym is) in omega arith, λ from. refl)
 told_from x ps i at d false order next within is = (λ t. absurd (cc t), λ from. absurd (let up = rank_up_to x ps i d within (sym is) in omega arith))

@@ -84,7 +84,7 @@ pub key_found : {D : Type 0} (k i : ℕ) (r : Row D) (rows : List (Row D)) → f
 key_found k i r rows found read =
     ap (has_key resource_key k) read ∙ (position-Some (has_key resource_key k) rows i r (sym (first_is resource_key k rows) ∙ found)).1
 
--- types and ids that can be read from their keys are told by them
+-- types and ids that can be read from their keys are known by them
 pub told_by_key : {D : Type 0} (kind : List ℕ) (id : ℤ) (r : Row D) (k l : ℕ) → k ≡ key_of_resource r.resource.kind r.resource.id → l ≡ key_of_resource kind id
     → to_be_bytes w32 (k / 65536) ≡ r.resource.kind → cast_signed w16 (k % 65536) ≡ r.resource.id → to_be_bytes w32 (l / 65536) ≡ kind → cast_signed w16 (l % 65536) ≡ id
     → (k == l) ≡ is_resource kind id r
@@ -100,7 +100,7 @@ told_by_key kind id r k l is is' kinds ids kinds' ids' = by (k == l) (is_resourc
         let one_id : r.resource.id ≡ id = sym ids ∙ ap (λ (n : ℕ). cast_signed w16 (n % 65536)) same ∙ ids' in
         sym (ap (λ (b : Bool). b && int_eq r.resource.id id) ((bytes_eq-Decides r.resource.kind kind).1 one_kind) ∙ (Decides-int_eq r.resource.id id).1 one_id) ∙ f
 
--- types and ids are told by their keys where a row is put in, taken out, or changed in other ways
+-- types and ids are known by their keys where a row is put in, taken out, or changed in other ways
 pub told_inserted : {D : Type 0} (i : ℕ) (r : Row D) (rows : List (Row D)) → IsKept r → All IsKept rows → All IsKept (insert rows i r)
 told_inserted i r rows told all =
     All-append IsKept (take i rows) (r ∷ drop i rows) (All-take IsKept i rows all) (All-cons IsKept r (drop i rows) told (All-drop IsKept i rows all))

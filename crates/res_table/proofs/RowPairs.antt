@@ -14,7 +14,7 @@ use Rattle.res_table.specs.Indexed.{handle_key, resource_key, pairs_from, pairs_
 use Rattle.res_table.proofs.HandleKeys.{key_tells}
 use Rattle.res_table.proofs.Pairs.{AreBelow, AreFrom, before, after, below_at, below_with, commute_key, first_with, from_less, from_with, length-with, order_pushed_from, order_with, pull_push, push_at, without_key_with}
 
--- all rows are after
+-- all rows are after the index
 pub push_all : {D : Type 0} (key : Row D → Option ℕ) (k at : ℕ) (rows : List (Row D)) → k ≤ at → map (pushed_back k) (pairs_from key at rows) ≡ pairs_from key (at + 1) rows
 push_all key k at [] least = refl
 push_all key k at (r ∷ rows) least =

@@ -1,4 +1,4 @@
--- How many types there are, told by the runs that stand for them, and the i-th of them.
+-- How many types there are, by the runs that stand for them, and the i-th of them.
 use Rattle.std.proofs.Common.{◌≡◌, refl, sym, ap, ◌∙◌, arith, ℕ, zero, suc, ◌+◌, ◌-◌, ◌<◌, ◌≤◌, List, [], ◌∷◌, ◌++◌, length, map, get_or, replicate, slice_get, Bool, true, false, not, ◌&&◌, Option, None, Some, bytes_eq, if◌then◌else◌}
 use Rattle.std.specs.Prelude.{nat_lt}
 use Rattle.std.proofs.lemmas.Bool.{lt-ltb}
@@ -61,7 +61,7 @@ other_is kind last = by (bytes_eq last.kind kind) (nat_lt 0 last.count) refl
     by true false is = refl
     by false false is = refl
 
--- how many types there are after the last run with rows, told by the next run
+-- how many types there are after the last run with rows, by the next run
 pub run_told : (last run next : TypeCount) (ks : List (List ℕ)) → kind_in next ≡ (if nat_lt 0 run.count then Some run.kind else kind_in last)
     → changes (kind_in last) (replicate run.count run.kind ++ ks) ≡ (if not (is_run_of run.kind last) && nat_lt 0 run.count then 1 else 0) + changes (kind_in next) ks
 run_told last run next ks after =

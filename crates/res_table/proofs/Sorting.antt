@@ -61,7 +61,7 @@ rises (p ∷ q ∷ ps) up = by (up 0 p (omega arith)) (rises (q ∷ ps) (λ k d 
     by : is_before q p ≡ false → AreInOrder (q ∷ ps) → AreInOrder (p ∷ q ∷ ps)
     by first rest = ((first, none_before_through p q ps first rest.0), rest)
 
--- as the pairs' own order tells
+-- as the pairs' own order says
 by_cmp : (g h a b : ℕ) → is_lt (ordering_then (nat_cmp g h) (nat_cmp a b)) ≡ false → (nat_lt g h || (g == h && nat_lt a b)) ≡ false
 by_cmp g h a b = by (nat_lt g h) (g == h) (nat_lt a b) (a == b)
   where

@@ -1,4 +1,4 @@
--- Whether a row is of a type, told by the keys of rows.
+-- Whether a row is of a type, by the keys of rows.
 use Rattle.std.proofs.Common.{◌≡◌, refl, sym, ap, ◌∙◌, subst, arith, ℕ, ◌+◌, ◌*◌, ◌<◌, ◌≤◌, pos, w16, List, [], ◌∷◌, length, get_or, drop, Bool, true, false, ◌||◌}
 use Rattle.std.specs.Prelude.{◌/◌, ◌%◌, All, nat_lt, if◌then◌else◌}
 use Rattle.std.specs.Int.{w32, cast_unsigned, from_be_bytes, to_be_bytes}
@@ -83,7 +83,7 @@ types_from kind first at (r ∷ rows) all start kinds =
     ∙ ap (λ (b : Bool). b || list_any (λ p. is_key_of first p.key) (pairs_from resource_key (at + 1) rows)) (type_by_key kind first r (All-head IsKept r rows all).0 start kinds)
     ∙ ap (λ (b : Bool). is_of_type kind r || b) (types_from kind first (at + 1) rows (All-tail IsKept r rows all) start kinds)
 
--- the first pair from the key on tells
+-- the first pair from the key on decides
 module _ {D : Type 0} (kind : List ℕ) (rows : List (Row D)) (ps rest : List Pair) (first : ℕ) (is : ps ≡ pairs_of resource_key rows) (all : All IsKept rows) (start : first ≡ key_of_resource kind (pos 0))
     (kinds : to_be_bytes w32 (first / 65536) ≡ kind) (left : rest ≡ drop (rank (record { key = first; place = 0 }) ps) ps) where
   by_rest : list_any (is_of_type kind) rows ≡ list_any (λ p. is_key_of first p.key) rest

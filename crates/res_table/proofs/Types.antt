@@ -1,4 +1,4 @@
--- How many types rows have, told by the runs that stand for them; and how many bytes their names take.
+-- How many types rows have, by the runs that stand for them; and how many bytes their names take.
 use Rattle.std.proofs.Common.{◌≡◌, refl, sym, ap, ◌∙◌, arith, ℕ, suc, ◌+◌, ◌<◌, List, [], ◌∷◌, length, get_or, set, remove, slice_get, Bool, true, false, not, None, Some, bytes_eq, if◌then◌else◌}
 use Rattle.std.specs.Option.{option_map_or}
 use Rattle.std.proofs.lemmas.List.Sums.{sum_by-set, sum_by-remove}

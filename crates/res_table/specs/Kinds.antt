@@ -49,7 +49,7 @@ abbrev pub are_types : Option (List ℕ) → List TypeCount → Bool
 are_types last [] = true
 are_types last (run ∷ runs) = (nat_lt 0 run.count && is_other last run.kind) && are_types (Some run.kind) runs
 
--- where those of some types are that are this one, where the first is here
+-- the indexes of those of some types that are this one, where the first is at `at`
 abbrev pub places_of : ℕ → List ℕ → List (List ℕ) → List ℕ
 places_of at kind [] = []
 places_of at kind (k ∷ ks) = if bytes_eq k kind then at ∷ places_of (at + 1) kind ks else places_of (at + 1) kind ks

@@ -48,7 +48,7 @@ abbrev pub latest_place : {D : Type 0} → (Row D → Bool) → List (OpenFile D
 latest_place test [] = None
 latest_place test (f ∷ fs) = option_or (latest_place test fs) (place_in test f)
 
--- how many files are up to the one of a number
+-- how many files there are up to the one of a number
 abbrev pub count_up_to : {D : Type 0} → List (OpenFile D) → ℕ → ℕ
 count_up_to files k = option_map_or (λ at. at + 1) (position (is_numbered k) files) 0
 

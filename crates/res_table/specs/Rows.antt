@@ -27,7 +27,7 @@ is_resource kind id r = is_of_type kind r && int_eq r.resource.id id
 abbrev pub is_changed : {D : Type 0} → Row D → Bool
 is_changed r = is_marked r.resource.attributes
 
--- the handle of a changed row, if it has one: an update takes the bytes after it
+-- the handle of a changed row, if it has one: an update takes its bytes
 abbrev pub changed_handle : {D : Type 0} → Row D → Option ℕ
 changed_handle r = if is_changed r then r.handle else None
 

@@ -94,8 +94,7 @@ impl<D> Chain<D> {
         self.files.iter().any(|file| file.number == number)
     }
 
-    /// Adds a file after the others and makes it the current one (OpenResFile). Without host memory nothing is
-    /// changed.
+    /// Adds a file after the others and makes it the current one (OpenResFile). Without host memory nothing is changed.
     pub fn open(&mut self, number: u8, table: ResourceTable<D>) -> Result<(), HostFull>
     where
         D: Drop,
@@ -146,8 +145,8 @@ impl<D> Chain<D> {
         None
     }
 
-    /// Where the first row of a type and a name is: in the current file, or else in the latest before it that has
-    /// one (GetNamedResource).
+    /// Where the first row of a type and a name is: in the current file, or else in the latest before it that has one
+    /// (GetNamedResource).
     pub fn find_named(&self, kind: ResType, name: &[u8]) -> Option<RowPlace>
         ensures { result ≡ place_of_name kind name.now self.now }
     {

@@ -81,7 +81,7 @@ fn count_within(distance: u64, count: usize) -> usize {
     ((distance >> 32).wrapping_mul(count as u64) >> 32) as usize
 }
 
-/// Where a pair should be, if the keys are spread evenly: as told by a pair that is near.
+/// Where a pair should be, if the keys are spread evenly: as a pair that is near says.
 fn guess(pairs: &[Pair], pair: Pair) -> usize
     ensures { result ≤ length pairs.now }
 {

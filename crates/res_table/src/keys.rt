@@ -37,7 +37,7 @@ pub fn key_of_resource(kind: ResType, id: i16) -> u64
     u64::from(number_of(kind)) * 65536 + u64::from(id.cast_unsigned())
 }
 
-/// Whether two types are the same, told by their numbers, which takes less time than byte by byte.
+/// Whether two types are the same, by their numbers, which takes less time than byte by byte.
 pub fn is_same_kind(first: ResType, second: ResType) -> bool
     ensures { result ≡ bytes_eq first second }
 {

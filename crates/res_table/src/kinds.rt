@@ -113,8 +113,7 @@ pub fn ith_type(types: &[TypeCount], i: usize) -> Option<ResType>
 #[derive(Drop)]
 pub struct Kinds {
     runs: Vec<TypeCount>,
-    /// It was seen that no run is of the type of the run before it: so it is while the rows of each type are
-    /// together.
+    /// It was seen that no run is of the type of the run before it: so it is while the rows of each type are together.
     seen: bool,
 }
 

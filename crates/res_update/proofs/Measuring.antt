@@ -1,4 +1,4 @@
--- Whether a fork holds rows, told by how many bytes they have.
+-- Whether a fork holds rows, by how many bytes they have.
 use Rattle.std.proofs.Common.{◌≡◌, refl, sym, ap, ◌∙◌, arith, ℕ, zero, suc, ◌+◌, ◌*◌, ◌<◌, ◌≤◌, List, [], ◌∷◌, ◌++◌, length, drop, slice_get, Option, None, Some, IfSome, Bool, true, false, ◌&&◌, if◌then◌else◌, bytes_eq}
 use Rattle.std.specs.Prelude.{nat_le}
 use Rattle.std.specs.List.{AllByRecursion}
@@ -34,7 +34,7 @@ past_none [] i is = omega arith
 past_none (x ∷ xs) zero is = absurd (cc is)
 past_none (x ∷ xs) (suc i) is = let past = past_none xs i is in omega (arith, past)
 
--- the same where so many bytes are told of the row at the index, whichever it is
+-- the same where the row at the index, whichever it is, has so many bytes
 pub data_told : (f : ℕ → Row Place → List ℕ) (rows : List (Row Place)) (i n : ℕ) → i < length rows → IfSome (slice_get rows i) (λ r. n ≡ length (f i r))
     → length (data_text (rows_with f i (drop i rows))) ≡ 4 + n + length (data_text (rows_with f (i + 1) (drop (i + 1) rows)))
 data_told f rows i n within told = by (slice_get rows i) refl told

@@ -1,4 +1,4 @@
--- A replacement whose faults are told as those of an update.
+-- A replacement whose faults are reported as those of an update.
 use Rattle.std.proofs.Common.{refl, ap, subst, ◌≡◌, List, ℕ, Ok, Err}
 use Rattle.std.specs.Prelude.{IsErrOf}
 use Rattle.fork_disk.specs.declared.store.ForkStore.{Ghosts}

@@ -1,4 +1,4 @@
--- Loads: the bytes of a row on the disk, put after a handle.
+-- Loads: the bytes of a row on the disk, put into the block of a handle.
 use Rattle.std.specs.Prelude.{ℕ, ◌==◌, Bool, true, not, ◌&&◌, ◌||◌, length, Option, Some, None, is_some, unwrap_or, if◌then◌else◌, Ok, Err, option_map, option_and_then}
 use Rattle.std.specs.Option.{option_map_or}
 use Rattle.mac_base.specs.declared.block.Flags.{Flags}

@@ -28,7 +28,7 @@ abbrev pub end_of_part : Bool → PartialEnd
 end_of_part true = InMemory
 end_of_part false = Done
 
--- So a call may end for as many bytes as there were before it, from an offset on, and leave these. It is told which
+-- So a call may end for as many bytes as there were before it, from an offset on, and leave these. It is given which
 -- devices are honest, what it is that none failed, or that of the file of a number, and whether the resource is in
 -- memory.
 module _ (honest : ℕ → Type 0) (worked : Type 0) (Failed : ℕ → Type 0) (in_memory : Bool) (at : ℕ) (before after : List ℕ) where

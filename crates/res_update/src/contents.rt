@@ -1,11 +1,11 @@
-//! The bytes after handles.
+//! The bytes of handles.
 
 ghost use Rattle.std.specs.Prelude.{◌≡◌, length, IsFalse};
 ghost use Rattle.mac_base.specs.HandleTable.{HandleTable, bytes_of, is_lent};
 
 use mac_base::handle::Handle;
 
-/// What gives the bytes after handles.
+/// What gives the bytes of handles.
 pub trait Contents {
     /// The handle table.
     ghost table: { Self → HandleTable };

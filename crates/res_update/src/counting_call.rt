@@ -1,8 +1,8 @@
-//! The calls that tell what all open files have together.
+//! The calls that say what all open files have together.
 
 use mac_base::resource::ResType;
 
-/// A call that tells what all open files have together, whichever is the current one. Scripts have none of these: their
+/// A call that says what all open files have together, whichever is the current one. Scripts have none of these: their
 /// calls of these names look in the current file alone (Inside Macintosh: More Macintosh Toolbox, chapter 1, "Counting
 /// and Listing Resource Types" and "Getting a Unique Resource ID").
 #[derive(Clone, Copy, Debug)]

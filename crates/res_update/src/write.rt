@@ -67,10 +67,10 @@ fn make_draft<C: Contents>(
 }
 
 /// Writes the fork of a table in which the selected rows have the bytes of their handles and all others those at their
-/// places in the old fork, and answers where the bytes of each row are then. All that the new fork keeps is read
-/// before the first write. TooBig comes exactly where no fork holds the table, and HostFull where the host has no
-/// memory for it; the device is not asked then. Where the rows of each type are together, the new fork stands for the
-/// table: it is read as it.
+/// places in the old fork, and returns where the bytes of each row are then. All that the new fork keeps is read before
+/// the first write. TooBig comes exactly where no fork holds the table, and HostFull where the host has no memory for
+/// it; the device is not asked then. Where the rows of each type are together, the new fork stands for the table: it is
+/// read as it.
 pub fn write_table<S: ForkStore, C: Contents>(
     alloc: Global,
     store: &mut S,

@@ -9,7 +9,7 @@ use Rattle.fork_words.specs.declared.work.Target.{Target}
 use Rattle.resfork.specs.declared.message.Problem.{Problem}
 use Rattle.resfork.specs.declared.message.Problem.TheVariants as problem
 
--- what is told of a file that isn't changed
+-- what is reported of a file that isn't changed
 abbrev pub IsToldOfChange : List ℕ → NotChanged → Problem → Type 0
 IsToldOfChange file (unchanged.Read failure) told = (why : Refusal) × IsToldOf file failure why × (told ≡ problem.Refused why)
 IsToldOfChange file (unchanged.Edit refusal) told = told ≡ problem.Edit refusal

@@ -23,7 +23,7 @@ use std::alloc::{AllocError, Global};
 enum Place {
     /// In the file.
     Inside,
-    /// In no file that is known: a resource fork is alone.
+    /// In no file that is known: there is a resource fork alone.
     Nowhere,
     /// In a file beside an AppleDouble file.
     Beside,
@@ -201,7 +201,7 @@ fn convert_file(
     write_converted(rt, asked, &new, &data)
 }
 
-/// Writes a file that is in its new container, and tells what of it is lost.
+/// Writes a file that is in its new container, and reports what of it is lost.
 fn write_converted(
     rt: &HostRuntime,
     asked: &Conversion<'_>,

@@ -76,7 +76,7 @@ fn is_titled(rt: &HostRuntime, files: &[&str], file: &str) -> bool {
     files.len() <= 1 || println!(rt; "{file}:").is_ok()
 }
 
-/// Shows something of each of these files, and tells why some aren't shown. The result is the highest status of them.
+/// Shows something of each of these files, and says why some aren't shown. The result is the highest status of them.
 fn show_all(rt: &HostRuntime, asked: &Showing<'_>) -> u8
     ensures { result ≤ CANT_GO_ON }
 {
@@ -135,7 +135,7 @@ fn write_answer<W: Write>(
     Ok(())
 }
 
-/// Reports on each of these files, and tells why of some nothing is told. The result is the highest status of them.
+/// Reports on each of these files, and says why of some nothing is reported. The result is the highest status of them.
 fn report_all(rt: &HostRuntime, asked: &Reporting<'_>) -> u8
     ensures { result ≤ CANT_GO_ON }
 {
@@ -151,7 +151,7 @@ fn report_all(rt: &HostRuntime, asked: &Reporting<'_>) -> u8
     status
 }
 
-/// Reports on the file of this name. The result is its status, or why nothing is told.
+/// Reports on the file of this name. The result is its status, or why nothing is reported.
 fn report_one(rt: &HostRuntime, report: &Report, file: &str) -> Result<u8, Problem>
     ensures { IfOk result (λ status. status ≤ NO_FORK) }
 {
@@ -162,7 +162,7 @@ fn report_one(rt: &HostRuntime, report: &Report, file: &str) -> Result<u8, Probl
     }
 }
 
-/// What is told of the file of this name.
+/// What is reported of the file of this name.
 fn report_file(rt: &HostRuntime, report: &Report, file: &str) -> Result<Told, Problem> {
     if let Report::List {
         kinds,
@@ -176,7 +176,7 @@ fn report_file(rt: &HostRuntime, report: &Report, file: &str) -> Result<Told, Pr
     Ok(report_on(rt.alloc(), report, file, &bytes)?)
 }
 
-/// Writes what is told of a file. The result is its status.
+/// Writes what is reported of a file. The result is its status.
 fn print_told(rt: &HostRuntime, told: &Told) -> Result<u8, Problem>
     ensures { IfOk result (λ status. status ≡ (if told.now.is_damaged then NO_FORK else DONE)) }
 {
@@ -184,7 +184,7 @@ fn print_told(rt: &HostRuntime, told: &Told) -> Result<u8, Problem>
     Ok(if told.is_damaged { NO_FORK } else { DONE })
 }
 
-/// Writes as JSON why nothing is told of a file, which is what is in the way then, unless the line isn't written.
+/// Writes as JSON why nothing is reported of a file, which is what is in the way then, unless the line isn't written.
 fn refused(rt: &HostRuntime, file: &str, problem: Problem) -> Problem {
     if let Ok(line) = refusal_line(rt, file, &problem)
         && let Err(unprinted) = write_text(rt, &line)
@@ -208,7 +208,7 @@ fn write_text(rt: &HostRuntime, text: &String) -> Result<(), Problem> {
         .map_err(Problem::Print)
 }
 
-/// The status of what was done with a file. A problem is told.
+/// The status of what was done with a file. A problem is reported.
 fn finish(rt: &HostRuntime, file: &str, done: Result<u8, Problem>) -> u8
     ensures status { result ≡ status_after done }
     ensures few { IfOk done (λ status. status ≤ CANT_GO_ON) → result ≤ CANT_GO_ON }
@@ -361,7 +361,7 @@ fn tell(rt: &HostRuntime, text: clap::Error) -> u8
     }
 }
 
-/// Tells that the words can't be read: they are no text, or the host has no memory for them. The result is the exit
+/// Says that the words can't be read: they are no text, or the host has no memory for them. The result is the exit
 /// status.
 fn tell_no_words(rt: &HostRuntime, error: &io::Error) -> u8
     ensures { result ≤ CANT_GO_ON }

@@ -1,4 +1,4 @@
-//! What is told on the standard error, and the exit statuses.
+//! What is printed on the standard error, and the exit statuses.
 
 ghost use Rattle.std.specs.Prelude.{◌≡◌};
 ghost use Rattle.resfork.specs.Problems.{IsToldOfChange, after_change};
@@ -252,7 +252,7 @@ impl Problem {
         }
     }
 
-    /// Whether nothing is told of it: whoever read the output has gone away.
+    /// Whether nothing is said of it: whoever read the output has gone away.
     fn is_silent(&self) -> bool {
         match self {
             Problem::Refused(Refusal::Show(Failure::Write(error))) | Problem::Print(error) => {
@@ -263,7 +263,7 @@ impl Problem {
     }
 }
 
-/// Tells why the file of this name isn't shown, or not all of it.
+/// Says why the file of this name isn't shown, or not all of it.
 pub fn tell_problem(rt: &HostRuntime, file: &str, problem: &Problem) {
     if problem.is_silent() {
         return;
@@ -284,25 +284,25 @@ pub fn tell_problem(rt: &HostRuntime, file: &str, problem: &Problem) {
     };
 }
 
-/// Tells a problem of the file of this name in its own words.
+/// Reports a problem of the file of this name in its own words.
 fn tell_words(rt: &HostRuntime, file: &str, problem: &Problem) -> io::Result<()> {
     eprintln!(rt; "{file}: {problem}")
 }
 
-/// Tells that the file of this name has no resource of this type.
+/// Says that the file of this name has no resource of this type.
 fn tell_no_kind(rt: &HostRuntime, file: &str, kind: ResType) -> io::Result<()> {
     let kind = KindText::new(Letters::Roman, kind);
     eprintln!(rt; "{file}: there is no resource of the type {kind}")
 }
 
-/// Tells that the file of this name has no resource of this type and id.
+/// Says that the file of this name has no resource of this type and id.
 fn tell_missing(rt: &HostRuntime, file: &str, what: ResourceId) -> io::Result<()> {
     let kind = KindText::new(Letters::Roman, what.kind);
     let id = what.id;
     eprintln!(rt; "{file}: there is no resource {kind} {id}")
 }
 
-/// Tells that the file of this name is an archive, and what opens it.
+/// Says that the file of this name is an archive, and what opens it.
 fn tell_archive(rt: &HostRuntime, file: &str, archive: Archive) -> io::Result<()> {
     let name = archive.name();
     match archive.command().split_once("FILE") {
@@ -313,7 +313,7 @@ fn tell_archive(rt: &HostRuntime, file: &str, archive: Archive) -> io::Result<()
     }
 }
 
-/// Tells why the words ask for nothing. The result is the exit status.
+/// Says why the words ask for nothing. The result is the exit status.
 pub fn tell_bad_words(rt: &HostRuntime, error: &NotAsked) -> u8
     ensures { result ≡ status_of_words error.now }
 {

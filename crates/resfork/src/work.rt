@@ -227,7 +227,7 @@ fn put_into(
     }
 }
 
-/// Whether there is a file of this name, or something is in the way of telling.
+/// Whether there is a file of this name, or something is in the way of finding out.
 fn is_there(rt: &HostRuntime, file: &str) -> bool {
     match fs::metadata(rt, file) {
         Err(error) => error.kind() != ErrorKind::NotFound,

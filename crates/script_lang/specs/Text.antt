@@ -90,7 +90,7 @@ flag_text flag letter = if flag then letter else 45
 abbrev pub flags_text : Flags → List ℕ
 flags_text flags = flag_text flags.lock 76 ∷ flag_text flags.purge 80 ∷ flag_text flags.resource 82 ∷ []
 
--- a block's kind, and what is told of its owner, which has so many bytes and these flags
+-- a block's kind, and what is printed of its owner, which has so many bytes and these flags
 abbrev pub kind_text : Kind → ℕ → Flags → List ℕ
 kind_text Free length flags = codes " free"
 kind_text Master length flags = codes " master"

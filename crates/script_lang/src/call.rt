@@ -46,7 +46,7 @@ fn getting(call: GettingCall) -> Call<'static>
     Call::Resource(ResourceCall::Getting(call))
 }
 
-/// A call that tells what the open files say.
+/// A call that returns what the open files say.
 fn looking(call: LookingCall) -> Call<'static>
     ensures { result ≡ Resource (Looking call) }
 {

@@ -67,7 +67,7 @@ module _ {S : Type 0} (store : Ghosts S) (start : Machine S) (input : List ℕ) 
       → Ends store start input WriteFault (concat whole ++ front) left
   reply_cut ran whole last front are same is = (WriteFault, ran.texts, (ran, refl, same), (whole, last, front, are, is, refl))
 
-  -- it was told that host memory ended
+  -- it was reported that host memory ended
   pub none_told : (replies : List (List ℕ)) (end : RunEnd) (written : List ℕ) → Makes store start input NoMemory (replies ++ no_memory_text ∷ []) left → Tells NoMemory no_memory_text end written
       → Ends store start input end (concat replies ++ written) left
   none_told replies end written makes (inl told) = subst (λ (e : RunEnd). Ends store start input e (concat replies ++ written) left) (sym told.0)
@@ -80,7 +80,7 @@ module _ {S : Type 0} (store : Ghosts S) (start : Machine S) (input : List ℕ) 
     pub none_at_start : (end : RunEnd) (written : List ℕ) → Tells NoMemory no_memory_text end written → Ends store start input end written left
     none_at_start end written told = none_told [] end written (inl (refl, same_forks store (stores_of start) left same)) told
 
-    -- it was told which line is none
+    -- it was reported which line is none
     fault_told : (line : ℕ) (wrong : Wrong) (end : RunEnd) (written : List ℕ) → IsFaultAt input line → Tells (ScriptFault line wrong) (fault_text line) end written ⊎ Tells NoMemory no_memory_text end written
         → Ends store start input end written left
     fault_told line wrong end written is (inl (inl told)) = subst (λ (e : RunEnd). Ends store start input e written left) (sym told.0)
@@ -89,7 +89,7 @@ module _ {S : Type 0} (store : Ghosts S) (start : Machine S) (input : List ℕ) 
         (ScriptFault line wrong, fault_text line ∷ [], (is, refl, same), ([], fault_text line, written, refl, cut.1, refl))
     fault_told line wrong end written is (inr told) = none_at_start end written told
 
-    -- it was told why there is no script
+    -- it was reported why there is no script
     pub no_script_told : (fault : NoScript) (end : RunEnd) (written : List ℕ) → IsNoScript input fault → TellsNoScript fault end written → Ends store start input end written left
     no_script_told (why.BadLine line wrong) end written is told = fault_told line wrong end written is told
     no_script_told why.HostFull end written is told = none_at_start end written told

@@ -32,12 +32,12 @@ passed_by (Err e) buffer = []
 abbrev pub RoseByOne : ℕ → ℕ → Type 0
 RoseByOne before now = now ≡ counted true before
 
--- a reader gave these bytes, so it has them no more where it tells its bytes
+-- a reader gave these bytes, so it has them no more where it says what it has
 pub record Gave {R : Type 0} (remaining : R → Option (List ℕ)) (old : Counting R) (given : List ℕ) (new : Counting R) : Type 0 where
   pub passed : new.passed ≡ old.passed ++ given
   pub bytes : Consumes (remaining old.inner) (remaining new.inner) given
 
--- a writer took these bytes, so it holds them where it tells its bytes
+-- a writer took these bytes, so it holds them where it says what it holds
 pub record Took {W : Type 0} (contents : W → Option (List ℕ)) (old : Counting W) (written : List ℕ) (new : Counting W) : Type 0 where
   pub passed : new.passed ≡ old.passed ++ written
   pub bytes : Appends (contents old.inner) (contents new.inner) written

@@ -1,4 +1,4 @@
--- What the lines of a script print, told of the calls that were made.
+-- What the lines of a script print, by the calls that were made.
 use Rattle.std.specs.Prelude.{◌≡◌, ℕ, List, [], ◌∷◌}
 use Rattle.mac_base.specs.ZoneSizes.{ArePossible, ZoneSizes}
 use Rattle.mac_base.specs.declared.call.Call.TheVariants.{Resource}

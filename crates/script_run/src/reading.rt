@@ -41,7 +41,7 @@ impl From<HostFull> for NoScript {
 
 /// All that the reader gives, in at most two reads more than a script may have bytes.
 pub fn read_script<R: Read>(alloc: Global, reader: &mut Counted<R>) -> Result<Vec<u8>, NoScript>
-    // The input is the bytes that the reader tells; of one that doesn't tell, those that it gave.
+    // The input is the bytes that the reader says it has; where it doesn't say, those that it gave.
     ensures read { (given : List ℕ) × Gave R.remaining reader.old given reader.new
         × Reads (unwrap_or (R.remaining reader.old.inner) given) result }
     ensures fault { IsErrOf result NoScript.ReadFault → RoseByOne reader.old.failures reader.new.failures }

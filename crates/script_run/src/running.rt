@@ -37,7 +37,7 @@ pub fn run<S: ForkStore, R: Read, W: Write>(
     stores: Vec<S>,
 ) -> (RunEnd, Vec<S>)
     requires { length stores.items ≤ most_files }
-    // The input is the bytes that the reader tells; of one that doesn't tell, those that it gave. What was written is
+    // The input is the bytes that the reader says it has; where it doesn't say, those that it gave. What was written is
     // what the input's lines print from a new zone on, as far as the run came, and the stores are as they left them.
     ensures ends { (given : List ℕ) × (written : List ℕ) × Gave R.remaining reader.old given reader.new × Took W.contents writer.old written writer.new
         × Ends S.ForkStore (start_of spec stores.items) (unwrap_or (R.remaining reader.old.inner) given) result.0 written result.1.items }

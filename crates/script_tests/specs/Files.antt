@@ -35,7 +35,7 @@ file_store world = record {
   ready_finds = λ store journalled. absurd journalled;
 }
 
--- A fork and its journal in two files of this world: both hold what it tells after the calls on them, and are honest
+-- A fork and its journal in two files of this world: both hold what it says after the calls on them, and are honest
 -- where the answers of these calls are those of such files.
 abbrev pub file_pair : {W : Type 0} (world : pair_world.Ghosts W) → pair_disk.Ghosts (FilePair W world)
 file_pair world = record {

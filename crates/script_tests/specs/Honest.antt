@@ -14,7 +14,7 @@ use Rattle.fork_journal.specs.declared.pair_world.PairWorld as pair_world
 use Rattle.fork_journal.specs.declared.pair_world.UnknownPair.{UnknownPair}
 use Rattle.script_tests.specs.Files.{file_pair, file_store}
 
--- The answers of these calls, the newest first, tell what a file holds that had these bytes before them and does what
+-- The answers of these calls, the newest first, say what a file holds that had these bytes before them and does what
 -- it answers.
 abbrev pub AreTold : List ℕ → List Event → Type 0
 AreTold first [] = ⊤
@@ -24,7 +24,7 @@ AreTold first (e ∷ past) = AreTold first past × Tells (call_of e) (number_of 
 abbrev pub faithful : (ℕ → List ℕ) → world_of.Ghosts Unknown
 faithful first = record { held = λ number. after (first number); may_leave = λ number. leaves (first number) }
 
--- in that world a file is honest after any calls whose answers tell what it holds
+-- in that world a file is honest after any calls whose answers say what it holds
 abbrev pub FilesCanBeHonest : Type 0
 FilesCanBeHonest = (first : ℕ → List ℕ) (store : PlainStore (FileDisk Unknown))
     → AreTold (first store.disk.number) store.disk.log.events → (file_store (faithful first)).is_honest store
@@ -35,12 +35,12 @@ both_after first [] = first
 both_after first (e ∷ past) = let old = both_after first past in
     with_side (side_in e) (stepped (call_of e) (number_of e) (is_done e) e.1 (side_of (side_in e) old)) old
 
--- a call tells a length or bytes, or it is a write that begins within the file, or a cut or a sync
+-- a call returns a length or bytes, or it is a write that begins within the file, or a cut or a sync
 abbrev pub TellsOf : ℕ → ℕ → Bool → List ℕ → List ℕ → Type 0
 TellsOf (suc (suc zero)) at ok bytes old = at ≤ length old
 TellsOf other n ok bytes old = Tells other n ok bytes old
 
--- the answers of these calls tell what two files hold that had these bytes before them
+-- the answers of these calls say what two files hold that had these bytes before them
 abbrev pub AreBothTold : Contents → List Event → Type 0
 AreBothTold first [] = ⊤
 AreBothTold first (e ∷ past) = AreBothTold first past
@@ -50,7 +50,7 @@ AreBothTold first (e ∷ past) = AreBothTold first past
 abbrev pub faithful_pairs : (ℕ → Contents) → pair_world.Ghosts UnknownPair
 faithful_pairs first = record { held = λ number. both_after (first number) }
 
--- in that world a fork and its journal are honest after any calls whose answers tell what they hold
+-- in that world a fork and its journal are honest after any calls whose answers say what they hold
 abbrev pub PairsCanBeHonest : Type 0
 PairsCanBeHonest = (first : ℕ → Contents) (files : FilePair UnknownPair (faithful_pairs first))
     → AreBothTold (first files.number) files.log.events → (file_pair (faithful_pairs first)).is_honest files

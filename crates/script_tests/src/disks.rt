@@ -18,8 +18,8 @@ GetHandleSize h
 CurResFile
 ";
 
-/// Numbers of calls, up to which they fail from the first one on, in the next words the fork that is then; and what
-/// is printed. The last row is after all calls.
+/// Numbers of calls, up to which they fail from the first one on, in the next words the fork that is there then; and
+/// what is printed. The last row is after all calls.
 const RUNS: &str = "\
 1 6 old
 0 OpenResFile -36

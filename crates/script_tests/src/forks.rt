@@ -42,7 +42,7 @@ pub fn two_rows(alloc: Global) -> Result<Vec<u8>, AllocError> {
     )
 }
 
-/// A journal with this gate, that tells 312 bytes, and with these after it.
+/// A journal with this gate, that says 312 bytes, and with these after it.
 pub fn journal_of(alloc: Global, gate: u8, bytes: &[u8]) -> Result<Vec<u8>, AllocError> {
     let mut journal = vec![in alloc; gate, 0, 0, 1, 0x38]?;
     journal.extend_from_slice(bytes)?;

@@ -24,7 +24,7 @@ fn has(place: &MemPlace, bytes: &[u8], mode: u32) -> bool {
     }
 }
 
-/// Replaces a file where a call fails, and tells at which step.
+/// Replaces a file where a call fails, and returns at which step.
 fn replaced<R: Abort>(rt: &R, mut place: MemPlace) -> (MemPlace, Option<Step>)
     requires { place.beside ≡ None }
 {

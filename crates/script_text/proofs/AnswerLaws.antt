@@ -63,7 +63,7 @@ calling_fails names tokens calls name operand after c none all h = no_more after
     no_more (mark ∷ token ∷ tokens) [] h = absurd h
     no_more (mark ∷ token ∷ tokens) (written ∷ more) h = none written h.0
 
--- what may not are after a call
+-- what may not be after a call
 pub calling_halts : (names : List (List ℕ)) (tokens : List Token) (calls : List WrittenCall) (name operand : Token) (after : List Token) → Calling names tokens (name ∷ operand ∷ after) calls → ¬ MayFollow after → (all : List WrittenCall) → ¬ AreCalls names tokens all
 calling_halts names tokens calls name operand after c none all h = no_more after (c.back all h).0 none (c.back all h).2
   where

@@ -12,14 +12,14 @@ Says number names [] None = number ≤ max_lines
 Says number names (token ∷ tokens) (Some line) = IsLine number names (token ∷ tokens) line
 Says number names tokens found = ⊥
 
--- what a text says, and the names that have been assigned after it
+-- what a text says, and the names that are assigned when it ends
 pub record Reads (number : ℕ) (names : List (List ℕ)) (text : List ℕ) (found : Option Line) (after : List (List ℕ)) : Type 0 where
   pub tokens : List Token
   pub are : AreTokens text tokens
   pub says : Says number names tokens found
   pub named : after ≡ names_after names tokens
 
--- what a text says is after the lines before it
+-- what a text says follows the lines before it
 abbrev pub Adds : ℕ → List (List ℕ) → List ℕ → List Line → List (List ℕ) → List Line → Type 0
 Adds number names text script after longer = (found : Option Line) × Reads number names text found after × (longer ≡ script ++ option_to_list found)
 

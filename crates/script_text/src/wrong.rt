@@ -65,7 +65,7 @@ pub enum Wrong {
     /// There are more words and marks than any line has.
     #[error("the line has more words than any call takes")]
     TooManyWords,
-    /// No word is where the name of a call is wanted.
+    /// There is no word where the name of a call is wanted.
     #[error("a line is a call, as `ZoneMap` or `h = NewHandle 100`, or begins with `gz`")]
     NoCall,
     /// There is no call of this name.

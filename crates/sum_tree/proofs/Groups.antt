@@ -1,4 +1,4 @@
--- A group of a row, and what a search in the row above it tells of it.
+-- A group of a row, and what a search in the row above it says of it.
 use Rattle.std.proofs.Common.{◌≡◌, ℕ, ◌+◌, ◌*◌, Bool, IsTrue, List, get_or, sym, ap, ◌∙◌, arith, subst}
 use Rattle.sum_tree.specs.Monoids.{MonoidLaws, sum_of}
 use Rattle.sum_tree.specs.Rows.{IsOver, IsFirst}

@@ -111,8 +111,8 @@ pub record Headline (honest : ℕ → Type 0) (start : Tools) (calls : List Call
   -- Each row of an open file has the bytes that its fork has, and a load puts these (`IsActOf`).
   pub rows : (first later : List Called) → calls ≡ first ++ later → ReadOffForks honest (tools_after start first).resources
 
--- So it is for each list of calls from a new zone on, whatever is on the disks, where no file is open, and this
--- says of which files the devices are honest.
+-- So it is for each list of calls from a new zone on, whatever is on the disks, where no file is open, and this says of
+-- which files the devices are honest.
 abbrev pub ToolsShow : (ℕ → Type 0) → Type 0
 ToolsShow honest = (z : ZoneSizes) (start : Tools) (calls : List Called) → ArePossible z → start.resources.shape ≡ shape_of z → moment_of start ≡ new_zone z
     → start.resources.files ≡ no_files → IsToolRun honest start calls → Headline honest start calls

@@ -20,7 +20,7 @@ use Rattle.zone_index.specs.Weights.{in_order, weights}
 use Rattle.zone_index.proofs.SomeBytes.{all_both, some_bytes}
 use Rattle.zone_heap.proofs.Pressing.{free-push_free, used-push_free}
 
--- blocks in use, after which a free one is, or none
+-- blocks in use, then a free one or none
 abbrev Ends : Bool → ZoneMap → Type 0
 Ends false run = none_free run ≡ true
 Ends true run = (used : ZoneMap) × (e : Entry) × (run ≡ used ++ e ∷ []) × (none_free used ≡ true) × (is_free e.kind ≡ true) × (0 < e.size)

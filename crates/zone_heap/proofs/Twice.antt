@@ -22,7 +22,7 @@ tie k x h = grind (arith, nat_tests)
 put-front : (k : ℕ) (v w : Live) (es : List (ℕ × Live)) (x : ℕ) → nat_cmp k x ≡ Equal → put nat_cmp k v ((x, w) ∷ es) ≡ (x, v) ∷ es
 put-front k v w es x h = ap (λ o. by_order o ((k, v) ∷ (x, w) ∷ es) ((x, v) ∷ es) ((x, w) ∷ put nat_cmp k v es)) h
 
--- the second value is
+-- the second value stays
 put-put : (k : ℕ) (v w : Live) (es : List (ℕ × Live)) → put nat_cmp k v (put nat_cmp k w es) ≡ put nat_cmp k v es
 put-put k v w [] = put-front k v w [] k (same k)
 put-put k v w (e ∷ es) =

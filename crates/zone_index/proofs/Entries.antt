@@ -66,7 +66,7 @@ split-none z at s h above =
     let end = split-end z at s in
     no_bytes z.shape s.after (all_parts _ s.before s.after (ap (sizes_possible z.shape) (sym s.map) ∙ h)).1 (omega arith)
 
--- or at the end that is told of it
+-- or at the end that is reported of it
 pub read_within : (z : ZoneState) (at : ℕ) (e : EntryAt z at) (read : Entry) (told : ZoneSizes) → read ≡ e.here → told ≡ sizes_of z → at + read.size ≤ told.base + told.size
 read_within z at e read told same sizes =
     let long = ap (λ (e : Entry). e.size) same in
@@ -75,7 +75,7 @@ read_within z at e read told same sizes =
     let base = ap (λ (s : ZoneSizes). s.base) sizes in
     omega arith
 
--- where a zone begins and ends by the numbers that are told of it
+-- where a zone begins and ends by the numbers that are reported of it
 pub record Told (z : ZoneState) (base size : ℕ) : Type 0 where
   pub begins : base ≡ z.shape.base
   pub ends : base + size ≡ address_after z.shape z.heap.map

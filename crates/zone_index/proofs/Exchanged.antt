@@ -122,7 +122,7 @@ module _ (z : ZoneState) (marks : List ℕ) (are : AreMarked may_go z marks) whe
 
 -- runs of which no block is fixed
 module _ (z : ZoneState) (marks : List ℕ) (are : AreMarked is_fixed z marks) where
-  -- a block is after one
+  -- a block goes after others
   pub carried-marked : (start end : ℕ) (parcel : ParcelAt z start end) → none_fixed z.heap.table (parcel.here ∷ parcel.blocks) ≡ true → AreMarked is_fixed (carried_up z parcel) marks
   carried-marked start end parcel loose =
       let t = z.heap.table in

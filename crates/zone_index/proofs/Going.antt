@@ -16,7 +16,7 @@ use Rattle.zone_index.specs.Search.{NextPassing, NonePassing}
 use Rattle.zone_index.proofs.Passing.{HasPassing, none_passing, of-passing, passing-back, passing-below, passing-found, passing-front, passing-split, to-passing}
 use Rattle.zone_index.proofs.Sizes.{all_parts}
 
--- where none is none passes
+-- where there is none, none passes
 none-stands : (p : Kind → Bool) (m : ZoneMap) → ((n : ℕ) → HasPassing p m n → ⊥) → none_passing p m ≡ true
 none-stands p [] none = refl
 none-stands p (e ∷ es) none = and_from _ _ (first (p e.kind) refl) (none-stands p es (λ n h. none (e.size + n) (inr (n, refl, h))))
@@ -39,7 +39,7 @@ module _ (z : ZoneState) (sizes : HasSizes z) (from : ℕ) (split : SplitAt z fr
   possible : (sizes_possible z.shape split.before ≡ true) × (sizes_possible z.shape split.after ≡ true)
   possible = all_parts _ split.before split.after (ap (sizes_possible z.shape) (sym split.map) ∙ sizes)
 
-  -- one from the address on is after
+  -- one from the address on is among those after
   after-from : (at : ℕ) → PassesAt may_go z at → from ≤ at → (k : ℕ) × (at ≡ from + k) × HasPassing p split.after k
   after-from at f up =
       let n = of-passing may_go z at f in
@@ -50,7 +50,7 @@ module _ (z : ZoneState) (sizes : HasSizes z) (from : ℕ) (split : SplitAt z fr
         | inr high ↦ (high.0, (let further = high.1 in omega arith), high.2)
       ]
 
-  -- and one after there
+  -- and one among those after is there
   from-after : (k : ℕ) → HasPassing p split.after k → PassesAt may_go z (from + k)
   from-after k h =
       let here = split.place in

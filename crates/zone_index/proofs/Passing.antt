@@ -108,7 +108,7 @@ first-only p s e es sizes h = elim h [
   | inr later ↦ let some = first_bytes s e es sizes in let place = later.1 in absurd (omega arith)
 ]
 
--- so where a block is it is the one that passes
+-- so where a block is, it is the one that passes
 pub passing-only : (p : Kind → Bool) (s : Shape) (a : ZoneMap) (e : Entry) (b : ZoneMap) → sizes_possible s (a ++ e ∷ b) ≡ true → HasPassing p (a ++ e ∷ b) (total_size a) → p e.kind ≡ true
 passing-only p s [] e b sizes h = first-only p s e b sizes h
 passing-only p s (f ∷ a) e b sizes h = elim h [
@@ -128,7 +128,7 @@ passing-below p s (e ∷ es) n sizes h =
       | inr later ↦ let place = later.1 in let rest = passing-below p s es later.0 (and_parts (is_block_size s e.size) _ sizes).1 later.2 in omega arith
     ]
 
--- so the block that passes where one is is that
+-- so the block that passes where one is, is that one
 pub passes-only : (test : HandleTable → Kind → Bool) (z : ZoneState) → IsTrue (sizes_possible z.shape z.heap.map) → {at : ℕ} (e : EntryAt z at) → PassesAt test z at → test z.heap.table (e.here).kind ≡ true
 passes-only test z sizes {at} e f =
     let p = test z.heap.table in

@@ -25,7 +25,7 @@ pub record Rule : Type 0 where
   pub empty : live (Some EmptyHandle) ≡ false
   pub rewritten : (bytes : List ℕ) (l : Option Live) → live (Some (refilled bytes l)) ≡ live l
 
--- what is told of a number whatever its bytes are is told once they are others
+-- what is said of a number whatever its bytes are is said once they are others
 pub told_refilled : (told : Option Live → Bool) → told (Some EmptyHandle) ≡ told None → ((flags : Flags) (a b : List ℕ) → told (Some (FullHandle flags a)) ≡ told (Some (FullHandle flags b))) → ((a b : List ℕ) → told (Some (Pointer a)) ≡ told (Some (Pointer b)))
     → (bytes : List ℕ) (l : Option Live) → told (Some (refilled bytes l)) ≡ told l
 told_refilled told none full pointer bytes (Some (FullHandle flags old)) = full flags bytes old

@@ -66,7 +66,7 @@ module _ (test : HandleTable → Kind → Bool) (z : ZoneState) (marks : List �
     first = λ other g up. let least = ahead-least from p found a first other g up in let there = marked-back other g in omega (arith, least, there);
   }
 
-  -- where none is the search goes on
+  -- where there is none, the search goes on
   pub next-ahead : (from p found : ℕ) → Ahead test z from p → FirstAtLeast marks 1 p found → (PassesAt test z (z.shape.base + 4 * found) → ⊥) → Ahead test z from (found + 1)
   next-ahead from p found a first none = record {
     above = omega (arith, a.above, first.inside.0);

@@ -44,7 +44,7 @@ shown t x at (e ∷ es) b h = elim (at == x) as (λ c. (at == x) ≡ c → cond 
       record { before = e ∷ rest.before; after = rest.after; map = ap (λ m. e ∷ m) rest.map; place = omega arith; flags = rest.flags }
 ] refl h
 
--- where none is reported none is
+-- where none is reported, there is none
 pub none-shown : (t : HandleTable) (x at : ℕ) (before : ZoneMap) (e : Entry) (after : ZoneMap) → reported t x at (before ++ e ∷ after) ≡ None → x ≡ at + total_size before → ⊥
 none-shown t x at [] e after h place =
     let here : (at == x) ≡ true = grind (arith, nat_tests) in

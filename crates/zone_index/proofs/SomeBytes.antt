@@ -1,4 +1,4 @@
--- Blocks have bytes, so addresses tell them apart.
+-- Blocks have bytes, so addresses distinguish them.
 use Rattle.std.proofs.Common.{◌≡◌, ℕ, ◌+◌, ◌<◌, Bool, true, [], ◌∷◌, ◌++◌, refl, ◌∙◌, arith}
 use Rattle.std.specs.Prelude.{◌&&◌, ◌==◌, ◌%◌, nat_le}
 use Rattle.std.specs.List.{list_all}

@@ -81,7 +81,7 @@ module _ (test : HandleTable → Kind → Bool) (z : ZoneState) (marks new : Lis
   abbrev p : Kind → Bool
   p = test z.heap.table
 
-  -- a block after those that was after it
+  -- a block after those that were after it
   pub carried-turned : (start end : ℕ) (parcel : ParcelAt z start end) → (first step n : ℕ) → first ≡ place z.shape start → step ≡ (parcel.here).size / 4 → n ≡ total_size parcel.blocks / 4 → IsCarried marks new first step n → AreMarked test (carried_up z parcel) new
   carried-turned start end parcel first step n is_first is_step is_n carried = record { places = c.places ∙ are.places; marked = marked }
     where
@@ -109,7 +109,7 @@ module _ (test : HandleTable → Kind → Bool) (z : ZoneState) (marks new : Lis
       begins : start ≡ address_after z.shape [] + low
       begins = let here = parcel.place in omega arith
 
-      -- where one passes in the old map its mark is
+      -- where one passes in the old map is its mark
       old : (n at : ℕ) → at ≡ address_after z.shape [] + n → HasPassing p (parcel.before ++ (parcel.here ∷ parcel.blocks ++ parcel.after)) n → 1 ≤ slice_index marks (place z.shape at)
       old n at there h = marked-at n at there (subst (λ m. HasPassing p m n) (sym parcel.map) h)
 
@@ -146,7 +146,7 @@ module _ (test : HandleTable → Kind → Bool) (z : ZoneState) (marks new : Lis
             | inr up ↦ upper at n.0 up.0 n.1 up.1 up.2
           ]
 
-  -- a block before those that was before it
+  -- a block before those that were before it
   pub sunk-turned : (start at : ℕ) (parcel : ParcelUpTo z start at) → (first step n : ℕ) → first ≡ place z.shape start → step ≡ (parcel.here).size / 4 → n ≡ total_size parcel.blocks / 4 → IsSunk marks new first step n → AreMarked test (sunk z parcel) new
   sunk-turned start end parcel first step n is_first is_step is_n carried = record { places = c.places ∙ are.places; marked = marked }
     where

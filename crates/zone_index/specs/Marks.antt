@@ -16,7 +16,7 @@ pub record PassesAt (test : HandleTable → Kind → Bool) (z : ZoneState) (at :
   pub entry : EntryAt z at
   pub passes : IsTrue (test z.heap.table (entry.here).kind)
 
--- a fixed block's does
+-- a fixed block's is
 abbrev pub FixedAt : ZoneState → ℕ → Type 0
 FixedAt = PassesAt is_fixed
 

@@ -45,7 +45,7 @@ pub(crate) fn mark_blocks(zone: &LinkedZone, marks: &mut Bits, purgeable: &mut B
     }
 }
 
-/// Whether a mark is from one place on up to another.
+/// Whether there is a mark from one place on up to another.
 fn any_marked(marks: &Bits, first: usize, end: usize) -> bool
     requires { end ≤ length marks.now }
     ensures { IsFalse result → (j : ℕ) → first ≤ j → j < end → slice_index marks.now j ≡ 0 }

@@ -8,7 +8,7 @@ use crate::weight::Weight;
 /// What is found after neighbouring blocks.
 #[derive(Clone, Copy)]
 pub struct Passed {
-    /// Whether none of them can be moved down: right after each free one is a fixed one, if one does.
+    /// Whether none of them can be moved down: right after each free one is a fixed one, or none.
     pub arranged: bool,
     /// Whether the last of them is free.
     pub free: bool,

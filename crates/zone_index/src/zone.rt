@@ -22,7 +22,7 @@ use sum_tree::{Span, StaleTree};
 pub struct IndexedZone {
     pub(crate) zone: LinkedZone,
     /// A mark at each fixed block: master blocks, nonrelocatable blocks and those of locked handles. There is room for
-    /// one at each four bytes of the zone. One may be where no fixed block does.
+    /// one at each four bytes of the zone. One may be where no fixed block is.
     pub(crate) marks: Bits,
     /// The same of the blocks that may be purged.
     pub(crate) purgeable: Bits,

@@ -1,4 +1,4 @@
--- A step of a call: it may be made, leaves a sound heap, and tells where contents are.
+-- A step of a call: it may be made, leaves a sound heap, and says where contents are.
 use Rattle.std.proofs.Common.{◌≡◌, ℕ, true, length, List, Option, Some, None, Ok, ap, sym, subst, ◌∙◌}
 use Rattle.mac_base.specs.declared.releasing.ReleasingCall.{ReleasingCall}
 use Rattle.mac_base.specs.declared.releasing.ReleasingCall.TheVariants.{DisposesHandle, DisposesPtr, Empties}
@@ -35,7 +35,7 @@ step-may s old call asks outcome new sound is = subst (λ (e : StepEnd). MemoryS
 pub step-sound : (s : Shape) (old : Heap) (call : MemoryCall) (asks : List Ask) (outcome : Outcome) (new : Heap) → Sound s old → IsExactStep s old call asks outcome new → Sound s new
 step-sound s old call asks outcome new sound is = subst (λ (e : StepEnd). Sound s e.heap) is (sound-exact_step s (answers_in asks) old call sound)
 
--- bytes and flags put after a handle that has as many bytes
+-- bytes and flags given to a handle that has as many bytes
 pub sound-filled : (s : Shape) (heap : Heap) (h : ℕ) (flags : Flags) (bytes : List ℕ) → Sound s heap → is_full heap.table h ≡ true → length bytes ≡ length (bytes_of heap.table h) → Sound s (with_table (with_live h (FullHandle flags bytes) heap.table) heap)
 sound-filled s heap h flags bytes sound full long =
     let l = FullHandle flags bytes in

@@ -87,7 +87,7 @@ is_kind-same (Rel h) Master is = absurd (cc is)
 is_kind-same (Rel h) (Ptr q) is = absurd (cc is)
 is_kind-same (Rel h) (Rel g) is = ap Rel (eqb-true h g is)
 
--- two kinds that a test tells apart
+-- two kinds that a test distinguishes
 pub other_kind : (k l : Kind) (q : Kind → Bool) (c : Bool) → q k ≡ not c → q l ≡ c → is_kind k l ≡ false
 other_kind k l q c here there = false_from_ne_true (is_kind k l) (λ is. let same = ap q (is_kind-same k l is) in apart c (sym there ∙ sym same ∙ here))
   where

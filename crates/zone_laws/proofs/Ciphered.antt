@@ -48,7 +48,7 @@ module _ (cipher : ℕ → ℕ) where
       by_test Equal rest = refl
       by_test Greater rest = ap (λ es. (e.0, live_ciphered cipher e.1) ∷ es) rest
 
-  -- ---- what the table tells of x
+  -- ---- what the table says of x
 
   at-ciphered : (t : HandleTable) (x : ℕ) → live_at (table_ciphered cipher t) x ≡ option_map (live_ciphered cipher) (live_at t x)
   at-ciphered t x = find-ciphered x t.live

@@ -181,7 +181,7 @@ module _ (s : Shape) (old : Heap) (last : LastSet) (has : HasFlags old.table las
       )
   ended-flags call outcome new (quiet makes passed q) = (quiet-flags call outcome new makes passed q, quiet-tells call outcome new passed q)
 
--- a call sets the flags last set, and tells them
+-- a call sets the flags last set, and gives them
 pub step-flags : (s : Shape) (old : Heap) (call : MemoryCall) (asks : List Ask) (outcome : Outcome) (new : Heap) (last : LastSet) → MemoryStep s old call asks outcome new → HasFlags old.table last
     → HasFlags new.table (set_by call outcome last) × TellsFlags call outcome last
 step-flags s old call asks outcome new last step has = ended-flags s old last has call outcome new (step-ended s old call asks outcome new step)

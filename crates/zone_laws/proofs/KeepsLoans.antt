@@ -41,7 +41,7 @@ contents-pointer s t m p suits live =
     ap (λ found. slice_index (map (λ a. a + head_size s.heads) found) 0) (named_only p (is_handle_block p) (is_pointer_block p) (no_handle p) (address_after s []) m (no_handle_block s t m suits p (pointer_no_handle t p live).1))
     ∙ ap (λ found. slice_index found 0) (suits.coherent.pointers p ∙ ap (λ b. cond b (p ∷ []) []) live)
 
--- and a handle's block is where its number does
+-- and a handle's block is where its number's is
 pub addresses-handle : (s : Shape) (t : HandleTable) (m : ZoneMap) (h : ℕ) → Suits s t m → is_handle t h ≡ true → addresses s (is_named h) m ≡ addresses s (is_handle_block h) m
 addresses-handle s t m h suits live = named_only h (is_pointer_block h) (is_handle_block h) (no_pointer h) (address_after s []) m (no_pointer_block s t m suits h (handle_no_pointer t h live))
 

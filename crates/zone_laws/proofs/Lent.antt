@@ -63,7 +63,7 @@ block-owner s t m x suits block = elim (list_any (λ y. y == x) (owners m)) as (
 pub lent-filtered : (p : ℕ → Bool) (x : ℕ) (xs : List ℕ) → list_any (λ y. y == x) (filter p xs) ≡ (p x && list_any (λ y. y == x) xs)
 lent-filtered p x xs = any-filter_same (λ y. y == x) p (p x) (λ y same. ap p (eqb-true y x same)) xs
 
--- where a block of x is in the new map as in the old one, its contents do
+-- where a block of x is in the new map as in the old one, its contents are too
 pub contents_of-same : (s : Shape) (x : ℕ) (old new : ZoneMap) → addresses s (is_named x) new ≡ addresses s (is_named x) old → contents_of s x new ≡ contents_of s x old
 contents_of-same s x old new same = ap (λ found. slice_index (map (λ a. a + head_size s.heads) found) 0) same
 

@@ -160,7 +160,7 @@ module _ (s : Shape) (held : Moment) (last : LastPut) (inv : LoansHeld held) (sh
       let keeps = subst (λ (e : StepEnd). KeepsLent s held.heap e.heap) does (lent-exact_step s (answers_in asks) held.heap call sound inv.fixed) in
       record { lent = keeps.lent; fixed = fixed-kept s held.heap new keeps inv.fixed; long = keeps.long }
 
-  -- what an act tells
+  -- what an act reports
   long-seen : (x : ℕ) → length (seen x) ≡ length (last x)
   unfolding seen
   long-seen x = by_lent (is_lent held.heap.table x) refl
@@ -416,7 +416,7 @@ module _ (s : Shape) (old new : Moment) (last : LastPut) (sound : Sound s old.he
       let told : r ≡ results.Bytes (take n (drop from (held_bytes x old.loans))) = cc step.0 in
       told ∙ ap (λ b. results.Bytes (take n (drop from b))) (held-last_put s old last held shows x (passed-IsLent s old last held shows x (test_2 s old.heap (IsBlock x) (IsLent x) (IsWithin x from n ∷ []) is)))
 
-  -- its reply tells the bytes last put, the flags last set, and where contents are
+  -- its reply gives the bytes last put, the flags last set, and where contents are
   pub act-tells : (set : LastSet) → HasFlags old.heap.table set → (act : Act) → Does s act old new → ActTells s old act last set
   act-tells set has (Calls call asks outcome) does =
       let may = step-may s old.heap call asks outcome new.heap sound does.0 in

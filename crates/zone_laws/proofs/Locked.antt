@@ -161,7 +161,7 @@ module _ (s : Shape) (answers : List Answer) (heap : Heap) (call : MemoryCall) (
 pub locked-exact_step : (s : Shape) (answers : List Answer) (heap : Heap) (call : MemoryCall) → Sound s heap → LockedStand s heap (exact_step s answers heap call).heap
 locked-exact_step s answers heap call sound = unless-stand s answers heap call sound (refusal s heap call) refl
 
--- the contents of a handle are where its block does
+-- the contents of a handle are where its block is
 pub stand-contents : (s : Shape) (old new : Heap) (h : ℕ) → Sound s old → Sound s new → is_locked old.table h ≡ true → is_locked new.table h ≡ true → addresses s (is_handle_block h) new.map ≡ addresses s (is_handle_block h) old.map
     → contents_of s h new.map ≡ contents_of s h old.map
 stand-contents s old new h sound after was locked stands =

@@ -264,7 +264,7 @@ kept_after_answers = refl
 kept_by_growth : outcomes_to zone (new_heap zone 1024) (NewHandle 500 ∷ HPurge h1 ∷ NewHandle 1000 ∷ GetHandleSize h1 ∷ []) ≡ handle h1 ∷ done ∷ handle h2 ∷ number 500 ∷ []
 kept_by_growth = refl
 
--- the master block that no room was left after for is in front, and all blocks above it
+-- the master block after which no room was left is in front, and all blocks above it
 master_block_first : (heap_after zone fresh (sixty_three ++ NewHandle 2752 ∷ NewHandle 0 ∷ NewEmptyHandle ∷ [])).free_slots ≡ slots_from 63 0x0010_0148
 master_block_first = refl
 

@@ -213,9 +213,9 @@ module _ (s : Shape) (old : Heap) (last : LastPut) (shows : TableShows old.table
   quiet-shows (memory_call.HandAndHand a b) outcome new none is q = absurd (cc none)
   quiet-shows call outcome new none is q = ends call outcome _ new q.1 (shows-same old.table new.table last q.0.table shows)
 
-  -- ---- what is told
+  -- ---- what is reported
 
-  -- no request's outcome tells of bytes
+  -- no request's outcome is about bytes
   request-tells : (call : MemoryCall) (r : Request) (outcome : Outcome) → request_of old.table call ≡ Some r → Tells call outcome last
   request-tells (memory_call.Peek x at n) r outcome is = absurd (cc is)
   request-tells (memory_call.GetHandleSize h) r outcome is = absurd (cc is)
@@ -247,6 +247,6 @@ module _ (s : Shape) (old : Heap) (last : LastPut) (shows : TableShows old.table
       (ends call outcome _ new is (showing x mid new.table granted copied), request-tells call r outcome makes)
   ended-shows call outcome new (quiet makes passed q) = (quiet-shows call outcome new makes passed q, quiet-tells call outcome new passed q)
 
--- a call shows what was last put, and tells of it
+-- a call shows what was last put, and reports it
 pub step-shows : (s : Shape) (old : Heap) (call : MemoryCall) (asks : List Ask) (outcome : Outcome) (new : Heap) (last : LastPut) → MemoryStep s old call asks outcome new → TableShows old.table last → TableShows new.table (put_by call outcome last) × Tells call outcome last
 step-shows s old call asks outcome new last step shows = ended-shows s old last shows call outcome new (step-ended s old call asks outcome new step)

@@ -76,7 +76,7 @@ abbrev pub done_ciphered : (ℕ → ℕ) → List Done → List Done
 done_ciphered cipher acts = map (λ (done : Done). record { act = act_ciphered cipher done.act; left = moment_ciphered cipher done.left }) acts
 
 -- A call on a heap in a cipher ends as it does, in the cipher. The cipher keeps 0, since new room is filled with zeros.
--- So where each byte ends up doesn't depend on the bytes: if all are numbered, the numbers tell where each came from.
+-- So where each byte ends up doesn't depend on the bytes: if all are numbered, the numbers say where each came from.
 abbrev pub MovesContents : Type 0
 MovesContents = (cipher : ℕ → ℕ) → cipher 0 ≡ 0 → (s : Shape) (answers : List Answer) (heap : Heap) (call : MemoryCall)
     → exact_step s answers (heap_ciphered cipher heap) (call_ciphered cipher call) ≡ end_ciphered cipher (exact_step s answers heap call)

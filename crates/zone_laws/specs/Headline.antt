@@ -20,7 +20,7 @@ use Rattle.zone_laws.specs.Course.{MayBeFull, MayLose}
 use Rattle.zone_laws.specs.LastPut.{LastPut, Tells, put_in}
 use Rattle.zone_laws.specs.LastSet.{HasFlags, LastSet, TellsFlags, set_in}
 
--- the bytes after x: its holder has them while it is lent
+-- the bytes of x: its holder has them while it is lent
 abbrev pub bytes_after : Moment → ℕ → List ℕ
 bytes_after at x = if is_lent at.heap.table x then held_bytes x at.loans else bytes_of at.heap.table x
 
@@ -33,7 +33,7 @@ abbrev pub TellsAddress : Shape → Heap → MemoryCall → Outcome → Type 0
 TellsAddress s heap (Deref h) (Ok r) = r ≡ Address (contents_of s h heap.map)
 TellsAddress s heap _ _ = ⊤
 
--- the reply of an act that is done at this moment tells the bytes last put, the flags last set, and where contents are
+-- the reply of an act that is done at this moment gives the bytes last put, the flags last set, and where contents are
 abbrev pub ActTells : Shape → Moment → Act → LastPut → LastSet → Type 0
 ActTells s at (Calls call asks outcome) put set = Tells call outcome put × TellsFlags call outcome set × TellsAddress s at.heap call outcome
 ActTells s at (OnLoan (loan_call.LentPeek x from n) (Ok r)) put set = r ≡ Bytes (take n (drop from (put x)))
@@ -96,7 +96,7 @@ pub record Promised (s : Shape) (from : Moment) (acts : List Done) (put : LastPu
   -- Every handle and pointer shows the bytes last put there, and every handle has the flags last set.
   pub bytes : Shows (moment_after from acts) (put_in acts put)
   pub flags : HasFlags (moment_after from acts).heap.table (set_in acts set)
-  -- So do the replies of Peek, LentPeek, GetHandleSize, GetPtrSize and HGetState; and Deref tells the address.
+  -- So do the replies of Peek, LentPeek, GetHandleSize, GetPtrSize and HGetState; and Deref gives the address.
   pub replies : OfNext acts (λ done. ActTells s from done.act put set)
   -- A handle that stays locked keeps the address of its contents, and a pointer is that address as long as it lives.
   pub locked : (h : ℕ) → IsLockedThroughout h from acts → KeepsAddress s h from (moment_after from acts)

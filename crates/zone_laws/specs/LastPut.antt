@@ -1,4 +1,4 @@
--- The bytes last put after each handle and pointer, told from the acts alone: nothing here has a place, so nothing
+-- The bytes last put at each handle and pointer, known from the acts alone: nothing here has a place, so nothing
 -- moves.
 use Rattle.std.specs.Prelude.{◌≡◌, ℕ, ◌==◌, if◌then◌else◌, List, [], ◌∷◌, ◌++◌, length, take, drop, Ok, Err, ⊤}
 use Rattle.mac_base.specs.HandleTable.{resized, zeros}
@@ -11,11 +11,11 @@ use Rattle.mac_base.specs.declared.loan_call.LoanCall.TheVariants as loan_call
 use Rattle.mac_base.specs.Outcomes.{Outcome}
 use Rattle.zone_laws.specs.Act.{Act, Calls, Done, Loads, OnLoan, Unloads}
 
--- the bytes last put after each number
+-- the bytes last put at each number
 abbrev pub LastPut : Type 0
 LastPut = ℕ → List ℕ
 
--- the same, but that these are put after x
+-- the same, but that these are put at x
 abbrev pub put : ℕ → List ℕ → LastPut → LastPut
 put x bytes last = λ (y : ℕ). if y == x then bytes else last y
 
@@ -62,7 +62,7 @@ abbrev pub put_in : List Done → LastPut → LastPut
 put_in [] last = last
 put_in (done ∷ later) last = put_in later (put_by_act done.act last)
 
--- what the reply of a call shows of bytes, or tells of their number, is true of those last put
+-- what the reply of a call shows of bytes, or says of their number, is true of those last put
 abbrev pub Tells : MemoryCall → Outcome → LastPut → Type 0
 Tells (memory_call.Peek x at n) (Ok r) last = r ≡ results.Bytes (take n (drop at (last x)))
 Tells (memory_call.GetHandleSize h) (Ok r) last = r ≡ results.Number (length (last h))

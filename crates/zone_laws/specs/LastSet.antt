@@ -1,4 +1,4 @@
--- The flags last set of each handle, told from the acts alone.
+-- The flags last set of each handle, known from the acts alone.
 use Rattle.std.specs.Prelude.{◌≡◌, ℕ, ◌==◌, if◌then◌else◌, true, false, IsTrue, List, [], ◌∷◌, Ok, Err, ⊤}
 use Rattle.mac_base.specs.declared.block.Flags.{Flags}
 use Rattle.mac_base.specs.FlagState.{flags_from, state_of}
@@ -56,7 +56,7 @@ set_in (done ∷ later) last = set_in later (set_by_act done.act last)
 abbrev pub HasFlags : HandleTable → LastSet → Type 0
 HasFlags t last = (h : ℕ) → IsTrue (is_full t h) → flags_of t h ≡ last h
 
--- HGetState tells the flags last set
+-- HGetState gives the flags last set
 abbrev pub TellsFlags : MemoryCall → Outcome → LastSet → Type 0
 TellsFlags (memory_call.HGetState h) (Ok r) last = r ≡ results.Number (state_of (last h))
 TellsFlags _ _ last = ⊤

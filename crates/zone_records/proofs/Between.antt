@@ -64,7 +64,7 @@ module _ (l : Layout) (bytes : List ℕ) where
         (means-both _ _ _ _ a b first rest))
 
   module _ (from end : ℕ) where
-    -- with what an agreement tells of the blocks from an address on, this is one for all
+    -- with what an agreement says of the blocks from an address on, this is one for all
     pub record Compared (at : ℕ) (a : Agreement) : Type 0 where
       pub split : SplitAt l at
       pub told : (s : SplitAt l from) (r : Agreement) → Tells r (at - l.base) (begun_before l.heads at end split.after) → Tells (worse a r) (from - l.base) (begun_before l.heads from end s.after)

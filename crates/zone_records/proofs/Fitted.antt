@@ -29,7 +29,7 @@ use Rattle.zone_records.proofs.Holding.{held_one, held-block, held-size, held-ha
 use Rattle.zone_records.proofs.Blocks.{sized, sized-head, have-parts, raw-parts, sound-raw, sound-free, sound-possible}
 use Rattle.zone_records.proofs.Fitting.{CanFit, fitted_front, fitted_rest, raw_fitted}
 
--- a block that has bytes is somebody's: its header tells of any number of bytes over, and of any contents
+-- a block that has bytes is somebody's: its header can say any number of bytes over, and any contents
 pub told-any : (heads : HeadKind) (base : ℕ) (r : Role) (bytes : List ℕ) (k n : ℕ) → has_bytes (content_in heads base r bytes) ≡ true → can_be_told heads r k ≡ true → can_be_told heads r n ≡ true
 told-any heads base role.Free bytes k n h told = absurd (cc h)
 told-any heads base role.Fixed bytes k n h told = refl

@@ -82,7 +82,7 @@ module _ (l : Layout) (z : ZoneRecords) (held : Held l z) where
         upper = o.upper;
       }
 
-  -- and a block's header is where one of bytes does
+  -- and a block's header is where one of bytes is
   abbrev pub of-block : (at : ℕ) (b : BlockAt l at) → RecordAt z at
   of-block at b = record {
     before = read l.heads l.base b.before;

@@ -12,7 +12,7 @@ pub record CanCopy (z : ZoneRecords) (from start to offset n : ℕ) : Type 0 whe
   pub within_source : start + n ≤ length (bytes_of source.content)
   pub within_target : offset + n ≤ length (bytes_of target.content)
 
--- they are over those of the other
+-- they are copied over those of the other
 abbrev pub copied : {from start to offset n : ℕ} → (z : ZoneRecords) → CanCopy z from start to offset n → ZoneRecords
 copied {start = start} {offset = offset} {n = n} z can = let target = can.target in let bytes = written offset (take n (drop start (bytes_of can.source.content))) (bytes_of target.content) in
     with_blocks (target.before ++ block_record (with_bytes bytes target.content) target.size ∷ target.after) z

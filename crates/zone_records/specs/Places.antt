@@ -149,7 +149,7 @@ pub record ParcelAt (z : ZoneRecords) (at end : ℕ) : Type 0 where
   pub long : end ≡ at + total_of (here ∷ others)
   pub unlent : IsTrue (none_lent (here ∷ others))
 
--- some blocks are from an address on, and a block after them at another, none of them lent
+-- some blocks lie from an address on, and a block after them at another, none of them lent
 pub record ParcelUpTo (z : ZoneRecords) (start at : ℕ) : Type 0 where
   pub before : List BlockRecord
   pub others : List BlockRecord

@@ -68,7 +68,7 @@ fn cut(rt: HostRuntime) -> Result<(), Fail> {
     Ok(())
 }
 
-/// Each character after the colon is told where it is no digit.
+/// Each character after the colon is reported where it is no digit.
 #[test]
 fn changed(rt: HostRuntime) -> Result<(), Fail> {
     let mut text = MACUTILS.to_vec(rt.alloc())?;

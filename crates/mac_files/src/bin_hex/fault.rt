@@ -2,7 +2,7 @@
 
 use thiserror::Error;
 
-/// A section of the bytes, after which its CRC is. They follow each other in this order.
+/// A section of the bytes, with its CRC after it. They follow each other in this order.
 #[derive(Clone, Copy, Debug, PartialEq, Eq, Error)]
 pub enum Section {
     /// Name, version, type, creator, flags, and the lengths of both forks.

@@ -1,4 +1,4 @@
--- A record has no bytes, so any list may be the one that it tells of.
+-- A record has no bytes, so any list may be the one that it records.
 use denote.Laws.{Is}
 use denote.Param.{layouts, param}
 use denote.RattleType.{RattleType, Valss, owns}

@@ -101,7 +101,7 @@ returns-in-Ok-clause-closed g c = λ told. no_fault _ _ told
 pub returns-in-Ok-clause-before : goal.returns-in-Ok-clause-before
 returns-in-Ok-clause-before g c = λ told. no_fault _ _ told
 
--- the fault that is told is the one that there was
+-- the fault that is reported is the one that there was
 err_is : {A : Type 0} (fault told : UpdateFault) → IsErrOf {T = A} {E = UpdateFault} (Err fault) told → fault ≡ told
 err_is fault told is = cc
 

@@ -28,7 +28,7 @@ index-requires g c =
     c.key_of_handle-key.ensures c.self.invariant.0 c.from_key-pair-items.ensures c.loop-pair.pair-index (record { key = 0; place = 0 }) c.loop-pair-test.true in
     let ok = c.self.inside.rows.ok.0 in omega (arith, within, ok)
 
--- this row and the pairs after it tell
+-- this row and the pairs after it decide
 with_row : (g : _) (c : After-is_changed g)
     → (c.is_changed.result || list_any (is_changed_pair c.key_of_handle-key.result c.self.inside.rows.items) (drop (c.loop-pair.pair-index + 1) c.from_key-pair-items.result.now))
     ≡ has_changed c.args.handle c.self.inside.rows.items
