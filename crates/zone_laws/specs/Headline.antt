@@ -21,12 +21,12 @@ use Rattle.zone_laws.specs.LastPut.{LastPut, Tells, put_in}
 use Rattle.zone_laws.specs.LastSet.{HasFlags, LastSet, TellsFlags, set_in}
 
 -- the bytes of x: its holder has them while it is lent
-abbrev pub bytes_after : Moment → ℕ → List ℕ
-bytes_after at x = if is_lent at.heap.table x then held_bytes x at.loans else bytes_of at.heap.table x
+abbrev pub bytes_shown : Moment → ℕ → List ℕ
+bytes_shown at x = if is_lent at.heap.table x then held_bytes x at.loans else bytes_of at.heap.table x
 
 -- every handle that isn't empty and every pointer shows the bytes last put there
 abbrev pub Shows : Moment → LastPut → Type 0
-Shows at put = (x : ℕ) → IsTrue (has_block at.heap.table x) → bytes_after at x ≡ put x
+Shows at put = (x : ℕ) → IsTrue (has_block at.heap.table x) → bytes_shown at x ≡ put x
 
 -- Deref gives the address of the contents
 abbrev pub TellsAddress : Shape → Heap → MemoryCall → Outcome → Type 0
