@@ -1,8 +1,8 @@
 """Checks README.md and the pages of docs/: that their links lead to a page and to a heading, that README links each page, that what a
 page quotes is there, that DESIGN.md names each crate, and that lines, pages and all of them are short and use no word that the glossary
-rules out; and that docs/macheap.1 and docs/macheap.3 are what tools/man_pages.py makes, and no man page has such a word. A quote is a
-block between ``` whose first line names the file, as '```text PATH': its lines are in that file in this order, whatever blanks are
-before them. Tables and quotes may be wider than other lines.
+rules out; that no comment of the crates has such a word; and that docs/macheap.1 and docs/macheap.3 are what tools/man_pages.py makes,
+and no man page has such a word. A quote is a block between ``` whose first line names the file, as
+'```text PATH': its lines are in that file in this order, whatever blanks are before them. Tables and quotes may be wider than other lines.
 """
 import glob
 import os
@@ -37,7 +37,9 @@ WORDS = 10000
 GLOSSARY = "docs/DESIGN.md"
 # the line of the glossary that has the words that no page uses, and what is allowed of them
 ALLOWED = re.compile(r"\bstands? for\b")
-UNUSED = re.compile(r"^Not used on these pages: ([^.]*)\.$", re.M)
+UNUSED = re.compile(r"^Not used on these pages, nor in comments: ([^.]*)\.$", re.M)
+# where a comment begins in a source
+COMMENTS = {".rt": re.compile(r"//.*"), ".antt": re.compile(r"--(?: .*|$)")}
 
 
 def lacks(file, quoted):
@@ -127,6 +129,17 @@ def wrong_man_pages(unused):
         yield from (f"{page}: {it}" for it in words_used(man_pages.read(page), unused))
 
 
+def wrong_comments(unused):
+    """What is wrong with the comments of the crates' sources."""
+    for ending, comment in COMMENTS.items():
+        for path in sorted(glob.glob(f"crates/*/*/**/*{ending}", recursive=True)):
+            if "/out/" in path:
+                continue
+            with open(path, encoding="utf-8") as it:
+                said = "\n".join(found[0] for found in map(comment.search, it) if found)
+            yield from (f"{path}: {it}" for it in words_used(CODE.sub("", said), unused))
+
+
 def main():
     texts = {}
     for page in ["README.md", *sorted(glob.glob("docs/*.md"))]:
@@ -134,9 +147,9 @@ def main():
             texts[page] = it.read()
     found = UNUSED.search(texts[GLOSSARY])
     unused = re.findall(r"\*(\w+)\*", found[1]) if found else []
-    faults = [*wrong_in_all(texts), *wrong_man_pages(unused)]
+    faults = [*wrong_in_all(texts), *wrong_man_pages(unused), *wrong_comments(unused)]
     if not unused:
-        faults.append(f"{GLOSSARY} has no line 'Not used on these pages: *WORD*, ..'")
+        faults.append(f"{GLOSSARY} has no line 'Not used on these pages, nor in comments: *WORD*, ..'")
     for page, text in texts.items():
         wrong = [*wrong_links(page, text, texts), *wrong_quotes(text), *wrong_lines(page, text, unused)]
         faults += [f"{page}: {it}" for it in wrong]

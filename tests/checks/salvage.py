@@ -155,7 +155,7 @@ def try_twice(program, path):
     found = salvaged(program, path, fork)
     must([(it.kind, it.ident) for it in found] == [(b"TEXT", 1), (b"TEXT", 2), (b"TEXT", 4), (b"STR ", 3)], "the rows of a type that stands twice")
     status, text, _ = run(program, ["check", path])
-    must(status == 3 and b"'TEXT' stands twice" in text, f"check told {text!r}")
+    must(status == 3 and b"'TEXT' is twice in the type list" in text, f"check told {text!r}")
     status, text, _ = run(program, ["salvage", "--list", path])
     must(status == 0 and [it.split()[1] for it in text.decode().splitlines()] == ["1", "2", "3", "4"], f"salvage --list wrote {text!r}")
 

@@ -107,7 +107,7 @@ def try_texts(program, folder):
         compare(f"rez {given[:60]}", run(program, ["rez", text, "-o", out]), 3, b"", f"{text}: line {line}: {words}")
         must(not os.path.exists(out), f"rez {given[:60]}: it is refused, and a file is written")
     write(text, b"data 'ABCD' (1) {}; data 'abcd' (1) {}; data 'ABCD' (2) {};")
-    compare("rez of resources that stand apart", run(program, ["rez", text, "-o", out]), 3, b"", f"{text}: 'ABCD' 2 stands apart from the other resources of its type")
+    compare("rez of resources that stand apart", run(program, ["rez", text, "-o", out]), 3, b"", f"{text}: 'ABCD' 2 is apart from the other resources of its type")
     write(text, TEXT)
     status, made, told = run(program, ["rez", text, "-o", "-"])
     must((status, told) == (0, "") and table_of(made) == ([(ROW.kind, ROW.ident, ROW.name, ROW.attributes, ROW.data)], NOTHING), "rez -o -: other resources are written")
@@ -136,7 +136,7 @@ def try_folders(program, folder):
     for fields, words in bad:
         compare(f"pack {fields}", packed({**MANIFEST, **fields}), 3, b"", words)
     apart = packed({**MANIFEST, "resources": [first, second, first]})
-    compare("pack of resources that stand apart", apart, 3, b"", f"{folder}: 'STR ' -1 stands apart from the other resources of its type")
+    compare("pack of resources that stand apart", apart, 3, b"", f"{folder}: 'STR ' -1 is apart from the other resources of its type")
     os.remove(os.path.join(folder, first["file"]))
     compare("pack without a file", packed(MANIFEST), 4, b"", f"{first['file']} can't be read")
     must(not os.path.exists(out), "pack: it is refused, and a file is written")

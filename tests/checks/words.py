@@ -144,7 +144,7 @@ TOO_MANY = [
 IS_NO_TEXT = "error: a word of the command line is no UTF-8 text; write the options in plain ASCII\n"
 NO_NUMBER = "error: --{} takes decimal digits for a number up to 4294967295; see 'macheap --help'\n"
 NO_MODE = "error: --mode is 24 or 32, and not {}; see 'macheap --help'\n"
-TOO_MANY_FORKS = "error: --fork may stand 8 times; see 'macheap --help'\n"
+TOO_MANY_FORKS = "error: --fork may be given 8 times; see 'macheap --help'\n"
 NO_ZONE = "error: {}; give other numbers with --zone, --limit and --base, see 'macheap --help'\n"
 
 
@@ -156,7 +156,7 @@ def map_of(base, size, master):
 
 def is_of_other_words(message):
     """Whether a message is of words that don't match: an error, and none of those of numbers and of too many files."""
-    others = ("takes decimal digits", "is 24 or 32", "give other numbers", "may stand")
+    others = ("takes decimal digits", "is 24 or 32", "give other numbers", "may be given")
     return message.startswith("error: ") and not any(it in message for it in others)
 
 

@@ -16,7 +16,7 @@ WORDS = [(128, "bit7"), (64, "sysHeap"), (32, "purgeable"), (16, "locked"), (8, 
 TOLD = {
     "end": "ends within its header",
     "parts": "the data or the map lies outside the fork, or the fork is too long",
-    "types": "the type list ends outside the map, or a type stands twice",
+    "types": "the type list ends outside the map, or a type is in it twice",
     "references": "a list of references ends outside the map",
     "rows": "too many resources",
     "names": "a name ends outside the map",
@@ -30,7 +30,7 @@ ROW = r"'.*' -?\d+: {} \d+, and \d+ bytes are left in the {}\n  at \$[0-9A-F]{{6
 MESSAGES = {
     "end": PART.format("header", "fork"),
     "parts": PART.format("data|map", "fork") + "|" + PART.format("header of the map", "map") + r"|the fork has \d+ bytes, and at most 4294967295 are read",
-    "types": PART.format("count of types|type list", "map") + r"|'.*' stands twice in the type list\n  at \$[0-9A-F]{6,}, first at \$[0-9A-F]{6,}",
+    "types": PART.format("count of types|type list", "map") + r"|'.*' is twice in the type list\n  at \$[0-9A-F]{6,}, first at \$[0-9A-F]{6,}",
     "references": r"'.*': the list of its references has \d+ bytes, and \d+ bytes are left in the map\n  at \$[0-9A-F]{6,}",
     "rows": r"there are \d+ resources, and at most 4194304 are read",
     "names": ROW.format("its name with its byte of length has", "map"),

@@ -51,7 +51,7 @@ found_line letters fork found =
 abbrev pub lost_line : Letters → LostRow → List ℕ
 lost_line letters lost =
     kind_text letters lost.kind ++ (32 ∷ (id_text lost.id ++ (codes "        ? can't be read: " ++ (loss_text lost.loss
-    ++ (codes "; its reference stands at " ++ (place_text lost.reference ++ 10 ∷ []))))))
+    ++ (codes "; its reference is at " ++ (place_text lost.reference ++ 10 ∷ []))))))
 
 -- the line of a run of bytes, without type and id
 abbrev pub run_line : Span → List ℕ

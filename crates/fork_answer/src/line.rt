@@ -119,7 +119,7 @@ impl fmt::Display for ItemLine<'_> {
                 let reference = Place(lost.reference);
                 writeln!(
                     f,
-                    "{kind} {id}        ? can't be read: {loss}; its reference stands at {reference}"
+                    "{kind} {id}        ? can't be read: {loss}; its reference is at {reference}"
                 )
             }
             Item::Run(Span { start, length }) => {

@@ -9,7 +9,7 @@ pub enum Condition {
     #[error("the data or the map lies outside the fork, or the fork is too long")]
     Parts,
     /// The type list lies within the map, and no type is in it twice.
-    #[error("the type list ends outside the map, or a type stands twice")]
+    #[error("the type list ends outside the map, or a type is in it twice")]
     Types,
     /// Each reference lies within the map.
     #[error("a list of references ends outside the map")]

@@ -39,7 +39,7 @@ pub enum NotWritten {
     #[error("{0}")]
     Container(Refusal),
     /// The new file isn't read as what was to be written.
-    #[error("the new file isn't read as these resources: those of one type must stand together")]
+    #[error("the new file isn't read as these resources: those of one type must be together")]
     Mistaken,
     /// The host has no memory.
     #[error("the host has no memory")]

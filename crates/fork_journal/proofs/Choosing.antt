@@ -9,7 +9,7 @@ use Rattle.fork_journal.specs.declared.mem_pair.Call.{Call}
 use Rattle.fork_journal.specs.declared.mem_pair.Call.TheVariants as calls
 use Rattle.fork_journal.specs.Crash.{Contents, Found, Wrote, Cut, Synced, Failed, History, has_failed, MayLeave, side_of}
 use Rattle.fork_journal.specs.Record.{Kept, after_call, after_calls, found}
-use Rattle.fork_journal.specs.Leaving.{is_on, read_next, read_after, IsLeft, IsLeftOn, AreLeft}
+use Rattle.fork_journal.specs.Leaving.{is_on, read_then, read_after, IsLeft, IsLeftOn, AreLeft}
 use Rattle.fork_journal.specs.Outcome.{write_outcome, cut_outcome}
 use Rattle.fork_journal.proofs.Settling.{never}
 
@@ -124,15 +124,15 @@ one_more side list i d call read old next left within is step later =
     subst (λ (l : List Call). AreLeft side l read old left) (sym (drop_more list i d within ∙ ap (λ (c : Call). c ∷ drop (i + 1) list) (sym is))) (next, step, later)
 
 pub own_more : (side : Side) (list : List Call) (i : ℕ) (d call : Call) (read old next read_next left : Bytes) → i < length list → call ≡ get_or list i d → is_on side call ≡ true
-    → read_next ≡ read_next call read → IsLeft call read old next → AreLeft side (drop (i + 1) list) read_next next left → AreLeft side (drop i list) read old left
+    → read_next ≡ read_then call read → IsLeft call read old next → AreLeft side (drop (i + 1) list) read_next next left → AreLeft side (drop i list) read old left
 own_more side list i d call read old next read_next left within is own reads step later =
-    let reads_on : read_next ≡ read_after side call read = reads ∙ sym (ap (λ (b : Bool). if b then read_next call read else read) own) in
+    let reads_on : read_next ≡ read_after side call read = reads ∙ sym (ap (λ (b : Bool). if b then read_then call read else read) own) in
     one_more side list i d call read old next left within is (is_own side call read old next own step) (subst (λ (r : Bytes). AreLeft side (drop (i + 1) list) r next left) reads_on later)
 
 pub other_more : (side : Side) (list : List Call) (i : ℕ) (d call : Call) (read old left : Bytes) → i < length list → call ≡ get_or list i d → is_on side call ≡ false
     → AreLeft side (drop (i + 1) list) read old left → AreLeft side (drop i list) read old left
 other_more side list i d call read old left within is not later =
-    let reads_on : read ≡ read_after side call read = sym (ap (λ (b : Bool). if b then read_next call read else read) not) in
+    let reads_on : read ≡ read_after side call read = sym (ap (λ (b : Bool). if b then read_then call read else read) not) in
     one_more side list i d call read old old left within is (is_other side call read old not) (subst (λ (r : Bytes). AreLeft side (drop (i + 1) list) r old left) reads_on later)
 
 -- the same calls and bytes under other names

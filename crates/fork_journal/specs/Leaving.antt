@@ -14,10 +14,10 @@ is_on side (calls.Cut other n) = is_same side other
 is_on side (calls.Sync other) = is_same side other
 
 -- what its side reads after a call
-abbrev pub read_next : Call → List ℕ → List ℕ
-read_next (calls.Write side at bytes) read = overwritten at bytes.items read
-read_next (calls.Cut side n) read = take n read
-read_next (calls.Sync side) read = read
+abbrev pub read_then : Call → List ℕ → List ℕ
+read_then (calls.Write side at bytes) read = overwritten at bytes.items read
+read_then (calls.Cut side n) read = take n read
+read_then (calls.Sync side) read = read
 
 -- what a crash may leave of its side after a call, by what it read before and what a crash might have left then
 abbrev pub IsLeft : Call → List ℕ → List ℕ → List ℕ → Type 0
@@ -27,7 +27,7 @@ IsLeft (calls.Sync side) read old left = left ≡ read
 
 -- what a side reads after a call of either
 abbrev pub read_after : Side → Call → List ℕ → List ℕ
-read_after side call read = if is_on side call then read_next call read else read
+read_after side call read = if is_on side call then read_then call read else read
 
 -- and what a crash may leave of it
 pub record IsLeftOn (side : Side) (call : Call) (read old left : List ℕ) : Type 0 where

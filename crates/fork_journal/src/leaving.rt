@@ -2,7 +2,7 @@
 
 ghost use Rattle.std.specs.Prelude.{◌≡◌, ◌+◌, ◌≤◌, true, length, IfOk, OnOk};
 ghost use Rattle.fork_disk.specs.Disk.{Torn, CutShort};
-ghost use Rattle.fork_journal.specs.Leaving.{is_on, read_next, IsLeft, AreLeft};
+ghost use Rattle.fork_journal.specs.Leaving.{is_on, read_then, IsLeft, AreLeft};
 
 use crate::mem_pair::{Call, overwritten};
 use crate::pair::Side;
@@ -121,7 +121,7 @@ fn cut_left(alloc: Global, old: &[u8], len: usize, choice: Choice) -> Result<Vec
 
 /// One call more of a side.
 fn follow(alloc: Global, now: &mut Replayed, call: &Call, choice: Choice) -> Result<(), AllocError>
-    ensures read { OnOk result (now.new.read.items ≡ read_next call.now now.old.read.items) }
+    ensures read { OnOk result (now.new.read.items ≡ read_then call.now now.old.read.items) }
     ensures left { OnOk result (IsLeft call.now now.old.read.items now.old.left.items now.new.left.items) }
 {
     match call {

@@ -176,7 +176,7 @@ fn write_same<W: fmt::Write>(f: &mut fmt::Formatter<W>, same: &SameType) -> fmt:
     let SameType { first, second, .. } = *same;
     write!(
         f,
-        "{kind} stands twice in the type list\n  at ${second:06X}, first at ${first:06X}"
+        "{kind} is twice in the type list\n  at ${second:06X}, first at ${first:06X}"
     )
 }
 

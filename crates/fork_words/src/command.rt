@@ -59,14 +59,14 @@ diff;Compares the resources of two files;Compares the resources of two files by 
 pack;Writes a fork of what unpack wrote;Writes a fork of the files in a folder, of which DIR/resources.json says what they are. unpack writes both
 derez;Writes resources as a text that rez reads;
 rez;Writes a fork of a text that derez wrote;
-convert;Writes a file in another container;Writes a file in another container. What this can't hold is told, and the file isn't written, unless --lossy leaves it out";
+convert;Writes a file in another container;Writes a file in another container. What this can't hold is named, and the file isn't written, unless --lossy leaves it out";
 
 /// The words of the commands, options and then operands in their order. A line has the commands of a word; its name;
 /// its letter and its long form, if it is an option; what the help calls its value, if it has one; its marks; a word
 /// beside which it can't be; and its help. The marks: a `required` word; a value `each` time that it is there, or
 /// `many` values; values that may be negative `numbers`, or begin with `-`.
 const WORDS: &str =
-    "ls unpack derez;type;t;type;TYPE;each;;Only resources of this type, as ls shows it (STR is 'STR '); it may stand several times
+    "ls unpack derez;type;t;type;TYPE;each;;Only resources of this type, as ls shows it (STR is 'STR '); it may be given several times
 ls;types;;types;;;;Lists types: a line for each, with how many resources it has
 salvage;list;;list;;;output;Lists what can be read, and why the rest can't be; so it does without -o
 ls salvage;raw;;raw;;;;Shows letters that aren't ASCII as \\xHH, and not as the characters that they are in MacRoman
@@ -97,7 +97,7 @@ put rm set cp;backup;;backup;;;output;Keeps the old file as FILE~
 convert;to;;to;KIND;required;;The container: raw, appledouble, applesingle, macbinary or binhex
 convert;data;;data;FILE;;;The data fork, where it is a file of its own: read for an IN that is a fork alone or AppleDouble, and written for such an OUT
 convert;name;;name;N;;;The file's name, as ls shows names; else its own, or that of IN where OUT needs one
-convert;lossy;;lossy;;;;Leaves out what the container can't hold, and tells it
+convert;lossy;;lossy;;;;Leaves out what the container can't hold, and names it
 put rm set cp pack rez convert;dry;n;dry-run;;;;Says what would be done, and writes nothing
 put rm set cp pack rez convert;quiet;q;quiet;;;;Doesn't say what was done
 ls info check;file;;;FILE;required many;;The files; - is the standard input

@@ -3,7 +3,8 @@
 ghost use Rattle.std.specs.Prelude.{◌≡◌, IfOk, []};
 ghost use Rattle.mac_base.specs.BlockReport.{reports_from};
 ghost use Rattle.mac_base.specs.ZoneMap.{address_after};
-ghost use Rattle.mac_base.specs.declared.memory_call.MemoryCall.TheVariants as call;
+ghost use Rattle.mac_base.specs.declared.memory_call.MemoryCall.TheVariants.{Showing};
+ghost use Rattle.mac_base.specs.declared.memory_call.ShowingCall.TheVariants.{ZoneMap};
 ghost use Rattle.held_calls.specs.Making.{MemorySteps};
 
 use mac_base::block::{Block, Entry};
@@ -14,7 +15,7 @@ use std::alloc::Global;
 
 /// ZoneMap: the blocks of the zone.
 pub(crate) fn zone_map(memory: &MemoryManager, alloc: Global) -> Result<Outcome, HostFull>
-    ensures { IfOk result (λ outcome. MemorySteps memory.now call.ZoneMap [] outcome memory.now) }
+    ensures { IfOk result (λ outcome. MemorySteps memory.now (Showing ZoneMap) [] outcome memory.now) }
 {
     let blocks = BlockList::new(blocks(memory, alloc)?);
     Ok(Ok(Results::Blocks(blocks)))

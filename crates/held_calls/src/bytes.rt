@@ -6,7 +6,9 @@ ghost use Rattle.mac_base.specs.BlockStatus.{status_of};
 ghost use Rattle.mac_base.specs.declared.block.Status.{Status};
 ghost use Rattle.mac_base.specs.HandleTable.{bytes_of};
 ghost use Rattle.linked_zone.specs.Loans.{KeepsLoans};
-ghost use Rattle.mac_base.specs.declared.memory_call.MemoryCall.TheVariants as call;
+ghost use Rattle.mac_base.specs.declared.memory_call.MemoryCall.TheVariants.{OnBlock, Showing};
+ghost use Rattle.mac_base.specs.declared.memory_call.BlockCall.TheVariants.{Poke};
+ghost use Rattle.mac_base.specs.declared.memory_call.ShowingCall.TheVariants.{Peek};
 ghost use Rattle.mac_base.specs.declared.reply.Results.TheVariants as results;
 ghost use Rattle.mac_base.specs.Tests.{refusal};
 ghost use Rattle.held_calls.specs.Making.{MemorySteps};
@@ -22,9 +24,9 @@ use std::alloc::Global;
 /// memWZErr where no handle or pointer of that number is live, nilHandleErr where it is empty, memLockedErr where it is
 /// lent, and paramErr where it has too few bytes.
 pub fn peek(memory: &MemoryManager, block: u32, offset: u32, count: usize) -> Result<&[u8], OsErr>
-    ensures step { IfOk result (λ bytes. MemorySteps memory.now (call.Peek block offset count) [] (Ok (results.Bytes bytes.now)) memory.now) }
-    ensures refused { IfErr result (λ code. MemorySteps memory.now (call.Peek block offset count) [] (Err code) memory.now) }
-    ensures refusal { result_err result ≡ refusal memory.now.shape memory.now.heap (call.Peek block offset count) }
+    ensures step { IfOk result (λ bytes. MemorySteps memory.now (Showing (Peek block offset count)) [] (Ok (results.Bytes bytes.now)) memory.now) }
+    ensures refused { IfErr result (λ code. MemorySteps memory.now (Showing (Peek block offset count)) [] (Err code) memory.now) }
+    ensures refusal { result_err result ≡ refusal memory.now.shape memory.now.heap (Showing (Peek block offset count)) }
     ensures count { IfOk result (λ bytes. length bytes.now ≡ count) }
 {
     test_part(memory, block, offset, count)?;
@@ -40,8 +42,8 @@ pub(crate) fn peek_copy(
     offset: u32,
     count: u32,
 ) -> Result<Outcome, HostFull>
-    ensures step { IfOk result (λ outcome. MemorySteps memory.now (call.Peek block offset count) [] outcome memory.now) }
-    ensures late { OnErr result (refusal memory.now.shape memory.now.heap (call.Peek block offset count) ≡ None) }
+    ensures step { IfOk result (λ outcome. MemorySteps memory.now (Showing (Peek block offset count)) [] outcome memory.now) }
+    ensures late { OnErr result (refusal memory.now.shape memory.now.heap (Showing (Peek block offset count)) ≡ None) }
 {
     match peek(memory, block, offset, count as usize) {
         Ok(bytes) => {
@@ -54,7 +56,7 @@ pub(crate) fn peek_copy(
 
 /// Poke: writes bytes over those of a block, from an offset on. It is refused as Peek is.
 pub(crate) fn poke(memory: &mut MemoryManager, block: u32, offset: u32, bytes: &[u8]) -> Outcome
-    ensures step { MemorySteps memory.old (call.Poke block offset bytes.now) [] result memory.new }
+    ensures step { MemorySteps memory.old (OnBlock (Poke block offset bytes.now)) [] result memory.new }
     ensures loans { KeepsLoans memory.old memory.new }
 {
     test_part(memory, block, offset, bytes.len())?;
@@ -66,7 +68,7 @@ pub(crate) fn poke(memory: &mut MemoryManager, block: u32, offset: u32, bytes: &
 
 /// Tests a block for a call on `count` of its bytes from an offset on.
 fn test_part(memory: &MemoryManager, block: u32, offset: u32, count: usize) -> Result<(), OsErr>
-    ensures refusal { result_err result ≡ refusal memory.now.shape memory.now.heap (call.Peek block offset count) }
+    ensures refusal { result_err result ≡ refusal memory.now.shape memory.now.heap (Showing (Peek block offset count)) }
     ensures full { OnOk result (status_of memory.now.heap.table block ≡ Status.Full) }
     ensures within { OnOk result (offset + count ≤ length (bytes_of memory.now.heap.table block)) }
 {

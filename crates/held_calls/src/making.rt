@@ -1,18 +1,22 @@
 //! The calls of the Memory Manager, each with what it gives.
 
-ghost use Rattle.std.specs.Prelude.{◌≡◌, ◌||◌, not, None, Ok, IfOk, IfSome, IfNone, OnErr, IsTrue, is_some, []};
+ghost use Rattle.std.specs.Prelude.{◌≡◌, not, None, Ok, IfOk, IfSome, IfNone, OnErr, IsTrue, is_some, []};
 ghost use Rattle.linked_zone.specs.Loans.{KeepsLoans};
 ghost use Rattle.mac_base.specs.declared.reply.Results.TheVariants.{TwoNumbers};
 ghost use Rattle.mac_base.specs.Outcomes.{handle_outcome, pointer_outcome, address_outcome, number_outcome, done_outcome};
 ghost use Rattle.mac_base.specs.Tests.{refusal};
-ghost use Rattle.held_calls.specs.Making.{MemorySteps, copies, fills, is_on_zone, is_quiet};
+ghost use Rattle.mac_base.specs.declared.memory_call.MemoryCall.TheVariants.{Requesting, Filling, OnBlock, OnZone, Showing};
+ghost use Rattle.held_calls.specs.Making.{MemorySteps, copies};
 
 use crate::blocks::zone_map;
 use crate::bytes::{peek_copy, poke};
 use mac_base::error::{HostFull, OsErr};
 use mac_base::handle::{Handle, Ptr};
 use mac_base::purge_space::PurgeSpace;
-use mac_base::{GrowZone, MemoryCall, Outcome, Results};
+use mac_base::{
+    BlockCall, FillingCall, GrowZone, MemoryCall, Outcome, RequestingCall, Results, ShowingCall,
+    ZoneCall,
+};
 use mem_calls::MemoryManager;
 use std::alloc::Global;
 
@@ -34,9 +38,12 @@ pub fn make<G: GrowZone>(
     ensures full { OnErr result (IsTrue (copies call.now)) }
     ensures late { OnErr result (refusal memory.old.shape memory.old.heap call.now ≡ None) }
 {
-    match make_plain(memory, call, procedure) {
-        Some(outcome) => Ok(outcome),
-        None => copy(memory, alloc, call),
+    match call {
+        MemoryCall::Requesting(call) => Ok(request(memory, call, procedure)),
+        MemoryCall::Filling(call) => Ok(fill(memory, call, procedure)),
+        MemoryCall::OnBlock(call) => Ok(on_block(memory, call)),
+        MemoryCall::OnZone(call) => Ok(on_zone(memory, call)),
+        MemoryCall::Showing(call) => show(memory, alloc, call),
     }
 }
 
@@ -54,147 +61,148 @@ pub fn make_plain<G: GrowZone>(
     ensures unchanged { IfNone result (memory.new ≡ memory.old) }
     ensures unasked { IfNone result (G.asks procedure.new ≡ []) }
 {
-    match *call {
-        MemoryCall::NewHandle(size) => Some(handle(memory.new_handle(size, procedure))),
-        MemoryCall::NewEmptyHandle => Some(handle(memory.new_empty_handle(procedure))),
-        MemoryCall::NewPtr(size) => Some(pointer(memory.new_ptr(size, procedure))),
-        MemoryCall::SetHandleSize(handle, size) => Some(done(memory.set_handle_size(
-            handle, size, procedure,
-        ))),
-        MemoryCall::SetPtrSize(pointer, size) => Some(done(memory.set_ptr_size(
-            pointer, size, procedure,
-        ))),
-        MemoryCall::ReserveMem(size) => Some(done(memory.reserve_mem(size, procedure))),
-        MemoryCall::MoreMasters => Some(done(memory.more_masters(procedure))),
-        MemoryCall::ReallocateHandle(handle, size) => Some(done(memory.reallocate_handle(
-            handle, size, procedure,
-        ))),
-        _ => make_filling(memory, call, procedure),
+    match call {
+        MemoryCall::Requesting(call) => Some(request(memory, call, procedure)),
+        MemoryCall::Filling(call) => Some(fill(memory, call, procedure)),
+        MemoryCall::OnBlock(call) => Some(on_block(memory, call)),
+        MemoryCall::OnZone(call) => Some(on_zone(memory, call)),
+        MemoryCall::Showing(_) => None,
     }
 }
 
-/// Makes such a call that requests a block for bytes, or that makes no request.
-fn make_filling<G: GrowZone>(
+/// Makes a call that requests a block, or another size or place for one.
+fn request<G: GrowZone>(
     memory: &mut MemoryManager,
-    call: &MemoryCall<'_>,
+    call: &RequestingCall,
     procedure: &mut G,
-) -> Option<Outcome>
+) -> Outcome
     requires { G.asks procedure.old ≡ [] }
-    ensures step { IfSome result (λ outcome. MemorySteps memory.old call.now (G.asks procedure.new) outcome memory.new) }
+    ensures step { MemorySteps memory.old (Requesting call.now) (G.asks procedure.new) result memory.new }
     ensures source { G.source procedure.new ≡ G.source procedure.old }
     ensures loans { KeepsLoans memory.old memory.new }
-    ensures fills { is_some result ≡ (fills call.now || is_quiet memory.old.heap.table call.now) }
-    ensures unchanged { IfNone result (memory.new ≡ memory.old) }
-    ensures unasked { IfNone result (G.asks procedure.new ≡ []) }
 {
     match *call {
-        MemoryCall::HandToHand(source) => Some(handle(memory.hand_to_hand(source, procedure))),
-        MemoryCall::PtrToHand(pointer, count) => Some(handle(memory.ptr_to_hand(
-            pointer, count, procedure,
-        ))),
-        MemoryCall::PtrToXHand(pointer, handle, count) => Some(done(memory.ptr_to_xhand(
-            pointer, handle, count, procedure,
-        ))),
-        MemoryCall::PtrAndHand(pointer, handle, count) => Some(done(memory.ptr_and_hand(
-            pointer, handle, count, procedure,
-        ))),
-        MemoryCall::HandAndHand(one, other) => Some(done(memory.hand_and_hand(
-            one, other, procedure,
-        ))),
-        MemoryCall::NewHandleOf(ref bytes) => Some(handle(memory.new_handle_of(
-            bytes.as_slice(),
-            procedure,
-        ))),
-        MemoryCall::SetHandleTo(handle, ref bytes) => Some(done(memory.set_handle_to(
-            handle,
-            bytes.as_slice(),
-            procedure,
-        ))),
-        MemoryCall::Append(handle, ref bytes) => Some(done(memory.append(
-            handle,
-            bytes.as_slice(),
-            procedure,
-        ))),
-        _ => make_quiet(memory, call),
+        RequestingCall::NewHandle(size) => handle(memory.new_handle(size, procedure)),
+        RequestingCall::NewEmptyHandle => handle(memory.new_empty_handle(procedure)),
+        RequestingCall::NewPtr(size) => pointer(memory.new_ptr(size, procedure)),
+        RequestingCall::SetHandleSize(handle, size) => {
+            done(memory.set_handle_size(handle, size, procedure))
+        }
+        RequestingCall::SetPtrSize(pointer, size) => {
+            done(memory.set_ptr_size(pointer, size, procedure))
+        }
+        RequestingCall::ReserveMem(size) => done(memory.reserve_mem(size, procedure)),
+        RequestingCall::MoreMasters => done(memory.more_masters(procedure)),
+        RequestingCall::ReallocateHandle(handle, size) => {
+            done(memory.reallocate_handle(handle, size, procedure))
+        }
     }
 }
 
-/// Makes such a call that makes no request.
-fn make_quiet(memory: &mut MemoryManager, call: &MemoryCall<'_>) -> Option<Outcome>
-    ensures step { IfSome result (λ outcome. MemorySteps memory.old call.now [] outcome memory.new) }
+/// Makes a call that requests a block for bytes, or another size for one, and fills it with them.
+fn fill<G: GrowZone>(
+    memory: &mut MemoryManager,
+    call: &FillingCall<'_>,
+    procedure: &mut G,
+) -> Outcome
+    requires { G.asks procedure.old ≡ [] }
+    ensures step { MemorySteps memory.old (Filling call.now) (G.asks procedure.new) result memory.new }
+    ensures source { G.source procedure.new ≡ G.source procedure.old }
     ensures loans { KeepsLoans memory.old memory.new }
-    ensures quiet { is_some result ≡ is_quiet memory.old.heap.table call.now }
-    ensures unchanged { IfNone result (memory.new ≡ memory.old) }
 {
     match *call {
-        MemoryCall::DisposeHandle(handle) => Some(done(memory.dispose_handle(handle))),
-        MemoryCall::DisposePtr(pointer) => Some(done(memory.dispose_ptr(pointer))),
-        MemoryCall::EmptyHandle(handle) => Some(done(memory.empty_handle(handle))),
-        MemoryCall::GetHandleSize(handle) => Some(number(memory.get_handle_size(handle))),
-        MemoryCall::GetPtrSize(pointer) => Some(number(memory.get_ptr_size(pointer))),
-        MemoryCall::HLock(handle) => Some(done(memory.hlock(handle))),
-        MemoryCall::HUnlock(handle) => Some(done(memory.hunlock(handle))),
-        MemoryCall::HPurge(handle) => Some(done(memory.hpurge(handle))),
-        MemoryCall::HNoPurge(handle) => Some(done(memory.hno_purge(handle))),
-        MemoryCall::HSetRBit(handle) => Some(done(memory.hset_rbit(handle))),
-        MemoryCall::HClrRBit(handle) => Some(done(memory.hclr_rbit(handle))),
-        MemoryCall::HGetState(handle) => Some(number(memory.hget_state(handle))),
-        MemoryCall::HSetState(handle, state) => Some(done(memory.hset_state(handle, state))),
-        MemoryCall::MoveHHi(handle) => Some(done(memory.move_hhi(handle))),
-        MemoryCall::HLockHi(handle) => Some(done(memory.hlock_hi(handle))),
-        MemoryCall::RecoverHandle(address) => Some(handle(memory.recover_handle(address))),
-        MemoryCall::Deref(handle) => Some(address(memory.deref(handle))),
-        MemoryCall::BlockMove {
+        FillingCall::HandToHand(source) => handle(memory.hand_to_hand(source, procedure)),
+        FillingCall::PtrToHand(pointer, count) => {
+            handle(memory.ptr_to_hand(pointer, count, procedure))
+        }
+        FillingCall::PtrToXHand(pointer, handle, count) => {
+            done(memory.ptr_to_xhand(pointer, handle, count, procedure))
+        }
+        FillingCall::PtrAndHand(pointer, handle, count) => {
+            done(memory.ptr_and_hand(pointer, handle, count, procedure))
+        }
+        FillingCall::HandAndHand(one, other) => done(memory.hand_and_hand(one, other, procedure)),
+        FillingCall::NewHandleOf(ref bytes) => {
+            handle(memory.new_handle_of(bytes.as_slice(), procedure))
+        }
+        FillingCall::SetHandleTo(handle, ref bytes) => {
+            done(memory.set_handle_to(handle, bytes.as_slice(), procedure))
+        }
+        FillingCall::Append(handle, ref bytes) => {
+            done(memory.append(handle, bytes.as_slice(), procedure))
+        }
+    }
+}
+
+/// Makes a call on a block that requests none.
+fn on_block(memory: &mut MemoryManager, call: &BlockCall<'_>) -> Outcome
+    ensures step { MemorySteps memory.old (OnBlock call.now) [] result memory.new }
+    ensures loans { KeepsLoans memory.old memory.new }
+{
+    match *call {
+        BlockCall::DisposeHandle(handle) => done(memory.dispose_handle(handle)),
+        BlockCall::DisposePtr(pointer) => done(memory.dispose_ptr(pointer)),
+        BlockCall::EmptyHandle(handle) => done(memory.empty_handle(handle)),
+        BlockCall::GetHandleSize(handle) => number(memory.get_handle_size(handle)),
+        BlockCall::GetPtrSize(pointer) => number(memory.get_ptr_size(pointer)),
+        BlockCall::HLock(handle) => done(memory.hlock(handle)),
+        BlockCall::HUnlock(handle) => done(memory.hunlock(handle)),
+        BlockCall::HPurge(handle) => done(memory.hpurge(handle)),
+        BlockCall::HNoPurge(handle) => done(memory.hno_purge(handle)),
+        BlockCall::HSetRBit(handle) => done(memory.hset_rbit(handle)),
+        BlockCall::HClrRBit(handle) => done(memory.hclr_rbit(handle)),
+        BlockCall::HGetState(handle) => number(memory.hget_state(handle)),
+        BlockCall::HSetState(handle, state) => done(memory.hset_state(handle, state)),
+        BlockCall::MoveHHi(handle) => done(memory.move_hhi(handle)),
+        BlockCall::HLockHi(handle) => done(memory.hlock_hi(handle)),
+        BlockCall::RecoverHandle(address) => handle(memory.recover_handle(address)),
+        BlockCall::Deref(handle) => address(memory.deref(handle)),
+        BlockCall::BlockMove {
             from,
             start,
             to,
             offset,
             count,
-        } => Some(done(memory.block_move(from, start, to, offset, count))),
-        MemoryCall::Poke {
+        } => done(memory.block_move(from, start, to, offset, count)),
+        BlockCall::Poke {
             block,
             offset,
             ref bytes,
-        } => Some(poke(memory, block, offset, bytes.as_slice())),
-        _ => make_on_zone(memory, call),
+        } => poke(memory, block, offset, bytes.as_slice()),
     }
 }
 
-/// Makes such a call on the zone as a whole.
-fn make_on_zone(memory: &mut MemoryManager, call: &MemoryCall<'_>) -> Option<Outcome>
-    ensures step { IfSome result (λ outcome. MemorySteps memory.old call.now [] outcome memory.new) }
+/// Makes a call on the zone as a whole.
+fn on_zone(memory: &mut MemoryManager, call: &ZoneCall) -> Outcome
+    ensures step { MemorySteps memory.old (OnZone call.now) [] result memory.new }
     ensures loans { KeepsLoans memory.old memory.new }
-    ensures on_zone { is_some result ≡ is_on_zone call.now }
-    ensures unchanged { IfNone result (memory.new ≡ memory.old) }
 {
     match *call {
-        MemoryCall::CompactMem(size) => Some(number(memory.compact_mem(size))),
-        MemoryCall::PurgeMem(size) => Some(done(memory.purge_mem(size))),
-        MemoryCall::MaxMem => Some(two_numbers(memory.max_mem())),
-        MemoryCall::PurgeSpace => Some(two_sizes(memory.purge_space())),
-        MemoryCall::MaxBlock => Some(number(Ok(memory.max_block()))),
-        MemoryCall::FreeMem => Some(number(Ok(memory.free_mem()))),
-        MemoryCall::MaxApplZone => {
+        ZoneCall::CompactMem(size) => number(memory.compact_mem(size)),
+        ZoneCall::PurgeMem(size) => done(memory.purge_mem(size)),
+        ZoneCall::MaxMem => two_numbers(memory.max_mem()),
+        ZoneCall::PurgeSpace => two_sizes(memory.purge_space()),
+        ZoneCall::MaxBlock => number(Ok(memory.max_block())),
+        ZoneCall::FreeMem => number(Ok(memory.free_mem())),
+        ZoneCall::MaxApplZone => {
             memory.max_appl_zone();
-            Some(Ok(Results::Nothing))
+            Ok(Results::Nothing)
         }
-        _ => None,
     }
 }
 
 /// A copy of what the zone has: of bytes of a block, or of the list of its blocks.
-fn copy(memory: &MemoryManager, alloc: Global, call: &MemoryCall<'_>) -> Result<Outcome, HostFull>
-    requires { IsTrue (copies call.now) }
-    ensures step { IfOk result (λ outcome. MemorySteps memory.now call.now [] outcome memory.now) }
-    ensures late { OnErr result (refusal memory.now.shape memory.now.heap call.now ≡ None) }
+fn show(memory: &MemoryManager, alloc: Global, call: &ShowingCall) -> Result<Outcome, HostFull>
+    ensures step { IfOk result (λ outcome. MemorySteps memory.now (Showing call.now) [] outcome memory.now) }
+    ensures late { OnErr result (refusal memory.now.shape memory.now.heap (Showing call.now) ≡ None) }
 {
     match *call {
-        MemoryCall::Peek {
+        ShowingCall::Peek {
             block,
             offset,
             count,
         } => peek_copy(memory, alloc, block, offset, count),
-        _ => zone_map(memory, alloc),
+        ShowingCall::ZoneMap => zone_map(memory, alloc),
     }
 }
 

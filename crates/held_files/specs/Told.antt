@@ -11,7 +11,8 @@ use Rattle.mac_base.specs.Released.{disposed_in, disposed_of}
 use Rattle.mac_base.specs.declared.reply.ResourceInfo.{ResourceInfo}
 use Rattle.mac_base.specs.declared.reply.Results.TheVariants.{Info, Kind}
 use Rattle.held_files.specs.declared.told.MrInfo.{MrInfo}
-use Rattle.mac_base.specs.declared.memory_call.MemoryCall.TheVariants.{DisposeHandle}
+use Rattle.mac_base.specs.declared.memory_call.MemoryCall.TheVariants.{OnBlock}
+use Rattle.mac_base.specs.declared.memory_call.BlockCall.TheVariants.{DisposeHandle}
 use Rattle.mac_base.specs.declared.resource_call.ResourceCall.TheVariants.{GetResInfo, OpenResFile}
 use Rattle.res_update.specs.Device.{Disk}
 use Rattle.res_update.specs.declared.seeking_call.SeekingCall.{SeekingCall}
@@ -101,7 +102,7 @@ ForgetTold None old_files code new new_files = (code ≡ no_zone) × (new ≡ No
 -- A handle is disposed of, and rows forget it, as well as those of which answers disposed.
 abbrev pub Disposes : State → ForksState → ℕ → Outcome → State → ForksState → Type 0
 Disposes old old_files h outcome new new_files =
-    Makes old (DisposeHandle h) outcome new × (new_files ≡ without_handles (disposed_of (DisposeHandle h) new.asks outcome) old_files)
+    Makes old (OnBlock (DisposeHandle h)) outcome new × (new_files ≡ without_handles (disposed_of (OnBlock (DisposeHandle h)) new.asks outcome) old_files)
 
 -- C disposes of a handle.
 abbrev pub DisposeTold : Option State → Option ForksState → ℕ → ℤ → Option State → Option ForksState → Type 0

@@ -14,7 +14,7 @@ use held_zone::told;
 use mac_base::error::{HostFull, OsErr};
 use mac_base::handle::Handle;
 use mac_base::releasing::ReleasingCall;
-use mac_base::{MemoryCall, Outcome, ResourceCall};
+use mac_base::{BlockCall, MemoryCall, Outcome, ResourceCall};
 use res_files::{MOST_FILES, ResourceFiles};
 use res_update::{CountingCall, PartialEnd, PatchingCall, SeekingCall};
 use std::alloc::Global;
@@ -186,7 +186,7 @@ impl ForkFiles {
         ensures made { IfSome result (λ outcome. Disposes session.old self.old handle outcome session.new self.new) }
         ensures some { IsSome result }
     {
-        let made = session.make(&MemoryCall::DisposeHandle(handle));
+        let made = session.make(&MemoryCall::OnBlock(BlockCall::DisposeHandle(handle)));
         self.forget_asked(session.asks());
         if let Some(Ok(_)) = made {
             self.forget(handle);

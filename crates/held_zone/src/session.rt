@@ -60,7 +60,8 @@ impl Session {
     ghost use Rattle.std.specs.Prelude.{◌++◌, ◌∷◌, not, length, is_some, IfOk, IfSome, IfNone, OnOk, OnErr};
     ghost use Rattle.std.specs.Result.{result_err};
     ghost use Rattle.mac_base.specs.declared.loan_call.LoanCall.TheVariants as loan_call;
-    ghost use Rattle.mac_base.specs.declared.memory_call.MemoryCall.TheVariants as call;
+    ghost use Rattle.mac_base.specs.declared.memory_call.MemoryCall.TheVariants.{Showing};
+    ghost use Rattle.mac_base.specs.declared.memory_call.ShowingCall.TheVariants.{Peek};
     ghost use Rattle.mac_base.specs.LoanStep.{loan_refusal};
     ghost use Rattle.held_calls.specs.Making.{copies};
     ghost use Rattle.held_calls.specs.Holding.{IsWindow};
@@ -101,7 +102,7 @@ impl Session {
     /// Peek: copies bytes of a block, from an offset on, over as many others.
     #[tactic(auto, using(crate::proofs::Made::stays_lent, crate::proofs::Made::same_lent))]
     pub fn peek(&mut self, block: u32, offset: u32, bytes: &mut [u8]) -> Result<(), OsErr>
-        ensures makes { Makes self.old (call.Peek block offset (length bytes.old)) (shown_outcome result bytes.new) self.new }
+        ensures makes { Makes self.old (Showing (Peek block offset (length bytes.old))) (shown_outcome result bytes.new) self.new }
         ensures kept { OnErr result (bytes.new ≡ bytes.old) }
     {
         self.answers.begin();

@@ -116,7 +116,7 @@ impl LinkedZone {
         requires here { IsFalse (is_lent self.old.heap.table pointer) }
         ensures { self.new ≡ unfixed pointer self.old }
     {
-        let at = self.place_of(pointer.number());
+        let at = self.address_of(pointer.number());
         self.records.set_free(at);
     }
 

@@ -12,8 +12,8 @@ impl LinkedZone {
         requires { CanCopy self.old from start to offset count }
         ensures { self.new ≡ copied from start to offset count self.old }
     {
-        let source = self.place_of(from);
-        let target = self.place_of(to);
+        let source = self.address_of(from);
+        let target = self.address_of(to);
         self.records.copy(source, start, target, offset, count);
     }
 }

@@ -19,7 +19,7 @@ impl LinkedZone {
         ensures loan { IsLoanOf self.new block result }
         ensures bytes { result.bytes ≡ bytes_of self.old.heap.table block }
     {
-        let at = self.place_of(block);
+        let at = self.address_of(block);
         self.records.lend(at)
     }
 
@@ -28,7 +28,7 @@ impl LinkedZone {
         requires { IsLoanOf self.old block loan }
         ensures { self.new ≡ with_heap (returned block loan.bytes self.old.heap) self.old }
     {
-        let at = self.place_of(block);
+        let at = self.address_of(block);
         self.records.give_back(at, loan);
     }
 }

@@ -17,7 +17,7 @@ impl LinkedZone {
         requires here { IsFalse (is_lent self.old.heap.table block) }
         ensures { (can : CanHold self.old block size length) → self.new ≡ held_there self.old can }
     {
-        let at = self.place_of(block);
+        let at = self.address_of(block);
         self.records.hold(at, size, length);
     }
 
@@ -28,7 +28,7 @@ impl LinkedZone {
         requires here { IsFalse (is_lent self.old.heap.table block) }
         ensures { (can : CanGrow self.old block size length) → self.new ≡ enlarged self.old can }
     {
-        let at = self.place_of(block);
+        let at = self.address_of(block);
         self.records.grow(at, size, length);
     }
 
@@ -39,7 +39,7 @@ impl LinkedZone {
         ensures* writes_back { sem 𝓛 (WritesBackBytes self.entry block result) }
         ensures value { result.now ≡ bytes_of self.old.heap.table block }
     {
-        let at = self.place_of(block);
+        let at = self.address_of(block);
         self.records.contents_mut(at)
     }
 }

@@ -137,7 +137,7 @@ impl LinkedZone {
         requires { IsTrue (has_block self.now.heap.table block) }
         ensures { result ≡ is_lent self.now.heap.table block }
     {
-        self.records.is_lent(self.place_of(block))
+        self.records.is_lent(self.address_of(block))
     }
 
     /// How many blocks are lent.
@@ -153,7 +153,7 @@ impl LinkedZone {
         requires { IsTrue (has_block self.now.heap.table block) }
         ensures { result ≡ length (bytes_of self.now.heap.table block) }
     {
-        self.records.length_at(self.place_of(block))
+        self.records.length_at(self.address_of(block))
     }
 
     /// How many bytes a handle or a pointer has: none where it isn't live, or empty.
@@ -168,7 +168,7 @@ impl LinkedZone {
     }
 
     /// The address of the block of a handle or a pointer that has one.
-    pub fn place_of(&self, block: u32) -> u32
+    pub fn address_of(&self, block: u32) -> u32
         requires { IsTrue (has_block self.now.heap.table block) }
         ensures { NamedAt self.now block result }
     {
@@ -211,7 +211,7 @@ impl LinkedZone {
         requires here { IsFalse (is_lent self.now.heap.table block) }
         ensures { result.now ≡ bytes_of self.now.heap.table block }
     {
-        self.records.contents(self.place_of(block))
+        self.records.contents(self.address_of(block))
     }
 
     /// The first block that begins at an address or after it, if there is one. No header is read.

@@ -6,15 +6,16 @@ use Rattle.mac_base.specs.declared.releasing.ReleasingCall.{ReleasingCall}
 use Rattle.mac_base.specs.declared.releasing.ReleasingCall.TheVariants.{DisposesHandle}
 use Rattle.mac_base.specs.Releasing.{operand_of}
 use Rattle.mac_base.specs.declared.memory_call.MemoryCall.{MemoryCall}
-use Rattle.mac_base.specs.declared.memory_call.MemoryCall.TheVariants as memory_call
+use Rattle.mac_base.specs.declared.memory_call.MemoryCall.TheVariants.{OnBlock}
+use Rattle.mac_base.specs.declared.memory_call.BlockCall.TheVariants.{DisposeHandle, DisposePtr, EmptyHandle}
 use Rattle.mac_base.specs.GrowZone.{Ask}
 use Rattle.mac_base.specs.Outcomes.{Outcome}
 
 -- the block that a call releases itself, unless it is refused
 abbrev pub released_itself : MemoryCall → Outcome → Option ℕ
-released_itself (memory_call.DisposeHandle h) (Ok results) = Some h
-released_itself (memory_call.DisposePtr p) (Ok results) = Some p
-released_itself (memory_call.EmptyHandle h) (Ok results) = Some h
+released_itself (OnBlock (DisposeHandle h)) (Ok results) = Some h
+released_itself (OnBlock (DisposePtr p)) (Ok results) = Some p
+released_itself (OnBlock (EmptyHandle h)) (Ok results) = Some h
 released_itself _ _ = None
 
 -- the operand of a call of an answer, unless it was refused
@@ -28,7 +29,7 @@ released_in asks = flat_map (λ (ask : Ask). filter_map released_by ask.carried)
 
 -- the handle that a call disposes of itself, unless it is refused
 abbrev pub disposed_itself : MemoryCall → Outcome → Option ℕ
-disposed_itself (memory_call.DisposeHandle h) (Ok results) = Some h
+disposed_itself (OnBlock (DisposeHandle h)) (Ok results) = Some h
 disposed_itself call outcome = None
 
 -- the handle that an answer's call disposed of, unless it was refused

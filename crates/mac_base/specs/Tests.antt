@@ -10,7 +10,12 @@ use Rattle.mac_base.specs.Heap.{Heap}
 use Rattle.mac_base.specs.Loans.{may_be_lent}
 use Rattle.mac_base.specs.FlagState.{state_locks}
 use Rattle.mac_base.specs.declared.memory_call.MemoryCall.{MemoryCall}
-use Rattle.mac_base.specs.declared.memory_call.MemoryCall.TheVariants as memory_call
+use Rattle.mac_base.specs.declared.memory_call.MemoryCall.TheVariants.{Filling, OnBlock, OnZone, Requesting, Showing}
+use Rattle.mac_base.specs.declared.memory_call.BlockCall.TheVariants.{DisposeHandle, DisposePtr, EmptyHandle, GetHandleSize, GetPtrSize, HLock, HPurge, HNoPurge, HSetRBit, HClrRBit, HUnlock, HGetState, HSetState, MoveHHi, HLockHi, RecoverHandle, Deref, Poke, BlockMove}
+use Rattle.mac_base.specs.declared.memory_call.FillingCall.TheVariants.{HandToHand, PtrToHand, PtrToXHand, PtrAndHand, NewHandleOf, SetHandleTo, Append, HandAndHand}
+use Rattle.mac_base.specs.declared.memory_call.RequestingCall.TheVariants.{NewHandle, NewPtr, ReserveMem, SetHandleSize, SetPtrSize, ReallocateHandle}
+use Rattle.mac_base.specs.declared.memory_call.ShowingCall.TheVariants.{Peek}
+use Rattle.mac_base.specs.declared.memory_call.ZoneCall.TheVariants.{CompactMem, PurgeMem}
 
 -- what a call's operands are tested for
 pub data Test : Type 0 where
@@ -62,42 +67,42 @@ first_refusal s heap (test ∷ tests) = option_or (refused_by s heap test) (firs
 
 -- the tests of each call, in their order
 abbrev pub tests_of : MemoryCall → List Test
-tests_of (memory_call.NewHandle n) = IsSize n ∷ []
-tests_of (memory_call.NewPtr n) = IsSize n ∷ []
-tests_of (memory_call.ReserveMem n) = IsSize n ∷ []
-tests_of (memory_call.CompactMem n) = IsSize n ∷ []
-tests_of (memory_call.PurgeMem n) = IsSize n ∷ []
-tests_of (memory_call.DisposeHandle h) = IsHandle h ∷ NotLent h ∷ []
-tests_of (memory_call.DisposePtr p) = IsPointer p ∷ NotLent p ∷ []
-tests_of (memory_call.EmptyHandle h) = IsHandle h ∷ NotLent h ∷ NotLocked MemPurErr h ∷ []
-tests_of (memory_call.SetHandleSize h n) = IsHandle h ∷ NotEmpty h ∷ NotLent h ∷ IsSize n ∷ []
-tests_of (memory_call.GetHandleSize h) = IsHandle h ∷ NotEmpty h ∷ []
-tests_of (memory_call.SetPtrSize p n) = IsPointer p ∷ NotLent p ∷ IsSize n ∷ []
-tests_of (memory_call.GetPtrSize p) = IsPointer p ∷ []
-tests_of (memory_call.ReallocateHandle h n) = IsHandle h ∷ NotLent h ∷ NotLocked MemPurErr h ∷ IsSize n ∷ []
-tests_of (memory_call.HandToHand h) = IsHandle h ∷ NotEmpty h ∷ NotLent h ∷ []
-tests_of (memory_call.PtrToHand p n) = IsPointer p ∷ NotLent p ∷ IsWithin p 0 n ∷ []
-tests_of (memory_call.PtrToXHand p h n) = IsPointer p ∷ NotLent p ∷ IsHandle h ∷ NotEmpty h ∷ NotLent h ∷ IsWithin p 0 n ∷ []
-tests_of (memory_call.PtrAndHand p h n) = IsPointer p ∷ NotLent p ∷ IsHandle h ∷ NotEmpty h ∷ NotLent h ∷ IsWithin p 0 n ∷ []
-tests_of (memory_call.NewHandleOf bytes) = IsSize (length bytes) ∷ []
-tests_of (memory_call.SetHandleTo h bytes) = IsHandle h ∷ NotEmpty h ∷ NotLent h ∷ IsSize (length bytes) ∷ []
-tests_of (memory_call.Append h bytes) = IsHandle h ∷ NotEmpty h ∷ NotLent h ∷ IsSize (length bytes) ∷ []
-tests_of (memory_call.HandAndHand a b) = IsHandle a ∷ NotEmpty a ∷ NotLent a ∷ IsHandle b ∷ NotEmpty b ∷ NotLent b ∷ []
-tests_of (memory_call.HLock h) = IsHandle h ∷ NotEmpty h ∷ []
-tests_of (memory_call.HPurge h) = IsHandle h ∷ NotEmpty h ∷ []
-tests_of (memory_call.HNoPurge h) = IsHandle h ∷ NotEmpty h ∷ []
-tests_of (memory_call.HSetRBit h) = IsHandle h ∷ NotEmpty h ∷ []
-tests_of (memory_call.HClrRBit h) = IsHandle h ∷ NotEmpty h ∷ []
-tests_of (memory_call.HUnlock h) = IsHandle h ∷ NotEmpty h ∷ NotLent h ∷ []
-tests_of (memory_call.HGetState h) = IsHandle h ∷ NotEmpty h ∷ []
-tests_of (memory_call.HSetState h n) = IsHandle h ∷ NotEmpty h ∷ IsState n ∷ KeepsLent h n ∷ []
-tests_of (memory_call.MoveHHi h) = IsHandle h ∷ NotEmpty h ∷ NotLocked MemLockedErr h ∷ []
-tests_of (memory_call.HLockHi h) = IsHandle h ∷ NotEmpty h ∷ NotLocked MemLockedErr h ∷ []
-tests_of (memory_call.RecoverHandle a) = IsContents a ∷ []
-tests_of (memory_call.Deref h) = IsHandle h ∷ NotEmpty h ∷ []
-tests_of (memory_call.Peek x at n) = IsBlock x ∷ NotEmpty x ∷ NotLent x ∷ IsWithin x at n ∷ []
-tests_of (memory_call.Poke x at bytes) = IsBlock x ∷ NotEmpty x ∷ NotLent x ∷ IsWithin x at (length bytes) ∷ []
-tests_of (memory_call.BlockMove x at y to n) = IsBlock x ∷ NotEmpty x ∷ NotLent x ∷ IsBlock y ∷ NotEmpty y ∷ NotLent y ∷ IsWithin x at n ∷ IsWithin y to n ∷ []
+tests_of (Requesting (NewHandle n)) = IsSize n ∷ []
+tests_of (Requesting (NewPtr n)) = IsSize n ∷ []
+tests_of (Requesting (ReserveMem n)) = IsSize n ∷ []
+tests_of (OnZone (CompactMem n)) = IsSize n ∷ []
+tests_of (OnZone (PurgeMem n)) = IsSize n ∷ []
+tests_of (OnBlock (DisposeHandle h)) = IsHandle h ∷ NotLent h ∷ []
+tests_of (OnBlock (DisposePtr p)) = IsPointer p ∷ NotLent p ∷ []
+tests_of (OnBlock (EmptyHandle h)) = IsHandle h ∷ NotLent h ∷ NotLocked MemPurErr h ∷ []
+tests_of (Requesting (SetHandleSize h n)) = IsHandle h ∷ NotEmpty h ∷ NotLent h ∷ IsSize n ∷ []
+tests_of (OnBlock (GetHandleSize h)) = IsHandle h ∷ NotEmpty h ∷ []
+tests_of (Requesting (SetPtrSize p n)) = IsPointer p ∷ NotLent p ∷ IsSize n ∷ []
+tests_of (OnBlock (GetPtrSize p)) = IsPointer p ∷ []
+tests_of (Requesting (ReallocateHandle h n)) = IsHandle h ∷ NotLent h ∷ NotLocked MemPurErr h ∷ IsSize n ∷ []
+tests_of (Filling (HandToHand h)) = IsHandle h ∷ NotEmpty h ∷ NotLent h ∷ []
+tests_of (Filling (PtrToHand p n)) = IsPointer p ∷ NotLent p ∷ IsWithin p 0 n ∷ []
+tests_of (Filling (PtrToXHand p h n)) = IsPointer p ∷ NotLent p ∷ IsHandle h ∷ NotEmpty h ∷ NotLent h ∷ IsWithin p 0 n ∷ []
+tests_of (Filling (PtrAndHand p h n)) = IsPointer p ∷ NotLent p ∷ IsHandle h ∷ NotEmpty h ∷ NotLent h ∷ IsWithin p 0 n ∷ []
+tests_of (Filling (NewHandleOf bytes)) = IsSize (length bytes) ∷ []
+tests_of (Filling (SetHandleTo h bytes)) = IsHandle h ∷ NotEmpty h ∷ NotLent h ∷ IsSize (length bytes) ∷ []
+tests_of (Filling (Append h bytes)) = IsHandle h ∷ NotEmpty h ∷ NotLent h ∷ IsSize (length bytes) ∷ []
+tests_of (Filling (HandAndHand a b)) = IsHandle a ∷ NotEmpty a ∷ NotLent a ∷ IsHandle b ∷ NotEmpty b ∷ NotLent b ∷ []
+tests_of (OnBlock (HLock h)) = IsHandle h ∷ NotEmpty h ∷ []
+tests_of (OnBlock (HPurge h)) = IsHandle h ∷ NotEmpty h ∷ []
+tests_of (OnBlock (HNoPurge h)) = IsHandle h ∷ NotEmpty h ∷ []
+tests_of (OnBlock (HSetRBit h)) = IsHandle h ∷ NotEmpty h ∷ []
+tests_of (OnBlock (HClrRBit h)) = IsHandle h ∷ NotEmpty h ∷ []
+tests_of (OnBlock (HUnlock h)) = IsHandle h ∷ NotEmpty h ∷ NotLent h ∷ []
+tests_of (OnBlock (HGetState h)) = IsHandle h ∷ NotEmpty h ∷ []
+tests_of (OnBlock (HSetState h n)) = IsHandle h ∷ NotEmpty h ∷ IsState n ∷ KeepsLent h n ∷ []
+tests_of (OnBlock (MoveHHi h)) = IsHandle h ∷ NotEmpty h ∷ NotLocked MemLockedErr h ∷ []
+tests_of (OnBlock (HLockHi h)) = IsHandle h ∷ NotEmpty h ∷ NotLocked MemLockedErr h ∷ []
+tests_of (OnBlock (RecoverHandle a)) = IsContents a ∷ []
+tests_of (OnBlock (Deref h)) = IsHandle h ∷ NotEmpty h ∷ []
+tests_of (Showing (Peek x at n)) = IsBlock x ∷ NotEmpty x ∷ NotLent x ∷ IsWithin x at n ∷ []
+tests_of (OnBlock (Poke x at bytes)) = IsBlock x ∷ NotEmpty x ∷ NotLent x ∷ IsWithin x at (length bytes) ∷ []
+tests_of (OnBlock (BlockMove x at y to n)) = IsBlock x ∷ NotEmpty x ∷ NotLent x ∷ IsBlock y ∷ NotEmpty y ∷ NotLent y ∷ IsWithin x at n ∷ IsWithin y to n ∷ []
 tests_of _ = []
 
 -- the refusal of a call, if it is refused before anything is changed
@@ -106,14 +111,14 @@ refusal s heap call = first_refusal s heap (tests_of call)
 
 -- the operands that name blocks; a running call protects them
 abbrev pub protected_by : MemoryCall → List ℕ
-protected_by (memory_call.SetHandleSize h n) = h ∷ []
-protected_by (memory_call.SetPtrSize p n) = p ∷ []
-protected_by (memory_call.ReallocateHandle h n) = h ∷ []
-protected_by (memory_call.HandToHand h) = h ∷ []
-protected_by (memory_call.PtrToHand p n) = p ∷ []
-protected_by (memory_call.PtrToXHand p h n) = p ∷ h ∷ []
-protected_by (memory_call.PtrAndHand p h n) = p ∷ h ∷ []
-protected_by (memory_call.SetHandleTo h bytes) = h ∷ []
-protected_by (memory_call.Append h bytes) = h ∷ []
-protected_by (memory_call.HandAndHand a b) = a ∷ b ∷ []
+protected_by (Requesting (SetHandleSize h n)) = h ∷ []
+protected_by (Requesting (SetPtrSize p n)) = p ∷ []
+protected_by (Requesting (ReallocateHandle h n)) = h ∷ []
+protected_by (Filling (HandToHand h)) = h ∷ []
+protected_by (Filling (PtrToHand p n)) = p ∷ []
+protected_by (Filling (PtrToXHand p h n)) = p ∷ h ∷ []
+protected_by (Filling (PtrAndHand p h n)) = p ∷ h ∷ []
+protected_by (Filling (SetHandleTo h bytes)) = h ∷ []
+protected_by (Filling (Append h bytes)) = h ∷ []
+protected_by (Filling (HandAndHand a b)) = a ∷ b ∷ []
 protected_by _ = []

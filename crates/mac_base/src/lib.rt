@@ -25,7 +25,9 @@ pub mod zone_spec;
 pub use call::Call;
 pub use grow_zone::{Answer, Asked, GrowZone};
 pub use loan_call::LoanCall;
-pub use memory_call::{MemoryCall, Span};
+pub use memory_call::{
+    BlockCall, FillingCall, MemoryCall, RequestingCall, ShowingCall, Span, ZoneCall,
+};
 pub use no_procedure::NoProcedure;
 pub use reply::{BlockList, Outcome, Reply, ResourceInfo, Results};
 pub use resource_call::{ChangingCall, GettingCall, LookingCall, ResourceCall, WritingCall};

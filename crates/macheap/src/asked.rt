@@ -42,10 +42,10 @@ pub enum NotAsked {
     #[error("{0}")]
     Words(clap::Error),
     /// There are more files than a run may have.
-    #[error("error: --fork may stand 8 times; see 'macheap --help'")]
+    #[error("error: --fork may be given 8 times; see 'macheap --help'")]
     TooManyForks,
     /// There are journals, and not one for each file.
-    #[error("error: --journal stands as often as --fork, or not at all; see 'macheap --help'")]
+    #[error("error: give --journal as often as --fork, or not at all; see 'macheap --help'")]
     OtherJournals,
     /// An option's value is no number.
     #[error("error: --{0} takes decimal digits for a number up to 4294967295; see 'macheap --help'")]

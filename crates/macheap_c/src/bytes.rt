@@ -2,7 +2,8 @@
 
 ghost use Rattle.std.specs.Prelude.{◌≡◌, length};
 ghost use Rattle.mac_base.specs.declared.loan_call.LoanCall.TheVariants as loan_call;
-ghost use Rattle.mac_base.specs.declared.memory_call.MemoryCall.TheVariants as call;
+ghost use Rattle.mac_base.specs.declared.memory_call.MemoryCall.TheVariants.{Showing};
+ghost use Rattle.mac_base.specs.declared.memory_call.ShowingCall.TheVariants.{Peek};
 ghost use Rattle.held_zone.specs.Told.{LoanToldBytes, ToldBytes, WindowTold};
 
 use held_zone::told::{self, NO_ZONE};
@@ -19,7 +20,7 @@ pub extern "C" fn mh_peek(
     offset: u32,
     bytes: &mut [u8],
 ) -> i16
-    ensures { ToldBytes zone.old.held.session (call.Peek block offset (length bytes.old)) result bytes.old bytes.new zone.new.held.session }
+    ensures { ToldBytes zone.old.held.session (Showing (Peek block offset (length bytes.old))) result bytes.old bytes.new zone.new.held.session }
 {
     let Some(mut session) = zone.take(alloc) else {
         return NO_ZONE;

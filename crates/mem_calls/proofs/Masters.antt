@@ -109,7 +109,7 @@ module _ (s : Shape) (protected : List ℕ) (r : Request) (before : List Ask) (u
   pub call-after_master : (left more x : ℕ) (between after : List Ask) (given : Option ℕ) (mid new : Heap) → lacks_slot r old ≡ true → IsRun s protected NewMaster most_answers left before between old (Some x) mid
       → IsRun s protected r left more between after mid given new → IsCallRun s protected r after old (given_or_full given) new
   call-after_master left more x between after given mid new slot first run =
-      let following : after ≡ first.asks ++ run.asks = run.after ∙ ap (λ asks. asks ++ run.asks) (first.after ∙ ap (λ asks. asks ++ first.asks) unasked) in
+      let following : after ≡ first.asks ++ run.asks = run.follows ∙ ap (λ asks. asks ++ run.asks) (first.follows ∙ ap (λ asks. asks ++ first.asks) unasked) in
       let counted = first.counted in
       let still : most_answers - length first.asks ≡ left = omega (arith, counted) in
       let answers = answers_in run.asks in
@@ -139,7 +139,7 @@ module _ (s : Shape) (protected : List ℕ) (r : Request) (before : List Ask) (u
   -- and the procedure may still answer
   pub more-after_master : (left x : ℕ) (between : List Ask) (mid : Heap) → IsRun s protected NewMaster most_answers left before between old (Some x) mid → MayAskMore left between
   more-after_master left x between mid first =
-      let following : between ≡ first.asks = first.after ∙ ap (λ asks. asks ++ first.asks) unasked in
+      let following : between ≡ first.asks = first.follows ∙ ap (λ asks. asks ++ first.asks) unasked in
       let counted = first.counted in
       let long = ap (λ (asks : List Ask). length asks) following in
       record {

@@ -10,17 +10,18 @@ use Rattle.mac_base.specs.ZoneState.{ZoneState}
 use Rattle.mac_base.specs.declared.releasing.ReleasingCall.{ReleasingCall}
 use Rattle.mac_base.specs.GrowZone.{memory_call}
 use Rattle.mac_base.specs.Tests.{IsHandle, NotLent, NotLocked, first_refusal, refusal}
-use Rattle.mac_base.specs.declared.memory_call.MemoryCall.TheVariants.{EmptyHandle}
+use Rattle.mac_base.specs.declared.memory_call.MemoryCall.TheVariants.{OnBlock}
+use Rattle.mac_base.specs.declared.memory_call.BlockCall.TheVariants.{EmptyHandle}
 use Rattle.mem_calls.specs.Releasing.{EndsRelease}
 use Rattle.mem_calls.proofs.Passing.{refused-first, refused-later}
 
 -- the handle isn't live, or is lent
-pub empty-not_here : (s : Shape) (heap : Heap) (h : ℕ) (code : OsErr) → first_refusal s heap (IsHandle h ∷ NotLent h ∷ []) ≡ Some code → refusal s heap (EmptyHandle h) ≡ Some code
+pub empty-not_here : (s : Shape) (heap : Heap) (h : ℕ) (code : OsErr) → first_refusal s heap (IsHandle h ∷ NotLent h ∷ []) ≡ Some code → refusal s heap (OnBlock (EmptyHandle h)) ≡ Some code
 empty-not_here s heap h code is = refused-first s heap (IsHandle h ∷ NotLent h ∷ []) (NotLocked MemPurErr h ∷ []) code is
 
 -- it is locked
 pub empty-locked : (s : Shape) (heap : Heap) (h : ℕ) (code : OsErr) → first_refusal s heap (IsHandle h ∷ NotLent h ∷ []) ≡ None → first_refusal s heap (NotLocked MemPurErr h ∷ []) ≡ Some code
-    → refusal s heap (EmptyHandle h) ≡ Some code
+    → refusal s heap (OnBlock (EmptyHandle h)) ≡ Some code
 empty-locked s heap h code passed is = refused-later s heap (IsHandle h ∷ NotLent h ∷ []) (NotLocked MemPurErr h ∷ []) code passed is
 
 -- a call that is refused has changed nothing

@@ -61,7 +61,7 @@ pub record MayAskMore (allowed : ℕ) (asks : List Ask) : Type 0 where
 -- a request runs with some asks after those before, and leaves so many answers of those that are allowed
 pub record IsRun (s : Shape) (protected : List ℕ) (r : Request) (allowed left : ℕ) (before after : List Ask) (old : Heap) (given : Option ℕ) (new : Heap) : Type 0 where
   pub asks : List Ask
-  pub after : after ≡ before ++ asks
+  pub follows : after ≡ before ++ asks
   pub run : request_run s protected r allowed (answers_in asks) old ≡ record { given = given; heap = new; asks = asks; left = [] }
   pub counted : length asks + left ≡ allowed
 

@@ -12,7 +12,8 @@ ghost use Rattle.mac_base.specs.declared.request.Request.TheVariants.{NewBlock, 
 ghost use Rattle.mem_calls.specs.Requesting.{IsCopyRun, done};
 ghost use Rattle.mem_calls.specs.Testing.{Tests, TestsSize};
 ghost use Rattle.linked_zone.specs.Loans.{KeepsLoans};
-ghost use Rattle.mac_base.specs.declared.memory_call.MemoryCall.TheVariants as call;
+ghost use Rattle.mac_base.specs.declared.memory_call.MemoryCall.TheVariants.{Filling};
+ghost use Rattle.mac_base.specs.declared.memory_call.FillingCall.TheVariants.{NewHandleOf, SetHandleTo, Append};
 ghost use Rattle.mac_base.specs.MemoryStep.{MemoryStep};
 ghost use Rattle.mac_base.specs.ExactStep.{IsExactStep};
 ghost use Rattle.mac_base.specs.Outcomes.{handle_outcome, done_outcome};
@@ -57,7 +58,7 @@ fn write_after(zone: &mut Zone, block: u32, offset: u32, bytes: &[u8])
     ensures loans { KeepsLoans zone.old zone.new }
 {
     let start = offset as usize;
-    let contents = zone.bytes_mut(block);
+    let contents = zone.contents_mut(block);
     contents[start..start + bytes.len()].copy_from_slice(bytes);
 }
 
@@ -121,8 +122,8 @@ impl MemoryManager {
         procedure: &mut G,
     ) -> Result<Handle, OsErr>
         requires { G.asks procedure.old ≡ [] }
-        ensures exact { IsExactStep self.old.shape self.old.heap (call.NewHandleOf bytes.now) (G.asks procedure.new) (handle_outcome result) self.new.heap }
-        ensures step { MemoryStep self.old.shape self.old.heap (call.NewHandleOf bytes.now) (G.asks procedure.new) (handle_outcome result) self.new.heap }
+        ensures exact { IsExactStep self.old.shape self.old.heap (Filling (NewHandleOf bytes.now)) (G.asks procedure.new) (handle_outcome result) self.new.heap }
+        ensures step { MemoryStep self.old.shape self.old.heap (Filling (NewHandleOf bytes.now)) (G.asks procedure.new) (handle_outcome result) self.new.heap }
         ensures source { G.source procedure.new ≡ G.source procedure.old }
         ensures shape { self.new.shape ≡ self.old.shape }
         ensures loans { KeepsLoans self.old self.new }
@@ -142,8 +143,8 @@ impl MemoryManager {
         procedure: &mut G,
     ) -> Result<(), OsErr>
         requires { G.asks procedure.old ≡ [] }
-        ensures exact { IsExactStep self.old.shape self.old.heap (call.SetHandleTo handle bytes.now) (G.asks procedure.new) (done_outcome result) self.new.heap }
-        ensures step { MemoryStep self.old.shape self.old.heap (call.SetHandleTo handle bytes.now) (G.asks procedure.new) (done_outcome result) self.new.heap }
+        ensures exact { IsExactStep self.old.shape self.old.heap (Filling (SetHandleTo handle bytes.now)) (G.asks procedure.new) (done_outcome result) self.new.heap }
+        ensures step { MemoryStep self.old.shape self.old.heap (Filling (SetHandleTo handle bytes.now)) (G.asks procedure.new) (done_outcome result) self.new.heap }
         ensures source { G.source procedure.new ≡ G.source procedure.old }
         ensures shape { self.new.shape ≡ self.old.shape }
         ensures loans { KeepsLoans self.old self.new }
@@ -163,8 +164,8 @@ impl MemoryManager {
         procedure: &mut G,
     ) -> Result<(), OsErr>
         requires { G.asks procedure.old ≡ [] }
-        ensures exact { IsExactStep self.old.shape self.old.heap (call.Append handle bytes.now) (G.asks procedure.new) (done_outcome result) self.new.heap }
-        ensures step { MemoryStep self.old.shape self.old.heap (call.Append handle bytes.now) (G.asks procedure.new) (done_outcome result) self.new.heap }
+        ensures exact { IsExactStep self.old.shape self.old.heap (Filling (Append handle bytes.now)) (G.asks procedure.new) (done_outcome result) self.new.heap }
+        ensures step { MemoryStep self.old.shape self.old.heap (Filling (Append handle bytes.now)) (G.asks procedure.new) (done_outcome result) self.new.heap }
         ensures source { G.source procedure.new ≡ G.source procedure.old }
         ensures shape { self.new.shape ≡ self.old.shape }
         ensures loans { KeepsLoans self.old self.new }

@@ -8,7 +8,9 @@ ghost use Rattle.mac_base.specs.declared.block.Status.{Status};
 ghost use Rattle.mac_base.specs.declared.request.Request.TheVariants.{NewBlock, Resize};
 ghost use Rattle.mem_calls.specs.Requesting.{IsCopyRun, done};
 ghost use Rattle.linked_zone.specs.Loans.{KeepsLoans};
-ghost use Rattle.mac_base.specs.declared.memory_call.MemoryCall.TheVariants as call;
+ghost use Rattle.mac_base.specs.declared.memory_call.MemoryCall.TheVariants.{Filling, OnBlock};
+ghost use Rattle.mac_base.specs.declared.memory_call.FillingCall.TheVariants.{HandToHand, PtrToHand, PtrToXHand, PtrAndHand, HandAndHand};
+ghost use Rattle.mac_base.specs.declared.memory_call.BlockCall.TheVariants.{BlockMove};
 ghost use Rattle.mac_base.specs.MemoryStep.{MemoryStep};
 ghost use Rattle.mac_base.specs.ExactStep.{IsExactStep};
 ghost use Rattle.mac_base.specs.Outcomes.{handle_outcome, done_outcome};
@@ -93,8 +95,8 @@ impl MemoryManager {
         procedure: &mut G,
     ) -> Result<Handle, OsErr>
         requires { G.asks procedure.old ≡ [] }
-        ensures exact { IsExactStep self.old.shape self.old.heap (call.HandToHand handle) (G.asks procedure.new) (handle_outcome result) self.new.heap }
-        ensures step { MemoryStep self.old.shape self.old.heap (call.HandToHand handle) (G.asks procedure.new) (handle_outcome result) self.new.heap }
+        ensures exact { IsExactStep self.old.shape self.old.heap (Filling (HandToHand handle)) (G.asks procedure.new) (handle_outcome result) self.new.heap }
+        ensures step { MemoryStep self.old.shape self.old.heap (Filling (HandToHand handle)) (G.asks procedure.new) (handle_outcome result) self.new.heap }
         ensures source { G.source procedure.new ≡ G.source procedure.old }
         ensures shape { self.new.shape ≡ self.old.shape }
         ensures loans { KeepsLoans self.old self.new }
@@ -116,8 +118,8 @@ impl MemoryManager {
         procedure: &mut G,
     ) -> Result<Handle, OsErr>
         requires { G.asks procedure.old ≡ [] }
-        ensures exact { IsExactStep self.old.shape self.old.heap (call.PtrToHand pointer count) (G.asks procedure.new) (handle_outcome result) self.new.heap }
-        ensures step { MemoryStep self.old.shape self.old.heap (call.PtrToHand pointer count) (G.asks procedure.new) (handle_outcome result) self.new.heap }
+        ensures exact { IsExactStep self.old.shape self.old.heap (Filling (PtrToHand pointer count)) (G.asks procedure.new) (handle_outcome result) self.new.heap }
+        ensures step { MemoryStep self.old.shape self.old.heap (Filling (PtrToHand pointer count)) (G.asks procedure.new) (handle_outcome result) self.new.heap }
         ensures source { G.source procedure.new ≡ G.source procedure.old }
         ensures shape { self.new.shape ≡ self.old.shape }
         ensures loans { KeepsLoans self.old self.new }
@@ -141,8 +143,8 @@ impl MemoryManager {
         procedure: &mut G,
     ) -> Result<(), OsErr>
         requires { G.asks procedure.old ≡ [] }
-        ensures exact { IsExactStep self.old.shape self.old.heap (call.PtrToXHand pointer handle count) (G.asks procedure.new) (done_outcome result) self.new.heap }
-        ensures step { MemoryStep self.old.shape self.old.heap (call.PtrToXHand pointer handle count) (G.asks procedure.new) (done_outcome result) self.new.heap }
+        ensures exact { IsExactStep self.old.shape self.old.heap (Filling (PtrToXHand pointer handle count)) (G.asks procedure.new) (done_outcome result) self.new.heap }
+        ensures step { MemoryStep self.old.shape self.old.heap (Filling (PtrToXHand pointer handle count)) (G.asks procedure.new) (done_outcome result) self.new.heap }
         ensures source { G.source procedure.new ≡ G.source procedure.old }
         ensures shape { self.new.shape ≡ self.old.shape }
         ensures loans { KeepsLoans self.old self.new }
@@ -164,8 +166,8 @@ impl MemoryManager {
         procedure: &mut G,
     ) -> Result<(), OsErr>
         requires { G.asks procedure.old ≡ [] }
-        ensures exact { IsExactStep self.old.shape self.old.heap (call.PtrAndHand pointer handle count) (G.asks procedure.new) (done_outcome result) self.new.heap }
-        ensures step { MemoryStep self.old.shape self.old.heap (call.PtrAndHand pointer handle count) (G.asks procedure.new) (done_outcome result) self.new.heap }
+        ensures exact { IsExactStep self.old.shape self.old.heap (Filling (PtrAndHand pointer handle count)) (G.asks procedure.new) (done_outcome result) self.new.heap }
+        ensures step { MemoryStep self.old.shape self.old.heap (Filling (PtrAndHand pointer handle count)) (G.asks procedure.new) (done_outcome result) self.new.heap }
         ensures source { G.source procedure.new ≡ G.source procedure.old }
         ensures shape { self.new.shape ≡ self.old.shape }
         ensures loans { KeepsLoans self.old self.new }
@@ -188,8 +190,8 @@ impl MemoryManager {
         procedure: &mut G,
     ) -> Result<(), OsErr>
         requires { G.asks procedure.old ≡ [] }
-        ensures exact { IsExactStep self.old.shape self.old.heap (call.HandAndHand one other) (G.asks procedure.new) (done_outcome result) self.new.heap }
-        ensures step { MemoryStep self.old.shape self.old.heap (call.HandAndHand one other) (G.asks procedure.new) (done_outcome result) self.new.heap }
+        ensures exact { IsExactStep self.old.shape self.old.heap (Filling (HandAndHand one other)) (G.asks procedure.new) (done_outcome result) self.new.heap }
+        ensures step { MemoryStep self.old.shape self.old.heap (Filling (HandAndHand one other)) (G.asks procedure.new) (done_outcome result) self.new.heap }
         ensures source { G.source procedure.new ≡ G.source procedure.old }
         ensures shape { self.new.shape ≡ self.old.shape }
         ensures loans { KeepsLoans self.old self.new }
@@ -215,8 +217,8 @@ impl MemoryManager {
         offset: u32,
         count: u32,
     ) -> Result<(), OsErr>
-        ensures exact { IsExactStep self.old.shape self.old.heap (call.BlockMove from start to offset count) [] (done_outcome result) self.new.heap }
-        ensures step { MemoryStep self.old.shape self.old.heap (call.BlockMove from start to offset count) [] (done_outcome result) self.new.heap }
+        ensures exact { IsExactStep self.old.shape self.old.heap (OnBlock (BlockMove from start to offset count)) [] (done_outcome result) self.new.heap }
+        ensures step { MemoryStep self.old.shape self.old.heap (OnBlock (BlockMove from start to offset count)) [] (done_outcome result) self.new.heap }
         ensures shape { self.new.shape ≡ self.old.shape }
         ensures loans { KeepsLoans self.old self.new }
     {

@@ -2,7 +2,8 @@
 
 ghost use Rattle.std.specs.Prelude.{◌≡◌, []};
 ghost use Rattle.linked_zone.specs.Loans.{KeepsLoans};
-ghost use Rattle.mac_base.specs.declared.memory_call.MemoryCall.TheVariants as call;
+ghost use Rattle.mac_base.specs.declared.memory_call.MemoryCall.TheVariants.{OnBlock};
+ghost use Rattle.mac_base.specs.declared.memory_call.BlockCall.TheVariants.{HLock, HUnlock, HPurge, HNoPurge, HSetRBit, HClrRBit, HGetState, HSetState};
 ghost use Rattle.mac_base.specs.MemoryStep.{MemoryStep};
 ghost use Rattle.mac_base.specs.ExactStep.{IsExactStep};
 ghost use Rattle.mac_base.specs.Outcomes.{number_outcome, done_outcome};
@@ -17,8 +18,8 @@ impl MemoryManager {
     /// HLock: the block stays where it is while it is locked. nilHandleErr where the handle is 0 or empty, memWZErr
     /// where it isn't live (Inside Macintosh: Memory, Setting the Properties of Relocatable Blocks).
     pub fn hlock(&mut self, handle: Handle) -> Result<(), OsErr>
-        ensures exact { IsExactStep self.old.shape self.old.heap (call.HLock handle) [] (done_outcome result) self.new.heap }
-        ensures step { MemoryStep self.old.shape self.old.heap (call.HLock handle) [] (done_outcome result) self.new.heap }
+        ensures exact { IsExactStep self.old.shape self.old.heap (OnBlock (HLock handle)) [] (done_outcome result) self.new.heap }
+        ensures step { MemoryStep self.old.shape self.old.heap (OnBlock (HLock handle)) [] (done_outcome result) self.new.heap }
         ensures shape { self.new.shape ≡ self.old.shape }
         ensures loans { KeepsLoans self.old self.new }
     {
@@ -31,8 +32,8 @@ impl MemoryManager {
     /// HUnlock: the block may be moved again. nilHandleErr where the handle is 0 or empty, memWZErr where it isn't
     /// live, memLockedErr where it is lent (Inside Macintosh: Memory, Setting the Properties of Relocatable Blocks).
     pub fn hunlock(&mut self, handle: Handle) -> Result<(), OsErr>
-        ensures exact { IsExactStep self.old.shape self.old.heap (call.HUnlock handle) [] (done_outcome result) self.new.heap }
-        ensures step { MemoryStep self.old.shape self.old.heap (call.HUnlock handle) [] (done_outcome result) self.new.heap }
+        ensures exact { IsExactStep self.old.shape self.old.heap (OnBlock (HUnlock handle)) [] (done_outcome result) self.new.heap }
+        ensures step { MemoryStep self.old.shape self.old.heap (OnBlock (HUnlock handle)) [] (done_outcome result) self.new.heap }
         ensures shape { self.new.shape ≡ self.old.shape }
         ensures loans { KeepsLoans self.old self.new }
     {
@@ -46,8 +47,8 @@ impl MemoryManager {
     /// HPurge: the block may be purged where it isn't locked. nilHandleErr where the handle is 0 or empty, memWZErr
     /// where it isn't live (Inside Macintosh: Memory, Setting the Properties of Relocatable Blocks).
     pub fn hpurge(&mut self, handle: Handle) -> Result<(), OsErr>
-        ensures exact { IsExactStep self.old.shape self.old.heap (call.HPurge handle) [] (done_outcome result) self.new.heap }
-        ensures step { MemoryStep self.old.shape self.old.heap (call.HPurge handle) [] (done_outcome result) self.new.heap }
+        ensures exact { IsExactStep self.old.shape self.old.heap (OnBlock (HPurge handle)) [] (done_outcome result) self.new.heap }
+        ensures step { MemoryStep self.old.shape self.old.heap (OnBlock (HPurge handle)) [] (done_outcome result) self.new.heap }
         ensures shape { self.new.shape ≡ self.old.shape }
         ensures loans { KeepsLoans self.old self.new }
     {
@@ -60,8 +61,8 @@ impl MemoryManager {
     /// HNoPurge: the block may not be purged. nilHandleErr where the handle is 0 or empty, memWZErr where it isn't live
     /// (Inside Macintosh: Memory, Setting the Properties of Relocatable Blocks).
     pub fn hno_purge(&mut self, handle: Handle) -> Result<(), OsErr>
-        ensures exact { IsExactStep self.old.shape self.old.heap (call.HNoPurge handle) [] (done_outcome result) self.new.heap }
-        ensures step { MemoryStep self.old.shape self.old.heap (call.HNoPurge handle) [] (done_outcome result) self.new.heap }
+        ensures exact { IsExactStep self.old.shape self.old.heap (OnBlock (HNoPurge handle)) [] (done_outcome result) self.new.heap }
+        ensures step { MemoryStep self.old.shape self.old.heap (OnBlock (HNoPurge handle)) [] (done_outcome result) self.new.heap }
         ensures shape { self.new.shape ≡ self.old.shape }
         ensures loans { KeepsLoans self.old self.new }
     {
@@ -74,8 +75,8 @@ impl MemoryManager {
     /// HSetRBit: the block has the contents of a resource. nilHandleErr where the handle is 0 or empty, memWZErr where
     /// it isn't live (Inside Macintosh: Memory, Setting the Properties of Relocatable Blocks).
     pub fn hset_rbit(&mut self, handle: Handle) -> Result<(), OsErr>
-        ensures exact { IsExactStep self.old.shape self.old.heap (call.HSetRBit handle) [] (done_outcome result) self.new.heap }
-        ensures step { MemoryStep self.old.shape self.old.heap (call.HSetRBit handle) [] (done_outcome result) self.new.heap }
+        ensures exact { IsExactStep self.old.shape self.old.heap (OnBlock (HSetRBit handle)) [] (done_outcome result) self.new.heap }
+        ensures step { MemoryStep self.old.shape self.old.heap (OnBlock (HSetRBit handle)) [] (done_outcome result) self.new.heap }
         ensures shape { self.new.shape ≡ self.old.shape }
         ensures loans { KeepsLoans self.old self.new }
     {
@@ -88,8 +89,8 @@ impl MemoryManager {
     /// HClrRBit: the block has the contents of no resource. nilHandleErr where the handle is 0 or empty, memWZErr where
     /// it isn't live (Inside Macintosh: Memory, Setting the Properties of Relocatable Blocks).
     pub fn hclr_rbit(&mut self, handle: Handle) -> Result<(), OsErr>
-        ensures exact { IsExactStep self.old.shape self.old.heap (call.HClrRBit handle) [] (done_outcome result) self.new.heap }
-        ensures step { MemoryStep self.old.shape self.old.heap (call.HClrRBit handle) [] (done_outcome result) self.new.heap }
+        ensures exact { IsExactStep self.old.shape self.old.heap (OnBlock (HClrRBit handle)) [] (done_outcome result) self.new.heap }
+        ensures step { MemoryStep self.old.shape self.old.heap (OnBlock (HClrRBit handle)) [] (done_outcome result) self.new.heap }
         ensures shape { self.new.shape ≡ self.old.shape }
         ensures loans { KeepsLoans self.old self.new }
     {
@@ -103,8 +104,8 @@ impl MemoryManager {
     /// the handle is 0 or empty, memWZErr where it isn't live (Inside Macintosh: Memory, Setting the Properties of
     /// Relocatable Blocks).
     pub fn hget_state(&self, handle: Handle) -> Result<u32, OsErr>
-        ensures exact { IsExactStep self.now.shape self.now.heap (call.HGetState handle) [] (number_outcome result) self.now.heap }
-        ensures step { MemoryStep self.now.shape self.now.heap (call.HGetState handle) [] (number_outcome result) self.now.heap }
+        ensures exact { IsExactStep self.now.shape self.now.heap (OnBlock (HGetState handle)) [] (number_outcome result) self.now.heap }
+        ensures step { MemoryStep self.now.shape self.now.heap (OnBlock (HGetState handle)) [] (number_outcome result) self.now.heap }
     {
         let flags = handle_flags(&self.zone, handle)?;
         Ok(state_of(flags))
@@ -114,8 +115,8 @@ impl MemoryManager {
     /// is 0 or empty, memWZErr where it isn't live, paramErr where `state` is over 255, memLockedErr where it is lent
     /// and `state` lacks the lock (Inside Macintosh: Memory, Setting the Properties of Relocatable Blocks).
     pub fn hset_state(&mut self, handle: Handle, state: u32) -> Result<(), OsErr>
-        ensures exact { IsExactStep self.old.shape self.old.heap (call.HSetState handle state) [] (done_outcome result) self.new.heap }
-        ensures step { MemoryStep self.old.shape self.old.heap (call.HSetState handle state) [] (done_outcome result) self.new.heap }
+        ensures exact { IsExactStep self.old.shape self.old.heap (OnBlock (HSetState handle state)) [] (done_outcome result) self.new.heap }
+        ensures step { MemoryStep self.old.shape self.old.heap (OnBlock (HSetState handle state)) [] (done_outcome result) self.new.heap }
         ensures shape { self.new.shape ≡ self.old.shape }
         ensures loans { KeepsLoans self.old self.new }
     {

@@ -101,7 +101,7 @@ impl MemoryManager {
         ensures* writes_back { sem 𝓛 (WritesBackContents self.entry block result) }
         ensures value { result.now ≡ bytes_of self.old.heap.table block }
     {
-        self.zone.bytes_mut(block)
+        self.zone.contents_mut(block)
     }
 
     /// The address of the zone's first block header. What the zone shows is a sound heap, and its addresses have 32

@@ -2,7 +2,9 @@
 
 ghost use Rattle.std.specs.Prelude.{◌≡◌, []};
 ghost use Rattle.linked_zone.specs.Loans.{KeepsLoans};
-ghost use Rattle.mac_base.specs.declared.memory_call.MemoryCall.TheVariants as call;
+ghost use Rattle.mac_base.specs.declared.memory_call.MemoryCall.TheVariants.{OnBlock, Requesting};
+ghost use Rattle.mac_base.specs.declared.memory_call.RequestingCall.TheVariants.{NewHandle, NewEmptyHandle, NewPtr};
+ghost use Rattle.mac_base.specs.declared.memory_call.BlockCall.TheVariants.{DisposeHandle, DisposePtr, EmptyHandle};
 ghost use Rattle.mac_base.specs.MemoryStep.{MemoryStep};
 ghost use Rattle.mac_base.specs.ExactStep.{IsExactStep};
 ghost use Rattle.mac_base.specs.Outcomes.{handle_outcome, pointer_outcome, done_outcome};
@@ -26,8 +28,8 @@ impl MemoryManager {
     /// Allocated).
     pub fn new_handle<G: GrowZone>(&mut self, size: u32, procedure: &mut G) -> Result<Handle, OsErr>
         requires { G.asks procedure.old ≡ [] }
-        ensures exact { IsExactStep self.old.shape self.old.heap (call.NewHandle size) (G.asks procedure.new) (handle_outcome result) self.new.heap }
-        ensures step { MemoryStep self.old.shape self.old.heap (call.NewHandle size) (G.asks procedure.new) (handle_outcome result) self.new.heap }
+        ensures exact { IsExactStep self.old.shape self.old.heap (Requesting (NewHandle size)) (G.asks procedure.new) (handle_outcome result) self.new.heap }
+        ensures step { MemoryStep self.old.shape self.old.heap (Requesting (NewHandle size)) (G.asks procedure.new) (handle_outcome result) self.new.heap }
         ensures source { G.source procedure.new ≡ G.source procedure.old }
         ensures shape { self.new.shape ≡ self.old.shape }
         ensures loans { KeepsLoans self.old self.new }
@@ -41,8 +43,8 @@ impl MemoryManager {
     /// no room for it (Inside Macintosh: Memory, Allocating and Releasing Relocatable Blocks of Memory).
     pub fn new_empty_handle<G: GrowZone>(&mut self, procedure: &mut G) -> Result<Handle, OsErr>
         requires { G.asks procedure.old ≡ [] }
-        ensures exact { IsExactStep self.old.shape self.old.heap call.NewEmptyHandle (G.asks procedure.new) (handle_outcome result) self.new.heap }
-        ensures step { MemoryStep self.old.shape self.old.heap call.NewEmptyHandle (G.asks procedure.new) (handle_outcome result) self.new.heap }
+        ensures exact { IsExactStep self.old.shape self.old.heap (Requesting NewEmptyHandle) (G.asks procedure.new) (handle_outcome result) self.new.heap }
+        ensures step { MemoryStep self.old.shape self.old.heap (Requesting NewEmptyHandle) (G.asks procedure.new) (handle_outcome result) self.new.heap }
         ensures source { G.source procedure.new ≡ G.source procedure.old }
         ensures shape { self.new.shape ≡ self.old.shape }
         ensures loans { KeepsLoans self.old self.new }
@@ -56,8 +58,8 @@ impl MemoryManager {
     /// Macintosh: Memory, Allocating and Releasing Nonrelocatable Blocks of Memory, and How Heap Space Is Allocated).
     pub fn new_ptr<G: GrowZone>(&mut self, size: u32, procedure: &mut G) -> Result<Ptr, OsErr>
         requires { G.asks procedure.old ≡ [] }
-        ensures exact { IsExactStep self.old.shape self.old.heap (call.NewPtr size) (G.asks procedure.new) (pointer_outcome result) self.new.heap }
-        ensures step { MemoryStep self.old.shape self.old.heap (call.NewPtr size) (G.asks procedure.new) (pointer_outcome result) self.new.heap }
+        ensures exact { IsExactStep self.old.shape self.old.heap (Requesting (NewPtr size)) (G.asks procedure.new) (pointer_outcome result) self.new.heap }
+        ensures step { MemoryStep self.old.shape self.old.heap (Requesting (NewPtr size)) (G.asks procedure.new) (pointer_outcome result) self.new.heap }
         ensures source { G.source procedure.new ≡ G.source procedure.old }
         ensures shape { self.new.shape ≡ self.old.shape }
         ensures loans { KeepsLoans self.old self.new }
@@ -70,8 +72,8 @@ impl MemoryManager {
     /// where the handle is 0, memWZErr where it isn't live, memLockedErr where it is lent (Inside Macintosh: Memory,
     /// Allocating and Releasing Relocatable Blocks of Memory).
     pub fn dispose_handle(&mut self, handle: Handle) -> Result<(), OsErr>
-        ensures exact { IsExactStep self.old.shape self.old.heap (call.DisposeHandle handle) [] (done_outcome result) self.new.heap }
-        ensures step { MemoryStep self.old.shape self.old.heap (call.DisposeHandle handle) [] (done_outcome result) self.new.heap }
+        ensures exact { IsExactStep self.old.shape self.old.heap (OnBlock (DisposeHandle handle)) [] (done_outcome result) self.new.heap }
+        ensures step { MemoryStep self.old.shape self.old.heap (OnBlock (DisposeHandle handle)) [] (done_outcome result) self.new.heap }
         ensures shape { self.new.shape ≡ self.old.shape }
         ensures loans { KeepsLoans self.old self.new }
     {
@@ -81,8 +83,8 @@ impl MemoryManager {
     /// DisposePtr: the pointer's block is free. memWZErr where the pointer isn't live, memLockedErr where it is lent
     /// (Inside Macintosh: Memory, Allocating and Releasing Nonrelocatable Blocks of Memory).
     pub fn dispose_ptr(&mut self, pointer: Ptr) -> Result<(), OsErr>
-        ensures exact { IsExactStep self.old.shape self.old.heap (call.DisposePtr pointer) [] (done_outcome result) self.new.heap }
-        ensures step { MemoryStep self.old.shape self.old.heap (call.DisposePtr pointer) [] (done_outcome result) self.new.heap }
+        ensures exact { IsExactStep self.old.shape self.old.heap (OnBlock (DisposePtr pointer)) [] (done_outcome result) self.new.heap }
+        ensures step { MemoryStep self.old.shape self.old.heap (OnBlock (DisposePtr pointer)) [] (done_outcome result) self.new.heap }
         ensures shape { self.new.shape ≡ self.old.shape }
         ensures loans { KeepsLoans self.old self.new }
     {
@@ -93,8 +95,8 @@ impl MemoryManager {
     /// where the handle is 0, memWZErr where it isn't live, memLockedErr where it is lent, memPurErr where it is locked
     /// (Inside Macintosh: Memory, Managing Relocatable Blocks).
     pub fn empty_handle(&mut self, handle: Handle) -> Result<(), OsErr>
-        ensures exact { IsExactStep self.old.shape self.old.heap (call.EmptyHandle handle) [] (done_outcome result) self.new.heap }
-        ensures step { MemoryStep self.old.shape self.old.heap (call.EmptyHandle handle) [] (done_outcome result) self.new.heap }
+        ensures exact { IsExactStep self.old.shape self.old.heap (OnBlock (EmptyHandle handle)) [] (done_outcome result) self.new.heap }
+        ensures step { MemoryStep self.old.shape self.old.heap (OnBlock (EmptyHandle handle)) [] (done_outcome result) self.new.heap }
         ensures shape { self.new.shape ≡ self.old.shape }
         ensures loans { KeepsLoans self.old self.new }
     {

@@ -1,7 +1,8 @@
 //! The calls that report how much room there is.
 
 ghost use Rattle.std.specs.Prelude.{◌≡◌, []};
-ghost use Rattle.mac_base.specs.declared.memory_call.MemoryCall.TheVariants as call;
+ghost use Rattle.mac_base.specs.declared.memory_call.MemoryCall.TheVariants.{OnZone};
+ghost use Rattle.mac_base.specs.declared.memory_call.ZoneCall.TheVariants as zone_call;
 ghost use Rattle.mac_base.specs.MemoryStep.{MemoryStep};
 ghost use Rattle.mac_base.specs.ExactStep.{IsExactStep};
 ghost use Rattle.std.specs.Prelude.{Ok};
@@ -13,8 +14,8 @@ use mac_base::purge_space::PurgeSpace;
 impl MemoryManager {
     /// FreeMem: the free bytes (Inside Macintosh: Memory, Assessing Memory Conditions).
     pub fn free_mem(&self) -> u32
-        ensures exact { IsExactStep self.now.shape self.now.heap call.FreeMem [] (Ok (Number result)) self.now.heap }
-        ensures step { MemoryStep self.now.shape self.now.heap call.FreeMem [] (Ok (Number result)) self.now.heap }
+        ensures exact { IsExactStep self.now.shape self.now.heap (OnZone zone_call.FreeMem) [] (Ok (Number result)) self.now.heap }
+        ensures step { MemoryStep self.now.shape self.now.heap (OnZone zone_call.FreeMem) [] (Ok (Number result)) self.now.heap }
     {
         self.zone.linked().free_bytes()
     }
@@ -24,8 +25,8 @@ impl MemoryManager {
     ///
     /// It is counted once, until the zone changes.
     pub fn max_block(&mut self) -> u32
-        ensures exact { IsExactStep self.old.shape self.old.heap call.MaxBlock [] (Ok (Number result)) self.new.heap }
-        ensures step { MemoryStep self.old.shape self.old.heap call.MaxBlock [] (Ok (Number result)) self.new.heap }
+        ensures exact { IsExactStep self.old.shape self.old.heap (OnZone zone_call.MaxBlock) [] (Ok (Number result)) self.new.heap }
+        ensures step { MemoryStep self.old.shape self.old.heap (OnZone zone_call.MaxBlock) [] (Ok (Number result)) self.new.heap }
         ensures same { self.new ≡ self.old }
     {
         self.zone.largest_room()
@@ -36,8 +37,8 @@ impl MemoryManager {
     ///
     /// It is counted once, until the zone changes.
     pub fn purge_space(&mut self) -> PurgeSpace
-        ensures exact { IsExactStep self.old.shape self.old.heap call.PurgeSpace [] (Ok (TwoNumbers result.total result.contiguous)) self.new.heap }
-        ensures step { MemoryStep self.old.shape self.old.heap call.PurgeSpace [] (Ok (TwoNumbers result.total result.contiguous)) self.new.heap }
+        ensures exact { IsExactStep self.old.shape self.old.heap (OnZone zone_call.PurgeSpace) [] (Ok (TwoNumbers result.total result.contiguous)) self.new.heap }
+        ensures step { MemoryStep self.old.shape self.old.heap (OnZone zone_call.PurgeSpace) [] (Ok (TwoNumbers result.total result.contiguous)) self.new.heap }
         ensures same { self.new ≡ self.old }
     {
         self.zone.purge_space()

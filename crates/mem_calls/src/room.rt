@@ -2,7 +2,9 @@
 
 ghost use Rattle.std.specs.Prelude.{◌≡◌, []};
 ghost use Rattle.linked_zone.specs.Loans.{KeepsLoans};
-ghost use Rattle.mac_base.specs.declared.memory_call.MemoryCall.TheVariants as call;
+ghost use Rattle.mac_base.specs.declared.memory_call.MemoryCall.TheVariants.{OnZone, Requesting};
+ghost use Rattle.mac_base.specs.declared.memory_call.RequestingCall.TheVariants.{ReserveMem, MoreMasters};
+ghost use Rattle.mac_base.specs.declared.memory_call.ZoneCall.TheVariants.{CompactMem, PurgeMem, MaxMem, MaxApplZone};
 ghost use Rattle.mac_base.specs.MemoryStep.{MemoryStep};
 ghost use Rattle.mac_base.specs.ExactStep.{IsExactStep};
 ghost use Rattle.std.specs.Prelude.{Ok};
@@ -23,8 +25,8 @@ impl MemoryManager {
     /// is no room (Inside Macintosh: Memory, Freeing Memory).
     pub fn reserve_mem<G: GrowZone>(&mut self, size: u32, procedure: &mut G) -> Result<(), OsErr>
         requires { G.asks procedure.old ≡ [] }
-        ensures exact { IsExactStep self.old.shape self.old.heap (call.ReserveMem size) (G.asks procedure.new) (done_outcome result) self.new.heap }
-        ensures step { MemoryStep self.old.shape self.old.heap (call.ReserveMem size) (G.asks procedure.new) (done_outcome result) self.new.heap }
+        ensures exact { IsExactStep self.old.shape self.old.heap (Requesting (ReserveMem size)) (G.asks procedure.new) (done_outcome result) self.new.heap }
+        ensures step { MemoryStep self.old.shape self.old.heap (Requesting (ReserveMem size)) (G.asks procedure.new) (done_outcome result) self.new.heap }
         ensures source { G.source procedure.new ≡ G.source procedure.old }
         ensures shape { self.new.shape ≡ self.old.shape }
         ensures loans { KeepsLoans self.old self.new }
@@ -37,8 +39,8 @@ impl MemoryManager {
     /// memFullErr where there is no room for it (Inside Macintosh: Memory, Setting Up the Application Heap).
     pub fn more_masters<G: GrowZone>(&mut self, procedure: &mut G) -> Result<(), OsErr>
         requires { G.asks procedure.old ≡ [] }
-        ensures exact { IsExactStep self.old.shape self.old.heap call.MoreMasters (G.asks procedure.new) (done_outcome result) self.new.heap }
-        ensures step { MemoryStep self.old.shape self.old.heap call.MoreMasters (G.asks procedure.new) (done_outcome result) self.new.heap }
+        ensures exact { IsExactStep self.old.shape self.old.heap (Requesting MoreMasters) (G.asks procedure.new) (done_outcome result) self.new.heap }
+        ensures step { MemoryStep self.old.shape self.old.heap (Requesting MoreMasters) (G.asks procedure.new) (done_outcome result) self.new.heap }
         ensures source { G.source procedure.new ≡ G.source procedure.old }
         ensures shape { self.new.shape ≡ self.old.shape }
         ensures loans { KeepsLoans self.old self.new }
@@ -50,8 +52,8 @@ impl MemoryManager {
     /// where a free block has so many; else the lowest gap with room is arranged down, or all are. paramErr where
     /// `size` is over 8,388,608 (Inside Macintosh: Memory, Freeing Memory).
     pub fn compact_mem(&mut self, size: u32) -> Result<u32, OsErr>
-        ensures exact { IsExactStep self.old.shape self.old.heap (call.CompactMem size) [] (number_outcome result) self.new.heap }
-        ensures step { MemoryStep self.old.shape self.old.heap (call.CompactMem size) [] (number_outcome result) self.new.heap }
+        ensures exact { IsExactStep self.old.shape self.old.heap (OnZone (CompactMem size)) [] (number_outcome result) self.new.heap }
+        ensures step { MemoryStep self.old.shape self.old.heap (OnZone (CompactMem size)) [] (number_outcome result) self.new.heap }
         ensures shape { self.new.shape ≡ self.old.shape }
         ensures loans { KeepsLoans self.old self.new }
     {
@@ -65,8 +67,8 @@ impl MemoryManager {
     /// 8,388,608; memFullErr where all that may be purged are, and no free block has them (Inside Macintosh: Memory,
     /// Freeing Memory).
     pub fn purge_mem(&mut self, size: u32) -> Result<(), OsErr>
-        ensures exact { IsExactStep self.old.shape self.old.heap (call.PurgeMem size) [] (done_outcome result) self.new.heap }
-        ensures step { MemoryStep self.old.shape self.old.heap (call.PurgeMem size) [] (done_outcome result) self.new.heap }
+        ensures exact { IsExactStep self.old.shape self.old.heap (OnZone (PurgeMem size)) [] (done_outcome result) self.new.heap }
+        ensures step { MemoryStep self.old.shape self.old.heap (OnZone (PurgeMem size)) [] (done_outcome result) self.new.heap }
         ensures shape { self.new.shape ≡ self.old.shape }
         ensures loans { KeepsLoans self.old self.new }
     {
@@ -82,8 +84,8 @@ impl MemoryManager {
     /// MaxMem: purges all handles that may be purged, and arranges all gaps down. Gives the size of the largest free
     /// block then, and the bytes by which the zone may still grow (Inside Macintosh: Memory, Freeing Memory).
     pub fn max_mem(&mut self) -> (u32, u32)
-        ensures exact { IsExactStep self.old.shape self.old.heap call.MaxMem [] (Ok (TwoNumbers result.0 result.1)) self.new.heap }
-        ensures step { MemoryStep self.old.shape self.old.heap call.MaxMem [] (Ok (TwoNumbers result.0 result.1)) self.new.heap }
+        ensures exact { IsExactStep self.old.shape self.old.heap (OnZone MaxMem) [] (Ok (TwoNumbers result.0 result.1)) self.new.heap }
+        ensures step { MemoryStep self.old.shape self.old.heap (OnZone MaxMem) [] (Ok (TwoNumbers result.0 result.1)) self.new.heap }
         ensures shape { self.new.shape ≡ self.old.shape }
         ensures loans { KeepsLoans self.old self.new }
     {
@@ -96,8 +98,8 @@ impl MemoryManager {
 
     /// MaxApplZone: grows the zone to its limit (Inside Macintosh: Memory, Setting Up the Application Heap).
     pub fn max_appl_zone(&mut self)
-        ensures exact { IsExactStep self.old.shape self.old.heap call.MaxApplZone [] (Ok Nothing) self.new.heap }
-        ensures step { MemoryStep self.old.shape self.old.heap call.MaxApplZone [] (Ok Nothing) self.new.heap }
+        ensures exact { IsExactStep self.old.shape self.old.heap (OnZone MaxApplZone) [] (Ok Nothing) self.new.heap }
+        ensures step { MemoryStep self.old.shape self.old.heap (OnZone MaxApplZone) [] (Ok Nothing) self.new.heap }
         ensures shape { self.new.shape ≡ self.old.shape }
         ensures loans { KeepsLoans self.old self.new }
     {

@@ -2,7 +2,9 @@
 
 ghost use Rattle.std.specs.Prelude.{◌≡◌, []};
 ghost use Rattle.linked_zone.specs.Loans.{KeepsLoans};
-ghost use Rattle.mac_base.specs.declared.memory_call.MemoryCall.TheVariants as call;
+ghost use Rattle.mac_base.specs.declared.memory_call.MemoryCall.TheVariants.{OnBlock, Requesting};
+ghost use Rattle.mac_base.specs.declared.memory_call.RequestingCall.TheVariants.{SetHandleSize, SetPtrSize, ReallocateHandle};
+ghost use Rattle.mac_base.specs.declared.memory_call.BlockCall.TheVariants.{GetHandleSize, GetPtrSize};
 ghost use Rattle.mac_base.specs.MemoryStep.{MemoryStep};
 ghost use Rattle.mac_base.specs.ExactStep.{IsExactStep};
 ghost use Rattle.mac_base.specs.Outcomes.{number_outcome, done_outcome};
@@ -31,8 +33,8 @@ impl MemoryManager {
         procedure: &mut G,
     ) -> Result<(), OsErr>
         requires { G.asks procedure.old ≡ [] }
-        ensures exact { IsExactStep self.old.shape self.old.heap (call.SetHandleSize handle size) (G.asks procedure.new) (done_outcome result) self.new.heap }
-        ensures step { MemoryStep self.old.shape self.old.heap (call.SetHandleSize handle size) (G.asks procedure.new) (done_outcome result) self.new.heap }
+        ensures exact { IsExactStep self.old.shape self.old.heap (Requesting (SetHandleSize handle size)) (G.asks procedure.new) (done_outcome result) self.new.heap }
+        ensures step { MemoryStep self.old.shape self.old.heap (Requesting (SetHandleSize handle size)) (G.asks procedure.new) (done_outcome result) self.new.heap }
         ensures source { G.source procedure.new ≡ G.source procedure.old }
         ensures shape { self.new.shape ≡ self.old.shape }
         ensures loans { KeepsLoans self.old self.new }
@@ -52,8 +54,8 @@ impl MemoryManager {
     /// GetHandleSize: the bytes of the handle's block. nilHandleErr where the handle is 0 or empty, memWZErr where it
     /// isn't live (Inside Macintosh: Memory, Changing the Sizes of Relocatable and Nonrelocatable Blocks).
     pub fn get_handle_size(&self, handle: Handle) -> Result<u32, OsErr>
-        ensures exact { IsExactStep self.now.shape self.now.heap (call.GetHandleSize handle) [] (number_outcome result) self.now.heap }
-        ensures step { MemoryStep self.now.shape self.now.heap (call.GetHandleSize handle) [] (number_outcome result) self.now.heap }
+        ensures exact { IsExactStep self.now.shape self.now.heap (OnBlock (GetHandleSize handle)) [] (number_outcome result) self.now.heap }
+        ensures step { MemoryStep self.now.shape self.now.heap (OnBlock (GetHandleSize handle)) [] (number_outcome result) self.now.heap }
     {
         test_full(&self.zone, handle)?;
         Ok(self.zone.linked().length(handle.number()))
@@ -71,8 +73,8 @@ impl MemoryManager {
         procedure: &mut G,
     ) -> Result<(), OsErr>
         requires { G.asks procedure.old ≡ [] }
-        ensures exact { IsExactStep self.old.shape self.old.heap (call.SetPtrSize pointer size) (G.asks procedure.new) (done_outcome result) self.new.heap }
-        ensures step { MemoryStep self.old.shape self.old.heap (call.SetPtrSize pointer size) (G.asks procedure.new) (done_outcome result) self.new.heap }
+        ensures exact { IsExactStep self.old.shape self.old.heap (Requesting (SetPtrSize pointer size)) (G.asks procedure.new) (done_outcome result) self.new.heap }
+        ensures step { MemoryStep self.old.shape self.old.heap (Requesting (SetPtrSize pointer size)) (G.asks procedure.new) (done_outcome result) self.new.heap }
         ensures source { G.source procedure.new ≡ G.source procedure.old }
         ensures shape { self.new.shape ≡ self.old.shape }
         ensures loans { KeepsLoans self.old self.new }
@@ -92,8 +94,8 @@ impl MemoryManager {
     /// GetPtrSize: the bytes of the pointer's block. memWZErr where the pointer isn't live (Inside Macintosh: Memory,
     /// Changing the Sizes of Relocatable and Nonrelocatable Blocks).
     pub fn get_ptr_size(&self, pointer: Ptr) -> Result<u32, OsErr>
-        ensures exact { IsExactStep self.now.shape self.now.heap (call.GetPtrSize pointer) [] (number_outcome result) self.now.heap }
-        ensures step { MemoryStep self.now.shape self.now.heap (call.GetPtrSize pointer) [] (number_outcome result) self.now.heap }
+        ensures exact { IsExactStep self.now.shape self.now.heap (OnBlock (GetPtrSize pointer)) [] (number_outcome result) self.now.heap }
+        ensures step { MemoryStep self.now.shape self.now.heap (OnBlock (GetPtrSize pointer)) [] (number_outcome result) self.now.heap }
     {
         test_pointer(&self.zone, pointer)?;
         Ok(self.zone.linked().length(pointer.number()))
@@ -112,8 +114,8 @@ impl MemoryManager {
         procedure: &mut G,
     ) -> Result<(), OsErr>
         requires { G.asks procedure.old ≡ [] }
-        ensures exact { IsExactStep self.old.shape self.old.heap (call.ReallocateHandle handle size) (G.asks procedure.new) (done_outcome result) self.new.heap }
-        ensures step { MemoryStep self.old.shape self.old.heap (call.ReallocateHandle handle size) (G.asks procedure.new) (done_outcome result) self.new.heap }
+        ensures exact { IsExactStep self.old.shape self.old.heap (Requesting (ReallocateHandle handle size)) (G.asks procedure.new) (done_outcome result) self.new.heap }
+        ensures step { MemoryStep self.old.shape self.old.heap (Requesting (ReallocateHandle handle size)) (G.asks procedure.new) (done_outcome result) self.new.heap }
         ensures source { G.source procedure.new ≡ G.source procedure.old }
         ensures shape { self.new.shape ≡ self.old.shape }
         ensures loans { KeepsLoans self.old self.new }

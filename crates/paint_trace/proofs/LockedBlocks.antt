@@ -5,7 +5,8 @@ use Rattle.mac_base.specs.BlockStatus.{status_of}
 use Rattle.mac_base.specs.HandleTable.{HandleTable, Live, EmptyHandle, FullHandle, Pointer, bytes_of, flags_of, is_locked, live_at, live_flags, live_full, live_handle, live_pointer, refilled, with_bytes}
 use Rattle.mac_base.specs.HeadKind.{Shape}
 use Rattle.mac_base.specs.Heap.{Heap}
-use Rattle.mac_base.specs.declared.memory_call.MemoryCall.TheVariants.{HLock}
+use Rattle.mac_base.specs.declared.memory_call.MemoryCall.TheVariants.{OnBlock}
+use Rattle.mac_base.specs.declared.memory_call.BlockCall.TheVariants.{HLock}
 use Rattle.mac_base.specs.declared.reply.Results.TheVariants.{Nothing}
 use Rattle.mac_base.specs.MemoryStep.{MemoryStep, StepUnless}
 use Rattle.mac_base.specs.RequestRun.{RequestRun}
@@ -13,9 +14,9 @@ use Rattle.zone_laws.proofs.Tables.{live_at-with_live_same}
 use Rattle.zone_laws.proofs.RunTables.{passed-ok}
 
 -- an HLock that isn't refused locks
-pub locked_by : (s : Shape) (old new : Heap) (h : ℕ) → MemoryStep s old (HLock h) [] (Ok Nothing) new → is_locked new.table h ≡ true
+pub locked_by : (s : Shape) (old new : Heap) (h : ℕ) → MemoryStep s old (OnBlock (HLock h)) [] (Ok Nothing) new → is_locked new.table h ≡ true
 locked_by s old new h step =
-    let own = subst (λ o. StepUnless RequestRun o s old (HLock h) [] (Ok Nothing) new) (passed-ok s old (HLock h) [] Nothing new step) step in
+    let own = subst (λ o. StepUnless RequestRun o s old (OnBlock (HLock h)) [] (Ok Nothing) new) (passed-ok s old (OnBlock (HLock h)) [] Nothing new step) step in
     ap (λ (t : HandleTable). is_locked t h) own.1.0.table ∙ ap (λ o. (live_flags o).lock) (live_at-with_live_same h (FullHandle (record (flags_of old.table h) { lock = true }) (bytes_of old.table h)) old.table)
 
 -- it is locked still where its bytes are others

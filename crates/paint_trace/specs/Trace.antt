@@ -3,7 +3,9 @@ use Rattle.std.specs.Prelude.{◌≡◌, ◌≢◌, ℕ, List, [], ◌∷◌, �
 use Rattle.mac_base.specs.declared.error.OsErr.{OsErr}
 use Rattle.mac_base.specs.HandleTable.{HandleTable, is_locked, live_at}
 use Rattle.mac_base.specs.declared.memory_call.MemoryCall.{MemoryCall}
-use Rattle.mac_base.specs.declared.memory_call.MemoryCall.TheVariants as memory_call
+use Rattle.mac_base.specs.declared.memory_call.MemoryCall.TheVariants.{OnBlock, Requesting}
+use Rattle.mac_base.specs.declared.memory_call.RequestingCall.TheVariants.{NewHandle, SetHandleSize}
+use Rattle.mac_base.specs.declared.memory_call.BlockCall.TheVariants.{HLock, HUnlock, HPurge, DisposeHandle}
 use Rattle.mac_base.specs.declared.reply.Results.TheVariants as results
 use Rattle.mac_base.specs.GrowZone.{Answer, Ask, asked_in_vain}
 use Rattle.mac_base.specs.Outcomes.{Outcome, done_outcome}
@@ -42,12 +44,12 @@ source_of procedure = answers_of procedure.cushion
 
 -- the call of a step whose block has the handle h
 abbrev pub call_of : ℕ → Action → MemoryCall
-call_of h (action.NewHandle size) = memory_call.NewHandle size
-call_of h (action.SetHandleSize size) = memory_call.SetHandleSize h size
-call_of h action.HLock = memory_call.HLock h
-call_of h action.HUnlock = memory_call.HUnlock h
-call_of h action.HPurge = memory_call.HPurge h
-call_of h action.DisposeHandle = memory_call.DisposeHandle h
+call_of h (action.NewHandle size) = Requesting (NewHandle size)
+call_of h (action.SetHandleSize size) = Requesting (SetHandleSize h size)
+call_of h action.HLock = OnBlock (HLock h)
+call_of h action.HUnlock = OnBlock (HUnlock h)
+call_of h action.HPurge = OnBlock (HPurge h)
+call_of h action.DisposeHandle = OnBlock (DisposeHandle h)
 
 -- the outcome of a step that ended so, where its block has the handle h then
 abbrev pub outcome_of : ℕ → Action → Result (Unit {0}) OsErr → Outcome

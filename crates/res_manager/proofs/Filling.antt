@@ -14,7 +14,8 @@ use Rattle.mac_base.specs.HandleTable.{Live, FullHandle, bytes_of, live_at, live
 use Rattle.std.proofs.lemmas.List.{length-replicate}
 use Rattle.mac_base.specs.Heap.{Heap, with_table}
 use Rattle.mac_base.specs.declared.memory_call.MemoryCall.{MemoryCall}
-use Rattle.mac_base.specs.declared.memory_call.MemoryCall.TheVariants.{HSetState}
+use Rattle.mac_base.specs.declared.memory_call.MemoryCall.TheVariants.{OnBlock}
+use Rattle.mac_base.specs.declared.memory_call.BlockCall.TheVariants.{HSetState}
 use Rattle.mac_base.specs.Effect.{request_of, effect_of}
 use Rattle.mac_base.specs.ExactStep.{IsExactStep, StepEnd, step_unless, step_asking, rearranged}
 use Rattle.mac_base.specs.GrowZone.{Ask, answers_in}
@@ -64,7 +65,7 @@ or_true false = refl
 
 module _ (s : Shape) (h : ℕ) (bytes : List ℕ) (old new : Heap) (filled : IsFilled h bytes new new) where
   -- its flags are set
-  pub state-passes : (n : ℕ) → n ≤ 255 → refusal s new (HSetState h n) ≡ None
+  pub state-passes : (n : ℕ) → n ≤ 255 → refusal s new (OnBlock (HSetState h n)) ≡ None
   state-passes n few = let le : nat_le n 255 ≡ true = grind (arith, nat_tests, few) in rw (filled.some, filled.block, le, filled.here, or_true (state_locks n)) refl
 
 -- other bytes in it leave all else as it was

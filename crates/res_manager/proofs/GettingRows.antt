@@ -6,6 +6,7 @@ use Rattle.std.proofs.lemmas.Bool.Decides.{nat_tests}
 use Rattle.std.proofs.lemmas.List.{length-map}
 use Rattle.mac_base.specs.declared.memory_call.MemoryCall.{MemoryCall}
 use Rattle.mac_base.specs.declared.memory_call.MemoryCall.TheVariants as memory_call
+use Rattle.mac_base.specs.declared.memory_call.RequestingCall.TheVariants as requesting_call
 use Rattle.res_files.proofs.PlacedRows.{row_changed_there}
 use Rattle.mac_base.specs.declared.error.OsErr.{OsErr}
 use Rattle.mac_base.specs.declared.error.OsErr.TheVariants.{IoErr}
@@ -126,8 +127,8 @@ serves_load disks old p loads r h asks none here handle serves call same =
     let end : ResourceEnd = record { outcome = loaded_outcome call (Ok h); state = old } in
     let placed : placing old.heap.table (loads_bytes old call) r ≡ None =
     ap (λ (b : Bool). placing old.heap.table b r) same
-    ∙ ap (λ (o : Option ℕ). option_map_or (λ k. if is_full old.heap.table k || not loads then None else Some (memory_call.ReallocateHandle k (length r.resource.datum))) o (Some (if loads then memory_call.NewHandle (length r.resource.datum) else memory_call.NewEmptyHandle))) handle
-    ∙ ap (λ (b : Bool). if b then None else Some (memory_call.ReallocateHandle h (length r.resource.datum))) serves
+    ∙ ap (λ (o : Option ℕ). option_map_or (λ k. if is_full old.heap.table k || not loads then None else Some (memory_call.Requesting (requesting_call.ReallocateHandle k (length r.resource.datum)))) o (Some (if loads then memory_call.Requesting (requesting_call.NewHandle (length r.resource.datum)) else (memory_call.Requesting requesting_call.NewEmptyHandle)))) handle
+    ∙ ap (λ (b : Bool). if b then None else Some (memory_call.Requesting (requesting_call.ReallocateHandle h (length r.resource.datum)))) serves
     in
     let found : end ≡ found_end call r old = ap (λ (o : Option ℕ). let e : ResourceEnd = record { outcome = Ok (loaded_results call (unwrap_or o 0)); state = old } in e) (sym handle) in
     subst (λ (o : Option FileRow). GetsPlace Memory disks Working old call asks end p o) (sym here) (subst (λ (o : Option MemoryCall). GetsRow Memory disks Working old call asks end p r o) (sym placed) (none, found))

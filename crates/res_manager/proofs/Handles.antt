@@ -8,7 +8,8 @@ use Rattle.std.proofs.lemmas.List.Elements.{All-head, All-tail}
 use Rattle.mac_base.specs.HandleTable.{HandleTable, is_lent}
 use Rattle.mac_base.specs.HeadKind.{Shape}
 use Rattle.mac_base.specs.Heap.{Heap}
-use Rattle.mac_base.specs.declared.memory_call.MemoryCall.TheVariants.{DisposeHandle}
+use Rattle.mac_base.specs.declared.memory_call.MemoryCall.TheVariants.{OnBlock}
+use Rattle.mac_base.specs.declared.memory_call.BlockCall.TheVariants.{DisposeHandle}
 use Rattle.mac_base.specs.ExactStep.{IsExactStep, StepEnd}
 use Rattle.mac_base.specs.Outcomes.{Outcome}
 use Rattle.res_update.specs.Changes.{FileRow}
@@ -61,9 +62,9 @@ next_none [] none = refl
 next_none (r ∷ rows) none = without_handle r rows (All-head (λ (x : FileRow). x.handle ≡ None) r rows none) ∙ next_none rows (All-tail (λ (x : FileRow). x.handle ≡ None) r rows none)
 
 -- one handle more is disposed of
-pub disposed_more : (s t : Shape) (old new : Heap) (h : ℕ) (hs : List ℕ) (outcome : Outcome) → t ≡ s → IsExactStep t old (DisposeHandle h) [] outcome new → disposed s (h ∷ hs) old ≡ disposed s hs new
+pub disposed_more : (s t : Shape) (old new : Heap) (h : ℕ) (hs : List ℕ) (outcome : Outcome) → t ≡ s → IsExactStep t old (OnBlock (DisposeHandle h)) [] outcome new → disposed s (h ∷ hs) old ≡ disposed s hs new
 disposed_more s t old new h hs outcome same exact =
-    let here : IsExactStep s old (DisposeHandle h) [] outcome new = rw (← same) exact in
+    let here : IsExactStep s old (OnBlock (DisposeHandle h)) [] outcome new = rw (← same) exact in
     ap (λ (e : StepEnd). disposed s hs e.heap) here
 
 -- rows whose handles are among the blocks that are lent are those that are lent

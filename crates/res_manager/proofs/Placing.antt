@@ -15,7 +15,9 @@ use Rattle.mac_base.specs.Sound.{Sound}
 use Rattle.mac_base.specs.ZoneMap.{address_after}
 use Rattle.mac_base.specs.ZoneState.{ZoneState}
 use Rattle.mac_base.specs.declared.request.Request.TheVariants.{NewBlock, Replace}
-use Rattle.mac_base.specs.declared.memory_call.MemoryCall.TheVariants.{NewHandle, ReallocateHandle, HGetState}
+use Rattle.mac_base.specs.declared.memory_call.MemoryCall.TheVariants.{OnBlock, Requesting}
+use Rattle.mac_base.specs.declared.memory_call.BlockCall.TheVariants.{HGetState}
+use Rattle.mac_base.specs.declared.memory_call.RequestingCall.TheVariants.{NewHandle, ReallocateHandle}
 use Rattle.mac_base.specs.declared.reply.Results.{Results}
 use Rattle.mac_base.specs.declared.reply.Results.TheVariants.{Handle, Nothing}
 use Rattle.mac_base.specs.GrowZone.{Ask}
@@ -51,19 +53,19 @@ placed-from s heap h n t sound fixed is =
     }
 
 -- a new handle
-pub placed-new : (s now : Shape) (old new : Heap) (n : ℕ) (asks : List Ask) (result : Result ℕ OsErr) → Sound now new → LoansAreFixed new → MemoryStep s old (NewHandle n) asks (handle_outcome result) new → IfOk result (λ h. IsPlaced new h n)
+pub placed-new : (s now : Shape) (old new : Heap) (n : ℕ) (asks : List Ask) (result : Result ℕ OsErr) → Sound now new → LoansAreFixed new → MemoryStep s old (Requesting (NewHandle n)) asks (handle_outcome result) new → IfOk result (λ h. IsPlaced new h n)
 placed-new s now old new n asks (Err code) sound fixed step = tt
 placed-new s now old new n asks (Ok h) sound fixed step =
-    let gave = step-granted s old new (NewHandle n) (NewBlock n) (Handle h) (λ x t. refl) asks refl step in
+    let gave = step-granted s old new (Requesting (NewHandle n)) (NewBlock n) (Handle h) (λ x t. refl) asks refl step in
     let same : h ≡ gave.0 = cc gave.1 in
     subst (λ x. IsPlaced new x n) (sym same) ((let granted = gave.2 in placed-from now new gave.0 n granted.0 sound fixed granted.1))
 
 -- the row's own handle
-pub placed-own : (s now : Shape) (old new : Heap) (h n : ℕ) (asks : List Ask) (result : Result (Unit {0}) OsErr) → Sound now new → LoansAreFixed new → MemoryStep s old (ReallocateHandle h n) asks (done_outcome result) new
+pub placed-own : (s now : Shape) (old new : Heap) (h n : ℕ) (asks : List Ask) (result : Result (Unit {0}) OsErr) → Sound now new → LoansAreFixed new → MemoryStep s old (Requesting (ReallocateHandle h n)) asks (done_outcome result) new
     → IfOk (result_and result (Ok h)) (λ h. IsPlaced new h n)
 placed-own s now old new h n asks (Err code) sound fixed step = tt
 placed-own s now old new h n asks (Ok u) sound fixed step =
-    let gave = step-granted s old new (ReallocateHandle h n) (Replace h n) Nothing (λ x t. refl) asks refl step in
+    let gave = step-granted s old new (Requesting (ReallocateHandle h n)) (Replace h n) Nothing (λ x t. refl) asks refl step in
     let granted = gave.2 in
     placed-from now new h n granted.0 sound fixed granted.1
 
@@ -80,10 +82,10 @@ module _ (now new : ZoneState) (is : now ≡ new) (sound : Sound now.shape now.h
   fixed_then : LoansAreFixed new.heap
   fixed_then = subst (λ (z : ZoneState). LoansAreFixed z.heap) is fixed
 
-  pub new-then : (s : Shape) (old : Heap) (n : ℕ) (asks : List Ask) (result : Result ℕ OsErr) → MemoryStep s old (NewHandle n) asks (handle_outcome result) new.heap → IfOk result (λ h. IsPlaced new.heap h n)
+  pub new-then : (s : Shape) (old : Heap) (n : ℕ) (asks : List Ask) (result : Result ℕ OsErr) → MemoryStep s old (Requesting (NewHandle n)) asks (handle_outcome result) new.heap → IfOk result (λ h. IsPlaced new.heap h n)
   new-then s old n asks result step = placed-new s new.shape old new.heap n asks result sound_then fixed_then step
 
-  pub own-then : (s : Shape) (old : Heap) (h n : ℕ) (asks : List Ask) (result : Result (Unit {0}) OsErr) → MemoryStep s old (ReallocateHandle h n) asks (done_outcome result) new.heap → IfOk (result_and result (Ok h)) (λ h. IsPlaced new.heap h n)
+  pub own-then : (s : Shape) (old : Heap) (h n : ℕ) (asks : List Ask) (result : Result (Unit {0}) OsErr) → MemoryStep s old (Requesting (ReallocateHandle h n)) asks (done_outcome result) new.heap → IfOk (result_and result (Ok h)) (λ h. IsPlaced new.heap h n)
   own-then s old h n asks result step = placed-own s new.shape old new.heap h n asks result sound_then fixed_then step
 
 -- what a call gives that makes a new handle is its place
@@ -115,10 +117,10 @@ live-full (Some (Pointer bytes)) full = absurd (cc full)
 live-full (Some (FullHandle flags bytes)) full = refl
 
 -- HGetState gives the flags of a handle that has a block, and of no other
-pub full-answers : (s : Shape) (heap : Heap) (h : ℕ) (result : Result ℕ OsErr) → Sound s heap → MemoryStep s heap (HGetState h) [] (number_outcome result) heap → is_ok result ≡ is_full heap.table h
-full-answers s heap h result sound step = by_refusal (refusal s heap (HGetState h)) refl step result refl
+pub full-answers : (s : Shape) (heap : Heap) (h : ℕ) (result : Result ℕ OsErr) → Sound s heap → MemoryStep s heap (OnBlock (HGetState h)) [] (number_outcome result) heap → is_ok result ≡ is_full heap.table h
+full-answers s heap h result sound step = by_refusal (refusal s heap (OnBlock (HGetState h))) refl step result refl
   where
-    by_refusal : (o : Option OsErr) → refusal s heap (HGetState h) ≡ o → StepUnless RequestRun o s heap (HGetState h) [] (number_outcome result) heap → (r : Result ℕ OsErr) → r ≡ result → is_ok r ≡ is_full heap.table h
+    by_refusal : (o : Option OsErr) → refusal s heap (OnBlock (HGetState h)) ≡ o → StepUnless RequestRun o s heap (OnBlock (HGetState h)) [] (number_outcome result) heap → (r : Result ℕ OsErr) → r ≡ result → is_ok r ≡ is_full heap.table h
     by_refusal None is step (Ok n) same = sym (passes-full (h == 0) (live_at heap.table h) is)
     by_refusal None is step (Err code) same = let ends : Result Results OsErr = Err code in absurd (cc (ap number_outcome same ∙ (let quiet = step.1 in quiet.1)))
     by_refusal (Some code) is step (Ok n) same = absurd (cc (ap number_outcome same ∙ step.1))

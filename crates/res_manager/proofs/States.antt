@@ -4,7 +4,8 @@ use Rattle.std.specs.Option.{option_map_or}
 use Rattle.mac_base.specs.HeadKind.{Shape}
 use Rattle.mac_base.specs.Heap.{Heap}
 use Rattle.mac_base.specs.ZoneState.{ZoneState}
-use Rattle.mac_base.specs.declared.memory_call.MemoryCall.TheVariants.{HSetRBit}
+use Rattle.mac_base.specs.declared.memory_call.MemoryCall.TheVariants.{OnBlock}
+use Rattle.mac_base.specs.declared.memory_call.BlockCall.TheVariants.{HSetRBit}
 use Rattle.mac_base.specs.declared.reply.Results.TheVariants.{Nothing}
 use Rattle.mac_base.specs.declared.resource_call.ResourceCall.TheVariants.{AddResource}
 use Rattle.mac_base.specs.ExactStep.{IsExactStep, StepEnd}
@@ -37,7 +38,7 @@ same_end outcome a b is = ap (λ (s : ResState). let e : ResourceEnd = record { 
 
 -- a handle's block is a resource of the current file
 pub added_ends : {S : Type 0} (fork : S → List ℕ) (old new : ZoneState) (on after : FilesOn S) (h : ℕ) (kind : List ℕ) (id : ℤ) (name : Option (List ℕ)) (k : ℕ) (outcome : Outcome) → on.files.current ≡ Some k
-    → after ≡ record on { files = rows_changed k (added (new_row h kind id name)) on.files } → IsExactStep old.shape old.heap (HSetRBit h) [] outcome new.heap → new.shape ≡ old.shape
+    → after ≡ record on { files = rows_changed k (added (new_row h kind id name)) on.files } → IsExactStep old.shape old.heap (OnBlock (HSetRBit h)) [] outcome new.heap → new.shape ≡ old.shape
     → EndsQuietly fork old on (AddResource h kind id name) (Ok Nothing) new after
 added_ends fork old new on after h kind id name k outcome current add exact shape =
     let gone : ResState = quiet_state (AddResource h kind id name) (state_of fork old on) in

@@ -7,7 +7,8 @@ use Rattle.mac_base.specs.Heap.{Heap, with_table}
 use Rattle.mac_base.specs.Releasing.{heap_released}
 use Rattle.mac_base.specs.ZoneState.{ZoneState}
 use Rattle.mac_base.specs.declared.memory_call.MemoryCall.{MemoryCall}
-use Rattle.mac_base.specs.declared.memory_call.MemoryCall.TheVariants as memory_call
+use Rattle.mac_base.specs.declared.memory_call.MemoryCall.TheVariants.{Requesting}
+use Rattle.mac_base.specs.declared.memory_call.RequestingCall.TheVariants.{ReallocateHandle, NewHandle, NewEmptyHandle}
 use Rattle.mac_base.specs.declared.reply.Results.TheVariants as results
 use Rattle.mac_base.specs.declared.resource_call.ResourceCall.{ResourceCall}
 use Rattle.mac_base.specs.GrowZone.{Ask}
@@ -50,9 +51,9 @@ pub record LoadSteps {S : Type 0} (store : Ghosts S) (old : ZoneState) (old_file
 
 -- the call of the Memory Manager that makes the place for so many bytes: under the row's own handle, or a new one
 abbrev pub place_call : Option ℕ → ℕ → Bool → MemoryCall
-place_call (Some h) n loads = memory_call.ReallocateHandle h n
-place_call None n true = memory_call.NewHandle n
-place_call None n false = memory_call.NewEmptyHandle
+place_call (Some h) n loads = Requesting (ReallocateHandle h n)
+place_call None n true = Requesting (NewHandle n)
+place_call None n false = (Requesting NewEmptyHandle)
 
 -- the handle of the place that such a call made, or the code of its refusal
 abbrev pub handle_placed : Option ℕ → Outcome → Result ℕ OsErr

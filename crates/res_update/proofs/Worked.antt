@@ -6,7 +6,10 @@ use Rattle.mac_base.specs.declared.error.OsErr.{OsErr}
 use Rattle.mac_base.specs.declared.error.OsErr.TheVariants.{MemFullErr, NilHandleErr, ResNotFound, ResFNotFound, AddResFailed, RmvResFailed, ResAttrErr, FnfErr}
 use Rattle.mac_base.specs.declared.block.HeadKind.TheVariants.{Bits24}
 use Rattle.mac_base.specs.HeadKind.{Shape}
-use Rattle.mac_base.specs.declared.memory_call.MemoryCall.TheVariants.{NewHandle, HPurge, DisposeHandle, EmptyHandle, GetHandleSize, Peek, Poke}
+use Rattle.mac_base.specs.declared.memory_call.MemoryCall.TheVariants.{OnBlock, Requesting, Showing}
+use Rattle.mac_base.specs.declared.memory_call.BlockCall.TheVariants.{HPurge, DisposeHandle, EmptyHandle, GetHandleSize, Poke}
+use Rattle.mac_base.specs.declared.memory_call.RequestingCall.TheVariants.{NewHandle}
+use Rattle.mac_base.specs.declared.memory_call.ShowingCall.TheVariants.{Peek}
 use Rattle.mac_base.specs.declared.reply.Results.TheVariants as given
 use Rattle.fork_bytes.specs.Fork.{table_of}
 use Rattle.res_update.specs.Changes.{FileTable, opened_table}
@@ -92,38 +95,38 @@ update_empty : disks_after ([] ∷ []) (r (Writing (UpdateResFile None)) ∷ [])
 update_empty = refl
 
 -- a block becomes a resource and is written
-update_one : disks_after ([] ∷ []) (m (NewHandle 2) ∷ m (Poke h1 0 (codes "Hi")) ∷ r (AddResource h1 TEXT (pos 128) None) ∷ r (Writing (UpdateResFile None)) ∷ []) ≡ hi_fork ∷ []
+update_one : disks_after ([] ∷ []) (m (Requesting (NewHandle 2)) ∷ m (OnBlock (Poke h1 0 (codes "Hi"))) ∷ r (AddResource h1 TEXT (pos 128) None) ∷ r (Writing (UpdateResFile None)) ∷ []) ≡ hi_fork ∷ []
 update_one = refl
 
 -- a load without room, and with it
-load_refused : outcomes (hi_fork ∷ []) (r (Getting (GetResource TEXT (pos 128))) ∷ m (HPurge h1) ∷ m (NewHandle 3764) ∷ m (GetHandleSize h1) ∷ r (Getting (LoadResource h1)) ∷ m (DisposeHandle h2) ∷ r (Getting (LoadResource h1)) ∷ m (Peek h1 0 2) ∷ [])
+load_refused : outcomes (hi_fork ∷ []) (r (Getting (GetResource TEXT (pos 128))) ∷ m (OnBlock (HPurge h1)) ∷ m (Requesting (NewHandle 3764)) ∷ m (OnBlock (GetHandleSize h1)) ∷ r (Getting (LoadResource h1)) ∷ m (OnBlock (DisposeHandle h2)) ∷ r (Getting (LoadResource h1)) ∷ m (Showing (Peek h1 0 2)) ∷ [])
     ≡ handle h1 ∷ gone ∷ of_memory (Ok (given.Handle h2)) ∷ of_memory (Err NilHandleErr) ∷ refused MemFullErr ∷ gone ∷ done ∷ bytes (codes "Hi") ∷ []
 load_refused = refl
 
 -- a row reloads with its bytes on the disk, and one that is changed is written as it is
-edits_lost : outcomes (hi_fork ∷ []) (r (Getting (GetResource TEXT (pos 128))) ∷ m (Poke h1 0 (codes "No")) ∷ m (EmptyHandle h1) ∷ r (Getting (LoadResource h1)) ∷ m (Peek h1 0 2) ∷ r (Changing (ChangedResource h1)) ∷ m (EmptyHandle h1) ∷ r (Writing (UpdateResFile None)) ∷ r (Looking (SizeResource h1)) ∷ [])
+edits_lost : outcomes (hi_fork ∷ []) (r (Getting (GetResource TEXT (pos 128))) ∷ m (OnBlock (Poke h1 0 (codes "No"))) ∷ m (OnBlock (EmptyHandle h1)) ∷ r (Getting (LoadResource h1)) ∷ m (Showing (Peek h1 0 2)) ∷ r (Changing (ChangedResource h1)) ∷ m (OnBlock (EmptyHandle h1)) ∷ r (Writing (UpdateResFile None)) ∷ r (Looking (SizeResource h1)) ∷ [])
     ≡ handle h1 ∷ gone ∷ gone ∷ done ∷ bytes (codes "Hi") ∷ done ∷ gone ∷ done ∷ number 0 ∷ []
 edits_lost = refl
 
 -- what is changed is not detached
-detached : outcomes (hi_fork ∷ []) (r (Getting (GetResource TEXT (pos 128))) ∷ r (Changing (ChangedResource h1)) ∷ r (Changing (DetachResource h1)) ∷ r (Writing (UpdateResFile None)) ∷ r (Changing (DetachResource h1)) ∷ r (Getting (GetResource TEXT (pos 128))) ∷ m (Peek h2 0 2) ∷ [])
+detached : outcomes (hi_fork ∷ []) (r (Getting (GetResource TEXT (pos 128))) ∷ r (Changing (ChangedResource h1)) ∷ r (Changing (DetachResource h1)) ∷ r (Writing (UpdateResFile None)) ∷ r (Changing (DetachResource h1)) ∷ r (Getting (GetResource TEXT (pos 128))) ∷ m (Showing (Peek h2 0 2)) ∷ [])
     ≡ handle h1 ∷ done ∷ refused ResAttrErr ∷ done ∷ done ∷ handle h2 ∷ bytes (codes "Hi") ∷ []
 detached = refl
 
 -- what is protected is neither marked nor removed
-protection : outcomes ([] ∷ []) (m (NewHandle 1) ∷ r (Getting (LoadResource h1)) ∷ r (AddResource h1 TEXT (pos 1) None) ∷ r (AddResource h1 TEXT (pos 2) None) ∷ r (Changing (SetResAttrs h1 8)) ∷ r (Looking (GetResAttrs h1)) ∷ r (Changing (ChangedResource h1))
+protection : outcomes ([] ∷ []) (m (Requesting (NewHandle 1)) ∷ r (Getting (LoadResource h1)) ∷ r (AddResource h1 TEXT (pos 1) None) ∷ r (AddResource h1 TEXT (pos 2) None) ∷ r (Changing (SetResAttrs h1 8)) ∷ r (Looking (GetResAttrs h1)) ∷ r (Changing (ChangedResource h1))
     ∷ r (Changing (RemoveResource h1)) ∷ r (Changing (SetResAttrs h1 0)) ∷ r (Changing (RemoveResource h1)) ∷ r (Writing (CloseResFile None)) ∷ r (Getting (GetResource TEXT (pos 1))) ∷ [])
     ≡ of_memory (Ok (given.Handle h1)) ∷ refused ResNotFound ∷ done ∷ refused AddResFailed ∷ done ∷ number 10 ∷ refused ResAttrErr
     ∷ refused RmvResFailed ∷ done ∷ done ∷ done ∷ refused ResFNotFound ∷ []
 protection = refl
 
 -- nothing is loaded while SetResLoad is 0, but by LoadResource
-not_loaded : outcomes (hi_fork ∷ []) (r (Changing (SetResLoad 0)) ∷ r (Getting (GetResource TEXT (pos 128))) ∷ m (GetHandleSize h1) ∷ r (Getting (LoadResource h1)) ∷ m (GetHandleSize h1) ∷ r (GetResInfo h1) ∷ r (Getting (GetIndResource TEXT 1)) ∷ r (Getting (GetIndResource TEXT 2)) ∷ [])
+not_loaded : outcomes (hi_fork ∷ []) (r (Changing (SetResLoad 0)) ∷ r (Getting (GetResource TEXT (pos 128))) ∷ m (OnBlock (GetHandleSize h1)) ∷ r (Getting (LoadResource h1)) ∷ m (OnBlock (GetHandleSize h1)) ∷ r (GetResInfo h1) ∷ r (Getting (GetIndResource TEXT 1)) ∷ r (Getting (GetIndResource TEXT 2)) ∷ [])
     ≡ done ∷ handle h1 ∷ of_memory (Err NilHandleErr) ∷ done ∷ of_memory (Ok (given.Number 2)) ∷ of_resources (Ok (Info (record { id = pos 128; kind = TEXT; name = None }))) ∷ handle h1 ∷ refused ResNotFound ∷ []
 not_loaded = refl
 
 -- a chain of two files
-chain : outcomes (hi_fork ∷ [] ∷ []) (r (OpenResFile 2) ∷ r (Looking CurResFile) ∷ r (Getting (GetResource TEXT (pos 128))) ∷ r (Getting (Get1Resource TEXT (pos 128))) ∷ r (Looking (HomeResFile h1)) ∷ m (NewHandle 1) ∷ r (AddResource h2 TEXT (pos 128) None)
+chain : outcomes (hi_fork ∷ [] ∷ []) (r (OpenResFile 2) ∷ r (Looking CurResFile) ∷ r (Getting (GetResource TEXT (pos 128))) ∷ r (Getting (Get1Resource TEXT (pos 128))) ∷ r (Looking (HomeResFile h1)) ∷ m (Requesting (NewHandle 1)) ∷ r (AddResource h2 TEXT (pos 128) None)
     ∷ r (Getting (Get1Resource TEXT (pos 128))) ∷ r (Getting (GetResource TEXT (pos 128))) ∷ r (Changing (UseResFile 1)) ∷ r (Getting (GetResource TEXT (pos 128))) ∷ r (Writing (UpdateResFile (Some 2))) ∷ r (Writing (CloseResFile (Some 2))) ∷ r (Looking CurResFile) ∷ r (OpenResFile 3) ∷ r (Changing (UseResFile 2)) ∷ [])
     ≡ number 2 ∷ number 2 ∷ handle h1 ∷ refused ResNotFound ∷ number 1 ∷ of_memory (Ok (given.Handle h2)) ∷ done
     ∷ handle h2 ∷ handle h2 ∷ done ∷ handle h1 ∷ done ∷ done ∷ number 1 ∷ refused FnfErr ∷ refused ResFNotFound ∷ []

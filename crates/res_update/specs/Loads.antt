@@ -8,7 +8,8 @@ use Rattle.mac_base.specs.HandleTable.{HandleTable, FullHandle, is_full, with_li
 use Rattle.mac_base.specs.Heap.{Heap, with_table, with_emptied}
 use Rattle.mac_base.specs.Releasing.{heap_released}
 use Rattle.mac_base.specs.declared.memory_call.MemoryCall.{MemoryCall}
-use Rattle.mac_base.specs.declared.memory_call.MemoryCall.TheVariants as memory_call
+use Rattle.mac_base.specs.declared.memory_call.MemoryCall.TheVariants.{Requesting}
+use Rattle.mac_base.specs.declared.memory_call.RequestingCall.TheVariants.{ReallocateHandle, NewHandle, NewEmptyHandle}
 use Rattle.mac_base.specs.declared.reply.Results.TheVariants as results
 use Rattle.mac_base.specs.Outcomes.{Outcome}
 use Rattle.res_update.specs.Attributes.{has_bit, res_locked, res_purgeable}
@@ -41,9 +42,9 @@ loads_bytes state call = state.loads
 -- empty handle where nothing is to be loaded.
 abbrev pub placing : HandleTable → Bool → FileRow → Option MemoryCall
 placing t loads r = option_map_or
-    (λ h. if is_full t h || not loads then None else Some (memory_call.ReallocateHandle h (length r.resource.datum)))
+    (λ h. if is_full t h || not loads then None else Some (Requesting (ReallocateHandle h (length r.resource.datum))))
     r.handle
-    (Some (if loads then memory_call.NewHandle (length r.resource.datum) else memory_call.NewEmptyHandle))
+    (Some (if loads then Requesting (NewHandle (length r.resource.datum)) else (Requesting NewEmptyHandle)))
 
 -- the flags of a loaded row's handle
 abbrev pub loaded_flags : FileRow → Flags

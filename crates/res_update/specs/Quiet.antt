@@ -9,7 +9,8 @@ use Rattle.res_table.specs.Rows.{is_changed, with_attributes, added, removed_at,
 use Rattle.res_table.specs.declared.chain.RowPlace.{RowPlace}
 use Rattle.res_table.specs.OpenFiles.{place_of_handle, handle_forgotten, file_used, rows_changed}
 use Rattle.res_update.specs.Changes.{Files, FileRow, current_rows, row_of_handle, row_changed}
-use Rattle.mac_base.specs.declared.memory_call.MemoryCall.TheVariants.{HSetRBit, HClrRBit}
+use Rattle.mac_base.specs.declared.memory_call.MemoryCall.TheVariants.{OnBlock}
+use Rattle.mac_base.specs.declared.memory_call.BlockCall.TheVariants.{HSetRBit, HClrRBit}
 use Rattle.mac_base.specs.ExactStep.{heap_after}
 use Rattle.mac_base.specs.declared.resource_call.ResourceCall.{ResourceCall}
 use Rattle.mac_base.specs.declared.resource_call.ResourceCall.TheVariants.{Looking, Changing, OpenResFile, AddResource, GetResInfo}
@@ -22,11 +23,11 @@ use Rattle.res_update.specs.Updates.{row_passes, disposed, new_row}
 
 -- the heap with the resource flag of a handle set; an empty one has none
 abbrev pub flagged : Shape → ℕ → Heap → Heap
-flagged s h heap = heap_after s heap (HSetRBit h ∷ [])
+flagged s h heap = heap_after s heap (OnBlock (HSetRBit h) ∷ [])
 
 -- the heap with it cleared
 abbrev pub unflagged : Shape → ℕ → Heap → Heap
-unflagged s h heap = heap_after s heap (HClrRBit h ∷ [])
+unflagged s h heap = heap_after s heap (OnBlock (HClrRBit h) ∷ [])
 
 -- the files with the attributes of a handle's row changed so
 abbrev pub attributes_changed : (ResAttrs → ResAttrs) → ℕ → Files → Files

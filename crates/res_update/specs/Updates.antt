@@ -16,7 +16,8 @@ use Rattle.mac_base.specs.declared.resource_call.ResourceCall.{ResourceCall}
 use Rattle.mac_base.specs.declared.resource_call.ResourceCall.TheVariants.{Writing}
 use Rattle.mac_base.specs.declared.resource_call.WritingCall.TheVariants.{CloseResFile}
 use Rattle.mac_base.specs.declared.reply.Results.TheVariants.{Nothing}
-use Rattle.mac_base.specs.declared.memory_call.MemoryCall.TheVariants.{DisposeHandle}
+use Rattle.mac_base.specs.declared.memory_call.MemoryCall.TheVariants.{OnBlock}
+use Rattle.mac_base.specs.declared.memory_call.BlockCall.TheVariants.{DisposeHandle}
 use Rattle.mac_base.specs.ExactStep.{heap_after}
 use Rattle.res_update.specs.Fitting.{rows_fit}
 use Rattle.res_update.specs.Device.{Device, Works, FailsBefore, FailsWriting}
@@ -79,7 +80,7 @@ handles_of rows = filter_map (λ (r : FileRow). r.handle) rows
 
 -- the heap once these handles are disposed of, in order
 abbrev pub disposed : Shape → List ℕ → Heap → Heap
-disposed s hs heap = heap_after s heap (map DisposeHandle hs)
+disposed s hs heap = heap_after s heap (map (λ (h : ℕ). OnBlock (DisposeHandle h)) hs)
 
 -- the state after an update: CloseResFile disposes of the handles of the file's rows, in order, and closes it
 abbrev pub after_update : ResourceCall → ℕ → ResState → ResState

@@ -157,7 +157,7 @@ impl Problem {
     fn text(&self) -> &'static str {
         match self {
             Problem::Apart(_) =>
-                " stands apart from the other resources of its type: put those of one type together",
+                " is apart from the other resources of its type: put those of one type together",
             Problem::NoText(_) => " is no UTF-8 text",
             Problem::Lost(_) => " would be lost; --lossy leaves it out",
             Problem::NoKind(_) => "there is no such resource",
@@ -168,7 +168,7 @@ impl Problem {
             Problem::DataLost =>
                 "its data fork would be lost; --data FILE writes it to a file of its own",
             Problem::NoDataFile =>
-                "--data names the file of a data fork that stands alone, and there is none here",
+                "--data names a data fork in a file of its own, and there is none here",
             Problem::OneFile => "the data fork would take the place of the file that is written",
             Problem::NoFile => "there is no such file; --create makes a new one",
             Problem::HostFull => "the host has no memory",
@@ -184,7 +184,7 @@ impl Problem {
             Problem::Read(error) => write!(f, "can't be read: {error}"),
             Problem::Said(error) => write!(
                 f,
-                "it is changed, but what changed can't be told: {error}"
+                "it is changed, but what changed can't be shown: {error}"
             ),
             Problem::Print(error) => write!(f, "the output can't be written: {error}"),
             Problem::Write(fault) => write!(f, "not written: {fault}"),

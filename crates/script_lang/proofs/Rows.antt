@@ -3,7 +3,8 @@ use Rattle.std.proofs.Common.{◌≡◌, refl, [], ◌∷◌, codes, pos, negsuc
 use Rattle.mac_base.specs.declared.releasing.ReleasingCall.TheVariants.{DisposesHandle, DisposesPtr, Empties}
 use Rattle.mac_base.specs.declared.call.Call.{Call}
 use Rattle.mac_base.specs.declared.call.Call.TheVariants.{Memory, Resource}
-use Rattle.mac_base.specs.declared.memory_call.MemoryCall.TheVariants.{Poke as PokeBlock}
+use Rattle.mac_base.specs.declared.memory_call.MemoryCall.TheVariants.{OnBlock}
+use Rattle.mac_base.specs.declared.memory_call.BlockCall.TheVariants.{Poke as PokeBlock}
 use Rattle.mac_base.specs.declared.resource_call.ResourceCall.TheVariants.{Getting, Writing, AddResource}
 use Rattle.mac_base.specs.declared.resource_call.GettingCall.TheVariants as getting
 use Rattle.mac_base.specs.declared.resource_call.WritingCall.TheVariants as writing
@@ -19,7 +20,7 @@ use Rattle.script_lang.specs.Answers.{answer_with}
 use Rattle.script_lang.specs.Resolving.{resolved}
 use Rattle.script_lang.specs.Variables.{with_value}
 
-poked : resolved (with_value [] 0 0x0010_003C) (named.Bytes Poke (number.Variable 0) (number.Number 0) (0 ∷ 255 ∷ [])) ≡ Memory (PokeBlock 0x0010_003C 0 (0 ∷ 255 ∷ []))
+poked : resolved (with_value [] 0 0x0010_003C) (named.Bytes Poke (number.Variable 0) (number.Number 0) (0 ∷ 255 ∷ [])) ≡ Memory (OnBlock (PokeBlock 0x0010_003C 0 (0 ∷ 255 ∷ [])))
 poked = refl
 
 answered : answer_with (with_value [] 0 0x0010_003C) (record {

@@ -3,7 +3,12 @@ use Rattle.std.specs.Prelude.{ℕ, ℤ, pos, List, Option, option_map}
 use Rattle.mac_base.specs.declared.call.Call.{Call}
 use Rattle.mac_base.specs.declared.call.Call.TheVariants.{Memory, Loan, Resource, MemError, ResError}
 use Rattle.mac_base.specs.declared.loan_call.LoanCall.TheVariants as loan
-use Rattle.mac_base.specs.declared.memory_call.MemoryCall.TheVariants as memory
+use Rattle.mac_base.specs.declared.memory_call.MemoryCall.TheVariants.{Filling, OnBlock, OnZone, Requesting, Showing}
+use Rattle.mac_base.specs.declared.memory_call.RequestingCall.TheVariants.{NewHandle, NewPtr, ReserveMem, NewEmptyHandle, MoreMasters, SetHandleSize, SetPtrSize, ReallocateHandle}
+use Rattle.mac_base.specs.declared.memory_call.FillingCall.TheVariants.{HandToHand, PtrToHand, HandAndHand, PtrToXHand, PtrAndHand}
+use Rattle.mac_base.specs.declared.memory_call.BlockCall.TheVariants.{DisposeHandle, EmptyHandle, GetHandleSize, HLock, HUnlock, HPurge, HNoPurge, HSetRBit, HClrRBit, HGetState, Deref, MoveHHi, HLockHi, DisposePtr, GetPtrSize, RecoverHandle, HSetState, Poke, BlockMove}
+use Rattle.mac_base.specs.declared.memory_call.ZoneCall.TheVariants.{CompactMem, PurgeMem, MaxMem, PurgeSpace, MaxBlock, FreeMem, MaxApplZone}
+use Rattle.mac_base.specs.declared.memory_call.ShowingCall.TheVariants.{ZoneMap, Peek}
 use Rattle.mac_base.specs.declared.resource_call.ResourceCall.TheVariants.{Getting, Looking, Changing, Writing, OpenResFile, AddResource, GetResInfo}
 use Rattle.mac_base.specs.declared.resource_call.GettingCall.TheVariants.{GetResource, Get1Resource, GetIndResource, LoadResource}
 use Rattle.mac_base.specs.declared.resource_call.LookingCall.TheVariants.{GetResAttrs, SizeResource, HomeResFile, UniqueID, CountTypes, CountResources, GetIndType, CurResFile}
@@ -50,20 +55,20 @@ id_of variables (id_operand.Variable name) = pos (value_of variables name)
 
 -- the call of this name on a handle
 abbrev pub handle_call : HandleName → ℕ → Call
-handle_call handle_name.DisposeHandle handle = Memory (memory.DisposeHandle handle)
-handle_call handle_name.EmptyHandle handle = Memory (memory.EmptyHandle handle)
-handle_call handle_name.GetHandleSize handle = Memory (memory.GetHandleSize handle)
-handle_call handle_name.HLock handle = Memory (memory.HLock handle)
-handle_call handle_name.HUnlock handle = Memory (memory.HUnlock handle)
-handle_call handle_name.HPurge handle = Memory (memory.HPurge handle)
-handle_call handle_name.HNoPurge handle = Memory (memory.HNoPurge handle)
-handle_call handle_name.HSetRBit handle = Memory (memory.HSetRBit handle)
-handle_call handle_name.HClrRBit handle = Memory (memory.HClrRBit handle)
-handle_call handle_name.HGetState handle = Memory (memory.HGetState handle)
-handle_call handle_name.Deref handle = Memory (memory.Deref handle)
-handle_call handle_name.MoveHHi handle = Memory (memory.MoveHHi handle)
-handle_call handle_name.HLockHi handle = Memory (memory.HLockHi handle)
-handle_call handle_name.HandToHand handle = Memory (memory.HandToHand handle)
+handle_call handle_name.DisposeHandle handle = Memory (OnBlock (DisposeHandle handle))
+handle_call handle_name.EmptyHandle handle = Memory (OnBlock (EmptyHandle handle))
+handle_call handle_name.GetHandleSize handle = Memory (OnBlock (GetHandleSize handle))
+handle_call handle_name.HLock handle = Memory (OnBlock (HLock handle))
+handle_call handle_name.HUnlock handle = Memory (OnBlock (HUnlock handle))
+handle_call handle_name.HPurge handle = Memory (OnBlock (HPurge handle))
+handle_call handle_name.HNoPurge handle = Memory (OnBlock (HNoPurge handle))
+handle_call handle_name.HSetRBit handle = Memory (OnBlock (HSetRBit handle))
+handle_call handle_name.HClrRBit handle = Memory (OnBlock (HClrRBit handle))
+handle_call handle_name.HGetState handle = Memory (OnBlock (HGetState handle))
+handle_call handle_name.Deref handle = Memory (OnBlock (Deref handle))
+handle_call handle_name.MoveHHi handle = Memory (OnBlock (MoveHHi handle))
+handle_call handle_name.HLockHi handle = Memory (OnBlock (HLockHi handle))
+handle_call handle_name.HandToHand handle = Memory (Filling (HandToHand handle))
 
 -- the call of this name on the handle of a resource
 abbrev pub resource_handle_call : ResourceHandleName → ℕ → Call
@@ -82,14 +87,14 @@ resource_handle_call resource_handle_name.HomeResFile handle = Resource (Looking
 abbrev pub number_call : NumberName → ℕ → Call
 number_call (number_name.Handle call) number = handle_call call number
 number_call (number_name.ResourceHandle call) number = resource_handle_call call number
-number_call number_name.NewHandle number = Memory (memory.NewHandle number)
-number_call number_name.NewPtr number = Memory (memory.NewPtr number)
-number_call number_name.DisposePtr number = Memory (memory.DisposePtr number)
-number_call number_name.GetPtrSize number = Memory (memory.GetPtrSize number)
-number_call number_name.RecoverHandle number = Memory (memory.RecoverHandle number)
-number_call number_name.CompactMem number = Memory (memory.CompactMem number)
-number_call number_name.PurgeMem number = Memory (memory.PurgeMem number)
-number_call number_name.ReserveMem number = Memory (memory.ReserveMem number)
+number_call number_name.NewHandle number = Memory (Requesting (NewHandle number))
+number_call number_name.NewPtr number = Memory (Requesting (NewPtr number))
+number_call number_name.DisposePtr number = Memory (OnBlock (DisposePtr number))
+number_call number_name.GetPtrSize number = Memory (OnBlock (GetPtrSize number))
+number_call number_name.RecoverHandle number = Memory (OnBlock (RecoverHandle number))
+number_call number_name.CompactMem number = Memory (OnZone (CompactMem number))
+number_call number_name.PurgeMem number = Memory (OnZone (PurgeMem number))
+number_call number_name.ReserveMem number = Memory (Requesting (ReserveMem number))
 number_call number_name.Lend number = Loan (loan.Lend number)
 number_call number_name.Return number = Loan (loan.Return number)
 number_call number_name.GetIndType number = Resource (Looking (GetIndType number))
@@ -99,14 +104,14 @@ number_call number_name.UseResFile number = Resource (Changing (UseResFile numbe
 
 -- the call of this name without operands
 abbrev pub plain_call : PlainName → Call
-plain_call plain_name.NewEmptyHandle = Memory memory.NewEmptyHandle
-plain_call plain_name.MaxMem = Memory memory.MaxMem
-plain_call plain_name.PurgeSpace = Memory memory.PurgeSpace
-plain_call plain_name.MaxBlock = Memory memory.MaxBlock
-plain_call plain_name.FreeMem = Memory memory.FreeMem
-plain_call plain_name.MoreMasters = Memory memory.MoreMasters
-plain_call plain_name.MaxApplZone = Memory memory.MaxApplZone
-plain_call plain_name.ZoneMap = Memory memory.ZoneMap
+plain_call plain_name.NewEmptyHandle = Memory (Requesting NewEmptyHandle)
+plain_call plain_name.MaxMem = Memory (OnZone MaxMem)
+plain_call plain_name.PurgeSpace = Memory (OnZone PurgeSpace)
+plain_call plain_name.MaxBlock = Memory (OnZone MaxBlock)
+plain_call plain_name.FreeMem = Memory (OnZone FreeMem)
+plain_call plain_name.MoreMasters = Memory (Requesting MoreMasters)
+plain_call plain_name.MaxApplZone = Memory (OnZone MaxApplZone)
+plain_call plain_name.ZoneMap = Memory (Showing ZoneMap)
 plain_call plain_name.MemError = MemError
 plain_call plain_name.CountTypes = Resource (Looking CountTypes)
 plain_call plain_name.CurResFile = Resource (Looking CurResFile)
@@ -114,24 +119,24 @@ plain_call plain_name.ResError = ResError
 
 -- the call of this name on two numbers
 abbrev pub two_numbers_call : TwoNumbersName → ℕ → ℕ → Call
-two_numbers_call two_numbers_name.SetHandleSize first second = Memory (memory.SetHandleSize first second)
-two_numbers_call two_numbers_name.SetPtrSize first second = Memory (memory.SetPtrSize first second)
-two_numbers_call two_numbers_name.HSetState first second = Memory (memory.HSetState first second)
-two_numbers_call two_numbers_name.ReallocateHandle first second = Memory (memory.ReallocateHandle first second)
-two_numbers_call two_numbers_name.PtrToHand first second = Memory (memory.PtrToHand first second)
-two_numbers_call two_numbers_name.HandAndHand first second = Memory (memory.HandAndHand first second)
+two_numbers_call two_numbers_name.SetHandleSize first second = Memory (Requesting (SetHandleSize first second))
+two_numbers_call two_numbers_name.SetPtrSize first second = Memory (Requesting (SetPtrSize first second))
+two_numbers_call two_numbers_name.HSetState first second = Memory (OnBlock (HSetState first second))
+two_numbers_call two_numbers_name.ReallocateHandle first second = Memory (Requesting (ReallocateHandle first second))
+two_numbers_call two_numbers_name.PtrToHand first second = Memory (Filling (PtrToHand first second))
+two_numbers_call two_numbers_name.HandAndHand first second = Memory (Filling (HandAndHand first second))
 two_numbers_call two_numbers_name.SetResAttrs first second = Resource (Changing (SetResAttrs first second))
 
 -- the call of this name on three numbers
 abbrev pub three_numbers_call : ThreeNumbersName → ℕ → ℕ → ℕ → Call
-three_numbers_call three_numbers_name.PtrToXHand first second third = Memory (memory.PtrToXHand first second third)
-three_numbers_call three_numbers_name.PtrAndHand first second third = Memory (memory.PtrAndHand first second third)
-three_numbers_call three_numbers_name.Peek first second third = Memory (memory.Peek first second third)
+three_numbers_call three_numbers_name.PtrToXHand first second third = Memory (Filling (PtrToXHand first second third))
+three_numbers_call three_numbers_name.PtrAndHand first second third = Memory (Filling (PtrAndHand first second third))
+three_numbers_call three_numbers_name.Peek first second third = Memory (Showing (Peek first second third))
 three_numbers_call three_numbers_name.LentPeek first second third = Loan (loan.LentPeek first second third)
 
 -- the call of this name that puts these bytes into a block, from an offset on
 abbrev pub bytes_call : BytesName → ℕ → ℕ → List ℕ → Call
-bytes_call bytes_name.Poke block offset bytes = Memory (memory.Poke block offset bytes)
+bytes_call bytes_name.Poke block offset bytes = Memory (OnBlock (Poke block offset bytes))
 bytes_call bytes_name.LentPoke block offset bytes = Loan (loan.LentPoke block offset bytes)
 
 -- the call of this name on a type and an id
@@ -156,7 +161,7 @@ resolved variables (named.Number call one) = number_call call (number_of variabl
 resolved variables (named.TwoNumbers call first second) = two_numbers_call call (number_of variables first) (number_of variables second)
 resolved variables (named.ThreeNumbers call first second third) = three_numbers_call call (number_of variables first) (number_of variables second) (number_of variables third)
 resolved variables (named.BlockMove from start to offset count) =
-    Memory (memory.BlockMove (number_of variables from) (number_of variables start) (number_of variables to) (number_of variables offset) (number_of variables count))
+    Memory (OnBlock (BlockMove (number_of variables from) (number_of variables start) (number_of variables to) (number_of variables offset) (number_of variables count)))
 resolved variables (named.Bytes call block offset bytes) = bytes_call call (number_of variables block) (number_of variables offset) bytes
 resolved variables (named.Resource call kind id) = resource_call call kind (id_of variables id)
 resolved variables (named.GetIndResource kind index) = Resource (Getting (GetIndResource kind (number_of variables index)))

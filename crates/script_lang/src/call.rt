@@ -1,7 +1,8 @@
 //! The calls that lines make.
 
 ghost use Rattle.std.specs.Prelude.{◌≡◌};
-ghost use Rattle.mac_base.specs.declared.call.Call.TheVariants.{Resource};
+ghost use Rattle.mac_base.specs.declared.call.Call.TheVariants.{Memory, Resource};
+ghost use Rattle.mac_base.specs.declared.memory_call.MemoryCall.TheVariants.{Requesting, Filling, OnBlock, OnZone, Showing};
 ghost use Rattle.mac_base.specs.declared.resource_call.ResourceCall.TheVariants.{Getting, Looking, Changing, Writing};
 ghost use Rattle.script_lang.specs.declared.line.NamedCall.TheVariants.{BlockMove, AddResource};
 ghost use Rattle.script_lang.specs.Resolving as calls;
@@ -15,8 +16,8 @@ use crate::vars::Vars;
 use mac_base::handle::{Handle, Ptr};
 use mac_base::resource::ResType;
 use mac_base::{
-    Call, ChangingCall, GettingCall, LoanCall, LookingCall, MemoryCall, ResourceCall, Span,
-    WritingCall,
+    BlockCall, Call, ChangingCall, FillingCall, GettingCall, LoanCall, LookingCall, MemoryCall,
+    RequestingCall, ResourceCall, ShowingCall, Span, WritingCall, ZoneCall,
 };
 
 /// The number that is written, or the value of the variable.
@@ -37,6 +38,41 @@ fn id_of(operand: IdOperand, vars: &Vars) -> i64
         IdOperand::Id(id) => i64::from(id),
         IdOperand::Variable(name) => i64::from(vars.value(name)),
     }
+}
+
+/// A call that requests a block, or another size or place for one.
+fn requesting(call: RequestingCall) -> Call<'static>
+    ensures { result ≡ Memory (Requesting call) }
+{
+    Call::Memory(MemoryCall::Requesting(call))
+}
+
+/// A call that requests a block for bytes, or another size for one, and fills it with them.
+fn filling(call: FillingCall<'_>) -> Call<'_>
+    ensures { result ≡ Memory (Filling call.entry) }
+{
+    Call::Memory(MemoryCall::Filling(call))
+}
+
+/// A call on a block that requests none.
+fn on_block(call: BlockCall<'_>) -> Call<'_>
+    ensures { result ≡ Memory (OnBlock call.entry) }
+{
+    Call::Memory(MemoryCall::OnBlock(call))
+}
+
+/// A call on the zone as a whole.
+fn on_zone(call: ZoneCall) -> Call<'static>
+    ensures { result ≡ Memory (OnZone call) }
+{
+    Call::Memory(MemoryCall::OnZone(call))
+}
+
+/// A call that gives a copy of what the zone has.
+fn showing(call: ShowingCall) -> Call<'static>
+    ensures { result ≡ Memory (Showing call) }
+{
+    Call::Memory(MemoryCall::Showing(call))
 }
 
 /// A call that gets or loads a resource.
@@ -72,20 +108,20 @@ fn handle_call(call: HandleName, handle: Handle) -> Call<'static>
     ensures { result ≡ calls.handle_call call handle }
 {
     match call {
-        HandleName::DisposeHandle => Call::Memory(MemoryCall::DisposeHandle(handle)),
-        HandleName::EmptyHandle => Call::Memory(MemoryCall::EmptyHandle(handle)),
-        HandleName::GetHandleSize => Call::Memory(MemoryCall::GetHandleSize(handle)),
-        HandleName::HLock => Call::Memory(MemoryCall::HLock(handle)),
-        HandleName::HUnlock => Call::Memory(MemoryCall::HUnlock(handle)),
-        HandleName::HPurge => Call::Memory(MemoryCall::HPurge(handle)),
-        HandleName::HNoPurge => Call::Memory(MemoryCall::HNoPurge(handle)),
-        HandleName::HSetRBit => Call::Memory(MemoryCall::HSetRBit(handle)),
-        HandleName::HClrRBit => Call::Memory(MemoryCall::HClrRBit(handle)),
-        HandleName::HGetState => Call::Memory(MemoryCall::HGetState(handle)),
-        HandleName::Deref => Call::Memory(MemoryCall::Deref(handle)),
-        HandleName::MoveHHi => Call::Memory(MemoryCall::MoveHHi(handle)),
-        HandleName::HLockHi => Call::Memory(MemoryCall::HLockHi(handle)),
-        HandleName::HandToHand => Call::Memory(MemoryCall::HandToHand(handle)),
+        HandleName::DisposeHandle => on_block(BlockCall::DisposeHandle(handle)),
+        HandleName::EmptyHandle => on_block(BlockCall::EmptyHandle(handle)),
+        HandleName::GetHandleSize => on_block(BlockCall::GetHandleSize(handle)),
+        HandleName::HLock => on_block(BlockCall::HLock(handle)),
+        HandleName::HUnlock => on_block(BlockCall::HUnlock(handle)),
+        HandleName::HPurge => on_block(BlockCall::HPurge(handle)),
+        HandleName::HNoPurge => on_block(BlockCall::HNoPurge(handle)),
+        HandleName::HSetRBit => on_block(BlockCall::HSetRBit(handle)),
+        HandleName::HClrRBit => on_block(BlockCall::HClrRBit(handle)),
+        HandleName::HGetState => on_block(BlockCall::HGetState(handle)),
+        HandleName::Deref => on_block(BlockCall::Deref(handle)),
+        HandleName::MoveHHi => on_block(BlockCall::MoveHHi(handle)),
+        HandleName::HLockHi => on_block(BlockCall::HLockHi(handle)),
+        HandleName::HandToHand => filling(FillingCall::HandToHand(handle)),
     }
 }
 
@@ -114,14 +150,14 @@ fn number_call(call: NumberName, number: u32) -> Call<'static>
     match call {
         NumberName::Handle(call) => handle_call(call, Handle::new(number)),
         NumberName::ResourceHandle(call) => resource_handle_call(call, Handle::new(number)),
-        NumberName::NewHandle => Call::Memory(MemoryCall::NewHandle(number)),
-        NumberName::NewPtr => Call::Memory(MemoryCall::NewPtr(number)),
-        NumberName::DisposePtr => Call::Memory(MemoryCall::DisposePtr(Ptr::new(number))),
-        NumberName::GetPtrSize => Call::Memory(MemoryCall::GetPtrSize(Ptr::new(number))),
-        NumberName::RecoverHandle => Call::Memory(MemoryCall::RecoverHandle(number)),
-        NumberName::CompactMem => Call::Memory(MemoryCall::CompactMem(number)),
-        NumberName::PurgeMem => Call::Memory(MemoryCall::PurgeMem(number)),
-        NumberName::ReserveMem => Call::Memory(MemoryCall::ReserveMem(number)),
+        NumberName::NewHandle => requesting(RequestingCall::NewHandle(number)),
+        NumberName::NewPtr => requesting(RequestingCall::NewPtr(number)),
+        NumberName::DisposePtr => on_block(BlockCall::DisposePtr(Ptr::new(number))),
+        NumberName::GetPtrSize => on_block(BlockCall::GetPtrSize(Ptr::new(number))),
+        NumberName::RecoverHandle => on_block(BlockCall::RecoverHandle(number)),
+        NumberName::CompactMem => on_zone(ZoneCall::CompactMem(number)),
+        NumberName::PurgeMem => on_zone(ZoneCall::PurgeMem(number)),
+        NumberName::ReserveMem => requesting(RequestingCall::ReserveMem(number)),
         NumberName::Lend => Call::Loan(LoanCall::Lend(number)),
         NumberName::Return => Call::Loan(LoanCall::Return(number)),
         NumberName::GetIndType => looking(LookingCall::GetIndType(number)),
@@ -136,14 +172,14 @@ fn plain_call(call: PlainName) -> Call<'static>
     ensures { result ≡ calls.plain_call call }
 {
     match call {
-        PlainName::NewEmptyHandle => Call::Memory(MemoryCall::NewEmptyHandle),
-        PlainName::MaxMem => Call::Memory(MemoryCall::MaxMem),
-        PlainName::PurgeSpace => Call::Memory(MemoryCall::PurgeSpace),
-        PlainName::MaxBlock => Call::Memory(MemoryCall::MaxBlock),
-        PlainName::FreeMem => Call::Memory(MemoryCall::FreeMem),
-        PlainName::MoreMasters => Call::Memory(MemoryCall::MoreMasters),
-        PlainName::MaxApplZone => Call::Memory(MemoryCall::MaxApplZone),
-        PlainName::ZoneMap => Call::Memory(MemoryCall::ZoneMap),
+        PlainName::NewEmptyHandle => requesting(RequestingCall::NewEmptyHandle),
+        PlainName::MaxMem => on_zone(ZoneCall::MaxMem),
+        PlainName::PurgeSpace => on_zone(ZoneCall::PurgeSpace),
+        PlainName::MaxBlock => on_zone(ZoneCall::MaxBlock),
+        PlainName::FreeMem => on_zone(ZoneCall::FreeMem),
+        PlainName::MoreMasters => requesting(RequestingCall::MoreMasters),
+        PlainName::MaxApplZone => on_zone(ZoneCall::MaxApplZone),
+        PlainName::ZoneMap => showing(ShowingCall::ZoneMap),
         PlainName::MemError => Call::MemError,
         PlainName::CountTypes => looking(LookingCall::CountTypes),
         PlainName::CurResFile => looking(LookingCall::CurResFile),
@@ -156,21 +192,21 @@ fn two_numbers_call(call: TwoNumbersName, first: u32, second: u32) -> Call<'stat
     ensures { result ≡ calls.two_numbers_call call first second }
 {
     match call {
-        TwoNumbersName::SetHandleSize => Call::Memory(MemoryCall::SetHandleSize(
+        TwoNumbersName::SetHandleSize => requesting(RequestingCall::SetHandleSize(
             Handle::new(first),
             second,
         )),
-        TwoNumbersName::SetPtrSize => Call::Memory(MemoryCall::SetPtrSize(Ptr::new(first), second)),
-        TwoNumbersName::HSetState => Call::Memory(MemoryCall::HSetState(
+        TwoNumbersName::SetPtrSize => requesting(RequestingCall::SetPtrSize(
+            Ptr::new(first),
+            second,
+        )),
+        TwoNumbersName::HSetState => on_block(BlockCall::HSetState(Handle::new(first), second)),
+        TwoNumbersName::ReallocateHandle => requesting(RequestingCall::ReallocateHandle(
             Handle::new(first),
             second,
         )),
-        TwoNumbersName::ReallocateHandle => Call::Memory(MemoryCall::ReallocateHandle(
-            Handle::new(first),
-            second,
-        )),
-        TwoNumbersName::PtrToHand => Call::Memory(MemoryCall::PtrToHand(Ptr::new(first), second)),
-        TwoNumbersName::HandAndHand => Call::Memory(MemoryCall::HandAndHand(
+        TwoNumbersName::PtrToHand => filling(FillingCall::PtrToHand(Ptr::new(first), second)),
+        TwoNumbersName::HandAndHand => filling(FillingCall::HandAndHand(
             Handle::new(first),
             Handle::new(second),
         )),
@@ -186,17 +222,17 @@ fn three_numbers_call(call: ThreeNumbersName, first: u32, second: u32, third: u3
     ensures { result ≡ calls.three_numbers_call call first second third }
 {
     match call {
-        ThreeNumbersName::PtrToXHand => Call::Memory(MemoryCall::PtrToXHand(
+        ThreeNumbersName::PtrToXHand => filling(FillingCall::PtrToXHand(
             Ptr::new(first),
             Handle::new(second),
             third,
         )),
-        ThreeNumbersName::PtrAndHand => Call::Memory(MemoryCall::PtrAndHand(
+        ThreeNumbersName::PtrAndHand => filling(FillingCall::PtrAndHand(
             Ptr::new(first),
             Handle::new(second),
             third,
         )),
-        ThreeNumbersName::Peek => Call::Memory(MemoryCall::Peek {
+        ThreeNumbersName::Peek => showing(ShowingCall::Peek {
             block: first,
             offset: second,
             count: third,
@@ -214,7 +250,7 @@ fn bytes_call<'a>(call: BytesName, block: u32, offset: u32, bytes: Span<'a>) -> 
     ensures { result ≡ calls.bytes_call call block offset bytes.entry }
 {
     match call {
-        BytesName::Poke => Call::Memory(MemoryCall::Poke {
+        BytesName::Poke => on_block(BlockCall::Poke {
             block,
             offset,
             bytes,
@@ -268,7 +304,7 @@ fn block_move_call(
 ) -> Call<'static>
     ensures { result ≡ calls.resolved vars.now (BlockMove from start to offset count) }
 {
-    Call::Memory(MemoryCall::BlockMove {
+    on_block(BlockCall::BlockMove {
         from: number_of(from, vars),
         start: number_of(start, vars),
         to: number_of(to, vars),

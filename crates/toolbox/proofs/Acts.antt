@@ -18,6 +18,8 @@ use Rattle.mac_base.specs.Heap.{Heap, table_granted, with_emptied}
 use Rattle.mac_base.specs.Releasing.{heap_released}
 use Rattle.mac_base.specs.declared.memory_call.MemoryCall.{MemoryCall}
 use Rattle.mac_base.specs.declared.memory_call.MemoryCall.TheVariants as memory_call
+use Rattle.mac_base.specs.declared.memory_call.BlockCall.TheVariants as block_call
+use Rattle.mac_base.specs.declared.memory_call.RequestingCall.TheVariants as requesting_call
 use Rattle.mac_base.specs.declared.reply.Results.{Results}
 use Rattle.mac_base.specs.declared.reply.Results.TheVariants as results
 use Rattle.mac_base.specs.declared.resource_call.ResourceCall.{ResourceCall}
@@ -88,14 +90,14 @@ module _ (loans : Loans) where
       let e = exact_step s [] heap call in
       one-first s (IsActOf old rc) (Calls call [] e.outcome) heap e.heap new (quiet-unless s heap call (refusal s heap call) none, refl) inner rest
 
-  disposed-done : (s : Shape) (old : ResState) (rc : ResourceCall) (hs : List ℕ) (heap : Heap) → AllByRecursion (λ h. IsInner old rc (memory_call.DisposeHandle h)) hs → MadeOf s (IsActOf old rc) heap (disposed s hs heap)
+  disposed-done : (s : Shape) (old : ResState) (rc : ResourceCall) (hs : List ℕ) (heap : Heap) → AllByRecursion (λ h. IsInner old rc (memory_call.OnBlock (block_call.DisposeHandle h))) hs → MadeOf s (IsActOf old rc) heap (disposed s hs heap)
   disposed-done s old rc [] heap inner = none-done s (IsActOf old rc) heap heap refl
   disposed-done s old rc (h ∷ hs) heap inner =
-      let next : Heap = (exact_step s [] heap (memory_call.DisposeHandle h)).heap in
-      called s old rc heap (memory_call.DisposeHandle h) (disposed s hs next) inner.0 refl (disposed-done s old rc hs next inner.1)
+      let next : Heap = (exact_step s [] heap (memory_call.OnBlock (block_call.DisposeHandle h))).heap in
+      called s old rc heap (memory_call.OnBlock (block_call.DisposeHandle h)) (disposed s hs next) inner.0 refl (disposed-done s old rc hs next inner.1)
 
   -- those of a file that is closed
-  closed-inner : (old : ResState) (named : Option ℕ) (hs : List ℕ) → AllByRecursion (λ h. IsInner old (Writing (CloseResFile named)) (memory_call.DisposeHandle h)) hs
+  closed-inner : (old : ResState) (named : Option ℕ) (hs : List ℕ) → AllByRecursion (λ h. IsInner old (Writing (CloseResFile named)) (memory_call.OnBlock (block_call.DisposeHandle h))) hs
   closed-inner old named [] = tt
   closed-inner old named (h ∷ hs) = ((h, refl), closed-inner old named hs)
 
@@ -131,26 +133,26 @@ module _ (loans : Loans) where
   here-still : (s : Shape) (old : Heap) (call : MemoryCall) (asks : List Ask) (outcome : Outcome) (new : Heap) (h : ℕ) → MemoryStep s old call asks outcome new → is_lent old.table h ≡ false → is_lent new.table h ≡ false
   here-still s old call asks outcome new h step here = ap (list_any (λ y. y == h)) (step_keeps_lent s old call asks outcome new step) ∙ here
 
-  new-place : (s : Shape) (old : Heap) (n : ℕ) (r : FileRow) (asks : List Ask) (res : Results) (new : Heap) → LoansAreFixed old → MemoryStep s old (memory_call.NewHandle n) asks (Ok res) new → HasPlace new.table (handle_made r (Ok res)) n
+  new-place : (s : Shape) (old : Heap) (n : ℕ) (r : FileRow) (asks : List Ask) (res : Results) (new : Heap) → LoansAreFixed old → MemoryStep s old (memory_call.Requesting (requesting_call.NewHandle n)) asks (Ok res) new → HasPlace new.table (handle_made r (Ok res)) n
   new-place s old n r asks res new fixed step =
-      let g = gave s old (memory_call.NewHandle n) (NewBlock n) asks res new refl step in
+      let g = gave s old (memory_call.Requesting (requesting_call.NewHandle n)) (NewBlock n) asks res new refl step in
       let x = g.number in
-      let free = block-here s old (memory_call.NewHandle n) n asks res new fixed refl step in
+      let free = block-here s old (memory_call.Requesting (requesting_call.NewHandle n)) n asks res new fixed refl step in
       let same : results.Handle free.0 ≡ results.Handle x = sym free.1 ∙ g.is in
       let number : free.0 ≡ x = ap (λ r. number_in r) same in
       subst (λ res. HasPlace new.table (handle_made r (Ok res)) n) (sym g.is)
-      (record { has = ap (λ t. live_at t x) g.table ∙ live_at-with_live_same x (FullHandle no_flags (zeros n)) g.before; here = here-still s old (memory_call.NewHandle n) asks (Ok res) new x step (ap (is_lent old.table) (sym number) ∙ free.2) })
+      (record { has = ap (λ t. live_at t x) g.table ∙ live_at-with_live_same x (FullHandle no_flags (zeros n)) g.before; here = here-still s old (memory_call.Requesting (requesting_call.NewHandle n)) asks (Ok res) new x step (ap (is_lent old.table) (sym number) ∙ free.2) })
 
   passed-of : (s : Shape) (old : Heap) (call : MemoryCall) (asks : List Ask) (res : Results) (new : Heap) (o : Option OsErr) → refusal s old call ≡ o → StepUnless RequestRun o s old call asks (Ok res) new → refusal s old call ≡ None
   passed-of s old call asks res new (Some code) is step = absurd (cc step.1)
   passed-of s old call asks res new None is step = is
 
-  replaced-place : (s : Shape) (old : Heap) (h n : ℕ) (r : FileRow) (asks : List Ask) (res : Results) (new : Heap) → r.handle ≡ Some h → MemoryStep s old (memory_call.ReallocateHandle h n) asks (Ok res) new → HasPlace new.table (handle_made r (Ok res)) n
+  replaced-place : (s : Shape) (old : Heap) (h n : ℕ) (r : FileRow) (asks : List Ask) (res : Results) (new : Heap) → r.handle ≡ Some h → MemoryStep s old (memory_call.Requesting (requesting_call.ReallocateHandle h n)) asks (Ok res) new → HasPlace new.table (handle_made r (Ok res)) n
   replaced-place s old h n r asks res new handle step =
-      let g = gave s old (memory_call.ReallocateHandle h n) (Replace h n) asks res new refl step in
-      let passed = passed-of s old (memory_call.ReallocateHandle h n) asks res new (refusal s old (memory_call.ReallocateHandle h n)) refl step in
+      let g = gave s old (memory_call.Requesting (requesting_call.ReallocateHandle h n)) (Replace h n) asks res new refl step in
+      let passed = passed-of s old (memory_call.Requesting (requesting_call.ReallocateHandle h n)) asks res new (refusal s old (memory_call.Requesting (requesting_call.ReallocateHandle h n))) refl step in
       let here = passed-NotLent s old h (test_2 s old (IsHandle h) (NotLent h) (NotLocked MemPurErr h ∷ IsSize n ∷ []) passed) in
-      let at_h : HasPlace new.table h n = record { has = ap (λ t. live_at t h) g.table ∙ live_at-with_live_same h (FullHandle no_flags (zeros n)) g.before; here = here-still s old (memory_call.ReallocateHandle h n) asks (Ok res) new h step here } in
+      let at_h : HasPlace new.table h n = record { has = ap (λ t. live_at t h) g.table ∙ live_at-with_live_same h (FullHandle no_flags (zeros n)) g.before; here = here-still s old (memory_call.Requesting (requesting_call.ReallocateHandle h n)) asks (Ok res) new h step here } in
       let same : h ≡ handle_made r (Ok results.Nothing) = sym (ap (λ o. unwrap_or o 0) handle) in
       subst (λ res. HasPlace new.table (handle_made r (Ok res)) n) (sym g.is) (subst (λ x. HasPlace new.table x n) same at_h)
 
@@ -159,18 +161,18 @@ module _ (loans : Loans) where
   module _ (s : Shape) (old : ResState) (rc : ResourceCall) (p : RowPlace) (r : FileRow) (wanted : row_wanted old rc ≡ Some p) (stands : row_at p old.files ≡ Some r) (fixed : LoansAreFixed old.heap) where
     -- the place for its bytes is made
     place-made : (before : Heap) → LoansAreFixed before → (o : Option ℕ) (loads : Bool) (inner : MemoryCall) (asks : List Ask) (res : Results) (new : Heap) → r.handle ≡ o → loads ≡ true
-        → option_map_or (λ h. cond (is_full before.table h || not loads) None (Some (memory_call.ReallocateHandle h (length r.resource.datum)))) o (Some (cond loads (memory_call.NewHandle (length r.resource.datum)) memory_call.NewEmptyHandle)) ≡ Some inner
+        → option_map_or (λ h. cond (is_full before.table h || not loads) None (Some (memory_call.Requesting (requesting_call.ReallocateHandle h (length r.resource.datum))))) o (Some (cond loads (memory_call.Requesting (requesting_call.NewHandle (length r.resource.datum))) (memory_call.Requesting requesting_call.NewEmptyHandle))) ≡ Some inner
         → MemoryStep s before inner asks (Ok res) new → HasPlace new.table (handle_made r (Ok res)) (length r.resource.datum)
     place-made before firm o false inner asks res new handle loads is step = absurd (cc loads)
     place-made before firm None true inner asks res new handle loads is step =
-        let same : inner ≡ memory_call.NewHandle (length r.resource.datum) = cc is in
+        let same : inner ≡ memory_call.Requesting (requesting_call.NewHandle (length r.resource.datum)) = cc is in
         new-place s before (length r.resource.datum) r asks res new firm (subst (λ inner. MemoryStep s before inner asks (Ok res) new) same step)
     place-made before firm (Some h) true inner asks res new handle loads is step = by_full (is_full before.table h) is
       where
-        by_full : (b : Bool) → cond (b || false) None (Some (memory_call.ReallocateHandle h (length r.resource.datum))) ≡ Some inner → HasPlace new.table (handle_made r (Ok res)) (length r.resource.datum)
+        by_full : (b : Bool) → cond (b || false) None (Some (memory_call.Requesting (requesting_call.ReallocateHandle h (length r.resource.datum)))) ≡ Some inner → HasPlace new.table (handle_made r (Ok res)) (length r.resource.datum)
         by_full true is = absurd (cc is)
         by_full false is =
-            let same : inner ≡ memory_call.ReallocateHandle h (length r.resource.datum) = cc is in
+            let same : inner ≡ memory_call.Requesting (requesting_call.ReallocateHandle h (length r.resource.datum)) = cc is in
             replaced-place s before h (length r.resource.datum) r asks res new handle (subst (λ inner. MemoryStep s before inner asks (Ok res) new) same step)
 
     -- the load after it
@@ -271,9 +273,9 @@ module _ (loans : Loans) where
           | true ↦ none-done old.shape May old.heap old.heap refl
           | false ↦ disposed-done old.shape old (Changing (ReleaseResource h)) (h ∷ []) old.heap (refl, tt)
         ]
-    quiet-done (Changing (DetachResource h)) = once-done old.shape old (Changing (DetachResource h)) (memory_call.HClrRBit h) old.heap refl refl
-    quiet-done (Changing (RemoveResource h)) = once-done old.shape old (Changing (RemoveResource h)) (memory_call.HClrRBit h) old.heap refl refl
-    quiet-done (AddResource h kind id name) = once-done old.shape old (AddResource h kind id name) (memory_call.HSetRBit h) old.heap refl refl
+    quiet-done (Changing (DetachResource h)) = once-done old.shape old (Changing (DetachResource h)) (memory_call.OnBlock (block_call.HClrRBit h)) old.heap refl refl
+    quiet-done (Changing (RemoveResource h)) = once-done old.shape old (Changing (RemoveResource h)) (memory_call.OnBlock (block_call.HClrRBit h)) old.heap refl refl
+    quiet-done (AddResource h kind id name) = once-done old.shape old (AddResource h kind id name) (memory_call.OnBlock (block_call.HSetRBit h)) old.heap refl refl
     quiet-done rc' = none-done old.shape (IsActOf old rc') old.heap old.heap refl
 
     -- the row that is gotten is the one that is wanted

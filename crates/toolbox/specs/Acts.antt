@@ -1,7 +1,8 @@
 -- What a call of the Resource Manager does to the zone, as acts.
 use Rattle.std.specs.Prelude.{◌≡◌, ℕ, Some, ⊤}
 use Rattle.mac_base.specs.declared.memory_call.MemoryCall.{MemoryCall}
-use Rattle.mac_base.specs.declared.memory_call.MemoryCall.TheVariants as memory_call
+use Rattle.mac_base.specs.declared.memory_call.MemoryCall.TheVariants.{OnBlock}
+use Rattle.mac_base.specs.declared.memory_call.BlockCall.TheVariants.{DisposeHandle, HClrRBit, HSetRBit}
 use Rattle.mac_base.specs.declared.resource_call.ResourceCall.{ResourceCall}
 use Rattle.mac_base.specs.declared.resource_call.ResourceCall.TheVariants.{Getting, Changing, Writing, AddResource}
 use Rattle.mac_base.specs.declared.resource_call.ChangingCall.TheVariants.{ReleaseResource, DetachResource, RemoveResource}
@@ -16,11 +17,11 @@ use Rattle.zone_laws.specs.Act.{Act, Calls, Loads, OnLoan, Unloads}
 -- The call of the Memory Manager that a call of the Resource Manager makes: for a handle that it lets go of or takes
 -- up, for those of a file's rows, or for the place of the row that it gets.
 abbrev pub IsInner : ResState → ResourceCall → MemoryCall → Type 0
-IsInner old (Changing (ReleaseResource h)) inner = inner ≡ memory_call.DisposeHandle h
-IsInner old (Changing (DetachResource h)) inner = inner ≡ memory_call.HClrRBit h
-IsInner old (Changing (RemoveResource h)) inner = inner ≡ memory_call.HClrRBit h
-IsInner old (AddResource h kind id name) inner = inner ≡ memory_call.HSetRBit h
-IsInner old (Writing (CloseResFile named)) inner = (h : ℕ) × (inner ≡ memory_call.DisposeHandle h)
+IsInner old (Changing (ReleaseResource h)) inner = inner ≡ OnBlock (DisposeHandle h)
+IsInner old (Changing (DetachResource h)) inner = inner ≡ OnBlock (HClrRBit h)
+IsInner old (Changing (RemoveResource h)) inner = inner ≡ OnBlock (HClrRBit h)
+IsInner old (AddResource h kind id name) inner = inner ≡ OnBlock (HSetRBit h)
+IsInner old (Writing (CloseResFile named)) inner = (h : ℕ) × (inner ≡ OnBlock (DisposeHandle h))
 IsInner old (Getting call) inner = (p : RowPlace) × (r : FileRow) × (row_wanted old (Getting call) ≡ Some p) × (row_at p old.files ≡ Some r)
     × (placing old.heap.table (loads_bytes old (Getting call)) r ≡ Some inner)
 IsInner old _ inner = ⊥

@@ -13,7 +13,7 @@ use held_calls::loans::Loans;
 use held_calls::making;
 use mac_base::error::{HostFull, OsErr};
 use mac_base::handle::Handle;
-use mac_base::{Call, GrowZone, MemoryCall, Outcome, Reply, ResourceCall, Results};
+use mac_base::{BlockCall, Call, GrowZone, MemoryCall, Outcome, Reply, ResourceCall, Results};
 use mem_calls::MemoryManager;
 use res_files::ResourceFiles;
 use res_manager::watch::{Before, Watched};
@@ -248,7 +248,7 @@ fn disposed_itself(call: &MemoryCall<'_>, outcome: &Outcome) -> Option<Handle>
     ensures { result ≡ disposed_itself call.now outcome.now }
 {
     match *call {
-        MemoryCall::DisposeHandle(handle) if outcome.is_ok() => Some(handle),
+        MemoryCall::OnBlock(BlockCall::DisposeHandle(handle)) if outcome.is_ok() => Some(handle),
         _ => None,
     }
 }

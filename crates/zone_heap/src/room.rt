@@ -29,7 +29,7 @@ pub fn gap_after(zone: &IndexedZone, block: u32) -> FoundGap
     requires settled { Settled zone.now }
     ensures { IsGapOf zone.now (gap_after block (gaps zone.now.heap.table zone.now.heap.map)) result }
 {
-    let at = zone.linked().place_of(block);
+    let at = zone.linked().address_of(block);
     prove!(zone_end(zone.linked()) <= u32::MAX);
     let start = at + zone.linked().entry_at(at).size;
     let end = zone.gap_end(start);

@@ -61,7 +61,7 @@ fn fits_there(zone: &LinkedZone, block: u32, length: u32) -> bool
 {
     let spec = zone.spec();
     prove!(spec.base() + spec.limit() <= u32::MAX);
-    let at = zone.place_of(block);
+    let at = zone.address_of(block);
     need_for(spec.heads(), length) <= zone.entry_at(at).size + free_after(zone, at)
 }
 
@@ -81,7 +81,7 @@ fn resize_there(zone: &mut IndexedZone, block: u32, length: u32)
 {
     let linked = zone.linked();
     let needed = need_for(linked.spec().heads(), length);
-    let at = linked.place_of(block);
+    let at = linked.address_of(block);
     let size = linked.entry_at(at).size;
     if needed <= size {
         shrink(zone, block, needed, length);
@@ -116,7 +116,7 @@ pub(crate) fn grows_to(zone: &mut IndexedZone, gap: FoundGap, block: u32, needed
     ensures grows { result ≡ nat_le needed (size_of block zone.old.heap.map + room_of (gap_to_grow zone.old.heap.table block zone.old.heap.map)) }
 {
     let linked = zone.linked();
-    let size = linked.entry_at(linked.place_of(block)).size;
+    let size = linked.entry_at(linked.address_of(block)).size;
     if needed <= size {
         return true;
     }

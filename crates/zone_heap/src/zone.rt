@@ -123,7 +123,7 @@ impl Zone {
         ensures shape { self.new.shape ≡ self.old.shape }
         ensures loans { KeepsLoans self.old self.new }
     {
-        let at = self.pointers.linked().place_of(pointer.number());
+        let at = self.pointers.linked().address_of(pointer.number());
         self.pointers.unfix(pointer);
         join(&mut self.pointers, at);
     }
@@ -172,7 +172,7 @@ impl Zone {
     }
 
     /// The bytes of a handle or a pointer that has a block, to be written.
-    pub fn bytes_mut(&mut self, block: u32) -> &mut [u8]
+    pub fn contents_mut(&mut self, block: u32) -> &mut [u8]
         requires full { status_of self.old.heap.table block ≡ Status.Full }
         ensures* writes_back { sem 𝓛 (WritesBackBytes self.entry block result) }
         ensures value { result.now ≡ bytes_of self.old.heap.table block }
@@ -298,7 +298,7 @@ pub(crate) fn shrink(pointers: &mut IndexedZone, block: u32, needed: u32, length
     let linked = pointers.linked();
     let spec = linked.spec();
     prove!(spec.base() + spec.limit() <= u32::MAX);
-    let at = linked.place_of(block);
+    let at = linked.address_of(block);
     let whole = linked.entry_at(at).size;
     let taken = front(linked, whole, needed);
     pointers.hold(block, taken, length);

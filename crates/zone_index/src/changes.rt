@@ -183,7 +183,7 @@ impl IndexedZone {
         requires here { IsFalse (is_lent self.old.heap.table pointer) }
         ensures { self.new ≡ unfixed pointer self.old }
     {
-        let at = self.zone.place_of(pointer.number());
+        let at = self.zone.address_of(pointer.number());
         let place = self.place(at);
         let page = self.page(at);
         let leaf = self.leaf(at);
@@ -277,7 +277,7 @@ impl IndexedZone {
         ensures { (can : CanHold self.old block size length) → self.new ≡ held_there self.old can }
     {
         let _spec = self.zone.spec();
-        let at = self.zone.place_of(block);
+        let at = self.zone.address_of(block);
         let first = self.page(at);
         let end = at + size;
         let last = self.page_at(end);
@@ -298,7 +298,7 @@ impl IndexedZone {
         ensures { (can : CanGrow self.old block size length) → self.new ≡ enlarged self.old can }
     {
         let _spec = self.zone.spec();
-        let at = self.zone.place_of(block);
+        let at = self.zone.address_of(block);
         let first = self.page(at);
         let end = at + size;
         let last = self.page_at(end);

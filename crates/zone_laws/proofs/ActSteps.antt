@@ -11,7 +11,8 @@ use Rattle.mac_base.specs.Sound.{Sound}
 use Rattle.mac_base.specs.ZoneMap.{contents_of}
 use Rattle.mac_base.specs.declared.error.OsErr.{OsErr}
 use Rattle.mac_base.specs.declared.memory_call.MemoryCall.{MemoryCall}
-use Rattle.mac_base.specs.declared.memory_call.MemoryCall.TheVariants.{Deref}
+use Rattle.mac_base.specs.declared.memory_call.MemoryCall.TheVariants.{OnBlock}
+use Rattle.mac_base.specs.declared.memory_call.BlockCall.TheVariants.{Deref}
 use Rattle.mac_base.specs.declared.reply.Results.{Results}
 use Rattle.mac_base.specs.declared.reply.Results.TheVariants.{Address}
 use Rattle.mac_base.specs.RequestRun.{RequestRun}
@@ -59,7 +60,7 @@ released-sound s heap (DisposesPtr p) sound may = sound-disposed_pointer s heap 
 released-sound s heap (Empties h) sound may = sound-emptied s heap h sound may
 
 -- Deref gives the address of the contents
-address-unless : (s : Shape) (old : Heap) (h : ℕ) (r : Results) (asks : List Ask) (new : Heap) (o : Option OsErr) → StepUnless RequestRun o s old (Deref h) asks (Ok r) new → r ≡ Address (contents_of s h old.map)
+address-unless : (s : Shape) (old : Heap) (h : ℕ) (r : Results) (asks : List Ask) (new : Heap) (o : Option OsErr) → StepUnless RequestRun o s old (OnBlock (Deref h)) asks (Ok r) new → r ≡ Address (contents_of s h old.map)
 address-unless s old h r asks new (Some code) step = absurd (cc step.1)
 address-unless s old h r asks new None step =
     let q = step.1 in
@@ -67,5 +68,5 @@ address-unless s old h r asks new None step =
     told ∙ ap (λ m. Address (contents_of s h m)) q.0.map
 
 pub step-address : (s : Shape) (old : Heap) (call : MemoryCall) (asks : List Ask) (outcome : Outcome) (new : Heap) → MemoryStep s old call asks outcome new → TellsAddress s old call outcome
-step-address s old (Deref h) asks (Ok r) new step = address-unless s old h r asks new (refusal s old (Deref h)) step
+step-address s old (OnBlock (Deref h)) asks (Ok r) new step = address-unless s old h r asks new (refusal s old (OnBlock (Deref h))) step
 step-address s old call asks outcome new step = tt

@@ -22,6 +22,11 @@ use Rattle.mac_base.specs.ZoneMap.{ZoneMap, address_after, largest_free}
 use Rattle.mac_base.specs.ZoneState.{written}
 use Rattle.mac_base.specs.declared.memory_call.MemoryCall.{MemoryCall}
 use Rattle.mac_base.specs.declared.memory_call.MemoryCall.TheVariants as memory_call
+use Rattle.mac_base.specs.declared.memory_call.BlockCall.TheVariants as block_call
+use Rattle.mac_base.specs.declared.memory_call.FillingCall.TheVariants as filling_call
+use Rattle.mac_base.specs.declared.memory_call.RequestingCall.TheVariants as requesting_call
+use Rattle.mac_base.specs.declared.memory_call.ShowingCall.TheVariants as showing_call
+use Rattle.mac_base.specs.declared.memory_call.ZoneCall.TheVariants as zone_call
 use Rattle.mac_base.specs.declared.reply.Results.TheVariants.{Nothing}
 use Rattle.mac_base.specs.Effect.{effect_of, request_of, table_copied}
 use Rattle.mac_base.specs.ExactRequest.{Ending, request_run}
@@ -39,56 +44,56 @@ module _ (cipher : ℕ → ℕ) where
   -- ---- a call in the cipher: it asks for the same, and is refused alike
 
   refusal-ciphered : (s : Shape) (heap : Heap) (call : MemoryCall) → refusal s (heap_ciphered cipher heap) (call_ciphered cipher call) ≡ refusal s heap call
-  refusal-ciphered s heap (memory_call.Poke x at bytes) = rw (length-map bytes cipher) (first_refusal-ciphered cipher s heap (tests_of (memory_call.Poke x at bytes)))
-  refusal-ciphered s heap (memory_call.NewHandleOf bytes) = rw (length-map bytes cipher) (first_refusal-ciphered cipher s heap (tests_of (memory_call.NewHandleOf bytes)))
-  refusal-ciphered s heap (memory_call.SetHandleTo h bytes) = rw (length-map bytes cipher) (first_refusal-ciphered cipher s heap (tests_of (memory_call.SetHandleTo h bytes)))
-  refusal-ciphered s heap (memory_call.Append h bytes) = rw (length-map bytes cipher) (first_refusal-ciphered cipher s heap (tests_of (memory_call.Append h bytes)))
+  refusal-ciphered s heap (memory_call.OnBlock (block_call.Poke x at bytes)) = rw (length-map bytes cipher) (first_refusal-ciphered cipher s heap (tests_of (memory_call.OnBlock (block_call.Poke x at bytes))))
+  refusal-ciphered s heap (memory_call.Filling (filling_call.NewHandleOf bytes)) = rw (length-map bytes cipher) (first_refusal-ciphered cipher s heap (tests_of (memory_call.Filling (filling_call.NewHandleOf bytes))))
+  refusal-ciphered s heap (memory_call.Filling (filling_call.SetHandleTo h bytes)) = rw (length-map bytes cipher) (first_refusal-ciphered cipher s heap (tests_of (memory_call.Filling (filling_call.SetHandleTo h bytes))))
+  refusal-ciphered s heap (memory_call.Filling (filling_call.Append h bytes)) = rw (length-map bytes cipher) (first_refusal-ciphered cipher s heap (tests_of (memory_call.Filling (filling_call.Append h bytes))))
   refusal-ciphered s heap call = first_refusal-ciphered cipher s heap (tests_of call)
 
   protected-ciphered : (call : MemoryCall) → protected_by (call_ciphered cipher call) ≡ protected_by call
-  protected-ciphered (memory_call.Poke x at bytes) = refl
-  protected-ciphered (memory_call.NewHandleOf bytes) = refl
-  protected-ciphered (memory_call.SetHandleTo h bytes) = refl
-  protected-ciphered (memory_call.Append h bytes) = refl
+  protected-ciphered (memory_call.OnBlock (block_call.Poke x at bytes)) = refl
+  protected-ciphered (memory_call.Filling (filling_call.NewHandleOf bytes)) = refl
+  protected-ciphered (memory_call.Filling (filling_call.SetHandleTo h bytes)) = refl
+  protected-ciphered (memory_call.Filling (filling_call.Append h bytes)) = refl
   protected-ciphered call = refl
 
   request-ciphered : (t : HandleTable) (call : MemoryCall) → request_of (table_ciphered cipher t) (call_ciphered cipher call) ≡ request_of t call
-  request-ciphered t (memory_call.HandToHand h) = rw (length-ciphered cipher t h)
-  request-ciphered t (memory_call.PtrAndHand p h n) = rw (length-ciphered cipher t h)
-  request-ciphered t (memory_call.HandAndHand a b) = rw (length-ciphered cipher t b, length-ciphered cipher t a)
-  request-ciphered t (memory_call.Poke x at bytes) = refl
-  request-ciphered t (memory_call.NewHandleOf bytes) = rw (length-map bytes cipher)
-  request-ciphered t (memory_call.SetHandleTo h bytes) = rw (length-map bytes cipher)
-  request-ciphered t (memory_call.Append h bytes) = rw (length-ciphered cipher t h, length-map bytes cipher)
+  request-ciphered t (memory_call.Filling (filling_call.HandToHand h)) = rw (length-ciphered cipher t h)
+  request-ciphered t (memory_call.Filling (filling_call.PtrAndHand p h n)) = rw (length-ciphered cipher t h)
+  request-ciphered t (memory_call.Filling (filling_call.HandAndHand a b)) = rw (length-ciphered cipher t b, length-ciphered cipher t a)
+  request-ciphered t (memory_call.OnBlock (block_call.Poke x at bytes)) = refl
+  request-ciphered t (memory_call.Filling (filling_call.NewHandleOf bytes)) = rw (length-map bytes cipher)
+  request-ciphered t (memory_call.Filling (filling_call.SetHandleTo h bytes)) = rw (length-map bytes cipher)
+  request-ciphered t (memory_call.Filling (filling_call.Append h bytes)) = rw (length-ciphered cipher t h, length-map bytes cipher)
   request-ciphered t call = refl
 
   given-ciphered : (call : MemoryCall) (x : ℕ) → Ok (given_results (call_ciphered cipher call) x) ≡ outcome_ciphered cipher (Ok (given_results call x))
-  given-ciphered (memory_call.NewHandle n) x = refl
-  given-ciphered memory_call.NewEmptyHandle x = refl
-  given-ciphered (memory_call.NewPtr n) x = refl
-  given-ciphered (memory_call.HandToHand h) x = refl
-  given-ciphered (memory_call.PtrToHand p n) x = refl
-  given-ciphered (memory_call.Poke y at bytes) x = refl
-  given-ciphered (memory_call.NewHandleOf bytes) x = refl
-  given-ciphered (memory_call.SetHandleTo h bytes) x = refl
-  given-ciphered (memory_call.Append h bytes) x = refl
+  given-ciphered (memory_call.Requesting (requesting_call.NewHandle n)) x = refl
+  given-ciphered (memory_call.Requesting requesting_call.NewEmptyHandle) x = refl
+  given-ciphered (memory_call.Requesting (requesting_call.NewPtr n)) x = refl
+  given-ciphered (memory_call.Filling (filling_call.HandToHand h)) x = refl
+  given-ciphered (memory_call.Filling (filling_call.PtrToHand p n)) x = refl
+  given-ciphered (memory_call.OnBlock (block_call.Poke y at bytes)) x = refl
+  given-ciphered (memory_call.Filling (filling_call.NewHandleOf bytes)) x = refl
+  given-ciphered (memory_call.Filling (filling_call.SetHandleTo h bytes)) x = refl
+  given-ciphered (memory_call.Filling (filling_call.Append h bytes)) x = refl
   given-ciphered call x = refl
 
   -- what it copies
   copied-ciphered : (call : MemoryCall) (x : ℕ) (entry t : HandleTable) → table_copied (call_ciphered cipher call) x (table_ciphered cipher entry) (table_ciphered cipher t) ≡ table_ciphered cipher (table_copied call x entry t)
-  copied-ciphered (memory_call.HandToHand h) x entry t = rw (bytes-ciphered cipher entry h) (with_bytes-ciphered cipher x (bytes_of entry h) t)
-  copied-ciphered (memory_call.PtrToHand p n) x entry t = rw (bytes-ciphered cipher entry p, take-map) (with_bytes-ciphered cipher x (take n (bytes_of entry p)) t)
-  copied-ciphered (memory_call.PtrToXHand p h n) x entry t = rw (bytes-ciphered cipher entry p, take-map) (with_bytes-ciphered cipher h (take n (bytes_of entry p)) t)
-  copied-ciphered (memory_call.PtrAndHand p h n) x entry t =
+  copied-ciphered (memory_call.Filling (filling_call.HandToHand h)) x entry t = rw (bytes-ciphered cipher entry h) (with_bytes-ciphered cipher x (bytes_of entry h) t)
+  copied-ciphered (memory_call.Filling (filling_call.PtrToHand p n)) x entry t = rw (bytes-ciphered cipher entry p, take-map) (with_bytes-ciphered cipher x (take n (bytes_of entry p)) t)
+  copied-ciphered (memory_call.Filling (filling_call.PtrToXHand p h n)) x entry t = rw (bytes-ciphered cipher entry p, take-map) (with_bytes-ciphered cipher h (take n (bytes_of entry p)) t)
+  copied-ciphered (memory_call.Filling (filling_call.PtrAndHand p h n)) x entry t =
       let old = bytes_of entry h in
       let added = take n (bytes_of entry p) in
       rw (bytes-ciphered cipher entry h, bytes-ciphered cipher entry p, take-map, ← map-append cipher old added) (with_bytes-ciphered cipher h (old ++ added) t)
-  copied-ciphered (memory_call.HandAndHand a b) x entry t =
+  copied-ciphered (memory_call.Filling (filling_call.HandAndHand a b)) x entry t =
       rw (bytes-ciphered cipher entry b, bytes-ciphered cipher entry a, ← map-append cipher (bytes_of entry b) (bytes_of entry a)) (with_bytes-ciphered cipher b (bytes_of entry b ++ bytes_of entry a) t)
-  copied-ciphered (memory_call.Poke y at bytes) x entry t = refl
-  copied-ciphered (memory_call.NewHandleOf bytes) x entry t = with_bytes-ciphered cipher x bytes t
-  copied-ciphered (memory_call.SetHandleTo h bytes) x entry t = with_bytes-ciphered cipher h bytes t
-  copied-ciphered (memory_call.Append h bytes) x entry t = rw (bytes-ciphered cipher entry h, ← map-append cipher (bytes_of entry h) bytes) (with_bytes-ciphered cipher h (bytes_of entry h ++ bytes) t)
+  copied-ciphered (memory_call.OnBlock (block_call.Poke y at bytes)) x entry t = refl
+  copied-ciphered (memory_call.Filling (filling_call.NewHandleOf bytes)) x entry t = with_bytes-ciphered cipher x bytes t
+  copied-ciphered (memory_call.Filling (filling_call.SetHandleTo h bytes)) x entry t = with_bytes-ciphered cipher h bytes t
+  copied-ciphered (memory_call.Filling (filling_call.Append h bytes)) x entry t = rw (bytes-ciphered cipher entry h, ← map-append cipher (bytes_of entry h) bytes) (with_bytes-ciphered cipher h (bytes_of entry h ++ bytes) t)
   copied-ciphered call x entry t = refl
 
   -- ---- a call that makes a request
@@ -120,15 +125,15 @@ module _ (cipher : ℕ → ℕ) where
   all_purged-ciphered heap = rw (candidates_in-same (fixes-ciphered cipher heap.table) (purgeable-ciphered cipher heap.table) [] heap.map) (all_emptied-ciphered cipher (candidates_in heap.table [] heap.map) heap)
 
   rearranged-ciphered : (call : MemoryCall) (heap : Heap) → rearranged (call_ciphered cipher call) (heap_ciphered cipher heap) ≡ heap_ciphered cipher (rearranged call heap)
-  rearranged-ciphered (memory_call.CompactMem n) heap = rw (compacted-same (fixes-ciphered cipher heap.table) n heap.map)
-  rearranged-ciphered (memory_call.PurgeMem n) heap = purged_for-ciphered cipher n heap
-  rearranged-ciphered memory_call.MaxMem heap = rw (all_purged-ciphered heap, all_down-same (fixes-ciphered cipher heap.table) (all_purged heap).map)
-  rearranged-ciphered (memory_call.MoveHHi h) heap = rw (moved_high-same (fixes-ciphered cipher heap.table) h heap.map)
-  rearranged-ciphered (memory_call.HLockHi h) heap = rw (moved_high-same (fixes-ciphered cipher heap.table) h heap.map)
-  rearranged-ciphered (memory_call.Poke x at bytes) heap = refl
-  rearranged-ciphered (memory_call.NewHandleOf bytes) heap = refl
-  rearranged-ciphered (memory_call.SetHandleTo h bytes) heap = refl
-  rearranged-ciphered (memory_call.Append h bytes) heap = refl
+  rearranged-ciphered (memory_call.OnZone (zone_call.CompactMem n)) heap = rw (compacted-same (fixes-ciphered cipher heap.table) n heap.map)
+  rearranged-ciphered (memory_call.OnZone (zone_call.PurgeMem n)) heap = purged_for-ciphered cipher n heap
+  rearranged-ciphered (memory_call.OnZone zone_call.MaxMem) heap = rw (all_purged-ciphered heap, all_down-same (fixes-ciphered cipher heap.table) (all_purged heap).map)
+  rearranged-ciphered (memory_call.OnBlock (block_call.MoveHHi h)) heap = rw (moved_high-same (fixes-ciphered cipher heap.table) h heap.map)
+  rearranged-ciphered (memory_call.OnBlock (block_call.HLockHi h)) heap = rw (moved_high-same (fixes-ciphered cipher heap.table) h heap.map)
+  rearranged-ciphered (memory_call.OnBlock (block_call.Poke x at bytes)) heap = refl
+  rearranged-ciphered (memory_call.Filling (filling_call.NewHandleOf bytes)) heap = refl
+  rearranged-ciphered (memory_call.Filling (filling_call.SetHandleTo h bytes)) heap = refl
+  rearranged-ciphered (memory_call.Filling (filling_call.Append h bytes)) heap = refl
   rearranged-ciphered call heap = refl
 
   flagged-ciphered : (h : ℕ) (change : Flags → Flags) (heap : Heap)
@@ -136,26 +141,26 @@ module _ (cipher : ℕ → ℕ) where
   flagged-ciphered h change heap = rw (with_flags-ciphered cipher h change heap.table)
 
   effect-ciphered : (s : Shape) (call : MemoryCall) (heap : Heap) → effect_of s (call_ciphered cipher call) (heap_ciphered cipher heap) ≡ heap_ciphered cipher (effect_of s call heap)
-  effect-ciphered s (memory_call.DisposeHandle h) heap = released-ciphered cipher (DisposesHandle h) heap
-  effect-ciphered s (memory_call.DisposePtr p) heap = released-ciphered cipher (DisposesPtr p) heap
-  effect-ciphered s (memory_call.EmptyHandle h) heap = released-ciphered cipher (Empties h) heap
-  effect-ciphered s (memory_call.HLock h) heap = flagged-ciphered h (λ flags. record flags { lock = true }) heap
-  effect-ciphered s (memory_call.HLockHi h) heap = flagged-ciphered h (λ flags. record flags { lock = true }) heap
-  effect-ciphered s (memory_call.HUnlock h) heap = flagged-ciphered h (λ flags. record flags { lock = false }) heap
-  effect-ciphered s (memory_call.HPurge h) heap = flagged-ciphered h (λ flags. record flags { purge = true }) heap
-  effect-ciphered s (memory_call.HNoPurge h) heap = flagged-ciphered h (λ flags. record flags { purge = false }) heap
-  effect-ciphered s (memory_call.HSetRBit h) heap = flagged-ciphered h (λ flags. record flags { resource = true }) heap
-  effect-ciphered s (memory_call.HClrRBit h) heap = flagged-ciphered h (λ flags. record flags { resource = false }) heap
-  effect-ciphered s (memory_call.HSetState h n) heap = flagged-ciphered h (λ flags. flags_from n) heap
-  effect-ciphered s (memory_call.Poke x at bytes) heap = rw (bytes-ciphered cipher heap.table x, written-ciphered cipher at bytes (bytes_of heap.table x), with_bytes-ciphered cipher x (written at bytes (bytes_of heap.table x)) heap.table)
-  effect-ciphered s (memory_call.BlockMove x at y to n) heap =
+  effect-ciphered s (memory_call.OnBlock (block_call.DisposeHandle h)) heap = released-ciphered cipher (DisposesHandle h) heap
+  effect-ciphered s (memory_call.OnBlock (block_call.DisposePtr p)) heap = released-ciphered cipher (DisposesPtr p) heap
+  effect-ciphered s (memory_call.OnBlock (block_call.EmptyHandle h)) heap = released-ciphered cipher (Empties h) heap
+  effect-ciphered s (memory_call.OnBlock (block_call.HLock h)) heap = flagged-ciphered h (λ flags. record flags { lock = true }) heap
+  effect-ciphered s (memory_call.OnBlock (block_call.HLockHi h)) heap = flagged-ciphered h (λ flags. record flags { lock = true }) heap
+  effect-ciphered s (memory_call.OnBlock (block_call.HUnlock h)) heap = flagged-ciphered h (λ flags. record flags { lock = false }) heap
+  effect-ciphered s (memory_call.OnBlock (block_call.HPurge h)) heap = flagged-ciphered h (λ flags. record flags { purge = true }) heap
+  effect-ciphered s (memory_call.OnBlock (block_call.HNoPurge h)) heap = flagged-ciphered h (λ flags. record flags { purge = false }) heap
+  effect-ciphered s (memory_call.OnBlock (block_call.HSetRBit h)) heap = flagged-ciphered h (λ flags. record flags { resource = true }) heap
+  effect-ciphered s (memory_call.OnBlock (block_call.HClrRBit h)) heap = flagged-ciphered h (λ flags. record flags { resource = false }) heap
+  effect-ciphered s (memory_call.OnBlock (block_call.HSetState h n)) heap = flagged-ciphered h (λ flags. flags_from n) heap
+  effect-ciphered s (memory_call.OnBlock (block_call.Poke x at bytes)) heap = rw (bytes-ciphered cipher heap.table x, written-ciphered cipher at bytes (bytes_of heap.table x), with_bytes-ciphered cipher x (written at bytes (bytes_of heap.table x)) heap.table)
+  effect-ciphered s (memory_call.OnBlock (block_call.BlockMove x at y to n)) heap =
       let t = heap.table in
       let moved = take n (drop at (bytes_of t x)) in
       rw (bytes-ciphered cipher t x, slice-ciphered cipher at n (bytes_of t x), bytes-ciphered cipher t y, written-ciphered cipher to moved (bytes_of t y), with_bytes-ciphered cipher y (written to moved (bytes_of t y)) t)
-  effect-ciphered s memory_call.MaxApplZone heap = refl
-  effect-ciphered s (memory_call.NewHandleOf bytes) heap = refl
-  effect-ciphered s (memory_call.SetHandleTo h bytes) heap = refl
-  effect-ciphered s (memory_call.Append h bytes) heap = refl
+  effect-ciphered s (memory_call.OnZone zone_call.MaxApplZone) heap = refl
+  effect-ciphered s (memory_call.Filling (filling_call.NewHandleOf bytes)) heap = refl
+  effect-ciphered s (memory_call.Filling (filling_call.SetHandleTo h bytes)) heap = refl
+  effect-ciphered s (memory_call.Filling (filling_call.Append h bytes)) heap = refl
   effect-ciphered s call heap = refl
 
   -- ---- what it gives
@@ -183,21 +188,23 @@ module _ (cipher : ℕ → ℕ) where
   spaces-ciphered t m = simp (gaps-same t (table_ciphered cipher t) (fixes-ciphered cipher t) m, candidates_in-same (fixes-ciphered cipher t) (purgeable-ciphered cipher t) [])
 
   outcome_of-ciphered : (s : Shape) (heap : Heap) (call : MemoryCall) → outcome_of s (heap_ciphered cipher heap) (call_ciphered cipher call) ≡ outcome_ciphered cipher (outcome_of s heap call)
-  outcome_of-ciphered s heap (memory_call.GetHandleSize h) = rw (length-ciphered cipher heap.table h)
-  outcome_of-ciphered s heap (memory_call.GetPtrSize p) = rw (length-ciphered cipher heap.table p)
-  outcome_of-ciphered s heap (memory_call.HGetState h) = rw (flags-ciphered cipher heap.table h)
-  outcome_of-ciphered s heap (memory_call.Peek x at n) = rw (bytes-ciphered cipher heap.table x, slice-ciphered cipher at n (bytes_of heap.table x))
-  outcome_of-ciphered s heap memory_call.PurgeSpace = rw (purge_space-ciphered heap.table heap.map, spaces-ciphered heap.table heap.map)
-  outcome_of-ciphered s heap memory_call.MaxBlock = rw (gaps-same heap.table (table_ciphered cipher heap.table) (fixes-ciphered cipher heap.table) heap.map)
-  outcome_of-ciphered s heap memory_call.ZoneMap = rw (reports-ciphered heap.table (address_after s []) heap.map)
-  outcome_of-ciphered s heap (memory_call.Poke x at bytes) = refl
-  outcome_of-ciphered s heap (memory_call.NewHandleOf bytes) = refl
-  outcome_of-ciphered s heap (memory_call.SetHandleTo h bytes) = refl
-  outcome_of-ciphered s heap (memory_call.Append h bytes) = refl
+  outcome_of-ciphered s heap (memory_call.OnBlock (block_call.GetHandleSize h)) = rw (length-ciphered cipher heap.table h)
+  outcome_of-ciphered s heap (memory_call.OnBlock (block_call.GetPtrSize p)) = rw (length-ciphered cipher heap.table p)
+  outcome_of-ciphered s heap (memory_call.OnBlock (block_call.HGetState h)) = rw (flags-ciphered cipher heap.table h)
+  outcome_of-ciphered s heap (memory_call.Showing (showing_call.Peek x at n)) = rw (bytes-ciphered cipher heap.table x, slice-ciphered cipher at n (bytes_of heap.table x))
+  outcome_of-ciphered s heap (memory_call.OnZone zone_call.PurgeSpace) = rw (purge_space-ciphered heap.table heap.map, spaces-ciphered heap.table heap.map)
+  outcome_of-ciphered s heap (memory_call.OnZone zone_call.MaxBlock) = rw (gaps-same heap.table (table_ciphered cipher heap.table) (fixes-ciphered cipher heap.table) heap.map)
+  outcome_of-ciphered s heap (memory_call.Showing showing_call.ZoneMap) = rw (reports-ciphered heap.table (address_after s []) heap.map)
+  outcome_of-ciphered s heap (memory_call.OnBlock (block_call.Poke x at bytes)) = refl
+  outcome_of-ciphered s heap (memory_call.Filling (filling_call.NewHandleOf bytes)) = refl
+  outcome_of-ciphered s heap (memory_call.Filling (filling_call.SetHandleTo h bytes)) = refl
+  outcome_of-ciphered s heap (memory_call.Filling (filling_call.Append h bytes)) = refl
   outcome_of-ciphered s heap call = refl
 
   quiet_outcome-ciphered : (s : Shape) (heap : Heap) (call : MemoryCall) → quiet_outcome s (heap_ciphered cipher heap) (call_ciphered cipher call) ≡ outcome_ciphered cipher (quiet_outcome s heap call)
-  quiet_outcome-ciphered s heap (memory_call.PurgeMem n) = chosen (outcome_ciphered cipher) (nat_le n (largest_free heap.map)) (Ok Nothing) (Err MemFullErr)
+  quiet_outcome-ciphered s heap (memory_call.OnZone (zone_call.PurgeMem n)) = chosen (outcome_ciphered cipher) (nat_le n (largest_free heap.map)) (Ok Nothing) (Err MemFullErr)
+  quiet_outcome-ciphered s heap (memory_call.Filling (filling_call.HandToHand h)) = refl
+  quiet_outcome-ciphered s heap (memory_call.OnBlock (block_call.HLock h)) = refl
   quiet_outcome-ciphered s heap call = outcome_of-ciphered s heap call
 
   quiet-ciphered : (s : Shape) (answers : List Answer) (heap : Heap) (call : MemoryCall) → quiet_step s answers (heap_ciphered cipher heap) (call_ciphered cipher call) ≡ end_ciphered cipher (quiet_step s answers heap call)

@@ -15,6 +15,11 @@ use Rattle.mac_base.specs.Heap.{Heap, all_purged, table_granted}
 use Rattle.mac_base.specs.Request.{candidates_in}
 use Rattle.mac_base.specs.declared.memory_call.MemoryCall.{MemoryCall}
 use Rattle.mac_base.specs.declared.memory_call.MemoryCall.TheVariants as memory_call
+use Rattle.mac_base.specs.declared.memory_call.ShowingCall.TheVariants as showing_call
+use Rattle.mac_base.specs.declared.memory_call.BlockCall.TheVariants as block_call
+use Rattle.mac_base.specs.declared.memory_call.FillingCall.TheVariants as filling_call
+use Rattle.mac_base.specs.declared.memory_call.RequestingCall.TheVariants as requesting_call
+use Rattle.mac_base.specs.declared.memory_call.ZoneCall.TheVariants as zone_call
 use Rattle.mac_base.specs.declared.reply.Results.TheVariants as results
 use Rattle.mac_base.specs.Effect.{request_of, table_copied}
 use Rattle.mac_base.specs.GrowZone.{Ask}
@@ -80,34 +85,34 @@ flags-granted (Resize y n) x t last has = flags-written y (resized n (bytes_of t
 flags-granted (Replace h n) x t last has = flags-set h (FullHandle no_flags (zeros n)) no_flags t (table_granted (Replace h n) x t) last (λ _. refl) refl has
 
 flags-copied : (call : MemoryCall) (g : ℕ) (entry t : HandleTable) (last : LastSet) → HasFlags t last → HasFlags (table_copied call g entry t) last
-flags-copied (memory_call.HandToHand h) g entry t last has = flags-written g (bytes_of entry h) t last has
-flags-copied (memory_call.PtrToHand p n) g entry t last has = flags-written g (take n (bytes_of entry p)) t last has
-flags-copied (memory_call.PtrToXHand p h n) g entry t last has = flags-written h (take n (bytes_of entry p)) t last has
-flags-copied (memory_call.PtrAndHand p h n) g entry t last has = flags-written h (bytes_of entry h ++ take n (bytes_of entry p)) t last has
-flags-copied (memory_call.NewHandleOf bytes) g entry t last has = flags-written g bytes t last has
-flags-copied (memory_call.SetHandleTo h bytes) g entry t last has = flags-written h bytes t last has
-flags-copied (memory_call.Append h bytes) g entry t last has = flags-written h (bytes_of entry h ++ bytes) t last has
-flags-copied (memory_call.HandAndHand a b) g entry t last has = flags-written b (bytes_of entry b ++ bytes_of entry a) t last has
+flags-copied (memory_call.Filling (filling_call.HandToHand h)) g entry t last has = flags-written g (bytes_of entry h) t last has
+flags-copied (memory_call.Filling (filling_call.PtrToHand p n)) g entry t last has = flags-written g (take n (bytes_of entry p)) t last has
+flags-copied (memory_call.Filling (filling_call.PtrToXHand p h n)) g entry t last has = flags-written h (take n (bytes_of entry p)) t last has
+flags-copied (memory_call.Filling (filling_call.PtrAndHand p h n)) g entry t last has = flags-written h (bytes_of entry h ++ take n (bytes_of entry p)) t last has
+flags-copied (memory_call.Filling (filling_call.NewHandleOf bytes)) g entry t last has = flags-written g bytes t last has
+flags-copied (memory_call.Filling (filling_call.SetHandleTo h bytes)) g entry t last has = flags-written h bytes t last has
+flags-copied (memory_call.Filling (filling_call.Append h bytes)) g entry t last has = flags-written h (bytes_of entry h ++ bytes) t last has
+flags-copied (memory_call.Filling (filling_call.HandAndHand a b)) g entry t last has = flags-written b (bytes_of entry b ++ bytes_of entry a) t last has
 flags-copied call g entry t last has = has
 
 -- a call sets what its request does
 request-sets : (t : HandleTable) (call : MemoryCall) (x : ℕ) (last : LastSet) → MatchOption (request_of t call) ⊤ (λ r. set_with call (given_results call x) last ≡ set_granted r x last)
-request-sets t (memory_call.NewHandle n) x last = refl
-request-sets t memory_call.NewEmptyHandle x last = refl
-request-sets t (memory_call.NewPtr n) x last = refl
-request-sets t memory_call.MoreMasters x last = refl
-request-sets t (memory_call.ReserveMem n) x last = refl
-request-sets t (memory_call.SetHandleSize h n) x last = refl
-request-sets t (memory_call.SetPtrSize p n) x last = refl
-request-sets t (memory_call.ReallocateHandle h n) x last = refl
-request-sets t (memory_call.HandToHand h) x last = refl
-request-sets t (memory_call.PtrToHand p n) x last = refl
-request-sets t (memory_call.PtrToXHand p h n) x last = refl
-request-sets t (memory_call.PtrAndHand p h n) x last = refl
-request-sets t (memory_call.NewHandleOf bytes) x last = refl
-request-sets t (memory_call.SetHandleTo h bytes) x last = refl
-request-sets t (memory_call.Append h bytes) x last = refl
-request-sets t (memory_call.HandAndHand a b) x last = refl
+request-sets t (memory_call.Requesting (requesting_call.NewHandle n)) x last = refl
+request-sets t (memory_call.Requesting requesting_call.NewEmptyHandle) x last = refl
+request-sets t (memory_call.Requesting (requesting_call.NewPtr n)) x last = refl
+request-sets t (memory_call.Requesting requesting_call.MoreMasters) x last = refl
+request-sets t (memory_call.Requesting (requesting_call.ReserveMem n)) x last = refl
+request-sets t (memory_call.Requesting (requesting_call.SetHandleSize h n)) x last = refl
+request-sets t (memory_call.Requesting (requesting_call.SetPtrSize p n)) x last = refl
+request-sets t (memory_call.Requesting (requesting_call.ReallocateHandle h n)) x last = refl
+request-sets t (memory_call.Filling (filling_call.HandToHand h)) x last = refl
+request-sets t (memory_call.Filling (filling_call.PtrToHand p n)) x last = refl
+request-sets t (memory_call.Filling (filling_call.PtrToXHand p h n)) x last = refl
+request-sets t (memory_call.Filling (filling_call.PtrAndHand p h n)) x last = refl
+request-sets t (memory_call.Filling (filling_call.NewHandleOf bytes)) x last = refl
+request-sets t (memory_call.Filling (filling_call.SetHandleTo h bytes)) x last = refl
+request-sets t (memory_call.Filling (filling_call.Append h bytes)) x last = refl
+request-sets t (memory_call.Filling (filling_call.HandAndHand a b)) x last = refl
 request-sets t call x last = tt
 
 module _ (s : Shape) (old : Heap) (last : LastSet) (has : HasFlags old.table last) where
@@ -123,50 +128,51 @@ module _ (s : Shape) (old : Heap) (last : LastSet) (has : HasFlags old.table las
   flagged h change new tests passed is =
       flags-set h (FullHandle (change (flags_of old.table h)) (bytes_of old.table h)) (change (last h)) old.table new last (λ _. ap change (has h (passed-full s old h tests passed))) is has
 
-  purge_sets : (n : ℕ) (new : HandleTable) (outcome : Outcome) → HasFlags new last → HasFlags new (set_by (memory_call.PurgeMem n) outcome last)
+  purge_sets : (n : ℕ) (new : HandleTable) (outcome : Outcome) → HasFlags new last → HasFlags new (set_by (memory_call.OnZone (zone_call.PurgeMem n)) outcome last)
   purge_sets n new (Ok r) h = h
   purge_sets n new (Err code) h = h
 
   quiet-flags : (call : MemoryCall) (outcome : Outcome) (new : Heap) → request_of old.table call ≡ None → refusal s old call ≡ None → QuietStep s old call outcome new → Ends call outcome new
-  quiet-flags (memory_call.CompactMem n) outcome new none is q = ends (memory_call.CompactMem n) outcome _ new q.1 (flags-same old.table new.table last q.0.table has)
-  quiet-flags (memory_call.MoveHHi h) outcome new none is q = ends (memory_call.MoveHHi h) outcome _ new q.1 (flags-same old.table new.table last q.0.table has)
-  quiet-flags (memory_call.HLockHi h) outcome new none is q =
-      ends (memory_call.HLockHi h) outcome _ new q.3 (flagged h (λ f. record f { lock = true }) new.table (NotLocked MemLockedErr h ∷ []) is (q.2.table ∙ ap (λ t. with_flags h (record (flags_of t h) { lock = true }) t) q.1.table))
-  quiet-flags memory_call.MaxMem outcome new none is q = ends memory_call.MaxMem outcome _ new q.1
+  quiet-flags (memory_call.OnZone (zone_call.CompactMem n)) outcome new none is q = ends (memory_call.OnZone (zone_call.CompactMem n)) outcome _ new q.1 (flags-same old.table new.table last q.0.table has)
+  quiet-flags (memory_call.OnBlock (block_call.MoveHHi h)) outcome new none is q = ends (memory_call.OnBlock (block_call.MoveHHi h)) outcome _ new q.1 (flags-same old.table new.table last q.0.table has)
+  quiet-flags (memory_call.OnBlock (block_call.HLockHi h)) outcome new none is q =
+      ends (memory_call.OnBlock (block_call.HLockHi h)) outcome _ new q.3 (flagged h (λ f. record f { lock = true }) new.table (NotLocked MemLockedErr h ∷ []) is (q.2.table ∙ ap (λ t. with_flags h (record (flags_of t h) { lock = true }) t) q.1.table))
+  quiet-flags (memory_call.OnZone zone_call.MaxMem) outcome new none is q = ends (memory_call.OnZone zone_call.MaxMem) outcome _ new q.1
       (flags-same (all_purged old).table new.table last q.0.table (flags-fewer [] old.table (all_purged old).table last (fewer-purged [] (candidates_in old.table [] old.map) old (λ h _. refl)) has))
-  quiet-flags (memory_call.PurgeMem n) outcome new none is q = purge_sets n new.table outcome (flags-same _ new.table last q.3.table (flags-fewer [] old.table _ last (fewer-purged [] q.0 old (λ h _. refl)) has))
-  quiet-flags (memory_call.DisposeHandle h) outcome new none is q = ends (memory_call.DisposeHandle h) outcome _ new q.1 (flags-same _ new.table last q.0.table (flags-fewer [] old.table _ last (fewer-released [] (DisposesHandle h) old refl) has))
-  quiet-flags (memory_call.DisposePtr p) outcome new none is q = ends (memory_call.DisposePtr p) outcome _ new q.1 (flags-same _ new.table last q.0.table (flags-fewer [] old.table _ last (fewer-released [] (DisposesPtr p) old refl) has))
-  quiet-flags (memory_call.EmptyHandle h) outcome new none is q = ends (memory_call.EmptyHandle h) outcome _ new q.1 (flags-same _ new.table last q.0.table (flags-fewer [] old.table _ last (fewer-released [] (Empties h) old refl) has))
-  quiet-flags (memory_call.HLock h) outcome new none is q = ends (memory_call.HLock h) outcome _ new q.1 (flagged h (λ f. record f { lock = true }) new.table [] is q.0.table)
-  quiet-flags (memory_call.HUnlock h) outcome new none is q = ends (memory_call.HUnlock h) outcome _ new q.1 (flagged h (λ f. record f { lock = false }) new.table (NotLent h ∷ []) is q.0.table)
-  quiet-flags (memory_call.HPurge h) outcome new none is q = ends (memory_call.HPurge h) outcome _ new q.1 (flagged h (λ f. record f { purge = true }) new.table [] is q.0.table)
-  quiet-flags (memory_call.HNoPurge h) outcome new none is q = ends (memory_call.HNoPurge h) outcome _ new q.1 (flagged h (λ f. record f { purge = false }) new.table [] is q.0.table)
-  quiet-flags (memory_call.HSetRBit h) outcome new none is q = ends (memory_call.HSetRBit h) outcome _ new q.1 (flagged h (λ f. record f { resource = true }) new.table [] is q.0.table)
-  quiet-flags (memory_call.HClrRBit h) outcome new none is q = ends (memory_call.HClrRBit h) outcome _ new q.1 (flagged h (λ f. record f { resource = false }) new.table [] is q.0.table)
-  quiet-flags (memory_call.HSetState h n) outcome new none is q = ends (memory_call.HSetState h n) outcome _ new q.1 (flagged h (λ f. flags_from n) new.table (IsState n ∷ KeepsLent h n ∷ []) is q.0.table)
-  quiet-flags (memory_call.Poke x at bytes) outcome new none is q = ends (memory_call.Poke x at bytes) outcome _ new q.1 (flags-same _ new.table last q.0.table (flags-written x _ old.table last has))
-  quiet-flags (memory_call.BlockMove x at y to n) outcome new none is q = ends (memory_call.BlockMove x at y to n) outcome _ new q.1 (flags-same _ new.table last q.0.table (flags-written y _ old.table last has))
-  quiet-flags (memory_call.NewHandle n) outcome new none is q = absurd (cc none)
-  quiet-flags (memory_call.HandToHand h) outcome new none is q = absurd (cc none)
-  quiet-flags (memory_call.PtrToHand p n) outcome new none is q = absurd (cc none)
-  quiet-flags (memory_call.NewHandleOf bytes) outcome new none is q = absurd (cc none)
-  quiet-flags (memory_call.ReallocateHandle h n) outcome new none is q = absurd (cc none)
+  quiet-flags (memory_call.OnZone (zone_call.PurgeMem n)) outcome new none is q = purge_sets n new.table outcome (flags-same _ new.table last q.3.table (flags-fewer [] old.table _ last (fewer-purged [] q.0 old (λ h _. refl)) has))
+  quiet-flags (memory_call.OnBlock (block_call.DisposeHandle h)) outcome new none is q = ends (memory_call.OnBlock (block_call.DisposeHandle h)) outcome _ new q.1 (flags-same _ new.table last q.0.table (flags-fewer [] old.table _ last (fewer-released [] (DisposesHandle h) old refl) has))
+  quiet-flags (memory_call.OnBlock (block_call.DisposePtr p)) outcome new none is q = ends (memory_call.OnBlock (block_call.DisposePtr p)) outcome _ new q.1 (flags-same _ new.table last q.0.table (flags-fewer [] old.table _ last (fewer-released [] (DisposesPtr p) old refl) has))
+  quiet-flags (memory_call.OnBlock (block_call.EmptyHandle h)) outcome new none is q = ends (memory_call.OnBlock (block_call.EmptyHandle h)) outcome _ new q.1 (flags-same _ new.table last q.0.table (flags-fewer [] old.table _ last (fewer-released [] (Empties h) old refl) has))
+  quiet-flags (memory_call.OnBlock (block_call.HLock h)) outcome new none is q = ends (memory_call.OnBlock (block_call.HLock h)) outcome _ new q.1 (flagged h (λ f. record f { lock = true }) new.table [] is q.0.table)
+  quiet-flags (memory_call.OnBlock (block_call.HUnlock h)) outcome new none is q = ends (memory_call.OnBlock (block_call.HUnlock h)) outcome _ new q.1 (flagged h (λ f. record f { lock = false }) new.table (NotLent h ∷ []) is q.0.table)
+  quiet-flags (memory_call.OnBlock (block_call.HPurge h)) outcome new none is q = ends (memory_call.OnBlock (block_call.HPurge h)) outcome _ new q.1 (flagged h (λ f. record f { purge = true }) new.table [] is q.0.table)
+  quiet-flags (memory_call.OnBlock (block_call.HNoPurge h)) outcome new none is q = ends (memory_call.OnBlock (block_call.HNoPurge h)) outcome _ new q.1 (flagged h (λ f. record f { purge = false }) new.table [] is q.0.table)
+  quiet-flags (memory_call.OnBlock (block_call.HSetRBit h)) outcome new none is q = ends (memory_call.OnBlock (block_call.HSetRBit h)) outcome _ new q.1 (flagged h (λ f. record f { resource = true }) new.table [] is q.0.table)
+  quiet-flags (memory_call.OnBlock (block_call.HClrRBit h)) outcome new none is q = ends (memory_call.OnBlock (block_call.HClrRBit h)) outcome _ new q.1 (flagged h (λ f. record f { resource = false }) new.table [] is q.0.table)
+  quiet-flags (memory_call.OnBlock (block_call.HSetState h n)) outcome new none is q = ends (memory_call.OnBlock (block_call.HSetState h n)) outcome _ new q.1 (flagged h (λ f. flags_from n) new.table (IsState n ∷ KeepsLent h n ∷ []) is q.0.table)
+  quiet-flags (memory_call.OnBlock (block_call.Poke x at bytes)) outcome new none is q = ends (memory_call.OnBlock (block_call.Poke x at bytes)) outcome _ new q.1 (flags-same _ new.table last q.0.table (flags-written x _ old.table last has))
+  quiet-flags (memory_call.OnBlock (block_call.BlockMove x at y to n)) outcome new none is q = ends (memory_call.OnBlock (block_call.BlockMove x at y to n)) outcome _ new q.1 (flags-same _ new.table last q.0.table (flags-written y _ old.table last has))
+  quiet-flags (memory_call.Requesting (requesting_call.NewHandle n)) outcome new none is q = absurd (cc none)
+  quiet-flags (memory_call.Filling (filling_call.HandToHand h)) outcome new none is q = absurd (cc none)
+  quiet-flags (memory_call.Filling (filling_call.PtrToHand p n)) outcome new none is q = absurd (cc none)
+  quiet-flags (memory_call.Filling (filling_call.NewHandleOf bytes)) outcome new none is q = absurd (cc none)
+  quiet-flags (memory_call.Requesting (requesting_call.ReallocateHandle h n)) outcome new none is q = absurd (cc none)
+  quiet-flags (memory_call.Showing showing_call.ZoneMap) outcome new none is q = ends (memory_call.Showing showing_call.ZoneMap) outcome _ new q.1 (flags-same old.table new.table last q.0.table has)
   quiet-flags call outcome new none is q = ends call outcome _ new q.1 (flags-same old.table new.table last q.0.table has)
 
   tells : (call : MemoryCall) (outcome want : Outcome) → outcome ≡ want → TellsFlags call want last → TellsFlags call outcome last
   tells call outcome want is h = subst (λ o. TellsFlags call o last) (sym is) h
 
   quiet-tells : (call : MemoryCall) (outcome : Outcome) (new : Heap) → refusal s old call ≡ None → QuietStep s old call outcome new → TellsFlags call outcome last
-  quiet-tells (memory_call.HGetState h) outcome new is q = tells (memory_call.HGetState h) outcome _ q.1 (ap (λ f. results.Number (state_of f)) (ap (λ t. flags_of t h) q.0.table ∙ has h (passed-full s old h [] is)))
+  quiet-tells (memory_call.OnBlock (block_call.HGetState h)) outcome new is q = tells (memory_call.OnBlock (block_call.HGetState h)) outcome _ q.1 (ap (λ f. results.Number (state_of f)) (ap (λ t. flags_of t h) q.0.table ∙ has h (passed-full s old h [] is)))
   quiet-tells call outcome new is q = tt
 
   request-tells : (call : MemoryCall) (r : Request) (outcome : Outcome) → request_of old.table call ≡ Some r → TellsFlags call outcome last
-  request-tells (memory_call.HGetState h) r outcome is = absurd (cc is)
+  request-tells (memory_call.OnBlock (block_call.HGetState h)) r outcome is = absurd (cc is)
   request-tells call r outcome is = tt
 
   refused-tells : (call : MemoryCall) (code : OsErr) → TellsFlags call (Err code) last
-  refused-tells (memory_call.HGetState h) code = tt
+  refused-tells (memory_call.OnBlock (block_call.HGetState h)) code = tt
   refused-tells call code = tt
 
   ended-flags : (call : MemoryCall) (outcome : Outcome) (new : Heap) → Ended s old call outcome new → Ends call outcome new × TellsFlags call outcome last

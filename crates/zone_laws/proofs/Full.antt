@@ -15,6 +15,11 @@ use Rattle.mac_base.specs.Trial.{SameHeap}
 use Rattle.mac_base.specs.ZoneMap.{largest_free}
 use Rattle.mac_base.specs.declared.memory_call.MemoryCall.{MemoryCall}
 use Rattle.mac_base.specs.declared.memory_call.MemoryCall.TheVariants as memory_call
+use Rattle.mac_base.specs.declared.memory_call.ShowingCall.TheVariants as showing_call
+use Rattle.mac_base.specs.declared.memory_call.FillingCall.TheVariants as filling_call
+use Rattle.mac_base.specs.declared.memory_call.BlockCall.TheVariants as block_call
+use Rattle.mac_base.specs.declared.memory_call.RequestingCall.TheVariants as requesting_call
+use Rattle.mac_base.specs.declared.memory_call.ZoneCall.TheVariants as zone_call
 use Rattle.mac_base.specs.declared.reply.Results.TheVariants as results
 use Rattle.mac_base.specs.Effect.{request_of}
 use Rattle.mac_base.specs.GrowZone.{Ask, carried_out, most_answers}
@@ -58,7 +63,11 @@ some_full s heap (test ∷ tests) is = by_first (some_full s heap tests) (refuse
 
 none_full : (call : MemoryCall) → list_any gives_full (tests_of call) ≡ false
 unfolding gives_full
-none_full (memory_call.NewHandle n) = refl
+none_full (memory_call.Requesting (requesting_call.NewHandle n)) = refl
+none_full (memory_call.Filling (filling_call.HandToHand h)) = refl
+none_full (memory_call.OnBlock (block_call.HLock h)) = refl
+none_full (memory_call.OnZone zone_call.MaxMem) = refl
+none_full (memory_call.Showing showing_call.ZoneMap) = refl
 none_full call = refl
 
 -- no refusal is by memFullErr
@@ -107,13 +116,14 @@ module _ (s : Shape) (old : Heap) where
   purge-full n outcome new false lacks full m = (m.1, lacks)
 
   quiet-full : (call : MemoryCall) (asks : List Ask) (outcome : Outcome) (new : Heap) → request_of old.table call ≡ None → outcome ≡ Err MemFullErr → QuietStep s old call outcome new → MayBeFull s old call asks new
-  quiet-full (memory_call.PurgeMem n) asks outcome new none full q = purge-full n outcome new (nat_le n (largest_free new.map)) refl full q.4
-  quiet-full (memory_call.HLockHi h) asks outcome new none full q = absurd (cc (q.3, full))
+  quiet-full (memory_call.OnZone (zone_call.PurgeMem n)) asks outcome new none full q = purge-full n outcome new (nat_le n (largest_free new.map)) refl full q.4
+  quiet-full (memory_call.OnBlock (block_call.HLockHi h)) asks outcome new none full q = absurd (cc (q.3, full))
+  quiet-full (memory_call.Showing showing_call.ZoneMap) asks outcome new none full q = absurd (cc (q.1, full))
   quiet-full call asks outcome new none full q = absurd (cc (q.1, full))
 
   -- of a call that makes a request
   requested : (call : MemoryCall) (asks : List Ask) (r : Request) (new : Heap) → request_of old.table call ≡ Some r → (r : Request) × HadNoRoom s old call asks r new → MayBeFull s old call asks new
-  requested (memory_call.PurgeMem n) asks r new is why = absurd (cc is)
+  requested (memory_call.OnZone (zone_call.PurgeMem n)) asks r new is why = absurd (cc is)
   requested call asks r new is why = why
 
   asking-full : (o : Option Request) (call : MemoryCall) (asks : List Ask) (outcome : Outcome) (new : Heap) → request_of old.table call ≡ o → outcome ≡ Err MemFullErr → StepAsking RequestRun o s old call asks outcome new → MayBeFull s old call asks new

@@ -23,6 +23,10 @@ use Rattle.mac_base.specs.ZoneMap.{contents_of}
 use Rattle.mac_base.specs.ZoneState.{written}
 use Rattle.mac_base.specs.declared.memory_call.MemoryCall.{MemoryCall}
 use Rattle.mac_base.specs.declared.memory_call.MemoryCall.TheVariants as memory_call
+use Rattle.mac_base.specs.declared.memory_call.BlockCall.TheVariants as block_call
+use Rattle.mac_base.specs.declared.memory_call.FillingCall.TheVariants as filling_call
+use Rattle.mac_base.specs.declared.memory_call.RequestingCall.TheVariants as requesting_call
+use Rattle.mac_base.specs.declared.memory_call.ZoneCall.TheVariants as zone_call
 use Rattle.mac_base.specs.declared.reply.Results.{Results}
 use Rattle.mac_base.specs.Effect.{effect_of, request_of, table_copied}
 use Rattle.mac_base.specs.ExactStep.{exact_step}
@@ -150,26 +154,26 @@ module _ (s : Shape) (heap : Heap) (t : HandleTable) (same : t.lent ≡ heap.tab
 
   -- a call that isn't refused
   served-kept : (call : MemoryCall) → refusal s heap call ≡ None → MatchOption (request_of heap.table call) ⊤ (λ r. (x : ℕ) → NumberGiven r x t → LoansKept t (table_copied call x heap.table (table_granted r x t)))
-  served-kept (memory_call.NewHandle n) is = λ x none. new x (FullHandle no_flags (zeros n)) none
-  served-kept memory_call.NewEmptyHandle is = λ x none. new x EmptyHandle none
-  served-kept (memory_call.NewPtr n) is = λ x none. new x (Pointer (zeros n)) none
-  served-kept memory_call.MoreMasters is = λ x _. kept-refl t
-  served-kept (memory_call.ReserveMem n) is = λ x _. kept-refl t
-  served-kept (memory_call.SetHandleSize h n) is = λ x _. changed h (refilled (resized n (bytes_of t h)) (live_at t h)) (passed-NotLent s heap h (test_3 s heap (IsHandle h) (NotEmpty h) (NotLent h) (IsSize n ∷ []) is))
-  served-kept (memory_call.SetPtrSize p n) is = λ x _. changed p (refilled (resized n (bytes_of t p)) (live_at t p)) (passed-NotLent s heap p (test_2 s heap (IsPointer p) (NotLent p) (IsSize n ∷ []) is))
-  served-kept (memory_call.ReallocateHandle h n) is = λ x _. changed h (FullHandle no_flags (zeros n)) (passed-NotLent s heap h (test_2 s heap (IsHandle h) (NotLent h) (NotLocked MemPurErr h ∷ IsSize n ∷ []) is))
-  served-kept (memory_call.HandToHand h) is = λ x none. filled x (FullHandle no_flags (zeros (length (bytes_of heap.table h)))) (bytes_of heap.table h) none
-  served-kept (memory_call.PtrToHand p n) is = λ x none. filled x (FullHandle no_flags (zeros n)) (take n (bytes_of heap.table p)) none
-  served-kept (memory_call.PtrToXHand p h n) is = λ x _. rewritten h (refilled (resized n (bytes_of t h)) (live_at t h)) (take n (bytes_of heap.table p))
+  served-kept (memory_call.Requesting (requesting_call.NewHandle n)) is = λ x none. new x (FullHandle no_flags (zeros n)) none
+  served-kept (memory_call.Requesting requesting_call.NewEmptyHandle) is = λ x none. new x EmptyHandle none
+  served-kept (memory_call.Requesting (requesting_call.NewPtr n)) is = λ x none. new x (Pointer (zeros n)) none
+  served-kept (memory_call.Requesting requesting_call.MoreMasters) is = λ x _. kept-refl t
+  served-kept (memory_call.Requesting (requesting_call.ReserveMem n)) is = λ x _. kept-refl t
+  served-kept (memory_call.Requesting (requesting_call.SetHandleSize h n)) is = λ x _. changed h (refilled (resized n (bytes_of t h)) (live_at t h)) (passed-NotLent s heap h (test_3 s heap (IsHandle h) (NotEmpty h) (NotLent h) (IsSize n ∷ []) is))
+  served-kept (memory_call.Requesting (requesting_call.SetPtrSize p n)) is = λ x _. changed p (refilled (resized n (bytes_of t p)) (live_at t p)) (passed-NotLent s heap p (test_2 s heap (IsPointer p) (NotLent p) (IsSize n ∷ []) is))
+  served-kept (memory_call.Requesting (requesting_call.ReallocateHandle h n)) is = λ x _. changed h (FullHandle no_flags (zeros n)) (passed-NotLent s heap h (test_2 s heap (IsHandle h) (NotLent h) (NotLocked MemPurErr h ∷ IsSize n ∷ []) is))
+  served-kept (memory_call.Filling (filling_call.HandToHand h)) is = λ x none. filled x (FullHandle no_flags (zeros (length (bytes_of heap.table h)))) (bytes_of heap.table h) none
+  served-kept (memory_call.Filling (filling_call.PtrToHand p n)) is = λ x none. filled x (FullHandle no_flags (zeros n)) (take n (bytes_of heap.table p)) none
+  served-kept (memory_call.Filling (filling_call.PtrToXHand p h n)) is = λ x _. rewritten h (refilled (resized n (bytes_of t h)) (live_at t h)) (take n (bytes_of heap.table p))
       (passed-NotLent s heap h (test_5 s heap (IsPointer p) (NotLent p) (IsHandle h) (NotEmpty h) (NotLent h) (IsWithin p 0 n ∷ []) is))
-  served-kept (memory_call.PtrAndHand p h n) is = λ x _. rewritten h (refilled (resized (length (bytes_of heap.table h) + n) (bytes_of t h)) (live_at t h)) (bytes_of heap.table h ++ take n (bytes_of heap.table p))
+  served-kept (memory_call.Filling (filling_call.PtrAndHand p h n)) is = λ x _. rewritten h (refilled (resized (length (bytes_of heap.table h) + n) (bytes_of t h)) (live_at t h)) (bytes_of heap.table h ++ take n (bytes_of heap.table p))
       (passed-NotLent s heap h (test_5 s heap (IsPointer p) (NotLent p) (IsHandle h) (NotEmpty h) (NotLent h) (IsWithin p 0 n ∷ []) is))
-  served-kept (memory_call.NewHandleOf bytes) is = λ x none. filled x (FullHandle no_flags (zeros (length bytes))) bytes none
-  served-kept (memory_call.SetHandleTo h bytes) is = λ x _. rewritten h (refilled (resized (length bytes) (bytes_of t h)) (live_at t h)) bytes
+  served-kept (memory_call.Filling (filling_call.NewHandleOf bytes)) is = λ x none. filled x (FullHandle no_flags (zeros (length bytes))) bytes none
+  served-kept (memory_call.Filling (filling_call.SetHandleTo h bytes)) is = λ x _. rewritten h (refilled (resized (length bytes) (bytes_of t h)) (live_at t h)) bytes
       (passed-NotLent s heap h (test_3 s heap (IsHandle h) (NotEmpty h) (NotLent h) (IsSize (length bytes) ∷ []) is))
-  served-kept (memory_call.Append h bytes) is = λ x _. rewritten h (refilled (resized (length (bytes_of heap.table h) + length bytes) (bytes_of t h)) (live_at t h)) (bytes_of heap.table h ++ bytes)
+  served-kept (memory_call.Filling (filling_call.Append h bytes)) is = λ x _. rewritten h (refilled (resized (length (bytes_of heap.table h) + length bytes) (bytes_of t h)) (live_at t h)) (bytes_of heap.table h ++ bytes)
       (passed-NotLent s heap h (test_3 s heap (IsHandle h) (NotEmpty h) (NotLent h) (IsSize (length bytes) ∷ []) is))
-  served-kept (memory_call.HandAndHand a b) is = λ x _. rewritten b (refilled (resized (length (bytes_of heap.table b) + length (bytes_of heap.table a)) (bytes_of t b)) (live_at t b)) (bytes_of heap.table b ++ bytes_of heap.table a)
+  served-kept (memory_call.Filling (filling_call.HandAndHand a b)) is = λ x _. rewritten b (refilled (resized (length (bytes_of heap.table b) + length (bytes_of heap.table a)) (bytes_of t b)) (live_at t b)) (bytes_of heap.table b ++ bytes_of heap.table a)
       (passed-NotLent s heap b (test_6 s heap (IsHandle a) (NotEmpty a) (NotLent a) (IsHandle b) (NotEmpty b) (NotLent b) [] is))
   served-kept call is = tt
 
@@ -205,32 +209,33 @@ module _ (s : Shape) (heap : Heap) where
 
   -- what a call does by itself
   effect-kept : (call : MemoryCall) → refusal s heap call ≡ None → LoansKept heap.table (effect_of s call heap).table
-  effect-kept (memory_call.DisposeHandle h) is = kept-released (DisposesHandle h) heap (λ _. passed-NotLent s heap h (test_2 s heap (IsHandle h) (NotLent h) [] is))
-  effect-kept (memory_call.DisposePtr p) is = kept-released (DisposesPtr p) heap (λ _. passed-NotLent s heap p (test_2 s heap (IsPointer p) (NotLent p) [] is))
-  effect-kept (memory_call.EmptyHandle h) is = kept-released (Empties h) heap (λ _. passed-NotLent s heap h (test_2 s heap (IsHandle h) (NotLent h) (NotLocked MemPurErr h ∷ []) is))
-  effect-kept (memory_call.HLock h) is = flagged h (record (flags_of heap.table h) { lock = true }) (NotEmpty h ∷ []) is (λ _ _. refl)
-  effect-kept (memory_call.HLockHi h) is = flagged h (record (flags_of heap.table h) { lock = true }) (NotEmpty h ∷ NotLocked MemLockedErr h ∷ []) is (λ _ _. refl)
-  effect-kept (memory_call.HUnlock h) is = flagged h (record (flags_of heap.table h) { lock = false }) (NotEmpty h ∷ NotLent h ∷ []) is
+  effect-kept (memory_call.OnBlock (block_call.DisposeHandle h)) is = kept-released (DisposesHandle h) heap (λ _. passed-NotLent s heap h (test_2 s heap (IsHandle h) (NotLent h) [] is))
+  effect-kept (memory_call.OnBlock (block_call.DisposePtr p)) is = kept-released (DisposesPtr p) heap (λ _. passed-NotLent s heap p (test_2 s heap (IsPointer p) (NotLent p) [] is))
+  effect-kept (memory_call.OnBlock (block_call.EmptyHandle h)) is = kept-released (Empties h) heap (λ _. passed-NotLent s heap h (test_2 s heap (IsHandle h) (NotLent h) (NotLocked MemPurErr h ∷ []) is))
+  effect-kept (memory_call.OnBlock (block_call.HLock h)) is = flagged h (record (flags_of heap.table h) { lock = true }) (NotEmpty h ∷ []) is (λ _ _. refl)
+  effect-kept (memory_call.OnBlock (block_call.HLockHi h)) is = flagged h (record (flags_of heap.table h) { lock = true }) (NotEmpty h ∷ NotLocked MemLockedErr h ∷ []) is (λ _ _. refl)
+  effect-kept (memory_call.OnBlock (block_call.HUnlock h)) is = flagged h (record (flags_of heap.table h) { lock = false }) (NotEmpty h ∷ NotLent h ∷ []) is
       (λ lent _. absurd (true≢false (sym lent ∙ passed-NotLent s heap h (test_3 s heap (IsHandle h) (NotEmpty h) (NotLent h) [] is))))
-  effect-kept (memory_call.HPurge h) is = flagged h (record (flags_of heap.table h) { purge = true }) (NotEmpty h ∷ []) is (λ _ locked. locked)
-  effect-kept (memory_call.HNoPurge h) is = flagged h (record (flags_of heap.table h) { purge = false }) (NotEmpty h ∷ []) is (λ _ locked. locked)
-  effect-kept (memory_call.HSetRBit h) is = flagged h (record (flags_of heap.table h) { resource = true }) (NotEmpty h ∷ []) is (λ _ locked. locked)
-  effect-kept (memory_call.HClrRBit h) is = flagged h (record (flags_of heap.table h) { resource = false }) (NotEmpty h ∷ []) is (λ _ locked. locked)
-  effect-kept (memory_call.HSetState h n) is = flagged h (flags_from n) (NotEmpty h ∷ IsState n ∷ KeepsState h n ∷ []) is
+  effect-kept (memory_call.OnBlock (block_call.HPurge h)) is = flagged h (record (flags_of heap.table h) { purge = true }) (NotEmpty h ∷ []) is (λ _ locked. locked)
+  effect-kept (memory_call.OnBlock (block_call.HNoPurge h)) is = flagged h (record (flags_of heap.table h) { purge = false }) (NotEmpty h ∷ []) is (λ _ locked. locked)
+  effect-kept (memory_call.OnBlock (block_call.HSetRBit h)) is = flagged h (record (flags_of heap.table h) { resource = true }) (NotEmpty h ∷ []) is (λ _ locked. locked)
+  effect-kept (memory_call.OnBlock (block_call.HClrRBit h)) is = flagged h (record (flags_of heap.table h) { resource = false }) (NotEmpty h ∷ []) is (λ _ locked. locked)
+  effect-kept (memory_call.OnBlock (block_call.HSetState h n)) is = flagged h (flags_from n) (NotEmpty h ∷ IsState n ∷ KeepsState h n ∷ []) is
       (λ lent _. passed_state (state_locks n) (is_lent heap.table h) (test_4 s heap (IsHandle h) (NotEmpty h) (IsState n) (KeepsState h n) [] is) lent)
-  effect-kept (memory_call.Poke x at bytes) is = written-kept x (written at bytes (bytes_of heap.table x)) (passed-NotLent s heap x (test_3 s heap (IsBlock x) (NotEmpty x) (NotLent x) (IsWithin x at (length bytes) ∷ []) is))
-  effect-kept (memory_call.BlockMove x at y to n) is = written-kept y (written to (take n (drop at (bytes_of heap.table x))) (bytes_of heap.table y))
+  effect-kept (memory_call.OnBlock (block_call.Poke x at bytes)) is = written-kept x (written at bytes (bytes_of heap.table x)) (passed-NotLent s heap x (test_3 s heap (IsBlock x) (NotEmpty x) (NotLent x) (IsWithin x at (length bytes) ∷ []) is))
+  effect-kept (memory_call.OnBlock (block_call.BlockMove x at y to n)) is = written-kept y (written to (take n (drop at (bytes_of heap.table x))) (bytes_of heap.table y))
       (passed-NotLent s heap y (test_6 s heap (IsBlock x) (NotEmpty x) (NotLent x) (IsBlock y) (NotEmpty y) (NotLent y) (IsWithin x at n ∷ IsWithin y to n ∷ []) is))
+  effect-kept (memory_call.OnZone zone_call.MaxMem) is = kept-refl heap.table
   effect-kept call is = kept-refl heap.table
 
   -- and what it may move and purge
   quiet-kept : (call : MemoryCall) (outcome : Outcome) (new : Heap) → refusal s heap call ≡ None → QuietStep s heap call outcome new → LoansKept heap.table new.table
-  quiet-kept (memory_call.CompactMem n) outcome new is quiet = kept-same heap.table new.table quiet.0.table
-  quiet-kept (memory_call.MoveHHi h) outcome new is quiet = kept-same heap.table new.table quiet.0.table
-  quiet-kept (memory_call.HLockHi h) outcome new is quiet =
-      subst (LoansKept heap.table) (sym (quiet.2.table ∙ ap (λ t. with_flags h (record (flags_of t h) { lock = true }) t) quiet.1.table)) (effect-kept (memory_call.HLockHi h) is)
-  quiet-kept memory_call.MaxMem outcome new is quiet = subst (LoansKept heap.table) (sym quiet.0.table) (purged-kept (candidates_in heap.table [] heap.map) (λ h c. c))
-  quiet-kept (memory_call.PurgeMem n) outcome new is quiet = subst (LoansKept heap.table) (sym quiet.3.table) (purged-kept quiet.0 quiet.2)
+  quiet-kept (memory_call.OnZone (zone_call.CompactMem n)) outcome new is quiet = kept-same heap.table new.table quiet.0.table
+  quiet-kept (memory_call.OnBlock (block_call.MoveHHi h)) outcome new is quiet = kept-same heap.table new.table quiet.0.table
+  quiet-kept (memory_call.OnBlock (block_call.HLockHi h)) outcome new is quiet =
+      subst (LoansKept heap.table) (sym (quiet.2.table ∙ ap (λ t. with_flags h (record (flags_of t h) { lock = true }) t) quiet.1.table)) (effect-kept (memory_call.OnBlock (block_call.HLockHi h)) is)
+  quiet-kept (memory_call.OnZone zone_call.MaxMem) outcome new is quiet = subst (LoansKept heap.table) (sym quiet.0.table) (purged-kept (candidates_in heap.table [] heap.map) (λ h c. c))
+  quiet-kept (memory_call.OnZone (zone_call.PurgeMem n)) outcome new is quiet = subst (LoansKept heap.table) (sym quiet.3.table) (purged-kept quiet.0 quiet.2)
   quiet-kept call outcome new is quiet = subst (LoansKept heap.table) (sym quiet.0.table) (effect-kept call is)
 
 -- ---- all calls

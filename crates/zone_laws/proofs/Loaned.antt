@@ -18,6 +18,10 @@ use Rattle.mac_base.specs.declared.loan_call.LoanCall.{LoanCall}
 use Rattle.mac_base.specs.declared.loan_call.LoanCall.TheVariants as loan_call
 use Rattle.mac_base.specs.declared.memory_call.MemoryCall.{MemoryCall}
 use Rattle.mac_base.specs.declared.memory_call.MemoryCall.TheVariants as memory_call
+use Rattle.mac_base.specs.declared.memory_call.BlockCall.TheVariants as block_call
+use Rattle.mac_base.specs.declared.memory_call.FillingCall.TheVariants as filling_call
+use Rattle.mac_base.specs.declared.memory_call.RequestingCall.TheVariants as requesting_call
+use Rattle.mac_base.specs.declared.memory_call.ShowingCall.TheVariants as showing_call
 use Rattle.mac_base.specs.declared.reply.Results.{Results}
 use Rattle.mac_base.specs.declared.reply.Results.TheVariants as results
 use Rattle.mac_base.specs.ExactStep.{IsExactStep, StepEnd}
@@ -86,52 +90,52 @@ module _ (s : Shape) (held : Moment) (last : LastPut) (inv : LoansHeld held) (sh
 
   -- a call that isn't refused
   agree-call : (call : MemoryCall) (asks : List Ask) (r : Results) (new : Heap) → refusal s held.heap call ≡ None → MemoryStep s held.heap call asks (Ok r) new → Agree (put_with call r seen) (put_with call r last)
-  agree-call (memory_call.NewHandle n) asks r new is step =
-      let g = block-here s held.heap (memory_call.NewHandle n) n asks r new inv.fixed refl step in
+  agree-call (memory_call.Requesting (requesting_call.NewHandle n)) asks r new is step =
+      let g = block-here s held.heap (memory_call.Requesting (requesting_call.NewHandle n)) n asks r new inv.fixed refl step in
       agree-put (number_in r) (zeros n) (zeros n) (ap (λ r. is_lent held.heap.table (number_in r)) g.1 ∙ g.2) refl
-  agree-call (memory_call.NewPtr n) asks r new is step =
-      let g = pointer-here s held.heap (memory_call.NewPtr n) n asks r new inv.fixed refl step in
+  agree-call (memory_call.Requesting (requesting_call.NewPtr n)) asks r new is step =
+      let g = pointer-here s held.heap (memory_call.Requesting (requesting_call.NewPtr n)) n asks r new inv.fixed refl step in
       agree-put (number_in r) (zeros n) (zeros n) (ap (λ r. is_lent held.heap.table (number_in r)) g.1 ∙ g.2) refl
-  agree-call (memory_call.ReallocateHandle h n) asks r new is step =
+  agree-call (memory_call.Requesting (requesting_call.ReallocateHandle h n)) asks r new is step =
       agree-put h (zeros n) (zeros n) (passed-NotLent s held.heap h (test_2 s held.heap (IsHandle h) (NotLent h) (NotLocked MemPurErr h ∷ IsSize n ∷ []) is)) refl
-  agree-call (memory_call.SetHandleSize h n) asks r new is step =
+  agree-call (memory_call.Requesting (requesting_call.SetHandleSize h n)) asks r new is step =
       let here = passed-NotLent s held.heap h (test_3 s held.heap (IsHandle h) (NotEmpty h) (NotLent h) (IsSize n ∷ []) is) in
       agree-put h (resized n (seen h)) (resized n (last h)) here (ap (resized n) (seen-here h here))
-  agree-call (memory_call.SetPtrSize p n) asks r new is step =
+  agree-call (memory_call.Requesting (requesting_call.SetPtrSize p n)) asks r new is step =
       let here = passed-NotLent s held.heap p (test_2 s held.heap (IsPointer p) (NotLent p) (IsSize n ∷ []) is) in
       agree-put p (resized n (seen p)) (resized n (last p)) here (ap (resized n) (seen-here p here))
-  agree-call (memory_call.HandToHand h) asks r new is step =
+  agree-call (memory_call.Filling (filling_call.HandToHand h)) asks r new is step =
       let here = passed-NotLent s held.heap h (test_3 s held.heap (IsHandle h) (NotEmpty h) (NotLent h) [] is) in
-      let g = block-here s held.heap (memory_call.HandToHand h) (length (bytes_of held.heap.table h)) asks r new inv.fixed refl step in
+      let g = block-here s held.heap (memory_call.Filling (filling_call.HandToHand h)) (length (bytes_of held.heap.table h)) asks r new inv.fixed refl step in
       agree-put (number_in r) (seen h) (last h) (ap (λ r. is_lent held.heap.table (number_in r)) g.1 ∙ g.2) (seen-here h here)
-  agree-call (memory_call.PtrToHand p n) asks r new is step =
+  agree-call (memory_call.Filling (filling_call.PtrToHand p n)) asks r new is step =
       let here = passed-NotLent s held.heap p (test_2 s held.heap (IsPointer p) (NotLent p) (IsWithin p 0 n ∷ []) is) in
-      let g = block-here s held.heap (memory_call.PtrToHand p n) n asks r new inv.fixed refl step in
+      let g = block-here s held.heap (memory_call.Filling (filling_call.PtrToHand p n)) n asks r new inv.fixed refl step in
       agree-put (number_in r) (take n (seen p)) (take n (last p)) (ap (λ r. is_lent held.heap.table (number_in r)) g.1 ∙ g.2) (ap (take n) (seen-here p here))
-  agree-call (memory_call.PtrToXHand p h n) asks r new is step =
+  agree-call (memory_call.Filling (filling_call.PtrToXHand p h n)) asks r new is step =
       let from = passed-NotLent s held.heap p (test_2 s held.heap (IsPointer p) (NotLent p) (IsHandle h ∷ NotEmpty h ∷ NotLent h ∷ IsWithin p 0 n ∷ []) is) in
       let onto = passed-NotLent s held.heap h (test_5 s held.heap (IsPointer p) (NotLent p) (IsHandle h) (NotEmpty h) (NotLent h) (IsWithin p 0 n ∷ []) is) in
       agree-put h (take n (seen p)) (take n (last p)) onto (ap (take n) (seen-here p from))
-  agree-call (memory_call.PtrAndHand p h n) asks r new is step =
+  agree-call (memory_call.Filling (filling_call.PtrAndHand p h n)) asks r new is step =
       let from = passed-NotLent s held.heap p (test_2 s held.heap (IsPointer p) (NotLent p) (IsHandle h ∷ NotEmpty h ∷ NotLent h ∷ IsWithin p 0 n ∷ []) is) in
       let onto = passed-NotLent s held.heap h (test_5 s held.heap (IsPointer p) (NotLent p) (IsHandle h) (NotEmpty h) (NotLent h) (IsWithin p 0 n ∷ []) is) in
       agree-put h (seen h ++ take n (seen p)) (last h ++ take n (last p)) onto (ap (λ v. v ++ take n (seen p)) (seen-here h onto) ∙ ap (λ v. last h ++ take n v) (seen-here p from))
-  agree-call (memory_call.NewHandleOf bytes) asks r new is step =
-      let g = block-here s held.heap (memory_call.NewHandleOf bytes) (length bytes) asks r new inv.fixed refl step in
+  agree-call (memory_call.Filling (filling_call.NewHandleOf bytes)) asks r new is step =
+      let g = block-here s held.heap (memory_call.Filling (filling_call.NewHandleOf bytes)) (length bytes) asks r new inv.fixed refl step in
       agree-put (number_in r) bytes bytes (ap (λ r. is_lent held.heap.table (number_in r)) g.1 ∙ g.2) refl
-  agree-call (memory_call.SetHandleTo h bytes) asks r new is step =
+  agree-call (memory_call.Filling (filling_call.SetHandleTo h bytes)) asks r new is step =
       agree-put h bytes bytes (passed-NotLent s held.heap h (test_3 s held.heap (IsHandle h) (NotEmpty h) (NotLent h) (IsSize (length bytes) ∷ []) is)) refl
-  agree-call (memory_call.Append h bytes) asks r new is step =
+  agree-call (memory_call.Filling (filling_call.Append h bytes)) asks r new is step =
       let here = passed-NotLent s held.heap h (test_3 s held.heap (IsHandle h) (NotEmpty h) (NotLent h) (IsSize (length bytes) ∷ []) is) in
       agree-put h (seen h ++ bytes) (last h ++ bytes) here (ap (λ v. v ++ bytes) (seen-here h here))
-  agree-call (memory_call.HandAndHand a b) asks r new is step =
+  agree-call (memory_call.Filling (filling_call.HandAndHand a b)) asks r new is step =
       let from = passed-NotLent s held.heap a (test_3 s held.heap (IsHandle a) (NotEmpty a) (NotLent a) (IsHandle b ∷ NotEmpty b ∷ NotLent b ∷ []) is) in
       let onto = passed-NotLent s held.heap b (test_6 s held.heap (IsHandle a) (NotEmpty a) (NotLent a) (IsHandle b) (NotEmpty b) (NotLent b) [] is) in
       agree-put b (seen b ++ seen a) (last b ++ last a) onto (ap (λ v. v ++ seen a) (seen-here b onto) ∙ ap (λ v. last b ++ v) (seen-here a from))
-  agree-call (memory_call.Poke x at bytes) asks r new is step =
+  agree-call (memory_call.OnBlock (block_call.Poke x at bytes)) asks r new is step =
       let here = passed-NotLent s held.heap x (test_3 s held.heap (IsBlock x) (NotEmpty x) (NotLent x) (IsWithin x at (length bytes) ∷ []) is) in
       agree-put x (written at bytes (seen x)) (written at bytes (last x)) here (ap (written at bytes) (seen-here x here))
-  agree-call (memory_call.BlockMove x at y to n) asks r new is step =
+  agree-call (memory_call.OnBlock (block_call.BlockMove x at y to n)) asks r new is step =
       let from = passed-NotLent s held.heap x (test_3 s held.heap (IsBlock x) (NotEmpty x) (NotLent x) (IsBlock y ∷ NotEmpty y ∷ NotLent y ∷ IsWithin x at n ∷ IsWithin y to n ∷ []) is) in
       let onto = passed-NotLent s held.heap y (test_6 s held.heap (IsBlock x) (NotEmpty x) (NotLent x) (IsBlock y) (NotEmpty y) (NotLent y) (IsWithin x at n ∷ IsWithin y to n ∷ []) is) in
       agree-put y (written to (take n (drop at (seen x))) (seen y)) (written to (take n (drop at (last x))) (last y)) onto
@@ -170,14 +174,15 @@ module _ (s : Shape) (held : Moment) (last : LastPut) (inv : LoansHeld held) (sh
       by_lent false is = refl
 
   tells-call : (call : MemoryCall) (r : Results) → refusal s held.heap call ≡ None → Tells call (Ok r) seen → Tells call (Ok r) last
-  tells-call (memory_call.Peek x at n) r is told =
+  tells-call (memory_call.Showing (showing_call.Peek x at n)) r is told =
       told ∙ ap (λ b. results.Bytes (take n (drop at b))) (seen-here x (passed-NotLent s held.heap x (test_3 s held.heap (IsBlock x) (NotEmpty x) (NotLent x) (IsWithin x at n ∷ []) is)))
-  tells-call (memory_call.GetHandleSize h) r is told = told ∙ ap results.Number (long-seen h)
-  tells-call (memory_call.GetPtrSize p) r is told = told ∙ ap results.Number (long-seen p)
+  tells-call (memory_call.OnBlock (block_call.GetHandleSize h)) r is told = told ∙ ap results.Number (long-seen h)
+  tells-call (memory_call.OnBlock (block_call.GetPtrSize p)) r is told = told ∙ ap results.Number (long-seen p)
   tells-call call r is told = tt
 
   refused-tells : (call : MemoryCall) (code : OsErr) → Tells call (Err code) last
-  refused-tells (memory_call.Peek x at n) code = tt
+  refused-tells (memory_call.Showing (showing_call.Peek x at n)) code = tt
+  refused-tells (memory_call.OnBlock (block_call.HLock h)) code = tt
   refused-tells call code = tt
 
   tells-outcome : (call : MemoryCall) (asks : List Ask) (outcome : Outcome) (new : Heap) → MemoryStep s held.heap call asks outcome new → Tells call outcome seen → Tells call outcome last

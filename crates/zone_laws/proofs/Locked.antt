@@ -18,6 +18,9 @@ use Rattle.mac_base.specs.Suits.{is_handle_block}
 use Rattle.mac_base.specs.ZoneMap.{ZoneMap, addresses, contents_of, largest_free}
 use Rattle.mac_base.specs.declared.memory_call.MemoryCall.{MemoryCall}
 use Rattle.mac_base.specs.declared.memory_call.MemoryCall.TheVariants as memory_call
+use Rattle.mac_base.specs.declared.memory_call.BlockCall.TheVariants as block_call
+use Rattle.mac_base.specs.declared.memory_call.FillingCall.TheVariants as filling_call
+use Rattle.mac_base.specs.declared.memory_call.ZoneCall.TheVariants as zone_call
 use Rattle.mac_base.specs.Effect.{effect_of, request_of, table_copied}
 use Rattle.mac_base.specs.ExactRequest.{Ending, after_ask, asked, prepared, request_run, served_or, unserved}
 use Rattle.mac_base.specs.ExactStep.{IsExactStep, StepEnd, after_master, exact_step, rearranged, request_end, request_step, step_asking, step_unless}
@@ -89,14 +92,14 @@ stay-run s protected r allowed (a ∷ later) heap sound guards may =
 -- ---- a call
 
 copied-locked : (call : MemoryCall) (x : ℕ) (entry t : HandleTable) (h : ℕ) → is_locked (table_copied call x entry t) h ≡ true → is_locked t h ≡ true
-copied-locked (memory_call.HandToHand g) x entry t h l = written-locked x (bytes_of entry g) t h l
-copied-locked (memory_call.PtrToHand p n) x entry t h l = written-locked x (take n (bytes_of entry p)) t h l
-copied-locked (memory_call.PtrToXHand p g n) x entry t h l = written-locked g (take n (bytes_of entry p)) t h l
-copied-locked (memory_call.PtrAndHand p g n) x entry t h l = written-locked g (bytes_of entry g ++ take n (bytes_of entry p)) t h l
-copied-locked (memory_call.NewHandleOf bytes) x entry t h l = written-locked x bytes t h l
-copied-locked (memory_call.SetHandleTo g bytes) x entry t h l = written-locked g bytes t h l
-copied-locked (memory_call.Append g bytes) x entry t h l = written-locked g (bytes_of entry g ++ bytes) t h l
-copied-locked (memory_call.HandAndHand a b) x entry t h l = written-locked b (bytes_of entry b ++ bytes_of entry a) t h l
+copied-locked (memory_call.Filling (filling_call.HandToHand g)) x entry t h l = written-locked x (bytes_of entry g) t h l
+copied-locked (memory_call.Filling (filling_call.PtrToHand p n)) x entry t h l = written-locked x (take n (bytes_of entry p)) t h l
+copied-locked (memory_call.Filling (filling_call.PtrToXHand p g n)) x entry t h l = written-locked g (take n (bytes_of entry p)) t h l
+copied-locked (memory_call.Filling (filling_call.PtrAndHand p g n)) x entry t h l = written-locked g (bytes_of entry g ++ take n (bytes_of entry p)) t h l
+copied-locked (memory_call.Filling (filling_call.NewHandleOf bytes)) x entry t h l = written-locked x bytes t h l
+copied-locked (memory_call.Filling (filling_call.SetHandleTo g bytes)) x entry t h l = written-locked g bytes t h l
+copied-locked (memory_call.Filling (filling_call.Append g bytes)) x entry t h l = written-locked g (bytes_of entry g ++ bytes) t h l
+copied-locked (memory_call.Filling (filling_call.HandAndHand a b)) x entry t h l = written-locked b (bytes_of entry b ++ bytes_of entry a) t h l
 copied-locked call x entry t h l = l
 
 -- the block of a handle that is locked before and after is where it was
@@ -107,17 +110,17 @@ stand : (s : Shape) (old new : Heap) → Stay s old new → LockedStand s old ne
 stand s old new stay h _ l = stay.place h l
 
 quiet-stand : (s : Shape) (heap : Heap) (call : MemoryCall) → LockedStand s heap (effect_of s call (rearranged call heap))
-quiet-stand s heap (memory_call.CompactMem n) h was is = rearranged-stays s heap.table heap.map (compacted heap.table n heap.map) h (compacted-Rearranged s heap.table n heap.map) was
-quiet-stand s heap (memory_call.PurgeMem n) h was is = (stay-purged s (purged_until (λ (m : ZoneMap). nat_le n (largest_free m)) (candidates_in heap.table [] heap.map) heap.map) heap).place h is
-quiet-stand s heap memory_call.MaxMem h was is =
+quiet-stand s heap (memory_call.OnZone (zone_call.CompactMem n)) h was is = rearranged-stays s heap.table heap.map (compacted heap.table n heap.map) h (compacted-Rearranged s heap.table n heap.map) was
+quiet-stand s heap (memory_call.OnZone (zone_call.PurgeMem n)) h was is = (stay-purged s (purged_until (λ (m : ZoneMap). nat_le n (largest_free m)) (candidates_in heap.table [] heap.map) heap.map) heap).place h is
+quiet-stand s heap (memory_call.OnZone zone_call.MaxMem) h was is =
     let mid = all_purged heap in
     rearranged-stays s heap.table mid.map (all_down heap.table mid.map) h (all_down-Rearranged s heap.table mid.map) was ∙ (stay-purged s (candidates_in heap.table [] heap.map) heap).place h is
-quiet-stand s heap (memory_call.MoveHHi g) h was is = rearranged-stays s heap.table heap.map (moved_high heap.table g heap.map) h (moved_high-Rearranged s heap.table g heap.map) was
-quiet-stand s heap (memory_call.HLockHi g) h was is = rearranged-stays s heap.table heap.map (moved_high heap.table g heap.map) h (moved_high-Rearranged s heap.table g heap.map) was
-quiet-stand s heap (memory_call.DisposeHandle g) h was is = (stay-released s (DisposesHandle g) heap).place h is
-quiet-stand s heap (memory_call.DisposePtr p) h was is = (stay-released s (DisposesPtr p) heap).place h is
-quiet-stand s heap (memory_call.EmptyHandle g) h was is = (stay-released s (Empties g) heap).place h is
-quiet-stand s heap memory_call.MaxApplZone h was is = (stay-grown s heap).place h is
+quiet-stand s heap (memory_call.OnBlock (block_call.MoveHHi g)) h was is = rearranged-stays s heap.table heap.map (moved_high heap.table g heap.map) h (moved_high-Rearranged s heap.table g heap.map) was
+quiet-stand s heap (memory_call.OnBlock (block_call.HLockHi g)) h was is = rearranged-stays s heap.table heap.map (moved_high heap.table g heap.map) h (moved_high-Rearranged s heap.table g heap.map) was
+quiet-stand s heap (memory_call.OnBlock (block_call.DisposeHandle g)) h was is = (stay-released s (DisposesHandle g) heap).place h is
+quiet-stand s heap (memory_call.OnBlock (block_call.DisposePtr p)) h was is = (stay-released s (DisposesPtr p) heap).place h is
+quiet-stand s heap (memory_call.OnBlock (block_call.EmptyHandle g)) h was is = (stay-released s (Empties g) heap).place h is
+quiet-stand s heap (memory_call.OnZone zone_call.MaxApplZone) h was is = (stay-grown s heap).place h is
 quiet-stand s heap call h was is = refl
 
 module _ (s : Shape) (answers : List Answer) (heap : Heap) (call : MemoryCall) (sound : Sound s heap) where

@@ -24,6 +24,10 @@ use Rattle.mac_base.specs.ZoneMap.{ZoneMap, handle_of}
 use Rattle.mac_base.specs.ZoneState.{written}
 use Rattle.mac_base.specs.declared.memory_call.MemoryCall.{MemoryCall}
 use Rattle.mac_base.specs.declared.memory_call.MemoryCall.TheVariants as memory_call
+use Rattle.mac_base.specs.declared.memory_call.BlockCall.TheVariants as block_call
+use Rattle.mac_base.specs.declared.memory_call.FillingCall.TheVariants as filling_call
+use Rattle.mac_base.specs.declared.memory_call.RequestingCall.TheVariants as requesting_call
+use Rattle.mac_base.specs.declared.memory_call.ZoneCall.TheVariants as zone_call
 use Rattle.mac_base.specs.Effect.{request_of, table_copied}
 use Rattle.mac_base.specs.GrowZone.{Ask, Carried, carried_out, heap_unless, memory_call as as_call, most_answers}
 use Rattle.mac_base.specs.MemoryStep.{EndsRequest, MemoryStep, QuietStep, StepAsking, StepUnless}
@@ -135,14 +139,14 @@ module _ (k : Trait) (x : ℕ) where
   granted-keeps (Replace h n) g t number is holds = full-keeps h no_flags (zeros n) t (is h n refl) holds
 
   copied-keeps : (call : MemoryCall) (g : ℕ) (entry t : HandleTable) → Holds t → Holds (table_copied call g entry t)
-  copied-keeps (memory_call.HandToHand h) g entry t holds = bytes-keep g (bytes_of entry h) t holds
-  copied-keeps (memory_call.PtrToHand p n) g entry t holds = bytes-keep g (take n (bytes_of entry p)) t holds
-  copied-keeps (memory_call.PtrToXHand p h n) g entry t holds = bytes-keep h (take n (bytes_of entry p)) t holds
-  copied-keeps (memory_call.PtrAndHand p h n) g entry t holds = bytes-keep h (bytes_of entry h ++ take n (bytes_of entry p)) t holds
-  copied-keeps (memory_call.NewHandleOf bytes) g entry t holds = bytes-keep g bytes t holds
-  copied-keeps (memory_call.SetHandleTo h bytes) g entry t holds = bytes-keep h bytes t holds
-  copied-keeps (memory_call.Append h bytes) g entry t holds = bytes-keep h (bytes_of entry h ++ bytes) t holds
-  copied-keeps (memory_call.HandAndHand a b) g entry t holds = bytes-keep b (bytes_of entry b ++ bytes_of entry a) t holds
+  copied-keeps (memory_call.Filling (filling_call.HandToHand h)) g entry t holds = bytes-keep g (bytes_of entry h) t holds
+  copied-keeps (memory_call.Filling (filling_call.PtrToHand p n)) g entry t holds = bytes-keep g (take n (bytes_of entry p)) t holds
+  copied-keeps (memory_call.Filling (filling_call.PtrToXHand p h n)) g entry t holds = bytes-keep h (take n (bytes_of entry p)) t holds
+  copied-keeps (memory_call.Filling (filling_call.PtrAndHand p h n)) g entry t holds = bytes-keep h (bytes_of entry h ++ take n (bytes_of entry p)) t holds
+  copied-keeps (memory_call.Filling (filling_call.NewHandleOf bytes)) g entry t holds = bytes-keep g bytes t holds
+  copied-keeps (memory_call.Filling (filling_call.SetHandleTo h bytes)) g entry t holds = bytes-keep h bytes t holds
+  copied-keeps (memory_call.Filling (filling_call.Append h bytes)) g entry t holds = bytes-keep h (bytes_of entry h ++ bytes) t holds
+  copied-keeps (memory_call.Filling (filling_call.HandAndHand a b)) g entry t holds = bytes-keep b (bytes_of entry b ++ bytes_of entry a) t holds
   copied-keeps call g entry t holds = holds
 
   purges-keep : (hs : List ℕ) (heap : Heap) → Holds heap.table → Keeps (with_all_emptied hs heap).table (Contains hs x × (test_of k (Some EmptyHandle) ≡ false))
@@ -275,8 +279,8 @@ module _ (k : Trait) (x : ℕ) where
       MayEnd call asks outcome = (k.itself call outcome ≡ Some x) ⊎ (Contains (ended_in asks) x ⊎ Purged old.table (protected_by call) (PurgesFor s old call asks x))
 
       lost-may : (call : MemoryCall) (r : Request) (asks : List Ask) (outcome : Outcome) → request_of old.table call ≡ Some r → Lost old call asks → MayEnd call asks outcome
-      lost-may memory_call.MaxMem r asks outcome is lost = absurd (cc is)
-      lost-may (memory_call.PurgeMem n) r asks outcome is lost = absurd (cc is)
+      lost-may (memory_call.OnZone zone_call.MaxMem) r asks outcome is lost = absurd (cc is)
+      lost-may (memory_call.OnZone (zone_call.PurgeMem n)) r asks outcome is lost = absurd (cc is)
       lost-may call r asks outcome is lost = inr lost
 
       own-replaces : (call : MemoryCall) (r : Request) → refusal s old call ≡ None → (r ≡ NewMaster) ⊎ (request_of old.table call ≡ Some r) → Replaces old call r
@@ -284,9 +288,10 @@ module _ (k : Trait) (x : ℕ) where
       own-replaces call r passes (inr own) h n is = by_call call passes (own ∙ ap Some is)
         where
           by_call : (call : MemoryCall) → refusal s old call ≡ None → request_of old.table call ≡ Some (Replace h n) → (is_handle old.table h ≡ true) × (is_among (protected_by call) h ≡ true)
-          by_call (memory_call.ReallocateHandle g m) passes is =
+          by_call (memory_call.Requesting (requesting_call.ReallocateHandle g m)) passes is =
               let handle = handle-first s old g (NotLent g ∷ NotLocked MemPurErr g ∷ IsSize m ∷ []) passes in
               subst (λ h. (is_handle old.table h ≡ true) × (is_among (g ∷ []) h ≡ true)) (cc is) (handle, ap (λ b. b || false) (eqb_same g))
+          by_call (memory_call.Filling (filling_call.HandToHand g)) passes is = absurd (cc is)
           by_call call passes is = absurd (cc is)
 
       -- ---- calls that make no request
@@ -307,22 +312,22 @@ module _ (k : Trait) (x : ℕ) where
       flags-keep h flags rest new passes is holds = same (with_flags h flags old.table) new is (full-keeps h flags (bytes_of old.table h) old.table (handle-first s old h rest passes) holds)
 
       quiet-keeps : (call : MemoryCall) (asks : List Ask) (outcome : Outcome) (new : Heap) → refusal s old call ≡ None → request_of old.table call ≡ None → QuietStep s old call outcome new → Holds old.table → Keeps new.table (MayEnd call asks outcome)
-      quiet-keeps (memory_call.HLockHi h) asks outcome new passes none q holds =
+      quiet-keeps (memory_call.OnBlock (block_call.HLockHi h)) asks outcome new passes none q holds =
           inl (flags-keep h _ (NotEmpty h ∷ NotLocked MemLockedErr h ∷ []) new.table passes (q.2.table ∙ ap (λ t. with_flags h (record (flags_of t h) { lock = true }) t) q.1.table) holds)
-      quiet-keeps memory_call.MaxMem asks outcome new passes none q holds = purged-keeps memory_call.MaxMem asks outcome (candidates_in old.table [] old.map) new.table q.0.table refl (λ h c. c) (inr tt) holds
-      quiet-keeps (memory_call.PurgeMem n) asks outcome new passes none q holds = purged-keeps (memory_call.PurgeMem n) asks outcome q.0 new.table q.3.table refl q.2 q.1 holds
-      quiet-keeps (memory_call.DisposeHandle h) asks outcome new passes none q holds = itself (DisposesHandle h) asks outcome new.table passes q.1 q.0.table holds
-      quiet-keeps (memory_call.DisposePtr p) asks outcome new passes none q holds = itself (DisposesPtr p) asks outcome new.table passes q.1 q.0.table holds
-      quiet-keeps (memory_call.EmptyHandle h) asks outcome new passes none q holds = itself (Empties h) asks outcome new.table passes q.1 q.0.table holds
-      quiet-keeps (memory_call.HLock h) asks outcome new passes none q holds = inl (flags-keep h _ (NotEmpty h ∷ []) new.table passes q.0.table holds)
-      quiet-keeps (memory_call.HUnlock h) asks outcome new passes none q holds = inl (flags-keep h _ (NotEmpty h ∷ NotLent h ∷ []) new.table passes q.0.table holds)
-      quiet-keeps (memory_call.HPurge h) asks outcome new passes none q holds = inl (flags-keep h _ (NotEmpty h ∷ []) new.table passes q.0.table holds)
-      quiet-keeps (memory_call.HNoPurge h) asks outcome new passes none q holds = inl (flags-keep h _ (NotEmpty h ∷ []) new.table passes q.0.table holds)
-      quiet-keeps (memory_call.HSetRBit h) asks outcome new passes none q holds = inl (flags-keep h _ (NotEmpty h ∷ []) new.table passes q.0.table holds)
-      quiet-keeps (memory_call.HClrRBit h) asks outcome new passes none q holds = inl (flags-keep h _ (NotEmpty h ∷ []) new.table passes q.0.table holds)
-      quiet-keeps (memory_call.HSetState h n) asks outcome new passes none q holds = inl (flags-keep h (flags_from n) (NotEmpty h ∷ IsState n ∷ KeepsLent h n ∷ []) new.table passes q.0.table holds)
-      quiet-keeps (memory_call.Poke y at bytes) asks outcome new passes none q holds = inl (same _ new.table q.0.table (bytes-keep y (written at bytes (bytes_of old.table y)) old.table holds))
-      quiet-keeps (memory_call.BlockMove y at z to n) asks outcome new passes none q holds = inl (same _ new.table q.0.table (bytes-keep z (written to (take n (drop at (bytes_of old.table y))) (bytes_of old.table z)) old.table holds))
+      quiet-keeps (memory_call.OnZone zone_call.MaxMem) asks outcome new passes none q holds = purged-keeps (memory_call.OnZone zone_call.MaxMem) asks outcome (candidates_in old.table [] old.map) new.table q.0.table refl (λ h c. c) (inr tt) holds
+      quiet-keeps (memory_call.OnZone (zone_call.PurgeMem n)) asks outcome new passes none q holds = purged-keeps (memory_call.OnZone (zone_call.PurgeMem n)) asks outcome q.0 new.table q.3.table refl q.2 q.1 holds
+      quiet-keeps (memory_call.OnBlock (block_call.DisposeHandle h)) asks outcome new passes none q holds = itself (DisposesHandle h) asks outcome new.table passes q.1 q.0.table holds
+      quiet-keeps (memory_call.OnBlock (block_call.DisposePtr p)) asks outcome new passes none q holds = itself (DisposesPtr p) asks outcome new.table passes q.1 q.0.table holds
+      quiet-keeps (memory_call.OnBlock (block_call.EmptyHandle h)) asks outcome new passes none q holds = itself (Empties h) asks outcome new.table passes q.1 q.0.table holds
+      quiet-keeps (memory_call.OnBlock (block_call.HLock h)) asks outcome new passes none q holds = inl (flags-keep h _ (NotEmpty h ∷ []) new.table passes q.0.table holds)
+      quiet-keeps (memory_call.OnBlock (block_call.HUnlock h)) asks outcome new passes none q holds = inl (flags-keep h _ (NotEmpty h ∷ NotLent h ∷ []) new.table passes q.0.table holds)
+      quiet-keeps (memory_call.OnBlock (block_call.HPurge h)) asks outcome new passes none q holds = inl (flags-keep h _ (NotEmpty h ∷ []) new.table passes q.0.table holds)
+      quiet-keeps (memory_call.OnBlock (block_call.HNoPurge h)) asks outcome new passes none q holds = inl (flags-keep h _ (NotEmpty h ∷ []) new.table passes q.0.table holds)
+      quiet-keeps (memory_call.OnBlock (block_call.HSetRBit h)) asks outcome new passes none q holds = inl (flags-keep h _ (NotEmpty h ∷ []) new.table passes q.0.table holds)
+      quiet-keeps (memory_call.OnBlock (block_call.HClrRBit h)) asks outcome new passes none q holds = inl (flags-keep h _ (NotEmpty h ∷ []) new.table passes q.0.table holds)
+      quiet-keeps (memory_call.OnBlock (block_call.HSetState h n)) asks outcome new passes none q holds = inl (flags-keep h (flags_from n) (NotEmpty h ∷ IsState n ∷ KeepsLent h n ∷ []) new.table passes q.0.table holds)
+      quiet-keeps (memory_call.OnBlock (block_call.Poke y at bytes)) asks outcome new passes none q holds = inl (same _ new.table q.0.table (bytes-keep y (written at bytes (bytes_of old.table y)) old.table holds))
+      quiet-keeps (memory_call.OnBlock (block_call.BlockMove y at z to n)) asks outcome new passes none q holds = inl (same _ new.table q.0.table (bytes-keep z (written to (take n (drop at (bytes_of old.table y))) (bytes_of old.table z)) old.table holds))
       quiet-keeps call asks outcome new passes none q holds = inl (same old.table new.table q.0.table holds)
 
       -- ---- all calls

@@ -14,6 +14,8 @@ use Rattle.mac_base.specs.Releasing.{heap_released}
 use Rattle.mac_base.specs.Request.{blocks_to_purge, candidates, fits, is_among, purged_until}
 use Rattle.mac_base.specs.declared.memory_call.MemoryCall.{MemoryCall}
 use Rattle.mac_base.specs.declared.memory_call.MemoryCall.TheVariants as memory_call
+use Rattle.mac_base.specs.declared.memory_call.FillingCall.TheVariants as filling_call
+use Rattle.mac_base.specs.declared.memory_call.RequestingCall.TheVariants as requesting_call
 use Rattle.mac_base.specs.Effect.{request_of, table_copied}
 use Rattle.mac_base.specs.ExactRequest.{prepared}
 use Rattle.mac_base.specs.GrowZone.{Carried, carried_out, heap_unless, memory_call as as_call}
@@ -104,51 +106,51 @@ module _ (s : Shape) (old new : Heap) where
 
   pub same-call : (call : MemoryCall) → Kept (protected_by call) old new → is_some (request_of old.table call) ≡ true
       → SameCall s call old new
-  same-call (memory_call.NewHandle n) kept asks = record { refusal = refl; request = refl; copied = λ x t. refl }
-  same-call memory_call.NewEmptyHandle kept asks = record { refusal = refl; request = refl; copied = λ x t. refl }
-  same-call (memory_call.NewPtr n) kept asks = record { refusal = refl; request = refl; copied = λ x t. refl }
-  same-call memory_call.MoreMasters kept asks = record { refusal = refl; request = refl; copied = λ x t. refl }
-  same-call (memory_call.ReserveMem n) kept asks = record { refusal = refl; request = refl; copied = λ x t. refl }
-  same-call (memory_call.SetHandleSize h n) kept asks =
+  same-call (memory_call.Requesting (requesting_call.NewHandle n)) kept asks = record { refusal = refl; request = refl; copied = λ x t. refl }
+  same-call (memory_call.Requesting requesting_call.NewEmptyHandle) kept asks = record { refusal = refl; request = refl; copied = λ x t. refl }
+  same-call (memory_call.Requesting (requesting_call.NewPtr n)) kept asks = record { refusal = refl; request = refl; copied = λ x t. refl }
+  same-call (memory_call.Requesting requesting_call.MoreMasters) kept asks = record { refusal = refl; request = refl; copied = λ x t. refl }
+  same-call (memory_call.Requesting (requesting_call.ReserveMem n)) kept asks = record { refusal = refl; request = refl; copied = λ x t. refl }
+  same-call (memory_call.Requesting (requesting_call.SetHandleSize h n)) kept asks =
       record { refusal = rw (one-kept h kept, kept.lent) refl; request = refl; copied = λ x t. refl }
-  same-call (memory_call.SetPtrSize p n) kept asks =
+  same-call (memory_call.Requesting (requesting_call.SetPtrSize p n)) kept asks =
       record { refusal = rw (one-kept p kept, kept.lent) refl; request = refl; copied = λ x t. refl }
-  same-call (memory_call.ReallocateHandle h n) kept asks =
+  same-call (memory_call.Requesting (requesting_call.ReallocateHandle h n)) kept asks =
       record { refusal = rw (lock-kept h kept, one-kept h kept, kept.lent) refl; request = refl; copied = λ x t. refl }
-  same-call (memory_call.HandToHand h) kept asks =
+  same-call (memory_call.Filling (filling_call.HandToHand h)) kept asks =
       record {
         refusal = rw (one-kept h kept, kept.lent) refl;
         request = rw (one-kept h kept) refl;
         copied =
             λ x t. rw (one-kept h kept) refl;
       }
-  same-call (memory_call.PtrToHand p n) kept asks =
+  same-call (memory_call.Filling (filling_call.PtrToHand p n)) kept asks =
       record { refusal = rw (one-kept p kept, kept.lent) refl; request = refl; copied = λ x t. rw (one-kept p kept) refl }
-  same-call (memory_call.PtrToXHand p h n) kept asks =
+  same-call (memory_call.Filling (filling_call.PtrToXHand p h n)) kept asks =
       record {
         refusal = rw (first-kept p h kept, second-kept p h kept, kept.lent) refl;
         request = refl;
         copied =
             λ x t. rw (first-kept p h kept) refl;
       }
-  same-call (memory_call.PtrAndHand p h n) kept asks =
+  same-call (memory_call.Filling (filling_call.PtrAndHand p h n)) kept asks =
       record {
         refusal = rw (first-kept p h kept, second-kept p h kept, kept.lent) refl;
         request = rw (second-kept p h kept) refl;
         copied =
             λ x t. rw (first-kept p h kept, second-kept p h kept) refl;
       }
-  same-call (memory_call.NewHandleOf bytes) kept asks = record { refusal = refl; request = refl; copied = λ x t. refl }
-  same-call (memory_call.SetHandleTo h bytes) kept asks =
+  same-call (memory_call.Filling (filling_call.NewHandleOf bytes)) kept asks = record { refusal = refl; request = refl; copied = λ x t. refl }
+  same-call (memory_call.Filling (filling_call.SetHandleTo h bytes)) kept asks =
       record { refusal = rw (one-kept h kept, kept.lent) refl; request = refl; copied = λ x t. refl }
-  same-call (memory_call.Append h bytes) kept asks =
+  same-call (memory_call.Filling (filling_call.Append h bytes)) kept asks =
       record {
         refusal = rw (one-kept h kept, kept.lent) refl;
         request = rw (one-kept h kept) refl;
         copied =
             λ x t. rw (one-kept h kept) refl;
       }
-  same-call (memory_call.HandAndHand a b) kept asks =
+  same-call (memory_call.Filling (filling_call.HandAndHand a b)) kept asks =
       record {
         refusal = rw (first-kept a b kept, second-kept a b kept, kept.lent) refl;
         request =

@@ -9,7 +9,8 @@ use Rattle.mac_base.specs.HeadKind.{Shape}
 use Rattle.mac_base.specs.HandleTable.{has_block, is_handle, is_pointer, is_full, is_lent, bytes_of}
 use Rattle.mac_base.specs.Heap.{Heap}
 use Rattle.mac_base.specs.Tests.{Test, IsHandle, IsPointer, IsBlock, NotEmpty, NotLent, IsWithin, unless_passed, refused_by, first_refusal, refusal}
-use Rattle.mac_base.specs.declared.memory_call.MemoryCall.TheVariants.{DisposeHandle, Poke}
+use Rattle.mac_base.specs.declared.memory_call.MemoryCall.TheVariants.{OnBlock}
+use Rattle.mac_base.specs.declared.memory_call.BlockCall.TheVariants.{DisposeHandle, Poke}
 
 or_none : (a b : Option OsErr) → option_or a b ≡ None → (a ≡ None) × (b ≡ None)
 or_none None b h = (refl, h)
@@ -87,7 +88,7 @@ pub record DisposesLive (heap : Heap) (h : ℕ) : Type 0 where
   pub not_lent : is_lent heap.table h ≡ false
 
 -- what is known where DisposeHandle isn't refused
-pub passed-DisposeHandle : (s : Shape) (heap : Heap) (h : ℕ) → refusal s heap (DisposeHandle h) ≡ None → DisposesLive heap h
+pub passed-DisposeHandle : (s : Shape) (heap : Heap) (h : ℕ) → refusal s heap (OnBlock (DisposeHandle h)) ≡ None → DisposesLive heap h
 passed-DisposeHandle s heap h is =
     let first = first_passed s heap (IsHandle h) (NotLent h ∷ []) is in
     let second = first_passed s heap (NotLent h) [] first.1 in
@@ -102,7 +103,7 @@ pub record ReachesBlock (heap : Heap) (x at n : ℕ) : Type 0 where
   pub within : at + n ≤ length (bytes_of heap.table x)
 
 -- what is known where Poke isn't refused
-pub passed-Poke : (s : Shape) (heap : Heap) (x at : ℕ) (bytes : List ℕ) → refusal s heap (Poke x at bytes) ≡ None → ReachesBlock heap x at (length bytes)
+pub passed-Poke : (s : Shape) (heap : Heap) (x at : ℕ) (bytes : List ℕ) → refusal s heap (OnBlock (Poke x at bytes)) ≡ None → ReachesBlock heap x at (length bytes)
 passed-Poke s heap x at bytes is =
     let first = first_passed s heap (IsBlock x) (NotEmpty x ∷ NotLent x ∷ IsWithin x at (length bytes) ∷ []) is in
     let second = first_passed s heap (NotEmpty x) (NotLent x ∷ IsWithin x at (length bytes) ∷ []) first.1 in

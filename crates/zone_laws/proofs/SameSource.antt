@@ -19,7 +19,8 @@ use Rattle.mac_base.specs.Serve.{serve}
 use Rattle.mac_base.specs.Sound.{Sound}
 use Rattle.mac_base.specs.ZoneMap.{ZoneMap, handle_of}
 use Rattle.mac_base.specs.declared.memory_call.MemoryCall.{MemoryCall}
-use Rattle.mac_base.specs.declared.memory_call.MemoryCall.TheVariants.{Append, NewHandleOf, PtrAndHand, PtrToHand, PtrToXHand, SetHandleTo}
+use Rattle.mac_base.specs.declared.memory_call.MemoryCall.TheVariants.{Filling}
+use Rattle.mac_base.specs.declared.memory_call.FillingCall.TheVariants.{Append, NewHandleOf, PtrAndHand, PtrToHand, PtrToXHand, SetHandleTo}
 use Rattle.mac_base.specs.Effect.{request_of}
 use Rattle.mac_base.specs.ExactRequest.{Ending, after_ask, asked, prepared, request_run, served_or, unserved}
 use Rattle.mac_base.specs.ExactStep.{after_master, exact_step, request_end, request_step, step_asking, step_unless}
@@ -215,34 +216,34 @@ module _ (s : Shape) (answers : List Answer) (heap : Heap) (sound : Sound s heap
       record { pointer = passed-IsPointer s heap p one.0; within = within; passes = rw (three.0, four.0, five.0, sized within) refl }
 
   -- the ends of a call and of the one that brings the bytes
-  ends-new : (asks : List Ask) (e : Ending) (o : Option ℕ) → request_end (PtrToHand p n) heap.table asks e o ≡ request_end (NewHandleOf source) heap.table asks e o
+  ends-new : (asks : List Ask) (e : Ending) (o : Option ℕ) → request_end (Filling (PtrToHand p n)) heap.table asks e o ≡ request_end (Filling (NewHandleOf source)) heap.table asks e o
   ends-new asks e None = refl
   ends-new asks e (Some x) = refl
 
-  ends-set : (h : ℕ) (asks : List Ask) (e : Ending) (o : Option ℕ) → request_end (PtrToXHand p h n) heap.table asks e o ≡ request_end (SetHandleTo h source) heap.table asks e o
+  ends-set : (h : ℕ) (asks : List Ask) (e : Ending) (o : Option ℕ) → request_end (Filling (PtrToXHand p h n)) heap.table asks e o ≡ request_end (Filling (SetHandleTo h source)) heap.table asks e o
   ends-set h asks e None = refl
   ends-set h asks e (Some x) = refl
 
-  ends-more : (h : ℕ) (asks : List Ask) (e : Ending) (o : Option ℕ) → request_end (PtrAndHand p h n) heap.table asks e o ≡ request_end (Append h source) heap.table asks e o
+  ends-more : (h : ℕ) (asks : List Ask) (e : Ending) (o : Option ℕ) → request_end (Filling (PtrAndHand p h n)) heap.table asks e o ≡ request_end (Filling (Append h source)) heap.table asks e o
   ends-more h asks e None = refl
   ends-more h asks e (Some x) = refl
 
-  pub new-alike : DoesAs s answers heap (PtrToHand p n) (NewHandleOf source)
+  pub new-alike : DoesAs s answers heap (Filling (PtrToHand p n)) (Filling (NewHandleOf source))
   new-alike passes =
       let one = first_passed s heap (IsPointer p) (NotLent p ∷ IsWithin p 0 n ∷ []) passes in
       let two = first_passed s heap (NotLent p) (IsWithin p 0 n ∷ []) one.1 in
       let within = passed-IsWithin s heap p 0 n (first_passed s heap (IsWithin p 0 n) [] two.1).0 in
-      calls-alike (PtrToHand p n) (NewHandleOf source) [] (NewBlock n) passes (ap (λ o. option_or o None) (sized within)) refl (ap (λ k. Some (NewBlock k)) (length-taken n (bytes_of heap.table p) within)) refl refl ends-new (passed-IsPointer s heap p one.0)
+      calls-alike (Filling (PtrToHand p n)) (Filling (NewHandleOf source)) [] (NewBlock n) passes (ap (λ o. option_or o None) (sized within)) refl (ap (λ k. Some (NewBlock k)) (length-taken n (bytes_of heap.table p) within)) refl refl ends-new (passed-IsPointer s heap p one.0)
 
-  pub set-alike : (h : ℕ) → DoesAs s answers heap (PtrToXHand p h n) (SetHandleTo h source)
+  pub set-alike : (h : ℕ) → DoesAs s answers heap (Filling (PtrToXHand p h n)) (Filling (SetHandleTo h source))
   set-alike h passes =
       let all = all_pass h passes in
-      calls-alike (PtrToXHand p h n) (SetHandleTo h source) (h ∷ []) (Resize h n) passes all.passes refl (ap (λ k. Some (Resize h k)) (length-taken n (bytes_of heap.table p) all.within)) refl refl (ends-set h) all.pointer
+      calls-alike (Filling (PtrToXHand p h n)) (Filling (SetHandleTo h source)) (h ∷ []) (Resize h n) passes all.passes refl (ap (λ k. Some (Resize h k)) (length-taken n (bytes_of heap.table p) all.within)) refl refl (ends-set h) all.pointer
 
-  pub more-alike : (h : ℕ) → DoesAs s answers heap (PtrAndHand p h n) (Append h source)
+  pub more-alike : (h : ℕ) → DoesAs s answers heap (Filling (PtrAndHand p h n)) (Filling (Append h source))
   more-alike h passes =
       let all = all_pass h passes in
-      calls-alike (PtrAndHand p h n) (Append h source) (h ∷ []) (Resize h (length (bytes_of heap.table h) + n)) passes all.passes refl
+      calls-alike (Filling (PtrAndHand p h n)) (Filling (Append h source)) (h ∷ []) (Resize h (length (bytes_of heap.table h) + n)) passes all.passes refl
       (ap (λ k. Some (Resize h (length (bytes_of heap.table h) + k))) (length-taken n (bytes_of heap.table p) all.within)) refl refl (ends-more h) all.pointer
 
 pub copies-brought : CopiesAreBrought

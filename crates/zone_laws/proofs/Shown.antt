@@ -14,6 +14,11 @@ use Rattle.mac_base.specs.Request.{candidates_in, is_among}
 use Rattle.mac_base.specs.ZoneState.{written}
 use Rattle.mac_base.specs.declared.memory_call.MemoryCall.{MemoryCall}
 use Rattle.mac_base.specs.declared.memory_call.MemoryCall.TheVariants as memory_call
+use Rattle.mac_base.specs.declared.memory_call.BlockCall.TheVariants as block_call
+use Rattle.mac_base.specs.declared.memory_call.FillingCall.TheVariants as filling_call
+use Rattle.mac_base.specs.declared.memory_call.RequestingCall.TheVariants as requesting_call
+use Rattle.mac_base.specs.declared.memory_call.ShowingCall.TheVariants as showing_call
+use Rattle.mac_base.specs.declared.memory_call.ZoneCall.TheVariants as zone_call
 use Rattle.mac_base.specs.declared.reply.Results.TheVariants as results
 use Rattle.mac_base.specs.Effect.{request_of, table_copied}
 use Rattle.mac_base.specs.GrowZone.{Ask}
@@ -102,39 +107,39 @@ module _ (s : Shape) (old : Heap) (last : LastPut) (shows : TableShows old.table
   among_first x xs = ap (λ b. b || is_among xs x) (eqb_same x)
 
   request-shows : (call : MemoryCall) → refusal s old call ≡ None → MatchOption (request_of old.table call) ⊤ (EndsShowing old call last)
-  request-shows (memory_call.NewHandle n) is = λ x mid new g end.
+  request-shows (memory_call.Requesting (requesting_call.NewHandle n)) is = λ x mid new g end.
       shows-put x (FullHandle no_flags (zeros n)) (zeros n) old.table g.before new last (others-fewer [] x old.table g.before g.fewer) (λ _. refl) (end ∙ g.table) shows
-  request-shows memory_call.NewEmptyHandle is = λ x mid new g end. shows-empty x old.table g.before new last (others-fewer [] x old.table g.before g.fewer) (end ∙ g.table) shows
-  request-shows (memory_call.NewPtr n) is = λ x mid new g end.
+  request-shows (memory_call.Requesting requesting_call.NewEmptyHandle) is = λ x mid new g end. shows-empty x old.table g.before new last (others-fewer [] x old.table g.before g.fewer) (end ∙ g.table) shows
+  request-shows (memory_call.Requesting (requesting_call.NewPtr n)) is = λ x mid new g end.
       shows-put x (Pointer (zeros n)) (zeros n) old.table g.before new last (others-fewer [] x old.table g.before g.fewer) (λ _. refl) (end ∙ g.table) shows
-  request-shows memory_call.MoreMasters is = λ x mid new g end. shows-same g.before new last (end ∙ g.table) (shows-fewer [] old.table g.before last g.fewer shows)
-  request-shows (memory_call.ReserveMem n) is = λ x mid new g end. shows-same g.before new last (end ∙ g.table) (shows-fewer [] old.table g.before last g.fewer shows)
-  request-shows (memory_call.SetHandleSize h n) is = λ x mid new g end.
+  request-shows (memory_call.Requesting requesting_call.MoreMasters) is = λ x mid new g end. shows-same g.before new last (end ∙ g.table) (shows-fewer [] old.table g.before last g.fewer shows)
+  request-shows (memory_call.Requesting (requesting_call.ReserveMem n)) is = λ x mid new g end. shows-same g.before new last (end ∙ g.table) (shows-fewer [] old.table g.before last g.fewer shows)
+  request-shows (memory_call.Requesting (requesting_call.SetHandleSize h n)) is = λ x mid new g end.
       sized (h ∷ []) h n g.before new g.fewer (among_first h []) (passed-NotEmpty s old h (test_2 s old (IsHandle h) (NotEmpty h) (NotLent h ∷ IsSize n ∷ []) is)) (end ∙ g.table)
-  request-shows (memory_call.SetPtrSize p n) is = λ x mid new g end.
+  request-shows (memory_call.Requesting (requesting_call.SetPtrSize p n)) is = λ x mid new g end.
       sized (p ∷ []) p n g.before new g.fewer (among_first p []) (pointer-block s old p (test_1 s old (IsPointer p) (NotLent p ∷ IsSize n ∷ []) is)) (end ∙ g.table)
-  request-shows (memory_call.ReallocateHandle h n) is = λ x mid new g end.
+  request-shows (memory_call.Requesting (requesting_call.ReallocateHandle h n)) is = λ x mid new g end.
       shows-put h (FullHandle no_flags (zeros n)) (zeros n) old.table g.before new last (others-fewer (h ∷ []) h old.table g.before g.fewer) (λ _. refl) (end ∙ g.table) shows
-  request-shows (memory_call.HandToHand h) is = λ x mid new g end.
+  request-shows (memory_call.Filling (filling_call.HandToHand h)) is = λ x mid new g end.
       copied (h ∷ []) x (FullHandle no_flags (zeros (length (bytes_of old.table h)))) (bytes_of old.table h) (last h) g.before mid new g.fewer (shows h (passed-NotEmpty s old h (test_2 s old (IsHandle h) (NotEmpty h) (NotLent h ∷ []) is))) g.table end
-  request-shows (memory_call.PtrToHand p n) is = λ x mid new g end.
+  request-shows (memory_call.Filling (filling_call.PtrToHand p n)) is = λ x mid new g end.
       copied (p ∷ []) x (FullHandle no_flags (zeros n)) (take n (bytes_of old.table p)) (take n (last p)) g.before mid new g.fewer (ap (take n) (shows p (pointer-block s old p (test_1 s old (IsPointer p) (NotLent p ∷ IsWithin p 0 n ∷ []) is)))) g.table end
-  request-shows (memory_call.PtrToXHand p h n) is = λ x mid new g end.
+  request-shows (memory_call.Filling (filling_call.PtrToXHand p h n)) is = λ x mid new g end.
       copied (p ∷ h ∷ []) h (refilled (resized n (bytes_of g.before h)) (live_at g.before h)) (take n (bytes_of old.table p)) (take n (last p)) g.before mid new g.fewer
       (ap (take n) (shows p (pointer-block s old p (test_1 s old (IsPointer p) (NotLent p ∷ IsHandle h ∷ NotEmpty h ∷ NotLent h ∷ IsWithin p 0 n ∷ []) is)))) g.table end
-  request-shows (memory_call.PtrAndHand p h n) is = λ x mid new g end.
+  request-shows (memory_call.Filling (filling_call.PtrAndHand p h n)) is = λ x mid new g end.
       let from = shows p (pointer-block s old p (test_1 s old (IsPointer p) (NotLent p ∷ IsHandle h ∷ NotEmpty h ∷ NotLent h ∷ IsWithin p 0 n ∷ []) is)) in
       let onto = shows h (passed-NotEmpty s old h (test_4 s old (IsPointer p) (NotLent p) (IsHandle h) (NotEmpty h) (NotLent h ∷ IsWithin p 0 n ∷ []) is)) in
       copied (p ∷ h ∷ []) h (refilled (resized (length (bytes_of old.table h) + n) (bytes_of g.before h)) (live_at g.before h)) (bytes_of old.table h ++ take n (bytes_of old.table p)) (last h ++ take n (last p)) g.before mid new g.fewer
       (ap (λ b. b ++ take n (bytes_of old.table p)) onto ∙ ap (λ b. last h ++ take n b) from) g.table end
-  request-shows (memory_call.NewHandleOf bytes) is = λ x mid new g end.
+  request-shows (memory_call.Filling (filling_call.NewHandleOf bytes)) is = λ x mid new g end.
       copied [] x (FullHandle no_flags (zeros (length bytes))) bytes bytes g.before mid new g.fewer refl g.table end
-  request-shows (memory_call.SetHandleTo h bytes) is = λ x mid new g end.
+  request-shows (memory_call.Filling (filling_call.SetHandleTo h bytes)) is = λ x mid new g end.
       copied (h ∷ []) h (refilled (resized (length bytes) (bytes_of g.before h)) (live_at g.before h)) bytes bytes g.before mid new g.fewer refl g.table end
-  request-shows (memory_call.Append h bytes) is = λ x mid new g end.
+  request-shows (memory_call.Filling (filling_call.Append h bytes)) is = λ x mid new g end.
       copied (h ∷ []) h (refilled (resized (length (bytes_of old.table h) + length bytes) (bytes_of g.before h)) (live_at g.before h)) (bytes_of old.table h ++ bytes) (last h ++ bytes) g.before mid new g.fewer
       (ap (λ b. b ++ bytes) (shows h (passed-NotEmpty s old h (test_2 s old (IsHandle h) (NotEmpty h) (NotLent h ∷ IsSize (length bytes) ∷ []) is)))) g.table end
-  request-shows (memory_call.HandAndHand a b) is = λ x mid new g end.
+  request-shows (memory_call.Filling (filling_call.HandAndHand a b)) is = λ x mid new g end.
       let from = shows a (passed-NotEmpty s old a (test_2 s old (IsHandle a) (NotEmpty a) (NotLent a ∷ IsHandle b ∷ NotEmpty b ∷ NotLent b ∷ []) is)) in
       let onto = shows b (passed-NotEmpty s old b (test_5 s old (IsHandle a) (NotEmpty a) (NotLent a) (IsHandle b) (NotEmpty b) (NotLent b ∷ []) is)) in
       copied (a ∷ b ∷ []) b (refilled (resized (length (bytes_of old.table b) + length (bytes_of old.table a)) (bytes_of g.before b)) (live_at g.before b)) (bytes_of old.table b ++ bytes_of old.table a) (last b ++ last a) g.before mid new g.fewer
@@ -161,7 +166,7 @@ module _ (s : Shape) (old : Heap) (last : LastPut) (shows : TableShows old.table
   set h flags new tests is end = flagged h flags old.table new (λ y _ _. refl) refl (full h tests is) end
 
   -- PurgeMem puts nothing, whether it is refused or not
-  purge_puts : (n : ℕ) (new : HandleTable) (outcome : Outcome) → TableShows new last → TableShows new (put_by (memory_call.PurgeMem n) outcome last)
+  purge_puts : (n : ℕ) (new : HandleTable) (outcome : Outcome) → TableShows new last → TableShows new (put_by (memory_call.OnZone (zone_call.PurgeMem n)) outcome last)
   purge_puts n new (Ok r) h = h
   purge_puts n new (Err code) h = h
 
@@ -172,68 +177,70 @@ module _ (s : Shape) (old : Heap) (last : LastPut) (shows : TableShows old.table
   ends call outcome want new is h = subst (λ o. TableShows new.table (put_by call o last)) (sym is) h
 
   quiet-shows : (call : MemoryCall) (outcome : Outcome) (new : Heap) → request_of old.table call ≡ None → refusal s old call ≡ None → QuietStep s old call outcome new → Ends call outcome new
-  quiet-shows (memory_call.CompactMem n) outcome new none is q = ends (memory_call.CompactMem n) outcome _ new q.1 (shows-same old.table new.table last q.0.table shows)
-  quiet-shows (memory_call.MoveHHi h) outcome new none is q = ends (memory_call.MoveHHi h) outcome _ new q.1 (shows-same old.table new.table last q.0.table shows)
-  quiet-shows (memory_call.HLockHi h) outcome new none is q =
-      ends (memory_call.HLockHi h) outcome _ new q.3 (set h _ new.table (NotLocked MemLockedErr h ∷ []) is (q.2.table ∙ ap (λ t. with_flags h (record (flags_of t h) { lock = true }) t) q.1.table))
-  quiet-shows memory_call.MaxMem outcome new none is q = ends memory_call.MaxMem outcome _ new q.1
+  quiet-shows (memory_call.OnZone (zone_call.CompactMem n)) outcome new none is q = ends (memory_call.OnZone (zone_call.CompactMem n)) outcome _ new q.1 (shows-same old.table new.table last q.0.table shows)
+  quiet-shows (memory_call.OnBlock (block_call.MoveHHi h)) outcome new none is q = ends (memory_call.OnBlock (block_call.MoveHHi h)) outcome _ new q.1 (shows-same old.table new.table last q.0.table shows)
+  quiet-shows (memory_call.OnBlock (block_call.HLockHi h)) outcome new none is q =
+      ends (memory_call.OnBlock (block_call.HLockHi h)) outcome _ new q.3 (set h _ new.table (NotLocked MemLockedErr h ∷ []) is (q.2.table ∙ ap (λ t. with_flags h (record (flags_of t h) { lock = true }) t) q.1.table))
+  quiet-shows (memory_call.OnZone zone_call.MaxMem) outcome new none is q = ends (memory_call.OnZone zone_call.MaxMem) outcome _ new q.1
       (shows-same (all_purged old).table new.table last q.0.table (shows-fewer [] old.table (all_purged old).table last (fewer-purged [] (candidates_in old.table [] old.map) old (λ h _. refl)) shows))
-  quiet-shows (memory_call.PurgeMem n) outcome new none is q = purge_puts n new.table outcome (shows-same _ new.table last q.3.table (shows-fewer [] old.table _ last (fewer-purged [] q.0 old (λ h _. refl)) shows))
-  quiet-shows (memory_call.DisposeHandle h) outcome new none is q = ends (memory_call.DisposeHandle h) outcome _ new q.1 (shows-same _ new.table last q.0.table (shows-fewer [] old.table _ last (fewer-released [] (DisposesHandle h) old refl) shows))
-  quiet-shows (memory_call.DisposePtr p) outcome new none is q = ends (memory_call.DisposePtr p) outcome _ new q.1 (shows-same _ new.table last q.0.table (shows-fewer [] old.table _ last (fewer-released [] (DisposesPtr p) old refl) shows))
-  quiet-shows (memory_call.EmptyHandle h) outcome new none is q = ends (memory_call.EmptyHandle h) outcome _ new q.1 (shows-same _ new.table last q.0.table (shows-fewer [] old.table _ last (fewer-released [] (Empties h) old refl) shows))
-  quiet-shows (memory_call.HLock h) outcome new none is q = ends (memory_call.HLock h) outcome _ new q.1 (set h _ new.table [] is q.0.table)
-  quiet-shows (memory_call.HUnlock h) outcome new none is q = ends (memory_call.HUnlock h) outcome _ new q.1 (set h _ new.table (NotLent h ∷ []) is q.0.table)
-  quiet-shows (memory_call.HPurge h) outcome new none is q = ends (memory_call.HPurge h) outcome _ new q.1 (set h _ new.table [] is q.0.table)
-  quiet-shows (memory_call.HNoPurge h) outcome new none is q = ends (memory_call.HNoPurge h) outcome _ new q.1 (set h _ new.table [] is q.0.table)
-  quiet-shows (memory_call.HSetRBit h) outcome new none is q = ends (memory_call.HSetRBit h) outcome _ new q.1 (set h _ new.table [] is q.0.table)
-  quiet-shows (memory_call.HClrRBit h) outcome new none is q = ends (memory_call.HClrRBit h) outcome _ new q.1 (set h _ new.table [] is q.0.table)
-  quiet-shows (memory_call.HSetState h n) outcome new none is q = ends (memory_call.HSetState h n) outcome _ new q.1 (set h _ new.table (IsState n ∷ KeepsLent h n ∷ []) is q.0.table)
-  quiet-shows (memory_call.Poke x at bytes) outcome new none is q = ends (memory_call.Poke x at bytes) outcome _ new q.1
+  quiet-shows (memory_call.OnZone (zone_call.PurgeMem n)) outcome new none is q = purge_puts n new.table outcome (shows-same _ new.table last q.3.table (shows-fewer [] old.table _ last (fewer-purged [] q.0 old (λ h _. refl)) shows))
+  quiet-shows (memory_call.OnBlock (block_call.DisposeHandle h)) outcome new none is q = ends (memory_call.OnBlock (block_call.DisposeHandle h)) outcome _ new q.1 (shows-same _ new.table last q.0.table (shows-fewer [] old.table _ last (fewer-released [] (DisposesHandle h) old refl) shows))
+  quiet-shows (memory_call.OnBlock (block_call.DisposePtr p)) outcome new none is q = ends (memory_call.OnBlock (block_call.DisposePtr p)) outcome _ new q.1 (shows-same _ new.table last q.0.table (shows-fewer [] old.table _ last (fewer-released [] (DisposesPtr p) old refl) shows))
+  quiet-shows (memory_call.OnBlock (block_call.EmptyHandle h)) outcome new none is q = ends (memory_call.OnBlock (block_call.EmptyHandle h)) outcome _ new q.1 (shows-same _ new.table last q.0.table (shows-fewer [] old.table _ last (fewer-released [] (Empties h) old refl) shows))
+  quiet-shows (memory_call.OnBlock (block_call.HLock h)) outcome new none is q = ends (memory_call.OnBlock (block_call.HLock h)) outcome _ new q.1 (set h _ new.table [] is q.0.table)
+  quiet-shows (memory_call.OnBlock (block_call.HUnlock h)) outcome new none is q = ends (memory_call.OnBlock (block_call.HUnlock h)) outcome _ new q.1 (set h _ new.table (NotLent h ∷ []) is q.0.table)
+  quiet-shows (memory_call.OnBlock (block_call.HPurge h)) outcome new none is q = ends (memory_call.OnBlock (block_call.HPurge h)) outcome _ new q.1 (set h _ new.table [] is q.0.table)
+  quiet-shows (memory_call.OnBlock (block_call.HNoPurge h)) outcome new none is q = ends (memory_call.OnBlock (block_call.HNoPurge h)) outcome _ new q.1 (set h _ new.table [] is q.0.table)
+  quiet-shows (memory_call.OnBlock (block_call.HSetRBit h)) outcome new none is q = ends (memory_call.OnBlock (block_call.HSetRBit h)) outcome _ new q.1 (set h _ new.table [] is q.0.table)
+  quiet-shows (memory_call.OnBlock (block_call.HClrRBit h)) outcome new none is q = ends (memory_call.OnBlock (block_call.HClrRBit h)) outcome _ new q.1 (set h _ new.table [] is q.0.table)
+  quiet-shows (memory_call.OnBlock (block_call.HSetState h n)) outcome new none is q = ends (memory_call.OnBlock (block_call.HSetState h n)) outcome _ new q.1 (set h _ new.table (IsState n ∷ KeepsLent h n ∷ []) is q.0.table)
+  quiet-shows (memory_call.OnBlock (block_call.Poke x at bytes)) outcome new none is q = ends (memory_call.OnBlock (block_call.Poke x at bytes)) outcome _ new q.1
       (shows-bytes x (written at bytes (bytes_of old.table x)) (written at bytes (last x)) old.table old.table new.table last (λ y _ _. refl)
       (ap (written at bytes) (shows x (passed-NotEmpty s old x (test_2 s old (IsBlock x) (NotEmpty x) (NotLent x ∷ IsWithin x at (length bytes) ∷ []) is)))) q.0.table shows)
-  quiet-shows (memory_call.BlockMove x at y to n) outcome new none is q =
+  quiet-shows (memory_call.OnBlock (block_call.BlockMove x at y to n)) outcome new none is q =
       let from = shows x (passed-NotEmpty s old x (test_2 s old (IsBlock x) (NotEmpty x) (NotLent x ∷ IsBlock y ∷ NotEmpty y ∷ NotLent y ∷ IsWithin x at n ∷ IsWithin y to n ∷ []) is)) in
       let onto = shows y (passed-NotEmpty s old y (test_5 s old (IsBlock x) (NotEmpty x) (NotLent x) (IsBlock y) (NotEmpty y) (NotLent y ∷ IsWithin x at n ∷ IsWithin y to n ∷ []) is)) in
-      ends (memory_call.BlockMove x at y to n) outcome _ new q.1
+      ends (memory_call.OnBlock (block_call.BlockMove x at y to n)) outcome _ new q.1
       (shows-bytes y (written to (take n (drop at (bytes_of old.table x))) (bytes_of old.table y)) (written to (take n (drop at (last x))) (last y)) old.table old.table new.table last (λ y _ _. refl)
       (ap (λ b. written to (take n (drop at b)) (bytes_of old.table y)) from ∙ ap (written to (take n (drop at (last x)))) onto) q.0.table shows)
-  quiet-shows (memory_call.NewHandle n) outcome new none is q = absurd (cc none)
-  quiet-shows (memory_call.NewPtr n) outcome new none is q = absurd (cc none)
-  quiet-shows (memory_call.ReallocateHandle h n) outcome new none is q = absurd (cc none)
-  quiet-shows (memory_call.SetHandleSize h n) outcome new none is q = absurd (cc none)
-  quiet-shows (memory_call.SetPtrSize p n) outcome new none is q = absurd (cc none)
-  quiet-shows (memory_call.HandToHand h) outcome new none is q = absurd (cc none)
-  quiet-shows (memory_call.PtrToHand p n) outcome new none is q = absurd (cc none)
-  quiet-shows (memory_call.PtrToXHand p h n) outcome new none is q = absurd (cc none)
-  quiet-shows (memory_call.PtrAndHand p h n) outcome new none is q = absurd (cc none)
-  quiet-shows (memory_call.NewHandleOf bytes) outcome new none is q = absurd (cc none)
-  quiet-shows (memory_call.SetHandleTo h bytes) outcome new none is q = absurd (cc none)
-  quiet-shows (memory_call.Append h bytes) outcome new none is q = absurd (cc none)
-  quiet-shows (memory_call.HandAndHand a b) outcome new none is q = absurd (cc none)
+  quiet-shows (memory_call.Requesting (requesting_call.NewHandle n)) outcome new none is q = absurd (cc none)
+  quiet-shows (memory_call.Requesting (requesting_call.NewPtr n)) outcome new none is q = absurd (cc none)
+  quiet-shows (memory_call.Requesting (requesting_call.ReallocateHandle h n)) outcome new none is q = absurd (cc none)
+  quiet-shows (memory_call.Requesting (requesting_call.SetHandleSize h n)) outcome new none is q = absurd (cc none)
+  quiet-shows (memory_call.Requesting (requesting_call.SetPtrSize p n)) outcome new none is q = absurd (cc none)
+  quiet-shows (memory_call.Filling (filling_call.HandToHand h)) outcome new none is q = absurd (cc none)
+  quiet-shows (memory_call.Filling (filling_call.PtrToHand p n)) outcome new none is q = absurd (cc none)
+  quiet-shows (memory_call.Filling (filling_call.PtrToXHand p h n)) outcome new none is q = absurd (cc none)
+  quiet-shows (memory_call.Filling (filling_call.PtrAndHand p h n)) outcome new none is q = absurd (cc none)
+  quiet-shows (memory_call.Filling (filling_call.NewHandleOf bytes)) outcome new none is q = absurd (cc none)
+  quiet-shows (memory_call.Filling (filling_call.SetHandleTo h bytes)) outcome new none is q = absurd (cc none)
+  quiet-shows (memory_call.Filling (filling_call.Append h bytes)) outcome new none is q = absurd (cc none)
+  quiet-shows (memory_call.Filling (filling_call.HandAndHand a b)) outcome new none is q = absurd (cc none)
+  quiet-shows (memory_call.Showing showing_call.ZoneMap) outcome new none is q = ends (memory_call.Showing showing_call.ZoneMap) outcome _ new q.1 (shows-same old.table new.table last q.0.table shows)
   quiet-shows call outcome new none is q = ends call outcome _ new q.1 (shows-same old.table new.table last q.0.table shows)
 
   -- ---- what is reported
 
   -- no request's outcome is about bytes
   request-tells : (call : MemoryCall) (r : Request) (outcome : Outcome) → request_of old.table call ≡ Some r → Tells call outcome last
-  request-tells (memory_call.Peek x at n) r outcome is = absurd (cc is)
-  request-tells (memory_call.GetHandleSize h) r outcome is = absurd (cc is)
-  request-tells (memory_call.GetPtrSize p) r outcome is = absurd (cc is)
+  request-tells (memory_call.Showing (showing_call.Peek x at n)) r outcome is = absurd (cc is)
+  request-tells (memory_call.OnBlock (block_call.GetHandleSize h)) r outcome is = absurd (cc is)
+  request-tells (memory_call.OnBlock (block_call.GetPtrSize p)) r outcome is = absurd (cc is)
   request-tells call r outcome is = tt
 
   refused-tells : (call : MemoryCall) (code : OsErr) → Tells call (Err code) last
-  refused-tells (memory_call.Peek x at n) code = tt
+  refused-tells (memory_call.Showing (showing_call.Peek x at n)) code = tt
+  refused-tells (memory_call.OnBlock (block_call.HLock h)) code = tt
   refused-tells call code = tt
 
   tells : (call : MemoryCall) (outcome want : Outcome) → outcome ≡ want → Tells call want last → Tells call outcome last
   tells call outcome want is h = subst (λ o. Tells call o last) (sym is) h
 
   quiet-tells : (call : MemoryCall) (outcome : Outcome) (new : Heap) → refusal s old call ≡ None → QuietStep s old call outcome new → Tells call outcome last
-  quiet-tells (memory_call.Peek x at n) outcome new is q = tells (memory_call.Peek x at n) outcome _ q.1
+  quiet-tells (memory_call.Showing (showing_call.Peek x at n)) outcome new is q = tells (memory_call.Showing (showing_call.Peek x at n)) outcome _ q.1
       (ap (λ b. results.Bytes (take n (drop at b))) (ap (λ t. bytes_of t x) q.0.table ∙ shows x (passed-NotEmpty s old x (test_2 s old (IsBlock x) (NotEmpty x) (NotLent x ∷ IsWithin x at n ∷ []) is))))
-  quiet-tells (memory_call.GetHandleSize h) outcome new is q = tells (memory_call.GetHandleSize h) outcome _ q.1 (ap (λ b. results.Number (length b)) (ap (λ t. bytes_of t h) q.0.table ∙ shows h (full h [] is)))
-  quiet-tells (memory_call.GetPtrSize p) outcome new is q = tells (memory_call.GetPtrSize p) outcome _ q.1
+  quiet-tells (memory_call.OnBlock (block_call.GetHandleSize h)) outcome new is q = tells (memory_call.OnBlock (block_call.GetHandleSize h)) outcome _ q.1 (ap (λ b. results.Number (length b)) (ap (λ t. bytes_of t h) q.0.table ∙ shows h (full h [] is)))
+  quiet-tells (memory_call.OnBlock (block_call.GetPtrSize p)) outcome new is q = tells (memory_call.OnBlock (block_call.GetPtrSize p)) outcome _ q.1
       (ap (λ b. results.Number (length b)) (ap (λ t. bytes_of t p) q.0.table ∙ shows p (pointer-block s old p (test_1 s old (IsPointer p) [] is))))
   quiet-tells call outcome new is q = tt
 

@@ -6,7 +6,8 @@ use Rattle.mac_base.specs.HandleTable.{bytes_of, with_bytes, with_flags, is_full
 use Rattle.mac_base.specs.Heap.{Heap, with_table}
 use Rattle.mac_base.specs.Sound.{Sound}
 use Rattle.mac_base.specs.Tests.{Test, IsHandle, IsBlock, NotEmpty, NotLent, IsWithin, first_refusal, refusal}
-use Rattle.mac_base.specs.declared.memory_call.MemoryCall.TheVariants.{DisposeHandle, DisposePtr, EmptyHandle, Poke, BlockMove}
+use Rattle.mac_base.specs.declared.memory_call.MemoryCall.TheVariants.{OnBlock}
+use Rattle.mac_base.specs.declared.memory_call.BlockCall.TheVariants.{DisposeHandle, DisposePtr, EmptyHandle, Poke, BlockMove}
 use Rattle.mac_base.specs.declared.releasing.ReleasingCall.TheVariants.{DisposesHandle, DisposesPtr, Empties}
 use Rattle.mac_base.specs.Releasing.{heap_released}
 use Rattle.mac_base.specs.ZoneState.{written}
@@ -24,11 +25,11 @@ length-written at bytes old h =
     length-append (front ++ bytes) back ∙ ap (λ n. n + length back) (length-append front bytes) ∙ omega (arith, length-take at old, length-drop (at + length bytes) old)
 
 -- a handle is disposed of
-pub sound-DisposeHandle : (s : Shape) (heap : Heap) (h : ℕ) → Sound s heap → refusal s heap (DisposeHandle h) ≡ None → Sound s (heap_released (DisposesHandle h) heap)
+pub sound-DisposeHandle : (s : Shape) (heap : Heap) (h : ℕ) → Sound s heap → refusal s heap (OnBlock (DisposeHandle h)) ≡ None → Sound s (heap_released (DisposesHandle h) heap)
 sound-DisposeHandle s heap h sound is = let facts = passed-DisposeHandle s heap h is in sound-disposed s heap h sound facts.live
 
 -- bytes are written within a block
-pub sound-Poke : (s : Shape) (heap : Heap) (x at : ℕ) (bytes : List ℕ) → Sound s heap → refusal s heap (Poke x at bytes) ≡ None
+pub sound-Poke : (s : Shape) (heap : Heap) (x at : ℕ) (bytes : List ℕ) → Sound s heap → refusal s heap (OnBlock (Poke x at bytes)) ≡ None
     → Sound s (with_table (with_bytes x (written at bytes (bytes_of heap.table x)) heap.table) heap)
 sound-Poke s heap x at bytes sound is =
     let facts = passed-Poke s heap x at bytes is in
@@ -51,15 +52,15 @@ pub sound-flagged : (s : Shape) (heap : Heap) (h : ℕ) (flags : Flags) (tests :
 sound-flagged s heap h flags tests sound is = sound-flags s heap h flags sound (passed-full s heap h tests is)
 
 -- a pointer is disposed of
-pub sound-DisposePtr : (s : Shape) (heap : Heap) (p : ℕ) → Sound s heap → refusal s heap (DisposePtr p) ≡ None → Sound s (heap_released (DisposesPtr p) heap)
+pub sound-DisposePtr : (s : Shape) (heap : Heap) (p : ℕ) → Sound s heap → refusal s heap (OnBlock (DisposePtr p)) ≡ None → Sound s (heap_released (DisposesPtr p) heap)
 sound-DisposePtr s heap p sound is = sound-carried s heap (DisposesPtr p) sound is
 
 -- a handle becomes empty
-pub sound-EmptyHandle : (s : Shape) (heap : Heap) (h : ℕ) → Sound s heap → refusal s heap (EmptyHandle h) ≡ None → Sound s (heap_released (Empties h) heap)
+pub sound-EmptyHandle : (s : Shape) (heap : Heap) (h : ℕ) → Sound s heap → refusal s heap (OnBlock (EmptyHandle h)) ≡ None → Sound s (heap_released (Empties h) heap)
 sound-EmptyHandle s heap h sound is = sound-carried s heap (Empties h) sound is
 
 -- bytes of one block are written within another
-pub sound-BlockMove : (s : Shape) (heap : Heap) (x at y to n : ℕ) → Sound s heap → refusal s heap (BlockMove x at y to n) ≡ None
+pub sound-BlockMove : (s : Shape) (heap : Heap) (x at y to n : ℕ) → Sound s heap → refusal s heap (OnBlock (BlockMove x at y to n)) ≡ None
     → Sound s (with_table (with_bytes y (written to (take n (drop at (bytes_of heap.table x))) (bytes_of heap.table y)) heap.table) heap)
 sound-BlockMove s heap x at y to n sound is =
     let one = first_passed s heap (IsBlock x) (NotEmpty x ∷ NotLent x ∷ IsBlock y ∷ NotEmpty y ∷ NotLent y ∷ IsWithin x at n ∷ IsWithin y to n ∷ []) is in

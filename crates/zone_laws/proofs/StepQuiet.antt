@@ -14,6 +14,8 @@ use Rattle.mac_base.specs.Heap.{Heap, with_map, all_purged, with_all_emptied}
 use Rattle.mac_base.specs.Sound.{Sound}
 use Rattle.mac_base.specs.declared.memory_call.MemoryCall.{MemoryCall}
 use Rattle.mac_base.specs.declared.memory_call.MemoryCall.TheVariants as memory_call
+use Rattle.mac_base.specs.declared.memory_call.BlockCall.TheVariants as block_call
+use Rattle.mac_base.specs.declared.memory_call.ZoneCall.TheVariants as zone_call
 use Rattle.mac_base.specs.declared.reply.Results.TheVariants.{Nothing}
 use Rattle.mac_base.specs.Tests.{NotLent, NotLocked, IsState, KeepsLent, refusal}
 use Rattle.mac_base.specs.Effect.{effect_of}
@@ -42,7 +44,7 @@ module _ (s : Shape) (heap : Heap) (sound : Sound s heap) where
   sound-few n = let done = all_emptied s (few n heap) heap sound (λ h c. (candidate-is heap.table [] heap.map h (purged_until-part (λ (m : ZoneMap). nat_le n (largest_free m)) (candidates_in heap.table [] heap.map) heap.map h c)).may) in done.sound
 
   -- PurgeMem
-  purges : (n : ℕ) → QuietFacts s heap (memory_call.PurgeMem n) (with_all_emptied (few n heap) heap)
+  purges : (n : ℕ) → QuietFacts s heap (memory_call.OnZone (zone_call.PurgeMem n)) (with_all_emptied (few n heap) heap)
   purges n =
       let enough : ZoneMap → Bool = λ (m : ZoneMap). nat_le n (largest_free m) in
       let cs = candidates_in heap.table [] heap.map in
@@ -67,7 +69,7 @@ module _ (s : Shape) (heap : Heap) (sound : Sound s heap) where
       none_left lacks (inr all) = subst (λ hs. (let new = with_all_emptied hs heap in candidates_in new.table [] new.map) ≡ []) (sym all) (no_candidates s [] NewEmpty heap sound)
 
   -- MaxMem
-  maximizes : QuietFacts s heap memory_call.MaxMem (with_map (all_down heap.table (all_purged heap).map) (all_purged heap))
+  maximizes : QuietFacts s heap (memory_call.OnZone zone_call.MaxMem) (with_map (all_down heap.table (all_purged heap).map) (all_purged heap))
   maximizes =
       let mid = all_purged heap in
       let purged = all_emptied s (candidates_in heap.table [] heap.map) heap sound (λ h c. (candidate-is heap.table [] heap.map h c).may) in
@@ -81,7 +83,7 @@ module _ (s : Shape) (heap : Heap) (sound : Sound s heap) where
       }
 
   -- CompactMem
-  compacts : (n : ℕ) → QuietFacts s heap (memory_call.CompactMem n) (with_map (compacted heap.table n heap.map) heap)
+  compacts : (n : ℕ) → QuietFacts s heap (memory_call.OnZone (zone_call.CompactMem n)) (with_map (compacted heap.table n heap.map) heap)
   compacts n = let after = Sound-compacted s heap.table n heap sound in
       record { permitted = (record { table = refl; map = compacted-Rearranged s heap.table n heap.map; suits = after.suits }, refl); sound = after }
 
@@ -90,32 +92,32 @@ module _ (s : Shape) (heap : Heap) (sound : Sound s heap) where
   moves h = let after = Sound-moved_high s heap.table h heap sound in record { table = refl; map = moved_high-Rearranged s heap.table h heap.map; suits = after.suits }
 
   -- and locked
-  locks_high : (h : ℕ) → refusal s heap (memory_call.HLockHi h) ≡ None → QuietFacts s heap (memory_call.HLockHi h) (effect_of s (memory_call.HLockHi h) (with_map (moved_high heap.table h heap.map) heap))
+  locks_high : (h : ℕ) → refusal s heap (memory_call.OnBlock (block_call.HLockHi h)) ≡ None → QuietFacts s heap (memory_call.OnBlock (block_call.HLockHi h)) (effect_of s (memory_call.OnBlock (block_call.HLockHi h)) (with_map (moved_high heap.table h heap.map) heap))
   locks_high h is =
       let mid = with_map (moved_high heap.table h heap.map) heap in
       record {
-        permitted = (mid, moves h, same_heap (effect_of s (memory_call.HLockHi h) mid), refl);
+        permitted = (mid, moves h, same_heap (effect_of s (memory_call.OnBlock (block_call.HLockHi h)) mid), refl);
         sound = sound-flagged s mid h (record (flags_of heap.table h) { lock = true }) (NotLocked MemLockedErr h ∷ []) (Sound-moved_high s heap.table h heap sound) is;
       }
 
   -- the step of each call that makes no request
   pub quiet-facts : (call : MemoryCall) → refusal s heap call ≡ None → QuietFacts s heap call (effect_of s call (rearranged call heap))
-  quiet-facts (memory_call.CompactMem n) is = compacts n
-  quiet-facts (memory_call.PurgeMem n) is = purges n
-  quiet-facts memory_call.MaxMem is = maximizes
-  quiet-facts (memory_call.MoveHHi h) is = record { permitted = (moves h, refl); sound = Sound-moved_high s heap.table h heap sound }
-  quiet-facts (memory_call.HLockHi h) is = locks_high h is
-  quiet-facts (memory_call.DisposeHandle h) is = record { permitted = (same_heap _, refl); sound = sound-DisposeHandle s heap h sound is }
-  quiet-facts (memory_call.DisposePtr p) is = record { permitted = (same_heap _, refl); sound = sound-DisposePtr s heap p sound is }
-  quiet-facts (memory_call.EmptyHandle h) is = record { permitted = (same_heap _, refl); sound = sound-EmptyHandle s heap h sound is }
-  quiet-facts (memory_call.HLock h) is = record { permitted = (same_heap _, refl); sound = sound-flagged s heap h (record (flags_of heap.table h) { lock = true }) [] sound is }
-  quiet-facts (memory_call.HUnlock h) is = record { permitted = (same_heap _, refl); sound = sound-flagged s heap h (record (flags_of heap.table h) { lock = false }) (NotLent h ∷ []) sound is }
-  quiet-facts (memory_call.HPurge h) is = record { permitted = (same_heap _, refl); sound = sound-flagged s heap h (record (flags_of heap.table h) { purge = true }) [] sound is }
-  quiet-facts (memory_call.HNoPurge h) is = record { permitted = (same_heap _, refl); sound = sound-flagged s heap h (record (flags_of heap.table h) { purge = false }) [] sound is }
-  quiet-facts (memory_call.HSetRBit h) is = record { permitted = (same_heap _, refl); sound = sound-flagged s heap h (record (flags_of heap.table h) { resource = true }) [] sound is }
-  quiet-facts (memory_call.HClrRBit h) is = record { permitted = (same_heap _, refl); sound = sound-flagged s heap h (record (flags_of heap.table h) { resource = false }) [] sound is }
-  quiet-facts (memory_call.HSetState h n) is = record { permitted = (same_heap _, refl); sound = sound-flagged s heap h (flags_from n) (IsState n ∷ KeepsLent h n ∷ []) sound is }
-  quiet-facts (memory_call.Poke x at bytes) is = record { permitted = (same_heap _, refl); sound = sound-Poke s heap x at bytes sound is }
-  quiet-facts (memory_call.BlockMove x at y to n) is = record { permitted = (same_heap _, refl); sound = sound-BlockMove s heap x at y to n sound is }
-  quiet-facts memory_call.MaxApplZone is = record { permitted = (same_heap _, refl); sound = sound-grown s heap sound }
+  quiet-facts (memory_call.OnZone (zone_call.CompactMem n)) is = compacts n
+  quiet-facts (memory_call.OnZone (zone_call.PurgeMem n)) is = purges n
+  quiet-facts (memory_call.OnZone zone_call.MaxMem) is = maximizes
+  quiet-facts (memory_call.OnBlock (block_call.MoveHHi h)) is = record { permitted = (moves h, refl); sound = Sound-moved_high s heap.table h heap sound }
+  quiet-facts (memory_call.OnBlock (block_call.HLockHi h)) is = locks_high h is
+  quiet-facts (memory_call.OnBlock (block_call.DisposeHandle h)) is = record { permitted = (same_heap _, refl); sound = sound-DisposeHandle s heap h sound is }
+  quiet-facts (memory_call.OnBlock (block_call.DisposePtr p)) is = record { permitted = (same_heap _, refl); sound = sound-DisposePtr s heap p sound is }
+  quiet-facts (memory_call.OnBlock (block_call.EmptyHandle h)) is = record { permitted = (same_heap _, refl); sound = sound-EmptyHandle s heap h sound is }
+  quiet-facts (memory_call.OnBlock (block_call.HLock h)) is = record { permitted = (same_heap _, refl); sound = sound-flagged s heap h (record (flags_of heap.table h) { lock = true }) [] sound is }
+  quiet-facts (memory_call.OnBlock (block_call.HUnlock h)) is = record { permitted = (same_heap _, refl); sound = sound-flagged s heap h (record (flags_of heap.table h) { lock = false }) (NotLent h ∷ []) sound is }
+  quiet-facts (memory_call.OnBlock (block_call.HPurge h)) is = record { permitted = (same_heap _, refl); sound = sound-flagged s heap h (record (flags_of heap.table h) { purge = true }) [] sound is }
+  quiet-facts (memory_call.OnBlock (block_call.HNoPurge h)) is = record { permitted = (same_heap _, refl); sound = sound-flagged s heap h (record (flags_of heap.table h) { purge = false }) [] sound is }
+  quiet-facts (memory_call.OnBlock (block_call.HSetRBit h)) is = record { permitted = (same_heap _, refl); sound = sound-flagged s heap h (record (flags_of heap.table h) { resource = true }) [] sound is }
+  quiet-facts (memory_call.OnBlock (block_call.HClrRBit h)) is = record { permitted = (same_heap _, refl); sound = sound-flagged s heap h (record (flags_of heap.table h) { resource = false }) [] sound is }
+  quiet-facts (memory_call.OnBlock (block_call.HSetState h n)) is = record { permitted = (same_heap _, refl); sound = sound-flagged s heap h (flags_from n) (IsState n ∷ KeepsLent h n ∷ []) sound is }
+  quiet-facts (memory_call.OnBlock (block_call.Poke x at bytes)) is = record { permitted = (same_heap _, refl); sound = sound-Poke s heap x at bytes sound is }
+  quiet-facts (memory_call.OnBlock (block_call.BlockMove x at y to n)) is = record { permitted = (same_heap _, refl); sound = sound-BlockMove s heap x at y to n sound is }
+  quiet-facts (memory_call.OnZone zone_call.MaxApplZone) is = record { permitted = (same_heap _, refl); sound = sound-grown s heap sound }
   quiet-facts call is = record { permitted = (same_heap heap, refl); sound = sound }

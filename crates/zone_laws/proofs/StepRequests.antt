@@ -13,6 +13,8 @@ use Rattle.mac_base.specs.Heap.{Heap, with_table}
 use Rattle.mac_base.specs.Sound.{Sound}
 use Rattle.mac_base.specs.declared.memory_call.MemoryCall.{MemoryCall}
 use Rattle.mac_base.specs.declared.memory_call.MemoryCall.TheVariants as memory_call
+use Rattle.mac_base.specs.declared.memory_call.FillingCall.TheVariants as filling_call
+use Rattle.mac_base.specs.declared.memory_call.RequestingCall.TheVariants as requesting_call
 use Rattle.mac_base.specs.Tests.{IsHandle, IsPointer, NotEmpty, NotLent, NotLocked, IsSize, IsWithin, first_refusal, refusal, protected_by}
 use Rattle.mac_base.specs.Effect.{request_of, table_copied}
 use Rattle.zone_laws.proofs.SoundWritten.{sound-written}
@@ -90,28 +92,28 @@ module _ (s : Shape) (heap : Heap) where
 
   -- a call that isn't refused asks so
   pub asks-soundly : (call : MemoryCall) → refusal s heap call ≡ None → MatchOption (request_of heap.table call) ⊤ (AsksSoundly s heap call)
-  asks-soundly (memory_call.NewHandle n) is = record { guards = tt; operand = tt; copied = λ x after sound gives. sound }
-  asks-soundly memory_call.NewEmptyHandle is = record { guards = tt; operand = tt; copied = λ x after sound gives. sound }
-  asks-soundly (memory_call.NewPtr n) is = record { guards = tt; operand = tt; copied = λ x after sound gives. sound }
-  asks-soundly memory_call.MoreMasters is = record { guards = tt; operand = tt; copied = λ x after sound gives. sound }
-  asks-soundly (memory_call.ReserveMem n) is = record { guards = tt; operand = tt; copied = λ x after sound gives. sound }
-  asks-soundly (memory_call.SetHandleSize h n) is =
+  asks-soundly (memory_call.Requesting (requesting_call.NewHandle n)) is = record { guards = tt; operand = tt; copied = λ x after sound gives. sound }
+  asks-soundly (memory_call.Requesting requesting_call.NewEmptyHandle) is = record { guards = tt; operand = tt; copied = λ x after sound gives. sound }
+  asks-soundly (memory_call.Requesting (requesting_call.NewPtr n)) is = record { guards = tt; operand = tt; copied = λ x after sound gives. sound }
+  asks-soundly (memory_call.Requesting requesting_call.MoreMasters) is = record { guards = tt; operand = tt; copied = λ x after sound gives. sound }
+  asks-soundly (memory_call.Requesting (requesting_call.ReserveMem n)) is = record { guards = tt; operand = tt; copied = λ x after sound gives. sound }
+  asks-soundly (memory_call.Requesting (requesting_call.SetHandleSize h n)) is =
       let one = first_passed s heap (IsHandle h) (NotEmpty h ∷ NotLent h ∷ IsSize n ∷ []) is in
       let two = first_passed s heap (NotEmpty h) (NotLent h ∷ IsSize n ∷ []) one.1 in
       record { guards = first_among h []; operand = passed-NotEmpty s heap h two.0; copied = λ x after sound gives. sound }
-  asks-soundly (memory_call.SetPtrSize p n) is =
+  asks-soundly (memory_call.Requesting (requesting_call.SetPtrSize p n)) is =
       let one = first_passed s heap (IsPointer p) (NotLent p ∷ IsSize n ∷ []) is in
       record { guards = first_among p []; operand = or_right (is_full heap.table p) (is_pointer heap.table p) (passed-IsPointer s heap p one.0); copied = λ x after sound gives. sound }
-  asks-soundly (memory_call.ReallocateHandle h n) is =
+  asks-soundly (memory_call.Requesting (requesting_call.ReallocateHandle h n)) is =
       let one = first_passed s heap (IsHandle h) (NotLent h ∷ NotLocked MemPurErr h ∷ IsSize n ∷ []) is in
       record { guards = first_among h []; operand = (passed-IsHandle s heap h one.0).1; copied = λ x after sound gives. sound }
-  asks-soundly (memory_call.HandToHand h) is = record { guards = tt; operand = tt; copied = λ x after sound gives. copied-block s after x (length (bytes_of heap.table h)) (bytes_of heap.table h) sound gives refl }
-  asks-soundly (memory_call.PtrToHand p n) is =
+  asks-soundly (memory_call.Filling (filling_call.HandToHand h)) is = record { guards = tt; operand = tt; copied = λ x after sound gives. copied-block s after x (length (bytes_of heap.table h)) (bytes_of heap.table h) sound gives refl }
+  asks-soundly (memory_call.Filling (filling_call.PtrToHand p n)) is =
       record { guards = tt; operand = tt; copied = λ x after sound gives. copied-block s after x n (take n (bytes_of heap.table p)) sound gives (length-taken n (bytes_of heap.table p) (pointer_bytes p n is)) }
-  asks-soundly (memory_call.PtrToXHand p h n) is =
+  asks-soundly (memory_call.Filling (filling_call.PtrToXHand p h n)) is =
       let known = copies p h n is in
       record { guards = second_among p h; operand = known.block; copied = λ x after sound gives. copied-block s after h n (take n (bytes_of heap.table p)) sound gives (length-taken n (bytes_of heap.table p) known.within) }
-  asks-soundly (memory_call.PtrAndHand p h n) is =
+  asks-soundly (memory_call.Filling (filling_call.PtrAndHand p h n)) is =
       let known = copies p h n is in
       record {
         guards = second_among p h;
@@ -119,15 +121,15 @@ module _ (s : Shape) (heap : Heap) where
         copied = λ x after sound gives. copied-block s after h (length (bytes_of heap.table h) + n) (bytes_of heap.table h ++ take n (bytes_of heap.table p)) sound gives
             (length-append (bytes_of heap.table h) (take n (bytes_of heap.table p)) ∙ ap (λ k. length (bytes_of heap.table h) + k) (length-taken n (bytes_of heap.table p) known.within));
       }
-  asks-soundly (memory_call.NewHandleOf bytes) is = record { guards = tt; operand = tt; copied = λ x after sound gives. copied-block s after x (length bytes) bytes sound gives refl }
-  asks-soundly (memory_call.SetHandleTo h bytes) is =
+  asks-soundly (memory_call.Filling (filling_call.NewHandleOf bytes)) is = record { guards = tt; operand = tt; copied = λ x after sound gives. copied-block s after x (length bytes) bytes sound gives refl }
+  asks-soundly (memory_call.Filling (filling_call.SetHandleTo h bytes)) is =
       record { guards = first_among h []; operand = brought_block h (length bytes) is; copied = λ x after sound gives. copied-block s after h (length bytes) bytes sound gives refl }
-  asks-soundly (memory_call.Append h bytes) is = record {
+  asks-soundly (memory_call.Filling (filling_call.Append h bytes)) is = record {
     guards = first_among h [];
     operand = brought_block h (length bytes) is;
     copied = λ x after sound gives. copied-block s after h (length (bytes_of heap.table h) + length bytes) (bytes_of heap.table h ++ bytes) sound gives (length-append (bytes_of heap.table h) bytes);
   }
-  asks-soundly (memory_call.HandAndHand a b) is = record {
+  asks-soundly (memory_call.Filling (filling_call.HandAndHand a b)) is = record {
     guards = second_among a b;
     operand = second_block a b is;
     copied = λ x after sound gives. copied-block s after b (length (bytes_of heap.table b) + length (bytes_of heap.table a)) (bytes_of heap.table b ++ bytes_of heap.table a) sound gives (length-append (bytes_of heap.table b) (bytes_of heap.table a));

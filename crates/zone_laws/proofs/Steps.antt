@@ -7,7 +7,9 @@ use Rattle.mac_base.specs.HandleTable.{bytes_of, with_bytes}
 use Rattle.mac_base.specs.Heap.{Heap, with_table}
 use Rattle.mac_base.specs.Trial.{SameHeap}
 use Rattle.mac_base.specs.declared.memory_call.MemoryCall.{MemoryCall}
-use Rattle.mac_base.specs.declared.memory_call.MemoryCall.TheVariants.{Poke, Peek, ZoneMap as WalkZone}
+use Rattle.mac_base.specs.declared.memory_call.MemoryCall.TheVariants.{OnBlock, Showing}
+use Rattle.mac_base.specs.declared.memory_call.BlockCall.TheVariants.{Poke}
+use Rattle.mac_base.specs.declared.memory_call.ShowingCall.TheVariants.{Peek, ZoneMap as WalkZone}
 use Rattle.mac_base.specs.Tests.{refusal}
 use Rattle.mac_base.specs.Effect.{request_of}
 use Rattle.mac_base.specs.ZoneState.{written}
@@ -31,10 +33,10 @@ module _ (Run : RunRelation) where
   step-quiet s heap call outcome new is none quiet = subst (λ o. StepUnless Run o s heap call [] outcome new) (sym is) (subst (λ r. StepAsking Run r s heap call [] outcome new) (sym none) (refl, quiet))
 
   -- Poke writes the bytes
-  pub step-Poke : (s : Shape) (heap : Heap) (x at : ℕ) (bytes : List ℕ) → refusal s heap (Poke x at bytes) ≡ None
-      → StepBy Run s heap (Poke x at bytes) [] (Ok Nothing) (with_table (with_bytes x (written at bytes (bytes_of heap.table x)) heap.table) heap)
-  step-Poke s heap x at bytes is = step-quiet s heap (Poke x at bytes) (Ok Nothing) (with_table (with_bytes x (written at bytes (bytes_of heap.table x)) heap.table) heap) is refl (record { table = refl; map = refl }, refl)
+  pub step-Poke : (s : Shape) (heap : Heap) (x at : ℕ) (bytes : List ℕ) → refusal s heap (OnBlock (Poke x at bytes)) ≡ None
+      → StepBy Run s heap (OnBlock (Poke x at bytes)) [] (Ok Nothing) (with_table (with_bytes x (written at bytes (bytes_of heap.table x)) heap.table) heap)
+  step-Poke s heap x at bytes is = step-quiet s heap (OnBlock (Poke x at bytes)) (Ok Nothing) (with_table (with_bytes x (written at bytes (bytes_of heap.table x)) heap.table) heap) is refl (record { table = refl; map = refl }, refl)
 
   -- Peek gives the bytes, and changes nothing
-  pub step-Peek : (s : Shape) (heap : Heap) (x at n : ℕ) → refusal s heap (Peek x at n) ≡ None → StepBy Run s heap (Peek x at n) [] (Ok (Bytes (take n (drop at (bytes_of heap.table x))))) heap
-  step-Peek s heap x at n is = step-quiet s heap (Peek x at n) (Ok (Bytes (take n (drop at (bytes_of heap.table x))))) heap is refl (same_heap heap, refl)
+  pub step-Peek : (s : Shape) (heap : Heap) (x at n : ℕ) → refusal s heap (Showing (Peek x at n)) ≡ None → StepBy Run s heap (Showing (Peek x at n)) [] (Ok (Bytes (take n (drop at (bytes_of heap.table x))))) heap
+  step-Peek s heap x at n is = step-quiet s heap (Showing (Peek x at n)) (Ok (Bytes (take n (drop at (bytes_of heap.table x))))) heap is refl (same_heap heap, refl)

@@ -8,7 +8,8 @@ use Rattle.mac_base.specs.Releasing.{operand_of}
 use Rattle.mac_base.specs.Sound.{Sound}
 use Rattle.mac_base.specs.declared.releasing.ReleasingCall.{ReleasingCall}
 use Rattle.mac_base.specs.declared.memory_call.MemoryCall.{MemoryCall}
-use Rattle.mac_base.specs.declared.memory_call.MemoryCall.TheVariants.{Append, NewHandleOf, PtrAndHand, PtrToHand, PtrToXHand, SetHandleTo}
+use Rattle.mac_base.specs.declared.memory_call.MemoryCall.TheVariants.{Filling}
+use Rattle.mac_base.specs.declared.memory_call.FillingCall.TheVariants.{Append, NewHandleOf, PtrAndHand, PtrToHand, PtrToXHand, SetHandleTo}
 use Rattle.mac_base.specs.ExactStep.{exact_step}
 use Rattle.mac_base.specs.GrowZone.{Answer}
 use Rattle.mac_base.specs.Tests.{refusal}
@@ -25,5 +26,5 @@ DoesAs s answers heap call other = refusal s heap call ≡ None → exact_step s
 -- answer would release p.
 abbrev pub CopiesAreBrought : Type 0
 CopiesAreBrought = (s : Shape) (answers : List Answer) (heap : Heap) (p h n : ℕ) → Sound s heap → n ≤ max_size → IsTrue (leave_alone p answers)
-    → (let bytes = take n (bytes_of heap.table p) in DoesAs s answers heap (PtrToHand p n) (NewHandleOf bytes)
-    × DoesAs s answers heap (PtrToXHand p h n) (SetHandleTo h bytes) × DoesAs s answers heap (PtrAndHand p h n) (Append h bytes))
+    → (let bytes = take n (bytes_of heap.table p) in DoesAs s answers heap (Filling (PtrToHand p n)) (Filling (NewHandleOf bytes))
+    × DoesAs s answers heap (Filling (PtrToXHand p h n)) (Filling (SetHandleTo h bytes)) × DoesAs s answers heap (Filling (PtrAndHand p h n)) (Filling (Append h bytes)))

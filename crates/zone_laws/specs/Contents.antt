@@ -6,7 +6,9 @@ use Rattle.mac_base.specs.Heap.{Heap, with_table}
 use Rattle.mac_base.specs.declared.loan_call.LoanCall.{LoanCall}
 use Rattle.mac_base.specs.declared.loan_call.LoanCall.TheVariants as loan_call
 use Rattle.mac_base.specs.declared.memory_call.MemoryCall.{MemoryCall}
-use Rattle.mac_base.specs.declared.memory_call.MemoryCall.TheVariants as memory_call
+use Rattle.mac_base.specs.declared.memory_call.MemoryCall.TheVariants.{Filling, OnBlock}
+use Rattle.mac_base.specs.declared.memory_call.BlockCall.TheVariants.{Poke}
+use Rattle.mac_base.specs.declared.memory_call.FillingCall.TheVariants.{NewHandleOf, SetHandleTo, Append}
 use Rattle.mac_base.specs.declared.reply.Results.{Results}
 use Rattle.mac_base.specs.declared.reply.Results.TheVariants as results
 use Rattle.mac_base.specs.ExactStep.{StepEnd, exact_step, heap_after, outcomes_to}
@@ -31,10 +33,10 @@ heap_ciphered cipher heap = with_table (table_ciphered cipher heap.table) heap
 
 -- the call with the bytes that it brings in the cipher
 abbrev pub call_ciphered : (ℕ → ℕ) → MemoryCall → MemoryCall
-call_ciphered cipher (memory_call.Poke x at bytes) = memory_call.Poke x at (map cipher bytes)
-call_ciphered cipher (memory_call.NewHandleOf bytes) = memory_call.NewHandleOf (map cipher bytes)
-call_ciphered cipher (memory_call.SetHandleTo h bytes) = memory_call.SetHandleTo h (map cipher bytes)
-call_ciphered cipher (memory_call.Append h bytes) = memory_call.Append h (map cipher bytes)
+call_ciphered cipher (OnBlock (Poke x at bytes)) = OnBlock (Poke x at (map cipher bytes))
+call_ciphered cipher (Filling (NewHandleOf bytes)) = Filling (NewHandleOf (map cipher bytes))
+call_ciphered cipher (Filling (SetHandleTo h bytes)) = Filling (SetHandleTo h (map cipher bytes))
+call_ciphered cipher (Filling (Append h bytes)) = Filling (Append h (map cipher bytes))
 call_ciphered cipher call = call
 
 -- the results with the bytes that they show in the cipher

@@ -11,7 +11,8 @@ use Rattle.mac_base.specs.Request.{candidates, candidates_in, fits, is_among, ma
 use Rattle.mac_base.specs.Heap.{Heap, every_slot_live}
 use Rattle.mac_base.specs.Trial.{Fails, SameHeap, Serves}
 use Rattle.mac_base.specs.declared.memory_call.MemoryCall.{MemoryCall}
-use Rattle.mac_base.specs.declared.memory_call.MemoryCall.TheVariants as memory_call
+use Rattle.mac_base.specs.declared.memory_call.MemoryCall.TheVariants.{OnZone}
+use Rattle.mac_base.specs.declared.memory_call.ZoneCall.TheVariants.{MaxMem, PurgeMem}
 use Rattle.mac_base.specs.Effect.{request_of}
 use Rattle.mac_base.specs.GrowZone.{Answer, Ask, carried_out, most_answers}
 use Rattle.mac_base.specs.Outcomes.{Outcome}
@@ -73,8 +74,8 @@ CameShort s old call asks x r = (before : List Ask) × (later : List Ask) × (at
 
 -- what a call purges x for: all at MaxMem, n bytes in one block at PurgeMem, and at any other a request that didn't fit
 abbrev pub PurgesFor : Shape → Heap → MemoryCall → List Ask → ℕ → Type 0
-PurgesFor s old memory_call.MaxMem asks x = ⊤
-PurgesFor s old (memory_call.PurgeMem n) asks x = IsFalse (nat_le n (largest_free old.map))
+PurgesFor s old (OnZone MaxMem) asks x = ⊤
+PurgesFor s old (OnZone (PurgeMem n)) asks x = IsFalse (nat_le n (largest_free old.map))
 PurgesFor s old call asks x = (r : Request) × CameShort s old call asks x r
 
 -- Why x lost its block: it was released by the call or an answer, or it was purged: unlocked, purgeable, no operand,
@@ -94,5 +95,5 @@ HadNoRoom s old call asks r new = (before : List Ask) × (last : List Ask) × (a
 -- Why a call gives memFullErr: at PurgeMem nothing is left to purge and no free block has n bytes; at any other a
 -- request had no room.
 abbrev pub MayBeFull : Shape → Heap → MemoryCall → List Ask → Heap → Type 0
-MayBeFull s old (memory_call.PurgeMem n) asks new = (candidates_in new.table [] new.map ≡ []) × IsFalse (nat_le n (largest_free new.map))
+MayBeFull s old (OnZone (PurgeMem n)) asks new = (candidates_in new.table [] new.map ≡ []) × IsFalse (nat_le n (largest_free new.map))
 MayBeFull s old call asks new = (r : Request) × HadNoRoom s old call asks r new

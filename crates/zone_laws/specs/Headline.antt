@@ -10,7 +10,8 @@ use Rattle.mac_base.specs.ZoneSizes.{ArePossible, ZoneSizes, shape_of}
 use Rattle.mac_base.specs.ZoneState.{written}
 use Rattle.mac_base.specs.declared.loan_call.LoanCall.TheVariants as loan_call
 use Rattle.mac_base.specs.declared.memory_call.MemoryCall.{MemoryCall}
-use Rattle.mac_base.specs.declared.memory_call.MemoryCall.TheVariants.{Deref}
+use Rattle.mac_base.specs.declared.memory_call.MemoryCall.TheVariants.{OnBlock}
+use Rattle.mac_base.specs.declared.memory_call.BlockCall.TheVariants.{Deref}
 use Rattle.mac_base.specs.declared.reply.Results.TheVariants.{Address, Bytes, Nothing}
 use Rattle.mac_base.specs.LoanStep.{held_bytes}
 use Rattle.mac_base.specs.Outcomes.{Outcome}
@@ -30,7 +31,7 @@ Shows at put = (x : ℕ) → IsTrue (has_block at.heap.table x) → bytes_shown 
 
 -- Deref gives the address of the contents
 abbrev pub TellsAddress : Shape → Heap → MemoryCall → Outcome → Type 0
-TellsAddress s heap (Deref h) (Ok r) = r ≡ Address (contents_of s h heap.map)
+TellsAddress s heap (OnBlock (Deref h)) (Ok r) = r ≡ Address (contents_of s h heap.map)
 TellsAddress s heap _ _ = ⊤
 
 -- the reply of an act that is done at this moment gives the bytes last put, the flags last set, and where contents are

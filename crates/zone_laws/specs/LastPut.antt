@@ -4,7 +4,11 @@ use Rattle.std.specs.Prelude.{◌≡◌, ℕ, ◌==◌, if◌then◌else◌, Lis
 use Rattle.mac_base.specs.HandleTable.{resized, zeros}
 use Rattle.mac_base.specs.ZoneState.{written}
 use Rattle.mac_base.specs.declared.memory_call.MemoryCall.{MemoryCall}
-use Rattle.mac_base.specs.declared.memory_call.MemoryCall.TheVariants as memory_call
+use Rattle.mac_base.specs.declared.memory_call.MemoryCall.TheVariants.{Filling, OnBlock, Requesting, Showing}
+use Rattle.mac_base.specs.declared.memory_call.BlockCall.TheVariants.{Poke, BlockMove, GetHandleSize, GetPtrSize}
+use Rattle.mac_base.specs.declared.memory_call.FillingCall.TheVariants.{HandToHand, PtrToHand, PtrToXHand, PtrAndHand, NewHandleOf, SetHandleTo, Append, HandAndHand}
+use Rattle.mac_base.specs.declared.memory_call.RequestingCall.TheVariants.{NewHandle, NewPtr, ReallocateHandle, SetHandleSize, SetPtrSize}
+use Rattle.mac_base.specs.declared.memory_call.ShowingCall.TheVariants.{Peek}
 use Rattle.mac_base.specs.declared.reply.Results.{Results}
 use Rattle.mac_base.specs.declared.reply.Results.TheVariants as results
 use Rattle.mac_base.specs.declared.loan_call.LoanCall.TheVariants as loan_call
@@ -27,21 +31,21 @@ number_in _ = 0
 
 -- what a call puts that succeeds with these results
 abbrev pub put_with : MemoryCall → Results → LastPut → LastPut
-put_with (memory_call.NewHandle n) r last = put (number_in r) (zeros n) last
-put_with (memory_call.NewPtr n) r last = put (number_in r) (zeros n) last
-put_with (memory_call.ReallocateHandle h n) r last = put h (zeros n) last
-put_with (memory_call.SetHandleSize h n) r last = put h (resized n (last h)) last
-put_with (memory_call.SetPtrSize p n) r last = put p (resized n (last p)) last
-put_with (memory_call.HandToHand h) r last = put (number_in r) (last h) last
-put_with (memory_call.PtrToHand p n) r last = put (number_in r) (take n (last p)) last
-put_with (memory_call.PtrToXHand p h n) r last = put h (take n (last p)) last
-put_with (memory_call.PtrAndHand p h n) r last = put h (last h ++ take n (last p)) last
-put_with (memory_call.NewHandleOf bytes) r last = put (number_in r) bytes last
-put_with (memory_call.SetHandleTo h bytes) r last = put h bytes last
-put_with (memory_call.Append h bytes) r last = put h (last h ++ bytes) last
-put_with (memory_call.HandAndHand a b) r last = put b (last b ++ last a) last
-put_with (memory_call.Poke x at bytes) r last = put x (written at bytes (last x)) last
-put_with (memory_call.BlockMove x at y to n) r last = put y (written to (take n (drop at (last x))) (last y)) last
+put_with (Requesting (NewHandle n)) r last = put (number_in r) (zeros n) last
+put_with (Requesting (NewPtr n)) r last = put (number_in r) (zeros n) last
+put_with (Requesting (ReallocateHandle h n)) r last = put h (zeros n) last
+put_with (Requesting (SetHandleSize h n)) r last = put h (resized n (last h)) last
+put_with (Requesting (SetPtrSize p n)) r last = put p (resized n (last p)) last
+put_with (Filling (HandToHand h)) r last = put (number_in r) (last h) last
+put_with (Filling (PtrToHand p n)) r last = put (number_in r) (take n (last p)) last
+put_with (Filling (PtrToXHand p h n)) r last = put h (take n (last p)) last
+put_with (Filling (PtrAndHand p h n)) r last = put h (last h ++ take n (last p)) last
+put_with (Filling (NewHandleOf bytes)) r last = put (number_in r) bytes last
+put_with (Filling (SetHandleTo h bytes)) r last = put h bytes last
+put_with (Filling (Append h bytes)) r last = put h (last h ++ bytes) last
+put_with (Filling (HandAndHand a b)) r last = put b (last b ++ last a) last
+put_with (OnBlock (Poke x at bytes)) r last = put x (written at bytes (last x)) last
+put_with (OnBlock (BlockMove x at y to n)) r last = put y (written to (take n (drop at (last x))) (last y)) last
 put_with _ r last = last
 
 -- what a call puts: nothing where it is refused
@@ -64,7 +68,7 @@ put_in (done ∷ later) last = put_in later (put_by_act done.act last)
 
 -- what the reply of a call shows of bytes, or says of their number, is true of those last put
 abbrev pub Tells : MemoryCall → Outcome → LastPut → Type 0
-Tells (memory_call.Peek x at n) (Ok r) last = r ≡ results.Bytes (take n (drop at (last x)))
-Tells (memory_call.GetHandleSize h) (Ok r) last = r ≡ results.Number (length (last h))
-Tells (memory_call.GetPtrSize p) (Ok r) last = r ≡ results.Number (length (last p))
+Tells (Showing (Peek x at n)) (Ok r) last = r ≡ results.Bytes (take n (drop at (last x)))
+Tells (OnBlock (GetHandleSize h)) (Ok r) last = r ≡ results.Number (length (last h))
+Tells (OnBlock (GetPtrSize p)) (Ok r) last = r ≡ results.Number (length (last p))
 Tells _ _ last = ⊤

@@ -4,7 +4,10 @@ use Rattle.mac_base.specs.declared.block.Flags.{Flags}
 use Rattle.mac_base.specs.FlagState.{flags_from, state_of}
 use Rattle.mac_base.specs.HandleTable.{HandleTable, flags_of, is_full, no_flags}
 use Rattle.mac_base.specs.declared.memory_call.MemoryCall.{MemoryCall}
-use Rattle.mac_base.specs.declared.memory_call.MemoryCall.TheVariants as memory_call
+use Rattle.mac_base.specs.declared.memory_call.MemoryCall.TheVariants.{Filling, OnBlock, Requesting}
+use Rattle.mac_base.specs.declared.memory_call.BlockCall.TheVariants.{HLock, HLockHi, HUnlock, HPurge, HNoPurge, HSetRBit, HClrRBit, HSetState, HGetState}
+use Rattle.mac_base.specs.declared.memory_call.FillingCall.TheVariants.{HandToHand, PtrToHand, NewHandleOf}
+use Rattle.mac_base.specs.declared.memory_call.RequestingCall.TheVariants.{NewHandle, ReallocateHandle}
 use Rattle.mac_base.specs.declared.reply.Results.{Results}
 use Rattle.mac_base.specs.declared.reply.Results.TheVariants as results
 use Rattle.mac_base.specs.Outcomes.{Outcome}
@@ -21,19 +24,19 @@ set x flags last = λ (y : ℕ). if y == x then flags else last y
 
 -- what a call sets that succeeds with these results: a new block has no flags
 abbrev pub set_with : MemoryCall → Results → LastSet → LastSet
-set_with (memory_call.NewHandle n) r last = set (number_in r) no_flags last
-set_with (memory_call.HandToHand h) r last = set (number_in r) no_flags last
-set_with (memory_call.PtrToHand p n) r last = set (number_in r) no_flags last
-set_with (memory_call.NewHandleOf bytes) r last = set (number_in r) no_flags last
-set_with (memory_call.ReallocateHandle h n) r last = set h no_flags last
-set_with (memory_call.HLock h) r last = set h (record (last h) { lock = true }) last
-set_with (memory_call.HLockHi h) r last = set h (record (last h) { lock = true }) last
-set_with (memory_call.HUnlock h) r last = set h (record (last h) { lock = false }) last
-set_with (memory_call.HPurge h) r last = set h (record (last h) { purge = true }) last
-set_with (memory_call.HNoPurge h) r last = set h (record (last h) { purge = false }) last
-set_with (memory_call.HSetRBit h) r last = set h (record (last h) { resource = true }) last
-set_with (memory_call.HClrRBit h) r last = set h (record (last h) { resource = false }) last
-set_with (memory_call.HSetState h n) r last = set h (flags_from n) last
+set_with (Requesting (NewHandle n)) r last = set (number_in r) no_flags last
+set_with (Filling (HandToHand h)) r last = set (number_in r) no_flags last
+set_with (Filling (PtrToHand p n)) r last = set (number_in r) no_flags last
+set_with (Filling (NewHandleOf bytes)) r last = set (number_in r) no_flags last
+set_with (Requesting (ReallocateHandle h n)) r last = set h no_flags last
+set_with (OnBlock (HLock h)) r last = set h (record (last h) { lock = true }) last
+set_with (OnBlock (HLockHi h)) r last = set h (record (last h) { lock = true }) last
+set_with (OnBlock (HUnlock h)) r last = set h (record (last h) { lock = false }) last
+set_with (OnBlock (HPurge h)) r last = set h (record (last h) { purge = true }) last
+set_with (OnBlock (HNoPurge h)) r last = set h (record (last h) { purge = false }) last
+set_with (OnBlock (HSetRBit h)) r last = set h (record (last h) { resource = true }) last
+set_with (OnBlock (HClrRBit h)) r last = set h (record (last h) { resource = false }) last
+set_with (OnBlock (HSetState h n)) r last = set h (flags_from n) last
 set_with _ r last = last
 
 -- what a call sets: nothing where it is refused
@@ -58,5 +61,5 @@ HasFlags t last = (h : ℕ) → IsTrue (is_full t h) → flags_of t h ≡ last h
 
 -- HGetState gives the flags last set
 abbrev pub TellsFlags : MemoryCall → Outcome → LastSet → Type 0
-TellsFlags (memory_call.HGetState h) (Ok r) last = r ≡ results.Number (state_of (last h))
+TellsFlags (OnBlock (HGetState h)) (Ok r) last = r ≡ results.Number (state_of (last h))
 TellsFlags _ _ last = ⊤

@@ -10,14 +10,14 @@ use Rattle.zone_heap.proofs.size.grows_to.Goals as goal
 use Rattle.zone_heap.proofs.size.grows_to.Goals.{After-entry_at-size}
 
 -- the block
-abbrev standing : (c : After-entry_at-size) → Standing c.args.zone.now c.args.block 0 (need c.args.zone.now.shape.heads 0) c.place_of.result
-standing c = record { sound = c.requires.sound.sound; block = c.requires.block; named = (rw c.linked-linked.ensures at c.place_of.ensures); size = refl }
+abbrev standing : (c : After-entry_at-size) → Standing c.args.zone.now c.args.block 0 (need c.args.zone.now.shape.heads 0) c.address_of.result
+standing c = record { sound = c.requires.sound.sound; block = c.requires.block; named = (rw c.linked-linked.ensures at c.address_of.ensures); size = refl }
 
 -- has this size
 size_is : (c : After-entry_at-size) → c.entry_at-size.result.size ≡ size_of c.args.block c.args.zone.now.heap.map
 size_is c =
     let z = c.args.zone.now in
-    ap (λ (e : Entry). e.size) ((rw c.linked-linked.ensures at c.entry_at-size.ensures) (entry_named (rw c.linked-linked.ensures at c.place_of.ensures))) ∙ size-there z c.args.block 0 (need z.shape.heads 0) c.place_of.result (standing c)
+    ap (λ (e : Entry). e.size) ((rw c.linked-linked.ensures at c.entry_at-size.ensures) (entry_named (rw c.linked-linked.ensures at c.address_of.ensures))) ∙ size-there z c.args.block 0 (need z.shape.heads 0) c.address_of.result (standing c)
 
 pub returns-then-needed-size-clause-grows : goal.returns-then-needed-size-clause-grows
 returns-then-needed-size-clause-grows c =

@@ -4,11 +4,11 @@ use Rattle.linked_zone.proofs.EndsCopied.{copy-can, copy-ends}
 use Rattle.linked_zone.proofs.zone.LinkedZone.copy.Goals as goal
 
 pub copy-requires : goal.copy-requires
-copy-requires c = copy-can _ _ (stands-now c.self.invariant c.self.view_is) c.args.from c.args.start c.args.to c.args.offset c.args.count c.place_of-source.result c.place_of-target.result c.requires c.place_of-source.ensures c.place_of-target.ensures
+copy-requires c = copy-can _ _ (stands-now c.self.invariant c.self.view_is) c.args.from c.args.start c.args.to c.args.offset c.args.count c.address_of-source.result c.address_of-target.result c.requires c.address_of-source.ensures c.address_of-target.ensures
 
 -- how it ends
 ends : (c : goal.After-copy) → Kept c.copy.new.self (copied c.args.from c.args.start c.args.to c.args.offset c.args.count c.args.self.now)
-ends c = copy-ends _ _ (stands-now c.self.invariant c.self.view_is) c.args.from c.args.start c.args.to c.args.offset c.args.count c.place_of-source.result c.place_of-target.result c.requires c.place_of-source.ensures c.place_of-target.ensures c.copy.new.self c.copy.ensures
+ends c = copy-ends _ _ (stands-now c.self.invariant c.self.view_is) c.args.from c.args.start c.args.to c.args.offset c.args.count c.address_of-source.result c.address_of-target.result c.requires c.address_of-source.ensures c.address_of-target.ensures c.copy.new.self c.copy.ensures
 
 pub invariant_of-self : goal.invariant_of-self
 invariant_of-self c = (ends c).inside

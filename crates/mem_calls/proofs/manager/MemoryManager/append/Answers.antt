@@ -2,7 +2,8 @@ use Rattle.std.proofs.Common.{◌≡◌, ◌+◌, ◌++◌, length, take, Some, 
 use Rattle.mac_base.specs.ZoneState.{ZoneState}
 use Rattle.mac_base.specs.HandleTable.{HandleTable, bytes_of, with_bytes}
 use Rattle.mac_base.specs.declared.request.Request.TheVariants.{Resize}
-use Rattle.mac_base.specs.declared.memory_call.MemoryCall.TheVariants.{Append}
+use Rattle.mac_base.specs.declared.memory_call.MemoryCall.TheVariants.{Filling}
+use Rattle.mac_base.specs.declared.memory_call.FillingCall.TheVariants.{Append}
 use Rattle.mac_base.specs.Outcomes.{done_outcome}
 use Rattle.mem_calls.proofs.Copies.{whole}
 use Rattle.mem_calls.proofs.KeptLoans.{kept}
@@ -17,9 +18,9 @@ returns g c =
     let offset = c.length-length.result in
     let long : offset ≡ length (bytes_of entry h) = rw c.number-block.ensures at rw c.linked.ensures.zone at c.length-length.ensures in
     let run = rw c.number-block.ensures at c.bring_after.ensures.run in
-    let exact = exact-copied c.args.self.now c.self.inside.zone c.bring_after.new.zone c.self.view_is c.bring_after.ensures.sound (Append h bytes) c.in_ok-test_handle_for.ensures.tests
+    let exact = exact-copied c.args.self.now c.self.inside.zone c.bring_after.new.zone c.self.view_is c.bring_after.ensures.sound (Filling (Append h bytes)) c.in_ok-test_handle_for.ensures.tests
     (Resize h (offset + length bytes)) (take offset (bytes_of entry h) ++ bytes) (g.G.GrowZone.asks c.bring_after.new.procedure) run.0 (done_outcome c.bring_after.result)
     (ap (λ k. Some (Resize h (k + length bytes))) (sym long))
     (λ x (t : HandleTable). ap (λ front. with_bytes h (front ++ bytes) t) (whole offset (bytes_of entry h) long))
-    run.2 (done_ends (Append h bytes) (λ x. refl) c.bring_after.result run.0 run.1) in
-    record { exact = exact; step = step-exact c.args.self.now c.self.inside.zone c.bring_after.new.zone c.self.view_is c.bring_after.ensures.sound (Append c.args.handle c.args.bytes.now) (g.G.GrowZone.asks c.bring_after.new.procedure) (done_outcome c.bring_after.result) exact; source = c.bring_after.ensures.source; shape = c.bring_after.ensures.shape ∙ ap (λ (z : ZoneState). z.shape) c.self.view_is; loans = kept c.bring_after.ensures.loans c.self.view_is }
+    run.2 (done_ends (Filling (Append h bytes)) (λ x. refl) c.bring_after.result run.0 run.1) in
+    record { exact = exact; step = step-exact c.args.self.now c.self.inside.zone c.bring_after.new.zone c.self.view_is c.bring_after.ensures.sound (Filling (Append c.args.handle c.args.bytes.now)) (g.G.GrowZone.asks c.bring_after.new.procedure) (done_outcome c.bring_after.result) exact; source = c.bring_after.ensures.source; shape = c.bring_after.ensures.shape ∙ ap (λ (z : ZoneState). z.shape) c.self.view_is; loans = kept c.bring_after.ensures.loans c.self.view_is }

@@ -1,7 +1,8 @@
 use Rattle.std.proofs.Common.{[], ◌∷◌, refl, ap, ◌∙◌}
 use Rattle.mac_base.specs.ZoneState.{ZoneState}
 use Rattle.mem_calls.proofs.Passing.{passed-reallocate_handle, refused-first, refused-later}
-use Rattle.mac_base.specs.declared.memory_call.MemoryCall.TheVariants.{ReallocateHandle}
+use Rattle.mac_base.specs.declared.memory_call.MemoryCall.TheVariants.{Requesting}
+use Rattle.mac_base.specs.declared.memory_call.RequestingCall.TheVariants.{ReallocateHandle}
 use Rattle.mac_base.specs.declared.request.Request.TheVariants.{Replace}
 use Rattle.mac_base.specs.Outcomes.{done_outcome}
 use Rattle.mac_base.specs.declared.error.OsErr.TheVariants.{MemPurErr}
@@ -12,22 +13,22 @@ use Rattle.mem_calls.proofs.manager.MemoryManager.reallocate_handle.Goals as goa
 
 pub returns : goal.returns
 returns g c =
-    let exact = exact-requested c.args.self.now c.self.inside.zone c.request.new.zone c.self.view_is c.request.ensures.sound (ReallocateHandle c.args.handle c.args.size) (passed-reallocate_handle c.self.inside.zone.shape c.self.inside.zone.heap c.args.handle c.args.size c.in_ok-test_handle_here.ensures c.in_ok-test_unlocked.ensures
+    let exact = exact-requested c.args.self.now c.self.inside.zone c.request.new.zone c.self.view_is c.request.ensures.sound (Requesting (ReallocateHandle c.args.handle c.args.size)) (passed-reallocate_handle c.self.inside.zone.shape c.self.inside.zone.heap c.args.handle c.args.size c.in_ok-test_handle_here.ensures c.in_ok-test_unlocked.ensures
     c.in_ok-test_size.ensures)
     (Replace c.args.handle c.args.size) (g.G.GrowZone.asks c.request.new.procedure) c.request.result (done_outcome c.map.result) refl (λ x t. refl) (rw c.number.ensures at c.request.ensures.run)
-    (done_ends (ReallocateHandle c.args.handle c.args.size) (λ x. refl) c.map.result c.request.result (mapped_done c.request.result c.map.result _ c.map.ensures.cases)) in
-    record { exact = exact; step = step-exact c.args.self.now c.self.inside.zone c.request.new.zone c.self.view_is c.request.ensures.sound (ReallocateHandle c.args.handle c.args.size) (g.G.GrowZone.asks c.request.new.procedure) (done_outcome c.map.result) exact; source = c.request.ensures.source; shape = c.request.ensures.shape ∙ ap (λ (z : ZoneState). z.shape) c.self.view_is; loans = kept c.request.ensures.loans c.self.view_is }
+    (done_ends (Requesting (ReallocateHandle c.args.handle c.args.size)) (λ x. refl) c.map.result c.request.result (mapped_done c.request.result c.map.result _ c.map.ensures.cases)) in
+    record { exact = exact; step = step-exact c.args.self.now c.self.inside.zone c.request.new.zone c.self.view_is c.request.ensures.sound (Requesting (ReallocateHandle c.args.handle c.args.size)) (g.G.GrowZone.asks c.request.new.procedure) (done_outcome c.map.result) exact; source = c.request.ensures.source; shape = c.request.ensures.shape ∙ ap (λ (z : ZoneState). z.shape) c.self.view_is; loans = kept c.request.ensures.loans c.self.view_is }
 
 pub returns-in_err-test_handle_here : goal.returns-in_err-test_handle_here
 returns-in_err-test_handle_here g c = let end = c.from_residual in
-    let both = both-refused c.args.self.now c.self.inside.zone c.self.view_is (ReallocateHandle c.args.handle c.args.size) c.in_err-test_handle_here.field-0.0 (g.G.GrowZone.asks c.args.procedure.now) (done_outcome end.result)
+    let both = both-refused c.args.self.now c.self.inside.zone c.self.view_is (Requesting (ReallocateHandle c.args.handle c.args.size)) c.in_err-test_handle_here.field-0.0 (g.G.GrowZone.asks c.args.procedure.now) (done_outcome end.result)
     (refused-first c.self.inside.zone.shape c.self.inside.zone.heap (IsHandle c.args.handle ∷ NotLent c.args.handle ∷ []) (NotLocked MemPurErr c.args.handle ∷ IsSize c.args.size ∷ []) c.in_err-test_handle_here.field-0.0 c.in_err-test_handle_here.ensures)
     c.requires (refused_outcome done_outcome (λ code. refl) end.result c.in_err-test_handle_here.field-0.0 end.ensures.1) in
     record { exact = both.0; step = both.1; source = refl; shape = refl; loans = (refl, λ x loan held. held) }
 
 pub returns-in_err-test_unlocked : goal.returns-in_err-test_unlocked
 returns-in_err-test_unlocked g c = let end = c.from_residual-in_err-test_unlocked in
-    let both = both-refused c.args.self.now c.self.inside.zone c.self.view_is (ReallocateHandle c.args.handle c.args.size) c.in_err-test_unlocked.field-0.0 (g.G.GrowZone.asks c.args.procedure.now) (done_outcome end.result)
+    let both = both-refused c.args.self.now c.self.inside.zone c.self.view_is (Requesting (ReallocateHandle c.args.handle c.args.size)) c.in_err-test_unlocked.field-0.0 (g.G.GrowZone.asks c.args.procedure.now) (done_outcome end.result)
     (refused-later c.self.inside.zone.shape c.self.inside.zone.heap (IsHandle c.args.handle ∷ NotLent c.args.handle ∷ []) (NotLocked MemPurErr c.args.handle ∷ IsSize c.args.size ∷ []) c.in_err-test_unlocked.field-0.0 c.in_ok-test_handle_here.ensures (refused-first c.self.inside.zone.shape c.self.inside.zone.heap (NotLocked MemPurErr c.args.handle ∷ []) (IsSize c.args.size ∷ []) c.in_err-test_unlocked.field-0.0 c.in_err-test_unlocked.ensures))
     c.requires (refused_outcome done_outcome (λ code. refl) end.result c.in_err-test_unlocked.field-0.0 end.ensures.1) in
     record { exact = both.0; step = both.1; source = refl; shape = refl; loans = (refl, λ x loan held. held) }

@@ -20,9 +20,9 @@ join-requires c =
     let z = c.self.inside.pointers in
     let p = c.args.pointer in
     let live = ap (λ (z : ZoneState). is_pointer z.heap.table p) c.self.view_is ∙ c.requires.live in
-    let named = subst (λ x. NamedAt z x c.place_of-at.result) c.number.ensures (rw c.linked.ensures at c.place_of-at.ensures) in
-    subst (λ w. NewlyFree w c.place_of-at.result) (sym c.unfix.ensures)
-    (newly-free z p c.place_of-at.result (without p z.heap.table) c.self.invariant.sound (or_right (is_full z.heap.table p) (is_pointer z.heap.table p) live) named)
+    let named = subst (λ x. NamedAt z x c.address_of-at.result) c.number.ensures (rw c.linked.ensures at c.address_of-at.ensures) in
+    subst (λ w. NewlyFree w c.address_of-at.result) (sym c.unfix.ensures)
+    (newly-free z p c.address_of-at.result (without p z.heap.table) c.self.invariant.sound (or_right (is_full z.heap.table p) (is_pointer z.heap.table p) live) named)
 
 -- the zone then
 abbrev after_zone : After-join → ZoneState

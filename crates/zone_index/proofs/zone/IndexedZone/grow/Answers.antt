@@ -23,16 +23,16 @@ use Rattle.zone_index.proofs.zone.IndexedZone.grow.Goals as goal
 use Rattle.zone_index.proofs.zone.IndexedZone.grow.Goals.{After-page-first}
 
 -- where the block is, and that it ends within the zone
-named : (c : After-page-first) → NamedAt c.args.self.now c.args.block c.place_of-at.result
-named c = subst (λ (z : ZoneState). NamedAt z c.args.block c.place_of-at.result) c.self.view_is c.place_of-at.ensures
+named : (c : After-page-first) → NamedAt c.args.self.now c.args.block c.address_of-at.result
+named c = subst (λ (z : ZoneState). NamedAt z c.args.block c.address_of-at.result) c.self.view_is c.address_of-at.ensures
 
-high : (c : After-page-first) → c.place_of-at.result + c.args.size ≤ address_after c.args.self.now.shape c.args.self.now.heap.map
+high : (c : After-page-first) → c.address_of-at.result + c.args.size ≤ address_after c.args.self.now.shape c.args.self.now.heap.map
 high c =
     let can = c.requires.room in
-    named-reach c.args.self.now c.args.block c.place_of-at.result c.args.size c.page-first.ensures.fits (named c) can.before can.here (block Free can.free ∷ can.after) can.map can.named (let within = can.fits.within in omega arith)
+    named-reach c.args.self.now c.args.block c.address_of-at.result c.args.size c.page-first.ensures.fits (named c) can.before can.here (block Free can.free ∷ can.after) can.map can.named (let within = can.fits.within in omega arith)
 
 -- and its first bytes
-entry : (c : After-page-first) → EntryAt c.args.self.now c.place_of-at.result
+entry : (c : After-page-first) → EntryAt c.args.self.now c.address_of-at.result
 entry c = let n = named c in record { before = n.before; here = n.here; after = n.after; map = n.map; place = n.place }
 
 pub invariant_of-self : goal.invariant_of-self
@@ -40,17 +40,17 @@ invariant_of-self c =
     let can = subst (λ (z : ZoneState). CanGrow z c.args.block c.args.size c.args.length) (sym c.self.view_is) c.requires.room in
     let keep : (r : Rule) (marks : List ℕ) → AreMarked r.test c.self.inside.zone marks → AreMarked r.test c.grow.new.self marks = λ r marks are. subst (λ (z : ZoneState). AreMarked r.test z marks) (sym (c.grow.ensures can)) (enlarged-marked r c.self.inside.zone marks are can) in
     let fits = c.spec-spec.ensures.fits in
-    let place = named-place c.self.inside.zone c.args.block c.place_of-at.result fits c.place_of-at.ensures can.before can.here (block Free can.free ∷ can.after) can.map can.named in record {
+    let place = named-place c.self.inside.zone c.args.block c.address_of-at.result fits c.address_of-at.ensures can.before can.here (block Free can.free ∷ can.after) can.map can.named in record {
       fixed = keep fixes _ c.self.invariant.fixed;
       purgeable = keep goes _ c.self.invariant.purgeable;
       leaves = (let read = ap (λ (e : Entry). e.size) (c.entry_at.ensures (grown-entry c.self.inside.zone can place)) in
-          let middle = subst (λ n. c.leaf_at-middle.result ≡ leaf c.args.self.now.shape (c.place_of-at.result + n)) read c.leaf_at-middle.ensures.value in
+          let middle = subst (λ n. c.leaf_at-middle.result ≡ leaf c.args.self.now.shape (c.address_of-at.result + n)) read c.leaf_at-middle.ensures.value in
           subst (λ (z : ZoneState). AreLeaves z c.touch-3.new.self) (sym (c.grow.ensures can))
           (leaves-grown c.self.inside.zone c.self.inside.leaves c.touch-3.new.self c.self.invariant.leaves can place
-          (touched-next c.self.inside.leaves c.touch-2.new.self c.touch-3.new.self (c.place_of-at.result + c.args.size) (touched-next c.self.inside.leaves c.touch.new.self c.touch-2.new.self (c.place_of-at.result + can.here.size) (touched-first c.self.inside.leaves c.touch.new.self c.place_of-at.result c.self.view_is c.leaf-low.ensures.value c.touch.ensures) c.self.view_is middle c.touch-2.ensures) c.self.view_is c.leaf_at-high.ensures.value c.touch-3.ensures)));
+          (touched-next c.self.inside.leaves c.touch-2.new.self c.touch-3.new.self (c.address_of-at.result + c.args.size) (touched-next c.self.inside.leaves c.touch.new.self c.touch-2.new.self (c.address_of-at.result + can.here.size) (touched-first c.self.inside.leaves c.touch.new.self c.address_of-at.result c.self.view_is c.leaf-low.ensures.value c.touch.ensures) c.self.view_is middle c.touch-2.ensures) c.self.view_is c.leaf_at-high.ensures.value c.touch-3.ensures)));
       pages = pages-kept c.forget.new.self (c.grow.ensures can)
           (pages-grown c.self.inside.zone c.self.inside.pages c.forget.new.self c.self.invariant.pages can place
-          (forgets-read c.place_of-at.result (c.place_of-at.result + c.args.size) c.self.view_is c.page-first.ensures.value c.page_at-last.ensures.value c.forget.ensures));
+          (forgets-read c.address_of-at.result (c.address_of-at.result + c.args.size) c.self.view_is c.page-first.ensures.value c.page_at-last.ensures.value c.forget.ensures));
       lengths = (let has = named-owner c.self.inside.zone c.args.block can.before can.here (block Free can.free ∷ can.after) fits can.map can.named in
           lengths-of c.note.new.self (c.grow.ensures can) (lengths-sized c.self.inside.zone.heap.table c.self.inside.lengths c.note.new.self c.args.block c.args.block c.args.length refl c.self.invariant.lengths c.note.ensures has));
     }
@@ -59,8 +59,8 @@ pub returns : goal.returns
 returns c =
     subst (λ (z : ZoneState). (can : CanGrow z c.args.block c.args.size c.args.length) → c.grow.new.self ≡ enlarged z can) c.self.view_is c.grow.ensures
 
-pub place_of-at-requires : goal.place_of-at-requires
-place_of-at-requires c =
+pub address_of-at-requires : goal.address_of-at-requires
+address_of-at-requires c =
     let can = c.requires.room in
     subst (λ (z : ZoneState). has_block z.heap.table c.args.block ≡ true) (sym c.self.view_is)
     (named-owner c.args.self.now c.args.block can.before can.here (block Free can.free ∷ can.after) (subst Fits c.self.view_is c.spec-spec.ensures.fits) can.map can.named)
@@ -76,14 +76,14 @@ leaf_at-high-requires c = let p = (goal.at.leaf_at-high-requires c).After-page-f
 
 pub entry_at-requires : goal.entry_at-requires
 entry_at-requires c =
-    let named = c.place_of-at.ensures in
+    let named = c.address_of-at.ensures in
     record { before = named.before; here = named.here; after = named.after; map = named.map; place = named.place }
 
 pub overflow_add-after : goal.overflow_add-after
 overflow_add-after c =
     let e = entry (goal.at.overflow_add-after c).After-page-first in
-    let read = ap (λ (e : Entry). e.size) (subst (λ (z : ZoneState). (e : EntryAt z c.place_of-at.result) → c.entry_at.result ≡ e.here) c.self.view_is c.entry_at.ensures e) in
-    let high = entry-high c.args.self.now c.place_of-at.result e in
+    let read = ap (λ (e : Entry). e.size) (subst (λ (z : ZoneState). (e : EntryAt z c.address_of-at.result) → c.entry_at.result ≡ e.here) c.self.view_is c.entry_at.ensures e) in
+    let high = entry-high c.args.self.now c.address_of-at.result e in
     let reach = c.page-first.ensures.reach in
     omega arith
 
@@ -93,8 +93,8 @@ leaf_at-middle-requires-clause-low c = let place = (named (goal.at.leaf_at-middl
 pub leaf_at-middle-requires-clause-high : goal.leaf_at-middle-requires-clause-high
 leaf_at-middle-requires-clause-high c =
     let e = entry (goal.at.leaf_at-middle-requires-clause-high c).After-page-first in
-    let read = ap (λ (e : Entry). e.size) (subst (λ (z : ZoneState). (e : EntryAt z c.place_of-at.result) → c.entry_at.result ≡ e.here) c.self.view_is c.entry_at.ensures e) in
-    let high = entry-high c.args.self.now c.place_of-at.result e in
+    let read = ap (λ (e : Entry). e.size) (subst (λ (z : ZoneState). (e : EntryAt z c.address_of-at.result) → c.entry_at.result ≡ e.here) c.self.view_is c.entry_at.ensures e) in
+    let high = entry-high c.args.self.now c.address_of-at.result e in
     omega arith
 
 pub touch-requires : goal.touch-requires

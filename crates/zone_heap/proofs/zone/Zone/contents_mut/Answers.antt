@@ -9,7 +9,7 @@ use Rattle.zone_laws.proofs.LentChanges.{keeps-written}
 use Rattle.zone_laws.proofs.SoundWritten.{sound-written}
 use Rattle.zone_heap.proofs.Writing.{full-has_block, full-here}
 use Rattle.zone_index.proofs.Measured.{length-overwritten}
-use Rattle.zone_heap.proofs.zone.Zone.bytes_mut.Goals as goal
+use Rattle.zone_heap.proofs.zone.Zone.contents_mut.Goals as goal
 
 pub invariant_of-self-lent : goal.invariant_of-self-lent
 invariant_of-self-lent c w =

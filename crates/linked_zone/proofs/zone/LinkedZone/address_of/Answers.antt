@@ -4,7 +4,7 @@ use Rattle.mac_base.specs.HandleTable.{is_full, is_pointer}
 use Rattle.linked_zone.specs.Places.{BlockOf, NamedAt}
 use Rattle.linked_zone.proofs.Standing.{stands-now}
 use Rattle.linked_zone.proofs.Found.{head-read, full-other, pointer-named, handle-named}
-use Rattle.linked_zone.proofs.zone.LinkedZone.place_of.Goals as goal
+use Rattle.linked_zone.proofs.zone.LinkedZone.address_of.Goals as goal
 
 pub overflow_sub-result : goal.overflow_sub-result
 overflow_sub-result c =
