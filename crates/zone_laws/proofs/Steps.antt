@@ -9,7 +9,7 @@ use Rattle.mac_base.specs.Trial.{SameHeap}
 use Rattle.mac_base.specs.declared.memory_call.MemoryCall.{MemoryCall}
 use Rattle.mac_base.specs.declared.memory_call.MemoryCall.TheVariants.{OnBlock, Showing}
 use Rattle.mac_base.specs.declared.memory_call.BlockCall.TheVariants.{Poke}
-use Rattle.mac_base.specs.declared.memory_call.ShowingCall.TheVariants.{Peek, ZoneMap as WalkZone}
+use Rattle.mac_base.specs.declared.memory_call.ShowingCall.TheVariants.{Peek}
 use Rattle.mac_base.specs.Tests.{refusal}
 use Rattle.mac_base.specs.Effect.{request_of}
 use Rattle.mac_base.specs.ZoneState.{written}
