@@ -1,13 +1,16 @@
 -- Walks up to the first block that is out of order: from page to page, and from block to block.
-use Rattle.std.proofs.Common.{◌≡◌, ℕ, ◌+◌, ◌<◌, ◌≤◌, Bool, true, false, not, [], ◌∷◌, ◌++◌, refl, ap, sym, ◌∙◌, subst, append_assoc, append-nil, arith}
+use Rattle.std.proofs.Common.{◌≡◌, ℕ, ◌+◌, ◌<◌, ◌≤◌, Bool, true, false, not, [], ◌∷◌, ◌++◌, refl, ap, sym, ◌∙◌, cond, subst, append_assoc, append-nil, arith}
 use Rattle.std.specs.Prelude.{◌&&◌, ◌||◌, List, nat_lt}
+use Rattle.std.proofs.lemmas.Bool.{and_parts, not-true}
 use Rattle.mac_base.specs.declared.block.Entry.{Entry}
-use Rattle.mac_base.specs.ZoneMap.{total_size, address_after}
+use Rattle.mac_base.specs.declared.block.Kind.TheVariants.{Free}
+use Rattle.mac_base.specs.HandleTable.{HandleTable}
+use Rattle.mac_base.specs.ZoneMap.{ZoneMap, address_after, block, free_size, is_free, total_size}
 use Rattle.mac_base.specs.ZoneState.{ZoneState}
 use Rattle.zone_laws.proofs.GapApart.{sizes_possible}
 use Rattle.zone_laws.proofs.Maps.{total_size-append}
 use Rattle.linked_zone.specs.Fit.{HasSizes}
-use Rattle.linked_zone.specs.Places.{EntryAt}
+use Rattle.linked_zone.specs.Places.{EntryAt, FirstFree, none_free}
 use Rattle.zone_index.specs.declared.sums.Sums.{Sums}
 use Rattle.zone_index.specs.declared.weight.Weight.{Weight}
 use Rattle.zone_index.specs.Disorder.{FirstOutOfOrder, OrderedTo}
@@ -106,3 +109,22 @@ module _ (z : ZoneState) (at : ℕ) (free : Bool) (o : OrderedTo z at free) wher
       let none : o.after ≡ [] = no_bytes z.shape o.after (all_parts _ o.before o.after (ap (sizes_possible z.shape) (sym o.map) ∙ sizes)).1 (omega arith) in
       ap (λ m. in_order false (weights z.heap.table m)) (o.map ∙ ap (λ r. o.before ++ r) none ∙ append-nil o.before)
       ∙ ap (in_order false) (sym (append-nil (weights z.heap.table o.before))) ∙ o.order []
+
+-- blocks in use put none after them out of order
+used-order : (t : HandleTable) (m : ZoneMap) (ws : List Weight) → none_free m ≡ true → in_order false (weights t m ++ ws) ≡ in_order false ws
+used-order t [] ws used = refl
+used-order t (e ∷ es) ws used =
+    let both = and_parts (not (is_free e.kind)) (none_free es) used in
+    let none : free_size e ≡ 0 = ap (λ b. cond b e.size 0) (not-true _ both.0) in
+    ap (λ n. in_order (nat_lt 0 n) (weights t es ++ ws)) none ∙ used-order t es ws both.1
+
+-- where no block is free all are in order
+pub order-used : (t : HandleTable) (m : ZoneMap) → none_free m ≡ true → in_order false (weights t m) ≡ true
+order-used t m used = ap (in_order false) (sym (append-nil (weights t m))) ∙ used-order t m [] used
+
+-- and where the first free one is the last
+pub order-packed : (t : HandleTable) (m : ZoneMap) (from at : ℕ) (f : FirstFree m from at) → f.after ≡ [] → in_order false (weights t m) ≡ true
+order-packed t m from at f none =
+    ap (λ b. in_order false (weights t b)) (f.splits ∙ ap (λ r. f.passed ++ block Free f.size ∷ r) none)
+    ∙ ap (in_order false) (weights-append t f.passed (block Free f.size ∷ []))
+    ∙ used-order t f.passed (weights t (block Free f.size ∷ [])) f.used

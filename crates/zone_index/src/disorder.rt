@@ -17,13 +17,31 @@ impl IndexedZone {
     ghost use Rattle.zone_index.specs.Weights.{in_order, weights};
 
     /// The address of the first block that can be moved down, if there is one: right before it is a free block, and
-    /// it isn't fixed. Of the pages below only those are gone through that changed since they were last looked at, and
-    /// the one in which it is found.
+    /// it isn't fixed. Where no block but the last is free there is none, and no other block is read. Else of the
+    /// pages below only those are gone through that changed since they were last looked at, and the one in which it is
+    /// found.
     pub fn first_out_of_order(&mut self) -> Option<u32>
         ensures zone { self.new ≡ self.old }
         ensures first { MatchOption result (IsTrue (in_order false (weights self.old.heap.table self.old.heap.map))) (λ at. FirstOutOfOrder self.old at) }
     {
+        if is_packed(&self.zone) {
+            return None;
+        }
         first_by_pages(&self.zone, &mut self.pages)
+    }
+}
+
+/// Whether no block but the last is free: then none can be moved down.
+fn is_packed(zone: &LinkedZone) -> bool
+    ensures { IsTrue result → IsTrue (in_order false (weights zone.now.heap.table zone.now.heap.map)) }
+{
+    let first = zone.spec().base() + ZONE_HEADER;
+    let Some(low) = zone.next_free(first) else {
+        return true;
+    };
+    match zone.after(low) {
+        Some(_) => false,
+        None => true,
     }
 }
 
