@@ -22,7 +22,7 @@
  * pointer, a size, an offset or an address, live or not, but not as a range of mh_wake_written. A zone that is
  * forgotten keeps its memory: end it. All memory of the host is taken by the call that makes a zone.
  *
- * MACHEAP_VERSION is the version of both headers. While it begins with 0, the next one may change what is here: a
+ * MACHEAP_VERSION is the version of all three headers. While it begins with 0, the next one may change what is here: a
  * program is then built anew.
  */
 #ifndef MACHEAP_H

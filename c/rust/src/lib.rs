@@ -25,8 +25,8 @@ fn told(code: i16) -> Result<()> {
     if code == 0 { Ok(()) } else { Err(OsErr(code)) }
 }
 
-/// A zone: of memory of its own, and then it ends when it is dropped; or awake in bytes of the caller, and then it sleeps again, or
-/// ends if a block is lent. Handles, pointers and addresses are numbers of its own; any number may be given.
+/// A zone: of memory of its own, and then it ends when it is dropped; or awake in bytes of the caller, and then it sleeps again, with
+/// what is lent. Handles, pointers and addresses are numbers of its own; any number may be given.
 pub struct Zone<'a>(MhZone, Option<&'a mut MhAsleep>, PhantomData<&'a mut [u8]>);
 
 // What these point to is memory of malloc, or bytes that they borrow alone, and no call keeps anything of its thread.

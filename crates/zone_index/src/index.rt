@@ -14,12 +14,12 @@ use place_numbers::Bits;
 use std::alloc::Global;
 
 /// A zone has so many bytes for each place in which a handle's length is remembered, beside the fewest. A place is for
-/// four bytes, so these are places for the lowest 4,096 bytes of the zone and a sixty-fourth of it: master blocks don't
+/// four bytes, so these are places for the lowest 6,656 bytes of the zone and a sixty-fourth of it: master blocks don't
 /// move and take the lowest room, so handles have their numbers there. The length of one above is asked of the zone.
 const BYTES_PER_LENGTH: u32 = 256;
 
 /// The fewest places for lengths.
-const FEWEST_LENGTHS: usize = 1024;
+const FEWEST_LENGTHS: usize = 1664;
 
 /// What is kept beside a zone. Its parts are those of `IndexedZone`.
 #[derive(Drop)]
