@@ -45,13 +45,9 @@ fn name_of_token(token: Token<'_>) -> Option<ReleasingName>
 fn written_call(name: Token<'_>, operand: Token<'_>, names: &Names<'_>) -> Option<WrittenCall>
     ensures { Finds result (IsWrittenCall names.now (view name.entry) (view operand.entry)) }
 {
-    let Some(call) = name_of_token(name) else {
-        return None;
-    };
-    match number_or_variable(operand, names) {
-        Some(operand) => Some(WrittenCall { call, operand }),
-        None => None,
-    }
+    let call = name_of_token(name)?;
+    let operand = number_or_variable(operand, names)?;
+    Some(WrittenCall { call, operand })
 }
 
 /// Whether tokens may be after a call: none, or a `;` and then others.

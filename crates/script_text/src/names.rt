@@ -61,10 +61,8 @@ impl<'a> Names<'a> {
         if let Some(name) = self.last_of(word) {
             return Some(name);
         }
-        match self.names.get_index_of(&Spelling(word)) {
-            Some(place) => Some(Name::at(place)),
-            None => None,
-        }
+        let place = self.names.get_index_of(&Spelling(word))?;
+        Some(Name::at(place))
     }
 
     /// The name that a word is. It is added if it is new.

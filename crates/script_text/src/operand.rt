@@ -150,10 +150,7 @@ pub(crate) fn number_or_variable(token: Token<'_>, names: &Names<'_>) -> Option<
     if let Some(number) = number(word) {
         return Some(NumberOperand::Number(number));
     }
-    match variable(word, names) {
-        Some(name) => Some(NumberOperand::Variable(name)),
-        None => None,
-    }
+    Some(NumberOperand::Variable(variable(word, names)?))
 }
 
 /// The id or the variable that a token is.
@@ -166,10 +163,7 @@ pub(crate) fn id_or_variable(token: Token<'_>, names: &Names<'_>) -> Option<IdOp
     if let Some(id) = id(word) {
         return Some(IdOperand::Id(id));
     }
-    match variable(word, names) {
-        Some(name) => Some(IdOperand::Variable(name)),
-        None => None,
-    }
+    Some(IdOperand::Variable(variable(word, names)?))
 }
 
 /// The value of each byte as a hexadecimal digit of either case, and 255 where it is none.

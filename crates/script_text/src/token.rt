@@ -119,9 +119,7 @@ fn closed(line: &[u8], quote: u8) -> Option<(&[u8], &[u8])>
 fn single(line: &[u8]) -> Result<Option<(Token<'_>, &[u8])>, NotAToken>
     ensures { Shows result (single_front line.now) }
 {
-    let Some((inner, rest)) = closed(line, b'\'') else {
-        return Err(NotAToken);
-    };
+    let (inner, rest) = closed(line, b'\'').ok_or(NotAToken)?;
     Ok(Some((Token::Single(inner), rest)))
 }
 
@@ -129,9 +127,7 @@ fn single(line: &[u8]) -> Result<Option<(Token<'_>, &[u8])>, NotAToken>
 fn double(line: &[u8]) -> Result<Option<(Token<'_>, &[u8])>, NotAToken>
     ensures { Shows result (double_front line.now) }
 {
-    let Some((inner, rest)) = closed(line, b'"') else {
-        return Err(NotAToken);
-    };
+    let (inner, rest) = closed(line, b'"').ok_or(NotAToken)?;
     Ok(Some((Token::Double(inner), rest)))
 }
 
@@ -139,9 +135,7 @@ fn double(line: &[u8]) -> Result<Option<(Token<'_>, &[u8])>, NotAToken>
 fn hexadecimal(line: &[u8]) -> Result<Option<(Token<'_>, &[u8])>, NotAToken>
     ensures { Shows result (hexadecimal_front line.now) }
 {
-    let Some((inner, rest)) = closed(line, b'"') else {
-        return Err(NotAToken);
-    };
+    let (inner, rest) = closed(line, b'"').ok_or(NotAToken)?;
     Ok(Some((Token::Hexadecimal(inner), rest)))
 }
 

@@ -23,10 +23,8 @@ impl Word {
     /// The first bytes of this word.
     fn of(word: &[u8]) -> Word {
         let mut bytes = [0; LONGEST_NAME];
-        for (place, byte) in word.iter().enumerate() {
-            if place < LONGEST_NAME {
-                bytes[place] = *byte;
-            }
+        for (place, byte) in bytes.iter_mut().zip(word) {
+            *place = *byte;
         }
         Word(bytes)
     }
@@ -45,6 +43,23 @@ impl fmt::Display for Word {
         }
         Ok(())
     }
+}
+
+/// How an operand is written.
+#[derive(Clone, Copy, Debug, PartialEq, Eq, Error)]
+pub enum OperandKind {
+    #[error("a number up to 4294967295, or a name")]
+    Number,
+    #[error("a number up to 4294967295, a name, or left out")]
+    OptionalNumber,
+    #[error("bytes: \"text\" or $\"4869\"")]
+    Bytes,
+    #[error("bytes: \"text\" or $\"4869\", or left out")]
+    OptionalBytes,
+    #[error("a number from -32768 to 32767, or a name")]
+    Id,
+    #[error("a type of four bytes: 'ICN#' or $\"49434E23\"")]
+    Type,
 }
 
 /// What is wrong with the first line that is none.
@@ -81,11 +96,18 @@ pub enum Wrong {
     #[error("{0} is not assigned in a line before")]
     NotAssigned(Word),
     /// This call takes something else in this place.
-    #[error("operand {1} of {0} has to be {2}")]
-    Operand(Word, usize, &'static str),
+    #[error("operand {place} of {call} has to be {kind}")]
+    Operand {
+        call: Word,
+        place: usize,
+        kind: OperandKind,
+    },
     /// This call takes fewer operands.
-    #[error("{0} takes no more than {1} operand(s)")]
-    TooManyOperands(Word, usize),
+    #[error("{call} takes no more than {most} operand(s)")]
+    TooManyOperands {
+        call: Word,
+        most: usize,
+    },
     /// An answer of the grow-zone procedure is written otherwise.
     #[error("gz takes a number or a name, and then up to 8 calls of DisposeHandle, DisposePtr or EmptyHandle, parted by `;`")]
     Answer,
@@ -116,17 +138,6 @@ pub(crate) fn what_is_unread(number: u32, line: &[u8], tokens: &[Token<'_>]) -> 
     } else {
         Wrong::NoBlank
     }
-}
-
-/// How an operand is written.
-#[derive(Clone, Copy)]
-enum OperandKind {
-    Number,
-    Bytes,
-    Id,
-    Type,
-    OptionalBytes,
-    OptionalNumber,
 }
 
 /// How the operands of a call are written, in order.
@@ -172,18 +183,6 @@ fn fits(kind: OperandKind, token: Option<&Token<'_>>, names: &Names<'_>) -> bool
     }
 }
 
-/// How an operand of this kind is written.
-fn text_of(kind: OperandKind) -> &'static str {
-    match kind {
-        OperandKind::Number => "a number up to 4294967295, or a name",
-        OperandKind::OptionalNumber => "a number up to 4294967295, a name, or left out",
-        OperandKind::Bytes => "bytes: \"text\" or $\"4869\"",
-        OperandKind::OptionalBytes => "bytes: \"text\" or $\"4869\", or left out",
-        OperandKind::Id => "a number from -32768 to 32767, or a name",
-        OperandKind::Type => "a type of four bytes: 'ICN#' or $\"49434E23\"",
-    }
-}
-
 /// The name that a token is, if no line before assigns it.
 fn unassigned(token: Option<&Token<'_>>, names: &Names<'_>) -> Option<Word> {
     match token {
@@ -206,7 +205,11 @@ fn wrong_operand(
     if let (Number | OptionalNumber | Id, Some(name)) = (kind, unassigned(token, names)) {
         return Wrong::NotAssigned(name);
     }
-    Wrong::Operand(Word::of(call), place, text_of(kind))
+    Wrong::Operand {
+        call: Word::of(call),
+        place,
+        kind,
+    }
 }
 
 /// What is wrong with tokens that aren't the operands of these kinds.
@@ -222,7 +225,10 @@ fn wrong_operands(
             return wrong_operand(call, place + 1, *kind, token, names);
         }
     }
-    Wrong::TooManyOperands(Word::of(call), kinds.len())
+    Wrong::TooManyOperands {
+        call: Word::of(call),
+        most: kinds.len(),
+    }
 }
 
 /// What is wrong with the tokens after `gz`.
