@@ -39,7 +39,7 @@ impl From<HostFull> for NoScript {
     }
 }
 
-/// All that the reader gives, in at most two reads more than a script may have bytes.
+/// All that the reader gives. The reading ends as soon as there are more bytes than a script may have.
 pub fn read_script<R: Read>(alloc: Global, reader: &mut Counted<R>) -> Result<Vec<u8>, NoScript>
     // The input is the bytes that the reader says it has; where it doesn't say, those that it gave.
     ensures read { (given : List ℕ) × Gave R.remaining reader.old given reader.new
@@ -49,7 +49,7 @@ pub fn read_script<R: Read>(alloc: Global, reader: &mut Counted<R>) -> Result<Ve
 {
     let mut text = Vec::new(alloc);
     let mut buffer = [0u8; 4096];
-    for _ in 0..MAX_SCRIPT + 2 {
+    while text.len() <= MAX_SCRIPT {
         let Ok(count) = reader.read(&mut buffer) else {
             return Err(NoScript::ReadFault);
         };
@@ -57,9 +57,6 @@ pub fn read_script<R: Read>(alloc: Global, reader: &mut Counted<R>) -> Result<Ve
             return Ok(text);
         }
         text.extend_from_slice(&buffer[..count])?;
-        if text.len() > MAX_SCRIPT {
-            return Err(NoScript::BadLine(0, Wrong::TooLong));
-        }
     }
     Err(NoScript::BadLine(0, Wrong::TooLong))
 }
