@@ -64,13 +64,12 @@ earliest_after test files i f within is none =
     ∙ ap (λ (at : Option ℕ). option_or (option_map (λ i. let place : RowPlace = record { file = f.number; index = i } in place) at) (earliest_place test (drop (i + 1) files))) none)
 
 -- the latest file is the last of the list
-pub last_is : {D : Type 0} (files : List (OpenFile D)) (d : OpenFile D) → 0 < length files → last_number files ≡ Some ((get_or files (length files - 1) d).number)
-last_is [] d some = absurd (omega arith)
-last_is (f ∷ []) d some = refl
-last_is (f ∷ (g ∷ fs)) d some =
-    let e : length (f ∷ (g ∷ fs)) - 1 ≡ suc (length (g ∷ fs) - 1) = omega arith in
-    ap (λ (found : Option ℕ). option_or found (Some f.number)) (last_is (g ∷ fs) d (omega arith))
-    ∙ sym (ap (λ (n : ℕ). Some ((get_or (f ∷ (g ∷ fs)) n d).number)) e)
+pub last_is : {D : Type 0} (files : List (OpenFile D)) (f : OpenFile D) → Some f ≡ slice_get files (length files - 1) → last_number files ≡ Some f.number
+last_is [] f is = absurd (cc is)
+last_is (g ∷ []) f is = ap (option_map (λ (file : OpenFile _). file.number)) (sym is)
+last_is (g ∷ (h ∷ files)) f is =
+    let e : length (g ∷ (h ∷ files)) - 1 ≡ suc (length (h ∷ files) - 1) = omega arith in
+    ap (λ (found : Option ℕ). option_or found (Some g.number)) (last_is (h ∷ files) f (is ∙ ap (slice_get (g ∷ (h ∷ files))) e))
 
 -- what is known of the file of a number where it is found
 pub record IsFound {D : Type 0} (k : ℕ) (files : List (OpenFile D)) (at : ℕ) (f : OpenFile D) : Type 0 where
@@ -143,14 +142,24 @@ row_within {D} place chain at f is read some =
     some_within f.table.rows place.index (subst P (file_found place.file chain.files at f is read).file some)
 
 -- where the file isn't open there is none
-pub no_row : {D : Type 0} (place : RowPlace) (chain : OpenFiles D) → position (is_numbered place.file) chain.files ≡ None → IsSome (row_at place chain) → ⊥
+no_row : {D : Type 0} (place : RowPlace) (chain : OpenFiles D) → position (is_numbered place.file) chain.files ≡ None → IsSome (row_at place chain) → ⊥
 no_row {D} place chain is some =
     let P : Option (OpenFile D) → Type 0 = λ found. IsSome (option_and_then (λ (table : ResourceTable D). slice_get table.rows place.index) (option_map table_in found)) in
     let none = subst P ((none_open place.file chain.files (past_end _ chain.files is)).1) some in absurd (cc none)
 
+-- so the file of a row is found
+pub file_there : {D : Type 0} (place : RowPlace) (chain : OpenFiles D) (found : Option ℕ) → found ≡ position (is_numbered place.file) chain.files → IsSome (row_at place chain) → IsSome found
+file_there place chain None is there = absurd (no_row place chain (sym is) there)
+file_there place chain (Some at) is there = refl
+
 -- where the file of a number isn't found it isn't open
-pub not_open : {D : Type 0} (k : ℕ) (chain : OpenFiles D) → position (is_numbered k) chain.files ≡ None → is_open k chain ≡ true → ⊥
+not_open : {D : Type 0} (k : ℕ) (chain : OpenFiles D) → position (is_numbered k) chain.files ≡ None → is_open k chain ≡ true → ⊥
 not_open k chain is open_now = let none = (none_open k chain.files (past_end _ chain.files is)).0 in cc
+
+-- so an open file is found
+pub open_there : {D : Type 0} (k : ℕ) (chain : OpenFiles D) (found : Option ℕ) → found ≡ position (is_numbered k) chain.files → is_open k chain ≡ true → IsSome found
+open_there k chain None is open_now = absurd (not_open k chain (sym is) open_now)
+open_there k chain (Some at) is open_now = refl
 
 -- the row that is found in the file of a place
 pub row_found : {D : Type 0} (place : RowPlace) (chain : OpenFiles D) (at : ℕ) (f : OpenFile D) → position (is_numbered place.file) chain.files ≡ Some at → f ≡ get_or chain.files at f

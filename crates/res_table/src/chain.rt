@@ -194,11 +194,7 @@ impl<D> Chain<D> {
     fn last_number(&self) -> Option<u8>
         ensures { result ≡ last_number self.now.files }
     {
-        let count = self.files.len();
-        if count == 0 {
-            return None;
-        }
-        Some(self.files[count - 1].number)
+        Some(self.files.last()?.number)
     }
 
     /// Whether the file of a number is the current one.
@@ -214,9 +210,7 @@ impl<D> Chain<D> {
         ensures table { result ≡ table_of number self.old }
         ensures closed { self.new ≡ file_closed number self.old }
     {
-        let Some(at) = self.position_of(number) else {
-            return None;
-        };
+        let at = self.position_of(number)?;
         let was_current = self.is_current(number);
         let file = self.files.remove(at);
         if was_current {
@@ -230,9 +224,7 @@ impl<D> Chain<D> {
         ensures some { IfSome result (λ table. table_of number self.now ≡ Some table.now) }
         ensures none { IfNone result (table_of number self.now ≡ None) }
     {
-        let Some(at) = self.position_of(number) else {
-            return None;
-        };
+        let at = self.position_of(number)?;
         Some(&self.files[at].table)
     }
 
@@ -241,9 +233,7 @@ impl<D> Chain<D> {
         ensures some { IfSome result (λ row. row_at place self.now ≡ Some row.now) }
         ensures none { IfNone result (row_at place self.now ≡ None) }
     {
-        let Some(table) = self.table(place.file) else {
-            return None;
-        };
+        let table = self.table(place.file)?;
         if place.index >= table.rows.len() {
             return None;
         }
@@ -254,13 +244,9 @@ impl<D> Chain<D> {
     fn find_in(&self, number: u8, kind: ResType, id: i16) -> Option<RowPlace>
         ensures { result ≡ place_in_file kind id self.now number }
     {
-        let Some(at) = self.position_of(number) else {
-            return None;
-        };
+        let at = self.position_of(number)?;
         let file = &self.files[at];
-        let Some(index) = file.table.rows.find(kind, id) else {
-            return None;
-        };
+        let index = file.table.rows.find(kind, id)?;
         Some(RowPlace {
             file: file.number,
             index,
@@ -271,23 +257,16 @@ impl<D> Chain<D> {
     pub fn find_here(&self, kind: ResType, id: i16) -> Option<RowPlace>
         ensures { result ≡ place_here kind id self.now }
     {
-        match self.current {
-            Some(number) => self.find_in(number, kind, id),
-            None => None,
-        }
+        self.find_in(self.current?, kind, id)
     }
 
     /// Where the first row of a type and a name is in the file of a number, if it is open and has one.
     fn find_named_in(&self, number: u8, kind: ResType, name: &[u8]) -> Option<RowPlace>
         ensures { result ≡ named_in_file kind name.now self.now number }
     {
-        let Some(at) = self.position_of(number) else {
-            return None;
-        };
+        let at = self.position_of(number)?;
         let file = &self.files[at];
-        let Some(index) = file.table.rows.find_named(kind, name) else {
-            return None;
-        };
+        let index = file.table.rows.find_named(kind, name)?;
         Some(RowPlace {
             file: file.number,
             index,
@@ -298,10 +277,7 @@ impl<D> Chain<D> {
     pub fn find_named_here(&self, kind: ResType, name: &[u8]) -> Option<RowPlace>
         ensures { result ≡ name_here kind name.now self.now }
     {
-        match self.current {
-            Some(number) => self.find_named_in(number, kind, name),
-            None => None,
-        }
+        self.find_named_in(self.current?, kind, name)
     }
 
     /// Gives the row at a place this handle, or none.
@@ -309,9 +285,7 @@ impl<D> Chain<D> {
         requires { IsSome (row_at place self.old) }
         ensures { self.new ≡ rows_changed place.file (changed_at place.index (with_handle handle)) self.old }
     {
-        let Some(at) = self.position_of(place.file) else {
-            return;
-        };
+        let at = self.position_of(place.file).unwrap();
         self.files[at].table.rows.set_handle(place.index, handle);
     }
 
@@ -320,9 +294,7 @@ impl<D> Chain<D> {
         requires { IsSome (row_at place self.old) }
         ensures { self.new ≡ rows_changed place.file (changed_at place.index (with_attributes attributes)) self.old }
     {
-        let Some(at) = self.position_of(place.file) else {
-            return;
-        };
+        let at = self.position_of(place.file).unwrap();
         self.files[at]
             .table
             .rows
@@ -336,9 +308,7 @@ impl<D> Chain<D> {
         requires { IsSome (row_at place self.old) }
         ensures { self.new ≡ rows_changed place.file (changed_at place.index (with_datum datum)) self.old }
     {
-        let Some(at) = self.position_of(place.file) else {
-            return;
-        };
+        let at = self.position_of(place.file).unwrap();
         self.files[at].table.rows.set_datum(place.index, datum);
     }
 
@@ -348,9 +318,7 @@ impl<D> Chain<D> {
         ensures row { result ≡ row_at place self.old }
         ensures rows { self.new ≡ rows_changed place.file (removed_at place.index) self.old }
     {
-        let Some(at) = self.position_of(place.file) else {
-            return None;
-        };
+        let at = self.position_of(place.file).unwrap();
         Some(self.files[at].table.rows.remove(place.index))
     }
 
@@ -364,13 +332,8 @@ impl<D> Chain<D> {
         ensures added { OnOk result (self.new ≡ rows_changed number (added row) self.old) }
         ensures same { OnErr result (self.new ≡ self.old) }
     {
-        let Some(at) = self.position_of(number) else {
-            return Ok(());
-        };
-        match self.files[at].table.rows.add(row) {
-            Ok(()) => Ok(()),
-            Err(HostFull) => Err(HostFull),
-        }
+        let at = self.position_of(number).unwrap();
+        self.files[at].table.rows.add(row)
     }
 }
 
@@ -389,12 +352,7 @@ impl<D> Chain<D> {
         ensures set { OnOk result (self.new ≡ rows_changed place.file (changed_at place.index (with_info id name)) self.old) }
         ensures same { OnErr result (self.new ≡ self.old) }
     {
-        let Some(at) = self.position_of(place.file) else {
-            return Ok(());
-        };
-        match self.files[at].table.rows.set_info(place.index, id, name) {
-            Ok(()) => Ok(()),
-            Err(HostFull) => Err(HostFull),
-        }
+        let at = self.position_of(place.file).unwrap();
+        self.files[at].table.rows.set_info(place.index, id, name)
     }
 }

@@ -24,7 +24,7 @@ impl Pair {
     fn is_before(self, other: Pair) -> bool
         ensures { result ≡ is_before self other }
     {
-        self.key < other.key || (self.key == other.key && self.place < other.place)
+        self < other
     }
 
     /// The pair, where a row is put in at an index.
@@ -62,8 +62,8 @@ fn push_back(pairs: &mut [Pair], at: usize)
     requires { All (λ p. p.place + 1 < 2 ^ 64) pairs.old }
     ensures { pairs.new ≡ map (pushed_back at) pairs.old }
 {
-    for index in 0..pairs.len() {
-        pairs[index] = pairs[index].pushed_back(at);
+    for pair in pairs.iter_mut() {
+        *pair = pair.pushed_back(at);
     }
 }
 
@@ -71,8 +71,8 @@ fn push_back(pairs: &mut [Pair], at: usize)
 fn pull_up(pairs: &mut [Pair], at: usize)
     ensures { pairs.new ≡ map (pulled_up at) pairs.old }
 {
-    for index in 0..pairs.len() {
-        pairs[index] = pairs[index].pulled_up(at);
+    for pair in pairs.iter_mut() {
+        *pair = pair.pulled_up(at);
     }
 }
 

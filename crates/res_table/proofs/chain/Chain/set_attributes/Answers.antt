@@ -1,13 +1,12 @@
-use Rattle.std.proofs.Common.{sym, ◌∙◌}
 use Rattle.res_table.specs.Rows.{changed_at, with_attributes}
-use Rattle.res_table.proofs.Files.{row_inside, rows_written, no_row}
+use Rattle.res_table.proofs.Files.{file_there, row_inside, rows_written}
 use Rattle.res_table.proofs.chain.Chain.set_attributes.Goals as goal
 
-pub returns-in_default : goal.returns-in_default
-returns-in_default g c = absurd (no_row c.args.place c.args.self.now (sym c.position_of.ensures ∙ c.in_default.is) c.requires)
+pub unwrap-at-requires : goal.unwrap-at-requires
+unwrap-at-requires g c = file_there c.args.place c.args.self.now c.position_of.result c.position_of.ensures c.requires
 
 pub set_attributes-requires : goal.set_attributes-requires
-set_attributes-requires g c = row_inside c.args.place.file c.self.inside.files.items c.self.inside.current c.args.self.now c.position_of.result c.in-Some.at c.index_mut.result.now c.self.view_is c.position_of.ensures c.in-Some.is c.index_mut.ensures.value c.args.place.index c.requires
+set_attributes-requires g c = row_inside c.args.place.file c.self.inside.files.items c.self.inside.current c.args.self.now c.position_of.result c.unwrap-at.result c.index_mut.result.now c.self.view_is c.position_of.ensures c.unwrap-at.ensures c.index_mut.ensures.value c.args.place.index c.requires
 
 pub returns : goal.returns
-returns g c = rows_written c.args.place.file c.self.inside.files.items c.self.inside.current c.args.self.now c.position_of.result c.in-Some.at c.index_mut.result.now c.self.view_is c.position_of.ensures c.in-Some.is c.index_mut.ensures.value (changed_at c.args.place.index (with_attributes c.args.attributes)) _ c.set_attributes.ensures
+returns g c = rows_written c.args.place.file c.self.inside.files.items c.self.inside.current c.args.self.now c.position_of.result c.unwrap-at.result c.index_mut.result.now c.self.view_is c.position_of.ensures c.unwrap-at.ensures c.index_mut.ensures.value (changed_at c.args.place.index (with_attributes c.args.attributes)) _ c.set_attributes.ensures

@@ -1,5 +1,6 @@
 use Rattle.std.proofs.Common.{◌≡◌, ◌≤◌, ℕ, ℤ, Option, Some, ap, get_or, length, position, subst, sym, ◌∙◌, w16}
 use Rattle.std.proofs.lemmas.Int.{to_z-of_z}
+use Rattle.std.proofs.lemmas.Result.{on_ok_weaker}
 use Rattle.std.specs.Option.{option_map}
 use Rattle.std.specs.Prelude.{IfSome}
 use Rattle.fork_bytes.specs.Fork.{max_rows}
@@ -8,15 +9,14 @@ use Rattle.res_table.specs.declared.chain.ResourceTable.{ResourceTable}
 use Rattle.res_table.specs.Info.{with_info}
 use Rattle.res_table.specs.Rows.{changed_at}
 use Rattle.res_table.specs.OpenFiles.{OpenFiles, is_numbered, table_in, table_of}
-use Rattle.res_table.proofs.Files.{file_found, row_inside, rows_written, no_row}
-use Rattle.res_table.proofs.chain.Chain.set_info.Goals.{in-Ok, in-Err}
+use Rattle.res_table.proofs.Files.{file_found, file_there, row_inside, rows_written}
 use Rattle.res_table.proofs.chain.Chain.set_info.Goals as goal
 
-pub returns-in_default-clause-set : goal.returns-in_default-clause-set
-returns-in_default-clause-set g c = absurd (no_row c.args.place c.args.self.now (sym c.position_of.ensures ∙ c.in_default.is) c.requires.there)
+pub unwrap-at-requires : goal.unwrap-at-requires
+unwrap-at-requires g c = file_there c.args.place c.args.self.now c.position_of.result c.position_of.ensures c.requires.there
 
 pub set_info-requires-clause-within : goal.set_info-requires-clause-within
-set_info-requires-clause-within g c = row_inside c.args.place.file c.self.inside.files.items c.self.inside.current c.args.self.now c.position_of.result c.in-Some.at c.index_mut.result.now c.self.view_is c.position_of.ensures c.in-Some.is c.index_mut.ensures.value c.args.place.index c.requires.there
+set_info-requires-clause-within g c = row_inside c.args.place.file c.self.inside.files.items c.self.inside.current c.args.self.now c.position_of.result c.unwrap-at.result c.index_mut.result.now c.self.view_is c.position_of.ensures c.unwrap-at.ensures c.index_mut.ensures.value c.args.place.index c.requires.there
 
 -- the file of the number has few rows
 few_in : {D : Type 0} (k : ℕ) (inside now : OpenFiles D) (at : ℕ) (f : OpenFile D) → inside ≡ now → position (is_numbered k) now.files ≡ Some at → f ≡ get_or inside.files at f
@@ -27,13 +27,12 @@ few_in {D} k inside now at f same is read few =
     subst (λ (table : Option (ResourceTable D)). IfSome table (λ table. length table.rows ≤ max_rows)) (ap (λ (file : Option (OpenFile D)). option_map table_in file) found) few
 
 pub set_info-requires-clause-few : goal.set_info-requires-clause-few
-set_info-requires-clause-few g c = few_in c.args.place.file _ c.args.self.now c.in-Some.at c.index_mut.result.now c.self.view_is (sym c.position_of.ensures ∙ c.in-Some.is) c.index_mut.ensures.value c.requires.few
+set_info-requires-clause-few g c = few_in c.args.place.file _ c.args.self.now c.unwrap-at.result c.index_mut.result.now c.self.view_is (sym c.position_of.ensures ∙ c.unwrap-at.ensures) c.index_mut.ensures.value c.requires.few
 
 pub returns-clause-set : goal.returns-clause-set
-returns-clause-set g c = elim c.match-set_info.branch [
-  | in-Ok w ↦
-      let id = to_z-of_z w16 c.args.id c.ranges.id in
-      rw w.result-is (rows_written c.args.place.file c.self.inside.files.items c.self.inside.current c.args.self.now c.position_of.result c.in-Some.at c.index_mut.result.now c.self.view_is c.position_of.ensures c.in-Some.is c.index_mut.ensures.value (changed_at c.args.place.index (with_info c.args.id c.args.name)) _
-      (w.in-Ok.ensures.set ∙ ap (λ (z : ℤ). changed_at c.args.place.index (with_info z c.args.name) c.index_mut.result.now.table.rows) id))
-  | in-Err w ↦ rw w.result-is tt
-]
+returns-clause-set g c =
+    let id = to_z-of_z w16 c.args.id c.ranges.id in
+    on_ok_weaker c.set_info.result
+    (λ changed. rows_written c.args.place.file c.self.inside.files.items c.self.inside.current c.args.self.now c.position_of.result c.unwrap-at.result c.index_mut.result.now c.self.view_is c.position_of.ensures c.unwrap-at.ensures c.index_mut.ensures.value (changed_at c.args.place.index (with_info c.args.id c.args.name)) c.set_info.new.self
+    (changed ∙ ap (λ (z : ℤ). changed_at c.args.place.index (with_info z c.args.name) c.index_mut.result.now.table.rows) id))
+    c.set_info.ensures.set
