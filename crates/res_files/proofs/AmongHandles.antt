@@ -8,7 +8,11 @@ use Rattle.std.proofs.lemmas.List.Folds.{list_any_at, list_any_more}
 use Rattle.fork_bytes.specs.declared.place.Place.{Place}
 use Rattle.res_table.specs.declared.row.Row.{Row}
 use Rattle.res_table.specs.Rows.{has_handle, is_changed}
-use Rattle.res_files.specs.Handles.{counts_among}
+use Rattle.res_files.specs.Handles.{is_among}
+
+-- whether a row counts and has one of these handles: each counts, or just a changed one
+abbrev pub counts_among : {D : Type 0} → Bool → List ℕ → Row D → Bool
+counts_among just_changed handles r = (not just_changed || is_changed r) && is_among handles r
 
 -- whether a row counts and has this handle: each counts, or just a changed one
 abbrev pub counts_with : Bool → ℕ → Row Place → Bool

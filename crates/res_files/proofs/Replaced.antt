@@ -1,5 +1,5 @@
 -- A store of a file that isn't open is replaced: the others are where they were, and are seen as they were.
-use Rattle.std.proofs.Common.{◌≡◌, refl, sym, ap, ◌∙◌, subst, arith, ℕ, ◌-◌, ◌<◌, ◌≤◌, List, [], ◌∷◌, length, map, set, slice_get, Bool, true, false, Option, IfSome, ◌||◌}
+use Rattle.std.proofs.Common.{◌≡◌, refl, sym, ap, ◌∙◌, subst, arith, ℕ, ◌-◌, ◌≤◌, List, [], ◌∷◌, map, set, Bool, true, false, Option, IfSome, ◌||◌}
 use Rattle.std.specs.Prelude.{IsFalse}
 use Rattle.std.specs.List.{list_any, AllByRecursion}
 use Rattle.std.proofs.lemmas.Bool.{eq-eqb}
@@ -7,7 +7,6 @@ use Rattle.std.proofs.lemmas.List.{length-set}
 use Rattle.fork_bytes.specs.declared.place.Place.{Place}
 use Rattle.res_table.specs.declared.chain.OpenFile.{OpenFile}
 use Rattle.res_table.specs.OpenFiles.{OpenFiles, is_numbered, is_open}
-use Rattle.res_update.specs.Changes.{Files}
 use Rattle.res_update.specs.Placed.{Holds}
 use Rattle.res_files.specs.FilesOn.{FilesOn}
 use Rattle.res_files.specs.Standing.{files_on, StandsOn, StandOn, most_files}

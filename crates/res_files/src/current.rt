@@ -12,11 +12,5 @@ pub(crate) fn current_rows(chain: &Chain<Place>) -> Option<&Rows<Place>>
     ensures some { IfSome result (λ rows. rows.now ≡ placed_rows chain.now) }
     ensures none { IfNone result (placed_rows chain.now ≡ []) }
 {
-    let Some(number) = chain.current() else {
-        return None;
-    };
-    let Some(table) = chain.table(number) else {
-        return None;
-    };
-    Some(&table.rows)
+    Some(&chain.table(chain.current()?)?.rows)
 }

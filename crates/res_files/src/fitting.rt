@@ -88,10 +88,7 @@ fn names_end(rows: &Rows<Place>, from: usize, to: usize, start: usize) -> Option
     let mut next = start;
     let mut at = from;
     while at < to {
-        let Some(end) = after(next, name_of(rows.row(at))) else {
-            return None;
-        };
-        next = end;
+        next = after(next, name_of(rows.row(at)))?;
         at += 1;
     }
     Some(next)

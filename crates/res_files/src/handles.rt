@@ -1,10 +1,11 @@
 //! The handles of the rows of a file.
 
-ghost use Rattle.std.specs.Prelude.{◌≡◌, ◌+◌, ◌≤◌, ◌++◌, ◌∷◌, true, List, length, drop, All, IfSome, IfNone, Some, None};
+ghost use Rattle.std.specs.Prelude.{◌≡◌, ◌+◌, ◌≤◌, ◌++◌, ◌∷◌, ◌&&◌, List, length, drop, All, IfSome, IfNone, Some, None};
 ghost use Rattle.res_table.specs.declared.row.Row.{Row};
 ghost use Rattle.fork_bytes.specs.declared.place.Place.{Place};
 ghost use Rattle.std.specs.List.{list_any};
-ghost use Rattle.res_files.specs.Handles.{counts_among, is_among};
+ghost use Rattle.res_files.specs.Handles.{is_among};
+ghost use Rattle.res_table.specs.Rows.{is_changed};
 
 use fork_bytes::place::Place;
 use mac_base::handle::Handle;
@@ -28,7 +29,7 @@ pub(crate) fn next_handle(rows: &Rows<Place>, from: usize) -> Option<(usize, Han
 }
 
 /// Whether there is a row that has one of these handles.
-fn has_any_row(rows: &Rows<Place>, handles: &[u32]) -> bool
+pub(crate) fn has_row_among(rows: &Rows<Place>, handles: &[u32]) -> bool
     ensures { result ≡ list_any (is_among handles.now) rows.now }
 {
     for handle in handles {
@@ -40,8 +41,8 @@ fn has_any_row(rows: &Rows<Place>, handles: &[u32]) -> bool
 }
 
 /// Whether there is a changed row that has one of these handles.
-fn has_changed_row(rows: &Rows<Place>, handles: &[u32]) -> bool
-    ensures { result ≡ list_any (counts_among true handles.now) rows.now }
+pub(crate) fn has_changed_row_among(rows: &Rows<Place>, handles: &[u32]) -> bool
+    ensures { result ≡ list_any (λ r. is_changed r && is_among handles.now r) rows.now }
 {
     for handle in handles {
         if rows.has_changed(Handle::new(*handle)) {
@@ -49,16 +50,4 @@ fn has_changed_row(rows: &Rows<Place>, handles: &[u32]) -> bool
         }
     }
     false
-}
-
-/// Whether there is a row that counts and has one of these handles: each counts, or just a changed one. The rows of a
-/// handle are found without going through the others.
-pub(crate) fn has_row_among(rows: &Rows<Place>, handles: &[u32], just_changed: bool) -> bool
-    ensures { result ≡ list_any (counts_among just_changed handles.now) rows.now }
-{
-    if just_changed {
-        has_changed_row(rows, handles)
-    } else {
-        has_any_row(rows, handles)
-    }
 }

@@ -1,19 +1,19 @@
 //! What is asked of the open files.
 
-ghost use Rattle.std.specs.Prelude.{◌≡◌, ◌≤◌, ◌+◌, ◌++◌, ◌∷◌, List, length, drop, All, IfSome, IfNone, IsSome, IsTrue, Some, None, option_map};
+ghost use Rattle.std.specs.Prelude.{◌≡◌, ◌≤◌, ◌+◌, ◌++◌, ◌∷◌, ◌&&◌, List, length, drop, All, IfSome, IfNone, IsSome, IsTrue, Some, None, option_map};
 ghost use Rattle.std.specs.Option.{option_and_then, IsSomeAnd};
 ghost use Rattle.fork_bytes.specs.Fork.{max_rows};
 ghost use Rattle.res_table.specs.OpenFiles.{is_open, place_of_resource, place_here, place_of_handle, place_of_name, name_here, row_at};
-ghost use Rattle.res_table.specs.Rows.{count_of_type, unique_id, ith, index_of_ith};
+ghost use Rattle.res_table.specs.Rows.{count_of_type, unique_id, ith, index_of_ith, is_changed};
 ghost use Rattle.res_update.specs.Changes.{FileRow, current_rows, rows_of};
 ghost use Rattle.res_update.specs.Files.{current_types};
 ghost use Rattle.res_files.specs.FilesOn.{Shows};
-ghost use Rattle.res_files.specs.Handles.{counts_among};
+ghost use Rattle.res_files.specs.Handles.{is_among};
 ghost use Rattle.std.specs.List.{list_any};
 
 use crate::current::current_rows;
 use crate::files::ResourceFiles;
-use crate::handles::{has_row_among, next_handle};
+use crate::handles::{has_changed_row_among, has_row_among, next_handle};
 use fork_bytes::place::Place;
 use fork_disk::store::ForkStore;
 use mac_base::handle::Handle;
@@ -77,15 +77,9 @@ impl<S: ForkStore> ResourceFiles<S> {
         ensures value { result ≡ option_and_then (λ k. option_map (λ at. record { file = k; index = at }) (index_of_ith kind index (current_rows self.now.files))) self.now.files.current }
         ensures there { IfSome result (λ place. IsSome (row_at place self.now.files)) }
     {
-        let Some(file) = self.chain.current() else {
-            return None;
-        };
-        let Some(rows) = current_rows(&self.chain) else {
-            return None;
-        };
-        let Some(index) = rows.index_of_ith(kind, index as usize) else {
-            return None;
-        };
+        let file = self.chain.current()?;
+        let rows = current_rows(&self.chain)?;
+        let index = rows.index_of_ith(kind, index as usize)?;
         Some(RowPlace { file, index })
     }
 
@@ -119,10 +113,8 @@ impl<S: ForkStore> ResourceFiles<S> {
     pub fn type_of_ith(&self, index: u32) -> Option<ResType>
         ensures { result ≡ ith index (current_types self.now.files) }
     {
-        match current_rows(&self.chain) {
-            Some(rows) => rows.type_of_ith(index as usize),
-            None => None,
-        }
+        let rows = current_rows(&self.chain)?;
+        rows.type_of_ith(index as usize)
     }
 
     /// How many resources of a type the current file has.
@@ -153,19 +145,26 @@ impl<S: ForkStore> ResourceFiles<S> {
         ensures none { IfNone result (All (λ r. r.handle ≡ None) (drop from (rows_of number self.now.files))) }
         ensures few { length (rows_of number self.now.files) ≤ max_rows }
     {
+        let table = self.chain.table(number)?;
+        next_handle(&table.rows, from)
+    }
+
+    /// Whether there is a row of the file of a number that has one of these handles.
+    pub fn has_row_among(&self, number: u8, handles: &[u32]) -> bool
+        ensures { result ≡ list_any (is_among handles.now) (rows_of number self.now.files) }
+    {
         match self.chain.table(number) {
-            Some(table) => next_handle(&table.rows, from),
-            None => None,
+            Some(table) => has_row_among(&table.rows, handles),
+            None => false,
         }
     }
 
-    /// Whether there is a row of the file of a number that has one of these handles; where just the changed rows count,
-    /// one of them.
-    pub fn has_row_among(&self, number: u8, handles: &[u32], just_changed: bool) -> bool
-        ensures { result ≡ list_any (counts_among just_changed handles.now) (rows_of number self.now.files) }
+    /// Whether there is a changed row of the file of a number that has one of these handles.
+    pub fn has_changed_row_among(&self, number: u8, handles: &[u32]) -> bool
+        ensures { result ≡ list_any (λ r. is_changed r && is_among handles.now r) (rows_of number self.now.files) }
     {
         match self.chain.table(number) {
-            Some(table) => has_row_among(&table.rows, handles, just_changed),
+            Some(table) => has_changed_row_among(&table.rows, handles),
             None => false,
         }
     }

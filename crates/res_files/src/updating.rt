@@ -12,9 +12,7 @@ ghost use Rattle.res_files.specs.Stores.{UpdatesStore};
 
 use crate::files::ResourceFiles;
 use crate::placing::place_rows;
-use fork_bytes::place::Place;
 use fork_disk::store::{ForkStore, ReplaceFault};
-use res_table::chain::Chain;
 use res_update::contents::Contents;
 use res_update::fault::UpdateFault;
 use res_update::selection::Selection;
@@ -25,13 +23,6 @@ fn is_later(fault: UpdateFault) -> bool
     ensures { IsTrue result ↔ (fault ≡ UpdateFault.Device ReplaceFault.Later) }
 {
     matches!(fault, UpdateFault::Device(ReplaceFault::Later))
-}
-
-/// Closes the file of a number.
-fn close_file(chain: &mut Chain<Place>, number: u8)
-    ensures { chain.new ≡ file_closed number chain.old }
-{
-    chain.close(number);
 }
 
 impl<S: ForkStore> ResourceFiles<S> {
@@ -69,9 +60,7 @@ impl<S: ForkStore> ResourceFiles<S> {
         ensures cause_later { IsErrOf result (UpdateFault.Device ReplaceFault.Later)
             → FailedAt S.failures number self.old.stores self.new.stores }
     {
-        let Some(table) = self.chain.table(number) else {
-            return Ok(());
-        };
+        let table = self.chain.table(number).unwrap();
         let store = &mut self.stores[number as usize - 1];
         match write_table(self.alloc, store, table, selection, contents) {
             Ok(places) => {
@@ -79,9 +68,8 @@ impl<S: ForkStore> ResourceFiles<S> {
                 Ok(())
             }
             Err(fault) => {
-                let later = is_later(fault);
-                if later {
-                    close_file(&mut self.chain, number);
+                if is_later(fault) {
+                    drop(self.chain.close(number));
                 }
                 Err(fault)
             }

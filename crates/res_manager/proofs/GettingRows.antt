@@ -162,6 +162,15 @@ module _ {S : Type 0} (store : Ghosts S) (old : ZoneState) (on : FilesOn S) (p :
       let kept : (now : FileRow) × (row_at p mid_files.files ≡ Some now) × (now.resource ≡ r.resource) = rw forgotten (row_forgotten (disposed_in asks) p on.files r got.here) in
       rw kept.1 (got.long ∙ ap (λ (resource : Resource (List ℕ)). length resource.datum) (sym kept.2))
 
+  -- the row is still there, also where files answer for others
+  pub there_then : IsSome (row_at p mid_files.files)
+  there_then =
+      let kept : (now : FileRow) × (row_at p mid_files.files ≡ Some now) × (now.resource ≡ r.resource) = rw forgotten (row_forgotten (disposed_in asks) p on.files r got.here) in
+      rw kept.1 refl
+
+  pub still_there : (honest : ℕ → Type 0) (files : Files) → AnswersFor honest mid_files.files files → IsSome (row_at p files)
+  still_there honest files answer = blank-there p files mid_files.files (answer none (none_honest honest)) there_then
+
   abbrev begun : ResState
   begun = state_of store.fork old on
 
@@ -214,13 +223,10 @@ module _ {S : Type 0} (store : Ghosts S) (old : ZoneState) (on : FilesOn S) (p :
         }
 
     -- the row has its handle, which is empty
-    pub empty_load : loads ≡ false → new.heap ≡ mid.heap → new_files ≡ mid_files → (last_files : FilesOn S) → (IsSome (row_at p new_files.files) → last_files ≡ record new_files { files = row_changed p (with_handle (Some h)) new_files.files })
+    pub empty_load : loads ≡ false → new.heap ≡ mid.heap → new_files ≡ mid_files → (last_files : FilesOn S) → last_files ≡ record new_files { files = row_changed p (with_handle (Some h)) new_files.files }
         → LoadSteps store old on p loads asks (Ok h) new last_files
-    empty_load none heap unread last_files attached =
+    empty_load none heap unread last_files is =
         let honest = HonestAt store.is_honest last_files.stores in
-        let kept : (now : FileRow) × (row_at p mid_files.files ≡ Some now) × (now.resource ≡ r.resource) = rw forgotten (row_forgotten (disposed_in asks) p on.files r got.here) in
-        let there : IsSome (row_at p new_files.files) = rw (unread, kept.1) refl in
-        let is = attached there in
         let placed : ResState = after_memory asks mid.heap begun in
         let last : ResState = with_files (row_changed p (with_handle (Some h)) placed.files) placed in
         let ends : state_of store.fork new last_files ≡ last = rw (is, new_shape, heap, unread, shape, forgotten) refl in
@@ -239,13 +245,10 @@ module _ {S : Type 0} (store : Ghosts S) (old : ZoneState) (on : FilesOn S) (p :
     -- the row has its handle, with the bytes that were read
     pub given_load : (attributes : ResAttrs) (bytes : List ℕ) → loads ≡ true → attributes ≡ r.resource.attributes → AreAnswered (HonestAt store.is_honest new_files.stores p.file) size (row_at p mid_files.files) bytes
         → new.heap ≡ loaded_with h (flags_for attributes) bytes mid.heap → map store.failures new_files.stores ≡ map store.failures mid_files.stores
-        → (last_files : FilesOn S) → (IsSome (row_at p new_files.files) → last_files ≡ record new_files { files = row_changed p (with_handle (Some h)) new_files.files })
+        → (last_files : FilesOn S) → last_files ≡ record new_files { files = row_changed p (with_handle (Some h)) new_files.files }
         → LoadSteps store old on p loads asks (Ok h) new last_files
-    given_load attributes bytes is same_attributes answered heap worked last_files attached =
+    given_load attributes bytes is same_attributes answered heap worked last_files is_last =
         let honest = HonestAt store.is_honest new_files.stores in
-        let kept : (now : FileRow) × (row_at p mid_files.files ≡ Some now) × (now.resource ≡ r.resource) = rw forgotten (row_forgotten (disposed_in asks) p on.files r got.here) in
-        let there : IsSome (row_at p mid_files.files) = rw kept.1 refl in
-        let is_last = attached (blank-there p new_files.files mid_files.files (files none (none_honest honest)) there) in
         let shown : FileRow = with_datum bytes r in
         let long : length bytes ≡ length r.resource.datum = answered.long ∙ got.long in
         let mine : honest p.file → bytes ≡ r.resource.datum = λ all. own-forgotten (disposed_in asks) p on.files r bytes got.here

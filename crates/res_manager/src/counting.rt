@@ -3,6 +3,7 @@
 ghost use Rattle.std.specs.Prelude.{◌≡◌};
 ghost use Rattle.res_update.specs.Counted.{counted, told_of_all};
 
+use crate::tests::test_file;
 use fork_disk::store::ForkStore;
 use mac_base::error::OsErr;
 use mac_base::{Outcome, Results};
@@ -13,9 +14,7 @@ use res_update::CountingCall;
 pub fn count<S: ForkStore>(files: &ResourceFiles<S>, call: CountingCall) -> Outcome
     ensures { result ≡ counted call files.now.files }
 {
-    if files.current().is_none() {
-        return Err(OsErr::ResFNotFound);
-    }
+    test_file(files)?;
     told_of_all(files, call)
 }
 
@@ -26,14 +25,14 @@ fn told_of_all<S: ForkStore>(files: &ResourceFiles<S>, call: CountingCall) -> Ou
 {
     match call {
         CountingCall::CountTypes => Ok(Results::Number(files.count_types_in_all())),
-        CountingCall::GetIndType(index) => match files.type_of_ith_in_all(index) {
-            Some(kind) => Ok(Results::Kind(kind)),
-            None => Err(OsErr::ResNotFound),
-        },
+        CountingCall::GetIndType(index) => files
+            .type_of_ith_in_all(index)
+            .map(Results::Kind)
+            .ok_or(OsErr::ResNotFound),
         CountingCall::CountResources(kind) => Ok(Results::Number(files.count_in_all(kind))),
-        CountingCall::UniqueId(kind) => match files.free_id_in_all(kind) {
-            Some(id) => Ok(Results::Number(u32::from(id))),
-            None => Err(OsErr::AddResFailed),
-        },
+        CountingCall::UniqueId(kind) => {
+            let id = files.free_id_in_all(kind).ok_or(OsErr::AddResFailed)?;
+            Ok(Results::Number(u32::from(id)))
+        }
     }
 }

@@ -38,10 +38,8 @@ pub(crate) fn get<S: ForkStore, G: GrowZone>(
 {
     let place = test_wanted(files, &call)?;
     let loads = loads_bytes(files, &call);
-    match get_row(files, memory, place, loads, procedure) {
-        Ok(handle) => Ok(given(&call, handle)),
-        Err(code) => Err(code),
-    }
+    let handle = get_row(files, memory, place, loads, procedure)?;
+    Ok(given(&call, handle))
 }
 
 /// The place of the row that a call gets or loads, or the call's refusal.

@@ -7,11 +7,14 @@ ghost use Rattle.res_update.specs.Info.{info_changed, info_refusal};
 ghost use Rattle.res_table.specs.OpenFiles.{place_of_handle, row_at};
 
 use crate::quiet::copy_if_named;
-use crate::tests::{require, test_row, test_unprotected};
+use crate::rows::attributes_at;
+use crate::tests::{require, test_row};
+use bitflags::Flags;
 use fork_disk::store::ForkStore;
 use mac_base::error::{HostFull, OsErr};
 use mac_base::handle::Handle;
 use mac_base::name::MAX_NAME;
+use mac_base::resource::ResAttrs;
 use res_files::ResourceFiles;
 use res_table::chain::RowPlace;
 use std::alloc::Global;
@@ -54,7 +57,8 @@ fn test_info<S: ForkStore>(
     ensures short { OnOk result (IsTrue (nat_le (option_map_or length (option_copied name.entry) 0) 255)) }
 {
     let place = test_row(files, handle, OsErr::ResNotFound)?;
-    test_unprotected(files, handle, OsErr::ResAttrErr)?;
+    let attributes = attributes_at(files, place);
+    require(!attributes.contains(ResAttrs::PROTECTED), OsErr::ResAttrErr)?;
     require(
         name.is_none_or(|name| name.len() <= MAX_NAME),
         OsErr::ParamErr,

@@ -7,13 +7,12 @@ ghost use Rattle.mac_base.specs.HandleTable.{is_full, with_flags};
 ghost use Rattle.mac_base.specs.Heap.{with_table, with_emptied};
 ghost use Rattle.mac_base.specs.Releasing.{heap_released};
 ghost use Rattle.mac_base.specs.Outcomes.{Outcome};
-ghost use Rattle.res_update.specs.Changes.{handles_forgotten, row_changed};
+ghost use Rattle.res_update.specs.Changes.{handles_forgotten};
 ghost use Rattle.mac_base.specs.Released.{disposed_in};
 ghost use Rattle.res_files.specs.FilesOn.{FailedAt, HonestAt, NoneFailed};
 ghost use Rattle.res_files.specs.Stores.{KeepsStores};
 ghost use Rattle.res_update.specs.Answered.{AnswersFor};
 ghost use Rattle.res_table.specs.OpenFiles.{row_at};
-ghost use Rattle.res_table.specs.Rows.{with_handle};
 ghost use Rattle.res_manager.specs.Loading.{LoadSteps, AreAnswered, IsPlaced, IsFilled, HasBytes, flags_for, loaded_with, place_call, handle_placed};
 ghost use Rattle.res_update.specs.Steps.{Memory};
 
@@ -71,18 +70,8 @@ pub(crate) fn get_row<S: ForkStore, G: GrowZone>(
             attributes,
         )?;
     }
-    attach(files, place, handle);
+    files.set_handle(place, Some(handle));
     Ok(handle)
-}
-
-/// Gives the row at a place a handle, where a row is there.
-fn attach<S: ForkStore>(files: &mut ResourceFiles<S>, place: RowPlace, handle: Handle)
-    ensures attached { IsSome (row_at place files.old.files) → files.new ≡ record files.old { files = row_changed place (with_handle (Some handle)) files.old.files } }
-    ensures stores { files.new.stores ≡ files.old.stores }
-{
-    if files.row(place).is_some() {
-        files.set_handle(place, Some(handle));
-    }
 }
 
 /// Whether a handle serves as it is: it has a block, or nothing is to be loaded.

@@ -10,7 +10,7 @@ ghost use Rattle.res_manager.specs.Partial.{ReadsPartOn};
 ghost use Rattle.res_manager.specs.Steps.{state_of};
 ghost use Rattle.res_table.specs.OpenFiles.{row_at};
 
-use crate::tests::is_full;
+use crate::tests::{is_full, test_row};
 use fork_disk::store::ForkStore;
 use mac_base::error::OsErr;
 use mac_base::handle::Handle;
@@ -65,12 +65,7 @@ fn find_part<S: ForkStore>(
     ensures found { result ≡ part_asked handle offset count files.now.files }
     ensures within { IfOk result (λ place. IfSome (row_at place files.now.files) (λ r. offset + count ≤ length r.resource.datum)) }
 {
-    if files.current().is_none() {
-        return Err(PartialEnd::Refused(OsErr::ResFNotFound));
-    }
-    let Some(place) = files.row_of_handle(handle) else {
-        return Err(PartialEnd::Refused(OsErr::ResNotFound));
-    };
+    let place = test_row(files, handle, OsErr::ResNotFound).map_err(PartialEnd::Refused)?;
     if !has_part(length_at(files, place), offset as usize, count) {
         return Err(PartialEnd::OutOfBounds);
     }

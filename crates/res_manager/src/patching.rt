@@ -19,8 +19,8 @@ ghost use Rattle.res_manager.specs.Steps.{state_of};
 
 use crate::contents::After;
 use crate::partial::{end_of_part, length_at};
-use crate::quiet::attributes_at;
-use crate::tests::is_full;
+use crate::rows::attributes_at;
+use crate::tests::{is_full, test_row};
 use fork_bytes::layout::MAX_FORK;
 use fork_disk::disk::DiskFault;
 use fork_disk::store::ForkStore;
@@ -94,12 +94,8 @@ fn find_patched<S: ForkStore>(
     ensures there { IfOk result (λ place. HasHandle place (handle_patched call.now) files.now.files) }
     ensures within { IfOk result (λ place. IsTrue (begins_within call.now (data_at place files.now.files))) }
 {
-    if files.current().is_none() {
-        return Err(PartialEnd::Refused(OsErr::ResFNotFound));
-    }
-    let Some(place) = files.row_of_handle(handle_patched(call)) else {
-        return Err(PartialEnd::Refused(OsErr::ResNotFound));
-    };
+    let handle = handle_patched(call);
+    let place = test_row(files, handle, OsErr::ResNotFound).map_err(PartialEnd::Refused)?;
     if !begins_within(call, length_at(files, place)) {
         return Err(PartialEnd::OutOfBounds);
     }

@@ -1,25 +1,20 @@
 //! The calls that need neither room in the zone nor a disk.
 
-ghost use Rattle.std.specs.Prelude.{◌≡◌, length, nat_le, option_copied, IfOk, OnErr, Some, IsSome, IsTrue};
+ghost use Rattle.std.specs.Prelude.{◌≡◌, length, nat_le, option_copied, IfOk, OnErr, Some, IsTrue};
 ghost use Rattle.std.specs.Option.{option_map_or};
 ghost use Rattle.linked_zone.specs.Loans.{KeepsLoans};
 ghost use Rattle.mac_base.specs.ZoneState.{ZoneState};
 ghost use Rattle.mac_base.specs.declared.resource_call.ResourceCall.TheVariants.{Looking, Changing, AddResource, GetResInfo};
 ghost use Rattle.mac_base.specs.declared.resource_call.ChangingCall.TheVariants.{ReleaseResource, DetachResource, RemoveResource, ChangedResource, SetResAttrs};
 ghost use Rattle.res_update.specs.Attributes.{marked, replaced_attributes};
-ghost use Rattle.res_update.specs.Changes.{FileRow};
 ghost use Rattle.res_update.specs.Files.{ResState};
 ghost use Rattle.res_update.specs.Quiet.{quiet_results};
 ghost use Rattle.res_manager.specs.Steps.{state_of};
-ghost use Rattle.res_table.specs.OpenFiles.{row_at};
 ghost use Rattle.res_manager.specs.Tests.{Passes, Tests, early_tests};
 ghost use Rattle.res_manager.specs.Ends.{EndsTested};
 
-use crate::rows::test_found;
-use crate::tests::{
-    is_changed, is_lent, require, test_adding, test_file, test_open, test_row, test_unchanged,
-    test_unprotected,
-};
+use crate::rows::{attributes_at, test_found};
+use crate::tests::{is_lent, require, test_adding, test_file, test_open, test_row};
 use bitflags::Flags;
 use fork_disk::store::ForkStore;
 use mac_base::error::{HostFull, OsErr};
@@ -30,7 +25,6 @@ use mac_base::{ChangingCall, LookingCall, Outcome, ResourceInfo, Results};
 use mem_calls::MemoryManager;
 use res_files::ResourceFiles;
 use res_table::attributes::unmarked;
-use res_table::chain::RowPlace;
 use std::alloc::Global;
 
 /// Makes a call that returns what the open files say.
@@ -153,8 +147,8 @@ fn release<S: ForkStore>(
     ensures shape { memory.new.shape ≡ memory.old.shape }
     ensures stores { files.new.stores ≡ files.old.stores }
 {
-    test_row(files, handle, OsErr::ResNotFound)?;
-    if is_changed(files, handle) {
+    let place = test_row(files, handle, OsErr::ResNotFound)?;
+    if attributes_at(files, place).contains(ResAttrs::CHANGED) {
         return Ok(());
     }
     require(!is_lent(memory, handle), OsErr::MemLockedErr)?;
@@ -174,8 +168,9 @@ fn detach<S: ForkStore>(
     ensures shape { memory.new.shape ≡ memory.old.shape }
     ensures stores { files.new.stores ≡ files.old.stores }
 {
-    test_row(files, handle, OsErr::ResNotFound)?;
-    test_unchanged(files, handle, OsErr::ResAttrErr)?;
+    let place = test_row(files, handle, OsErr::ResNotFound)?;
+    let attributes = attributes_at(files, place);
+    require(!attributes.contains(ResAttrs::CHANGED), OsErr::ResAttrErr)?;
     let _ = memory.hclr_rbit(handle);
     files.forget(handle);
     Ok(())
@@ -193,7 +188,11 @@ fn remove<S: ForkStore>(
     ensures stores { files.new.stores ≡ files.old.stores }
 {
     let place = test_row(files, handle, OsErr::RmvResFailed)?;
-    test_unprotected(files, handle, OsErr::RmvResFailed)?;
+    let attributes = attributes_at(files, place);
+    require(
+        !attributes.contains(ResAttrs::PROTECTED),
+        OsErr::RmvResFailed,
+    )?;
     let _ = memory.hclr_rbit(handle);
     files.remove(place);
     Ok(())
@@ -205,9 +204,9 @@ fn mark<S: ForkStore>(files: &mut ResourceFiles<S>, handle: Handle) -> Result<()
     ensures stores { files.new.stores ≡ files.old.stores }
 {
     let place = test_row(files, handle, OsErr::ResNotFound)?;
-    test_unprotected(files, handle, OsErr::ResAttrErr)?;
-    let attributes = marked(attributes_at(files, place));
-    files.set_attributes(place, attributes);
+    let attributes = attributes_at(files, place);
+    require(!attributes.contains(ResAttrs::PROTECTED), OsErr::ResAttrErr)?;
+    files.set_attributes(place, marked(attributes));
     Ok(())
 }
 
@@ -225,14 +224,6 @@ fn set_attributes<S: ForkStore>(
     let attributes = replaced_attributes(attributes as u8, attributes_at(files, place));
     files.set_attributes(place, attributes);
     Ok(())
-}
-
-/// The attributes of the row at a place.
-pub(crate) fn attributes_at<S: ForkStore>(files: &ResourceFiles<S>, place: RowPlace) -> ResAttrs
-    requires { IsSome (row_at place files.now.files) }
-    ensures { (r : FileRow) × (row_at place files.now.files ≡ Some r) × (result ≡ r.resource.attributes) }
-{
-    files.row(place).unwrap().resource.attributes
 }
 
 /// The attributes with resChanged.

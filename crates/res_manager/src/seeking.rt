@@ -8,6 +8,7 @@ ghost use Rattle.res_manager.specs.Steps.{SoughtSteps};
 ghost use Rattle.res_table.specs.OpenFiles.{row_at};
 
 use crate::load::get_row;
+use crate::tests::test_file;
 use fork_disk::store::ForkStore;
 use mac_base::error::OsErr;
 use mac_base::{GrowZone, Outcome, Results};
@@ -36,10 +37,7 @@ pub fn seek<S: ForkStore, G: GrowZone>(
 {
     let place = find_sought(files, call)?;
     let loads = files.loads();
-    match get_row(files, memory, place, loads, procedure) {
-        Ok(handle) => Ok(Results::Handle(handle)),
-        Err(code) => Err(code),
-    }
+    get_row(files, memory, place, loads, procedure).map(Results::Handle)
 }
 
 /// Where the resource is that a call seeks, or why the call is refused.
@@ -50,9 +48,7 @@ fn find_sought<S: ForkStore>(
     ensures found { result ≡ sought call.now files.now.files }
     ensures there { IfOk result (λ place. IsSome (row_at place files.now.files)) }
 {
-    let Some(_) = files.current() else {
-        return Err(OsErr::ResFNotFound);
-    };
+    test_file(files)?;
     find_place(files, call).ok_or(OsErr::ResNotFound)
 }
 

@@ -1,25 +1,21 @@
 //! When the calls of the Resource Manager are refused before any work.
 
-ghost use Rattle.std.specs.Prelude.{◌≡◌, ◌&&◌, ◌||◌, not, true, false, nat_le, length, is_some, option_copied, IfOk, IfSome, IfNone, IsSomeAnd, IsTrue, Some};
-ghost use Rattle.std.specs.List.{list_any};
+ghost use Rattle.std.specs.Prelude.{◌≡◌, ◌&&◌, true, false, nat_le, length, is_some, option_copied, IfOk, IfSome, IfNone, IsSomeAnd, IsTrue, Some};
 ghost use Rattle.std.specs.Option.{option_map_or, option_or};
-ghost use Rattle.mac_base.specs.HandleTable.{HandleTable, is_full, is_lent};
+ghost use Rattle.mac_base.specs.HandleTable.{is_full, is_lent};
 ghost use Rattle.mac_base.specs.Tests.{unless_passed};
 ghost use Rattle.mac_base.specs.declared.resource_call.ResourceCall.TheVariants.{Writing, AddResource};
 ghost use Rattle.mac_base.specs.declared.resource_call.WritingCall.TheVariants.{WriteResource, UpdateResFile, CloseResFile};
 ghost use Rattle.mem_calls.specs.Testing.{Answers};
-ghost use Rattle.res_update.specs.Changes.{rows_of};
 ghost use Rattle.res_update.specs.Files.{file_named};
-ghost use Rattle.res_update.specs.Attributes.{has_bit, res_protected};
-ghost use Rattle.res_update.specs.Tests.{is_id, may_be_added, is_lent_row};
+ghost use Rattle.res_update.specs.Tests.{is_id, may_be_added};
 ghost use Rattle.res_update.specs.Updates.{new_row, row_passes};
-ghost use Rattle.res_table.specs.Attributes.{res_changed};
 ghost use Rattle.res_table.specs.OpenFiles.{is_open, place_of_handle, row_at};
 ghost use Rattle.res_table.specs.Rows.{is_changed};
 ghost use Rattle.res_manager.specs.Steps.{state_of};
 ghost use Rattle.res_manager.specs.Tests.{AreLent, Tests, early_tests};
 
-use crate::rows::row_of;
+use crate::rows::attributes_at;
 use bitflags::Flags;
 use fork_disk::store::ForkStore;
 use mac_base::block::Status;
@@ -116,7 +112,7 @@ pub(crate) fn test_changed<S: ForkStore>(
     test_file(files)?;
     let number = test_open(files, named)?;
     require(
-        !has_lent_row(files, lent, number, true),
+        !files.has_changed_row_among(number, lent),
         OsErr::MemLockedErr,
     )?;
     Ok(number)
@@ -136,10 +132,7 @@ pub(crate) fn test_closing<S: ForkStore>(
 {
     test_file(files)?;
     let number = test_open(files, named)?;
-    require(
-        !has_lent_row(files, lent, number, false),
-        OsErr::MemLockedErr,
-    )?;
+    require(!files.has_row_among(number, lent), OsErr::MemLockedErr)?;
     Ok(number)
 }
 
@@ -156,7 +149,7 @@ pub(crate) fn test_written<S: ForkStore>(
     ensures unchanged { IfOk result (λ found. IfNone found (row_passes is_changed handle files.now.files ≡ false)) }
 {
     let place = test_row(files, handle, OsErr::ResNotFound)?;
-    if !is_changed(files, handle) {
+    if !attributes_at(files, place).contains(ResAttrs::CHANGED) {
         return Ok(None);
     }
     require(!is_lent(memory, handle), OsErr::MemLockedErr)?;
@@ -181,58 +174,6 @@ pub(crate) fn test_adding<S: ForkStore>(
     let passes = may_be_added(files, memory, handle, kind, id, name);
     require(passes, OsErr::AddResFailed)?;
     Ok((number, id))
-}
-
-/// Whether the handle of some row of a file is among the blocks that are lent, or where just the changed rows count, of
-/// one of these.
-fn has_lent_row<S: ForkStore>(
-    files: &ResourceFiles<S>,
-    lent: &[u32],
-    number: u8,
-    just_changed: bool,
-) -> bool
-    ensures { (table : HandleTable) → AreLent table lent.now
-        → result ≡ list_any (λ r. (not just_changed || is_changed r) && is_lent_row table r) (rows_of number files.now.files) }
-{
-    files.has_row_among(number, lent, just_changed)
-}
-
-/// Whether the row of a handle is changed; so it counts where there is none.
-pub(crate) fn is_changed<S: ForkStore>(files: &ResourceFiles<S>, handle: Handle) -> bool
-    ensures { result ≡ row_passes is_changed handle files.now.files }
-{
-    match row_of(files, handle) {
-        Some(row) => row.is_changed(),
-        None => true,
-    }
-}
-
-/// Tests that the row of a handle lacks resChanged; it is refused with a code.
-pub(crate) fn test_unchanged<S: ForkStore>(
-    files: &ResourceFiles<S>,
-    handle: Handle,
-    code: OsErr,
-) -> Result<(), OsErr>
-    ensures { Answers (unless_passed code (row_passes (λ r. not (has_bit res_changed r.resource.attributes)) handle files.now.files)) result }
-{
-    match row_of(files, handle) {
-        Some(row) => require(!row.resource.attributes.contains(ResAttrs::CHANGED), code),
-        None => Ok(()),
-    }
-}
-
-/// Tests that the row of a handle isn't protected; it is refused with a code.
-pub(crate) fn test_unprotected<S: ForkStore>(
-    files: &ResourceFiles<S>,
-    handle: Handle,
-    code: OsErr,
-) -> Result<(), OsErr>
-    ensures { Answers (unless_passed code (row_passes (λ r. not (has_bit res_protected r.resource.attributes)) handle files.now.files)) result }
-{
-    match row_of(files, handle) {
-        Some(row) => require(!row.resource.attributes.contains(ResAttrs::PROTECTED), code),
-        None => Ok(()),
-    }
 }
 
 /// Whether a handle is lent. Only what has a block is.

@@ -1,4 +1,4 @@
-use Rattle.std.proofs.Common.{◌≡◌, ◌∙◌, List, length, sym, refl, ap, subst, IsSome, Some}
+use Rattle.std.proofs.Common.{◌≡◌, ◌∙◌, length, sym, refl, ap, subst, Some}
 use Rattle.std.proofs.lemmas.Result.{err_from_is_err_and}
 use Rattle.std.specs.Prelude.{if◌then◌else◌}
 use Rattle.mac_base.specs.Heap.{with_emptied}
@@ -8,10 +8,9 @@ use Rattle.res_files.specs.FilesOn.{FilesOn, HonestAt, fork_of}
 use Rattle.res_files.specs.Stores.{KeepsStores}
 use Rattle.res_update.specs.Answered.{AnswersFor}
 use Rattle.res_update.specs.Changes.{row_changed}
-use Rattle.res_table.specs.OpenFiles.{row_at}
 use Rattle.res_table.specs.Rows.{with_handle}
 use Rattle.res_manager.specs.Steps.{state_of}
-use Rattle.res_manager.proofs.GettingRows.{IsGot, empty_load, failed_load, given_load, long_then, refused_load, served, some-holds}
+use Rattle.res_manager.proofs.GettingRows.{IsGot, empty_load, failed_load, given_load, long_then, refused_load, served, some-holds, still_there, there_then}
 use Rattle.res_manager.proofs.Keeping.{kept_same, kept_then}
 use Rattle.res_manager.proofs.Lent.{lent_placed}
 use Rattle.res_manager.proofs.load.get_row.Goals as goal
@@ -42,6 +41,15 @@ load_bytes-requires-clause-long g c =
     let step = c.make_place.ensures.step in
     long_then g.S.ForkStore c.args.memory.now c.args.files.now c.args.place c.args.loads c.match-own.own c.unwrap-row.result.now.resource.datum.length shown.0 (got g (goal.at.load_bytes-requires-clause-long g c).After-make_place) (g.G.GrowZone.asks c.make_place.new.procedure) c.make_place.new.memory c.make_place.new.files c.make_place.ensures.forgotten c.make_place.ensures.shape step.0 step.1
 
+pub set_handle-requires : goal.set_handle-requires
+set_handle-requires g c =
+    let shown = some-holds _ _ _ c.unwrap-row.ensures c.row.ensures.some in
+    let step = c.make_place.ensures.step in
+    elim c.if-loads.branch [
+      | else-loads w ↦ rw w.files-is (there_then g.S.ForkStore c.args.memory.now c.args.files.now c.args.place c.args.loads c.match-own.own c.unwrap-row.result.now.resource.datum.length shown.0 (got g (goal.at.set_handle-requires g c).After-make_place) (g.G.GrowZone.asks c.make_place.new.procedure) c.make_place.new.memory c.make_place.new.files c.make_place.ensures.forgotten c.make_place.ensures.shape step.0 step.1)
+      | then-loads+in_ok-load_bytes w ↦ rw w.files-is (still_there g.S.ForkStore c.args.memory.now c.args.files.now c.args.place c.args.loads c.match-own.own c.unwrap-row.result.now.resource.datum.length shown.0 (got g (goal.at.set_handle-requires g c).After-make_place) (g.G.GrowZone.asks c.make_place.new.procedure) c.make_place.new.memory c.make_place.new.files c.make_place.ensures.forgotten c.make_place.ensures.shape step.0 step.1 _ _ w.load_bytes.ensures.files)
+    ]
+
 pub returns-in_err-load_bytes-clause-step : goal.returns-in_err-load_bytes-clause-step
 returns-in_err-load_bytes-clause-step g c =
     let shown = some-holds _ _ _ c.unwrap-row.ensures c.row.ensures.some in
@@ -63,12 +71,12 @@ returns-clause-step g c =
       | else-loads w ↦ rw w.memory-is (empty_load g.S.ForkStore c.args.memory.now c.args.files.now c.args.place c.args.loads c.match-own.own c.unwrap-row.result.now.resource.datum.length shown.0 (got g (goal.at.returns-clause-step g c).After-make_place) (g.G.GrowZone.asks c.make_place.new.procedure) c.make_place.new.memory c.make_place.new.files c.make_place.ensures.forgotten c.make_place.ensures.shape step.0 step.1 c.in_ok-handle.handle (sym c.in_ok-handle.was ∙ step.2) c.make_place.new.memory c.if-loads.files refl
           (subst (λ (f : FilesOn g.row.S.Denot). AnswersFor (HonestAt g.S.ForkStore.is_honest c.if-loads.files.stores) c.make_place.new.files.files f.files) (sym w.files-is) (λ known are. refl))
           (λ k honest. ap (λ (f : FilesOn g.row.S.Denot). fork_of g.S.ForkStore.fork k f.stores) w.files-is) (ap (λ (f : FilesOn g.row.S.Denot). f.loads) w.files-is) (ap (λ (f : FilesOn g.row.S.Denot). length f.stores) w.files-is)
-          w.if-loads.false refl w.files-is c.attach.new.files c.attach.ensures.attached)
+          w.if-loads.false refl w.files-is c.set_handle.new.self c.set_handle.ensures)
       | then-loads+in_ok-load_bytes w ↦
           let load = w.in_ok-load_bytes.ensures in
           rw w.memory-is (given_load g.S.ForkStore c.args.memory.now c.args.files.now c.args.place c.args.loads c.match-own.own c.unwrap-row.result.now.resource.datum.length shown.0 (got g (goal.at.returns-clause-step g c).After-make_place) (g.G.GrowZone.asks c.make_place.new.procedure) c.make_place.new.memory c.make_place.new.files c.make_place.ensures.forgotten c.make_place.ensures.shape step.0 step.1 c.in_ok-handle.handle (sym c.in_ok-handle.was ∙ step.2) w.load_bytes.new.memory w.load_bytes.new.files load.shape load.files (λ k h. (load.keeps k h).fork) load.loads load.count
-          c.unwrap-row.result.now.resource.attributes load.loaded.0 w.if-loads.true row.attributes load.loaded.1 load.loaded.2 load.cause c.attach.new.files
-          (subst (λ (f : FilesOn g.row.S.Denot). IsSome (row_at c.args.place f.files) → c.attach.new.files ≡ record f { files = row_changed c.args.place (with_handle (Some c.in_ok-handle.handle)) f.files }) w.files-is c.attach.ensures.attached))
+          c.unwrap-row.result.now.resource.attributes load.loaded.0 w.if-loads.true row.attributes load.loaded.1 load.loaded.2 load.cause c.set_handle.new.self
+          (subst (λ (f : FilesOn g.row.S.Denot). c.set_handle.new.self ≡ record f { files = row_changed c.args.place (with_handle (Some c.in_ok-handle.handle)) f.files }) w.files-is c.set_handle.ensures))
     ]
 
 pub returns-clause-loans : goal.returns-clause-loans
@@ -104,7 +112,7 @@ returns-clause-count g c =
       | else-loads w ↦ ap (λ (f : FilesOn g.row.S.Denot). length f.stores) w.files-is ∙ placed
     ]
     in
-    ap (λ (stores : List g.row.S.Denot). length stores) c.attach.ensures.stores ∙ loaded
+    ap (λ (f : FilesOn g.row.S.Denot). length f.stores) c.set_handle.ensures ∙ loaded
 
 pub load_bytes-requires-clause-placed : goal.load_bytes-requires-clause-placed
 load_bytes-requires-clause-placed g c = c.in_ok-handle.ensures.placed c.if-loads.true
@@ -134,4 +142,4 @@ returns-clause-keeps g c =
       | else-loads w ↦ subst (λ (f : FilesOn g.row.S.Denot). KeepsStores S c.args.files.now.stores f.stores) (sym w.files-is) placed
     ]
     in
-    kept_then S _ _ _ loaded (kept_same S _ _ c.attach.ensures.stores)
+    kept_then S _ _ _ loaded (kept_same S _ _ (ap (λ (f : FilesOn g.row.S.Denot). f.stores) c.set_handle.ensures))

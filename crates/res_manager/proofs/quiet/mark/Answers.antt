@@ -10,7 +10,7 @@ use Rattle.res_manager.proofs.quiet.mark.Goals as goal
 
 pub returns-clause-quiet : goal.returns-clause-quiet
 returns-clause-quiet g c = λ zone.
-    let row = c.attributes_at.ensures in
-    let set = attributes_set c.args.files.now c.set_attributes.new.self c.args.handle c.in_ok-place.place row.0 marked c.marked-attributes.result c.in_ok-place.ensures.value row.1
-    (c.marked-attributes.ensures ∙ ap (λ (a : ResAttrs). marked a) row.2) c.set_attributes.ensures in
+    let row = c.attributes_at-attributes.ensures in
+    let set = attributes_set c.args.files.now c.set_attributes.new.self c.args.handle c.in_ok-place.place row.0 marked c.marked.result c.in_ok-place.ensures.value row.1
+    (c.marked.ensures ∙ ap (λ (a : ResAttrs). marked a) row.2) c.set_attributes.ensures in
     (search rules, ap (λ (files : FilesOn _). let e : ResourceEnd = record { outcome = Ok Nothing; state = state_of g.S.ForkStore.fork zone files } in e) (sym set))

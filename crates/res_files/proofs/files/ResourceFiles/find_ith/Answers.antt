@@ -5,20 +5,20 @@ use Rattle.res_files.proofs.Found.{ith_there}
 use Rattle.res_files.proofs.On.{asked_ith, ith_none}
 use Rattle.res_files.proofs.files.ResourceFiles.find_ith.Goals as goal
 
-pub returns-in_default-current_rows-clause-value : goal.returns-in_default-current_rows-clause-value
-returns-in_default-current_rows-clause-value g c =
-    asked_ith g.S.ForkStore.fork c.self.inside.chain c.self.inside.loads c.self.inside.stores.items c.args.self.now c.self.view_is c.args.kind c.args.index c.in-Some.file (sym c.current.ensures ∙ c.in-Some.is) [] (sym c.in_default-current_rows.ensures.none)
-    None (ap (option_map (λ at. let place : RowPlace = record { file = c.in-Some.file; index = at } in place)) (sym (ith_none c.args.index)))
+pub returns-in_err-rows-clause-value : goal.returns-in_err-rows-clause-value
+returns-in_err-rows-clause-value g c =
+    c.from_residual-in_err-rows.ensures ∙ asked_ith g.S.ForkStore.fork c.self.inside.chain c.self.inside.loads c.self.inside.stores.items c.args.self.now c.self.view_is c.args.kind c.args.index c.in_ok-file.file (sym c.current.ensures ∙ c.in_ok-file.was) [] (sym c.in_err-rows.ensures.none)
+    None (ap (option_map (λ at. let place : RowPlace = record { file = c.in_ok-file.file; index = at } in place)) (sym (ith_none c.args.index)))
 
-pub returns-in_default-index_of_ith-clause-value : goal.returns-in_default-index_of_ith-clause-value
-returns-in_default-index_of_ith-clause-value g c =
-    asked_ith g.S.ForkStore.fork c.self.inside.chain c.self.inside.loads c.self.inside.stores.items c.args.self.now c.self.view_is c.args.kind c.args.index c.in-Some.file (sym c.current.ensures ∙ c.in-Some.is) c.in-Some-current_rows.rows.now c.in-Some-current_rows.ensures.some
-    None (ap (option_map (λ at. let place : RowPlace = record { file = c.in-Some.file; index = at } in place)) (sym c.in_default-index_of_ith.is ∙ c.index_of_ith.ensures))
+pub returns-in_err-index-clause-value : goal.returns-in_err-index-clause-value
+returns-in_err-index-clause-value g c =
+    c.from_residual-in_err-index.ensures ∙ asked_ith g.S.ForkStore.fork c.self.inside.chain c.self.inside.loads c.self.inside.stores.items c.args.self.now c.self.view_is c.args.kind c.args.index c.in_ok-file.file (sym c.current.ensures ∙ c.in_ok-file.was) c.in_ok-rows.rows.now c.in_ok-rows.ensures.some
+    None (ap (option_map (λ at. let place : RowPlace = record { file = c.in_ok-file.file; index = at } in place)) (sym c.in_err-index.was ∙ c.index_of_ith.ensures))
 
 pub returns-clause-value : goal.returns-clause-value
 returns-clause-value g c =
-    asked_ith g.S.ForkStore.fork c.self.inside.chain c.self.inside.loads c.self.inside.stores.items c.args.self.now c.self.view_is c.args.kind c.args.index c.in-Some.file (sym c.current.ensures ∙ c.in-Some.is) c.in-Some-current_rows.rows.now c.in-Some-current_rows.ensures.some
-    _ (ap (option_map (λ at. let place : RowPlace = record { file = c.in-Some.file; index = at } in place)) (sym c.in-Some-index_of_ith.is ∙ c.index_of_ith.ensures))
+    asked_ith g.S.ForkStore.fork c.self.inside.chain c.self.inside.loads c.self.inside.stores.items c.args.self.now c.self.view_is c.args.kind c.args.index c.in_ok-file.file (sym c.current.ensures ∙ c.in_ok-file.was) c.in_ok-rows.rows.now c.in_ok-rows.ensures.some
+    _ (ap (option_map (λ at. let place : RowPlace = record { file = c.in_ok-file.file; index = at } in place)) (sym c.in_ok-index.was ∙ c.index_of_ith.ensures))
 
 pub returns-clause-there : goal.returns-clause-there
 returns-clause-there g c =

@@ -2,7 +2,7 @@ use Rattle.std.proofs.Common.{◌≡◌, sym, ap, ◌∙◌, get_or, true, false
 use Rattle.std.specs.List.{list_any}
 use Rattle.res_table.specs.Rows.{has_changed}
 use Rattle.res_files.proofs.AmongHandles.{counts_with, among_none, any_this, none_more}
-use Rattle.res_files.proofs.handles.has_changed_row.Goals as goal
+use Rattle.res_files.proofs.handles.has_changed_row_among.Goals as goal
 
 pub loop-handle-init : goal.loop-handle-init
 loop-handle-init c = among_none true c.args.rows.now

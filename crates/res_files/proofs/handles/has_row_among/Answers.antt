@@ -3,7 +3,7 @@ use Rattle.std.specs.Option.{is_some}
 use Rattle.std.specs.List.{list_any}
 use Rattle.res_table.specs.Rows.{has_handle}
 use Rattle.res_files.proofs.AmongHandles.{among_none, any_this, none_more, some_position}
-use Rattle.res_files.proofs.handles.has_any_row.Goals as goal
+use Rattle.res_files.proofs.handles.has_row_among.Goals as goal
 
 pub loop-handle-init : goal.loop-handle-init
 loop-handle-init c = among_none false c.args.rows.now
