@@ -30,3 +30,4 @@ pub mod PatchingCalls
 pub mod PatchedCalls
 pub mod PatchedSteps
 pub mod PatchedFiles
+mod Faults

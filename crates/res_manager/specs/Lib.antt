@@ -7,3 +7,4 @@ pub mod Crash
 pub mod Partial
 pub mod Patching
 pub mod Contents
+pub mod Faults

@@ -21,6 +21,7 @@ use crate::contents::After;
 use crate::partial::{end_of_part, length_at};
 use crate::rows::attributes_at;
 use crate::tests::{is_full, test_row};
+use crate::updating::code_of;
 use fork_bytes::layout::MAX_FORK;
 use fork_disk::disk::DiskFault;
 use fork_disk::store::ForkStore;
@@ -30,7 +31,6 @@ use mac_base::{Outcome, Results};
 use mem_calls::MemoryManager;
 use res_files::ResourceFiles;
 use res_table::chain::RowPlace;
-use res_update::fault::UpdateFault;
 use res_update::selection::Selection;
 use res_update::{PartialEnd, PatchingCall};
 use std::alloc::Global;
@@ -219,8 +219,6 @@ fn write_bytes<S: ForkStore>(
             files.set_attributes(place, attributes);
             Ok(Ok(Results::Nothing))
         }
-        Err(UpdateFault::TooBig) => Ok(Err(OsErr::DskFulErr)),
-        Err(UpdateFault::HostFull) => Err(HostFull),
-        Err(UpdateFault::Device(_)) => Ok(Err(OsErr::IoErr)),
+        Err(fault) => Ok(Err(code_of(fault)?)),
     }
 }

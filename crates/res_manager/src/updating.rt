@@ -9,6 +9,7 @@ ghost use Rattle.res_update.specs.Tests.{resource_refusal};
 ghost use Rattle.res_update.specs.Updates.{Update, disposed, fits_fork, handles_of, update_of};
 ghost use Rattle.res_manager.specs.Crash.{LeavesForks, SavesFork};
 ghost use Rattle.res_manager.specs.Ends.{WritesFile};
+ghost use Rattle.res_manager.specs.Faults.{code_of};
 ghost use Rattle.res_manager.specs.Steps.{ResourceSteps, state_of, takes_memory};
 ghost use Rattle.res_manager.specs.Tests.{AreLent};
 ghost use Rattle.res_table.specs.OpenFiles.{is_open};
@@ -129,9 +130,18 @@ fn write_file<S: ForkStore>(
     let contents = After::zone(memory);
     match files.update(number, selection, &contents) {
         Ok(()) => Ok(Ok(Results::Nothing)),
-        Err(UpdateFault::TooBig) => Ok(Err(OsErr::DskFulErr)),
-        Err(UpdateFault::HostFull) => Err(HostFull),
-        Err(UpdateFault::Device(_)) => Ok(Err(OsErr::IoErr)),
+        Err(fault) => Ok(Err(code_of(fault)?)),
+    }
+}
+
+/// The code of a fault in an update, unless the host has no memory.
+pub(crate) fn code_of(fault: UpdateFault) -> Result<OsErr, HostFull>
+    ensures { result ≡ code_of fault }
+{
+    match fault {
+        UpdateFault::TooBig => Ok(OsErr::DskFulErr),
+        UpdateFault::HostFull => Err(HostFull),
+        UpdateFault::Device(_) => Ok(OsErr::IoErr),
     }
 }
 

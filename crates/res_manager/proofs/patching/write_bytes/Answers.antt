@@ -1,4 +1,6 @@
 use Rattle.std.proofs.Common.{◌≡◌, ◌∙◌, ℕ, List, Some, None, IsSome, Err, Ok, ap, sym, refl, subst}
+use Rattle.std.proofs.lemmas.Result.{err_from_is_err_and}
+use Rattle.res_manager.proofs.Faults.{coded}
 use Rattle.fork_disk.specs.declared.store.ReplaceFault.{ReplaceFault}
 use Rattle.mac_base.specs.HandleTable.{HandleTable, bytes_of}
 use Rattle.mac_base.specs.declared.reply.Results.TheVariants.{Nothing}
@@ -48,27 +50,25 @@ returns-in-Ok-clause-writes g c = λ zone u is.
     (written_back c.alone-contents.result c.args.handle c.args.bytes.now (holds_so _ _ _ c.alone-contents.ensures) c.args.place g.S.ForkStore zone on c.update.new.self f u is c.update.ensures.loads c.update.ensures.count c.update.ensures.others c.attributes_at-attributes.result same
     (true_unless (fits_fork (updated c.alone-contents.result (RowAt c.args.place.index) f.table)) (λ h. absurd (cc (big.1 h)))) rows (λ honest. rw f.is at ((c.in-Ok.ensures.updates honest).replaced)) c.in-Ok.ensures.none)
 
-pub returns-in-Err-TooBig-clause-writes : goal.returns-in-Err-TooBig-clause-writes
-returns-in-Err-TooBig-clause-writes g c = λ zone u is.
+pub returns-in_ok-code_of-in-Err-clause-writes : goal.returns-in_ok-code_of-in-Err-clause-writes
+returns-in_ok-code_of-in-Err-clause-writes g c = λ zone u is.
     let on = c.args.files.now in
     let f = found c.args.place c.args.handle on.files c.requires.there in
-    let all = rw c.in-Err-TooBig.field-0-is at c.in-Err-TooBig.ensures in
+    coded c.in-Err.fault c.in_ok-code_of-in-Err.field-0 (sym c.code_of.ensures ∙ c.in_ok-code_of-in-Err.was)
+    (λ too_big code.
+    let all = rw too_big at c.in-Err.ensures in
     let big = rw f.is at all.too_big in
-    unwritten c.alone-contents.result c.args.handle c.args.bytes.now (holds_so _ _ _ c.alone-contents.ensures) c.args.place g.S.ForkStore zone on c.update.new.self f u is c.update.ensures.loads c.update.ensures.count c.update.ensures.others (big.0 refl) (all.untouched refl)
-
-pub returns-in-Err-Device-clause-writes : goal.returns-in-Err-Device-clause-writes
-returns-in-Err-Device-clause-writes g c = λ zone u is.
-    let on = c.args.files.now in
-    let f = found c.args.place c.args.handle on.files c.requires.there in
-    let all = rw c.in-Err-Device.field-0-is at c.in-Err-Device.ensures in
+    rw code (unwritten c.alone-contents.result c.args.handle c.args.bytes.now (holds_so _ _ _ c.alone-contents.ensures) c.args.place g.S.ForkStore zone on c.update.new.self f u is c.update.ensures.loads c.update.ensures.count c.update.ensures.others (big.0 refl) (all.untouched refl)))
+    (λ cause fault code.
+    let all = rw fault at c.in-Err.ensures in
     let big = rw f.is at all.too_big in
-    faulted c.alone-contents.result c.args.handle c.args.bytes.now (holds_so _ _ _ c.alone-contents.ensures) c.args.place g.S.ForkStore zone on c.update.new.self f u is c.update.ensures.loads c.update.ensures.count c.update.ensures.others c.in-Err-Device.field-0-0
+    rw code (faulted c.alone-contents.result c.args.handle c.args.bytes.now (holds_so _ _ _ c.alone-contents.ensures) c.args.place g.S.ForkStore zone on c.update.new.self f u is c.update.ensures.loads c.update.ensures.count c.update.ensures.others cause
     (true_unless (fits_fork (updated c.alone-contents.result (RowAt c.args.place.index) f.table)) (λ h. absurd (cc (big.1 h))))
     (λ is. all.before (ap (λ (f : ReplaceFault). Err (Device f)) is))
     (λ honest is. ((all.updates honest).before (ap (λ (f : ReplaceFault). Err (Device f)) is)).fork)
     (λ is. all.closed (ap (λ (f : ReplaceFault). Err (Device f)) is))
     (λ honest is. rw f.is at ((all.updates honest).later (ap (λ (f : ReplaceFault). Err (Device f)) is)))
-    (λ is. all.cause (ap (λ (f : ReplaceFault). Err (Device f)) is)) (λ is. all.cause_later (ap (λ (f : ReplaceFault). Err (Device f)) is))
+    (λ is. all.cause (ap (λ (f : ReplaceFault). Err (Device f)) is)) (λ is. all.cause_later (ap (λ (f : ReplaceFault). Err (Device f)) is))))
 
 pub returns-in-Ok-clause-saves : goal.returns-in-Ok-clause-saves
 returns-in-Ok-clause-saves g c = λ zone.
@@ -86,14 +86,11 @@ returns-in-Ok-clause-saves g c = λ zone.
     (λ journal h. (done h).settled journal)
     (saved_update (HonestAt S.is_honest after.stores) S.fork zone after p.file (with_bytes t c.args.handle c.args.bytes.now holds p) on.files (λ h. (done h).stands)))
 
-pub returns-in-Err-TooBig-clause-saves : goal.returns-in-Err-TooBig-clause-saves
-returns-in-Err-TooBig-clause-saves g c = λ zone.
+pub returns-in_ok-code_of-in-Err-clause-saves : goal.returns-in_ok-code_of-in-Err-clause-saves
+returns-in_ok-code_of-in-Err-clause-saves g c = λ zone.
     saves_patched c.alone-contents.result c.args.handle c.args.bytes.now (holds_so _ _ _ c.alone-contents.ensures) c.args.place g.S.ForkStore zone c.args.files.now c.update.new.self _ _ c.requires.there c.update.ensures.updates c.update.ensures.others tt tt
 
-pub returns-in-Err-HostFull-clause-saves : goal.returns-in-Err-HostFull-clause-saves
-returns-in-Err-HostFull-clause-saves g c = λ zone.
-    saves_patched c.alone-contents.result c.args.handle c.args.bytes.now (holds_so _ _ _ c.alone-contents.ensures) c.args.place g.S.ForkStore zone c.args.files.now c.update.new.self _ _ c.requires.there c.update.ensures.updates c.update.ensures.others tt tt
-
-pub returns-in-Err-Device-clause-saves : goal.returns-in-Err-Device-clause-saves
-returns-in-Err-Device-clause-saves g c = λ zone.
-    saves_patched c.alone-contents.result c.args.handle c.args.bytes.now (holds_so _ _ _ c.alone-contents.ensures) c.args.place g.S.ForkStore zone c.args.files.now c.update.new.self _ _ c.requires.there c.update.ensures.updates c.update.ensures.others tt tt
+pub returns-in_err-code_of-in-Err-clause-saves : goal.returns-in_err-code_of-in-Err-clause-saves
+returns-in_err-code_of-in-Err-clause-saves g c = λ zone.
+    let ends = err_from_is_err_and c.from_residual.result c.from_residual.ensures.1 in
+    rw ends.1 (saves_patched c.alone-contents.result c.args.handle c.args.bytes.now (holds_so _ _ _ c.alone-contents.ensures) c.args.place g.S.ForkStore zone c.args.files.now c.update.new.self _ _ c.requires.there c.update.ensures.updates c.update.ensures.others tt tt)

@@ -1,5 +1,7 @@
 use Rattle.res_manager.proofs.LeavingForks.{saves_fork}
-use Rattle.std.proofs.Common.{◌≡◌, subst, sym, ap, refl, Err, Some}
+use Rattle.std.proofs.Common.{◌≡◌, ◌∙◌, subst, sym, ap, refl, Err, Some}
+use Rattle.std.proofs.lemmas.Result.{err_from_is_err_and}
+use Rattle.res_manager.proofs.Faults.{coded, uncoded}
 use Rattle.mac_base.specs.HandleTable.{HandleTable}
 use Rattle.fork_disk.specs.declared.store.ReplaceFault.{ReplaceFault}
 use Rattle.res_files.specs.FilesOn.{HonestAt}
@@ -27,32 +29,33 @@ returns-in-Ok-clause-written g c = λ u is.
     let big = rw f.there at c.in-Ok.ensures.too_big in
     rw (← f.is) (writes_all g.S.ForkStore c.args.memory.now c.args.files.now c.update.new.self _ c.update.ensures.loads c.update.ensures.count c.update.ensures.others (true_unless _ (λ h. absurd (cc (big.1 h)))) rows (λ honest. rw f.there at ((c.in-Ok.ensures.updates honest).replaced)) c.in-Ok.ensures.none)
 
-pub returns-in-Err-Device-clause-written : goal.returns-in-Err-Device-clause-written
-returns-in-Err-Device-clause-written g c = λ u is.
-    let f = table_found g (goal.at.returns-in-Err-Device-clause-written g c).After-zone-contents u is in
-    let all = rw c.in-Err-Device.field-0-is at c.in-Err-Device.ensures in
+pub returns-in_ok-code_of-in-Err-clause-written : goal.returns-in_ok-code_of-in-Err-clause-written
+returns-in_ok-code_of-in-Err-clause-written g c = λ u is.
+    let f = table_found g (goal.at.returns-in_ok-code_of-in-Err-clause-written g c).After-zone-contents u is in
+    coded c.in-Err.fault c.in_ok-code_of-in-Err.field-0 (sym c.code_of.ensures ∙ c.in_ok-code_of-in-Err.was)
+    (λ too_big code.
+    let all = rw too_big at c.in-Err.ensures in
     let big = rw f.there at all.too_big in
-    rw (← f.is) (writes_faulted g.S.ForkStore c.args.memory.now c.args.files.now c.update.new.self _ c.update.ensures.loads c.update.ensures.count c.update.ensures.others c.in-Err-Device.field-0-0 (true_unless _ (λ h. absurd (cc (big.1 h))))
+    let v : Update = record { file = c.args.number; table = updated c.zone-contents.result c.args.selection f.table } in
+    rw (code, ← f.is) (writes_nothing g.S.ForkStore c.args.memory.now c.args.files.now c.update.new.self v c.update.ensures.loads c.update.ensures.count c.update.ensures.others (big.0 refl) (all.untouched refl)))
+    (λ cause fault code.
+    let all = rw fault at c.in-Err.ensures in
+    let big = rw f.there at all.too_big in
+    rw (code, ← f.is) (writes_faulted g.S.ForkStore c.args.memory.now c.args.files.now c.update.new.self _ c.update.ensures.loads c.update.ensures.count c.update.ensures.others cause (true_unless _ (λ h. absurd (cc (big.1 h))))
     (λ is. all.before (ap (λ (f : ReplaceFault). Err (Device f)) is))
     (λ honest is. ((all.updates honest).before (ap (λ (f : ReplaceFault). Err (Device f)) is)).fork)
     (λ is. all.closed (ap (λ (f : ReplaceFault). Err (Device f)) is))
     (λ honest is. rw f.there at ((all.updates honest).later (ap (λ (f : ReplaceFault). Err (Device f)) is)))
-    (λ is. all.cause (ap (λ (f : ReplaceFault). Err (Device f)) is)) (λ is. all.cause_later (ap (λ (f : ReplaceFault). Err (Device f)) is)))
+    (λ is. all.cause (ap (λ (f : ReplaceFault). Err (Device f)) is)) (λ is. all.cause_later (ap (λ (f : ReplaceFault). Err (Device f)) is))))
 
-pub returns-in-Err-TooBig-clause-written : goal.returns-in-Err-TooBig-clause-written
-returns-in-Err-TooBig-clause-written g c = λ u is.
-    let f = table_found g (goal.at.returns-in-Err-TooBig-clause-written g c).After-zone-contents u is in
-    let all = rw c.in-Err-TooBig.field-0-is at c.in-Err-TooBig.ensures in
+pub returns-in_err-code_of-in-Err-clause-fits : goal.returns-in_err-code_of-in-Err-clause-fits
+returns-in_err-code_of-in-Err-clause-fits g c =
+    let ends = err_from_is_err_and c.from_residual.result c.from_residual.ensures.1 in
+    rw ends.1 (λ u is.
+    let f = table_found g (goal.at.returns-in_err-code_of-in-Err-clause-fits g c).After-zone-contents u is in
+    let all = rw (uncoded c.in-Err.fault _ (sym c.code_of.ensures ∙ c.in_err-code_of-in-Err.was)) at c.in-Err.ensures in
     let big = rw f.there at all.too_big in
-    let v : Update = record { file = c.args.number; table = updated c.zone-contents.result c.args.selection f.table } in
-    rw (← f.is) (writes_nothing g.S.ForkStore c.args.memory.now c.args.files.now c.update.new.self v c.update.ensures.loads c.update.ensures.count c.update.ensures.others (big.0 refl) (all.untouched refl))
-
-pub returns-in-Err-HostFull-clause-fits : goal.returns-in-Err-HostFull-clause-fits
-returns-in-Err-HostFull-clause-fits g c = λ u is.
-    let f = table_found g (goal.at.returns-in-Err-HostFull-clause-fits g c).After-zone-contents u is in
-    let all = rw c.in-Err-HostFull.field-0-is at c.in-Err-HostFull.ensures in
-    let big = rw f.there at all.too_big in
-    rw (← f.is) (true_unless _ (λ h. absurd (cc (big.1 h))))
+    rw (← f.is) (true_unless _ (λ h. absurd (cc (big.1 h)))))
 
 pub returns-in-Ok-clause-saves : goal.returns-in-Ok-clause-saves
 returns-in-Ok-clause-saves g c =
@@ -63,11 +66,10 @@ returns-in-Ok-clause-saves g c =
     saves_fork S c.zone-contents.result c.args.memory.now c.args.selection c.args.number c.args.files.now.files c.args.files.now.stores c.update.new.self _ _ c.zone-contents.ensures c.requires.open c.update.ensures.updates c.update.ensures.others (λ journal h. (done h).settled journal)
     (subst Q c.zone-contents.ensures (saved_update honest S.fork c.args.memory.now c.update.new.self c.args.number (updated c.zone-contents.result c.args.selection) c.args.files.now.files (λ h. (done h).stands)))
 
-pub returns-in-Err-TooBig-clause-saves : goal.returns-in-Err-TooBig-clause-saves
-returns-in-Err-TooBig-clause-saves g c = saves_fork g.S.ForkStore c.zone-contents.result c.args.memory.now c.args.selection c.args.number c.args.files.now.files c.args.files.now.stores c.update.new.self _ _ c.zone-contents.ensures c.requires.open c.update.ensures.updates c.update.ensures.others tt tt
+pub returns-in_ok-code_of-in-Err-clause-saves : goal.returns-in_ok-code_of-in-Err-clause-saves
+returns-in_ok-code_of-in-Err-clause-saves g c = saves_fork g.S.ForkStore c.zone-contents.result c.args.memory.now c.args.selection c.args.number c.args.files.now.files c.args.files.now.stores c.update.new.self _ _ c.zone-contents.ensures c.requires.open c.update.ensures.updates c.update.ensures.others tt tt
 
-pub returns-in-Err-HostFull-clause-saves : goal.returns-in-Err-HostFull-clause-saves
-returns-in-Err-HostFull-clause-saves g c = saves_fork g.S.ForkStore c.zone-contents.result c.args.memory.now c.args.selection c.args.number c.args.files.now.files c.args.files.now.stores c.update.new.self _ _ c.zone-contents.ensures c.requires.open c.update.ensures.updates c.update.ensures.others tt tt
-
-pub returns-in-Err-Device-clause-saves : goal.returns-in-Err-Device-clause-saves
-returns-in-Err-Device-clause-saves g c = saves_fork g.S.ForkStore c.zone-contents.result c.args.memory.now c.args.selection c.args.number c.args.files.now.files c.args.files.now.stores c.update.new.self _ _ c.zone-contents.ensures c.requires.open c.update.ensures.updates c.update.ensures.others tt tt
+pub returns-in_err-code_of-in-Err-clause-saves : goal.returns-in_err-code_of-in-Err-clause-saves
+returns-in_err-code_of-in-Err-clause-saves g c =
+    let ends = err_from_is_err_and c.from_residual.result c.from_residual.ensures.1 in
+    rw ends.1 (saves_fork g.S.ForkStore c.zone-contents.result c.args.memory.now c.args.selection c.args.number c.args.files.now.files c.args.files.now.stores c.update.new.self _ _ c.zone-contents.ensures c.requires.open c.update.ensures.updates c.update.ensures.others tt tt)
