@@ -1,5 +1,5 @@
 -- The files that the resources of a fork are unpacked to.
-use Rattle.std.specs.Prelude.{ℕ, ◌&&◌, if◌then◌else◌, Bool, List, [], ◌∷◌, ◌++◌, bytes_eq, count_by, string_bytes}
+use Rattle.std.specs.Prelude.{ℕ, ◌&&◌, if◌then◌else◌, Bool, List, [], ◌∷◌, ◌++◌, bytes_eq, filter, count_by, string_bytes}
 use Rattle.std.specs.Ordering.{int_eq}
 use Rattle.fork_bytes.specs.Rows.{Row}
 use Rattle.fork_list.specs.Listing.{is_chosen}
@@ -15,6 +15,14 @@ pub record Unpacked : Type 0 where
 -- the same, of what code has
 abbrev pub unpacked_file : File → Unpacked
 unpacked_file file = record { folder = string_bytes file.folder; name = string_bytes file.name; bytes = file.row.now.datum }
+
+-- the resource of a file
+abbrev pub file_row : File → Row
+file_row file = file.row.now
+
+-- the rows of these types
+abbrev pub chosen : List (List ℕ) → List Row → List Row
+chosen kinds rows = filter (λ row. is_chosen kinds row.kind) rows
 
 -- whether two resources have one type and one id
 abbrev pub is_same : Row → Row → Bool

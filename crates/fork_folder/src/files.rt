@@ -2,7 +2,7 @@
 
 ghost use Rattle.std.specs.Prelude.{◌≡◌, ◌<◌, ◌^◌, IfOk, OnOk, if◌then◌else◌, map, option_map, [], ◌∷◌, ◌++◌};
 ghost use Rattle.fork_list.specs.Listing.{is_chosen};
-ghost use Rattle.fork_folder.specs.Unpacked.{nth_file, unpacked, unpacked_file};
+ghost use Rattle.fork_folder.specs.Unpacked.{chosen, file_row, nth_file, unpacked, unpacked_file};
 
 use crate::counts::{Counts, count_row};
 use crate::file_name::FileName;
@@ -35,7 +35,8 @@ fn name_of<'r>(row: &'r Row) -> Option<&'r [u8]>
 /// The file of the nth row, from 0 on, of its type and id.
 fn nth_file<'a>(alloc: Global, n: usize, row: &'a Row<'a>) -> Result<File<'a>, AllocError>
     requires { n < 2 ^ 63 }
-    ensures { IfOk result (λ file. unpacked_file file ≡ nth_file n row.now) }
+    ensures file { IfOk result (λ file. unpacked_file file ≡ nth_file n row.now) }
+    ensures row { IfOk result (λ file. file_row file ≡ row.now) }
 {
     let folder = FolderName(row.kind);
     let name = FileName::new(row.id, n, name_of(row));
@@ -56,8 +57,9 @@ fn push_file<'a>(
     row: &'a Row<'a>,
 ) -> Result<(), AllocError>
     requires { n < 2 ^ 63 }
-    ensures { OnOk result (map unpacked_file files.new.items
+    ensures files { OnOk result (map unpacked_file files.new.items
         ≡ map unpacked_file files.old.items ++ (if is_chosen kinds.now row.now.kind then nth_file n row.now ∷ [] else [])) }
+    ensures rows { OnOk result (map file_row files.new.items ≡ map file_row files.old.items ++ chosen kinds.now (row.now ∷ [])) }
 {
     if !is_chosen(kinds, row.kind) {
         return Ok(());
@@ -74,7 +76,8 @@ pub fn unpacked<'a>(
     kinds: &[ResType],
     rows: &'a [Row<'a>],
 ) -> Result<Vec<File<'a>>, AllocError>
-    ensures { IfOk result (λ files. map unpacked_file files.items ≡ unpacked kinds.now rows.now) }
+    ensures files { IfOk result (λ files. map unpacked_file files.items ≡ unpacked kinds.now rows.now) }
+    ensures rows { IfOk result (λ files. map file_row files.items ≡ chosen kinds.now rows.now) }
 {
     let mut files = Vec::new(alloc);
     let mut counts = Counts::new(alloc);
