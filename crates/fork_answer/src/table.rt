@@ -123,6 +123,7 @@ fn table_of<'a>(alloc: Global, fork: &'a [u8], rows: &[FoundRow]) -> Result<Tabl
 pub fn salvaged_table<'a>(alloc: Global, fork: &'a [u8]) -> Result<Table<'a>, WriteFault>
     ensures table { IfOk result (λ table. table ≡ salvaged_table fork.now) }
     ensures grouped { IfOk result (λ table. IsGrouped table.rows) }
+    ensures few { IfOk result (λ _. ¬ IsTooMuch fork.now) }
     ensures too_big { IfErr result (λ fault. fault ≡ WriteFault.TooBig → IsTooMuch fork.now) }
 {
     let rows = readable(alloc, fork)?;
