@@ -178,12 +178,12 @@ pub refuses : (fork : List ℕ) (f : Fault) → IsFault fork f → HoldsBefore f
 refuses fork (fault.Header gap) is before = is.0
 refuses fork (fault.TooLong count) is before =
     (before.0, record { fails = λ holds. let small = holds.small in let large = is.0 in let all = is.1 in omega arith; before = before.1 })
-refuses fork (fault.Data gap) is before = (before.0, record { fails = λ holds. let whole = holds.whole_data in let outside = is.0 in omega arith; before = before.1 })
-refuses fork (fault.Map gap) is before = (before.0, record { fails = λ holds. let whole = holds.whole_map in let outside = is.0 in omega arith; before = before.1 })
+refuses fork (fault.Data gap) is before = (before.0, record { fails = λ holds. let whole = holds.whole_data in let outside = is.1.0 in omega arith; before = before.1 })
+refuses fork (fault.Map gap) is before = (before.0, record { fails = λ holds. let whole = holds.whole_map in let outside = is.1.0 in omega arith; before = before.1 })
 refuses fork (fault.MapHeader gap) is before =
-    (before.0, record { fails = λ holds. let header = holds.map_header in let outside = is.0 in omega arith; before = before.1 })
+    (before.0, record { fails = λ holds. let header = holds.map_header in let outside = is.1.0 in omega arith; before = before.1 })
 refuses fork (fault.TypeCount gap) is before = (before.0, record { fails = λ holds. let count = holds.count in let outside = is.0 in omega arith; before = before.1 })
-refuses fork (fault.TypeList gap) is before = (before.0, record { fails = λ holds. let entries = holds.entries in let outside = is.0 in omega arith; before = before.1 })
+refuses fork (fault.TypeList gap) is before = (before.0, record { fails = λ holds. let entries = holds.entries in let outside = is.1.0 in omega arith; before = before.1 })
 refuses fork (fault.SameType same) is before = (before.0, record { fails = same_fails fork same is; before = before.1 })
 refuses fork (fault.References list) is before = (before.0, record { fails = list_fails fork list is; before = before.1 })
 refuses fork (fault.RowCount count) is before = (before.0, record { fails = λ few. let many = is.0 in let all = is.1 in omega arith; before = before.1 })

@@ -41,7 +41,7 @@ said fork r =
     let long = length (map_of fork) in
     by_order (Says fork r) long (r.place + 12) _ _ (cases_lt long (r.place + 12)) (λ outside. outside) (λ _.
     by_order (Says fork r) size (datum + 4) _ _ (cases_lt size (datum + 4)) (λ short. (short, refl)) (λ has.
-    by_order (Says fork r) size (datum + 4 + count) _ _ (cases_lt size (datum + 4 + count)) (λ short. (short, refl)) (λ all. ((has, all), refl))))
+    by_order (Says fork r) size (datum + 4 + count) _ _ (cases_lt size (datum + 4 + count)) (λ short. (has, short, refl)) (λ all. ((has, all), refl))))
 
 pub found_says : (fork : List ℕ) (plan : Plan) (r : Reference) (found : Result Span Loss) → plan ≡ told_plan fork → found ≡ bytes_found fork plan r.place → Says fork r found
 found_says fork plan r found is told =
@@ -52,7 +52,7 @@ pub length_fails : (fork : List ℕ) (r : Reference) (gap : Gap) → datum_gap f
 length_fails fork r gap missing has = let short = missing.0 in let first = has.0 in omega arith
 
 pub bytes_fail : (fork : List ℕ) (r : Reference) (gap : Gap) → bytes_gap fork r gap → HasBytes fork r → ⊥
-bytes_fail fork r gap missing has = let short = missing.0 in let last = has.1 in omega arith
+bytes_fail fork r gap missing has = let short = missing.1 in let last = has.1 in omega arith
 
 -- the row of the first reference of which this doesn't hold
 pub row_is : (fork : List ℕ) (P : Reference → Type 0) (Missing : Reference → Gap → Type 0) (left rest : List Reference) (r : Reference) (gap : Gap) (row : BadRow) →

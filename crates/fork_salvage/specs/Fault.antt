@@ -81,14 +81,14 @@ pub record IsSecond (resource_map : List ℕ) (first second : ℕ) : Type 0 wher
   pub same : bytes_at 4 (entry_place resource_map first) resource_map ≡ bytes_at 4 (entry_place resource_map second) resource_map
   pub before : (i j : ℕ) → i < j → j < second → bytes_at 4 (entry_place resource_map i) resource_map ≢ bytes_at 4 (entry_place resource_map j) resource_map
 
--- the datum's length, and its bytes, lie within the data
+-- so many bytes are wanted of the data at a datum; its length is there, and its bytes aren't
 abbrev pub datum_gap : List ℕ → Reference → ℕ → Gap → Type 0
 datum_gap fork reference wanted gap = IsGap (header_of fork).data_offset (length (data_of fork)) (datum_place fork reference) wanted gap
 
 abbrev pub bytes_gap : List ℕ → Reference → Gap → Type 0
 bytes_gap fork reference gap =
     let size = length (data_of fork) in let datum = datum_place fork reference in let count = datum_length (data_of fork) datum in
-    (size < datum + 4 + count) × (gap ≡ record { place = (header_of fork).data_offset + datum; wanted = count; left = size - (datum + 4) })
+    (datum + 4 ≤ size) × (size < datum + 4 + count) × (gap ≡ record { place = (header_of fork).data_offset + datum; wanted = count; left = size - (datum + 4) })
 
 -- a reference has its bytes
 abbrev pub HasBytes : List ℕ → Reference → Type 0
@@ -98,10 +98,11 @@ HasBytes fork reference = HasDatum (data_of fork) (map_row (map_of fork) referen
 abbrev pub bytes_up_to : List ℕ → List Reference → ℕ
 bytes_up_to fork references = sum_by (λ (r : Reference). 4 + datum_length (data_of fork) (datum_place fork r)) references
 
--- a type that is there twice, at the first entry that repeats one
+-- a type that is there twice, at the first entry that repeats one, in a type list that lies within the map
 pub record IsSameType (fork : List ℕ) (same : SameType) : Type 0 where
   pub first : ℕ
   pub second : ℕ
+  pub within : type_list (map_of fork) + 2 + 8 * type_count (map_of fork) ≤ length (map_of fork)
   pub is : IsSecond (map_of fork) first second
   pub kind : same.kind ≡ bytes_at 4 (entry_place (map_of fork) second) (map_of fork)
   pub first_place : same.first ≡ (header_of fork).map_offset + entry_place (map_of fork) first
@@ -142,16 +143,26 @@ pub record IsBadSum (fork : List ℕ) (row : BadRow) : Type 0 where
     left = format_limits.bytes;
   }
 
--- what a fault says of the fork: something ends outside, and nothing that is looked at before it does
+-- a fork isn't too long; the same, and its data lies within it; the same, and so does its map
+abbrev pub IsShort : List ℕ → Type 0
+IsShort fork = length fork ≤ format_limits.fork
+
+abbrev pub HasDataWithin : List ℕ → Type 0
+HasDataWithin fork = IsShort fork × ((header_of fork).data_offset + (header_of fork).data_length ≤ length fork)
+
+abbrev pub HasBothWithin : List ℕ → Type 0
+HasBothWithin fork = HasDataWithin fork × ((header_of fork).map_offset + (header_of fork).map_length ≤ length fork)
+
+-- what a fault says of the fork: something ends outside, and nothing of the same condition that is looked at before it
 abbrev pub IsFault : List ℕ → Fault → Type 0
 IsFault fork (fault.Header gap) = IsGap 0 (length fork) 0 16 gap
 IsFault fork (fault.TooLong count) = (format_limits.fork < count) × (count ≡ length fork)
-IsFault fork (fault.Data gap) = IsGap 0 (length fork) (header_of fork).data_offset (header_of fork).data_length gap
-IsFault fork (fault.Map gap) = IsGap 0 (length fork) (header_of fork).map_offset (header_of fork).map_length gap
-IsFault fork (fault.MapHeader gap) = IsGap (header_of fork).map_offset (header_of fork).map_length 0 28 gap
+IsFault fork (fault.Data gap) = IsShort fork × IsGap 0 (length fork) (header_of fork).data_offset (header_of fork).data_length gap
+IsFault fork (fault.Map gap) = HasDataWithin fork × IsGap 0 (length fork) (header_of fork).map_offset (header_of fork).map_length gap
+IsFault fork (fault.MapHeader gap) = HasBothWithin fork × IsGap (header_of fork).map_offset (header_of fork).map_length 0 28 gap
 IsFault fork (fault.TypeCount gap) = IsGap (header_of fork).map_offset (length (map_of fork)) (type_list (map_of fork)) 2 gap
-IsFault fork (fault.TypeList gap) =
-    IsGap (header_of fork).map_offset (length (map_of fork)) (type_list (map_of fork) + 2) (8 * type_count (map_of fork)) gap
+IsFault fork (fault.TypeList gap) = (type_list (map_of fork) + 2 ≤ length (map_of fork))
+    × IsGap (header_of fork).map_offset (length (map_of fork)) (type_list (map_of fork) + 2) (8 * type_count (map_of fork)) gap
 IsFault fork (fault.SameType same) = IsSameType fork same
 IsFault fork (fault.References list) = IsBadList fork list
 IsFault fork (fault.RowCount count) = (format_limits.rows < count) × (count ≡ length (references_of (map_of fork)))
