@@ -40,7 +40,7 @@ pub shows : {T : Type 0} (asked : Request) (table : Table) (text : List ℕ) (ol
 shows asked table text old new (Ok done) is wrote = (text, is, wrote)
 shows asked table text old new (Err failure.NotFound) is wrote = absurd wrote
 shows asked table text old new (Err failure.HostFull) is wrote = tt
-shows asked table text old new (Err (failure.Write fault)) is wrote = tt
+shows asked table text old new (Err (failure.Write fault)) is wrote = (text, is, wrote)
 shows asked table text old new (Err (failure.Fork fault)) is wrote = absurd wrote
 shows asked table text old new (Err (failure.NoFork fault)) is wrote = absurd wrote
 

@@ -1,5 +1,5 @@
 -- What is shown of a resource fork.
-use Rattle.std.specs.Prelude.{◌≡◌, ◌≢◌, ℕ, ◌⊎◌, Bool, true, false, List, [], length, replicate, slice_get, Option, None, Some, Result, Ok, Err, ⊤}
+use Rattle.std.specs.Prelude.{◌≡◌, ◌≢◌, ℕ, ◌⊎◌, Bool, true, false, List, [], ◌++◌, length, replicate, slice_get, Option, None, Some, Result, Ok, Err, ⊤}
 use Rattle.std.specs.List.{filter}
 use Rattle.std.specs.Io.KnownBytes.{Appends}
 use Rattle.fork_bytes.specs.declared.fault.ForkFault.{ForkFault}
@@ -53,26 +53,32 @@ Lacks (request.List choice) table = ⊥
 Lacks (request.Types choice) table = ⊥
 Lacks (request.Get wanted) table = wanted_row wanted table.rows ≡ None
 
--- what an answer says of a table, and of what was written: what is asked for, or that the table lacks it
+-- a proper front of a text was written, and nothing else
+abbrev pub WritesFront : List ℕ → Option (List ℕ) → Option (List ℕ) → Type 0
+WritesFront text old new = (front : List ℕ) × (rest : List ℕ) × (text ≡ front ++ rest) × (rest ≢ []) × Appends old new front
+
+-- what an answer says of a table, and of what was written: what is asked for, or that the table lacks it; where a write
+-- fails, a proper front of what is asked for
 abbrev pub Shows : {T : Type 0} → Request → Table → Option (List ℕ) → Option (List ℕ) → Result T Failure → Type 0
 Shows request table old new (Ok done) = (text : List ℕ) × IsAsked request table text × Appends old new text
 Shows request table old new (Err failure.NotFound) = Lacks request table
 Shows request table old new (Err failure.HostFull) = ⊤
-Shows request table old new (Err (failure.Write fault)) = ⊤
+Shows request table old new (Err (failure.Write fault)) = (text : List ℕ) × IsAsked request table text × WritesFront text old new
 Shows request table old new (Err (failure.Fork fault)) = ⊥
 Shows request table old new (Err (failure.NoFork fault)) = ⊥
 
--- this text was written; a write may fail, and the host may have no memory
+-- this text was written, or a proper front of it where a write fails; the host may have no memory
 abbrev pub Writes : {T : Type 0} → List ℕ → Option (List ℕ) → Option (List ℕ) → Result T Failure → Type 0
 Writes text old new (Ok done) = Appends old new text
 Writes text old new (Err failure.NotFound) = ⊥
 Writes text old new (Err failure.HostFull) = ⊤
-Writes text old new (Err (failure.Write fault)) = ⊤
+Writes text old new (Err (failure.Write fault)) = WritesFront text old new
 Writes text old new (Err (failure.Fork fault)) = ⊥
 Writes text old new (Err (failure.NoFork fault)) = ⊥
 
 -- what an answer says of a fork's bytes: what was written is what is asked for of its table, or the table lacks it; or
--- they stand for no table, and the answer says why. A write may fail, and the host may have no memory.
+-- they stand for no table, and the answer says why. Where a write fails, a proper front of it was written; the host may
+-- have no memory.
 abbrev pub AnswersFork : {T : Type 0} → Request → List ℕ → Option (List ℕ) → Option (List ℕ) → Result T Failure → Type 0
 AnswersFork request fork old new result = ((table : Table) × IsTableOf fork table × Shows request table old new result)
     ⊎ ((fault : ForkFault) × (fork ≢ []) × RefusesWithin format_limits fork fault × (result ≡ Err (failure.Fork fault)))

@@ -16,7 +16,7 @@ use fork_list::{HasSize, listing, types_listing};
 use mac_base::resource::Resource;
 use std::alloc::{AllocError, Global};
 use std::io;
-use std::io::Write;
+use std::io::{ErrorKind, Write};
 use thiserror::Error;
 
 /// Why nothing is shown, or not all of it.
@@ -121,12 +121,22 @@ fn answer_of<W: Write>(
     }
 }
 
-/// Writes these bytes.
+/// Writes these bytes, or a proper front of them where the output fails. A write that is interrupted is tried again.
 pub(crate) fn write<W: Write>(bytes: &[u8], output: &mut W) -> Result<(), Failure>
     ensures writes { Writes bytes.now (W.contents output.old) (W.contents output.new) result }
     ensures quiet { IfErr result (λ failure. IsQuiet failure → output.new ≡ output.old) }
 {
-    output.write_all(bytes).map_err(Failure::Write)
+    let mut rest = bytes;
+    let mut retries = u64::MAX; // no run uses these up
+    while !rest.is_empty() {
+        match output.write(rest) {
+            Ok(0) => return Err(Failure::Write(ErrorKind::WriteZero.into())),
+            Ok(count) => rest = &rest[count..],
+            Err(error) if error.kind() == ErrorKind::Interrupted && retries > 0 => retries -= 1,
+            Err(error) => return Err(Failure::Write(error)),
+        }
+    }
+    Ok(())
 }
 
 /// Writes a list of resources.
@@ -141,7 +151,7 @@ pub(crate) fn list<D: HasSize, W: Write>(
 {
     let kinds = choice.kinds.as_slice();
     let text = listing(alloc, choice.letters, kinds, rows)?;
-    output.write_all(text.as_bytes()).map_err(Failure::Write)
+    write(text.as_bytes(), output)
 }
 
 /// Writes a list of types.
@@ -156,7 +166,7 @@ pub(crate) fn list_types<D, W: Write>(
 {
     let kinds = choice.kinds.as_slice();
     let text = types_listing(alloc, choice.letters, kinds, rows)?;
-    output.write_all(text.as_bytes()).map_err(Failure::Write)
+    write(text.as_bytes(), output)
 }
 
 /// Writes the bytes of a resource.
@@ -165,9 +175,7 @@ fn get<W: Write>(wanted: &Wanted, table: &Table, output: &mut W) -> Result<(), F
     ensures quiet { IfErr result (λ failure. IsQuiet failure → output.new ≡ output.old) }
 {
     match find_row(table.rows.as_slice(), wanted) {
-        Some(row) => output
-            .write_all(row.datum.as_slice())
-            .map_err(Failure::Write),
+        Some(row) => write(row.datum.as_slice(), output),
         None => Err(Failure::NotFound),
     }
 }
