@@ -5,3 +5,4 @@ pub mod Laws
 pub mod Packed
 pub mod PackedAgain
 pub mod Paths
+pub mod Manifest

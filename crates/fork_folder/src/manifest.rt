@@ -1,7 +1,9 @@
 //! What `resources.json` says.
 
-ghost use Rattle.std.specs.Prelude.{◌≡◌, IfErr, IfOk};
+ghost use Rattle.std.specs.Prelude.{◌≡◌, IfErr, IfOk, IfSome};
 ghost use Rattle.std.specs.List.{AllByRecursion, list_any};
+ghost use Rattle.fork_list.specs.Roman.{roman_text};
+ghost use Rattle.fork_folder.specs.Manifest.{IsEntryOf, IsHexOf};
 ghost use Rattle.fork_folder.specs.declared.rows.PackFault.TheVariants.{BadEntry};
 ghost use Rattle.fork_folder.specs.Paths.{IsInFolder, IsRefusedPath, is_dots, is_end, is_inside, is_plain};
 
@@ -42,7 +44,9 @@ pub struct Packing {
 }
 
 /// Four bytes that a text in UTF-8 shows. None where it doesn't show four, or has a character that MacRoman lacks.
-fn four_of(alloc: Global, text: &str) -> Result<Option<[u8; 4]>, AllocError> {
+fn four_of(alloc: Global, text: &str) -> Result<Option<[u8; 4]>, AllocError>
+    ensures { IfOk result (λ found. IfSome found (λ four. roman_text four ≡ text.now)) }
+{
     let Some(bytes) = bytes_of(alloc, text)? else {
         return Ok(None);
     };
@@ -53,7 +57,9 @@ fn four_of(alloc: Global, text: &str) -> Result<Option<[u8; 4]>, AllocError> {
 }
 
 /// The name of a resource. None where MacRoman lacks a character, or it has more than 255.
-fn name_of(alloc: Global, text: &str) -> Result<Option<Name>, AllocError> {
+fn name_of(alloc: Global, text: &str) -> Result<Option<Name>, AllocError>
+    ensures { IfOk result (λ found. IfSome found (λ name. roman_text name ≡ text.now)) }
+{
     match bytes_of(alloc, text)? {
         Some(bytes) => Ok(Name::new(alloc, bytes.as_slice())?),
         None => Ok(None),
@@ -107,6 +113,7 @@ fn bad(file: String, what: Flaw) -> PackFault
 
 /// What the manifest says of a resource.
 fn entry_of(alloc: Global, resource: Resource) -> Result<Entry, PackFault>
+    ensures entry { IfOk result (IsEntryOf resource) }
     ensures inside { IfOk result IsInFolder }
     ensures outside { IfErr result IsRefusedPath }
 {
@@ -140,7 +147,9 @@ fn entry_of(alloc: Global, resource: Resource) -> Result<Entry, PackFault>
 }
 
 /// The 240 bytes that as many pairs of hexadecimal digits are.
-fn extra_of(text: &str) -> Option<[u8; 240]> {
+fn extra_of(text: &str) -> Option<[u8; 240]>
+    ensures { IfSome result (IsHexOf text.now) }
+{
     let digits = text.as_bytes();
     if digits.len() != 480 {
         return None;
