@@ -1,5 +1,6 @@
 -- The calls of an answer, one after another, and their reports to the procedure.
-use Rattle.std.proofs.Common.{◌≡◌, ℕ, ◌+◌, ◌<◌, ◌≤◌, Bool, true, false, cond, List, [], ◌∷◌, ◌++◌, length, Option, Some, refl, ap, sym, ◌∙◌, arith, append-nil, append_assoc, length-append, nat_lt}
+use Rattle.std.proofs.Common.{◌≡◌, ℕ, ◌+◌, ◌<◌, ◌≤◌, Bool, true, false, cond, List, [], ◌∷◌, ◌++◌, length, Option, Some, Result, Ok, Err, refl, ap, sym, ◌∙◌, arith, append-nil, append_assoc, length-append, nat_lt}
+use Rattle.std.specs.Result.{result_err}
 use Rattle.std.proofs.lemmas.Bool.Decides.{nat_tests}
 use Rattle.mac_base.specs.declared.error.OsErr.{OsErr}
 use Rattle.mac_base.specs.HeadKind.{Shape}
@@ -9,6 +10,8 @@ use Rattle.mac_base.specs.Releasing.{operand_of, heap_released}
 use Rattle.mac_base.specs.Request.{is_among}
 use Rattle.mac_base.specs.GrowZone.{Answer, Ask, new_ask, noted, may_note, Carried, memory_call, heap_unless, carried_once, carried_from}
 use Rattle.mac_base.specs.Tests.{refusal}
+use Rattle.mac_base.specs.ZoneState.{ZoneState}
+use Rattle.mem_calls.specs.Releasing.{EndsRelease}
 use Rattle.mem_calls.specs.Requesting.{IsNewlyAnswered, with_carried}
 
 -- where no call was carried out
@@ -97,3 +100,13 @@ once-free s protected call heap code free is =
     let refused = refusal s heap (memory_call call) in
     ap (λ b. cond b (uncarried heap) (record { heap = heap_unless refused (heap_released call heap) heap; calls = (call, refused) ∷ [] })) free
     ∙ ap (λ (o : Option OsErr). record { heap = heap_unless o (heap_released call heap) heap; calls = (call, o) ∷ [] }) is
+
+-- the code of its refusal, if it was refused
+pub released_code : (old new : ZoneState) (call : ReleasingCall) (result : Result (Unit {0}) OsErr) → EndsRelease call old result new → refusal old.shape old.heap (memory_call call) ≡ result_err result
+released_code old new call (Ok u) end = end.0
+released_code old new call (Err code) end = end.0
+
+-- the heap after it
+pub released_heap : (old new : ZoneState) (call : ReleasingCall) (result : Result (Unit {0}) OsErr) → EndsRelease call old result new → new.heap ≡ heap_unless (result_err result) (heap_released call old.heap) old.heap
+released_heap old new call (Ok u) end = end.1
+released_heap old new call (Err code) end = ap (λ (z : ZoneState). z.heap) end.1

@@ -99,12 +99,6 @@ module _ (s : Shape) (protected : List ℕ) (r : Request) (before : List Ask) (u
   abbrev finished : Ending → Ending
   finished master = let e = after_master s protected r master master.given in record e { asks = master.asks ++ e.asks }
 
-  -- the number of a run that is served
-  pub given_master : (left : ℕ) (between : List Ask) (mid : Heap) (o : Option ℕ) → is_some o ≡ true → IsRun s protected NewMaster most_answers left before between old o mid
-      → (x : ℕ) × IsRun s protected NewMaster most_answers left before between old (Some x) mid
-  given_master left between mid None h run = absurd (cc h)
-  given_master left between mid (Some x) h run = (x, run)
-
   -- it is given
   pub call-after_master : (left more x : ℕ) (between after : List Ask) (given : Option ℕ) (mid new : Heap) → lacks_slot r old ≡ true → IsRun s protected NewMaster most_answers left before between old (Some x) mid
       → IsRun s protected r left more between after mid given new → IsCallRun s protected r after old (given_or_full given) new
@@ -146,4 +140,20 @@ module _ (s : Shape) (protected : List ℕ) (r : Request) (before : List Ask) (u
         few = omega (arith, counted, long);
         answered = ap (list_all (λ (a : Ask). is_some a.answer)) following ∙ sym (ap (λ (e : Ending). list_all (λ (a : Ask). is_some a.answer) e.asks) first.run)
             ∙ run-all_answered s protected NewMaster x most_answers (answers_in first.asks) old (ap (λ (e : Ending). e.given) first.run);
+      }
+
+  -- it may answer at first
+  pub more-unasked : MayAskMore most_answers before
+  more-unasked = let long = ap (λ (asks : List Ask). length asks) unasked in record { few = omega (arith, long); answered = ap (list_all (λ (a : Ask). is_some a.answer)) unasked }
+
+  -- the run where no master block is needed
+  pub call-at_once : (left : ℕ) (after : List Ask) (given : Option ℕ) (new : Heap) → lacks_slot r old ≡ false → IsRun s protected r most_answers left before after old given new
+      → IsCallRun s protected r after old (given_or_full given) new
+  call-at_once left after given new slot run =
+      let following : after ≡ run.asks = run.follows ∙ ap (λ asks. asks ++ run.asks) unasked in
+      record {
+        given = given;
+        result_is = refl;
+        run = ap (call_run s protected r (answers_in after) old) slot ∙ ap (λ asks. request_run s protected r most_answers (answers_in asks) old) following ∙ run.run
+            ∙ ap (λ (asks : List Ask). record { given = given; heap = new; asks = asks; left = [] }) (sym following);
       }

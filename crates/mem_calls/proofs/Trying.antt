@@ -1,6 +1,7 @@
 -- Attempts and trials: an attempt is served just where the request fits, and a trial prepares no more than it needs.
-use Rattle.std.proofs.Common.{◌≡◌, ℕ, ◌<◌, true, false, cond, not, List, [], ◌∷◌, length, Some, ap, sym, ◌∙◌, arith}
+use Rattle.std.proofs.Common.{◌≡◌, ℕ, ◌<◌, true, false, cond, not, List, [], ◌∷◌, length, Result, Ok, Err, Some, ap, sym, ◌∙◌, arith}
 use Rattle.std.specs.Prelude.{is_some}
+use Rattle.std.specs.Result.{result_ok}
 use Rattle.std.proofs.lemmas.Bool.{and_parts}
 use Rattle.mac_base.specs.Attempt.{attempted}
 use Rattle.mac_base.specs.HeadKind.{Shape}
@@ -14,7 +15,11 @@ use Rattle.mac_base.specs.Request.{fits, candidates}
 use Rattle.mac_base.specs.Serve.{serve}
 use Rattle.mac_base.specs.Sound.{Sound}
 use Rattle.mac_base.specs.ExactRequest.{prepared}
-use Rattle.zone_heap.specs.Attempts.{is_ready, lacks_slot}
+use Rattle.mac_base.specs.ZoneState.{ZoneState}
+use Rattle.zone_heap.specs.declared.shortage.Shortage.{Shortage}
+use Rattle.zone_heap.specs.declared.shortage.Shortage.TheVariants.{NoSlot, NoRoom}
+use Rattle.zone_heap.specs.Attempts.{Attempts, is_ready, lacks_slot}
+use Rattle.mem_calls.specs.Requesting.{EndsAttempt}
 use Rattle.zone_laws.proofs.ServedRequests.{MayAsk, serve-fits, front_slot-not_live}
 use Rattle.zone_laws.proofs.Emptied.{purged_until-none}
 use Rattle.zone_laws.proofs.PlacedParts.{option_map-Some}
@@ -39,6 +44,13 @@ pub attempted-fits : (s : Shape) (heap : Heap) (r : Request) (found : ℕ × Hea
 attempted-fits s heap r found sound ready slot is =
     let parts = option_map-Some (λ (p : ℕ × ZoneMap). (p.0, granted r p.0 p.1 heap)) (serve s heap.table (front_slot heap) heap.map r) found is in
     sym (serve-fits s heap.table (front_slot heap) heap.map r sound.suits (may_ask s heap r sound ready slot)) ∙ ap is_some parts.1
+
+-- how an attempt ends, where a slot is free
+pub ended-ok : (old new : ZoneState) (r : Request) (result : Result ℕ Shortage) → Sound old.shape old.heap → is_ready old.heap.table r ≡ true → lacks_slot r old.heap ≡ false → Attempts r old result new
+    → EndsAttempt old r (result_ok result) new
+ended-ok old new r (Ok x) sound ready slot served = (attempted-fits old.shape old.heap r (x, new.heap) sound ready slot served.1, served.1, served.2)
+ended-ok old new r (Err NoSlot) sound ready slot refused = absurd (let lacks = refused.0 in cc)
+ended-ok old new r (Err NoRoom) sound ready slot refused = (refused.1, refused.2, refused.3)
 
 -- a heap in which the request does not fit is grown and purged
 pub prepared-else : (s : Shape) (protected : List ℕ) (r : Request) (heap : Heap) → fits s heap.table r heap.map ≡ false → prepared s protected r heap ≡ purged s protected r (grown s heap)

@@ -1,7 +1,7 @@
 -- How requests run in the zone: attempts, trials, turns of the grow-zone procedure, and the whole run.
 use Rattle.std.specs.Prelude.{◌≡◌, ℕ, ◌+◌, ◌≤◌, ◌==◌, Bool, true, false, not, List, [], ◌∷◌, ◌++◌, length, Option, Some, None, Result, Ok, Err, is_some, IsTrue, IsFalse}
 use Rattle.std.specs.List.{list_all}
-use Rattle.std.specs.Option.{option_map_or}
+use Rattle.std.specs.Option.{ok_or, option_map_or}
 use Rattle.mac_base.specs.declared.error.OsErr.{OsErr}
 use Rattle.mac_base.specs.declared.error.OsErr.TheVariants.{MemFullErr}
 use Rattle.mac_base.specs.HeadKind.{Shape}
@@ -75,8 +75,7 @@ call_run s protected r answers heap true =
 
 -- what it gave, or memFullErr
 abbrev pub given_or_full : Option ℕ → Result ℕ OsErr
-given_or_full (Some x) = Ok x
-given_or_full None = Err MemFullErr
+given_or_full given = ok_or given MemFullErr
 
 -- the request of a call runs with these asks, and gives a number, or none where it is not served
 pub record IsCallRun (s : Shape) (protected : List ℕ) (r : Request) (asks : List Ask) (old : Heap) (result : Result ℕ OsErr) (new : Heap) : Type 0 where

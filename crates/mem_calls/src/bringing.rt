@@ -73,7 +73,7 @@ fn bring_new<G: GrowZone>(zone: &mut Zone, bytes: &[u8], procedure: &mut G) -> R
     ensures loans { KeepsLoans zone.old zone.new }
 {
     // The count of loans says that each is a pointer's or a locked handle's.
-    prove!(zone.lent_count() <= MOST_LOANS);
+    prove!(zone.lent_count() as usize <= MOST_LOANS);
     // The address of the first block says that the heap is sound.
     prove!(zone.first_block() > 0);
     let count = bytes.len() as u32;
@@ -102,7 +102,7 @@ fn bring_after<G: GrowZone>(
     ensures loans { KeepsLoans zone.old zone.new }
 {
     // The count of loans says that each is a pointer's or a locked handle's.
-    prove!(zone.lent_count() <= MOST_LOANS);
+    prove!(zone.lent_count() as usize <= MOST_LOANS);
     // The address of the first block says that the heap is sound.
     prove!(zone.first_block() > 0);
     let count = bytes.len() as u32;

@@ -17,7 +17,7 @@ ghost use Rattle.mac_base.specs.Outcomes.{handle_outcome, done_outcome};
 
 use crate::manager::MemoryManager;
 use crate::operands::{
-    MOST_LOANS, test_block_here, test_full_here, test_pointer_for, test_pointer_here, test_within,
+    MOST_LOANS, test_full_here, test_pointer_for, test_pointer_here, test_within,
 };
 use crate::request::request;
 use mac_base::GrowZone;
@@ -44,7 +44,7 @@ fn copy_to_new<G: GrowZone>(
     ensures loans { KeepsLoans zone.old zone.new }
 {
     // The count of loans says that each is a pointer's or a locked handle's.
-    prove!(zone.lent_count() <= MOST_LOANS);
+    prove!(zone.lent_count() as usize <= MOST_LOANS);
     // The address of the first block says that the heap is sound.
     prove!(zone.first_block() > 0);
     let new = request(zone, &Request::NewBlock(count), &[from], procedure)?;
@@ -75,7 +75,7 @@ fn copy_after<G: GrowZone>(
     ensures loans { KeepsLoans zone.old zone.new }
 {
     // The count of loans says that each is a pointer's or a locked handle's.
-    prove!(zone.lent_count() <= MOST_LOANS);
+    prove!(zone.lent_count() as usize <= MOST_LOANS);
     // The address of the first block says that the heap is sound.
     prove!(zone.first_block() > 0);
     let resize = Request::Resize(to, offset + count);
@@ -224,8 +224,8 @@ impl MemoryManager {
     {
         // The address of the first block says that the heap is sound.
         prove!(self.zone.first_block() > 0);
-        test_block_here(&self.zone, from)?;
-        test_block_here(&self.zone, to)?;
+        self.test_block_here(from)?;
+        self.test_block_here(to)?;
         test_within(&self.zone, from, start, count)?;
         test_within(&self.zone, to, offset, count)?;
         self.zone.copy(from, start, to, offset, count);

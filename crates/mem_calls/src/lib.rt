@@ -20,4 +20,5 @@ mod structure;
 mod waking;
 
 pub use manager::MemoryManager;
+pub use operands::{MOST_LOANS, has_part};
 pub use state::state_of;

@@ -62,16 +62,8 @@ impl MemoryManager {
         ensures full { OnOk result (status_of self.now.heap.table block ≡ Status.Full) }
         ensures fixed { OnOk result (IsTrue (may_be_lent self.now.heap.table block)) }
     {
-        if block == 0 {
-            return Err(OsErr::NilHandleErr);
-        }
-        match self.status(block) {
-            Status::NotLive => return Err(OsErr::MemWzErr),
-            Status::Empty => return Err(OsErr::NilHandleErr),
-            Status::Lent => return Err(OsErr::MemLockedErr),
-            Status::Full => {}
-        }
-        if !self.is_fixed(block) || self.zone.lent_count() >= MOST_LOANS {
+        self.test_block_here(block)?;
+        if !self.is_fixed(block) || self.zone.lent_count() as usize >= MOST_LOANS {
             return Err(OsErr::ParamErr);
         }
         Ok(())

@@ -38,7 +38,7 @@ impl Drop for MemoryManager {
 }
 
 impl MemoryManager {
-    ghost use Rattle.std.specs.Prelude.{◌≡◌, ◌+◌, ◌<◌, ◌≤◌, IfOk, IfErr, [], length};
+    ghost use Rattle.std.specs.Prelude.{◌≡◌, ◌+◌, ◌<◌, ◌≤◌, ◌∷◌, IfOk, IfErr, OnOk, [], length};
     ghost use Rattle.mac_base.specs.declared.error.OsErr.TheVariants.{MemLockedErr};
     ghost use Rattle.linked_zone.specs.Image.{IsImage};
     ghost use Rattle.std.specs.Borrow.{sem};
@@ -50,6 +50,8 @@ impl MemoryManager {
     ghost use Rattle.mac_base.specs.ZoneSizes.{shape_of};
     ghost use Rattle.mac_base.specs.ZoneState.{own_memory};
     ghost use Rattle.mac_base.specs.ZoneMap.{address_after};
+    ghost use Rattle.mac_base.specs.Tests.{IsBlock, NotEmpty, NotLent};
+    ghost use Rattle.mem_calls.specs.Testing.{Tests};
     ghost use Rattle.mem_calls.specs.WritingBack.{WritesBackContents};
 
     /// A new zone: a master block with 64 free slots, and the rest free. It takes all the memory that the zone will
@@ -84,6 +86,23 @@ impl MemoryManager {
             Status::Empty
         } else {
             Status::NotLive
+        }
+    }
+
+    /// Tests that a number is a live handle or pointer, has a block and isn't lent: nilHandleErr where it is 0 or an
+    /// empty handle, memWZErr where it is another number that isn't live, memLockedErr where it is lent.
+    pub fn test_block_here(&self, block: u32) -> Result<(), OsErr>
+        ensures refusal { Tests self.now (IsBlock block ∷ NotEmpty block ∷ NotLent block ∷ []) result }
+        ensures full { OnOk result (status_of self.now.heap.table block ≡ Status.Full) }
+    {
+        if block == 0 {
+            return Err(OsErr::NilHandleErr);
+        }
+        match self.status(block) {
+            Status::NotLive => Err(OsErr::MemWzErr),
+            Status::Empty => Err(OsErr::NilHandleErr),
+            Status::Lent => Err(OsErr::MemLockedErr),
+            Status::Full => Ok(()),
         }
     }
 

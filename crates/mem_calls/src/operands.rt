@@ -1,8 +1,8 @@
 //! The tests of calls' operands.
 
-ghost use Rattle.std.specs.Prelude.{◌≡◌, ◌∷◌, [], ◌||◌, not, IfOk, OnOk, IsTrue};
+ghost use Rattle.std.specs.Prelude.{◌≡◌, ◌+◌, ◌∷◌, [], ◌||◌, nat_le, not, IfOk, OnOk, IsTrue};
 ghost use Rattle.mac_base.specs.HandleTable.{flags_of, has_block, is_handle, is_lent, is_locked};
-ghost use Rattle.mac_base.specs.Tests.{IsHandle, IsPointer, IsBlock, NotEmpty, NotLent, NotLocked, IsSize, IsWithin};
+ghost use Rattle.mac_base.specs.Tests.{IsHandle, IsPointer, NotEmpty, NotLent, NotLocked, IsSize, IsWithin};
 ghost use Rattle.mac_base.specs.declared.error.OsErr.TheVariants.{MemLockedErr, MemPurErr};
 ghost use Rattle.mem_calls.specs.Testing.{Tests, TestsSize};
 
@@ -13,7 +13,7 @@ use mac_base::size::MAX_SIZE;
 use zone_heap::Zone;
 
 /// The most blocks that may be lent at a time.
-pub(crate) const MOST_LOANS: u32 = 8;
+pub const MOST_LOANS: usize = 8;
 
 /// Tests that a handle is live: nilHandleErr where it is 0, memWZErr where it is another number that isn't live.
 pub(crate) fn test_handle(zone: &Zone, handle: Handle) -> Result<(), OsErr>
@@ -59,7 +59,7 @@ pub(crate) fn handle_flags(zone: &Zone, handle: Handle) -> Result<Flags, OsErr>
 {
     test_full(zone, handle)?;
     // The zone's count of loans says that each is a pointer's or a locked handle's.
-    prove!(zone.lent_count() <= MOST_LOANS);
+    prove!(zone.lent_count() as usize <= MOST_LOANS);
     Ok(zone.linked().flags(handle))
 }
 
@@ -69,7 +69,7 @@ pub(crate) fn is_lent(zone: &Zone, block: u32) -> bool
 {
     // The zone's count of loans says so.
     let loans = zone.lent_count();
-    prove!(loans <= MOST_LOANS);
+    prove!(loans as usize <= MOST_LOANS);
     loans > 0 && zone.linked().has_block(block) && zone.linked().is_lent(block)
 }
 
@@ -151,34 +151,23 @@ pub(crate) fn test_pointer_here(zone: &Zone, pointer: Ptr) -> Result<(), OsErr>
     test_here(zone, pointer.number())
 }
 
-/// Tests that a number is a live handle or pointer, has a block and isn't lent: nilHandleErr where it is 0 or an empty
-/// handle, memWZErr where it is another number that isn't live, memLockedErr where it is lent.
-pub(crate) fn test_block_here(zone: &Zone, block: u32) -> Result<(), OsErr>
-    ensures { Tests zone.now (IsBlock block ∷ NotEmpty block ∷ NotLent block ∷ []) result }
-{
-    if block == 0 {
-        return Err(OsErr::NilHandleErr);
-    }
-    if !zone.linked().has_block(block) {
-        return Err(if zone.linked().is_live(Handle::new(block)) {
-            OsErr::NilHandleErr
-        } else {
-            OsErr::MemWzErr
-        });
-    }
-    test_here(zone, block)
-}
-
 /// Tests that `count` bytes from `start` on are within a block: paramErr where it has fewer.
 pub(crate) fn test_within(zone: &Zone, block: u32, start: u32, count: u32) -> Result<(), OsErr>
     requires { IsTrue (has_block zone.now.heap.table block) }
     ensures { Tests zone.now (IsWithin block start count ∷ []) result }
 {
-    let length = zone.linked().length(block);
-    if start > length || count > length - start {
+    let length = zone.linked().length(block) as usize;
+    if !has_part(length, start as usize, count as usize) {
         return Err(OsErr::ParamErr);
     }
     Ok(())
+}
+
+/// Whether there are so many of some bytes from an offset on.
+pub fn has_part(length: usize, offset: usize, count: usize) -> bool
+    ensures { result ≡ nat_le (offset + count) length }
+{
+    offset <= length && count <= length - offset
 }
 
 /// Tests the operands of a call that takes the first `count` bytes of a pointer's block for a handle's: memWZErr where

@@ -64,9 +64,6 @@ impl MemoryManager {
         ensures exact { IsExactStep self.now.shape self.now.heap (OnBlock (RecoverHandle address)) [] (handle_outcome result) self.now.heap }
         ensures step { MemoryStep self.now.shape self.now.heap (OnBlock (RecoverHandle address)) [] (handle_outcome result) self.now.heap }
     {
-        match self.zone.recover(address) {
-            Some(handle) => Ok(handle),
-            None => Err(OsErr::MemBcErr),
-        }
+        self.zone.recover(address).ok_or(OsErr::MemBcErr)
     }
 }

@@ -3,11 +3,11 @@
 ghost use Rattle.std.specs.Prelude.{◌≡◌, ◌≤◌, IsTrue, IsFalse, []};
 ghost use Rattle.linked_zone.specs.Loans.{KeepsLoans};
 ghost use Rattle.mac_base.specs.Sound.{Sound};
-ghost use Rattle.mac_base.specs.Request.{is_among, length_asked};
+ghost use Rattle.mac_base.specs.Request.{length_asked};
 ghost use Rattle.mac_base.specs.GrowZone.{may_ask, may_note, carried_once, carried_out};
 ghost use Rattle.zone_heap.specs.Attempts.{CanAsk, lacks_slot, most_asked};
 ghost use Rattle.zone_heap.specs.Purge.{is_protected};
-ghost use Rattle.mem_calls.specs.Requesting.{EndsAttempt, IsTrial, IsNewlyAnswered, IsTurn, MayAskMore, IsRun, IsCallRun, given_or_full, with_carried};
+ghost use Rattle.mem_calls.specs.Requesting.{EndsAttempt, IsTrial, IsNewlyAnswered, IsTurn, MayAskMore, IsRun, IsCallRun, with_carried};
 
 use crate::releasing::{operand_of, release};
 use mac_base::error::OsErr;
@@ -42,10 +42,7 @@ fn attempt(zone: &mut Zone, request: &Request) -> Option<u32>
     ensures attempt { EndsAttempt zone.old request.now result zone.new }
     ensures loans { KeepsLoans zone.old zone.new }
 {
-    match zone.attempt(*request) {
-        Ok(given) => Some(given),
-        Err(_) => None,
-    }
+    zone.attempt(*request).ok()
 }
 
 /// One trial of a request: in the zone as it is, or else once it has grown to its limit, or else once as few handles
@@ -69,13 +66,6 @@ fn trial(zone: &mut Zone, request: &Request, protected: &[u32]) -> Option<u32>
     attempt(zone, request)
 }
 
-/// Whether a number is among those that a running call protects.
-fn is_among(protected: &[u32], number: u32) -> bool
-    ensures { result ≡ is_among protected.now number }
-{
-    protected.iter().any(|other| *other == number)
-}
-
 /// Carries out a call of an answer, unless its operand is protected, and reports to the procedure how it ended.
 fn carry_one<G: GrowZone>(
     zone: &mut Zone,
@@ -90,12 +80,8 @@ fn carry_one<G: GrowZone>(
     ensures shape { zone.new.shape ≡ zone.old.shape }
     ensures loans { KeepsLoans zone.old zone.new }
 {
-    if is_among(protected, operand_of(call)) {
-        return;
-    }
-    match release(zone, *call) {
-        Ok(()) => procedure.did(*call, None),
-        Err(code) => procedure.did(*call, Some(code)),
+    if !protected.contains(&operand_of(call)) {
+        procedure.did(*call, release(zone, *call).err());
     }
 }
 
@@ -179,16 +165,6 @@ fn lacks_slot(zone: &Zone, request: &Request) -> bool
     matches!(request, Request::NewBlock(_) | Request::NewEmpty) && !zone.linked().has_slot()
 }
 
-/// What a request gave, or memFullErr where it was not served.
-fn given_or_full(given: Option<u32>) -> Result<u32, OsErr>
-    ensures { result ≡ given_or_full given }
-{
-    match given {
-        Some(number) => Ok(number),
-        None => Err(OsErr::MemFullErr),
-    }
-}
-
 /// Runs the request of a call, after one for a master block where it is for a new handle and no slot is free. In both
 /// the grow-zone procedure may answer 16 times at most.
 pub(crate) fn request<G: GrowZone>(
@@ -209,19 +185,15 @@ pub(crate) fn request<G: GrowZone>(
     // The address of the first block says that the heap is sound.
     prove!(zone.first_block() > 0);
     let mut allowed = MOST_ANSWERS;
-    if !lacks_slot(zone, request) {
-        return given_or_full(run(zone, request, protected, &mut allowed, procedure));
+    if lacks_slot(zone, request) {
+        run(
+            zone,
+            &Request::NewMaster,
+            protected,
+            &mut allowed,
+            procedure,
+        )
+        .ok_or(OsErr::MemFullErr)?;
     }
-    if run(
-        zone,
-        &Request::NewMaster,
-        protected,
-        &mut allowed,
-        procedure,
-    )
-    .is_none()
-    {
-        return Err(OsErr::MemFullErr);
-    }
-    given_or_full(run(zone, request, protected, &mut allowed, procedure))
+    run(zone, request, protected, &mut allowed, procedure).ok_or(OsErr::MemFullErr)
 }

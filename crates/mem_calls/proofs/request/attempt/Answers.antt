@@ -1,7 +1,8 @@
-use Rattle.mem_calls.proofs.Trying.{attempted-fits}
+use Rattle.std.proofs.Common.{subst, sym}
+use Rattle.mem_calls.proofs.Trying.{ended-ok}
+use Rattle.mem_calls.specs.Requesting.{EndsAttempt}
 use Rattle.mem_calls.proofs.request.attempt.Goals as goal
 
-pub returns-in-Ok-clause-attempt : goal.returns-in-Ok-clause-attempt
-returns-in-Ok-clause-attempt c =
-    let given = c.in-Ok.ensures.attempt in
-    (attempted-fits c.args.zone.now.shape c.args.zone.now.heap c.args.request.now (c.in-Ok.given, c.attempt.new.self.heap) c.in-Ok.ensures.sound c.requires.ready.operand given.0 given.1, given.1, given.2)
+pub returns-clause-attempt : goal.returns-clause-attempt
+returns-clause-attempt c = subst (λ given. EndsAttempt c.args.zone.now c.args.request.now given c.attempt.new.self) (sym c.ok.ensures.value)
+    (ended-ok c.args.zone.now c.attempt.new.self c.args.request.now c.attempt.result c.attempt.ensures.sound c.requires.ready.operand c.requires.slot c.attempt.ensures.attempt)
