@@ -1,8 +1,9 @@
 -- What is lent is what is held, from call to call.
-use Rattle.std.specs.Prelude.{nat_le, nat_lt}
+use Rattle.std.specs.Prelude.{nat_le, nat_lt, ok_or, is_some, IfOk, IfSome}
+use Rattle.std.specs.Result.{result_err}
 use Rattle.std.specs.List.{AllByRecursion, IsDistinct, list_any}
 use Rattle.std.specs.Set.{is_member}
-use Rattle.std.proofs.Common.{◌≡◌, ℕ, suc, ◌+◌, ◌<◌, ◌≤◌, ◌&&◌, ◌||◌, ◌==◌, not, Bool, true, false, cond, eqb, List, [], ◌∷◌, ◌++◌, length, Some, None, refl, sym, ap, subst, ◌∙◌, arith, Ok}
+use Rattle.std.proofs.Common.{◌≡◌, ℕ, suc, ◌+◌, ◌<◌, ◌≤◌, ◌&&◌, ◌||◌, ◌==◌, not, Bool, true, false, cond, eqb, List, [], ◌∷◌, ◌++◌, length, Option, Some, None, refl, sym, ap, subst, ◌∙◌, arith, Ok}
 use Rattle.std.proofs.lemmas.Bool.{and_parts, or_parts, or_from, le-leb, lt-leb, eqb-true}
 use Rattle.std.proofs.lemmas.Bool.Decides.{nat_tests}
 use Rattle.std.proofs.lemmas.Map.Views.{any-filter_same}
@@ -362,3 +363,9 @@ window_of zone x held window on holds = record {
   bytes = sym (bytes_of-taken x held on.0 on.1 on.2);
   on = on.3;
 }
+
+-- how a call for the window on a loan ends
+pub window_ends : (zone : ZoneState) (held : List Held) (x : ℕ) (found : Option Window) → Holds zone held → first_refusal zone.shape zone.heap (IsBlock x ∷ []) ≡ None → is_some found ≡ is_held x held → IfSome found (λ window. IsOnLoan x held window)
+    → (result_err (ok_or found ParamErr) ≡ loan_refusal zone.shape zone.heap (Return x)) × IfOk (ok_or found ParamErr) (λ window. IsWindow zone (loans_of held) x window)
+window_ends zone held x None holds live is on = (sym (rw ((first_passed zone.shape zone.heap (IsBlock x) [] live).0, holds.all x, sym is) refl), tt)
+window_ends zone held x (Some window) holds live is on = (sym (held_returns zone held x holds live (sym is)), window_of zone x held window on holds)

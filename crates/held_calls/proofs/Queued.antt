@@ -6,9 +6,8 @@ use Rattle.std.proofs.lemmas.List.Elements.{filter_map-append}
 use Rattle.mac_base.specs.declared.error.OsErr.{OsErr}
 use Rattle.mac_base.specs.declared.releasing.ReleasingCall.{ReleasingCall}
 use Rattle.mac_base.specs.declared.grow_zone.Asked.{Asked}
-use Rattle.mac_base.specs.GrowZone.{Answer, Ask, answered, answers_in, may_note, new_ask, noted}
+use Rattle.mac_base.specs.GrowZone.{Answer, Ask, answered, answers_in, new_ask, noted}
 use Rattle.held_calls.specs.Answers.{taken}
-use Rattle.mem_calls.proofs.Carrying.{may_note-last}
 
 -- the front answer is given
 taken-front : (asks : List Ask) (needed : ℕ) (answer : Answer) (old left : List Answer) → old ≡ answer ∷ left → taken (asks ++ new_ask needed (Some answer) ∷ []) left ≡ taken asks old

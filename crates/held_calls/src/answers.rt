@@ -17,6 +17,9 @@ use std::marker::Model;
 /// How often one call asks at most.
 pub const MOST_ASKS: usize = 16;
 
+/// How many calls an answer has at most.
+const MOST_CALLS: usize = 8;
+
 /// A call of an answer that was carried out, and the code of its refusal, if it was refused. A contract sees the two.
 #[derive(Drop)]
 pub struct Carried {
@@ -65,7 +68,7 @@ impl Carried {
 pub struct MadeAsk {
     needed: u32,
     answer: Option<Answer>,
-    carried: ArrayVec<Carried, 8>,
+    carried: ArrayVec<Carried, MOST_CALLS>,
 }
 
 impl Model for MadeAsk {
@@ -97,13 +100,9 @@ impl MadeAsk {
     fn new(needed: u32, answer: &Option<Answer>) -> MadeAsk
         ensures { result ≡ new_ask needed answer.now }
     {
-        let answer = match answer {
-            Some(answer) => Some(answer.again()),
-            None => None,
-        };
         MadeAsk {
             needed,
-            answer,
+            answer: answer.as_ref().map(Answer::again),
             carried: ArrayVec::new(),
         }
     }

@@ -13,11 +13,10 @@ ghost use Rattle.mac_base.specs.declared.reply.Results.TheVariants as results;
 ghost use Rattle.mac_base.specs.Tests.{refusal};
 ghost use Rattle.held_calls.specs.Making.{MemorySteps};
 
-use mac_base::block::Status;
 use mac_base::bytes::Bytes;
 use mac_base::error::{HostFull, OsErr};
 use mac_base::{Outcome, Results};
-use mem_calls::MemoryManager;
+use mem_calls::{MemoryManager, has_part};
 use std::alloc::Global;
 
 /// Peek: `count` bytes of a block, from an offset on. It is refused in this order: nilHandleErr where its number is 0,
@@ -72,18 +71,8 @@ fn test_part(memory: &MemoryManager, block: u32, offset: u32, count: usize) -> R
     ensures full { OnOk result (status_of memory.now.heap.table block ≡ Status.Full) }
     ensures within { OnOk result (offset + count ≤ length (bytes_of memory.now.heap.table block)) }
 {
-    if block == 0 {
-        return Err(OsErr::NilHandleErr);
-    }
-    match memory.status(block) {
-        Status::NotLive => return Err(OsErr::MemWzErr),
-        Status::Empty => return Err(OsErr::NilHandleErr),
-        Status::Lent => return Err(OsErr::MemLockedErr),
-        Status::Full => {}
-    }
-    let length = memory.contents(block).len();
-    let start = offset as usize;
-    if start <= length && count <= length - start {
+    memory.test_block_here(block)?;
+    if has_part(memory.contents(block).len(), offset as usize, count) {
         Ok(())
     } else {
         Err(OsErr::ParamErr)

@@ -13,7 +13,7 @@ use crate::window::Window;
 use mac_base::block::Status;
 use mac_base::error::OsErr;
 use mac_base::{Outcome, Results};
-use mem_calls::MemoryManager;
+use mem_calls::{MemoryManager, has_part};
 
 /// Lend: lends a nonrelocatable block or that of a locked handle.
 pub fn lend(memory: &mut MemoryManager, loans: &mut Loans, block: u32) -> Outcome
@@ -52,9 +52,7 @@ pub fn take_back(memory: &mut MemoryManager, loans: &mut Loans, block: u32) -> O
     ensures holds { Holds memory.new loans.new }
 {
     test_live(memory, block)?;
-    let Some(loan) = loans.take_out(block) else {
-        return Err(OsErr::ParamErr);
-    };
+    let loan = loans.take_out(block).ok_or(OsErr::ParamErr)?;
     memory.give_back(block, loan);
     Ok(Results::Nothing)
 }
@@ -75,11 +73,8 @@ pub fn lent_bytes<'a>(
     ensures within { IfOk result (λ lent. offset + count ≤ length lent.now) }
 {
     test_live(memory, block)?;
-    let Some(lent) = loans.bytes(block) else {
-        return Err(OsErr::ParamErr);
-    };
-    let start = offset as usize;
-    if start <= lent.len() && count <= lent.len() - start {
+    let lent = loans.bytes(block).ok_or(OsErr::ParamErr)?;
+    if has_part(lent.len(), offset as usize, count) {
         Ok(lent)
     } else {
         Err(OsErr::ParamErr)
@@ -93,10 +88,7 @@ pub fn window(memory: &MemoryManager, loans: &Loans, block: u32) -> Result<Windo
     ensures window { IfOk result (λ window. IsWindow memory.now (loans_of loans.now) block window) }
 {
     test_live(memory, block)?;
-    let Some(window) = loans.window(block) else {
-        return Err(OsErr::ParamErr);
-    };
-    Ok(window)
+    loans.window(block).ok_or(OsErr::ParamErr)
 }
 
 /// Tests that a number is that of a handle or a pointer: nilHandleErr where it is 0, memWZErr where it isn't live.

@@ -5,6 +5,7 @@ ghost use Rattle.held_calls.specs.Holding.{blocks_of, held_at, is_held, loan_wri
 
 use crate::window::{Window, window_on};
 use arrayvec::ArrayVec;
+use mem_calls::MOST_LOANS;
 use raw_region::Lent;
 use std::marker::Model;
 use std::mem;
@@ -17,7 +18,7 @@ pub struct Held {
 
 /// The loans that a program has, 8 at most. A contract sees them in order of lending.
 pub struct Loans {
-    places: [Option<Held>; 8],
+    places: [Option<Held>; MOST_LOANS],
 }
 
 impl Model for Loans {
@@ -68,7 +69,7 @@ impl Loans {
     }
 
     /// The blocks that are lent, in order of lending.
-    pub fn blocks(&self) -> ArrayVec<u32, 8>
+    pub fn blocks(&self) -> ArrayVec<u32, MOST_LOANS>
         ensures blocks { result.items ≡ blocks_of self.now }
         ensures told { (x : ℕ) → list_any (λ y. y == x) result.items ≡ is_held x self.now }
     {
@@ -113,7 +114,7 @@ impl Loans {
         ensures unchanged { IfNone result (self.new ≡ self.old) }
     {
         let place = place_of(&self.places, block)?;
-        let Held { block: _, loan } = mem::replace(&mut self.places[place], None)?;
+        let Held { block: _, loan } = self.places[place].take()?;
         Some(loan)
     }
 
@@ -130,7 +131,7 @@ impl Loans {
 }
 
 /// The blocks whose loans are at places, in their order.
-fn blocks_at(places: &[Option<Held>]) -> ArrayVec<u32, 8>
+fn blocks_at(places: &[Option<Held>]) -> ArrayVec<u32, MOST_LOANS>
     requires { length places.now ≤ 8 }
     ensures { result.items ≡ blocks_of (held_at places.now) }
 {
@@ -203,7 +204,7 @@ fn write_over(loan: &mut Lent, at: usize, bytes: &[u8])
 }
 
 /// Places without a loan are left.
-fn leave_all(places: [Option<Held>; 8])
+fn leave_all(places: [Option<Held>; MOST_LOANS])
     requires { held_at places ≡ [] }
 {
     let [a, b, c, d, e, f, g, h] = places;
