@@ -18,8 +18,9 @@ impl MrFiles {
         ensures zone { zone.new.held.session ≡ zone.old.held.session }
         ensures files { self.new.held.files ≡ self.old.held.files }
     {
-        let session = zone.take(alloc)?;
-        zone.put(session);
+        if !zone.is_live() {
+            return None;
+        }
         let files = self.take(alloc)?;
         let outcome = files.count(call);
         self.put(files);

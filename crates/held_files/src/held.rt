@@ -4,7 +4,6 @@ ghost use Rattle.std.specs.Prelude.{◌≡◌, Option, Some, None, IsTrue};
 ghost use Rattle.std.specs.Option.{option_map};
 ghost use Rattle.held_files.specs.Forks.{ForksState};
 ghost use Rattle.held_files.specs.Held.{is_there};
-ghost use Rattle.mac_base.specs.Outcomes.{done_outcome};
 
 use crate::files::ForkFiles;
 use crate::told::{MrInfo, info, kind};
@@ -13,7 +12,7 @@ use held_zone::told::{self, NO_ZONE};
 use held_zone::zone::MhZone;
 use mac_base::error::{NO_ERR, OsErr};
 use mac_base::handle::Handle;
-use mac_base::{Outcome, ResourceCall, Results};
+use mac_base::{Outcome, ResourceCall};
 use res_update::SeekingCall;
 use std::alloc::Global;
 use std::marker::Model;
@@ -128,13 +127,6 @@ impl MrFiles {
             held: Held::of(Parked::of(files)),
         };
     }
-}
-
-/// The outcome of a call that gives nothing.
-fn done(given: Result<(), OsErr>) -> Outcome
-    ensures { result ≡ done_outcome given }
-{
-    given.map(|()| Results::Nothing)
 }
 
 /// The null pointer.
@@ -315,6 +307,6 @@ impl MrFiles {
         };
         let set = files.set_info(alloc, handle, id, name);
         self.put(files);
-        told::code(&Some(done(set)))
+        told::done(set)
     }
 }

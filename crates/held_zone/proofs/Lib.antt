@@ -6,6 +6,7 @@ pub mod Made
 pub mod SaveStates
 pub mod Sleeping
 mod Settled
+mod There
 pub mod Shown
 pub mod Words
 mod Written

@@ -1,8 +1,9 @@
 //! A zone that sleeps, as C holds it.
 
-ghost use Rattle.std.specs.Prelude.{◌≡◌, None, Some, IfSome};
+ghost use Rattle.std.specs.Prelude.{◌≡◌, None, Some, IfSome, MatchBool};
 ghost use Rattle.std.specs.Option.{option_map};
 ghost use Rattle.held_zone.specs.Asleep.{IsAsleep};
+ghost use Rattle.held_zone.specs.State.{State};
 ghost use Rattle.std.proofs.Props.{props};
 
 use crate::session::Session;
@@ -18,6 +19,13 @@ pub struct MhAsleep {
 }
 
 impl MhAsleep {
+    /// Whether there is a zone.
+    pub fn is_live(&self) -> bool
+        ensures { MatchBool result ((session : State) × (self.now.zone.held.session ≡ Some session)) (self.now.zone.held.session ≡ None) }
+    {
+        self.zone.is_live()
+    }
+
     /// Takes the session out, where there is one.
     pub fn take(&mut self, alloc: Global) -> Option<Box<Session>>
         ensures given { self.old.zone.held.session ≡ option_map (λ session. session.value) result }

@@ -11,15 +11,12 @@ use held_calls::{bytes, lending, making};
 use mac_base::error::{HostFull, OsErr};
 use mac_base::zone_spec::ZoneSpec;
 use mac_base::{Answer, LoanCall, MemoryCall, Outcome};
-use mem_calls::MemoryManager;
+use mem_calls::{MOST_LOANS, MemoryManager};
 use std::alloc::Global;
 use std::marker::Model;
 
 /// How many answers may wait.
 const MOST_WAITING: usize = 16;
-
-/// How many blocks may be lent.
-pub(crate) const MOST_LOANS: usize = 8;
 
 /// The Memory Manager with its zone, the loans that C has of it, the answers of its grow-zone procedure, and the blocks
 /// that wait while the zone sleeps to be lent again.

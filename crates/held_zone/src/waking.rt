@@ -1,11 +1,11 @@
 //! A session whose zone sleeps, and wakes in bytes of the host.
 
 use crate::lending_again;
-use crate::session::{MOST_LOANS, Session};
+use crate::session::Session;
 use held_calls::lending;
 use linked_zone::{Agreement, LinkedZone, Written};
 use mac_base::error::OsErr;
-use mem_calls::MemoryManager;
+use mem_calls::{MOST_LOANS, MemoryManager};
 use raw_region::Region;
 
 /// Why a zone sleeps on.

@@ -1,6 +1,6 @@
 //! A zone that C holds.
 
-ghost use Rattle.std.specs.Prelude.{◌≡◌, Option, Some, None, IsTrue, IsFalse};
+ghost use Rattle.std.specs.Prelude.{◌≡◌, Option, Some, None, IsTrue, IsFalse, MatchBool};
 ghost use Rattle.std.specs.Option.{option_map};
 ghost use Rattle.held_zone.specs.Held.{is_there};
 ghost use Rattle.held_zone.specs.State.{State};
@@ -90,6 +90,13 @@ impl MhZone {
     {
         let held = Held::none(at);
         MhZone { live: false, held }
+    }
+
+    /// Whether there is a zone.
+    pub fn is_live(&self) -> bool
+        ensures { MatchBool result ((session : State) × (self.now.held.session ≡ Some session)) (self.now.held.session ≡ None) }
+    {
+        self.live
     }
 
     /// The session, where there is one.
