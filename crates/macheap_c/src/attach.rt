@@ -39,8 +39,7 @@ pub extern "C" fn mh_attach(
 ) -> i16
     ensures { IsAttached asleep.old.zone.held.session (large_sizes_of mode base size limit) (region_of memory.old.host) result asleep.new.zone.held.session (region_of memory.new.host) }
 {
-    if let Some(session) = asleep.take(alloc) {
-        asleep.put(session);
+    if asleep.is_live() {
         return OsErr::ParamErr.code();
     }
     match large_spec_of(mode, base, size, limit) {
@@ -86,8 +85,7 @@ pub extern "C" fn mh_make_zone_of(
 ) -> i16
     ensures { IsMadeOf zone.old.held.session (large_sizes_of mode base size limit) image.now result zone.new.held.session }
 {
-    if let Some(session) = zone.take(alloc) {
-        zone.put(session);
+    if zone.is_live() {
         return OsErr::ParamErr.code();
     }
     match large_spec_of(mode, base, size, limit) {

@@ -195,11 +195,7 @@ pub extern "C" fn mh_carried(
 fn shown_at(asks: &[MadeAsk], index: usize) -> Option<MhAsk>
     ensures { result ≡ option_map shown_ask (slice_get asks.now index) }
 {
-    if index < asks.len() {
-        Some(shown_ask(&asks[index]))
-    } else {
-        None
-    }
+    Some(shown_ask(asks.get(index)?))
 }
 
 /// An ask as C is shown it.
@@ -222,15 +218,7 @@ fn shown_ask(ask: &MadeAsk) -> MhAsk
 fn carried_in(asks: &[MadeAsk], index: usize, place: usize) -> Option<MhCarried>
     ensures { result ≡ option_map shown_carried (slice_get (carried_for (slice_get asks.now index)) place) }
 {
-    if index >= asks.len() {
-        return None;
-    }
-    let carried = asks[index].carried();
-    if place < carried.len() {
-        Some(shown_carried(&carried[place]))
-    } else {
-        None
-    }
+    Some(shown_carried(asks.get(index)?.carried().get(place)?))
 }
 
 /// A call that was carried out, as C is shown it.

@@ -54,8 +54,7 @@ fn make_at(
 ) -> i16
     ensures { IsMadeAt asleep.old.zone.held.session spec (region_of memory.old.host) result asleep.new.zone.held.session (region_of memory.new.host) }
 {
-    if let Some(session) = asleep.take(alloc) {
-        asleep.put(session);
+    if asleep.is_live() {
         return OsErr::ParamErr.code();
     }
     match spec {
@@ -133,8 +132,7 @@ fn wake_asleep(
     requires told { IfSome written (λ ranges. IsTold asleep.old.zone.held.session (region_of memory.old.host) ranges.now) }
     ensures { IsWoken zone.old.held.session asleep.old.zone.held.session (region_of memory.old.host) result zone.new.held.session asleep.new.zone.held.session (region_of memory.new.host) }
 {
-    if let Some(session) = zone.take(alloc) {
-        zone.put(session);
+    if zone.is_live() {
         return OsErr::ParamErr.code();
     }
     let Some(session) = asleep.take(alloc) else {
@@ -218,8 +216,7 @@ pub extern "C" fn mh_sleep(
 ) -> i16
     ensures { IsPutToSleep zone.old.held.session asleep.old.zone.held.session (region_of memory.old.host) result zone.new.held.session asleep.new.zone.held.session (region_of memory.new.host) }
 {
-    if let Some(session) = asleep.take(alloc) {
-        asleep.put(session);
+    if asleep.is_live() {
         return OsErr::ParamErr.code();
     }
     if let Some(region) = memory.take() {

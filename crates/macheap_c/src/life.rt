@@ -47,8 +47,7 @@ pub extern "C" fn mh_make_zone_large(
 fn make(alloc: Global, zone: &mut MhZone, spec: Option<ZoneSpec>) -> i16
     ensures { IsMade zone.old.held.session spec result zone.new.held.session }
 {
-    if let Some(session) = zone.take(alloc) {
-        zone.put(session);
+    if zone.is_live() {
         return OsErr::ParamErr.code();
     }
     let Some(spec) = spec else {
