@@ -179,6 +179,7 @@ impl HostFile {
     pub fn settle(&mut self, log: &mut FileCalls) -> Result<(), DiskFault>
         ensures cause { Counts self.old.failures self.new.failures result }
         ensures trusted { OnOk result (self.old.is_spent ≡ false) }
+        ensures still { OnOk result (self.new.is_spent ≡ false) }
         ensures spent { OnErr result (self.new.is_spent ≡ true) }
         ensures which { self.new.which ≡ self.old.which }
         ensures noted { log.new.events ≡ sync_event self.old.which result ∷ log.old.events }
