@@ -67,6 +67,7 @@ fn opened<R: Files<File = File>>(files: &R, path: &str) -> io::Result<File> {
 impl HostFile {
     /// A file that is open. No call on it has failed, and no sync of `settle`.
     pub fn new(file: File) -> HostFile
+        ensures file { result.file ≡ file }
         ensures unfailed { result.failures ≡ 0 }
         ensures unspent { result.is_spent ≡ false }
         ensures which { result.which ≡ 0 }
