@@ -72,27 +72,65 @@ impl<D: ForkDisk> ForkDisk for FailAt<D> {
 
     ghost failures = { λ s. D.failures s.disk + s.failures };
 
-    fn len(&mut self) -> Result<u64, DiskFault> {
+    fn len(&mut self) -> Result<u64, DiskFault>
+        ensures measures { D.is_honest self.new.disk → MeasuresDisk D.seen D.is_honest D.is_stable self.old.disk self.new.disk result }
+        ensures cause { Counts (D.failures self.old.disk + self.old.failures) (D.failures self.new.disk + self.new.failures) result }
+        ensures calls { self.new.calls ≡ next_call self.old.calls }
+        ensures turn { next_call self.old.calls ≡ self.old.turn → IsErr result × (self.new.disk ≡ self.old.disk) }
+        ensures others { ¬ (next_call self.old.calls ≡ self.old.turn) → self.new.failures ≡ self.old.failures }
+        ensures same_turn { self.new.turn ≡ self.old.turn }
+    {
         self.admit()?;
         self.disk.len()
     }
 
-    fn read_at(&mut self, at: u64, buffer: &mut [u8]) -> Result<(), DiskFault> {
+    fn read_at(&mut self, at: u64, buffer: &mut [u8]) -> Result<(), DiskFault>
+        requires { D.is_honest self.old.disk → at + length buffer.old ≤ length (D.seen self.old.disk) }
+        ensures reads { D.is_honest self.new.disk → ReadsDisk D.seen D.is_honest D.is_stable self.old.disk self.new.disk at buffer.old buffer.new result }
+        ensures cause { Counts (D.failures self.old.disk + self.old.failures) (D.failures self.new.disk + self.new.failures) result }
+        ensures calls { self.new.calls ≡ next_call self.old.calls }
+        ensures turn { next_call self.old.calls ≡ self.old.turn → IsErr result × (self.new.disk ≡ self.old.disk) }
+        ensures others { ¬ (next_call self.old.calls ≡ self.old.turn) → self.new.failures ≡ self.old.failures }
+        ensures same_turn { self.new.turn ≡ self.old.turn }
+    {
         self.admit()?;
         self.disk.read_at(at, buffer)
     }
 
-    fn write_at(&mut self, at: u64, bytes: &[u8]) -> Result<(), DiskFault> {
+    fn write_at(&mut self, at: u64, bytes: &[u8]) -> Result<(), DiskFault>
+        requires { D.is_honest self.old.disk → at ≤ length (D.seen self.old.disk) }
+        ensures writes { D.is_honest self.new.disk → WritesDisk D.seen D.is_honest D.is_stable self.old.disk self.new.disk at bytes.now result }
+        ensures cause { Counts (D.failures self.old.disk + self.old.failures) (D.failures self.new.disk + self.new.failures) result }
+        ensures calls { self.new.calls ≡ next_call self.old.calls }
+        ensures turn { next_call self.old.calls ≡ self.old.turn → IsErr result × (self.new.disk ≡ self.old.disk) }
+        ensures others { ¬ (next_call self.old.calls ≡ self.old.turn) → self.new.failures ≡ self.old.failures }
+        ensures same_turn { self.new.turn ≡ self.old.turn }
+    {
         self.admit()?;
         self.disk.write_at(at, bytes)
     }
 
-    fn cut(&mut self, len: u64) -> Result<(), DiskFault> {
+    fn cut(&mut self, len: u64) -> Result<(), DiskFault>
+        requires { D.is_honest self.old.disk → len ≤ length (D.seen self.old.disk) }
+        ensures cuts { D.is_honest self.new.disk → CutsDisk D.seen D.is_honest D.is_stable self.old.disk self.new.disk len result }
+        ensures cause { Counts (D.failures self.old.disk + self.old.failures) (D.failures self.new.disk + self.new.failures) result }
+        ensures calls { self.new.calls ≡ next_call self.old.calls }
+        ensures turn { next_call self.old.calls ≡ self.old.turn → IsErr result × (self.new.disk ≡ self.old.disk) }
+        ensures others { ¬ (next_call self.old.calls ≡ self.old.turn) → self.new.failures ≡ self.old.failures }
+        ensures same_turn { self.new.turn ≡ self.old.turn }
+    {
         self.admit()?;
         self.disk.cut(len)
     }
 
-    fn sync(&mut self) -> Result<(), DiskFault> {
+    fn sync(&mut self) -> Result<(), DiskFault>
+        ensures syncs { D.is_honest self.new.disk → SyncsDisk D.seen D.is_honest D.is_stable self.old.disk self.new.disk result }
+        ensures cause { Counts (D.failures self.old.disk + self.old.failures) (D.failures self.new.disk + self.new.failures) result }
+        ensures calls { self.new.calls ≡ next_call self.old.calls }
+        ensures turn { next_call self.old.calls ≡ self.old.turn → IsErr result × (self.new.disk ≡ self.old.disk) }
+        ensures others { ¬ (next_call self.old.calls ≡ self.old.turn) → self.new.failures ≡ self.old.failures }
+        ensures same_turn { self.new.turn ≡ self.old.turn }
+    {
         self.admit()?;
         self.disk.sync()
     }
