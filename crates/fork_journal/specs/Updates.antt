@@ -6,7 +6,7 @@ use Rattle.fork_disk.specs.declared.store.ReplaceFault.TheVariants.{BeforeFirstW
 use Rattle.fork_disk.specs.OnStore.{RecoversFork, ReplacesFork}
 use Rattle.fork_journal.specs.declared.pair.PairDisk.{Ghosts}
 use Rattle.fork_journal.specs.Crash.{Contents, Leaves, AlwaysLeaves}
-use Rattle.fork_journal.specs.Form.{text_of, fork_in, is_usable}
+use Rattle.fork_journal.specs.Form.{text_of, fork_in, is_usable, must_shut}
 use Rattle.fork_journal.specs.Pairs.{OnlyReadsPair}
 use Rattle.fork_journal.specs.Recovery.{copied_length, recovered, settled_fork, IsReady, IsRecoverable, IsStable, IsShut, IsBeforeOrAfter, IsSameChoice, IsEither, MayFind}
 
@@ -44,12 +44,14 @@ module _ {P : Type 0} (pair : Ghosts P) where
       pub any_moment : AlwaysLeaves Q (pair.history old) (pair.history new)
       pub recoverable : IsRecoverable (pair.contents new) (pair.history new)
 
-    -- the gate is shut, and the fork stays; a failure before the first write changes nothing
+    -- The gate is shut, and the fork stays. A failure before the first write changes nothing, and there is a later one
+    -- only where the gate had to be shut.
     pub record Shuts {T : Type 0} (result : Result T ReplaceFault) : Type 0 where
       pub passes : Passes (λ c. settled_fork c ≡ (pair.contents old).fork)
       pub shut : OnOk result (Leaves (IsShut (pair.contents old).fork) (pair.history new))
       pub kept : OnOk result ((pair.contents new).fork ≡ (pair.contents old).fork)
       pub before : IsErrOf result BeforeFirstWrite → OnlyReadsPair pair old new
+      pub late : IsErrOf result Later → must_shut (pair.contents old).journal ≡ true
 
     -- the journal has the text of this fork, and its gate is open; a crash leaves the fork from before or this one
     pub record Stages {T E : Type 0} (fork : List ℕ) (result : Result T E) : Type 0 where

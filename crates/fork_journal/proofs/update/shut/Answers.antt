@@ -22,4 +22,5 @@ pub returns-in-Err-put_gate-clause-shuts : goal.returns-in-Err-put_gate-clause-s
 returns-in-Err-put_gate-clause-shuts g c honest =
     let puts = c.in-Err-put_gate.ensures.puts honest in
     let tells = c.in-Ok-true.ensures.answers puts.honest in
-    let any_moment = gates _ _ _ _ (c.requires tells.keeps.honest) tells.keeps.calm (sym tells.value ∙ c.in-Ok-true.field-0-test) puts.any_moment in search rules
+    let any_moment = gates _ _ _ _ (c.requires tells.keeps.honest) tells.keeps.calm (sym tells.value ∙ c.in-Ok-true.field-0-test) puts.any_moment in
+    let late = sym tells.value ∙ c.in-Ok-true.field-0-test in search rules
