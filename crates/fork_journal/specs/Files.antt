@@ -12,6 +12,11 @@ abbrev pub side_at : ℕ → Side
 side_at zero = Fork
 side_at (suc more) = Journal
 
+-- the file of a side
+abbrev pub file_on : {File : Type 0} → Side → File → File → File
+file_on Fork fork journal = fork
+file_on Journal fork journal = journal
+
 abbrev pub side_in : files.Event → Side
 side_in e = side_at (slice_index e.0 3)
 

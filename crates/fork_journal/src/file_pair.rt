@@ -1,9 +1,11 @@
 //! A fork and its journal that are two files.
 
-ghost use Rattle.std.specs.Prelude.{◌≡◌, ◌+◌, false, []};
+ghost use Rattle.std.specs.Prelude.{◌≡◌, ◌+◌, false, [], OnOk};
+ghost use Rattle.fork_disk.specs.Disk.{Counts};
 ghost use Rattle.fork_journal.specs.Crash.{has_failed};
 ghost use Rattle.fork_journal.specs.declared.pair.Side.TheVariants.{Fork, Journal};
-ghost use Rattle.fork_journal.specs.Files.{IsHonest, history_of, reads_outcome, side_at};
+ghost use Rattle.fork_journal.specs.Files.{IsHonest, file_on, history_of, reads_outcome, side_at};
+ghost use Rattle.fork_journal.specs.OnPair.{SyncsSide};
 
 use crate::pair::{PairDisk, Side};
 use crate::pair_world::PairWorld;
@@ -86,7 +88,14 @@ impl<W: PairWorld> PairDisk for FilePair<W> {
         }
     }
 
-    fn sync(&mut self, side: Side) -> Result<(), DiskFault> {
+    /// Makes a side stable. After one that succeeded, the system is asked for the next one too.
+    fn sync(&mut self, side: Side) -> Result<(), DiskFault>
+        ensures syncs { IsHonest (W.held self.new.number) self.new.log.events → SyncsSide (W.held self.old.number) (history_of (W.held self.old.number))
+            (IsHonest (W.held self.old.number)) self.old.log.events self.new.log.events side result }
+        ensures cause { Counts (self.old.fork.failures + self.old.journal.failures) (self.new.fork.failures + self.new.journal.failures) result }
+        ensures number { self.new.number ≡ self.old.number }
+        ensures still { OnOk result ((file_on side self.new.fork self.new.journal).is_spent ≡ false) }
+    {
         match side {
             Side::Fork => self.fork.settle(&mut self.log),
             Side::Journal => self.journal.settle(&mut self.log),
