@@ -1,9 +1,12 @@
 //! A path in memory.
 
-ghost use Rattle.std.specs.Prelude.{◌≡◌, ⊤, [], ◌∷◌, None, option_copied, is_ok, IsErr, MatchOption};
+ghost use Rattle.std.specs.Prelude.{◌≡◌, ◌↔◌, [], ◌∷◌, None, option_copied, is_ok, IsErr, IsTrue, MatchOption};
+ghost use Rattle.fork_disk.specs.Calls.{next_call};
 ghost use Rattle.fork_disk.specs.Disk.{Counts};
-ghost use Rattle.file_replace.specs.OnPlace.{answered};
-ghost use Rattle.file_replace.specs.Memory.{seen, folder, noted};
+ghost use Rattle.file_replace.specs.Place.{IsClear};
+ghost use Rattle.file_replace.specs.OnPlace.{answered, told, Does};
+ghost use Rattle.file_replace.specs.Memory.{seen, noted, place_seen, CountsCall, IsTurn};
+ghost use Rattle.file_replace.specs.declared.calls.Call.TheVariants as calls;
 ghost use Rattle.file_replace.specs.declared.place.Event.TheVariants.{Found};
 
 use crate::calls::{self, Call, Noted, PlaceCalls};
@@ -96,6 +99,9 @@ impl MemPlace {
         ensures log { self.new.log ≡ self.old.log }
         ensures made { self.new.made ≡ self.old.made }
         ensures failures { self.new.failures ≡ self.old.failures }
+        ensures calls { self.new.calls ≡ next_call self.old.calls }
+        ensures turn { IsTrue result ↔ (self.new.calls ≡ self.old.turn) }
+        ensures same_turn { self.new.turn ≡ self.old.turn }
     {
         self.calls = self.calls.saturating_add(1);
         self.calls == self.turn
@@ -109,6 +115,8 @@ impl MemPlace {
         ensures made { self.new.made.events ≡ answered call (is_ok result) bytes.now ∷ self.old.made.events }
         ensures cause { Counts self.old.failures self.new.failures result }
         ensures same { MatchOption done (IsErr result) (λ value. result ≡ Ok value) }
+        ensures calls { self.new.calls ≡ self.old.calls }
+        ensures same_turn { self.new.turn ≡ self.old.turn }
     {
         let is_done = done.is_some();
         note(&mut self.log, Noted { call, is_done }, &self.beside);
@@ -126,11 +134,17 @@ impl MemPlace {
 impl Replaces for MemPlace {
     type Error = DiskFault;
 
-    ghost seen = { λ place. record { calls = place.made.events; files = folder place.path place.beside; history = place.log.events; is_honest = ⊤ } };
+    ghost seen = { place_seen };
 
     ghost failures = { λ place. place.failures };
 
-    fn create(&mut self, _is_private: bool) -> Result<(), DiskFault> {
+    fn create(&mut self, _is_private: bool) -> Result<(), DiskFault>
+        requires { IsClear (place_seen self.old) }
+        ensures creates { Does calls.Create (is_ok result) [] (place_seen self.old) (place_seen self.new) }
+        ensures cause { Counts self.old.failures self.new.failures result }
+        ensures counted { CountsCall self.old self.new result }
+        ensures kept { IsTurn self.old → (self.new.path ≡ self.old.path) × (self.new.beside ≡ self.old.beside) }
+    {
         if self.is_turn() {
             return self.answer(Call::Create, &[], None);
         }
@@ -141,7 +155,12 @@ impl Replaces for MemPlace {
         self.answer(Call::Create, &[], Some(()))
     }
 
-    fn write(&mut self, bytes: &[u8]) -> Result<(), DiskFault> {
+    fn write(&mut self, bytes: &[u8]) -> Result<(), DiskFault>
+        ensures writes { Does calls.Write (is_ok result) bytes.now (place_seen self.old) (place_seen self.new) }
+        ensures cause { Counts self.old.failures self.new.failures result }
+        ensures counted { CountsCall self.old self.new result }
+        ensures path { self.new.path ≡ self.old.path }
+    {
         let is_turn = self.is_turn();
         let part = if is_turn {
             &bytes[..bytes.len() / 2]
@@ -155,7 +174,12 @@ impl Replaces for MemPlace {
         self.answer(Call::Write, bytes, done.then_some(()))
     }
 
-    fn set_mode(&mut self, mode: u32) -> Result<(), DiskFault> {
+    fn set_mode(&mut self, mode: u32) -> Result<(), DiskFault>
+        ensures sets { Does (calls.SetMode mode) (is_ok result) [] (place_seen self.old) (place_seen self.new) }
+        ensures cause { Counts self.old.failures self.new.failures result }
+        ensures counted { CountsCall self.old self.new result }
+        ensures kept { IsTurn self.old → (self.new.path ≡ self.old.path) × (self.new.beside ≡ self.old.beside) }
+    {
         if self.is_turn() {
             return self.answer(Call::SetMode(mode), &[], None);
         }
@@ -165,12 +189,22 @@ impl Replaces for MemPlace {
         self.answer(Call::SetMode(mode), &[], Some(()))
     }
 
-    fn sync(&mut self) -> Result<(), DiskFault> {
+    fn sync(&mut self) -> Result<(), DiskFault>
+        ensures syncs { Does calls.Sync (is_ok result) [] (place_seen self.old) (place_seen self.new) }
+        ensures cause { Counts self.old.failures self.new.failures result }
+        ensures counted { CountsCall self.old self.new result }
+        ensures kept { IsTurn self.old → (self.new.path ≡ self.old.path) × (self.new.beside ≡ self.old.beside) }
+    {
         let done = !self.is_turn();
         self.answer(Call::Sync, &[], done.then_some(()))
     }
 
-    fn rename(&mut self) -> Result<(), DiskFault> {
+    fn rename(&mut self) -> Result<(), DiskFault>
+        ensures renames { Does calls.Rename (is_ok result) [] (place_seen self.old) (place_seen self.new) }
+        ensures cause { Counts self.old.failures self.new.failures result }
+        ensures counted { CountsCall self.old self.new result }
+        ensures kept { IsTurn self.old → (self.new.path ≡ self.old.path) × (self.new.beside ≡ self.old.beside) }
+    {
         if self.is_turn() {
             return self.answer(Call::Rename, &[], None);
         }
@@ -178,7 +212,12 @@ impl Replaces for MemPlace {
         self.answer(Call::Rename, &[], Some(()))
     }
 
-    fn sync_folder(&mut self) -> Result<FolderSync, DiskFault> {
+    fn sync_folder(&mut self) -> Result<FolderSync, DiskFault>
+        ensures syncs { Does (calls.SyncFolder (told result)) (is_ok result) [] (place_seen self.old) (place_seen self.new) }
+        ensures cause { Counts self.old.failures self.new.failures result }
+        ensures counted { CountsCall self.old self.new result }
+        ensures kept { IsTurn self.old → (self.new.path ≡ self.old.path) × (self.new.beside ≡ self.old.beside) }
+    {
         if self.is_turn() {
             return self.answer(Call::SyncFolder(FolderSync::NotOffered), &[], None);
         }
@@ -189,7 +228,12 @@ impl Replaces for MemPlace {
         )
     }
 
-    fn remove(&mut self) -> Result<(), DiskFault> {
+    fn remove(&mut self) -> Result<(), DiskFault>
+        ensures removes { Does calls.Remove (is_ok result) [] (place_seen self.old) (place_seen self.new) }
+        ensures cause { Counts self.old.failures self.new.failures result }
+        ensures counted { CountsCall self.old self.new result }
+        ensures kept { IsTurn self.old → (self.new.path ≡ self.old.path) × (self.new.beside ≡ self.old.beside) }
+    {
         if self.is_turn() {
             return self.answer(Call::Remove, &[], None);
         }
