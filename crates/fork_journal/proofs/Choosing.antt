@@ -1,7 +1,7 @@
 -- A crash may leave what is left of each side by itself.
-use Rattle.std.proofs.Common.{◌≡◌, ℕ, ◌+◌, ◌<◌, nat_le, get_or, Bool, true, false, if◌then◌else◌, List, [], ◌∷◌, length, drop, refl, sym, ◌∙◌, ap, subst}
+use Rattle.std.proofs.Common.{◌≡◌, ℕ, ◌+◌, ◌<◌, nat_le, get_or, Bool, true, false, if◌then◌else◌, List, [], ◌∷◌, length, drop, refl, sym, ◌∙◌, ap, arith, subst}
 use Rattle.std.specs.Prelude.{Result, Ok, Err, IfOk}
-use Rattle.std.proofs.lemmas.List.{drop_more}
+use Rattle.std.proofs.lemmas.List.{drop_more, drop-drop, get_or-drop}
 use Rattle.fork_disk.specs.Disk.{Torn, CutShort}
 use Rattle.fork_journal.specs.declared.pair.Side.{Side}
 use Rattle.fork_journal.specs.declared.pair.Side.TheVariants.{Fork, Journal}
@@ -9,7 +9,8 @@ use Rattle.fork_journal.specs.declared.mem_pair.Call.{Call}
 use Rattle.fork_journal.specs.declared.mem_pair.Call.TheVariants as calls
 use Rattle.fork_journal.specs.Crash.{Contents, Found, Wrote, Cut, Synced, Failed, History, has_failed, MayLeave, side_of}
 use Rattle.fork_journal.specs.Record.{Kept, after_call, after_calls, found}
-use Rattle.fork_journal.specs.Leaving.{is_on, read_then, read_after, IsLeft, IsLeftOn, AreLeft}
+use Rattle.fork_journal.specs.declared.leaving.Choice.{Choice}
+use Rattle.fork_journal.specs.Leaving.{is_on, read_then, read_after, call_by, left_by, whole, IsLeft, IsLeftOn, AreLeft}
 use Rattle.fork_journal.specs.Outcome.{write_outcome, cut_outcome}
 use Rattle.fork_journal.proofs.Settling.{never}
 
@@ -134,6 +135,38 @@ pub other_more : (side : Side) (list : List Call) (i : ℕ) (d call : Call) (rea
 other_more side list i d call read old left within is not later =
     let reads_on : read ≡ read_after side call read = sym (ap (λ (b : Bool). if b then read_then call read else read) not) in
     one_more side list i d call read old old left within is (is_other side call read old not) (subst (λ (r : Bytes). AreLeft side (drop (i + 1) list) r old left) reads_on later)
+
+-- the same choices and bytes under other names
+pub same_left : (side : Side) (list : List Call) (choices others : List Choice) (read read_too old old_too : Bytes) → choices ≡ others → read ≡ read_too → old ≡ old_too
+    → left_by side list choices read old ≡ left_by side list others read_too old_too
+same_left side list choices others read read_too old old_too same reads olds = λ j. left_by side list (same j) (reads j) (olds j)
+
+-- one call of a list of calls, by its choice
+one_then : (side : Side) (list : List Call) (choices : List Choice) (i : ℕ) (d call : Call) (read old read_next next : Bytes) → i < length list → call ≡ get_or list i d
+    → read_next ≡ read_after side call read → next ≡ (if is_on side call then call_by call (get_or choices i whole) read old else old)
+    → left_by side (drop (i + 1) list) (drop (i + 1) choices) read_next next ≡ left_by side (drop i list) (drop i choices) read old
+one_then side list choices i d call read old read_next next within is reads left =
+    let here : i + 0 ≡ i = omega arith in
+    let first : get_or (drop i choices) 0 whole ≡ get_or choices i whole = get_or-drop i choices 0 whole ∙ ap (λ (n : ℕ). get_or choices n whole) here in
+    let left_on : next ≡ (if is_on side call then call_by call (get_or (drop i choices) 0 whole) read old else old) = left ∙ ap (λ (k : Choice). if is_on side call then call_by call k read old else old) (sym first) in
+    let begins : drop i list ≡ call ∷ drop (i + 1) list = drop_more list i d within ∙ ap (λ (c : Call). c ∷ drop (i + 1) list) (sym is) in
+    same_left side (drop (i + 1) list) _ _ _ _ _ _ (sym (drop-drop 1 i choices)) reads left_on ∙ sym (ap (λ (l : List Call). left_by side l (drop i choices) read old) begins)
+
+pub own_then : (side : Side) (list : List Call) (choices : List Choice) (i : ℕ) (d call : Call) (choice : Choice) (read old read_next next : Bytes) → i < length list → call ≡ get_or list i d → is_on side call ≡ true
+    → choice ≡ get_or choices i whole → read_next ≡ read_then call read → next ≡ call_by call choice read old
+    → left_by side (drop (i + 1) list) (drop (i + 1) choices) read_next next ≡ left_by side (drop i list) (drop i choices) read old
+own_then side list choices i d call choice read old read_next next within is own chosen reads left =
+    let reads_on : read_next ≡ read_after side call read = reads ∙ sym (ap (λ (b : Bool). if b then read_then call read else read) own) in
+    let left_on : next ≡ (if is_on side call then call_by call (get_or choices i whole) read old else old) =
+    left ∙ ap (λ (k : Choice). call_by call k read old) chosen ∙ sym (ap (λ (b : Bool). if b then call_by call (get_or choices i whole) read old else old) own) in
+    one_then side list choices i d call read old read_next next within is reads_on left_on
+
+pub other_then : (side : Side) (list : List Call) (choices : List Choice) (i : ℕ) (d call : Call) (read old : Bytes) → i < length list → call ≡ get_or list i d → is_on side call ≡ false
+    → left_by side (drop (i + 1) list) (drop (i + 1) choices) read old ≡ left_by side (drop i list) (drop i choices) read old
+other_then side list choices i d call read old within is not =
+    let reads_on : read ≡ read_after side call read = sym (ap (λ (b : Bool). if b then read_then call read else read) not) in
+    let left_on : old ≡ (if is_on side call then call_by call (get_or choices i whole) read old else old) = sym (ap (λ (b : Bool). if b then call_by call (get_or choices i whole) read old else old) not) in
+    one_then side list choices i d call read old read old within is reads_on left_on
 
 -- the same calls and bytes under other names
 pub renamed : (side : Side) (list was : List Call) (first was_first left : Bytes) → was ≡ list → was_first ≡ first → AreLeft side was was_first was_first left → AreLeft side list first first left

@@ -1,6 +1,9 @@
 -- What a crash leaves of one side, call by call.
-use Rattle.std.specs.Prelude.{◌≡◌, ℕ, Bool, true, false, if◌then◌else◌, List, [], ◌∷◌, length, take}
-use Rattle.fork_disk.specs.Disk.{Torn, CutShort}
+use Rattle.std.specs.Prelude.{◌≡◌, ℕ, ◌-◌, nat_le, Bool, true, false, if◌then◌else◌, List, [], ◌∷◌, ◌++◌, length, take, drop, get_or, replicate}
+use Rattle.fork_disk.specs.Disk.{bytes_at, put_at, Torn, CutShort}
+use Rattle.fork_journal.specs.declared.leaving.Choice.{Choice}
+use Rattle.fork_journal.specs.declared.leaving.Fate.{Fate}
+use Rattle.fork_journal.specs.declared.leaving.Fate.TheVariants.{Lost, Kept, Filled}
 use Rattle.fork_journal.specs.declared.pair.Side.{Side}
 use Rattle.fork_journal.specs.declared.mem_pair.Call.{Call}
 use Rattle.fork_journal.specs.declared.mem_pair.Call.TheVariants as calls
@@ -38,3 +41,40 @@ pub record IsLeftOn (side : Side) (call : Call) (read old left : List ℕ) : Typ
 abbrev pub AreLeft : Side → List Call → List ℕ → List ℕ → List ℕ → Type 0
 AreLeft side [] read old left = left ≡ old
 AreLeft side (call ∷ later) read old left = (next : List ℕ) × IsLeftOn side call read old next × AreLeft side later (read_after side call read) next left
+
+-- the bytes in the range of a write, as a crash leaves them by a fate
+abbrev pub range_by : Fate → ℕ → List ℕ → List ℕ → List ℕ
+range_by Lost at bytes old = bytes_at (length bytes) at old ++ replicate (length bytes - (length old - at)) 0
+range_by Kept at bytes old = bytes
+range_by Filled at bytes old = replicate (length bytes) 255
+
+-- what is past a cut to n bytes
+abbrev pub past_by : Fate → ℕ → List ℕ → List ℕ
+past_by Lost n old = drop n old
+past_by Kept n old = drop n old
+past_by Filled n old = replicate (length old - n) 255
+
+-- what is left of a write by a choice, of a cut, and of a call of the side
+abbrev pub write_by : Choice → ℕ → List ℕ → List ℕ → List ℕ
+write_by choice at bytes old = if nat_le at (length old)
+    then (if choice.has_new_length then put_at at (range_by choice.fate at bytes old) old else take (length old) (put_at at (range_by choice.fate at bytes old) old))
+    else old
+
+abbrev pub cut_by : Choice → ℕ → List ℕ → List ℕ
+cut_by choice n old = if choice.has_new_length then take n old else (take n old ++ past_by choice.fate n old)
+
+abbrev pub call_by : Call → Choice → List ℕ → List ℕ → List ℕ
+call_by (calls.Write side at bytes) choice read old = write_by choice at bytes.items old
+call_by (calls.Cut side n) choice read old = cut_by choice n old
+call_by (calls.Sync side) choice read old = read
+
+-- a call without a choice was done whole
+abbrev pub whole : Choice
+whole = record { fate = Kept; has_new_length = true }
+
+-- What is left of a side after these calls, by a choice for each call of either side. The side read so before them, and
+-- a crash would have left these bytes of it.
+abbrev pub left_by : Side → List Call → List Choice → List ℕ → List ℕ → List ℕ
+left_by side [] choices read old = old
+left_by side (call ∷ later) choices read old = left_by side later (drop 1 choices) (read_after side call read)
+    (if is_on side call then call_by call (get_or choices 0 whole) read old else old)

@@ -3,6 +3,8 @@
 ghost use Rattle.std.specs.Prelude.{◌≡◌, ◌+◌, ◌↔◌, ⊤, [], ◌∷◌, IfOk, OnOk, IsErr};
 ghost use Rattle.fork_disk.specs.Disk.{Counts};
 ghost use Rattle.fork_journal.specs.Crash.{Found, MayLeave};
+ghost use Rattle.fork_journal.specs.declared.pair.Side.TheVariants.{Fork, Journal};
+ghost use Rattle.fork_journal.specs.Leaving.{left_by};
 ghost use Rattle.fork_journal.specs.Record.{after_calls, found};
 ghost use Rattle.fork_journal.specs.Outcome.{read_outcome};
 
@@ -46,6 +48,10 @@ impl CrashPair {
     pub fn outcome(&self, alloc: Global, choices: &[Choice]) -> Result<MemPair, AllocError>
         ensures left { IfOk result (λ left. MayLeave (after_calls self.now.pair.calls.items (found self.now.pair.first_fork.items self.now.pair.first_journal.items)).history
             (record { fork = left.fork.items; journal = left.journal.items })) }
+        ensures fork { IfOk result (λ left. left.fork.items
+            ≡ left_by Fork self.now.pair.calls.items choices.now self.now.pair.first_fork.items self.now.pair.first_fork.items) }
+        ensures journal { IfOk result (λ left. left.journal.items
+            ≡ left_by Journal self.now.pair.calls.items choices.now self.now.pair.first_journal.items self.now.pair.first_journal.items) }
         ensures start { IfOk result (λ left. (after_calls left.calls.items (found left.first_fork.items left.first_journal.items)).history
             ≡ Found (record { fork = left.fork.items; journal = left.journal.items }) ∷ []) }
     {

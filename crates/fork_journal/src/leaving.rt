@@ -2,7 +2,7 @@
 
 ghost use Rattle.std.specs.Prelude.{◌≡◌, ◌+◌, ◌≤◌, true, length, IfOk, OnOk};
 ghost use Rattle.fork_disk.specs.Disk.{Torn, CutShort};
-ghost use Rattle.fork_journal.specs.Leaving.{is_on, read_then, IsLeft, AreLeft};
+ghost use Rattle.fork_journal.specs.Leaving.{is_on, read_then, range_by, write_by, cut_by, call_by, left_by, IsLeft, AreLeft};
 
 use crate::mem_pair::{Call, overwritten};
 use crate::pair::Side;
@@ -71,15 +71,15 @@ fn range_left(
     fate: Fate,
 ) -> Result<Vec<u8>, AllocError>
     requires { at ≤ length old.now }
-    ensures { IfOk result (λ left. length left.items ≡ length bytes.now) }
+    ensures { IfOk result (λ left. left.items ≡ range_by fate at bytes.now old.now) }
 {
     match fate {
         Fate::Kept => bytes.to_vec(alloc),
         Fate::Filled => Ok(vec![in alloc; 0xFF; bytes.len()]?),
         Fate::Lost => {
             let count = bytes.len().min(old.len() - at);
-            let mut left = vec![in alloc; 0; bytes.len()]?;
-            left[..count].copy_from_slice(&old[at..at + count]);
+            let mut left = old[at..at + count].to_vec(alloc)?;
+            left.resize(bytes.len(), 0)?;
             Ok(left)
         }
     }
@@ -93,7 +93,8 @@ fn write_left(
     bytes: &[u8],
     choice: Choice,
 ) -> Result<Vec<u8>, AllocError>
-    ensures { IfOk result (λ left. Torn at (length bytes.now) old.now left.items) }
+    ensures torn { IfOk result (λ left. Torn at (length bytes.now) old.now left.items) }
+    ensures left { IfOk result (λ left. left.items ≡ write_by choice at bytes.now old.now) }
 {
     if at > old.len() {
         return old.to_vec(alloc);
@@ -108,13 +109,15 @@ fn write_left(
 
 /// What is left of a cut.
 fn cut_left(alloc: Global, old: &[u8], len: usize, choice: Choice) -> Result<Vec<u8>, AllocError>
-    ensures { IfOk result (λ left. CutShort len old.now left.items) }
+    ensures short { IfOk result (λ left. CutShort len old.now left.items) }
+    ensures left { IfOk result (λ left. left.items ≡ cut_by choice len old.now) }
 {
     let mut left = old.to_vec(alloc)?;
     if choice.has_new_length {
         left.truncate(len);
-    } else if choice.fate == Fate::Filled && len < left.len() {
-        left[len..].fill(0xFF);
+    } else if choice.fate == Fate::Filled {
+        left.truncate(len);
+        left.resize(old.len(), 0xFF)?;
     }
     Ok(left)
 }
@@ -123,6 +126,7 @@ fn cut_left(alloc: Global, old: &[u8], len: usize, choice: Choice) -> Result<Vec
 fn follow(alloc: Global, now: &mut Replayed, call: &Call, choice: Choice) -> Result<(), AllocError>
     ensures read { OnOk result (now.new.read.items ≡ read_then call.now now.old.read.items) }
     ensures left { OnOk result (IsLeft call.now now.old.read.items now.old.left.items now.new.left.items) }
+    ensures by_choice { OnOk result (now.new.left.items ≡ call_by call.now choice now.old.read.items now.old.left.items) }
 {
     match call {
         Call::Write(_, at, bytes) => {
@@ -148,7 +152,8 @@ pub(crate) fn side_left(
     calls: &[Call],
     choices: &[Choice],
 ) -> Result<Vec<u8>, AllocError>
-    ensures { IfOk result (λ left. AreLeft side calls.now first.now first.now left.items) }
+    ensures possible { IfOk result (λ left. AreLeft side calls.now first.now first.now left.items) }
+    ensures left { IfOk result (λ left. left.items ≡ left_by side calls.now choices.now first.now first.now) }
 {
     let mut now = Replayed {
         read: first.to_vec(alloc)?,
