@@ -4,6 +4,7 @@ pub mod Recovery
 pub mod Record
 pub mod Outcome
 pub mod Leaving
+pub mod Stopping
 pub mod Files
 pub mod OnPair
 pub mod Pairs

@@ -1,11 +1,13 @@
 //! A pair that stops, as a machine does when its power goes.
 
-ghost use Rattle.std.specs.Prelude.{◌≡◌, ◌+◌, ◌↔◌, ⊤, [], ◌∷◌, IfOk, OnOk, IsErr};
+ghost use Rattle.std.specs.Prelude.{◌≡◌, ◌+◌, ◌-◌, ◌≤◌, ◌↔◌, [], ◌∷◌, length, IfOk, IsErr};
 ghost use Rattle.fork_disk.specs.Disk.{Counts};
-ghost use Rattle.fork_journal.specs.Crash.{Found, MayLeave};
+ghost use Rattle.fork_journal.specs.Crash.{Found, MayLeave, side_of};
 ghost use Rattle.fork_journal.specs.declared.pair.Side.TheVariants.{Fork, Journal};
 ghost use Rattle.fork_journal.specs.Leaving.{left_by};
 ghost use Rattle.fork_journal.specs.Record.{after_calls, found};
+ghost use Rattle.fork_journal.specs.OnPair.{MeasuresSide, ReadsSide, WritesSide, CutsSide, SyncsSide};
+ghost use Rattle.fork_journal.specs.Stopping.{stopping_contents, stopping_history, FailsStopped, IsStoppingHonest};
 ghost use Rattle.fork_journal.specs.Outcome.{read_outcome};
 
 use crate::leaving::{Choice, side_left};
@@ -89,7 +91,7 @@ impl CrashPair {
     /// Fails a write, a cut or a sync where the pair has stopped, and counts it down else.
     fn go(&mut self) -> Result<(), DiskFault>
         ensures pair { self.new.pair ≡ self.old.pair }
-        ensures counted { OnOk result (self.new.calls_left + 1 ≡ self.old.calls_left) }
+        ensures counted { self.new.calls_left ≡ self.old.calls_left - 1 }
         ensures stopped { IsErr result ↔ (self.old.calls_left ≡ 0) }
         ensures cause { Counts self.old.refusals self.new.refusals result }
     {
@@ -100,37 +102,65 @@ impl CrashPair {
 }
 
 impl PairDisk for CrashPair {
-    ghost contents = { λ c. record { fork = c.pair.fork.items; journal = c.pair.journal.items } };
+    ghost contents = { stopping_contents };
 
-    ghost history = { λ c. (after_calls c.pair.calls.items (found c.pair.first_fork.items c.pair.first_journal.items)).history };
+    ghost history = { stopping_history };
 
-    ghost is_honest = { λ _. ⊤ };
+    ghost is_honest = { IsStoppingHonest };
 
     ghost failures = { λ c. c.pair.failures + c.refusals };
 
     ghost reads_is_outcome = { λ c honest. read_outcome c.pair.first_fork.items c.pair.first_journal.items c.pair.fork.items c.pair.journal.items c.pair.calls.items c.pair.fork_is c.pair.journal_is };
 
-    fn len(&mut self, side: Side) -> Result<u64, DiskFault> {
+    fn len(&mut self, side: Side) -> Result<u64, DiskFault>
+        ensures measures { MeasuresSide stopping_contents stopping_history IsStoppingHonest self.old self.new side result }
+        ensures cause { Counts (self.old.pair.failures + self.old.refusals) (self.new.pair.failures + self.new.refusals) result }
+        ensures stopped { FailsStopped self.old self.new result }
+        ensures left { self.new.calls_left ≡ self.old.calls_left }
+    {
         self.look()?;
         self.pair.len(side)
     }
 
-    fn read_at(&mut self, side: Side, at: u64, buffer: &mut [u8]) -> Result<(), DiskFault> {
+    fn read_at(&mut self, side: Side, at: u64, buffer: &mut [u8]) -> Result<(), DiskFault>
+        requires { at + length buffer.old ≤ length (side_of side (stopping_contents self.old)) }
+        ensures reads { ReadsSide stopping_contents stopping_history IsStoppingHonest self.old self.new side at buffer.old buffer.new result }
+        ensures cause { Counts (self.old.pair.failures + self.old.refusals) (self.new.pair.failures + self.new.refusals) result }
+        ensures stopped { FailsStopped self.old self.new result }
+        ensures left { self.new.calls_left ≡ self.old.calls_left }
+    {
         self.look()?;
         self.pair.read_at(side, at, buffer)
     }
 
-    fn write_at(&mut self, side: Side, at: u64, bytes: &[u8]) -> Result<(), DiskFault> {
+    fn write_at(&mut self, side: Side, at: u64, bytes: &[u8]) -> Result<(), DiskFault>
+        requires { at ≤ length (side_of side (stopping_contents self.old)) }
+        ensures writes { WritesSide stopping_contents stopping_history IsStoppingHonest self.old self.new side at bytes.now result }
+        ensures cause { Counts (self.old.pair.failures + self.old.refusals) (self.new.pair.failures + self.new.refusals) result }
+        ensures stopped { FailsStopped self.old self.new result }
+        ensures left { self.new.calls_left ≡ self.old.calls_left - 1 }
+    {
         self.go()?;
         self.pair.write_at(side, at, bytes)
     }
 
-    fn cut(&mut self, side: Side, len: u64) -> Result<(), DiskFault> {
+    fn cut(&mut self, side: Side, len: u64) -> Result<(), DiskFault>
+        requires { len ≤ length (side_of side (stopping_contents self.old)) }
+        ensures cuts { CutsSide stopping_contents stopping_history IsStoppingHonest self.old self.new side len result }
+        ensures cause { Counts (self.old.pair.failures + self.old.refusals) (self.new.pair.failures + self.new.refusals) result }
+        ensures stopped { FailsStopped self.old self.new result }
+        ensures left { self.new.calls_left ≡ self.old.calls_left - 1 }
+    {
         self.go()?;
         self.pair.cut(side, len)
     }
 
-    fn sync(&mut self, side: Side) -> Result<(), DiskFault> {
+    fn sync(&mut self, side: Side) -> Result<(), DiskFault>
+        ensures syncs { SyncsSide stopping_contents stopping_history IsStoppingHonest self.old self.new side result }
+        ensures cause { Counts (self.old.pair.failures + self.old.refusals) (self.new.pair.failures + self.new.refusals) result }
+        ensures stopped { FailsStopped self.old self.new result }
+        ensures left { self.new.calls_left ≡ self.old.calls_left - 1 }
+    {
         self.go()?;
         self.pair.sync(side)
     }
