@@ -1,6 +1,6 @@
 //! A file of the system, and how often it has failed.
 
-ghost use Rattle.std.specs.Prelude.{◌≡◌, ◌∷◌, true, false, length, IfOk, OnOk, OnErr};
+ghost use Rattle.std.specs.Prelude.{◌≡◌, ◌∷◌, true, false, length, IfOk, IsErr, OnOk, OnErr, MatchResult};
 ghost use Rattle.fork_disk.specs.Disk.{Counts};
 ghost use Rattle.fork_disk.specs.Record.{cut_event, len_event, read_event, sync_event, write_event};
 
@@ -36,7 +36,8 @@ pub struct HostFile {
 
 /// Counts a fault of the system.
 fn counted<T: Drop>(failures: &mut Failures, answer: io::Result<T>) -> Result<T, DiskFault>
-    ensures { Counts failures.old failures.new result }
+    ensures counts { Counts failures.old failures.new result }
+    ensures same { MatchResult answer (λ value. result ≡ Ok value) (λ _. IsErr result) }
 {
     match answer {
         Ok(value) => Ok(value),
