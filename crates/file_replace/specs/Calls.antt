@@ -1,21 +1,36 @@
 -- The calls at a path of the host with their answers, and which answers an honest host gives.
-use Rattle.std.specs.Prelude.{◌≡◌, List, [], ◌∷◌, Option, None}
+use Rattle.std.specs.Prelude.{◌≡◌, ℕ, List, [], ◌∷◌, Option, None, Result}
 use Rattle.file_replace.specs.declared.place.PlainFile.{PlainFile}
 use Rattle.file_replace.specs.declared.place.Event.TheVariants.{Found}
-use Rattle.file_replace.specs.Place.{Answered, Folder, History, MayLeave}
+use Rattle.file_replace.specs.declared.place.FolderSync.{FolderSync}
+use Rattle.file_replace.specs.declared.replacement.Fault.{Fault}
+use Rattle.file_replace.specs.Place.{Answered, Folder, History, MayLeave, Seen}
 use Rattle.file_replace.specs.OnPlace.{Fits, happened}
+use Rattle.file_replace.specs.Replacing.{ReplacesFile}
+
+-- what a path has and what is beside it, after each of the calls there
+abbrev pub HeldAt : Type 0
+HeldAt = List Answered → Folder
 
 -- the answers of these calls, the newest first, are those of a folder that had such files after each of them, and
 -- nothing beside the path at first
-abbrev pub IsHonest : (List Answered → Folder) → List Answered → Type 0
+abbrev pub IsHonest : HeldAt → List Answered → Type 0
 IsHonest held [] = (held []).beside ≡ None
 IsHonest held (e ∷ past) = IsHonest held past × Fits e.0.call e.0.is_done e.1 (held past) (held (e ∷ past))
 
 -- what happened since a start
-abbrev pub history_of : (List Answered → Folder) → List Answered → History
+abbrev pub history_of : HeldAt → List Answered → History
 history_of held [] = Found (held []).path ∷ []
 history_of held (e ∷ past) = happened e.0.call e.0.is_done (held past) (history_of held past)
 
 -- after any calls a crash may leave something at the path
 abbrev pub LeavesSomething : Type 0
-LeavesSomething = (held : List Answered → Folder) (calls : List Answered) → (left : Option PlainFile) × MayLeave (history_of held calls) left
+LeavesSomething = (held : HeldAt) (calls : List Answered) → (left : Option PlainFile) × MayLeave (history_of held calls) left
+
+-- a path of the host after these calls there
+abbrev pub seen_at : HeldAt → List Answered → Seen
+seen_at held calls = record { calls = calls; files = held calls; history = history_of held calls; is_honest = IsHonest held calls }
+
+-- where the path is honest, these calls replaced its file: it has the old one or the new one, whatever fails
+abbrev pub ReplacesAt : {E : Type 0} → HeldAt → Option ℕ → List ℕ → Result FolderSync (Fault E) → List Answered → Type 0
+ReplacesAt held mode bytes result calls = IsHonest held calls → ReplacesFile mode bytes result (seen_at held []) (seen_at held calls)

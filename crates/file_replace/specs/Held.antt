@@ -1,8 +1,9 @@
--- What a replacement of an open file does, by the calls that the host was asked for. It rests on no premise about the
--- host but that of `InPlace`, for the bytes of a file that is changed in its place.
+-- What a replacement of an open file does, by the calls that the host was asked for. Which calls these are rests on no
+-- premise about the host. What files have then rests on those of `Calls` and `InPlace`: that the host is honest.
 use Rattle.std.specs.Prelude.{◌≡◌, ℕ, ◌⊎◌, Bool, true, false, List, [], ◌∷◌, ◌++◌, Option, Some, None, Result, Ok, Err, IsErrAnd, ⊤}
 use Rattle.std.specs.Path.{path_buf_bytes}
 use Rattle.std.specs.IoError.{error_kind}
+use Rattle.std.specs.declared.io.Error.{Error}
 use Rattle.std.specs.declared.io.ErrorKind.TheVariants.{ResourceBusy}
 use Rattle.file_replace.specs.declared.calls.At.{At}
 use Rattle.file_replace.specs.declared.calls.At.TheVariants as at
@@ -13,23 +14,29 @@ use Rattle.file_replace.specs.declared.held.Outcome.{Outcome}
 use Rattle.file_replace.specs.declared.held.Outcome.TheVariants.{InPlace, Unchanged, Written}
 use Rattle.file_replace.specs.declared.place.FolderSync.{FolderSync}
 use Rattle.file_replace.specs.declared.place.FolderSync.TheVariants.{NotOffered}
+use Rattle.file_replace.specs.declared.replacement.Fault.{Fault}
 use Rattle.file_replace.specs.declared.replacement.Step.TheVariants.{Create, Rename}
 use Rattle.file_replace.specs.declared.told.NotReplaced.{NotReplaced}
 use Rattle.file_replace.specs.declared.told.NotReplaced.TheVariants as refusals
 use Rattle.file_replace.specs.declared.told.Stop.{Stop}
 use Rattle.file_replace.specs.Place.{Answered}
 use Rattle.file_replace.specs.OnPlace.{answered}
+use Rattle.file_replace.specs.Calls.{HeldAt, ReplacesAt}
 use Rattle.file_replace.specs.Replacing.{CallsOf}
 use Rattle.file_replace.specs.InPlace.{ChangesSo, Held, IsSettled, Log, NamesJournal, journal_name}
 
--- these are the calls of a replacement that ended so; where the path's folder can't be opened, none was made
-abbrev pub EndsSo : Option ℕ → List ℕ → Result FolderSync Stop → List Answered → Type 0
-EndsSo mode bytes (Ok answer) calls = CallsOf {E = ⊤} mode bytes (Ok answer) [] calls
-EndsSo mode bytes (Err stop) calls = ((calls ≡ []) × (stop.step ≡ Create)) ⊎ ((is_left : Bool) × CallsOf mode bytes (Err (record { step = stop.step; error = stop.error; is_left = is_left })) [] calls)
+-- these are the calls of a replacement that ended so, and its path has what this leaves
+abbrev pub IsReplaced : HeldAt → Option ℕ → List ℕ → Result FolderSync (Fault Error) → List Answered → Type 0
+IsReplaced there mode bytes result calls = CallsOf mode bytes result [] calls × ReplacesAt there mode bytes result calls
+
+-- the file at the path was replaced, or why not; where the path's folder can't be opened, no call was made
+abbrev pub EndsSo : HeldAt → Option ℕ → List ℕ → Result FolderSync Stop → List Answered → Type 0
+EndsSo there mode bytes (Ok answer) calls = IsReplaced there mode bytes (Ok answer) calls
+EndsSo there mode bytes (Err stop) calls = ((calls ≡ []) × (stop.step ≡ Create)) ⊎ ((is_left : Bool) × IsReplaced there mode bytes (Err (record { step = stop.step; error = stop.error; is_left = is_left })) calls)
 
 -- a file was put there, and ended so
-abbrev pub PutAt : At → Option ℕ → List ℕ → Result FolderSync Stop → Log → Log → Type 0
-PutAt place mode bytes result old new = (calls : List Answered) × (new ≡ Put place calls ∷ old) × EndsSo mode bytes result calls
+abbrev pub PutAt : HeldAt → At → Option ℕ → List ℕ → Result FolderSync Stop → Log → Log → Type 0
+PutAt there place mode bytes result old new = (calls : List Answered) × (new ≡ Put place calls ∷ old) × EndsSo there mode bytes result calls
 
 -- the same file is open
 abbrev pub IsSameFile : declared.Held → declared.Held → Type 0
@@ -46,26 +53,26 @@ PutsInPlace held bytes (Err (refusals.InPlace cut)) old new = ChangesSo {T = ⊤
 PutsInPlace held bytes result old new = ⊥
 
 -- a new file couldn't be renamed to the path, and so it was changed in its place, or why not
-abbrev pub TriesBoth : Held → ℕ → List ℕ → Result Outcome NotReplaced → Log → Log → Type 0
-TriesBoth held mode bytes result old new = (stop : Stop) × (mid : Log) × IsBusy stop × PutAt at.File (Some mode) bytes (Err stop) old mid × PutsInPlace held bytes result mid new
+abbrev pub TriesBoth : HeldAt → Held → ℕ → List ℕ → Result Outcome NotReplaced → Log → Log → Type 0
+TriesBoth there held mode bytes result old new = (stop : Stop) × (mid : Log) × IsBusy stop × PutAt there at.File (Some mode) bytes (Err stop) old mid × PutsInPlace held bytes result mid new
 
 -- The new file was put at the path, or the one that is there was changed in its place, or why not. It is changed in its
 -- place only where it can't be renamed over.
-abbrev pub PutsFile : Held → ℕ → List ℕ → Result Outcome NotReplaced → Log → Log → Type 0
-PutsFile held mode bytes (Ok Unchanged) old new = ⊥
-PutsFile held mode bytes (Ok (Written answer)) old new = PutAt at.File (Some mode) bytes (Ok answer) old new
-PutsFile held mode bytes (Ok InPlace) old new = TriesBoth held mode bytes (Ok InPlace) old new
-PutsFile held mode bytes (Err (refusals.Stopped stop)) old new = ¬ IsBusy stop × PutAt at.File (Some mode) bytes (Err stop) old new
-PutsFile held mode bytes (Err (refusals.InPlace cut)) old new = TriesBoth held mode bytes (Err (refusals.InPlace cut)) old new
-PutsFile held mode bytes (Err refusals.HostFull) old new = new ≡ old
-PutsFile held mode bytes (Err refusal) old new = ⊥
+abbrev pub PutsFile : HeldAt → Held → ℕ → List ℕ → Result Outcome NotReplaced → Log → Log → Type 0
+PutsFile there held mode bytes (Ok Unchanged) old new = ⊥
+PutsFile there held mode bytes (Ok (Written answer)) old new = PutAt there at.File (Some mode) bytes (Ok answer) old new
+PutsFile there held mode bytes (Ok InPlace) old new = TriesBoth there held mode bytes (Ok InPlace) old new
+PutsFile there held mode bytes (Err (refusals.Stopped stop)) old new = ¬ IsBusy stop × PutAt there at.File (Some mode) bytes (Err stop) old new
+PutsFile there held mode bytes (Err (refusals.InPlace cut)) old new = TriesBoth there held mode bytes (Err (refusals.InPlace cut)) old new
+PutsFile there held mode bytes (Err refusals.HostFull) old new = new ≡ old
+PutsFile there held mode bytes (Err refusal) old new = ⊥
 
 -- a copy was put at the backup's name, or why not
-abbrev pub BacksUp : {T : Type 0} → ℕ → List ℕ → Result T NotReplaced → Log → Log → Type 0
-BacksUp mode bytes (Ok done) old new = (answer : FolderSync) × PutAt at.Backup (Some mode) bytes (Ok answer) old new
-BacksUp mode bytes (Err (refusals.NoBackup name stop)) old new = PutAt at.Backup (Some mode) bytes (Err stop) old new
-BacksUp mode bytes (Err refusals.HostFull) old new = new ≡ old
-BacksUp mode bytes (Err refusal) old new = ⊥
+abbrev pub BacksUp : {T : Type 0} → HeldAt → ℕ → List ℕ → Result T NotReplaced → Log → Log → Type 0
+BacksUp there mode bytes (Ok done) old new = (answer : FolderSync) × PutAt there at.Backup (Some mode) bytes (Ok answer) old new
+BacksUp there mode bytes (Err (refusals.NoBackup name stop)) old new = PutAt there at.Backup (Some mode) bytes (Err stop) old new
+BacksUp there mode bytes (Err refusals.HostFull) old new = new ≡ old
+BacksUp there mode bytes (Err refusal) old new = ⊥
 
 -- the backup that a refusal names has the path's name with a tilde, and a journal that is left has its own
 abbrev pub TellsNames : List ℕ → NotReplaced → Type 0
@@ -75,11 +82,11 @@ TellsNames path refusal = ⊤
 
 -- Where the bytes are the same, no call is made. Else, where the old ones are kept, they are put at the backup's name
 -- first, and where that fails no call is made at the file.
-abbrev pub ReplacesHeld : Held → Bool → ℕ → List ℕ → List ℕ → Result Outcome NotReplaced → Log → Log → Type 0
-ReplacesHeld held keeps_old mode before after (Ok Unchanged) old new = new ≡ old
-ReplacesHeld held false mode before after result old new = PutsFile held mode after result old new
-ReplacesHeld held true mode before after result old new = IsErrAnd result (λ refusal. BacksUp {T = ⊤} mode before (Err refusal) old new)
-    ⊎ ((mid : Log) × BacksUp {T = ⊤} mode before (Ok tt) old mid × PutsFile held mode after result mid new)
+abbrev pub ReplacesHeld : HeldAt → HeldAt → Held → Bool → ℕ → List ℕ → List ℕ → Result Outcome NotReplaced → Log → Log → Type 0
+ReplacesHeld there backup held keeps_old mode before after (Ok Unchanged) old new = new ≡ old
+ReplacesHeld there backup held false mode before after result old new = PutsFile there held mode after result old new
+ReplacesHeld there backup held true mode before after result old new = IsErrAnd result (λ refusal. BacksUp {T = ⊤} backup mode before (Err refusal) old new)
+    ⊎ ((mid : Log) × BacksUp {T = ⊤} backup mode before (Ok tt) old mid × PutsFile there held mode after result mid new)
 
 -- the path wasn't opened: no file was to be put yet
 abbrev pub IsUnopened : NotReplaced → Type 0
@@ -93,11 +100,11 @@ abbrev pub WritesThrough : List ℕ → Bool → Log → Type 0
 WritesThrough bytes ok new = new ≡ Put at.File (answered calls.Write ok bytes ∷ []) ∷ []
 
 -- a file was put at a path that has none, or why not
-abbrev pub PutsNew : List ℕ → Result Outcome NotReplaced → Log → Log → Type 0
-PutsNew bytes (Ok (Written answer)) old new = PutAt at.File None bytes (Ok answer) old new
-PutsNew bytes (Ok outcome) old new = ⊥
-PutsNew bytes (Err (refusals.Stopped stop)) old new = PutAt at.File None bytes (Err stop) old new
-PutsNew bytes (Err refusal) old new = IsUnopened refusal × (new ≡ old)
+abbrev pub PutsNew : HeldAt → List ℕ → Result Outcome NotReplaced → Log → Log → Type 0
+PutsNew there bytes (Ok (Written answer)) old new = PutAt there at.File None bytes (Ok answer) old new
+PutsNew there bytes (Ok outcome) old new = ⊥
+PutsNew there bytes (Err (refusals.Stopped stop)) old new = PutAt there at.File None bytes (Err stop) old new
+PutsNew there bytes (Err refusal) old new = IsUnopened refusal × (new ≡ old)
 
 -- what is no regular file was written to as it is, or why not
 abbrev pub WritesSo : List ℕ → Result Outcome NotReplaced → Log → Type 0
@@ -106,6 +113,6 @@ WritesSo bytes (Err refusal) new = IsUnopened refusal × WritesThrough bytes fal
 
 -- Bytes were written at a path: to the file that is there, once it was settled, as a new file, or through to what is no
 -- regular file. Else the path wasn't opened, and no call made.
-abbrev pub Saves : Held → Held → List ℕ → Result Outcome NotReplaced → Log → Type 0
-Saves settled held bytes result new = ((start : Log) × (mode : ℕ) × IsSettled settled [] start × PutsFile held mode bytes result start new)
-    ⊎ PutsNew bytes result [] new ⊎ WritesSo bytes result new
+abbrev pub Saves : HeldAt → Held → Held → List ℕ → Result Outcome NotReplaced → Log → Type 0
+Saves there settled held bytes result new = ((start : Log) × (mode : ℕ) × IsSettled settled [] start × PutsFile there held mode bytes result start new)
+    ⊎ PutsNew there bytes result [] new ⊎ WritesSo bytes result new

@@ -16,7 +16,7 @@ use crate::links::{followed, is_of};
 use crate::place::FolderSync;
 use crate::replacement::{Fault, Step, replace};
 use crate::told::{NotReplaced, Stop};
-use crate::world::{FolderWorld, UnknownFolder};
+use crate::world::{FolderWorld, OfBackup, OfFile};
 use fork_disk::Record;
 use fork_journal::PairWorld;
 use std::alloc::AllocError;
@@ -119,15 +119,15 @@ fn mode_of(file: &File) -> io::Result<u32> {
 }
 
 /// Puts a file of these bytes at a place, and notes the calls.
-fn put_there<W: FolderWorld>(
-    mut place: FileReplacer<'_, W>,
+fn put_there<F: FolderWorld>(
+    mut place: FileReplacer<'_, OfFile<F>>,
     log: &mut HeldCalls,
     at: At,
     bytes: &[u8],
     mode: Option<u32>,
 ) -> Result<FolderSync, Stop>
     requires { place.log.events ≡ [] }
-    ensures { PutAt at mode bytes.now result log.old.events log.new.events }
+    ensures { PutAt (F.held 0) at mode bytes.now result log.old.events log.new.events }
 {
     let done = replace(&mut place, bytes, mode);
     note_at(log, at, place.calls());
@@ -142,7 +142,7 @@ fn put_there<W: FolderWorld>(
 }
 
 /// Puts a file of these bytes at a path that is no link, and notes the calls.
-fn put<W: FolderWorld>(
+fn put<F: FolderWorld>(
     rt: &HostRuntime,
     log: &mut HeldCalls,
     at: At,
@@ -150,9 +150,9 @@ fn put<W: FolderWorld>(
     bytes: &[u8],
     mode: Option<u32>,
 ) -> Result<FolderSync, Stop>
-    ensures { PutAt at mode bytes.now result log.old.events log.new.events }
+    ensures { PutAt (F.held 0) at mode bytes.now result log.old.events log.new.events }
 {
-    match FileReplacer::<W>::new(rt, path, 0) {
+    match FileReplacer::<OfFile<F>>::new(rt, path, 0) {
         Ok(place) => put_there(place, log, at, bytes, mode),
         Err(error) => {
             note_at(log, at, &Record::new());
@@ -212,15 +212,15 @@ impl Held {
     }
 
     /// Puts a file of these bytes in the place of this one, and gives out what was done.
-    fn saved<W: PairWorld>(
+    fn saved<W: PairWorld, F: FolderWorld>(
         mut self,
         rt: &HostRuntime,
         bytes: &[u8],
         log: &mut HeldCalls,
     ) -> Result<Outcome, NotReplaced>
-        ensures { PutsFile (W.held 1) self.mode bytes.now result self.log.events log.new.events }
+        ensures { PutsFile (F.held 0) (W.held 1) self.mode bytes.now result self.log.events log.new.events }
     {
-        let done = self.put::<W>(rt, bytes);
+        let done = self.put::<W, F>(rt, bytes);
         *log = self.into_log();
         done
     }
@@ -235,7 +235,7 @@ impl Held {
     /// Replaces the file, or changes it in its place where it can't be renamed over. The old bytes are those that were
     /// read of it. Where the new ones are the same, nothing is written. Where it is to be kept, a copy of the old bytes
     /// is put at its name with a tilde, NAME~, before that.
-    pub fn replace<W: PairWorld>(
+    pub fn replace<W: PairWorld, F: FolderWorld>(
         &mut self,
         rt: &HostRuntime,
         old: &[u8],
@@ -245,27 +245,31 @@ impl Held {
         ensures same { (result ≡ Ok Outcome.Unchanged) ↔ (old.now ≡ new.now) }
         ensures kept { IsSameFile self.old self.new }
         ensures named { IfErr result (TellsNames (path_buf_bytes self.old.path)) }
-        ensures calls { ReplacesHeld (W.held 1) keeps_old self.old.mode old.now new.now result self.old.log.events self.new.log.events }
+        ensures calls { ReplacesHeld (F.held 0) (F.held 1) (W.held 1) keeps_old self.old.mode old.now new.now result self.old.log.events self.new.log.events }
     {
         if old == new {
             return Ok(Outcome::Unchanged);
         }
         if keeps_old {
-            self.back_up(rt, old)?;
+            self.back_up::<F>(rt, old)?;
         }
-        self.put::<W>(rt, new)
+        self.put::<W, F>(rt, new)
     }
 
     /// Puts a file of these bytes in the place of this one, or changes it in its place.
-    fn put<W: PairWorld>(&mut self, rt: &HostRuntime, bytes: &[u8]) -> Result<Outcome, NotReplaced>
+    fn put<W: PairWorld, F: FolderWorld>(
+        &mut self,
+        rt: &HostRuntime,
+        bytes: &[u8],
+    ) -> Result<Outcome, NotReplaced>
         ensures same { result ≢ Ok Outcome.Unchanged }
         ensures kept { IsSameFile self.old self.new }
         ensures named { IfErr result (TellsNames (path_buf_bytes self.old.path)) }
-        ensures calls { PutsFile (W.held 1) self.old.mode bytes.now result self.old.log.events self.new.log.events }
+        ensures calls { PutsFile (F.held 0) (W.held 1) self.old.mode bytes.now result self.old.log.events self.new.log.events }
     {
         let path = self.path.clone()?;
         let mode = Some(self.mode);
-        match put::<UnknownFolder>(rt, &mut self.log, At::File, path, bytes, mode) {
+        match put::<F>(rt, &mut self.log, At::File, path, bytes, mode) {
             Ok(answer) => Ok(Outcome::Written(answer)),
             Err(stop) if is_busy(&stop) => self.put_in_place::<W>(rt, bytes),
             Err(stop) => Err(NotReplaced::Stopped(stop)),
@@ -289,15 +293,15 @@ impl Held {
     }
 
     /// Puts a copy of the file beside it.
-    fn back_up(&mut self, rt: &HostRuntime, bytes: &[u8]) -> Result<(), NotReplaced>
+    fn back_up<F: FolderWorld>(&mut self, rt: &HostRuntime, bytes: &[u8]) -> Result<(), NotReplaced>
         ensures kept { IsSameFile self.old self.new }
         ensures named { IfErr result (TellsNames (path_buf_bytes self.old.path)) }
-        ensures calls { BacksUp self.old.mode bytes.now result self.old.log.events self.new.log.events }
+        ensures calls { BacksUp (F.held 1) self.old.mode bytes.now result self.old.log.events self.new.log.events }
     {
         let name = backup_of(rt, &self.path)?;
         let path = name.clone()?;
         let mode = Some(self.mode);
-        match put::<UnknownFolder>(rt, &mut self.log, At::Backup, path, bytes, mode) {
+        match put::<OfBackup<F>>(rt, &mut self.log, At::Backup, path, bytes, mode) {
             Ok(_) => Ok(()),
             Err(stop) => Err(NotReplaced::NoBackup { name, stop }),
         }
@@ -341,17 +345,17 @@ fn refuse_orphan(rt: &HostRuntime, path: &PathBuf) -> Result<(), NotReplaced>
 }
 
 /// Puts a file of these bytes at a path that has none.
-fn put_new(
+fn put_new<F: FolderWorld>(
     rt: &HostRuntime,
     path: &str,
     bytes: &[u8],
     log: &mut HeldCalls,
 ) -> Result<Outcome, NotReplaced>
-    ensures { PutsNew bytes.now result log.old.events log.new.events }
+    ensures { PutsNew (F.held 0) bytes.now result log.old.events log.new.events }
 {
     let path = followed(rt, path).map_err(unopened)?;
     refuse_orphan(rt, &path)?;
-    match put::<UnknownFolder>(rt, log, At::File, path, bytes, None) {
+    match put::<F>(rt, log, At::File, path, bytes, None) {
         Ok(answer) => Ok(Outcome::Written(answer)),
         Err(stop) => Err(NotReplaced::Stopped(stop)),
     }
@@ -368,19 +372,19 @@ fn is_missing(refusal: &NotReplaced) -> bool {
 /// Writes a file of these bytes, and notes the calls in a record that begins anew. Where there is one, it is replaced,
 /// and keeps its mode; so the path has all of the new file or what it had before. What is no regular file, as a device
 /// or a pipe, is written to as it is.
-pub fn save<W: PairWorld>(
+pub fn save<W: PairWorld, F: FolderWorld>(
     rt: &HostRuntime,
     path: &str,
     bytes: &[u8],
     log: &mut HeldCalls,
 ) -> Result<Outcome, NotReplaced>
-    ensures { Saves (W.held 0) (W.held 1) bytes.now result log.new.events }
+    ensures { Saves (F.held 0) (W.held 0) (W.held 1) bytes.now result log.new.events }
 {
     *log = Record::new();
     match Held::open::<W>(rt, path) {
-        Ok(held) => held.saved::<W>(rt, bytes, log),
+        Ok(held) => held.saved::<W, F>(rt, bytes, log),
         Err(NotReplaced::NotAFile) => write_through(rt, log, path, bytes),
-        Err(refusal) if is_missing(&refusal) => put_new(rt, path, bytes, log),
+        Err(refusal) if is_missing(&refusal) => put_new::<F>(rt, path, bytes, log),
         Err(refusal) => Err(refusal),
     }
 }

@@ -2,7 +2,7 @@
 
 ghost use Rattle.std.specs.Prelude.{◌≡◌, [], ◌∷◌, is_ok, IfOk, None, Ok, option_map};
 ghost use Rattle.fork_disk.specs.Disk.{Counts};
-ghost use Rattle.file_replace.specs.Calls.{history_of, IsHonest};
+ghost use Rattle.file_replace.specs.Calls.{seen_at};
 
 use crate::calls::{Call, Noted, PlaceCalls, note};
 use crate::links::folder_of;
@@ -198,12 +198,7 @@ fn remove(rt: &HostRuntime, path: &PathBuf) -> io::Result<()> {
 impl<'a, W: FolderWorld> Replaces for FileReplacer<'a, W> {
     type Error = io::Error;
 
-    ghost seen = { λ place. record {
-      calls = place.log.events;
-      files = W.held place.number place.log.events;
-      history = history_of (W.held place.number) place.log.events;
-      is_honest = IsHonest (W.held place.number) place.log.events;
-    } };
+    ghost seen = { λ place. seen_at (W.held place.number) place.log.events };
 
     ghost failures = { λ place. place.failures };
 

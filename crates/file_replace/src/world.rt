@@ -21,6 +21,26 @@ impl FolderWorld for UnknownFolder {
     ghost held = { λ _ _. record { path = None; beside = None } };
 }
 
+/// The paths of a world by one number: here that of a file, whatever number the place has.
+#[derive(Drop)]
+pub(crate) struct OfFile<F: FolderWorld> {
+    of: PhantomData<F>,
+}
+
+impl<F: FolderWorld> FolderWorld for OfFile<F> {
+    ghost held = { λ _ calls. F.held 0 calls };
+}
+
+/// And that of its backup.
+#[derive(Drop)]
+pub(crate) struct OfBackup<F: FolderWorld> {
+    of: PhantomData<F>,
+}
+
+impl<F: FolderWorld> FolderWorld for OfBackup<F> {
+    ghost held = { λ _ calls. F.held 1 calls };
+}
+
 /// The pairs of a world by one number: here the file as it is settled and its journal, whatever number that pair has.
 #[derive(Drop)]
 pub(crate) struct Settled<W: PairWorld> {

@@ -7,7 +7,7 @@ use crate::asked_change::Target;
 use crate::input::read_all;
 use crate::message::{DONE, Problem};
 use crate::{read, write_text};
-use file_replace::{Held, save};
+use file_replace::{Held, UnknownFolder, save};
 use fork_bytes::table::Row;
 use fork_disk::Record;
 use fork_edit::change::{NewFile, changed};
@@ -69,7 +69,7 @@ fn change_in_place(
     let Some(changed) = changed_of(rt, &old, from, edit)? else {
         return Ok(DONE);
     };
-    held.replace::<UnknownPair>(rt, &old, &changed.file, target.keeps_old)?;
+    held.replace::<UnknownPair, UnknownFolder>(rt, &old, &changed.file, target.keeps_old)?;
     say(rt, target, &changed.told).map_err(Problem::after_change)
 }
 
@@ -127,7 +127,7 @@ pub fn save_to(rt: &HostRuntime, output: &str, bytes: &[u8]) -> Result<(), Probl
         }
         return rt.stdout().write_all(bytes).map_err(Problem::Print);
     }
-    match save::<UnknownPair>(rt, output, bytes, &mut Record::new()) {
+    match save::<UnknownPair, UnknownFolder>(rt, output, bytes, &mut Record::new()) {
         Ok(_) => Ok(()),
         Err(error) => Err(Problem::Output {
             path: String::from_str(rt.alloc(), output)?,

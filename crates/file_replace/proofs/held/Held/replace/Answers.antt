@@ -7,16 +7,16 @@ use Rattle.file_replace.proofs.held.Held.replace.Goals.{then-keeps_old+in_ok-bac
 
 pub returns-clause-calls : goal.returns-clause-calls
 returns-clause-calls g c =
-    let held = g.W.PairWorld.held 1 in
+    let there = g.F.FolderWorld.held 0 in let backup = g.F.FolderWorld.held 1 in let held = g.W.PairWorld.held 1 in
     let mode = c.args.self.now.mode in let before = c.args.old.now in let bytes = c.args.new.now in let result = c.put.result in
     let old = c.args.self.now.log.events in let new = c.put.new.self.log.events in
-    let by = λ (keeps : Bool). ReplacesHeld held keeps mode before bytes result old new in
-    let puts = λ (self : declared.Held). PutsFile held self.mode bytes result self.log.events new in
+    let by = λ (keeps : Bool). ReplacesHeld there backup held keeps mode before bytes result old new in
+    let puts = λ (self : declared.Held). PutsFile there held self.mode bytes result self.log.events new in
     elim c.if-keeps_old.branch [
       | then-keeps_old+in_ok-back_up w ↦
           let mid = w.back_up.new.self.log.events in
-          let done = subst (λ (m : ℕ). PutsFile held m bytes result mid new) w.in_ok-back_up.ensures.kept.2 (subst puts w.self-is c.put.ensures.calls) in
-          subst by (sym w.if-keeps_old.true) (put_after held mode bytes before w.in_ok-back_up.field-0 result old mid new c.put.ensures.same w.in_ok-back_up.ensures.calls done)
+          let done = subst (λ (m : ℕ). PutsFile there held m bytes result mid new) w.in_ok-back_up.ensures.kept.2 (subst puts w.self-is c.put.ensures.calls) in
+          subst by (sym w.if-keeps_old.true) (put_after there backup held mode bytes before w.in_ok-back_up.field-0 result old mid new c.put.ensures.same w.in_ok-back_up.ensures.calls done)
       | else-keeps_old w ↦
-          subst by (sym w.if-keeps_old.false) (put_alone held mode bytes before result old new c.put.ensures.same (subst puts w.self-is c.put.ensures.calls))
+          subst by (sym w.if-keeps_old.false) (put_alone there backup held mode bytes before result old new c.put.ensures.same (subst puts w.self-is c.put.ensures.calls))
     ]

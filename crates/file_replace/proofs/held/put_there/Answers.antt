@@ -1,0 +1,10 @@
+use Rattle.std.proofs.Common.{inr, Err, rules}
+use Rattle.file_replace.proofs.Putting.{replaced}
+use Rattle.file_replace.proofs.held.put_there.Goals as goal
+
+pub returns-in-Err : goal.returns-in-Err
+returns-in-Err g c =
+    let fault = c.in-Err.field-0 in
+    let calls = c.replace-done.new.place.log.events in
+    let put = replaced (g.F.FolderWorld.held 0) c.args.mode c.args.bytes.now (Err fault) c.args.place.log.events calls c.requires c.in-Err.ensures.calls c.in-Err.ensures.replaces in
+    (calls, search rules, inr (fault.is_left, put))
