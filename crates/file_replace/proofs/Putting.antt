@@ -1,7 +1,6 @@
 -- What became of a file that was put or changed in its place.
 use Rattle.std.proofs.Common.{◌≡◌, ◌≢◌, inr, ℕ, true, false, List, [], Option, Some, Result, Ok, Err, refl, subst}
 use Rattle.std.specs.declared.io.Error.{Error}
-use Rattle.file_replace.specs.declared.calls.At.TheVariants as at
 use Rattle.file_replace.specs.declared.held.Outcome.{Outcome}
 use Rattle.file_replace.specs.declared.held.Outcome.TheVariants.{InPlace, Unchanged, Written}
 use Rattle.file_replace.specs.declared.place.FolderSync.{FolderSync}
@@ -21,10 +20,10 @@ pub replaced : (there : HeldAt) (mode : Option ℕ) (bytes : List ℕ) (result :
 replaced there mode bytes result start calls first made replaces =
     (subst (λ (s : List Answered). CallsOf mode bytes result s calls) first made, λ honest. subst (λ (s : List Answered). ReplacesFile mode bytes result (seen_at there s) (seen_at there calls)) first (replaces honest).1)
 
-module _ (there backup : HeldAt) (held : Held) (mode : ℕ) (bytes : List ℕ) where
+module _ (there backup : HeldAt) (held : Held) (path : List ℕ) (mode : ℕ) (bytes : List ℕ) where
   -- a path that couldn't be renamed over was changed in its place
-  pub in_place : (stop : Stop) (result : Result Outcome NotReplaced) (old mid new : Log) → IsBusy stop → PutAt there at.File (Some mode) bytes (Err stop) old mid → PutsInPlace held bytes result mid new
-      → PutsFile there held mode bytes result old new
+  pub in_place : (stop : Stop) (result : Result Outcome NotReplaced) (old mid new : Log) → IsBusy stop → PutAt there path (Some mode) bytes (Err stop) old mid → PutsInPlace held bytes result mid new
+      → PutsFile there held path mode bytes result old new
   in_place stop (Ok InPlace) old mid new busy put places = (stop, mid, busy, put, places)
   in_place stop (Ok Unchanged) old mid new busy put places = absurd places
   in_place stop (Ok (Written answer)) old mid new busy put places = absurd places
@@ -40,14 +39,14 @@ module _ (there backup : HeldAt) (held : Held) (mode : ℕ) (bytes : List ℕ) w
   in_place stop (Err refusals.HostFull) old mid new busy put places = absurd places
 
   -- no copy is kept of it, or one was put first
-  pub put_alone : (before : List ℕ) (result : Result Outcome NotReplaced) (old new : Log) → result ≢ Ok Unchanged → PutsFile there held mode bytes result old new → ReplacesHeld there backup held false mode before bytes result old new
+  pub put_alone : (before : List ℕ) (result : Result Outcome NotReplaced) (old new : Log) → result ≢ Ok Unchanged → PutsFile there held path mode bytes result old new → ReplacesHeld there backup held false path mode before bytes result old new
   put_alone before (Ok Unchanged) old new changed puts = absurd (changed refl)
   put_alone before (Ok (Written answer)) old new changed puts = puts
   put_alone before (Ok InPlace) old new changed puts = puts
   put_alone before (Err refusal) old new changed puts = puts
 
-  pub put_after : {T : Type 0} (before : List ℕ) (done : T) (result : Result Outcome NotReplaced) (old mid new : Log) → result ≢ Ok Unchanged → BacksUp backup mode before (Ok done) old mid → PutsFile there held mode bytes result mid new
-      → ReplacesHeld there backup held true mode before bytes result old new
+  pub put_after : {T : Type 0} (before : List ℕ) (done : T) (result : Result Outcome NotReplaced) (old mid new : Log) → result ≢ Ok Unchanged → BacksUp backup path mode before (Ok done) old mid → PutsFile there held path mode bytes result mid new
+      → ReplacesHeld there backup held true path mode before bytes result old new
   put_after before done (Ok Unchanged) old mid new changed backs puts = absurd (changed refl)
   put_after before done (Ok (Written answer)) old mid new changed backs puts = inr (mid, backs, puts)
   put_after before done (Ok InPlace) old mid new changed backs puts = inr (mid, backs, puts)

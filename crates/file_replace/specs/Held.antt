@@ -5,8 +5,6 @@ use Rattle.std.specs.Path.{path_buf_bytes}
 use Rattle.std.specs.IoError.{error_kind}
 use Rattle.std.specs.declared.io.Error.{Error}
 use Rattle.std.specs.declared.io.ErrorKind.TheVariants.{ResourceBusy}
-use Rattle.file_replace.specs.declared.calls.At.{At}
-use Rattle.file_replace.specs.declared.calls.At.TheVariants as at
 use Rattle.file_replace.specs.declared.calls.HeldCall.TheVariants.{Put}
 use Rattle.file_replace.specs.declared.calls.Call.TheVariants as calls
 use Rattle.file_replace.specs.declared.held.Held as declared
@@ -34,9 +32,9 @@ abbrev pub EndsSo : HeldAt → Option ℕ → List ℕ → Result FolderSync Sto
 EndsSo there mode bytes (Ok answer) calls = IsReplaced there mode bytes (Ok answer) calls
 EndsSo there mode bytes (Err stop) calls = ((calls ≡ []) × (stop.step ≡ Create)) ⊎ ((is_left : Bool) × IsReplaced there mode bytes (Err (record { step = stop.step; error = stop.error; is_left = is_left })) calls)
 
--- a file was put there, and ended so
-abbrev pub PutAt : HeldAt → At → Option ℕ → List ℕ → Result FolderSync Stop → Log → Log → Type 0
-PutAt there place mode bytes result old new = (calls : List Answered) × (new ≡ Put place calls ∷ old) × EndsSo there mode bytes result calls
+-- a file was put at this path, and ended so
+abbrev pub PutAt : HeldAt → List ℕ → Option ℕ → List ℕ → Result FolderSync Stop → Log → Log → Type 0
+PutAt there path mode bytes result old new = (calls : List Answered) × (new ≡ Put path calls ∷ old) × EndsSo there mode bytes result calls
 
 -- the same file is open
 abbrev pub IsSameFile : declared.Held → declared.Held → Type 0
@@ -53,40 +51,43 @@ PutsInPlace held bytes (Err (refusals.InPlace cut)) old new = ChangesSo {T = ⊤
 PutsInPlace held bytes result old new = ⊥
 
 -- a new file couldn't be renamed to the path, and so it was changed in its place, or why not
-abbrev pub TriesBoth : HeldAt → Held → ℕ → List ℕ → Result Outcome NotReplaced → Log → Log → Type 0
-TriesBoth there held mode bytes result old new = (stop : Stop) × (mid : Log) × IsBusy stop × PutAt there at.File (Some mode) bytes (Err stop) old mid × PutsInPlace held bytes result mid new
+abbrev pub TriesBoth : HeldAt → Held → List ℕ → ℕ → List ℕ → Result Outcome NotReplaced → Log → Log → Type 0
+TriesBoth there held path mode bytes result old new = (stop : Stop) × (mid : Log) × IsBusy stop × PutAt there path (Some mode) bytes (Err stop) old mid × PutsInPlace held bytes result mid new
 
 -- The new file was put at the path, or the one that is there was changed in its place, or why not. It is changed in its
 -- place only where it can't be renamed over.
-abbrev pub PutsFile : HeldAt → Held → ℕ → List ℕ → Result Outcome NotReplaced → Log → Log → Type 0
-PutsFile there held mode bytes (Ok Unchanged) old new = ⊥
-PutsFile there held mode bytes (Ok (Written answer)) old new = PutAt there at.File (Some mode) bytes (Ok answer) old new
-PutsFile there held mode bytes (Ok InPlace) old new = TriesBoth there held mode bytes (Ok InPlace) old new
-PutsFile there held mode bytes (Err (refusals.Stopped stop)) old new = ¬ IsBusy stop × PutAt there at.File (Some mode) bytes (Err stop) old new
-PutsFile there held mode bytes (Err (refusals.InPlace cut)) old new = TriesBoth there held mode bytes (Err (refusals.InPlace cut)) old new
-PutsFile there held mode bytes (Err refusals.HostFull) old new = new ≡ old
-PutsFile there held mode bytes (Err refusal) old new = ⊥
+abbrev pub PutsFile : HeldAt → Held → List ℕ → ℕ → List ℕ → Result Outcome NotReplaced → Log → Log → Type 0
+PutsFile there held path mode bytes (Ok Unchanged) old new = ⊥
+PutsFile there held path mode bytes (Ok (Written answer)) old new = PutAt there path (Some mode) bytes (Ok answer) old new
+PutsFile there held path mode bytes (Ok InPlace) old new = TriesBoth there held path mode bytes (Ok InPlace) old new
+PutsFile there held path mode bytes (Err (refusals.Stopped stop)) old new = ¬ IsBusy stop × PutAt there path (Some mode) bytes (Err stop) old new
+PutsFile there held path mode bytes (Err (refusals.InPlace cut)) old new = TriesBoth there held path mode bytes (Err (refusals.InPlace cut)) old new
+PutsFile there held path mode bytes (Err refusal) old new = ⊥
 
--- a copy was put at the backup's name, or why not
-abbrev pub BacksUp : {T : Type 0} → HeldAt → ℕ → List ℕ → Result T NotReplaced → Log → Log → Type 0
-BacksUp there mode bytes (Ok done) old new = (answer : FolderSync) × PutAt there at.Backup (Some mode) bytes (Ok answer) old new
-BacksUp there mode bytes (Err (refusals.NoBackup name stop)) old new = PutAt there at.Backup (Some mode) bytes (Err stop) old new
-BacksUp there mode bytes (Err refusals.HostFull) old new = new ≡ old
-BacksUp there mode bytes (Err refusal) old new = ⊥
+-- `NAME~` beside a file
+abbrev pub backup_name : List ℕ → List ℕ
+backup_name path = path ++ 126 ∷ []
+
+-- a copy was put at the name of the path's backup, or why not
+abbrev pub BacksUp : {T : Type 0} → HeldAt → List ℕ → ℕ → List ℕ → Result T NotReplaced → Log → Log → Type 0
+BacksUp there path mode bytes (Ok done) old new = (answer : FolderSync) × PutAt there (backup_name path) (Some mode) bytes (Ok answer) old new
+BacksUp there path mode bytes (Err (refusals.NoBackup name stop)) old new = PutAt there (backup_name path) (Some mode) bytes (Err stop) old new
+BacksUp there path mode bytes (Err refusals.HostFull) old new = new ≡ old
+BacksUp there path mode bytes (Err refusal) old new = ⊥
 
 -- the backup that a refusal names has the path's name with a tilde, and a journal that is left has its own
 abbrev pub TellsNames : List ℕ → NotReplaced → Type 0
-TellsNames path (refusals.NoBackup name stop) = path_buf_bytes name ≡ path ++ 126 ∷ []
+TellsNames path (refusals.NoBackup name stop) = path_buf_bytes name ≡ backup_name path
 TellsNames path (refusals.InPlace cut) = NamesJournal (journal_name path) cut
 TellsNames path refusal = ⊤
 
 -- Where the bytes are the same, no call is made. Else, where the old ones are kept, they are put at the backup's name
 -- first, and where that fails no call is made at the file.
-abbrev pub ReplacesHeld : HeldAt → HeldAt → Held → Bool → ℕ → List ℕ → List ℕ → Result Outcome NotReplaced → Log → Log → Type 0
-ReplacesHeld there backup held keeps_old mode before after (Ok Unchanged) old new = new ≡ old
-ReplacesHeld there backup held false mode before after result old new = PutsFile there held mode after result old new
-ReplacesHeld there backup held true mode before after result old new = IsErrAnd result (λ refusal. BacksUp {T = ⊤} backup mode before (Err refusal) old new)
-    ⊎ ((mid : Log) × BacksUp {T = ⊤} backup mode before (Ok tt) old mid × PutsFile there held mode after result mid new)
+abbrev pub ReplacesHeld : HeldAt → HeldAt → Held → Bool → List ℕ → ℕ → List ℕ → List ℕ → Result Outcome NotReplaced → Log → Log → Type 0
+ReplacesHeld there backup held keeps_old path mode before after (Ok Unchanged) old new = new ≡ old
+ReplacesHeld there backup held false path mode before after result old new = PutsFile there held path mode after result old new
+ReplacesHeld there backup held true path mode before after result old new = IsErrAnd result (λ refusal. BacksUp {T = ⊤} backup path mode before (Err refusal) old new)
+    ⊎ ((mid : Log) × BacksUp {T = ⊤} backup path mode before (Ok tt) old mid × PutsFile there held path mode after result mid new)
 
 -- the path wasn't opened: no file was to be put yet
 abbrev pub IsUnopened : NotReplaced → Type 0
@@ -96,23 +97,23 @@ IsUnopened (refusals.InPlace cut) = ⊥
 IsUnopened refusal = ⊤
 
 -- what is no regular file was written to as it is
-abbrev pub WritesThrough : List ℕ → Bool → Log → Type 0
-WritesThrough bytes ok new = new ≡ Put at.File (answered calls.Write ok bytes ∷ []) ∷ []
+abbrev pub WritesThrough : List ℕ → List ℕ → Bool → Log → Type 0
+WritesThrough path bytes ok new = new ≡ Put path (answered calls.Write ok bytes ∷ []) ∷ []
 
 -- a file was put at a path that has none, or why not
 abbrev pub PutsNew : HeldAt → List ℕ → Result Outcome NotReplaced → Log → Log → Type 0
-PutsNew there bytes (Ok (Written answer)) old new = PutAt there at.File None bytes (Ok answer) old new
+PutsNew there bytes (Ok (Written answer)) old new = (path : List ℕ) × PutAt there path None bytes (Ok answer) old new
 PutsNew there bytes (Ok outcome) old new = ⊥
-PutsNew there bytes (Err (refusals.Stopped stop)) old new = PutAt there at.File None bytes (Err stop) old new
+PutsNew there bytes (Err (refusals.Stopped stop)) old new = (path : List ℕ) × PutAt there path None bytes (Err stop) old new
 PutsNew there bytes (Err refusal) old new = IsUnopened refusal × (new ≡ old)
 
 -- what is no regular file was written to as it is, or why not
-abbrev pub WritesSo : List ℕ → Result Outcome NotReplaced → Log → Type 0
-WritesSo bytes (Ok outcome) new = (outcome ≡ Written NotOffered) × WritesThrough bytes true new
-WritesSo bytes (Err refusal) new = IsUnopened refusal × WritesThrough bytes false new
+abbrev pub WritesSo : List ℕ → List ℕ → Result Outcome NotReplaced → Log → Type 0
+WritesSo path bytes (Ok outcome) new = (outcome ≡ Written NotOffered) × WritesThrough path bytes true new
+WritesSo path bytes (Err refusal) new = IsUnopened refusal × WritesThrough path bytes false new
 
 -- Bytes were written at a path: to the file that is there, once it was settled, as a new file, or through to what is no
 -- regular file. Else the path wasn't opened, and no call made.
-abbrev pub Saves : HeldAt → Held → Held → List ℕ → Result Outcome NotReplaced → Log → Type 0
-Saves there settled held bytes result new = ((start : Log) × (mode : ℕ) × IsSettled settled [] start × PutsFile there held mode bytes result start new)
-    ⊎ PutsNew there bytes result [] new ⊎ WritesSo bytes result new
+abbrev pub Saves : HeldAt → Held → Held → List ℕ → List ℕ → Result Outcome NotReplaced → Log → Type 0
+Saves there settled held path bytes result new = ((start : Log) × (followed : List ℕ) × (mode : ℕ) × IsSettled settled [] start × PutsFile there held followed mode bytes result start new)
+    ⊎ PutsNew there bytes result [] new ⊎ WritesSo path bytes result new

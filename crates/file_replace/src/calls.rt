@@ -38,15 +38,6 @@ pub struct Noted {
 /// The calls with their answers, the newest first, and the bytes that were given to each.
 pub type PlaceCalls = Record<(Noted, LinkedList<u8>)>;
 
-/// Which file calls were made at.
-#[derive(Clone, Copy)]
-pub enum At {
-    /// The one that is replaced.
-    File,
-    /// Its backup, whose name has a tilde more.
-    Backup,
-}
-
 /// What was done for a file that is changed in its place, and how it ended.
 #[derive(Clone, Copy)]
 pub enum JournalCall {
@@ -67,8 +58,8 @@ pub enum JournalCall {
 /// What was done for a file.
 #[derive(Drop)]
 pub enum HeldCall {
-    /// A file was put there, by these calls.
-    Put(At, LinkedList<(Noted, LinkedList<u8>)>),
+    /// A file was put at this path, by these calls.
+    Put(LinkedList<u8>, LinkedList<(Noted, LinkedList<u8>)>),
     /// It was to be changed in its place, by these calls on it and its journal.
     InPlace(JournalCall, LinkedList<(LinkedList<u64>, LinkedList<u8>)>),
 }
@@ -76,11 +67,11 @@ pub enum HeldCall {
 /// What was done for a file, the newest first.
 pub type HeldCalls = Record<HeldCall>;
 
-/// Notes the calls that a file took.
-pub(crate) fn note_at(log: &mut HeldCalls, at: At, calls: &PlaceCalls)
-    ensures { log.new.events ≡ Put at calls.now.events ∷ log.old.events }
+/// Notes the calls that a file took, and at which path.
+pub(crate) fn note_at(log: &mut HeldCalls, path: &str, calls: &PlaceCalls)
+    ensures { log.new.events ≡ Put path.now calls.now.events ∷ log.old.events }
 {
-    *log = Record::of_events_beside(log, &at, calls);
+    *log = Record::of_events_beside(log, &path, calls);
 }
 
 /// Notes what was done at a journal's name.

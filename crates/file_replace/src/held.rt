@@ -6,10 +6,10 @@ ghost use Rattle.file_replace.specs.OnPlace.{answered};
 ghost use Rattle.file_replace.specs.declared.calls.HeldCall.TheVariants.{Put};
 ghost use Rattle.file_replace.specs.declared.held.Outcome.TheVariants.{Written};
 ghost use Rattle.file_replace.specs.declared.place.FolderSync.TheVariants.{NotOffered};
-ghost use Rattle.file_replace.specs.Held.{BacksUp, IsBusy, IsSameFile, IsUnopened, PutAt, PutsFile, PutsInPlace, PutsNew, ReplacesHeld, Saves, TellsNames};
+ghost use Rattle.file_replace.specs.Held.{BacksUp, backup_name, IsBusy, IsSameFile, IsUnopened, PutAt, PutsFile, PutsInPlace, PutsNew, ReplacesHeld, Saves, TellsNames};
 ghost use Rattle.file_replace.specs.InPlace.{IsSettled};
 
-use crate::calls::{At, Call, HeldCalls, JournalCall, Noted, note, note_at, note_name};
+use crate::calls::{Call, HeldCalls, JournalCall, Noted, note, note_at, note_name};
 use crate::host_place::FileReplacer;
 use crate::in_place::{change_in_place, journal_of, may_be_there, settle_in_place};
 use crate::links::{followed, is_of};
@@ -122,15 +122,16 @@ fn mode_of(file: &File) -> io::Result<u32> {
 fn put_there<F: FolderWorld>(
     mut place: FileReplacer<'_, OfFile<F>>,
     log: &mut HeldCalls,
-    at: At,
+    path: &PathBuf,
     bytes: &[u8],
     mode: Option<u32>,
 ) -> Result<FolderSync, Stop>
-    requires { place.log.events ≡ [] }
-    ensures { PutAt (F.held 0) at mode bytes.now result log.old.events log.new.events }
+    requires start { place.log.events ≡ [] }
+    requires path { place.path.now ≡ path.now }
+    ensures { PutAt (F.held 0) (path_buf_bytes path.now) mode bytes.now result log.old.events log.new.events }
 {
     let done = replace(&mut place, bytes, mode);
-    note_at(log, at, place.calls());
+    note_at(log, path.as_str(), place.calls());
     match done {
         Ok(answer) => Ok(answer),
         Err(Fault { step, error, .. }) => Err(Stop {
@@ -145,17 +146,16 @@ fn put_there<F: FolderWorld>(
 fn put<F: FolderWorld>(
     rt: &HostRuntime,
     log: &mut HeldCalls,
-    at: At,
-    path: PathBuf,
+    path: &PathBuf,
     bytes: &[u8],
     mode: Option<u32>,
 ) -> Result<FolderSync, Stop>
-    ensures { PutAt (F.held 0) at mode bytes.now result log.old.events log.new.events }
+    ensures { PutAt (F.held 0) (path_buf_bytes path.now) mode bytes.now result log.old.events log.new.events }
 {
     match FileReplacer::<OfFile<F>>::new(rt, path, 0) {
-        Ok(place) => put_there(place, log, at, bytes, mode),
+        Ok(place) => put_there(place, log, path, bytes, mode),
         Err(error) => {
-            note_at(log, at, &Record::new());
+            note_at(log, path.as_str(), &Record::new());
             Err(Stop {
                 step: Step::Create,
                 error,
@@ -167,7 +167,7 @@ fn put<F: FolderWorld>(
 
 /// The path of a file's backup.
 fn backup_of(rt: &HostRuntime, path: &PathBuf) -> Result<PathBuf, AllocError>
-    ensures { IfOk result (λ name. path_buf_bytes name ≡ path_buf_bytes path.now ++ 126 ∷ []) }
+    ensures { IfOk result (λ name. path_buf_bytes name ≡ backup_name (path_buf_bytes path.now)) }
 {
     let mut name = String::from_str(rt.alloc(), path.as_str())?;
     name.push('~')?;
@@ -218,7 +218,7 @@ impl Held {
         bytes: &[u8],
         log: &mut HeldCalls,
     ) -> Result<Outcome, NotReplaced>
-        ensures { PutsFile (F.held 0) (W.held 1) self.mode bytes.now result self.log.events log.new.events }
+        ensures { PutsFile (F.held 0) (W.held 1) (path_buf_bytes self.path) self.mode bytes.now result self.log.events log.new.events }
     {
         let done = self.put::<W, F>(rt, bytes);
         *log = self.into_log();
@@ -245,7 +245,7 @@ impl Held {
         ensures same { (result ≡ Ok Outcome.Unchanged) ↔ (old.now ≡ new.now) }
         ensures kept { IsSameFile self.old self.new }
         ensures named { IfErr result (TellsNames (path_buf_bytes self.old.path)) }
-        ensures calls { ReplacesHeld (F.held 0) (F.held 1) (W.held 1) keeps_old self.old.mode old.now new.now result self.old.log.events self.new.log.events }
+        ensures calls { ReplacesHeld (F.held 0) (F.held 1) (W.held 1) keeps_old (path_buf_bytes self.old.path) self.old.mode old.now new.now result self.old.log.events self.new.log.events }
     {
         if old == new {
             return Ok(Outcome::Unchanged);
@@ -265,11 +265,10 @@ impl Held {
         ensures same { result ≢ Ok Outcome.Unchanged }
         ensures kept { IsSameFile self.old self.new }
         ensures named { IfErr result (TellsNames (path_buf_bytes self.old.path)) }
-        ensures calls { PutsFile (F.held 0) (W.held 1) self.old.mode bytes.now result self.old.log.events self.new.log.events }
+        ensures calls { PutsFile (F.held 0) (W.held 1) (path_buf_bytes self.old.path) self.old.mode bytes.now result self.old.log.events self.new.log.events }
     {
-        let path = self.path.clone()?;
         let mode = Some(self.mode);
-        match put::<F>(rt, &mut self.log, At::File, path, bytes, mode) {
+        match put::<F>(rt, &mut self.log, &self.path, bytes, mode) {
             Ok(answer) => Ok(Outcome::Written(answer)),
             Err(stop) if is_busy(&stop) => self.put_in_place::<W>(rt, bytes),
             Err(stop) => Err(NotReplaced::Stopped(stop)),
@@ -296,12 +295,11 @@ impl Held {
     fn back_up<F: FolderWorld>(&mut self, rt: &HostRuntime, bytes: &[u8]) -> Result<(), NotReplaced>
         ensures kept { IsSameFile self.old self.new }
         ensures named { IfErr result (TellsNames (path_buf_bytes self.old.path)) }
-        ensures calls { BacksUp (F.held 1) self.old.mode bytes.now result self.old.log.events self.new.log.events }
+        ensures calls { BacksUp (F.held 1) (path_buf_bytes self.old.path) self.old.mode bytes.now result self.old.log.events self.new.log.events }
     {
         let name = backup_of(rt, &self.path)?;
-        let path = name.clone()?;
         let mode = Some(self.mode);
-        match put::<OfBackup<F>>(rt, &mut self.log, At::Backup, path, bytes, mode) {
+        match put::<OfBackup<F>>(rt, &mut self.log, &name, bytes, mode) {
             Ok(_) => Ok(()),
             Err(stop) => Err(NotReplaced::NoBackup { name, stop }),
         }
@@ -316,7 +314,7 @@ fn write_through(
     bytes: &[u8],
 ) -> Result<Outcome, NotReplaced>
     ensures outcome { IfOk result (λ outcome. outcome ≡ Written NotOffered) }
-    ensures calls { log.new.events ≡ Put At.File (answered Call.Write (is_ok result) bytes.now ∷ []) ∷ log.old.events }
+    ensures calls { log.new.events ≡ Put path.now (answered Call.Write (is_ok result) bytes.now ∷ []) ∷ log.old.events }
     ensures refuses { IfErr result IsUnopened }
 {
     let done = fs::write(rt, path, bytes);
@@ -326,7 +324,7 @@ fn write_through(
         is_done: done.is_ok(),
     };
     note(&mut calls, noted, bytes);
-    note_at(log, At::File, &calls);
+    note_at(log, path, &calls);
     match done {
         Ok(()) => Ok(Outcome::Written(FolderSync::NotOffered)),
         Err(error) => Err(NotReplaced::Open(error)),
@@ -355,7 +353,7 @@ fn put_new<F: FolderWorld>(
 {
     let path = followed(rt, path).map_err(unopened)?;
     refuse_orphan(rt, &path)?;
-    match put::<F>(rt, log, At::File, path, bytes, None) {
+    match put::<F>(rt, log, &path, bytes, None) {
         Ok(answer) => Ok(Outcome::Written(answer)),
         Err(stop) => Err(NotReplaced::Stopped(stop)),
     }
@@ -378,7 +376,7 @@ pub fn save<W: PairWorld, F: FolderWorld>(
     bytes: &[u8],
     log: &mut HeldCalls,
 ) -> Result<Outcome, NotReplaced>
-    ensures { Saves (F.held 0) (W.held 0) (W.held 1) bytes.now result log.new.events }
+    ensures { Saves (F.held 0) (W.held 0) (W.held 1) path.now bytes.now result log.new.events }
 {
     *log = Record::new();
     match Held::open::<W>(rt, path) {

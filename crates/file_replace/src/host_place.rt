@@ -33,7 +33,7 @@ struct Beside {
 #[derive(Drop)]
 pub struct FileReplacer<'a, W: FolderWorld> {
     rt: &'a HostRuntime,
-    path: PathBuf,
+    path: &'a PathBuf,
     /// None where the folder can't be read, so that it can't be synced.
     folder: Option<File>,
     beside: Option<Beside>,
@@ -115,14 +115,18 @@ fn write_whole(rt: &HostRuntime, file: &mut File, bytes: &[u8]) -> io::Result<()
 impl<'a, W: FolderWorld> FileReplacer<'a, W> {
     /// The place of a path, which is no link, and beside which nothing was made so far. No other place of this world
     /// may have its number.
-    pub fn new(rt: &'a HostRuntime, path: PathBuf, number: u64) -> io::Result<FileReplacer<'a, W>>
+    pub fn new(
+        rt: &'a HostRuntime,
+        path: &'a PathBuf,
+        number: u64,
+    ) -> io::Result<FileReplacer<'a, W>>
         ensures number { IfOk result (λ place. place.number ≡ number) }
-        ensures path { IfOk result (λ place. place.path ≡ path) }
+        ensures path { IfOk result (λ place. place.path.now ≡ path.now) }
         ensures start { IfOk result (λ place. place.log.events ≡ []) }
     {
         Ok(FileReplacer {
             rt,
-            folder: open_folder(rt, &path)?,
+            folder: open_folder(rt, path)?,
             path,
             beside: None,
             failures: 0,
@@ -203,7 +207,7 @@ impl<'a, W: FolderWorld> Replaces for FileReplacer<'a, W> {
     ghost failures = { λ place. place.failures };
 
     fn create(&mut self, is_private: bool) -> io::Result<()> {
-        let answer = match make_beside(self.rt, &self.path, is_private) {
+        let answer = match make_beside(self.rt, self.path, is_private) {
             Ok(beside) => {
                 self.beside = Some(beside);
                 Ok(())
@@ -239,7 +243,7 @@ impl<'a, W: FolderWorld> Replaces for FileReplacer<'a, W> {
 
     fn rename(&mut self) -> io::Result<()> {
         let answer = match &self.beside {
-            Some(beside) => fs::rename(self.rt, &beside.path, &self.path),
+            Some(beside) => fs::rename(self.rt, &beside.path, self.path),
             None => Err(ErrorKind::NotFound.into()),
         };
         if answer.is_ok() {

@@ -14,7 +14,7 @@ mod replacement;
 mod told;
 mod world;
 
-pub use calls::{At, Call, HeldCall, HeldCalls, JournalCall, Noted, PlaceCalls};
+pub use calls::{Call, HeldCall, HeldCalls, JournalCall, Noted, PlaceCalls};
 pub use changed::{Reached, change};
 pub use held::{Held, Outcome, save, settle};
 pub use host_place::FileReplacer;

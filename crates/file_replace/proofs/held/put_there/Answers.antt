@@ -6,5 +6,5 @@ pub returns-in-Err : goal.returns-in-Err
 returns-in-Err g c =
     let fault = c.in-Err.field-0 in
     let calls = c.replace-done.new.place.log.events in
-    let put = replaced (g.F.FolderWorld.held 0) c.args.mode c.args.bytes.now (Err fault) c.args.place.log.events calls c.requires c.in-Err.ensures.calls c.in-Err.ensures.replaces in
+    let put = replaced (g.F.FolderWorld.held 0) c.args.mode c.args.bytes.now (Err fault) c.args.place.log.events calls c.requires.start c.in-Err.ensures.calls c.in-Err.ensures.replaces in
     (calls, search rules, inr (fault.is_left, put))
