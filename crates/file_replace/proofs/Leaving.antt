@@ -31,8 +31,8 @@ abbrev Some_left : History → Type 0
 Some_left history = ((left : Option PlainFile) × MaySettle history left) × ((left : Option PlainFile) × MayLeave history left)
 
 after : (call : Call) (ok : Bool) (old : Folder) (past : History) → Some_left past → Some_left (happened call ok old past)
-after calls.Create true old past some = some
-after calls.Create false old past some = some
+after (calls.Create is_private) true old past some = some
+after (calls.Create is_private) false old past some = some
 after calls.Write ok old past some = some
 after (calls.SetMode mode) ok old past some = some
 after calls.Sync true old past some = of_sync old.beside past some

@@ -19,8 +19,8 @@ Becomes change old new = (file : PlainFile) → old.beside ≡ Some file → new
 -- The answer of a call fits a folder that had the old files before it and has the new ones after it. A write and a mode
 -- change the file beside alone, a rename is done or not, and a file that can't be made isn't there.
 abbrev pub Fits : Call → Bool → List ℕ → Folder → Folder → Type 0
-Fits calls.Create true bytes old new = (new.path ≡ old.path) × ((file : PlainFile) × (new.beside ≡ Some file) × (file.bytes ≡ []))
-Fits calls.Create false bytes old new = new ≡ old
+Fits (calls.Create is_private) true bytes old new = (new.path ≡ old.path) × ((file : PlainFile) × (new.beside ≡ Some file) × (file.bytes ≡ []))
+Fits (calls.Create is_private) false bytes old new = new ≡ old
 Fits calls.Write ok bytes old new = (new.path ≡ old.path) × (IsTrue ok → Becomes (λ file. record file { bytes = file.bytes ++ bytes }) old new)
 Fits (calls.SetMode mode) ok bytes old new = (new.path ≡ old.path) × (IsTrue ok → Becomes (λ file. record file { mode = mode }) old new)
 Fits calls.Sync ok bytes old new = new ≡ old
@@ -36,8 +36,8 @@ synced (Some file) past = Synced file ∷ past
 
 -- what a call adds to what a crash may undo
 abbrev pub happened : Call → Bool → Folder → History → History
-happened calls.Create true old past = Made ∷ past
-happened calls.Create false old past = past
+happened (calls.Create is_private) true old past = Made ∷ past
+happened (calls.Create is_private) false old past = past
 happened calls.Write ok old past = Changed ∷ past
 happened (calls.SetMode mode) ok old past = Changed ∷ past
 happened calls.Sync true old past = synced old.beside past

@@ -1,5 +1,5 @@
 -- What a replacement does to a place of any kind.
-use Rattle.std.specs.Prelude.{◌≡◌, ℕ, ◌⊎◌, Bool, true, false, not, if◌then◌else◌, List, [], ◌∷◌, Option, Some, None, IfSome, unwrap_or, Result, IfOk, IfErr, OnOk, MatchResult}
+use Rattle.std.specs.Prelude.{◌≡◌, ℕ, ◌⊎◌, Bool, true, false, not, if◌then◌else◌, List, [], ◌∷◌, Option, Some, None, IfSome, is_some, unwrap_or, Result, IfOk, IfErr, OnOk, MatchResult}
 use Rattle.fork_disk.specs.Crash.{AlwaysFinds, Finds}
 use Rattle.fork_disk.specs.Disk.{Rose}
 use Rattle.file_replace.specs.declared.calls.Call.TheVariants as calls
@@ -40,9 +40,9 @@ IsOldOrNew past mode bytes left = MayLeave past left ⊎ IsNew mode bytes left
 abbrev pub RoseTwice : ℕ → ℕ → Type 0
 RoseTwice before now = (between : ℕ) × Rose before between × Rose between now
 
--- the call that a step makes
+-- the call that a step makes; a new file that is to get a mode is private until it has it
 abbrev pub step_call : Step → Option ℕ → List ℕ → Bool → Answered
-step_call Create mode bytes ok = answered calls.Create ok []
+step_call Create mode bytes ok = answered (calls.Create (is_some mode)) ok []
 step_call Write mode bytes ok = answered calls.Write ok bytes
 step_call SetMode mode bytes ok = answered (calls.SetMode (unwrap_or mode 0)) ok []
 step_call Sync mode bytes ok = answered calls.Sync ok []
@@ -57,11 +57,11 @@ with_mode (Some mode) made = answered (calls.SetMode mode) true [] ∷ made
 -- the calls of the steps before a step, all done, the last one first, and then what came before them
 abbrev pub before_step : Step → Option ℕ → List ℕ → List Answered → List Answered
 before_step Create mode bytes past = past
-before_step Write mode bytes past = answered calls.Create true [] ∷ past
-before_step SetMode mode bytes past = answered calls.Write true bytes ∷ answered calls.Create true [] ∷ past
-before_step Sync mode bytes past = with_mode mode (answered calls.Write true bytes ∷ answered calls.Create true [] ∷ past)
-before_step Rename mode bytes past = answered calls.Sync true [] ∷ with_mode mode (answered calls.Write true bytes ∷ answered calls.Create true [] ∷ past)
-before_step SyncFolder mode bytes past = answered calls.Rename true [] ∷ answered calls.Sync true [] ∷ with_mode mode (answered calls.Write true bytes ∷ answered calls.Create true [] ∷ past)
+before_step Write mode bytes past = answered (calls.Create (is_some mode)) true [] ∷ past
+before_step SetMode mode bytes past = answered calls.Write true bytes ∷ answered (calls.Create (is_some mode)) true [] ∷ past
+before_step Sync mode bytes past = with_mode mode (answered calls.Write true bytes ∷ answered (calls.Create (is_some mode)) true [] ∷ past)
+before_step Rename mode bytes past = answered calls.Sync true [] ∷ with_mode mode (answered calls.Write true bytes ∷ answered (calls.Create (is_some mode)) true [] ∷ past)
+before_step SyncFolder mode bytes past = answered calls.Rename true [] ∷ answered calls.Sync true [] ∷ with_mode mode (answered calls.Write true bytes ∷ answered (calls.Create (is_some mode)) true [] ∷ past)
 
 -- the new file is beside the path in this step
 abbrev pub is_beside : Step → Bool

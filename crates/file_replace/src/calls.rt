@@ -12,8 +12,8 @@ use std::collections::LinkedList;
 /// A call of the system at a path, or on the file beside it.
 #[derive(Clone, Copy)]
 pub enum Call {
-    /// It made the file beside.
-    Create,
+    /// It made the file beside, and whether its owner alone can read that until it gets its mode.
+    Create(bool),
     /// It wrote to the end of it.
     Write,
     /// It gave it this mode.

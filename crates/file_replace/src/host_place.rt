@@ -214,7 +214,7 @@ impl<'a, W: FolderWorld> Replaces for FileReplacer<'a, W> {
             }
             Err(error) => Err(error),
         };
-        self.answered(Call::Create, &[], answer)
+        self.answered(Call::Create(is_private), &[], answer)
     }
 
     fn write(&mut self, bytes: &[u8]) -> io::Result<()> {

@@ -138,21 +138,21 @@ impl Replaces for MemPlace {
 
     ghost failures = { λ place. place.failures };
 
-    fn create(&mut self, _is_private: bool) -> Result<(), DiskFault>
+    fn create(&mut self, is_private: bool) -> Result<(), DiskFault>
         requires { IsClear (place_seen self.old) }
-        ensures creates { Does calls.Create (is_ok result) [] (place_seen self.old) (place_seen self.new) }
+        ensures creates { Does (calls.Create is_private) (is_ok result) [] (place_seen self.old) (place_seen self.new) }
         ensures cause { Counts self.old.failures self.new.failures result }
         ensures counted { CountsCall self.old self.new result }
         ensures kept { IsTurn self.old → (self.new.path ≡ self.old.path) × (self.new.beside ≡ self.old.beside) }
     {
         if self.is_turn() {
-            return self.answer(Call::Create, &[], None);
+            return self.answer(Call::Create(is_private), &[], None);
         }
         self.beside = Some(MemFile {
             bytes: Vec::new(self.alloc),
             mode: 0o644,
         });
-        self.answer(Call::Create, &[], Some(()))
+        self.answer(Call::Create(is_private), &[], Some(()))
     }
 
     fn write(&mut self, bytes: &[u8]) -> Result<(), DiskFault>

@@ -65,7 +65,7 @@ pub trait Replaces {
     /// until it gets its mode. Where it fails, no file was made.
     fn create(&mut self, is_private: bool) -> Result<(), Self::Error>
         requires { IsClear (seen self.old) }
-        ensures creates { Does calls.Create (is_ok result) [] (seen self.old) (seen self.new) }
+        ensures creates { Does (calls.Create is_private) (is_ok result) [] (seen self.old) (seen self.new) }
         ensures cause { Counts (failures self.old) (failures self.new) result };
 
     /// Writes all these bytes to the end of the file beside. Where it fails, that file may be any.

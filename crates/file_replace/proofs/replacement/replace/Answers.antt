@@ -1,7 +1,9 @@
-use Rattle.std.proofs.Common.{Option, sym, ◌∙◌, ap, subst, rules}
+use Rattle.std.proofs.Common.{Bool, true, [], ◌∷◌, Option, sym, ◌∙◌, ap, subst, rules}
 use Rattle.fork_disk.specs.Crash.{at_first}
+use Rattle.file_replace.specs.declared.calls.Call.TheVariants as calls
 use Rattle.file_replace.specs.declared.place.PlainFile.{PlainFile}
 use Rattle.file_replace.specs.Place.{Folder, MayLeave}
+use Rattle.file_replace.specs.OnPlace.{answered}
 use Rattle.file_replace.specs.Replacing.{HasAfter, IsNew, IsOldOrNew}
 use Rattle.file_replace.proofs.Along.{after_made, along_asked, or_new, removed, same_end, stable}
 use Rattle.file_replace.proofs.replacement.replace.Goals as goal
@@ -87,5 +89,7 @@ returns-in-Err-sync_folder-clause-replaces g c honest =
 
 pub returns-in-Err-put-clause-calls : goal.returns-in-Err-put-clause-calls
 returns-in-Err-put-clause-calls g c =
-    let steps = c.in-Err-put.ensures.calls (g.R.Replaces.seen c.args.place.now).calls c.in_default.ensures.creates.0 in
+    let past = (g.R.Replaces.seen c.args.place.now).calls in
+    let made = c.in_default.ensures.creates.0 ∙ ap (λ (p : Bool). answered (calls.Create p) true [] ∷ past) c.is_some.ensures in
+    let steps = c.in-Err-put.ensures.calls past made in
     removed _ _ _ _ _ _ steps.0 c.is_err-is_left.ensures.negation steps.1 c.remove.ensures.removes.0
