@@ -180,3 +180,8 @@ pub removed : (step : Step) (ok is_left : Bool) (now put new : List Answered) �
 removed step ok is_left now put new beside answer made noted =
     noted ∙ ap (λ (b : Bool). answered calls.Remove b [] ∷ put) answer ∙ ap (λ (m : List Answered). answered calls.Remove (not is_left) [] ∷ m) made
     ∙ sym (ap (λ (b : Bool). if b then answered calls.Remove (not is_left) [] ∷ now else now) beside)
+
+-- a removal fails only where a file may be left
+pub failed_has : {T E : Type 0} (answer : Result T E) (is_left has : Bool) → is_ok answer ≡ not is_left → IfErr answer (λ _. has ≡ true) → is_left ≡ true → has ≡ true
+failed_has (Ok value) is_left has answered kept told = let e : true ≡ false = answered ∙ ap not told in absurd (cc)
+failed_has (Err error) is_left has answered kept told = kept

@@ -1,6 +1,6 @@
 -- What a replacement of an open file does, by the calls that the host was asked for. Which calls these are rests on no
 -- premise about the host. What files have then rests on those of `Calls` and `InPlace`: that the host is honest.
-use Rattle.std.specs.Prelude.{◌≡◌, ℕ, ◌⊎◌, Bool, true, false, List, [], ◌∷◌, ◌++◌, Option, Some, None, Result, Ok, Err, IsErrAnd, ⊤}
+use Rattle.std.specs.Prelude.{◌≡◌, ℕ, ◌⊎◌, Bool, true, false, List, [], ◌∷◌, ◌++◌, Option, Some, None, is_some, Result, Ok, Err, IsErrAnd, ⊤}
 use Rattle.std.specs.Path.{path_buf_bytes}
 use Rattle.std.specs.IoError.{error_kind}
 use Rattle.std.specs.declared.io.Error.{Error}
@@ -27,10 +27,11 @@ use Rattle.file_replace.specs.InPlace.{ChangesSo, Held, IsSettled, Log, NamesJou
 abbrev pub IsReplaced : HeldAt → Option ℕ → List ℕ → Result FolderSync (Fault Error) → List Answered → Type 0
 IsReplaced there mode bytes result calls = CallsOf mode bytes result [] calls × ReplacesAt there mode bytes result calls
 
--- the file at the path was replaced, or why not; where the path's folder can't be opened, no call was made
+-- The file at the path was replaced, or why not, and a file that is left beside it is reported. Where the path's folder
+-- can't be opened, no call was made.
 abbrev pub EndsSo : HeldAt → Option ℕ → List ℕ → Result FolderSync Stop → List Answered → Type 0
 EndsSo there mode bytes (Ok answer) calls = IsReplaced there mode bytes (Ok answer) calls
-EndsSo there mode bytes (Err stop) calls = ((calls ≡ []) × (stop.step ≡ Create)) ⊎ ((is_left : Bool) × IsReplaced there mode bytes (Err (record { step = stop.step; error = stop.error; is_left = is_left })) calls)
+EndsSo there mode bytes (Err stop) calls = ((calls ≡ []) × (stop.step ≡ Create) × (stop.left ≡ None)) ⊎ IsReplaced there mode bytes (Err (record { step = stop.step; error = stop.error; is_left = is_some stop.left })) calls
 
 -- a file was put at this path, and ended so
 abbrev pub PutAt : HeldAt → List ℕ → Option ℕ → List ℕ → Result FolderSync Stop → Log → Log → Type 0

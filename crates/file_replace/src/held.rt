@@ -1,6 +1,6 @@
 //! Files that are replaced where they are, and files that are written anew.
 
-ghost use Rattle.std.specs.Prelude.{◌≡◌, ◌≢◌, ◌↔◌, [], ◌∷◌, ◌++◌, is_ok, IfOk, IfErr, IsTrue, OnOk};
+ghost use Rattle.std.specs.Prelude.{◌≡◌, ◌≢◌, ◌↔◌, [], ◌∷◌, ◌++◌, is_ok, is_some, true, IfOk, IfErr, IsTrue, OnOk};
 ghost use Rattle.std.specs.Path.{path_buf_bytes};
 ghost use Rattle.file_replace.specs.OnPlace.{answered};
 ghost use Rattle.file_replace.specs.declared.calls.HeldCall.TheVariants.{Put};
@@ -118,6 +118,14 @@ fn mode_of(file: &File) -> io::Result<u32> {
     Ok(file.metadata()?.mode() & MODE_BITS)
 }
 
+/// The path of the file that is left beside a place, where one is.
+fn left_of<F: FolderWorld>(place: FileReplacer<'_, F>, is_left: bool) -> Option<PathBuf>
+    requires { is_left ≡ true → is_some place.beside ≡ true }
+    ensures { is_some result ≡ is_left }
+{
+    if is_left { place.into_left() } else { None }
+}
+
 /// Puts a file of these bytes at a place, and notes the calls.
 fn put_there<F: FolderWorld>(
     mut place: FileReplacer<'_, OfFile<F>>,
@@ -134,10 +142,16 @@ fn put_there<F: FolderWorld>(
     note_at(log, path.as_str(), place.calls());
     match done {
         Ok(answer) => Ok(answer),
-        Err(Fault { step, error, .. }) => Err(Stop {
+        Err(
+            Fault {
+                step,
+                error,
+                is_left,
+            },
+        ) => Err(Stop {
             step,
             error,
-            left: place.into_left(),
+            left: left_of(place, is_left),
         }),
     }
 }

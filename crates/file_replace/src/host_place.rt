@@ -1,6 +1,6 @@
 //! A path of the host.
 
-ghost use Rattle.std.specs.Prelude.{◌≡◌, [], ◌∷◌, is_ok, IfOk, None, Ok, option_map};
+ghost use Rattle.std.specs.Prelude.{◌≡◌, [], ◌∷◌, is_ok, is_some, IfOk, None, Ok, option_map};
 ghost use Rattle.fork_disk.specs.Disk.{Counts};
 ghost use Rattle.file_replace.specs.Calls.{seen_at};
 
@@ -145,7 +145,8 @@ impl<'a, W: FolderWorld> FileReplacer<'a, W> {
 
     /// The path of the file that was made beside and neither renamed nor removed, if there is one.
     pub fn into_left(self) -> Option<PathBuf>
-        ensures { result ≡ option_map (λ beside. beside.path) self.entry.beside }
+        ensures path { result ≡ option_map (λ beside. beside.path) self.entry.beside }
+        ensures some { is_some result ≡ is_some self.entry.beside }
     {
         let FileReplacer { beside, .. } = self;
         match beside {
@@ -164,6 +165,7 @@ impl<'a, W: FolderWorld> FileReplacer<'a, W> {
         ensures cause { Counts self.old.failures self.new.failures result }
         ensures same { result ≡ answer }
         ensures number { self.new.number ≡ self.old.number }
+        ensures beside { self.new.beside ≡ self.old.beside }
         ensures noted { self.new.log.events ≡ (record { call = call; is_done = is_ok answer }, bytes.now) ∷ self.old.log.events }
     {
         let is_done = answer.is_ok();
@@ -203,6 +205,8 @@ impl<'a, W: FolderWorld> Replaces for FileReplacer<'a, W> {
     type Error = io::Error;
 
     ghost seen = { λ place. seen_at (W.held place.number) place.log.events };
+
+    ghost may_leave = { λ place. is_some place.beside };
 
     ghost failures = { λ place. place.failures };
 

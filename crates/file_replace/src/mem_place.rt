@@ -1,6 +1,6 @@
 //! A path in memory.
 
-ghost use Rattle.std.specs.Prelude.{◌≡◌, ◌↔◌, [], ◌∷◌, None, option_copied, is_ok, IsErr, IsTrue, MatchOption};
+ghost use Rattle.std.specs.Prelude.{◌≡◌, ◌↔◌, [], ◌∷◌, None, true, option_copied, is_ok, IfErr, IsErr, IsTrue, MatchOption};
 ghost use Rattle.fork_disk.specs.Calls.{next_call};
 ghost use Rattle.fork_disk.specs.Disk.{Counts};
 ghost use Rattle.file_replace.specs.Place.{IsClear};
@@ -136,6 +136,8 @@ impl Replaces for MemPlace {
 
     ghost seen = { place_seen };
 
+    ghost may_leave = { λ _. true };
+
     ghost failures = { λ place. place.failures };
 
     fn create(&mut self, is_private: bool) -> Result<(), DiskFault>
@@ -230,6 +232,7 @@ impl Replaces for MemPlace {
 
     fn remove(&mut self) -> Result<(), DiskFault>
         ensures removes { Does calls.Remove (is_ok result) [] (place_seen self.old) (place_seen self.new) }
+        ensures left { IfErr result (λ _. true ≡ true) }
         ensures cause { Counts self.old.failures self.new.failures result }
         ensures counted { CountsCall self.old self.new result }
         ensures kept { IsTurn self.old → (self.new.path ≡ self.old.path) × (self.new.beside ≡ self.old.beside) }

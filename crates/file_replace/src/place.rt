@@ -1,6 +1,6 @@
 //! A path at which a file is replaced, and the name beside it at which the new file is made.
 
-ghost use Rattle.std.specs.Prelude.{ℕ, [], is_ok};
+ghost use Rattle.std.specs.Prelude.{◌≡◌, ℕ, [], Bool, true, is_ok, IfErr};
 ghost use Rattle.fork_disk.specs.Disk.{Counts};
 ghost use Rattle.file_replace.specs.declared.calls.Call.TheVariants as calls;
 ghost use Rattle.file_replace.specs.Place.{Seen, IsClear};
@@ -58,6 +58,9 @@ pub trait Replaces {
     /// What the path has and what is beside it, what happened since a start, and that the place is honest.
     ghost seen: { Self → Seen };
 
+    /// A file may be beside the path.
+    ghost may_leave: { Self → Bool };
+
     /// How often a call has failed.
     ghost failures: { Self → ℕ };
 
@@ -95,8 +98,9 @@ pub trait Replaces {
         ensures syncs { Does (calls.SyncFolder (told result)) (is_ok result) [] (seen self.old) (seen self.new) }
         ensures cause { Counts (failures self.old) (failures self.new) result };
 
-    /// Removes the file beside. The path is as it was in any case.
+    /// Removes the file beside, and fails only where one may be left. The path is as it was in any case.
     fn remove(&mut self) -> Result<(), Self::Error>
         ensures removes { Does calls.Remove (is_ok result) [] (seen self.old) (seen self.new) }
+        ensures left { IfErr result (λ _. may_leave self.new ≡ true) }
         ensures cause { Counts (failures self.old) (failures self.new) result };
 }

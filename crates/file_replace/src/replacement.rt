@@ -94,6 +94,7 @@ pub fn replace<R: Replaces>(
     ensures calls { CallsOf mode bytes.now result (R.seen place.old).calls (R.seen place.new).calls }
     ensures replaces { IfHonest (ReplacesFile mode bytes.now result) (R.seen place.old) (R.seen place.new) }
     ensures cause { Counts (R.failures place.old) (R.failures place.new) result }
+    ensures beside { IfErr result (λ fault. fault.is_left ≡ true → R.may_leave place.new ≡ true) }
     ensures left { IfErr result (λ fault. fault.is_left ≡ true → RoseTwice (R.failures place.old) (R.failures place.new)) }
 {
     if let Err(error) = place.create(mode.is_some()) {

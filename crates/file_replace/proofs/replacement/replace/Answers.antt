@@ -5,7 +5,7 @@ use Rattle.file_replace.specs.declared.place.PlainFile.{PlainFile}
 use Rattle.file_replace.specs.Place.{Folder, MayLeave}
 use Rattle.file_replace.specs.OnPlace.{answered}
 use Rattle.file_replace.specs.Replacing.{HasAfter, IsNew, IsOldOrNew}
-use Rattle.file_replace.proofs.Along.{after_made, along_asked, or_new, removed, same_end, stable}
+use Rattle.file_replace.proofs.Along.{after_made, along_asked, failed_has, or_new, removed, same_end, stable}
 use Rattle.file_replace.proofs.replacement.replace.Goals as goal
 
 pub returns-in-Err-clause-replaces : goal.returns-in-Err-clause-replaces
@@ -93,3 +93,6 @@ returns-in-Err-put-clause-calls g c =
     let made = c.in_default.ensures.creates.0 ∙ ap (λ (p : Bool). answered (calls.Create p) true [] ∷ past) c.is_some.ensures in
     let steps = c.in-Err-put.ensures.calls past made in
     removed _ _ _ _ _ _ steps.0 c.is_err-is_left.ensures.negation steps.1 c.remove.ensures.removes.0
+
+pub returns-in-Err-put-clause-beside : goal.returns-in-Err-put-clause-beside
+returns-in-Err-put-clause-beside g c told = failed_has c.remove.result _ _ c.is_err-is_left.ensures.negation c.remove.ensures.left told
