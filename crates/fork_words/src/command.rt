@@ -41,211 +41,349 @@ Exit status:
   3  a file holds no resource fork, or a damaged one
   4  a file can't be read, or the output can't be written";
 
-/// The commands, in the order of the help. A line has a name; what the command does; and what its own help says, if
-/// that is more.
-const COMMANDS: &str =
-    "ls;Lists resources;Lists resources: a line for each, with its type, its id, how many bytes it has, its attributes, and its name in double quotes
-get;Writes the bytes of a resource;
-info;Tells what a file is;Tells what a file is: its container, its type and creator, how many bytes its forks have, and how many resources of each type there are
-check;Tells all faults of a fork;Tells all faults of a fork, each with its place, and what is odd about it though it can be read: data that overlap, and bytes that no resource has
-salvage;Shows what can still be read of a damaged fork;
-show;Shows what is in resources;Shows what is in resources: 'STR ', 'STR#', 'TEXT' and 'vers' as text, and others in hexadecimal digits; one 'ICON', 'ICN#', 'ics#', 'CURS' or 'SICN' as a PNG file
-unpack;Writes each resource to a file of its own;Writes each resource to a file DIR/TYPE/ID NAME.bin, and all else of the fork to DIR/resources.json. Nothing is overwritten
-put;Replaces the bytes of a resource, or adds one;Replaces the bytes of the resource of this type and id, or adds it at the end of its type. Name and attributes stay where none are given; a new resource has none
-rm;Removes resources;Removes the resources of a type with these ids. Where one isn't there, none is removed
-set;Changes a resource's id, type, name or attributes;
-cp;Copies resources from a file to another;Copies resources from a file to another. Where a type and an id are there already, nothing is copied, unless one of --replace, --skip and --renumber is given
-diff;Compares the resources of two files;Compares the resources of two files by type and id: - for one that only the first has, + for one that only the second has, ~ for one that differs, with what differs. The status is 1 where they differ
-pack;Writes a fork of what unpack wrote;Writes a fork of the files in a folder, of which DIR/resources.json says what they are. unpack writes both
-derez;Writes resources as a text that rez reads;
-rez;Writes a fork of a text that derez wrote;
-convert;Writes a file in another container;Writes a file in another container. What this can't hold is named, and the file isn't written, unless --lossy leaves it out";
+/// A command: its name, what it does, and what its own help says, if that is more.
+#[derive(Clone, Copy)]
+struct CommandText {
+    name: &'static str,
+    about: &'static str,
+    long_about: Option<&'static str>,
+}
 
-/// The words of the commands, options and then operands in their order. A line has the commands of a word; its name;
-/// its letter and its long form, if it is an option; what the help calls its value, if it has one; its marks; a word
-/// beside which it can't be; and its help. The marks: a `required` word; a value `each` time that it is there, or
-/// `many` values; values that may be negative `numbers`, or begin with `-`.
-const WORDS: &str =
-    "ls unpack derez;type;t;type;TYPE;each;;Only resources of this type, as ls shows it (STR is 'STR '); it may be given several times
-ls;types;;types;;;;Lists types: a line for each, with how many resources it has
-salvage;list;;list;;;output;Lists what can be read, and why the rest can't be; so it does without -o
-ls salvage;raw;;raw;;;;Shows letters that aren't ASCII as \\xHH, and not as the characters that they are in MacRoman
-ls info check;json;;json;;;;One line of JSON for each file
-diff;json;;json;;;;What differs as a line of JSON
-ls;data;;data;FORM;;;With --json: the bytes of each resource too, as base64
-show;as;;as;FORM;;;text, hex or png, in place of what suits the type
-get;nth;;nth;N;;;Of several such resources the N-th, counted from 1
-put;input;i;input;IN;;;The file with the resource's bytes, in place of the standard input
-set;id;;id;N;numbers;;Its new id
-set;type;;type;T;;;Its new type; it goes to the end of that type
-put;name;;name;N;;;The resource's name, as ls shows it
-set;name;;name;N;;;Its new name, as ls shows it
-set;no-name;;no-name;;;name;It has no name any more
-put set;attrs;;attrs;A;-;;Its attributes: words of ls with commas between them, - for none, or +purgeable,-locked to change some
-put;new;;new;;;;Refuses a type and an id that are there
-put;create;;create;;;;Makes a new raw fork where there is no FILE
-cp;replace;;replace;;;renumber;Takes the place of a resource that is there
-cp;skip;;skip;;;replace;Leaves out a resource that is there
-cp;renumber;;renumber;;;skip;Gives a resource whose id is taken the lowest id from 128 on that is free
-pack;like;;like;FILE;;;Puts the fork in a file like this one, in its container
-get;output;o;output;OUT;;;The file that the bytes are written to, in place of the standard output
-salvage;output;o;output;OUT;;;The file that a fork with all resources that can be read is written to
-show;output;o;output;OUT;;;The file that is written, in place of the standard output
-put rm set cp;output;o;output;OUT;;;The file that is written, in place of the one that is read
-rez;output;o;output;OUT;required;;The file that is written
-put rm set cp;backup;;backup;;;output;Keeps the old file as FILE~
-convert;to;;to;KIND;required;;The container: raw, appledouble, applesingle, macbinary or binhex
-convert;data;;data;FILE;;;The data fork, where it is a file of its own: read for an IN that is a fork alone or AppleDouble, and written for such an OUT
-convert;name;;name;N;;;The file's name, as ls shows names; else its own, or that of IN where OUT needs one
-convert;lossy;;lossy;;;;Leaves out what the container can't hold, and names it
-put rm set cp pack rez convert;dry;n;dry-run;;;;Says what would be done, and writes nothing
-put rm set cp pack rez convert;quiet;q;quiet;;;;Doesn't say what was done
-ls info check;file;;;FILE;required many;;The files; - is the standard input
-get salvage show unpack put rm set derez rez;file;;;FILE;required;;The file; - is the standard input
-get put rm;type;;;TYPE;required;;The resource's type, as ls shows it (STR is 'STR ')
-show;type;;;TYPE;;;Only resources of this type, as ls shows it (STR is 'STR ')
-get;key;;;ID|NAME;required numbers;;Its id, or its name; a name that is a number has double quotes
-show;key;;;ID|NAME;numbers;;Only the one with this id, or this name
-put;id;;;ID;required numbers;;The resource's id, from -32768 to 32767
-rm;id;;;ID;required many numbers;;The ids of the resources, from -32768 to 32767
-set;old-type;;;TYPE;required;;The resource's type, as ls shows it (STR is 'STR ')
-set;old-id;;;ID;required numbers;;The resource's id, from -32768 to 32767
-unpack;folder;;;DIR;required;;The folder: a new one, or an empty one
-pack;folder;;;DIR;required;;The folder
-pack;output;;;OUT;required;;The file that is written
-cp;from;;;FROM;required;;The file that resources are copied from
-cp;words;;;TYPE[:ID]|TO;required many;;Which resources, else all; and last the file that they are copied to
-convert;file;;;IN;required;;The file that is read; - is the standard input
-convert;output;;;OUT;required;;The file that is written
-diff;a;;;A;required;;The first file
-diff;b;;;B;required;;The second file";
+/// How a word is written: an operand, or an option with its long form and perhaps a letter.
+#[derive(Clone, Copy)]
+enum Form {
+    Operand,
+    Long(&'static str),
+    Short(char, &'static str),
+}
+
+/// Which values a word has, and what the help calls one.
+#[derive(Clone, Copy)]
+enum Values {
+    /// None.
+    Flag,
+    One(&'static str),
+    /// One each time that the option is there.
+    Each(&'static str),
+    Many(&'static str),
+}
+
+/// Which values may begin with -.
+#[derive(Clone, Copy)]
+enum Dashes {
+    Never,
+    Numbers,
+    Always,
+}
 
 /// A word of commands.
 #[derive(Clone, Copy)]
-struct Word<'a> {
-    name: &'a str,
-    short: &'a str,
-    long: &'a str,
-    value: &'a str,
-    marks: &'a str,
-    rival: &'a str,
-    help: &'a str,
+struct Word {
+    commands: &'static [&'static str],
+    name: &'static str,
+    form: Form,
+    values: Values,
+    dashes: Dashes,
+    is_required: bool,
+    /// A word beside which it can't be.
+    rival: Option<&'static str>,
+    help: &'static str,
 }
 
-/// Whether a word is in a text that has blanks between words.
-fn has(text: &str, word: &str) -> bool {
-    text.split(" ").any(|other| other == word)
+/// The commands, in the order of the help.
+const COMMANDS: &[CommandText] = &[
+    CommandText {
+        name: "ls",
+        about: "Lists resources",
+        long_about: Some(
+            "Lists resources: a line for each, with its type, its id, how many bytes it has, its attributes, and its name in double quotes",
+        ),
+    },
+    CommandText {
+        name: "get",
+        about: "Writes the bytes of a resource",
+        long_about: None,
+    },
+    CommandText {
+        name: "info",
+        about: "Tells what a file is",
+        long_about: Some(
+            "Tells what a file is: its container, its type and creator, how many bytes its forks have, and how many resources of each type there are",
+        ),
+    },
+    CommandText {
+        name: "check",
+        about: "Tells all faults of a fork",
+        long_about: Some(
+            "Tells all faults of a fork, each with its place, and what is odd about it though it can be read: data that overlap, and bytes that no resource has",
+        ),
+    },
+    CommandText {
+        name: "salvage",
+        about: "Shows what can still be read of a damaged fork",
+        long_about: None,
+    },
+    CommandText {
+        name: "show",
+        about: "Shows what is in resources",
+        long_about: Some(
+            "Shows what is in resources: 'STR ', 'STR#', 'TEXT' and 'vers' as text, and others in hexadecimal digits; one 'ICON', 'ICN#', 'ics#', 'CURS' or 'SICN' as a PNG file",
+        ),
+    },
+    CommandText {
+        name: "unpack",
+        about: "Writes each resource to a file of its own",
+        long_about: Some(
+            "Writes each resource to a file DIR/TYPE/ID NAME.bin, and all else of the fork to DIR/resources.json. Nothing is overwritten",
+        ),
+    },
+    CommandText {
+        name: "put",
+        about: "Replaces the bytes of a resource, or adds one",
+        long_about: Some(
+            "Replaces the bytes of the resource of this type and id, or adds it at the end of its type. Name and attributes stay where none are given; a new resource has none",
+        ),
+    },
+    CommandText {
+        name: "rm",
+        about: "Removes resources",
+        long_about: Some(
+            "Removes the resources of a type with these ids. Where one isn't there, none is removed",
+        ),
+    },
+    CommandText {
+        name: "set",
+        about: "Changes a resource's id, type, name or attributes",
+        long_about: None,
+    },
+    CommandText {
+        name: "cp",
+        about: "Copies resources from a file to another",
+        long_about: Some(
+            "Copies resources from a file to another. Where a type and an id are there already, nothing is copied, unless one of --replace, --skip and --renumber is given",
+        ),
+    },
+    CommandText {
+        name: "diff",
+        about: "Compares the resources of two files",
+        long_about: Some(
+            "Compares the resources of two files by type and id: - for one that only the first has, + for one that only the second has, ~ for one that differs, with what differs. The status is 1 where they differ",
+        ),
+    },
+    CommandText {
+        name: "pack",
+        about: "Writes a fork of what unpack wrote",
+        long_about: Some(
+            "Writes a fork of the files in a folder, of which DIR/resources.json says what they are. unpack writes both",
+        ),
+    },
+    CommandText {
+        name: "derez",
+        about: "Writes resources as a text that rez reads",
+        long_about: None,
+    },
+    CommandText {
+        name: "rez",
+        about: "Writes a fork of a text that derez wrote",
+        long_about: None,
+    },
+    CommandText {
+        name: "convert",
+        about: "Writes a file in another container",
+        long_about: Some(
+            "Writes a file in another container. What this can't hold is named, and the file isn't written, unless --lossy leaves it out",
+        ),
+    },
+];
+
+/// A word: its commands, its name, its form, its values, and what else there is to it; then its help.
+macro_rules! word {
+    ($($command:literal)+, $name:literal, $form:expr, $values:expr $(, $field:ident: $value:expr)*; $help:literal) => {
+        Word {
+            $($field: $value,)*
+            ..Word {
+                commands: &[$($command),+],
+                name: $name,
+                form: $form,
+                values: $values,
+                dashes: Dashes::Never,
+                is_required: false,
+                rival: None,
+                help: $help,
+            }
+        }
+    };
 }
 
-/// The nth of so many fields of a line.
-fn field(line: &str, count: usize, n: usize) -> &str {
-    line.splitn(count, ";").nth(n).unwrap_or("")
-}
+/// The words of the commands, options and then operands in their order.
+const WORDS: &[Word] = &[
+    word!("ls" "unpack" "derez", "type", Form::Short('t', "type"), Values::Each("TYPE");
+        "Only resources of this type, as ls shows it (STR is 'STR '); it may be given several times"),
+    word!("ls", "types", Form::Long("types"), Values::Flag;
+        "Lists types: a line for each, with how many resources it has"),
+    word!("salvage", "list", Form::Long("list"), Values::Flag, rival: Some("output");
+        "Lists what can be read, and why the rest can't be; so it does without -o"),
+    word!("ls" "salvage", "raw", Form::Long("raw"), Values::Flag;
+        "Shows letters that aren't ASCII as \\xHH, and not as the characters that they are in MacRoman"),
+    word!("ls" "info" "check", "json", Form::Long("json"), Values::Flag;
+        "One line of JSON for each file"),
+    word!("diff", "json", Form::Long("json"), Values::Flag;
+        "What differs as a line of JSON"),
+    word!("ls", "data", Form::Long("data"), Values::One("FORM");
+        "With --json: the bytes of each resource too, as base64"),
+    word!("show", "as", Form::Long("as"), Values::One("FORM");
+        "text, hex or png, in place of what suits the type"),
+    word!("get", "nth", Form::Long("nth"), Values::One("N");
+        "Of several such resources the N-th, counted from 1"),
+    word!("put", "input", Form::Short('i', "input"), Values::One("IN");
+        "The file with the resource's bytes, in place of the standard input"),
+    word!("set", "id", Form::Long("id"), Values::One("N"), dashes: Dashes::Numbers;
+        "Its new id"),
+    word!("set", "type", Form::Long("type"), Values::One("T");
+        "Its new type; it goes to the end of that type"),
+    word!("put", "name", Form::Long("name"), Values::One("N");
+        "The resource's name, as ls shows it"),
+    word!("set", "name", Form::Long("name"), Values::One("N");
+        "Its new name, as ls shows it"),
+    word!("set", "no-name", Form::Long("no-name"), Values::Flag, rival: Some("name");
+        "It has no name any more"),
+    word!("put" "set", "attrs", Form::Long("attrs"), Values::One("A"), dashes: Dashes::Always;
+        "Its attributes: words of ls with commas between them, - for none, or +purgeable,-locked to change some"),
+    word!("put", "new", Form::Long("new"), Values::Flag;
+        "Refuses a type and an id that are there"),
+    word!("put", "create", Form::Long("create"), Values::Flag;
+        "Makes a new raw fork where there is no FILE"),
+    word!("cp", "replace", Form::Long("replace"), Values::Flag, rival: Some("renumber");
+        "Takes the place of a resource that is there"),
+    word!("cp", "skip", Form::Long("skip"), Values::Flag, rival: Some("replace");
+        "Leaves out a resource that is there"),
+    word!("cp", "renumber", Form::Long("renumber"), Values::Flag, rival: Some("skip");
+        "Gives a resource whose id is taken the lowest id from 128 on that is free"),
+    word!("pack", "like", Form::Long("like"), Values::One("FILE");
+        "Puts the fork in a file like this one, in its container"),
+    word!("get", "output", Form::Short('o', "output"), Values::One("OUT");
+        "The file that the bytes are written to, in place of the standard output"),
+    word!("salvage", "output", Form::Short('o', "output"), Values::One("OUT");
+        "The file that a fork with all resources that can be read is written to"),
+    word!("show", "output", Form::Short('o', "output"), Values::One("OUT");
+        "The file that is written, in place of the standard output"),
+    word!("put" "rm" "set" "cp", "output", Form::Short('o', "output"), Values::One("OUT");
+        "The file that is written, in place of the one that is read"),
+    word!("rez", "output", Form::Short('o', "output"), Values::One("OUT"), is_required: true;
+        "The file that is written"),
+    word!("put" "rm" "set" "cp", "backup", Form::Long("backup"), Values::Flag, rival: Some("output");
+        "Keeps the old file as FILE~"),
+    word!("convert", "to", Form::Long("to"), Values::One("KIND"), is_required: true;
+        "The container: raw, appledouble, applesingle, macbinary or binhex"),
+    word!("convert", "data", Form::Long("data"), Values::One("FILE");
+        "The data fork, where it is a file of its own: read for an IN that is a fork alone or AppleDouble, and written for such an OUT"),
+    word!("convert", "name", Form::Long("name"), Values::One("N");
+        "The file's name, as ls shows names; else its own, or that of IN where OUT needs one"),
+    word!("convert", "lossy", Form::Long("lossy"), Values::Flag;
+        "Leaves out what the container can't hold, and names it"),
+    word!("put" "rm" "set" "cp" "pack" "rez" "convert", "dry", Form::Short('n', "dry-run"), Values::Flag;
+        "Says what would be done, and writes nothing"),
+    word!("put" "rm" "set" "cp" "pack" "rez" "convert", "quiet", Form::Short('q', "quiet"), Values::Flag;
+        "Doesn't say what was done"),
+    word!("ls" "info" "check", "file", Form::Operand, Values::Many("FILE"), is_required: true;
+        "The files; - is the standard input"),
+    word!("get" "salvage" "show" "unpack" "put" "rm" "set" "derez" "rez", "file", Form::Operand, Values::One("FILE"), is_required: true;
+        "The file; - is the standard input"),
+    word!("get" "put" "rm", "type", Form::Operand, Values::One("TYPE"), is_required: true;
+        "The resource's type, as ls shows it (STR is 'STR ')"),
+    word!("show", "type", Form::Operand, Values::One("TYPE");
+        "Only resources of this type, as ls shows it (STR is 'STR ')"),
+    word!("get", "key", Form::Operand, Values::One("ID|NAME"), is_required: true, dashes: Dashes::Numbers;
+        "Its id, or its name; a name that is a number has double quotes"),
+    word!("show", "key", Form::Operand, Values::One("ID|NAME"), dashes: Dashes::Numbers;
+        "Only the one with this id, or this name"),
+    word!("put", "id", Form::Operand, Values::One("ID"), is_required: true, dashes: Dashes::Numbers;
+        "The resource's id, from -32768 to 32767"),
+    word!("rm", "id", Form::Operand, Values::Many("ID"), is_required: true, dashes: Dashes::Numbers;
+        "The ids of the resources, from -32768 to 32767"),
+    word!("set", "old-type", Form::Operand, Values::One("TYPE"), is_required: true;
+        "The resource's type, as ls shows it (STR is 'STR ')"),
+    word!("set", "old-id", Form::Operand, Values::One("ID"), is_required: true, dashes: Dashes::Numbers;
+        "The resource's id, from -32768 to 32767"),
+    word!("unpack", "folder", Form::Operand, Values::One("DIR"), is_required: true;
+        "The folder: a new one, or an empty one"),
+    word!("pack", "folder", Form::Operand, Values::One("DIR"), is_required: true;
+        "The folder"),
+    word!("pack", "output", Form::Operand, Values::One("OUT"), is_required: true;
+        "The file that is written"),
+    word!("cp", "from", Form::Operand, Values::One("FROM"), is_required: true;
+        "The file that resources are copied from"),
+    word!("cp", "words", Form::Operand, Values::Many("TYPE[:ID]|TO"), is_required: true;
+        "Which resources, else all; and last the file that they are copied to"),
+    word!("convert", "file", Form::Operand, Values::One("IN"), is_required: true;
+        "The file that is read; - is the standard input"),
+    word!("convert", "output", Form::Operand, Values::One("OUT"), is_required: true;
+        "The file that is written"),
+    word!("diff", "a", Form::Operand, Values::One("A"), is_required: true;
+        "The first file"),
+    word!("diff", "b", Form::Operand, Values::One("B"), is_required: true;
+        "The second file"),
+];
 
-/// The word of a line.
-fn word_of(line: &str) -> Word<'_> {
-    Word {
-        name: field(line, 8, 1),
-        short: field(line, 8, 2),
-        long: field(line, 8, 3),
-        value: field(line, 8, 4),
-        marks: field(line, 8, 5),
-        rival: field(line, 8, 6),
-        help: field(line, 8, 7),
-    }
-}
-
-/// The forms of an option, where it is one.
-fn with_forms<'a>(arg: Arg<'a>, word: &Word<'a>) -> Arg<'a> {
-    if word.long.is_empty() {
-        return arg;
-    }
-    let arg = arg.long(word.long);
-    match word.short.chars().next() {
-        Some(short) => arg.short(short),
-        None => arg,
+/// The forms of an option.
+fn with_form<'a>(arg: Arg<'a>, form: Form) -> Arg<'a> {
+    match form {
+        Form::Operand => arg,
+        Form::Long(long) => arg.long(long),
+        Form::Short(short, long) => arg.long(long).short(short),
     }
 }
 
 /// The values of a word, where it has some.
-fn with_values<'a>(arg: Arg<'a>, word: &Word<'a>) -> Arg<'a> {
-    if word.value.is_empty() {
-        return arg.action(ArgAction::SetTrue);
-    }
-    let arg = arg.value_name(word.value);
-    if has(word.marks, "many") {
-        arg.num_args(1..).action(ArgAction::Append)
-    } else if has(word.marks, "each") {
-        arg.action(ArgAction::Append)
-    } else {
-        arg.action(ArgAction::Set)
+fn with_values<'a>(arg: Arg<'a>, values: Values) -> Arg<'a> {
+    match values {
+        Values::Flag => arg.action(ArgAction::SetTrue),
+        Values::One(name) => arg.value_name(name).action(ArgAction::Set),
+        Values::Each(name) => arg.value_name(name).action(ArgAction::Append),
+        Values::Many(name) => arg.value_name(name).num_args(1..).action(ArgAction::Append),
     }
 }
 
-/// Whether values may begin with -.
-fn with_dash<'a>(arg: Arg<'a>, marks: &str) -> Arg<'a> {
-    if has(marks, "numbers") {
-        arg.allow_negative_numbers(true)
-    } else if has(marks, "-") {
-        arg.allow_hyphen_values(true)
-    } else {
-        arg
+/// Which values may begin with -.
+fn with_dashes<'a>(arg: Arg<'a>, dashes: Dashes) -> Arg<'a> {
+    match dashes {
+        Dashes::Never => arg,
+        Dashes::Numbers => arg.allow_negative_numbers(true),
+        Dashes::Always => arg.allow_hyphen_values(true),
     }
 }
 
 /// A word, as clap takes it.
-fn arg_of<'a>(alloc: Global, word: &Word<'a>) -> Result<Arg<'a>, AllocError> {
+fn arg_of<'a>(alloc: Global, word: &Word) -> Result<Arg<'a>, AllocError> {
     let arg = Arg::new(alloc, word.name)
-        .required(has(word.marks, "required"))
+        .required(word.is_required)
         .help(word.help);
-    let arg = with_dash(with_values(with_forms(arg, word), word), word.marks);
-    if word.rival.is_empty() {
-        Ok(arg)
-    } else {
-        arg.conflicts_with(word.rival)
+    let arg = with_form(arg, word.form);
+    let arg = with_dashes(with_values(arg, word.values), word.dashes);
+    match word.rival {
+        Some(rival) => arg.conflicts_with(rival),
+        None => Ok(arg),
     }
 }
 
-/// The command of a line, without words.
-fn bare_command<'a>(alloc: Global, line: &'a str) -> Command<'a> {
-    let command = Command::new(alloc, field(line, 3, 0)).about(field(line, 3, 1));
-    let long = field(line, 3, 2);
-    if long.is_empty() {
-        command
-    } else {
-        command.long_about(long)
+/// A command, without words.
+fn bare_command<'a>(alloc: Global, text: &CommandText) -> Command<'a> {
+    let command = Command::new(alloc, text.name).about(text.about);
+    match text.long_about {
+        Some(long) => command.long_about(long),
+        None => command,
     }
 }
 
-/// A command with the word of a line, where it is one of its words.
-fn with_word<'a>(
-    alloc: Global,
-    command: Command<'a>,
-    name: &str,
-    line: &'a str,
-) -> Result<Command<'a>, AllocError> {
-    if !has(field(line, 8, 0), name) {
-        return Ok(command);
-    }
-    command.arg(arg_of(alloc, &word_of(line))?)
-}
-
-/// The command of a line.
-fn command_of<'a>(alloc: Global, line: &'a str) -> Result<Command<'a>, AllocError> {
-    let mut command = bare_command(alloc, line);
-    for word in WORDS.lines() {
-        command = with_word(alloc, command, field(line, 3, 0), word)?;
+/// A command, with its words.
+fn command_of<'a>(alloc: Global, text: &CommandText) -> Result<Command<'a>, AllocError> {
+    let mut command = bare_command(alloc, text);
+    for word in WORDS {
+        if word.commands.contains(&text.name) {
+            command = command.arg(arg_of(alloc, word)?)?;
+        }
     }
     Ok(command)
-}
-
-/// The program with the command of a line.
-fn with_command<'a>(
-    alloc: Global,
-    program: Command<'a>,
-    line: &'a str,
-) -> Result<Command<'a>, AllocError> {
-    program.subcommand(command_of(alloc, line)?)
 }
 
 /// The program, without commands.
@@ -264,8 +402,8 @@ fn bare_program<'a>(alloc: Global) -> Result<Command<'a>, AllocError> {
 /// The program, with its commands.
 pub(crate) fn program<'a>(alloc: Global) -> Result<Command<'a>, AllocError> {
     let mut program = bare_program(alloc)?;
-    for line in COMMANDS.lines() {
-        program = with_command(alloc, program, line)?;
+    for text in COMMANDS {
+        program = program.subcommand(command_of(alloc, text)?)?;
     }
     Ok(program)
 }
