@@ -19,7 +19,7 @@ use fork_view::{Chosen, ShowAs, Unpacking, View};
 use mac_base::resource::ResType;
 use std::alloc::{AllocError, Global};
 use std::convert::AsStr;
-use std::fmt;
+use thiserror::Error;
 
 /// Something to be shown of each of these files, on the standard output or in a file of this name.
 #[derive(Drop)]
@@ -74,25 +74,18 @@ pub enum Asked<'a> {
     Tell(clap::Error),
 }
 
-/// Why the words ask for nothing.
-#[derive(Drop)]
+/// Why the words ask for nothing. What it shows are whole lines.
+#[derive(Debug, Drop, Error)]
 pub enum NotAsked {
     /// A word is no option, or an operand is missing.
+    #[error("{0}")]
     Words(clap::Error),
     /// A word isn't what it has to be.
+    #[error("error: {0}\n")]
     Fault(Fault),
     /// The host has no memory for the words.
+    #[error("error: the host has no memory\n")]
     HostFull,
-}
-
-impl fmt::Display for NotAsked {
-    fn fmt<W: fmt::Write>(&self, f: &mut fmt::Formatter<W>) -> fmt::Result {
-        match self {
-            NotAsked::Words(error) => write!(f, "{error}"),
-            NotAsked::Fault(fault) => writeln!(f, "error: {text}", text = fault.text()),
-            NotAsked::HostFull => writeln!(f, "error: the host has no memory"),
-        }
-    }
 }
 
 impl From<AllocError> for NotAsked {
