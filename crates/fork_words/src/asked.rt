@@ -293,10 +293,7 @@ fn asked_to_view<'a>(alloc: Global, matches: &ArgMatches<'a>) -> Result<Asked<'a
     ensures fit { IfOk result IsFit }
     ensures fault { IfErr result IsFault }
 {
-    let form = match matches.get_str("as") {
-        Some(word) => Some(shown_as(word)?),
-        None => None,
-    };
+    let form = matches.get_str("as").map(shown_as).transpose()?;
     let chosen = chosen_by(alloc, matches)?;
     Ok(Asked::View(Viewing {
         view: View { chosen, form },

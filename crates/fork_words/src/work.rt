@@ -490,10 +490,10 @@ fn convert<'a>(alloc: Global, matches: &ArgMatches<'a>) -> Result<Work<'a>, NotA
     ensures once { IfOk result ReadsOnce }
     ensures fault { IfErr result IsFault }
 {
-    let name = match matches.get_str("name") {
-        Some(word) => Some(name_named(alloc, word)?),
-        None => None,
-    };
+    let name = matches
+        .get_str("name")
+        .map(|word| name_named(alloc, word))
+        .transpose()?;
     let data = matches.get_str("data");
     let file = word(matches, "file");
     if file == INPUT && data == Some(INPUT) {
