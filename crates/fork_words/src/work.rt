@@ -1,6 +1,6 @@
 //! The words of the commands that change files, and of those that compare them.
 
-ghost use Rattle.std.specs.Prelude.{◌≡◌, IfErr, IfOk};
+ghost use Rattle.std.specs.Prelude.{◌≡◌, IfErr, IfOk, IfSome};
 ghost use Rattle.fork_words.specs.Asks.{IsFault};
 ghost use Rattle.fork_words.specs.Inputs.{GoesElsewhere, IsInput, ReadsOnce};
 
@@ -185,21 +185,21 @@ fn pack<'a>(matches: &ArgMatches<'a>) -> Work<'a>
 const KIND_LENGTH: usize = 4;
 
 /// Where a changed file goes, where it is one that can be changed: what is read from the standard input is written
-/// elsewhere.
+/// elsewhere, and no other file is read from it.
 fn changed_target<'a>(
     matches: &ArgMatches<'a>,
     file: &'a str,
-    other: &str,
+    other: Option<&str>,
 ) -> Result<Target<'a>, Fault>
     ensures file { IfOk result (λ target. target.file ≡ file.entry) }
     ensures elsewhere { IfOk result GoesElsewhere }
-    ensures once { IfOk result (λ _. IsInput file.now → ¬ IsInput other.now) }
+    ensures once { IfOk result (λ _. IsInput file.now → IfSome other.entry (λ name. ¬ IsInput name.now)) }
 {
     let target = target_of(matches, file);
     if file != INPUT {
         return Ok(target);
     }
-    if other == INPUT {
+    if other == Some(INPUT) {
         return Err(Fault::TwoInputs);
     }
     if target.output.is_none() && !target.is_dry {
@@ -331,7 +331,7 @@ fn put<'a>(alloc: Global, matches: &ArgMatches<'a>) -> Result<Work<'a>, NotAsked
     let name = name_change(alloc, matches)?;
     let attributes = attribute_change(matches)?;
     let input = matches.get_str("input");
-    let target = changed_target(matches, word(matches, "file"), input.unwrap_or(INPUT))?;
+    let target = changed_target(matches, word(matches, "file"), Some(input.unwrap_or(INPUT)))?;
     Ok(Work::Put(Putting {
         change: Change {
             to,
@@ -370,7 +370,7 @@ fn remove<'a>(alloc: Global, matches: &ArgMatches<'a>) -> Result<Work<'a>, NotAs
 {
     let kind = kind_named(alloc, word(matches, "type"))?;
     let whats = resources_named(alloc, kind, matches.get_strs("id").unwrap_or(&[]))?;
-    let target = changed_target(matches, word(matches, "file"), "")?;
+    let target = changed_target(matches, word(matches, "file"), None)?;
     Ok(Work::Remove(Removing { whats, target }))
 }
 
@@ -387,7 +387,7 @@ fn set<'a>(alloc: Global, matches: &ArgMatches<'a>) -> Result<Work<'a>, NotAsked
     let name = name_change(alloc, matches)?;
     let what = resource_named(alloc, old_kind, old_id)?;
     let attributes = attribute_change(matches)?;
-    let target = changed_target(matches, word(matches, "file"), "")?;
+    let target = changed_target(matches, word(matches, "file"), None)?;
     Ok(Work::Set(Setting {
         what,
         change: Change {
@@ -451,7 +451,7 @@ fn copy<'a>(alloc: Global, matches: &ArgMatches<'a>) -> Result<Work<'a>, NotAske
     };
     let chosen = choices_named(alloc, words)?;
     let from = word(matches, "from");
-    let target = changed_target(matches, file, from)?;
+    let target = changed_target(matches, file, Some(from))?;
     Ok(Work::Copy(Copying {
         from,
         chosen,
