@@ -255,71 +255,83 @@ fn name_change(alloc: Global, matches: &ArgMatches<'_>) -> Result<NameChange, No
     }
 }
 
-/// The bit of an attribute, by its word in a list of resources.
-fn bit_named(word: &str) -> Option<u8> {
+/// The attribute of a word, as a list of resources shows it.
+fn attribute_named(word: &str) -> Option<ResAttrs> {
     match word {
-        "bit7" => Some(128),
-        "sysHeap" => Some(64),
-        "purgeable" => Some(32),
-        "locked" => Some(16),
-        "protected" => Some(8),
-        "preload" => Some(4),
-        "changed" => Some(2),
-        "bit0" => Some(1),
+        "bit7" => Some(ResAttrs::from_bits_retain(1 << 7)),
+        "sysHeap" => Some(ResAttrs::SYS_HEAP),
+        "purgeable" => Some(ResAttrs::PURGEABLE),
+        "locked" => Some(ResAttrs::LOCKED),
+        "protected" => Some(ResAttrs::PROTECTED),
+        "preload" => Some(ResAttrs::PRELOAD),
+        "changed" => Some(ResAttrs::CHANGED),
+        "bit0" => Some(ResAttrs::from_bits_retain(1)),
         _ => None,
     }
 }
 
-/// Bits that are taken away, and bits that are then added.
-#[derive(Clone, Copy)]
-struct Bits {
-    take: u8,
-    add: u8,
+/// The change of no attribute.
+fn no_change() -> AttributeChange {
+    AttributeChange {
+        take: ResAttrs::empty(),
+        add: ResAttrs::empty(),
+    }
 }
 
-/// The bits after one more word, which has a sign: `+WORD` sets one, and `-WORD` clears it.
-fn with_word(bits: Bits, word: &str) -> Option<Bits> {
+/// The change after one more word, which has a sign: `+WORD` sets an attribute, and `-WORD` clears it.
+fn with_signed(change: AttributeChange, word: &str) -> Option<AttributeChange> {
+    let mut change = change;
     if let Some(word) = word.strip_prefix("+") {
-        let bit = bit_named(word)?;
-        return Some(Bits {
-            take: bits.take | bit,
-            add: bits.add | bit,
-        });
+        let attribute = attribute_named(word)?;
+        change.take.insert(attribute);
+        change.add.insert(attribute);
+    } else {
+        let attribute = attribute_named(word.strip_prefix("-")?)?;
+        change.take.insert(attribute);
+        change.add.remove(attribute);
     }
-    let bit = bit_named(word.strip_prefix("-")?)?;
-    Some(Bits {
-        take: bits.take | bit,
-        add: bits.add & !bit,
-    })
+    Some(change)
 }
 
-/// The attributes that words name, with commas between them: all, or a change of some, where each word has a sign.
-fn bits_named(words: &str) -> Option<Bits> {
-    if words.starts_with("+") || words.starts_with("-") {
-        let mut bits = Bits { take: 0, add: 0 };
-        for word in words.split(",") {
-            bits = with_word(bits, word)?;
-        }
-        return Some(bits);
-    }
-    let mut add = 0;
+/// The change of the attributes that words with signs and commas between them name; the others stay.
+fn signed_change(words: &str) -> Option<AttributeChange> {
+    let mut change = no_change();
     for word in words.split(",") {
-        add |= bit_named(word)?;
+        change = with_signed(change, word)?;
     }
-    Some(Bits { take: 255, add })
+    Some(change)
+}
+
+/// The attributes that words with commas between them name.
+fn attributes_named(words: &str) -> Option<ResAttrs> {
+    let mut attributes = ResAttrs::empty();
+    for word in words.split(",") {
+        attributes.insert(attribute_named(word)?);
+    }
+    Some(attributes)
+}
+
+/// The change of attributes that words name: of all, or of some, where each word has a sign.
+fn change_named(words: &str) -> Option<AttributeChange> {
+    if words.starts_with("+") || words.starts_with("-") {
+        return signed_change(words);
+    }
+    Some(AttributeChange {
+        take: ResAttrs::from_bits_retain(u8::MAX),
+        add: attributes_named(words)?,
+    })
 }
 
 /// What becomes of a resource's attributes.
 fn attribute_change(matches: &ArgMatches<'_>) -> Result<AttributeChange, Fault> {
-    let bits = match matches.get_str("attrs") {
-        None => Bits { take: 0, add: 0 },
-        Some("-") => Bits { take: 255, add: 0 },
-        Some(words) => bits_named(words).ok_or(Fault::NoAttributes)?,
-    };
-    Ok(AttributeChange {
-        take: ResAttrs::from_bits_retain(bits.take),
-        add: ResAttrs::from_bits_retain(bits.add),
-    })
+    match matches.get_str("attrs") {
+        None => Ok(no_change()),
+        Some("-") => Ok(AttributeChange {
+            take: ResAttrs::from_bits_retain(u8::MAX),
+            add: ResAttrs::empty(),
+        }),
+        Some(words) => change_named(words).ok_or(Fault::NoAttributes),
+    }
 }
 
 /// What `put` asks for.
