@@ -20,9 +20,9 @@ use mac_base::error::HostFull;
 use mac_base::resource::ResType;
 use mac_files::archive::Archive;
 use std::alloc::{AllocError, Global};
-use std::fmt::Display;
+use std::io;
 use std::io::ErrorKind;
-use std::{fmt, io};
+use thiserror::Error;
 
 /// The exit status where all was done.
 pub const DONE: u8 = 0;
@@ -40,76 +40,86 @@ pub const NO_FORK: u8 = 3;
 pub const CANT_GO_ON: u8 = 4;
 
 /// Why a file isn't shown, or not all of it.
-#[derive(Drop)]
+#[derive(Debug, Drop, Error)]
 pub enum Problem {
     /// The file can't be read.
+    #[error("can't be read: {0}")]
     Read(io::Error),
     /// What it holds can't be shown.
-    Refused(Refusal),
+    #[error("{0}")]
+    Refused(#[from] Refusal),
     /// The file of this name isn't written.
+    #[error("{error}")]
     Output { path: String, error: NotReplaced },
     /// It is changed, but the standard output takes no more.
+    #[error("it is changed, but what changed can't be shown: {0}")]
     Said(io::Error),
     /// No resource that is to be copied has this type.
+    #[error("there is no such resource")]
     NoKind(ResType),
     /// Two resources that are copied have one type and id.
+    #[error("two of these resources have one type and id: copy them one by one, by get and put")]
     Twice,
     /// A file that is there has more than a resource fork.
+    #[error("it is there, and is more than a resource fork, which would be lost: name another file")]
     Container(String),
     /// The standard output takes no more.
+    #[error("the output can't be written: {0}")]
     Print(io::Error),
     /// Its resources can't be shown so.
+    #[error("{0}")]
     View(NotShown),
     /// Not all of its resources are written to a folder.
+    #[error("{0}")]
     Unpack(NotUnpacked),
     /// A file isn't replaced.
-    Replace(NotReplaced),
+    #[error("{0}")]
+    Replace(#[from] NotReplaced),
     /// Its resources aren't changed.
+    #[error("{0}")]
     Edit(fork_change::Refusal),
     /// A file with these resources isn't written.
+    #[error("not written: {0}")]
     Write(NotWritten),
     /// A file that belongs to it can't be read.
+    #[error("{path} can't be read: {error}")]
     Unread { path: String, error: io::Error },
     /// A text says no resources.
+    #[error("{0}")]
     Rez(RezFault),
     /// A folder isn't one to which resources were unpacked.
+    #[error("{0}")]
     Pack(PackFault),
     /// A resource is apart from one before it of its type.
+    #[error("{0} is apart from the other resources of its type: put those of one type together")]
     Apart(String),
     /// A file of a folder is no text.
+    #[error("{0} is no UTF-8 text")]
     NoText(String),
     /// A container can't hold these things of the file.
+    #[error("{0} would be lost; --lossy leaves it out")]
     Lost(String),
     /// Its data fork would be lost.
+    #[error("its data fork would be lost; --data FILE writes it to a file of its own")]
     DataLost,
     /// `--data` names a file where none is read or written.
+    #[error("--data names a data fork in a file of its own, and there is none here")]
     NoDataFile,
     /// Two files that are written are one.
+    #[error("the data fork would take the place of the file that is written")]
     OneFile,
     /// The container can't hold it.
+    #[error("not written: {0}")]
     Convert(mac_write::refusal::Refusal),
     /// There is no such file.
+    #[error("there is no such file; --create makes a new one")]
     NoFile,
     /// The host has no memory.
+    #[error("the host has no memory")]
     HostFull,
     /// The standard output is a terminal.
+    #[error("the bytes of a resource aren't for a terminal: name a file with -o OUT, or pipe them on")]
     Terminal,
-}
-
-impl fmt::Display for Problem {
-    fn fmt<W: fmt::Write>(&self, f: &mut fmt::Formatter<W>) -> fmt::Result {
-        match self {
-            Problem::Refused(shown) => shown.fmt(f),
-            Problem::Output { error, .. } => error.fmt(f),
-            Problem::View(shown) => shown.fmt(f),
-            Problem::Unpack(shown) => shown.fmt(f),
-            Problem::Replace(shown) => shown.fmt(f),
-            Problem::Edit(shown) => shown.fmt(f),
-            Problem::Rez(shown) => shown.fmt(f),
-            Problem::Pack(shown) => shown.fmt(f),
-            problem => problem.fmt_words(f),
-        }
-    }
 }
 
 impl From<AllocError> for Problem {
@@ -129,18 +139,6 @@ impl From<HostFull> for Problem {
     }
 }
 
-impl From<NotReplaced> for Problem {
-    fn from(fault: NotReplaced) -> Problem {
-        Problem::Replace(fault)
-    }
-}
-
-impl From<Refusal> for Problem {
-    fn from(refusal: Refusal) -> Problem {
-        Problem::Refused(refusal)
-    }
-}
-
 /// The exit status that says so.
 fn status_of_refusal(refusal: &Refusal) -> u8
     ensures { result ≡ status_of (Problem.Refused refusal.now) }
@@ -153,55 +151,6 @@ fn status_of_refusal(refusal: &Refusal) -> u8
 }
 
 impl Problem {
-    /// What is said of a problem, or of its thing.
-    fn text(&self) -> &'static str {
-        match self {
-            Problem::Apart(_) =>
-                " is apart from the other resources of its type: put those of one type together",
-            Problem::NoText(_) => " is no UTF-8 text",
-            Problem::Lost(_) => " would be lost; --lossy leaves it out",
-            Problem::NoKind(_) => "there is no such resource",
-            Problem::Twice =>
-                "two of these resources have one type and id: copy them one by one, by get and put",
-            Problem::Container(_) =>
-                "it is there, and is more than a resource fork, which would be lost: name another file",
-            Problem::DataLost =>
-                "its data fork would be lost; --data FILE writes it to a file of its own",
-            Problem::NoDataFile =>
-                "--data names a data fork in a file of its own, and there is none here",
-            Problem::OneFile => "the data fork would take the place of the file that is written",
-            Problem::NoFile => "there is no such file; --create makes a new one",
-            Problem::HostFull => "the host has no memory",
-            Problem::Terminal =>
-                "the bytes of a resource aren't for a terminal: name a file with -o OUT, or pipe them on",
-            _ => "",
-        }
-    }
-
-    /// Writes what is said of a problem that is no other crate's.
-    fn fmt_words<W: fmt::Write>(&self, f: &mut fmt::Formatter<W>) -> fmt::Result {
-        match self {
-            Problem::Read(error) => write!(f, "can't be read: {error}"),
-            Problem::Said(error) => write!(
-                f,
-                "it is changed, but what changed can't be shown: {error}"
-            ),
-            Problem::Print(error) => write!(f, "the output can't be written: {error}"),
-            Problem::Write(fault) => write!(f, "not written: {fault}"),
-            Problem::Convert(fault) => write!(f, "not written: {fault}"),
-            Problem::Unread { path, error } => write!(f, "{path} can't be read: {error}"),
-            problem => write!(f, "{}{}", problem.thing(), problem.text()),
-        }
-    }
-
-    /// What a problem is said of, if it is no file.
-    fn thing(&self) -> &str {
-        match self {
-            Problem::Apart(thing) | Problem::NoText(thing) | Problem::Lost(thing) => thing.as_str(),
-            _ => "",
-        }
-    }
-
     /// Why this file isn't changed.
     pub fn of_change(alloc: Global, fault: NotChanged, file: &[u8]) -> Problem
         ensures { IsToldOfChange file.now fault result }
