@@ -4,7 +4,7 @@ ghost use Rattle.std.specs.Prelude.{◌≡◌, IfErr, IfOk, IfSome, Ok, true};
 ghost use Rattle.resfork.specs.Problems.{IsIdle, IsNotSaved};
 
 use crate::asked_change::Target;
-use crate::input::read_all;
+use crate::input::read_file;
 use crate::message::{DONE, Problem};
 use crate::{read, write_text};
 use file_replace::{Held, UnknownFolder, save};
@@ -61,11 +61,7 @@ fn change_in_place(
     ensures { IfOk result (λ status. status ≡ DONE) }
 {
     let mut held = Held::open::<UnknownPair>(rt, target.file)?;
-    // a byte more, for the read that finds the end
-    let expected = (held.file().metadata().map_err(Problem::Read)?.len() as usize).saturating_add(
-        1,
-    );
-    let old = read_all(rt.alloc(), held.file(), expected).map_err(Problem::Read)?;
+    let old = read_file(rt.alloc(), held.file()).map_err(Problem::Read)?;
     let Some(changed) = changed_of(rt, &old, from, edit)? else {
         return Ok(DONE);
     };

@@ -4,6 +4,7 @@ ghost use Rattle.std.specs.Prelude.{◌≡◌, ◌≢◌, IfErr, IfOk, IfSome};
 ghost use Rattle.std.specs.IoError.{error_kind};
 
 use std::alloc::Global;
+use std::fs::File;
 use std::io;
 use std::io::{ErrorKind, Read};
 
@@ -19,4 +20,10 @@ pub fn read_all<R: Read + Drop>(
     let mut bytes = Vec::with_capacity(alloc, expected)?;
     reader.read_to_end(&mut bytes)?;
     Ok(bytes)
+}
+
+/// All bytes of a file, into room for as many as it has and one more, for the read that finds the end.
+pub fn read_file(alloc: Global, file: &File) -> io::Result<Vec<u8>> {
+    let expected = (file.metadata()?.len() as usize).saturating_add(1);
+    read_all(alloc, file, expected)
 }

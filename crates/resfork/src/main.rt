@@ -27,7 +27,7 @@ use fork_view::unpack::unpack;
 use fork_view::{Sight, Unpacking, sight_of};
 use fork_words::asked::{Asked, NotAsked, Reporting, Salvaging, Showing, Viewing, asked_by};
 use fork_words::{INPUT, work as asked_change};
-use input::read_all;
+use input::{read_all, read_file};
 use message::{BAD_WORDS, CANT_GO_ON, DONE, NO_FORK, Problem, tell_bad_words, tell_problem};
 use parts::{answer_by_parts, list_by_parts};
 use std::alloc::AllocError;
@@ -345,10 +345,7 @@ fn read_whole(rt: &HostRuntime, file: &str) -> io::Result<Vec<u8>> {
     if file == INPUT {
         return read_all(rt.alloc(), rt.stdin(), 0);
     }
-    let file = fs::open(rt, file)?;
-    // a byte more, for the read that finds the end
-    let expected = (file.metadata()?.len() as usize).saturating_add(1);
-    read_all(rt.alloc(), file, expected)
+    read_file(rt.alloc(), &fs::open(rt, file)?)
 }
 
 /// Writes the help or the version. The result is the exit status.
