@@ -1,7 +1,7 @@
 //! Files changed: read whole, changed, and written in their own place or in another.
 
 ghost use Rattle.std.specs.Prelude.{◌≡◌, IfErr, IfOk, IfSome, Ok, true};
-ghost use Rattle.resfork.specs.Problems.{IsIdle, IsNotSaved};
+ghost use Rattle.resfork.specs.Problems.{IsIdle, IsNotSaved, written_file};
 
 use crate::asked_change::Target;
 use crate::input::read_file;
@@ -100,6 +100,13 @@ fn change_into(
             Ok(DONE)
         }
     }
+}
+
+/// The file that is written: another one, or the one that is read.
+pub fn written_file<'a>(target: &Target<'a>) -> &'a str
+    ensures { result.now ≡ written_file target.now }
+{
+    target.output.unwrap_or(target.file)
 }
 
 /// Writes the file that a command names, unless it only says what it would do.

@@ -4,7 +4,7 @@ ghost use Rattle.std.specs.Prelude.{◌≡◌, IfOk, Err, Some, option_map};
 ghost use Rattle.resfork.specs.Problems.{written_file};
 
 use crate::asked_change::Conversion;
-use crate::change::{save_to, say};
+use crate::change::{save_to, say, written_file};
 use crate::message::{DONE, Problem};
 use crate::{INPUT, fork_found, read, read_whole, table_found};
 use fork_answer::Failure;
@@ -121,13 +121,6 @@ fn data_for(
     }
 }
 
-/// The file that is written.
-fn output_of<'a>(asked: &Conversion<'a>) -> &'a str
-    ensures { result.now ≡ written_file asked.now.target }
-{
-    asked.target.output.unwrap_or(asked.target.file)
-}
-
 /// Writes the new file, and the data fork where it gets a file of its own. The file that is read is replaced last.
 fn write_both(
     rt: &HostRuntime,
@@ -135,7 +128,7 @@ fn write_both(
     new: &[u8],
     data: &[u8],
 ) -> Result<(), Problem> {
-    let output = output_of(asked);
+    let output = written_file(&asked.target);
     match asked.data {
         Some(path) if !holds_data(asked.kind) => {
             if path == asked.target.file {
@@ -165,7 +158,7 @@ pub fn convert(rt: &HostRuntime, asked: &Conversion<'_>) -> Result<u8, Problem>
     ensures done { IfOk result (λ status. status ≡ DONE) }
     ensures one_file { option_map (λ path. path.now) asked.now.data ≡ Some (written_file asked.now.target) → result ≡ Err Problem.OneFile }
 {
-    if asked.data == Some(output_of(asked)) {
+    if asked.data == Some(written_file(&asked.target)) {
         return Err(Problem::OneFile);
     }
     let bytes = read(rt, asked.target.file)?;
@@ -214,7 +207,7 @@ fn write_converted(
     if !asked.target.is_dry {
         write_both(rt, asked, &new.file, data)?;
     }
-    let output = output_of(asked);
+    let output = written_file(&asked.target);
     if !new.lost.is_empty() {
         let input = asked.target.file;
         let _ = eprintln!(rt; "{input}: not in {output}: {words}");

@@ -3,7 +3,7 @@
 ghost use Rattle.std.specs.Prelude.{◌≡◌, IfOk};
 
 use crate::asked_change::Target;
-use crate::change::{say, write_output};
+use crate::change::{say, write_output, written_file};
 use crate::message::{DONE, Problem};
 use crate::{TableUse, read, read_whole, use_table};
 use fork_bytes::table::{Row, Table};
@@ -107,7 +107,7 @@ fn write_table(
     ensures { IfOk result (λ status. status ≡ DONE) }
 {
     let alloc = rt.alloc();
-    let name = target.output.unwrap_or("");
+    let name = written_file(target);
     if like.is_empty() && is_container(rt, name) {
         return Err(Problem::Container(String::from_str(alloc, name)?));
     }
