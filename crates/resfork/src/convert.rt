@@ -6,7 +6,7 @@ ghost use Rattle.resfork.specs.Problems.{written_file};
 use crate::asked_change::Conversion;
 use crate::change::{save_to, say, written_file};
 use crate::message::{DONE, Problem};
-use crate::{INPUT, fork_found, read, read_whole, table_found};
+use crate::{INPUT, fork_found, read, read_other, table_found};
 use fork_answer::Failure;
 use fork_edit::convert::{Loss, NotConverted, Rewritten, Transfer, converted, file_of, holds_data};
 use fork_list::byte_of;
@@ -106,13 +106,7 @@ fn data_for(
 ) -> Result<Vec<u8>, Problem> {
     let is_read = place_of(bytes) != Place::Inside && holds_data(asked.kind);
     match asked.data {
-        Some(path) if is_read && file.data_fork.is_empty() => match read_whole(rt, path) {
-            Ok(data) => Ok(data),
-            Err(error) => Err(Problem::Unread {
-                path: String::from_str(rt.alloc(), path)?,
-                error,
-            }),
-        },
+        Some(path) if is_read && file.data_fork.is_empty() => read_other(rt, path),
         Some(_) if holds_data(asked.kind) || place_of(bytes) != Place::Inside => Err(
             Problem::NoDataFile,
         ),

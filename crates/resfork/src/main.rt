@@ -348,6 +348,17 @@ fn read_whole(rt: &HostRuntime, file: &str) -> io::Result<Vec<u8>> {
     read_file(rt.alloc(), &fs::open(rt, file)?)
 }
 
+/// The bytes of a file that belongs to another, as they are.
+fn read_other(rt: &HostRuntime, path: &str) -> Result<Vec<u8>, Problem> {
+    match read_whole(rt, path) {
+        Ok(bytes) => Ok(bytes),
+        Err(error) => Err(Problem::Unread {
+            path: String::from_str(rt.alloc(), path)?,
+            error,
+        }),
+    }
+}
+
 /// Writes the help or the version. The result is the exit status.
 fn tell(rt: &HostRuntime, text: clap::Error) -> u8
     ensures { result ≤ CANT_GO_ON }

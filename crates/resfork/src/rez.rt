@@ -5,7 +5,7 @@ ghost use Rattle.std.specs.Prelude.{◌≡◌, IfOk};
 use crate::asked_change::Target;
 use crate::change::{say, write_output, written_file};
 use crate::message::{DONE, Problem};
-use crate::{TableUse, read, read_whole, use_table};
+use crate::{TableUse, read, read_other, use_table};
 use fork_bytes::table::{Row, Table};
 use fork_edit::file::with_table;
 use fork_folder::manifest::{Packing, manifest_of};
@@ -17,7 +17,7 @@ use mac_base::resource::ResType;
 use mac_files::bin_hex::is_bin_hex;
 use mac_files::container::Container;
 use mac_files::container_of;
-use std::alloc::Global;
+use std::alloc::{AllocError, Global};
 use std::collections::BTreeMap;
 use std::fs;
 use std::io::Write;
@@ -31,9 +31,7 @@ struct Derez<'a>(&'a [ResType]);
 
 impl TableUse for Derez<'_> {
     fn done(&self, rt: &HostRuntime, _bytes: &[u8], table: &Table<'_>) -> Result<u8, Problem> {
-        let Ok(text) = derez(rt.alloc(), self.0, table) else {
-            return Err(Problem::HostFull);
-        };
+        let text = derez(rt.alloc(), self.0, table)?;
         rt.stdout().write_all(&text).map_err(Problem::Print)?;
         Ok(DONE)
     }
@@ -53,10 +51,7 @@ pub fn rez_file(rt: &HostRuntime, target: &Target<'_>) -> Result<u8, Problem>
     let alloc = rt.alloc();
     let text = read(rt, target.file)?;
     let made = rez(alloc, &text).map_err(Problem::Rez)?;
-    let Ok(table) = made.table(alloc) else {
-        return Err(Problem::HostFull);
-    };
-    write_table(rt, target, &[], &table)
+    write_table(rt, target, &[], &made.table(alloc)?)
 }
 
 /// Whether a file is there that has more than a resource fork.
@@ -116,9 +111,7 @@ fn write_table(
     write_output(rt, target, &file)?;
     let count = table.rows.as_slice().len();
     let length = file.len();
-    let Ok(text) = format!(in alloc; "{name}: {count} resources, {length} bytes\n") else {
-        return Err(Problem::HostFull);
-    };
+    let text = format!(in alloc; "{name}: {count} resources, {length} bytes\n")?;
     say(rt, target, &text)
 }
 
@@ -133,13 +126,10 @@ fn read_files(
     for entry in entries {
         let file = entry.file.as_str();
         let path = format!(in alloc; "{folder}/{file}")?;
-        let bytes = match read_whole(rt, path.as_str()) {
-            Ok(bytes) => bytes,
-            Err(error) => return Err(Problem::Unread { path, error }),
-        };
-        if files.insert(entry.file.clone()?, bytes).is_err() {
-            return Err(Problem::HostFull);
-        }
+        let bytes = read_other(rt, path.as_str())?;
+        files
+            .insert(entry.file.clone()?, bytes)
+            .map_err(AllocError::from)?;
     }
     Ok(files)
 }
@@ -148,10 +138,7 @@ fn read_files(
 fn packing_of(rt: &HostRuntime, folder: &str) -> Result<Packing, Problem> {
     let alloc = rt.alloc();
     let path = format!(in alloc; "{folder}/{MANIFEST}")?;
-    let text = match read_whole(rt, path.as_str()) {
-        Ok(text) => text,
-        Err(error) => return Err(Problem::Unread { path, error }),
-    };
+    let text = read_other(rt, path.as_str())?;
     let Ok(text) = str::from_utf8(&text) else {
         return Err(Problem::NoText(path));
     };

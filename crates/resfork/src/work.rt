@@ -39,10 +39,7 @@ pub fn work(rt: &HostRuntime, work: Work<'_>) -> u8
 fn of_file<'a, T>(file: &'a str, done: Result<T, Problem>) -> Result<T, Failed<'a>>
     ensures { IfOk result (λ value. done ≡ Ok value) }
 {
-    match done {
-        Ok(done) => Ok(done),
-        Err(problem) => Err(Failed { file, problem }),
-    }
+    done.map_err(|problem| Failed { file, problem })
 }
 
 /// Does what is asked for. The result is the exit status, or which file is in the way.
