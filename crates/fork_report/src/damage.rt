@@ -42,6 +42,15 @@ pub struct Damage {
     tally: Option<Tally>,
 }
 
+impl Tally {
+    /// Whether some resource can be read.
+    pub fn is_readable(self) -> bool
+        ensures { result ≡ is_readable (Some self) }
+    {
+        self.readable > 0
+    }
+}
+
 impl Holder {
     /// What has the fork of this file in it. None where the whole file is taken for a fork.
     pub fn of_file(file: &[u8]) -> Option<Holder>
@@ -95,10 +104,10 @@ impl Damage {
     pub fn is_of_fork(&self) -> bool
         ensures { result ≡ is_of_fork self.now }
     {
-        let has_parts = match self.fault.refusal() {
-            ForkFault::EndOfFile | ForkFault::BadMap(Condition::Parts) => false,
-            _ => true,
-        };
+        let has_parts = !matches!(
+            self.fault.refusal(),
+            ForkFault::EndOfFile | ForkFault::BadMap(Condition::Parts)
+        );
         has_parts || self.is_readable()
     }
 
@@ -106,7 +115,7 @@ impl Damage {
     pub fn is_readable(&self) -> bool
         ensures { result ≡ is_readable self.now.tally }
     {
-        is_readable(self.tally)
+        self.tally.is_some_and(Tally::is_readable)
     }
 }
 
@@ -127,24 +136,11 @@ impl fmt::Display for Damage {
     }
 }
 
-/// Whether some resource can be read of so many.
-pub fn is_readable(tally: Option<Tally>) -> bool
-    ensures { result ≡ is_readable tally }
-{
-    match tally {
-        Some(tally) => tally.readable > 0,
-        None => false,
-    }
-}
-
 /// Whether it is a run of bytes in a fork in which no type is found.
 fn is_run(item: &Item) -> bool
     ensures { result ≡ is_run item.now }
 {
-    match item {
-        Item::Row(_) | Item::Lost(_) => false,
-        Item::Run(_) => true,
-    }
+    matches!(item, Item::Run(_))
 }
 
 /// How many resources of these can be read: one, or none.

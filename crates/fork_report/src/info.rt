@@ -8,6 +8,7 @@ ghost use Rattle.mac_files.specs.Parts.{lies_within};
 ghost use Rattle.fork_answer.specs.Source.{IsForkOfText, IsNoForkOfText};
 ghost use Rattle.fork_report.specs.Refused.{IsCause, IsForkCause};
 
+use crate::damage::Holder;
 use fork_answer::{Failure, NoFork, name_of_container, read_table};
 use fork_bytes::table::Table;
 use fork_list::letters::Letters;
@@ -17,20 +18,15 @@ use mac_files::bin_hex::fault::BinHexFault;
 use mac_files::bin_hex::file::BinHexFile;
 use mac_files::bin_hex::{is_bin_hex, read_bin_hex};
 use mac_files::container::Container;
-use mac_files::contents::Contents;
+use mac_files::contents::{Contents, FinderInfo};
 use mac_files::{container_of, read_contents};
 use std::alloc::{AllocError, Global};
 
 /// Adds the lines of a name, and of a type and a creator.
-fn push_name(
-    text: &mut String,
-    name: &[u8],
-    kind: [u8; 4],
-    creator: [u8; 4],
-) -> Result<(), AllocError> {
+fn push_name(text: &mut String, name: &[u8], finder: FinderInfo) -> Result<(), AllocError> {
     let name = Quoted::double(Letters::Roman, name);
-    let kind = KindText::new(Letters::Roman, ResType::new(kind));
-    let creator = KindText::new(Letters::Roman, ResType::new(creator));
+    let kind = KindText::new(Letters::Roman, ResType::new(finder.kind));
+    let creator = KindText::new(Letters::Roman, ResType::new(finder.creator));
     write!(text, "name: {name}\ntype: {kind}\ncreator: {creator}\n")
 }
 
@@ -50,7 +46,7 @@ fn push_contents(
             Some(part) => part.bytes(file),
             None => &[],
         };
-        push_name(text, name, finder.kind, finder.creator)?;
+        push_name(text, name, finder)?;
     }
     let data = match contents.data_fork {
         Some(part) => part.length,
@@ -59,11 +55,21 @@ fn push_contents(
     writeln!(text, "data fork: {data} bytes")
 }
 
+/// What the Finder knew of the file in a BinHex text.
+pub(crate) fn finder_of(file: &BinHexFile) -> FinderInfo {
+    FinderInfo {
+        kind: file.kind,
+        creator: file.creator,
+        flags: file.flags,
+    }
+}
+
 /// Adds what a BinHex text says of a file, in lines.
 fn push_text(text: &mut String, file: &BinHexFile) -> Result<(), AllocError> {
+    let kept_as = Holder::BinHex.name();
     let data = file.data_fork().len();
-    writeln!(text, "kept as: a BinHex file")?;
-    push_name(text, file.name(), file.kind, file.creator)?;
+    writeln!(text, "kept as: {kept_as}")?;
+    push_name(text, file.name(), finder_of(file))?;
     writeln!(text, "data fork: {data} bytes")
 }
 

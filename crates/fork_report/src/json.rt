@@ -8,7 +8,7 @@ ghost use Rattle.fork_report.specs.Refused.{IsCause, IsForkCause};
 ghost use Rattle.fork_report.specs.Reported.{HasTable};
 
 use crate::damage::Holder;
-use crate::info::file_of_text;
+use crate::info::{file_of_text, finder_of};
 use crate::json_object::{Object, place_value};
 use crate::json_row::{Bytes, full_rows_value, rows_value};
 use crate::json_text::{roman_value, text_value};
@@ -19,6 +19,7 @@ use fork_salvage::Fault;
 use mac_base::resource::{ResType, Resource};
 use mac_files::bin_hex::is_bin_hex;
 use mac_files::container::Container;
+use mac_files::contents::FinderInfo;
 use mac_files::{container_of, read_contents};
 use serde_json::Value;
 use std::alloc::{AllocError, Global};
@@ -151,17 +152,11 @@ pub fn check_line(
 }
 
 /// With the name, the type and the creator of a file.
-fn with_finder(
-    alloc: Global,
-    object: Object,
-    name: &[u8],
-    kind: [u8; 4],
-    creator: [u8; 4],
-) -> Object {
+fn with_finder(alloc: Global, object: Object, name: &[u8], finder: FinderInfo) -> Object {
     object
         .with("name", roman_value(alloc, name))
-        .with("type", roman_value(alloc, &kind))
-        .with("creator", roman_value(alloc, &creator))
+        .with("type", roman_value(alloc, &finder.kind))
+        .with("creator", roman_value(alloc, &finder.creator))
 }
 
 /// With how many bytes a fork has, its attributes, and how many resources.
@@ -197,7 +192,7 @@ fn with_contents(
         None => &[],
     };
     let object = match contents.finder {
-        Some(finder) => with_finder(alloc, object, name, finder.kind, finder.creator),
+        Some(finder) => with_finder(alloc, object, name, finder),
         None => object,
     };
     let data = contents.data_fork.map_or(0, |part| part.length);
@@ -215,7 +210,7 @@ fn with_text(alloc: Global, object: Object, text: &[u8]) -> Result<Object, Failu
     ensures { IfErr result (IsCause text.now) }
 {
     let read = file_of_text(alloc, text).map_err(Failure::NoFork)?;
-    let object = with_finder(alloc, object, read.name(), read.kind, read.creator);
+    let object = with_finder(alloc, object, read.name(), finder_of(&read));
     let data = read.data_fork().len();
     with_fork(
         alloc,

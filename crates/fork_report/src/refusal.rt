@@ -4,7 +4,7 @@ ghost use Rattle.std.specs.Prelude.{◌≡◌};
 ghost use Rattle.fork_report.specs.Damage.{is_readable};
 ghost use Rattle.fork_report.specs.Refused.{IsToldOf, IsToldOfFork};
 
-use crate::damage::Damage;
+use crate::damage::{Damage, Holder};
 use fork_answer::{Failure, NoFork, name_of_container};
 use fork_bytes::fault::ForkFault;
 use mac_files::archive::Archive;
@@ -63,7 +63,7 @@ impl Refusal {
         match fault {
             NoFork::HostFull => Refusal::Show(Failure::HostFull),
             fault => Refusal::Container {
-                container: container_of(file).map_or("a BinHex file", name_of_container),
+                container: container_of(file).map_or(Holder::BinHex.name(), name_of_container),
                 fault,
             },
         }

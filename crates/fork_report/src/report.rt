@@ -7,7 +7,7 @@ ghost use Rattle.fork_report.specs.Damage.{IsDamaged, is_readable, tally_of};
 ghost use Rattle.fork_report.specs.Refused.{IsRefused};
 ghost use Rattle.fork_report.specs.Reported.{HasTable, IsNotSalvaged, Salvages, Tells, TellsLeft};
 
-use crate::damage::{MOST_FOUND, Tally, is_readable, tally_of};
+use crate::damage::{MOST_FOUND, Tally, tally_of};
 use crate::info::info_text;
 use crate::json::{check_line, info_line, list_line};
 use crate::json_row::Bytes;
@@ -176,7 +176,7 @@ fn left_of(fork: &[u8]) -> Result<Option<Tally>, Refusal>
         return Ok(None);
     }
     let tally = tally_of(fork);
-    if !is_readable(tally) {
+    if !tally.is_some_and(Tally::is_readable) {
         return Err(Refusal::Nothing);
     }
     Ok(tally)
