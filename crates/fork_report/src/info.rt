@@ -115,10 +115,9 @@ fn container_text(alloc: Global, container: Container, file: &[u8]) -> Result<St
     requires { container_of file.now ≡ Some container }
     ensures { IfErr result (IsCause file.now) }
 {
-    let contents = match read_contents(container, file) {
-        Ok(contents) => contents,
-        Err(fault) => return Err(Failure::NoFork(NoFork::Container(fault))),
-    };
+    let contents = read_contents(container, file).map_err(|fault| {
+        Failure::NoFork(NoFork::Container(fault))
+    })?;
     let mut text = String::new(alloc);
     push_contents(&mut text, container, &contents, file)?;
     let fork = match contents.resource_fork {

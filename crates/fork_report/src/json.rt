@@ -183,10 +183,9 @@ fn with_contents(
     requires { container_of bytes.now ≡ Some container }
     ensures { IfErr result (IsCause bytes.now) }
 {
-    let contents = match read_contents(container, bytes) {
-        Ok(contents) => contents,
-        Err(fault) => return Err(Failure::NoFork(NoFork::Container(fault))),
-    };
+    let contents = read_contents(container, bytes).map_err(|fault| {
+        Failure::NoFork(NoFork::Container(fault))
+    })?;
     let name = match contents.name {
         Some(part) => part.bytes(bytes),
         None => &[],

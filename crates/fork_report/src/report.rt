@@ -101,10 +101,7 @@ fn check(alloc: Global, form: Form, name: &str, bytes: &[u8]) -> Result<Told, Re
     ensures refused { IfErr result (IsRefused bytes.now) }
 {
     let found = fork_in(alloc, bytes)?;
-    match check_fork(alloc, form, name, bytes, found.fork()) {
-        Ok(told) => Ok(told),
-        Err(_) => Err(Refusal::Show(Failure::HostFull)),
-    }
+    check_fork(alloc, form, name, bytes, found.fork()).map_err(|_| Refusal::Show(Failure::HostFull))
 }
 
 /// All faults of a fork. One without bytes has none.
