@@ -12,7 +12,7 @@ use Rattle.res_update.specs.declared.partial_end.PartialEnd.{PartialEnd}
 use Rattle.res_update.specs.declared.partial_end.PartialEnd.TheVariants.{Done, InMemory, OutOfBounds, Refused}
 use Rattle.res_update.specs.declared.patching_call.PatchingCall.{PatchingCall}
 use Rattle.res_update.specs.Answered.{IsAnswered, answered_disks}
-use Rattle.res_update.specs.Device.{Device, Works, FailsBefore, FailsWriting, Disk, DiskRelations, LeaveRelation, device_works, read_truly}
+use Rattle.res_update.specs.Device.{Device, Works, FailsBefore, FailsWriting, Disk, LeaveRelation, device_works, read_truly}
 use Rattle.res_update.specs.Files.{ResState, ResourceEnd, disk_of}
 use Rattle.res_update.specs.Patching.{PatchStepBy, Patches, UpdatesBy, WritesBy, patch_asked, patch_update, update_asked}
 use Rattle.res_update.specs.Steps.{IsSaved, LeavesDisk, Memory}

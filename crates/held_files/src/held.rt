@@ -1,13 +1,14 @@
 //! Resource files that C holds.
 
-ghost use Rattle.std.specs.Prelude.{◌≡◌, Option, Some, None, IsTrue};
+ghost use Rattle.std.specs.Prelude.{◌≡◌, Option, Some, None, IfNone, IfSome, IsTrue};
 ghost use Rattle.std.specs.Option.{option_map};
 ghost use Rattle.held_files.specs.Forks.{ForksState};
-ghost use Rattle.held_files.specs.Held.{is_there};
+ghost use Rattle.held_files.specs.Held.{LacksOne, is_there};
 
 use crate::files::ForkFiles;
 use crate::told::{MrInfo, info, kind};
 use held_zone::parked::Parked;
+use held_zone::session::Session;
 use held_zone::told::{self, NO_ZONE};
 use held_zone::zone::MhZone;
 use mac_base::error::{NO_ERR, OsErr};
@@ -117,6 +118,28 @@ impl MrFiles {
         before.opened(alloc)
     }
 
+    /// Takes the files and the session of a zone out, where there are both; else both stay.
+    pub(crate) fn take_with(
+        &mut self,
+        alloc: Global,
+        zone: &mut MhZone,
+    ) -> Option<(Box<ForkFiles>, Box<Session>)>
+        ensures session { IfSome result (λ taken. zone.old.held.session ≡ Some taken.1.value) }
+        ensures files { IfSome result (λ taken. self.old.held.files ≡ Some taken.0.value) }
+        ensures no_session { IfSome result (λ taken. zone.new.held.session ≡ None) }
+        ensures no_files { IfSome result (λ taken. self.new.held.files ≡ None) }
+        ensures lacking { IfNone result (LacksOne zone.old.held.session self.old.held.files) }
+        ensures zone_stays { IfNone result (zone.new.held.session ≡ zone.old.held.session) }
+        ensures files_stay { IfNone result (self.new.held.files ≡ self.old.held.files) }
+    {
+        let session = zone.take(alloc)?;
+        let Some(files) = self.take(alloc) else {
+            zone.put(session);
+            return None;
+        };
+        Some((files, session))
+    }
+
     /// Puts files in, where there are none.
     pub fn put(&mut self, files: Box<ForkFiles>)
         requires none { self.old.held.files ≡ None }
@@ -146,11 +169,7 @@ impl MrFiles {
     ) -> Option<Outcome>
         ensures { ResourceCalled zone.old.held.session self.old.held.files call.now result zone.new.held.session self.new.held.files }
     {
-        let mut session = zone.take(alloc)?;
-        let Some(mut files) = self.take(alloc) else {
-            zone.put(session);
-            return None;
-        };
+        let (mut files, mut session) = self.take_with(alloc, zone)?;
         let outcome = files.make(alloc, &mut session, call);
         self.put(files);
         zone.put(session);
@@ -186,11 +205,7 @@ impl MrFiles {
     ) -> Option<Outcome>
         ensures { ResourceSought zone.old.held.session self.old.held.files call.now result zone.new.held.session self.new.held.files }
     {
-        let mut session = zone.take(alloc)?;
-        let Some(mut files) = self.take(alloc) else {
-            zone.put(session);
-            return None;
-        };
+        let (mut files, mut session) = self.take_with(alloc, zone)?;
         let outcome = files.seek(&mut session, call);
         self.put(files);
         zone.put(session);
@@ -246,11 +261,7 @@ impl MrFiles {
     pub fn open(&mut self, alloc: Global, zone: &mut MhZone, fork: &[u8], number: &mut u32) -> i16
         ensures { OpenTold zone.old.held.session self.old.held.files fork.now result number.old number.new zone.new.held.session self.new.held.files }
     {
-        let Some(mut session) = zone.take(alloc) else {
-            return NO_ZONE;
-        };
-        let Some(mut files) = self.take(alloc) else {
-            zone.put(session);
+        let Some((mut files, mut session)) = self.take_with(alloc, zone) else {
             return NO_ZONE;
         };
         let code = files.open(alloc, &mut session, fork, number);
@@ -263,11 +274,7 @@ impl MrFiles {
     pub fn forget(&mut self, alloc: Global, zone: &mut MhZone) -> i16
         ensures { ForgetTold zone.old.held.session self.old.held.files result zone.new.held.session self.new.held.files }
     {
-        let Some(session) = zone.take(alloc) else {
-            return NO_ZONE;
-        };
-        let Some(mut files) = self.take(alloc) else {
-            zone.put(session);
+        let Some((mut files, session)) = self.take_with(alloc, zone) else {
             return NO_ZONE;
         };
         files.forget_asked(session.asks());
@@ -280,11 +287,7 @@ impl MrFiles {
     pub fn dispose(&mut self, alloc: Global, zone: &mut MhZone, handle: Handle) -> i16
         ensures { DisposeTold zone.old.held.session self.old.held.files handle result zone.new.held.session self.new.held.files }
     {
-        let Some(mut session) = zone.take(alloc) else {
-            return NO_ZONE;
-        };
-        let Some(mut files) = self.take(alloc) else {
-            zone.put(session);
+        let Some((mut files, mut session)) = self.take_with(alloc, zone) else {
             return NO_ZONE;
         };
         let outcome = files.dispose(&mut session, handle);

@@ -22,11 +22,7 @@ impl MrFiles {
     ) -> Option<PartialEnd>
         ensures { PartCalled zone.old.held.session self.old.held.files handle offset buffer.old buffer.new result zone.new.held.session self.new.held.files }
     {
-        let session = zone.take(alloc)?;
-        let Some(mut files) = self.take(alloc) else {
-            zone.put(session);
-            return None;
-        };
+        let (mut files, session) = self.take_with(alloc, zone)?;
         let read = files.read_partial(&session, handle, offset, buffer);
         self.put(files);
         zone.put(session);
@@ -42,11 +38,7 @@ impl MrFiles {
     ) -> Option<PartialEnd>
         ensures { PatchCalled zone.old.held.session self.old.held.files call.now result zone.new.held.session self.new.held.files }
     {
-        let session = zone.take(alloc)?;
-        let Some(mut files) = self.take(alloc) else {
-            zone.put(session);
-            return None;
-        };
+        let (mut files, session) = self.take_with(alloc, zone)?;
         let end = files.patch(alloc, &session, call);
         self.put(files);
         zone.put(session);
